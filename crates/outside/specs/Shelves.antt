@@ -1,0 +1,56 @@
+-- What a shelf gives under a name.
+use Rattle.std.specs.Prelude.{ℕ, ◌≡◌, ◌≤◌, ◌<◌, ◌⊎◌, ◌&&◌, Bool, true, not, IsTrue, List, [], ◌∷◌, length, map, None, Some, if◌then◌else◌, Vec}
+use Rattle.std.specs.List.{list_all}
+use Rattle.std.specs.Str.{bytes_eq}
+use Rattle.std.specs.declared.alloc.Global.{Global}
+use Rattle.std.specs.declared.option.Option.{Option}
+use Rattle.outside.specs.declared.shelf.Fetched.{Fetched}
+use Rattle.outside.specs.declared.shelf.Fetched.TheVariants as fetched
+use Rattle.outside.specs.Causes.{Rose}
+
+-- names, each with the bytes that lie under it
+abbrev pub Files : Type 0
+Files = List (List ℕ × List ℕ)
+
+-- files in memory, seen as names and bytes
+abbrev pub files_of : List (List ℕ × Vec ℕ Global) → Files
+files_of held = map (λ file. (file.0, file.1.items)) held
+
+-- what lies under a name, if anything does
+abbrev pub content_of : List ℕ → Files → Option (List ℕ)
+content_of name [] = None
+content_of name (file ∷ files) = if bytes_eq name file.0 then Some file.1 else content_of name files
+
+-- whether no two files have one name
+abbrev pub names_differ : Files → Bool
+names_differ [] = true
+names_differ (file ∷ files) =
+    list_all (λ other. not (bytes_eq file.0 other.0)) files && names_differ files
+
+abbrev pub HaveDifferentNames : Files → Type 0
+HaveDifferentNames files = IsTrue (names_differ files)
+
+-- Where the shelf tells its files, it gives the whole content, if that is no longer than the limit,
+-- and answers that it is too long only where it is longer.
+abbrev pub Fetches : Option Files → List ℕ → ℕ → Fetched → Type 0
+Fetches None name limit fetched = Unit {0}
+Fetches (Some files) name limit (fetched.Bytes v) =
+    (content_of name files ≡ Some v.items) × (length v.items ≤ limit)
+Fetches (Some files) name limit fetched.TooLong =
+    (bytes : List ℕ) × (content_of name files ≡ Some bytes) × (limit < length bytes)
+Fetches (Some files) name limit fetched.Failed = Unit {0}
+Fetches (Some files) name limit fetched.Memory = Unit {0}
+
+-- The shelf tells its files, and nothing lies under the name.
+abbrev pub IsMissing : Option Files → List ℕ → Type 0
+IsMissing None name = ⊥
+IsMissing (Some files) name = content_of name files ≡ None
+
+-- A shelf's count never falls. A fetch fails only where the count rose, or the name is told to be
+-- missing.
+abbrev pub FetchCause : Option Files → List ℕ → ℕ → ℕ → Fetched → Type 0
+FetchCause files name before now fetched.Failed =
+    (before ≤ now) × (Rose before now ⊎ IsMissing files name)
+FetchCause files name before now (fetched.Bytes v) = before ≤ now
+FetchCause files name before now fetched.TooLong = before ≤ now
+FetchCause files name before now fetched.Memory = before ≤ now

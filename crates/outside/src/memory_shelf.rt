@@ -1,0 +1,148 @@
+//! Shelves in memory.
+ghost use Rattle.std.specs.Prelude.{◌≡◌, IsTrue, false, MatchOption, None, Some};
+ghost use Rattle.outside.specs.Calls.{AreCallNumbers, faults_after, is_next_listed, one_more};
+ghost use Rattle.outside.specs.InMemory.{Answers};
+ghost use Rattle.outside.specs.Shelves.{content_of, FetchCause, Fetches, files_of, HaveDifferentNames};
+
+use crate::schedule::Schedule;
+use crate::shelf::{Fetched, Shelf};
+use crate::word::Word;
+use std::alloc::Global;
+use std::marker::Model;
+
+/// The bytes under the name.
+fn find<'a>(files: &'a [(Word, Vec<u8>)], name: &Word) -> Option<&'a [u8]>
+    ensures { let content = content_of name.now (files_of files.now) in
+        MatchOption result (content ≡ None) (λ bytes. content ≡ Some bytes.now) }
+{
+    for (held, bytes) in files {
+        if name.bytes() == held.bytes() {
+            return Some(bytes.as_slice());
+        }
+    }
+    None
+}
+
+/// A copy of the bytes, if there are at most `limit` of them.
+fn copy_within(alloc: Global, bytes: &[u8], limit: u64) -> Fetched
+    ensures { Answers (Some bytes.now) limit result }
+{
+    if bytes.len() as u64 > limit {
+        return Fetched::TooLong;
+    }
+    match Vec::from_slice(alloc, bytes) {
+        Ok(copy) => Fetched::Bytes(copy),
+        Err(_) => Fetched::Memory,
+    }
+}
+
+/// Files in memory. A fetch fails only where the name is not held.
+#[derive(Drop)]
+pub struct PlainShelf {
+    files: Vec<(Word, Vec<u8>)>,
+}
+
+impl Model for PlainShelf {
+    ghost use Rattle.outside.specs.Shelves.{Files, files_of};
+
+    ghost Value = { Files };
+
+    ghost view = { λ s. files_of s.files.items };
+}
+
+impl PlainShelf {
+    /// Holds these files, each under a name of its own.
+    pub fn new(files: Vec<(Word, Vec<u8>)>) -> PlainShelf
+        requires { HaveDifferentNames (files_of files.items) }
+        ensures { result ≡ files_of files.items }
+    {
+        PlainShelf { files }
+    }
+}
+
+impl Shelf for PlainShelf {
+    ghost files = { λ held. Some held };
+
+    ghost faults = { λ _. 0 };
+
+    fn fetch(&mut self, alloc: Global, name: &Word, limit: u64) -> Fetched
+        // What a shelf does.
+        ensures content { Fetches (Some self.old) name.now limit result }
+        ensures same { Some self.new ≡ Some self.old }
+        ensures cause { FetchCause (Some self.old) name.now 0 0 result }
+
+        // What this kind does.
+        ensures answer { Answers (content_of name.now self.old) limit result }
+    {
+        match find(self.files.as_slice(), name) {
+            Some(bytes) => copy_within(alloc, bytes, limit),
+            None => Fetched::Failed,
+        }
+    }
+}
+
+/// Files in memory. The calls that are listed fail and are counted. A call for a name that is not
+/// held fails too, and is not.
+#[derive(Drop)]
+pub struct MemoryShelf {
+    plain: PlainShelf,
+    schedule: Schedule,
+    faults: u64,
+}
+
+impl Model for MemoryShelf {
+    ghost use Rattle.std.specs.Prelude.{◌≤◌};
+    ghost use Rattle.outside.specs.InMemory.{FailingFiles};
+
+    ghost Value = { FailingFiles };
+
+    ghost view = { λ s. record { files = s.plain; calls = s.schedule; faults = s.faults } };
+
+    ghost invariant = { λ s. s.faults ≤ s.schedule.made };
+}
+
+impl MemoryShelf {
+    /// Holds these files, each under a name of its own.
+    ///
+    /// `fails` are the numbers of the fetches that are to fail, from 0, in ascending order.
+    pub fn new(files: Vec<(Word, Vec<u8>)>, fails: Vec<u64>) -> MemoryShelf
+        requires names { HaveDifferentNames (files_of files.items) }
+        requires fails { AreCallNumbers fails.items }
+        ensures files { result.files ≡ files_of files.items }
+        ensures fails { result.calls ≡ record { fails = fails.items; made = 0 } }
+        ensures faults { result.faults ≡ 0 }
+    {
+        MemoryShelf {
+            plain: PlainShelf::new(files),
+            schedule: Schedule::new(fails),
+            faults: 0,
+        }
+    }
+}
+
+impl Shelf for MemoryShelf {
+    ghost files = { λ s. Some s.files };
+
+    ghost faults = { λ s. s.faults };
+
+    fn fetch(&mut self, alloc: Global, name: &Word, limit: u64) -> Fetched
+        // What a shelf does.
+        ensures content { Fetches (Some self.old.files) name.now limit result }
+        ensures same { Some self.new.files ≡ Some self.old.files }
+        ensures cause { FetchCause (Some self.old.files) name.now
+            self.old.faults self.new.faults result }
+
+        // What this kind does.
+        ensures listed { IsTrue (is_next_listed self.old.calls) → result ≡ Fetched.Failed }
+        ensures not_listed { is_next_listed self.old.calls ≡ false
+            → Answers (content_of name.now self.old.files) limit result }
+        ensures calls { self.new.calls ≡ one_more self.old.calls }
+        ensures counted { self.new.faults ≡ faults_after self.old.calls self.old.faults }
+    {
+        if self.schedule.is_next_failing() {
+            self.faults += 1;
+            return Fetched::Failed;
+        }
+        self.plain.fetch(alloc, name, limit)
+    }
+}

@@ -1,0 +1,123 @@
+//! One happy path of each kind, its failing call, and pieces of one byte.
+use crate::{
+    Fetched, FileShelf, MemoryShelf, MemorySink, MemorySource, PlainShelf, PlainSource, Put, Shelf,
+    Sink, Source, StdSink, StdSource, Taken, Word, put_all,
+};
+use std::test::Fail;
+use std::{env, fs, process};
+
+#[test]
+fn a_word_is_its_text(rt: HostRuntime) -> Result<(), Fail> {
+    let name = Word::new(rt.alloc(), "Lübeck.toml")?;
+    assert_eq!(rt; name.text(), "Lübeck.toml");
+    assert_eq!(rt; name.bytes().len(), 12);
+    Ok(())
+}
+
+#[test]
+fn a_plain_source_gives_its_bytes_one_by_one(rt: HostRuntime) -> Result<(), Fail> {
+    let mut source = PlainSource::new(b"ab".to_vec(rt.alloc())?, 1);
+    let mut room = [0u8; 8];
+    assert_eq!(rt; source.read(&mut room), Taken::Got(1));
+    assert_eq!(rt; room[0], b'a');
+    assert_eq!(rt; source.read(&mut room), Taken::Got(1));
+    assert_eq!(rt; room[0], b'b');
+    assert_eq!(rt; source.read(&mut room), Taken::End);
+    Ok(())
+}
+
+#[test]
+fn a_listed_read_fails_and_loses_nothing(rt: HostRuntime) -> Result<(), Fail> {
+    let fails = vec![in rt.alloc(); 1, 2]?;
+    let mut source = MemorySource::new(b"abc".to_vec(rt.alloc())?, 2, fails);
+    let mut room = [0u8; 8];
+    assert_eq!(rt; source.read(&mut room), Taken::Got(2));
+    assert_eq!(rt; source.read(&mut room), Taken::Failed);
+    assert_eq!(rt; source.read(&mut room), Taken::Failed);
+    assert_eq!(rt; source.read(&mut room), Taken::Got(1));
+    assert_eq!(rt; room[0], b'c');
+    assert_eq!(rt; source.read(&mut room), Taken::End);
+    Ok(())
+}
+
+#[test]
+fn all_is_put_in_pieces_of_one(rt: HostRuntime) {
+    let mut sink = MemorySink::new(rt.alloc(), 1, Vec::new(rt.alloc()));
+    assert!(rt; put_all(&mut sink, b"red"));
+    assert!(rt; put_all(&mut sink, b" and green"));
+    assert_eq!(rt; sink.bytes(), b"red and green".as_slice());
+}
+
+#[test]
+fn a_listed_write_leaves_a_front(rt: HostRuntime) -> Result<(), Fail> {
+    let mut sink = MemorySink::new(rt.alloc(), 2, vec![in rt.alloc(); 1]?);
+    assert!(rt; !put_all(&mut sink, b"green"));
+    assert_eq!(rt; sink.bytes(), b"gr".as_slice());
+    assert_eq!(rt; sink.write(b"een"), Put::Took(2));
+    Ok(())
+}
+
+#[test]
+fn a_shelf_gives_what_is_no_longer_than_the_limit(rt: HostRuntime) -> Result<(), Fail> {
+    let (name, other) = (Word::new(rt.alloc(), "log")?, Word::new(rt.alloc(), "lo")?);
+    let held = Word::new(rt.alloc(), "log")?;
+    let bytes = b"12345".to_vec(rt.alloc())?;
+    let mut shelf = PlainShelf::new(vec![in rt.alloc(); (held, bytes)]?);
+    assert_eq!(rt;
+        shelf.fetch(rt.alloc(), &name, 5),
+        Fetched::Bytes(b"12345".to_vec(rt.alloc())?)
+    );
+    assert_eq!(rt; shelf.fetch(rt.alloc(), &name, 4), Fetched::TooLong);
+    assert_eq!(rt; shelf.fetch(rt.alloc(), &other, 5), Fetched::Failed);
+    Ok(())
+}
+
+#[test]
+fn a_listed_fetch_fails(rt: HostRuntime) -> Result<(), Fail> {
+    let name = Word::new(rt.alloc(), "log")?;
+    let first = (Word::new(rt.alloc(), "log")?, Vec::new(rt.alloc()));
+    let second = (Word::new(rt.alloc(), "rows")?, Vec::new(rt.alloc()));
+    let files = vec![in rt.alloc(); first, second]?;
+    let mut shelf = MemoryShelf::new(files, vec![in rt.alloc(); 0]?);
+    assert_eq!(rt; shelf.fetch(rt.alloc(), &name, 0), Fetched::Failed);
+    assert_eq!(rt;
+        shelf.fetch(rt.alloc(), &name, 0),
+        Fetched::Bytes(Vec::new(rt.alloc()))
+    );
+    Ok(())
+}
+
+#[test]
+fn a_reader_of_std_is_a_source(rt: HostRuntime) {
+    let mut source = StdSource::new(b"ab".as_slice());
+    let mut room = [0u8; 8];
+    assert_eq!(rt; source.read(&mut room), Taken::Got(2));
+    assert_eq!(rt; &room[..2], b"ab".as_slice());
+    assert_eq!(rt; source.read(&mut room), Taken::End);
+}
+
+#[test]
+fn a_writer_of_std_is_a_sink(rt: HostRuntime) {
+    let mut written = Vec::new(rt.alloc());
+    assert!(rt; put_all(&mut StdSink::new(&mut written), b"red"));
+    assert_eq!(rt; written.as_slice(), b"red".as_slice());
+}
+
+// The file has more than one block, so that its end is met in a later read.
+#[test]
+fn a_file_is_fetched_whole(rt: HostRuntime) -> Result<(), Fail> {
+    let folder = env::temp_dir(&rt)?;
+    let process = process::id(rt.process());
+    let path = format!(in rt.alloc(); "{}/fetched_whole_{process}", folder.display())?;
+    let name = Word::new(rt.alloc(), path.as_str())?;
+    let bytes = vec![in rt.alloc(); b'x'; 70_000]?;
+    fs::write(&rt, path.as_str(), bytes.as_slice())?;
+    let mut shelf = FileShelf::new(rt.clone()?);
+    let whole = shelf.fetch(rt.alloc(), &name, 70_000);
+    let too_long = shelf.fetch(rt.alloc(), &name, 69_999);
+    fs::remove_file(&rt, path.as_str())?;
+    assert_eq!(rt; whole, Fetched::Bytes(bytes));
+    assert_eq!(rt; too_long, Fetched::TooLong);
+    assert_eq!(rt; shelf.fetch(rt.alloc(), &name, 70_000), Fetched::Failed);
+    Ok(())
+}
