@@ -1,0 +1,9 @@
+pub mod Plane
+pub mod Sizes
+pub mod Rounding
+pub mod Circle
+pub mod Compass
+pub mod Place
+pub mod Projection
+pub mod Velocity
+pub mod Bearing

@@ -1,0 +1,84 @@
+//! Bearings, and the angles between two directions.
+ghost use Rattle.std.specs.Prelude.{pos, ◌≡◌, ◌+◌, ◌<◌, ◌≤◌, ◌^◌, ◌≤ℤ◌, ◌↔◌, IsNone, IfSome, unsigned_abs};
+ghost use Rattle.fixed_geometry.specs.Bearing.{bearing_of, has_turned, quarter_angle, relative_of, swing_of};
+ghost use Rattle.fixed_geometry.specs.Sizes.{IsWithin};
+
+use crate::compass::quarter;
+use crate::point::{Point, product};
+use crate::rounding::{difference, round_the_circle};
+
+/// Whether a way that leads `n` ahead and `e` to starboard has turned by `k` tenths of a degree or more.
+fn has_turned(n: i64, e: i64, k: u16) -> bool
+    requires n_small { unsigned_abs n ≤ 2 ^ 62 }
+    requires e_small { unsigned_abs e ≤ 2 ^ 62 }
+    requires k_below { k < 900 }
+    ensures { result ≡ has_turned n e k }
+{
+    let Point { x, y } = quarter(k);
+    product(x, n) <= product(y, e)
+}
+
+/// By how much such a way has turned. Within a quarter the sines rise and the cosines fall, so halving finds it.
+fn quarter_angle(n: i64, e: i64) -> u16
+    requires n_sign { pos 0 ≤ℤ n }
+    requires n_small { unsigned_abs n ≤ 2 ^ 62 }
+    requires e_sign { pos 0 ≤ℤ e }
+    requires e_small { unsigned_abs e ≤ 2 ^ 62 }
+    ensures value { result ≡ quarter_angle n e }
+    ensures below { result < 900 }
+{
+    let mut low = 0;
+    let mut high = 900;
+    while low + 1 < high {
+        let middle = (low + high) / 2;
+        if has_turned(n, e, middle) {
+            low = middle;
+        } else {
+            high = middle;
+        }
+    }
+    low
+}
+
+/// The bearing of a way by the compass: the greatest whole tenth of a degree clockwise from north that it has reached.
+/// `None` where it has no length.
+pub fn bearing(r: Point) -> Option<u16>
+    requires { IsWithin (2 ^ 62) r }
+    ensures value { result ≡ bearing_of r }
+    ensures none { IsNone result ↔ (r ≡ record { x = pos 0; y = pos 0 }) }
+    ensures below { IfSome result (λ b. b < 3600) }
+{
+    if r.y > 0 && r.x >= 0 {
+        Some(quarter_angle(r.y, r.x))
+    } else if r.x > 0 && r.y <= 0 {
+        Some(900 + quarter_angle(r.x, -r.y))
+    } else if r.y < 0 && r.x <= 0 {
+        Some(1800 + quarter_angle(-r.y, -r.x))
+    } else if r.x < 0 && r.y >= 0 {
+        Some(2700 + quarter_angle(-r.x, r.y))
+    } else {
+        None
+    }
+}
+
+/// A bearing as it is seen from a vessel that points in a direction: 0 is ahead, 900 on her starboard beam.
+#[tactic(auto, unfolding(crate::specs::Bearing::relative_of))]
+pub fn relative(bearing: u16, direction: u16) -> u16
+    requires bearing { bearing < 3600 }
+    requires direction { direction < 3600 }
+    ensures value { result ≡ relative_of bearing direction }
+    ensures below { result < 3600 }
+{
+    (bearing + 3600 - direction) % 3600
+}
+
+/// The turn from one direction to another, from -1799 to 1800: positive to starboard, and half a turn is 1800.
+#[tactic(auto, unfolding(crate::specs::Bearing::swing_of))]
+pub fn swing(from: u16, to: u16) -> i16
+    requires from { from < 3600 }
+    requires to { to < 3600 }
+    ensures value { result ≡ swing_of from to }
+    ensures small { unsigned_abs result ≤ 1800 }
+{
+    round_the_circle(difference(i32::from(from), i32::from(to)), 1800) as i16
+}

@@ -1,0 +1,50 @@
+//! Products and quotients of whole numbers, and differences round a circle.
+ghost use Rattle.std.specs.Prelude.{pos, ◌≡◌, ◌+◌, ◌*◌, ◌<◌, ◌≤◌, ◌^◌, ◌-ℤ◌, ◌*ℤ◌, unsigned_abs};
+ghost use Rattle.fixed_geometry.specs.Rounding.{rounded};
+ghost use Rattle.fixed_geometry.specs.Circle.{short_way};
+
+/// A length times a sine or a cosine.
+pub(crate) fn scale(length: i64, millionths: i64) -> i64
+    requires length_small { unsigned_abs length ≤ 2 ^ 38 }
+    requires millionths_small { unsigned_abs millionths ≤ 1000000 }
+    ensures value { result ≡ length *ℤ millionths }
+    ensures small { unsigned_abs result ≤ 1000000 * unsigned_abs length }
+{
+    length * millionths
+}
+
+/// The whole number nearest to `a / b`, halves upwards. Every rounding in the plane is this one.
+#[tactic(auto, unfolding(crate::specs::Rounding::rounded))]
+pub fn round_quotient(a: i64, b: u32) -> i64
+    requires a_small { unsigned_abs a ≤ 2 ^ 61 }
+    requires b_some { 0 < b }
+    ensures { result ≡ rounded a b }
+{
+    let b = i64::from(b);
+    (2 * a + b).div_euclid(2 * b)
+}
+
+/// How far `to` lies beyond `from`.
+pub(crate) fn difference(from: i32, to: i32) -> i64
+    ensures value { result ≡ to -ℤ from }
+    ensures small { unsigned_abs result ≤ unsigned_abs from + unsigned_abs to }
+{
+    i64::from(to) - i64::from(from)
+}
+
+/// A difference of at most one turn, the short way round: above minus `half` a turn and at most `half` a turn.
+#[tactic(auto, unfolding(crate::specs::Circle::short_way))]
+pub(crate) fn round_the_circle(difference: i64, half: u32) -> i64
+    requires { unsigned_abs difference ≤ 2 * half }
+    ensures value { result ≡ short_way half difference }
+    ensures small { unsigned_abs result ≤ half }
+{
+    let half = i64::from(half);
+    if difference <= -half {
+        difference + 2 * half
+    } else if difference > half {
+        difference - 2 * half
+    } else {
+        difference
+    }
+}
