@@ -1,0 +1,3 @@
+pub mod BitLists
+pub mod Payloads
+pub mod Lines

@@ -1,0 +1,46 @@
+-- A payload's bytes as sextets.
+use Rattle.std.proofs.Common.{◌≡◌, ℕ, ◌-◌, ◌*◌, ◌<◌, ◌≤◌, List, [], ◌∷◌, ◌++◌, length, take, drop, map, flat_map, get_or, All, IsTrue, refl, sym, ap, ◌∙◌, arith, take_all, append-nil, get_or-drop, length-take-le}
+use Rattle.std.proofs.lemmas.List.{length-map, get_or-map, drop_all, get_or-append_right}
+use Rattle.std.proofs.lemmas.Bool.Decides.{nat_tests}
+use Rattle.std.specs.List.{refill}
+use Rattle.aivdm.specs.BitFields.{binary}
+use Rattle.aivdm.specs.PayloadBits.{bits_of, is_armour, six_bits}
+use Rattle.aivdm.specs.Sextets.{bits_in, AreSextets}
+use Rattle.aivdm.proofs.BitLists.{length-bits_in}
+
+six_bits-below : (byte : ℕ) → IsTrue (is_armour byte) → six_bits byte < 64
+six_bits-below byte h = grind (arith, nat_tests)
+
+-- a byte that is not replaced yet
+pub get_or-mapped : (f : ℕ → ℕ) (xs ys : List ℕ) (i : ℕ) → i < length xs → ys ≡ map f (take i xs) ++ drop i xs → get_or ys i 0 ≡ get_or xs i 0
+get_or-mapped f xs ys i h e =
+    ap (λ (l : List ℕ). get_or l i 0) e
+    ∙ get_or-append_right (map f (take i xs)) (drop i xs) i i 0 (length-map (take i xs) f ∙ length-take-le i xs (omega arith)) (omega arith)
+    ∙ get_or-drop i xs (i - i) 0 ∙ ap (λ n. get_or xs n 0) (omega arith)
+
+-- a slice that was written whole
+pub refill_whole : (xs ws : List ℕ) → length ws ≡ length xs → refill (length xs) xs ws ≡ ws
+refill_whole xs ws h =
+    ap (λ (l : List ℕ). take (length xs) (ws ++ l)) (drop_all (length ws) xs (omega arith))
+    ∙ ap (take (length xs)) (append-nil ws) ∙ take_all (length xs) ws (omega arith)
+
+bits_in-map : (payload : List ℕ) → bits_in (map six_bits payload) ≡ flat_map (λ byte. binary 6 (six_bits byte)) payload
+bits_in-map [] = refl
+bits_in-map (byte ∷ payload) = ap (λ l. binary 6 (six_bits byte) ++ l) (bits_in-map payload)
+
+-- the bits of a payload are those of its sextets
+pub bits_of-sextets : (payload : List ℕ) (fill : ℕ) → take (6 * length payload - fill) (bits_in (map six_bits payload)) ≡ bits_of payload fill
+unfolding bits_of
+bits_of-sextets payload fill =
+    let bits = bits_in (map six_bits payload) in
+    let whole : length bits ≡ 6 * length payload = length-bits_in (map six_bits payload) ∙ ap (λ n. 6 * n) (length-map payload six_bits) in
+    ap (λ n. take (n - fill) bits) (sym whole) ∙ rw (bits_in-map payload) refl
+
+pub AreSextets-payload : (payload : List ℕ) (fill : ℕ) → 1 ≤ length payload → fill ≤ 5 → All (λ byte. IsTrue (is_armour byte)) payload → AreSextets (map six_bits payload) (6 * length payload - fill)
+AreSextets-payload payload fill some few armoured = record {
+  enough = omega (arith, length-map payload six_bits);
+  needed = omega (arith, length-map payload six_bits);
+  six = λ k d h.
+      let there : k < length payload = omega (arith, length-map payload six_bits) in
+      rw (get_or-map six_bits payload k d d there) (six_bits-below (get_or payload k d) (armoured k d there));
+}

@@ -1,0 +1,4 @@
+pub mod BitFields
+pub mod PayloadBits
+pub mod LineReading
+pub mod Sextets
