@@ -1,0 +1,2 @@
+pub mod MessageFields
+pub use Rattle.aivdm.specs.BitFields
