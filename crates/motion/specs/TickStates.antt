@@ -1,0 +1,66 @@
+-- The legs between the reports of a vessel, and her state at a time.
+use Rattle.std.specs.Prelude.{ℕ, ◌≡◌, ◌+◌, ◌-◌, ◌*◌, ◌^◌, ◌≤◌, ◌<◌, ◌⊎◌, Bool, ◌&&◌, nat_le, List, length, Option, None, Some, IfSome, pos, ◌*ℤ◌, ◌≤ℤ◌}
+use Rattle.std.specs.List.{All, AllAdjacentBelow, AllPairs, filter, last_or}
+use Rattle.std.specs.Option.{option_map}
+use Rattle.fixed_geometry.specs.Plane.{norm2_of}
+use Rattle.fixed_geometry.specs.Sizes.{IsBelow, IsWithin}
+use Rattle.motion.specs.Between.{between}
+use Rattle.motion.specs.Ways.{way}
+use Rattle.motion.specs.declared.leg.Leg.{Leg}
+use Rattle.motion.specs.declared.leg.TickState.{TickState}
+
+-- A leg lasts at most an hour and lies in the region. The vessel moves at no more than 102.2 knots: a tenth of a knot is
+-- 4630 / 9 tenths of a millimetre a second.
+pub record IsLeg (leg : Leg) : Type 0 where
+  pub lasts : leg.t1 < leg.t2
+  pub short : leg.t2 - leg.t1 ≤ 3600
+  pub begins : IsWithin 2222400000 leg.p1
+  pub ends : IsWithin 2222400000 leg.p2
+  pub slow : (pos 81 *ℤ norm2_of (way leg.p1 leg.p2)) ≤ℤ pos (4630 * 1022 * (leg.t2 - leg.t1) * (4630 * 1022 * (leg.t2 - leg.t1)))
+  pub direction : IfSome leg.direction (λ d. d < 3600)
+  pub speed : IfSome leg.speed (λ v. v ≤ 1022)
+
+-- legs of one vessel: none begins before an earlier one is over
+pub record AreLegs (legs : List Leg) : Type 0 where
+  pub each : All IsLeg legs
+  pub ordered : AllPairs (λ earlier later. earlier.t2 ≤ later.t1) legs
+
+-- A leg holds its two ends and the times between them.
+abbrev pub holds : ℕ → Leg → Bool
+holds t leg = nat_le leg.t1 t && nat_le t leg.t2
+
+-- the state at a time that the leg holds
+unfoldable pub state_on : ℕ → Leg → TickState
+state_on t leg = record {
+  point = record {
+    x = between leg.p1.x leg.p2.x (t - leg.t1) (leg.t2 - leg.t1);
+    y = between leg.p1.y leg.p2.y (t - leg.t1) (leg.t2 - leg.t1);
+  };
+  direction = leg.direction;
+  speed = leg.speed;
+}
+
+-- the state at a time, on the last of the legs that hold it: where two legs meet, the later one counts
+unfoldable pub state_at : ℕ → List Leg → Option TickState
+state_at t legs = option_map (state_on t) (last_or None (filter (holds t) legs))
+
+-- A vessel that is seen lies in the region, and heads and moves as a report can say.
+pub record IsTickState (state : TickState) : Type 0 where
+  pub point : IsWithin 2222400000 state.point
+  pub direction : IfSome state.direction (λ d. d < 3600)
+  pub speed : IfSome state.speed (λ v. v ≤ 1022)
+
+-- Two legs meet in one report.
+pub record Meets (earlier later : Leg) : Type 0 where
+  pub time : earlier.t2 ≡ later.t1
+  pub point : earlier.p2 ≡ later.p1
+
+-- Consecutive legs meet, or lie more than `gap` seconds apart.
+abbrev pub AreJoined : ℕ → List Leg → Type 0
+AreJoined gap legs = AllAdjacentBelow (λ earlier later. Meets earlier later ⊎ (earlier.t2 + gap < later.t1)) legs (length legs)
+
+-- From one time to another, at most a minute and at most `gap` seconds later, a vessel that is seen at both moves by less
+-- than 2^25 in each component.
+abbrev pub MovesLittle : ℕ → List Leg → Type 0
+MovesLittle gap legs = (t u : ℕ) (before after : TickState) → t ≤ u → u ≤ t + 60 → u ≤ t + gap
+    → state_at t legs ≡ Some before → state_at u legs ≡ Some after → IsBelow (2 ^ 25) (way before.point after.point)

@@ -1,0 +1,84 @@
+//! One leg, and the state of a vessel on it.
+ghost use Rattle.std.specs.Prelude.{pos, ◌≡◌, ◌+◌, ◌*◌, ◌-◌, ◌<◌, ◌≤◌, ◌^◌, ◌*ℤ◌, unsigned_abs};
+ghost use Rattle.motion.specs.Between.{between};
+ghost use Rattle.motion.specs.TickStates.{state_on, holds, IsLeg, IsTickState};
+
+use fixed_geometry::{Point, round_quotient};
+
+/// Where a vessel is at a time, and how she was last reported to head and to move.
+#[derive(Clone, Copy, Debug, PartialEq, Eq)]
+pub struct TickState {
+    /// In tenths of a millimetre, at most 2,222,400,000 from the origin in each component.
+    pub point: Point,
+    /// Tenths of a degree clockwise from north, below 3600.
+    pub direction: Option<u16>,
+    /// Tenths of a knot, at most 1022.
+    pub speed: Option<u16>,
+}
+
+/// The straight way of a vessel from one report of hers to the next, an hour later at most. Times are seconds since the
+/// Unix epoch.
+#[derive(Clone, Copy, Debug, PartialEq, Eq)]
+pub struct Leg {
+    /// When the leg begins, and where.
+    pub t1: u64,
+    pub p1: Point,
+    /// When it ends, and where.
+    pub t2: u64,
+    pub p2: Point,
+    /// By the report at `t1`: tenths of a degree clockwise from north, below 3600.
+    pub direction: Option<u16>,
+    /// By the report at `t1`: tenths of a knot, at most 1022.
+    pub speed: Option<u16>,
+}
+
+fn scale(length: i64, factor: u64) -> i64
+    requires length_small { unsigned_abs length ≤ 2 ^ 33 }
+    requires factor_small { factor ≤ 3600 }
+    ensures value { result ≡ length *ℤ pos factor }
+    ensures small { unsigned_abs result ≤ 2 ^ 33 * 3600 }
+{
+    length * factor as i64
+}
+
+/// One component of the place after a part of the way.
+fn part_way(from: i64, to: i64, since: u64, whole: u64) -> i64
+    requires from_small { unsigned_abs from ≤ 2222400000 }
+    requires to_small { unsigned_abs to ≤ 2222400000 }
+    requires some { 0 < whole }
+    requires short { whole ≤ 3600 }
+    requires part { since ≤ whole }
+    ensures value { result ≡ between from to since whole }
+    ensures small { unsigned_abs result ≤ 2222400000 }
+{
+    from + round_quotient(scale(to - from, since), whole as u32)
+}
+
+impl Leg {
+    /// Whether the leg holds the time; it holds its two ends.
+    pub(crate) fn holds(&self, time: u64) -> bool
+        ensures { result ≡ holds time self.now }
+    {
+        self.t1 <= time && time <= self.t2
+    }
+
+    /// The vessel's state at a time that the leg holds.
+    pub(crate) fn state(&self, time: u64) -> TickState
+        requires leg { IsLeg self.now }
+        requires begun { self.now.t1 ≤ time }
+        requires not_over { time ≤ self.now.t2 }
+        ensures value { result ≡ state_on time self.now }
+        ensures state { IsTickState result }
+    {
+        let since = time - self.t1;
+        let whole = self.t2 - self.t1;
+        TickState {
+            point: Point {
+                x: part_way(self.p1.x, self.p2.x, since, whole),
+                y: part_way(self.p1.y, self.p2.y, since, whole),
+            },
+            direction: self.direction,
+            speed: self.speed,
+        }
+    }
+}

@@ -1,0 +1,101 @@
+//! The legs of one vessel.
+ghost use Rattle.std.specs.Prelude.{◌≡◌, ◌≤◌, ◌<◌, ◌++◌, ◌∷◌, [], ◌↔◌, None, length, IsTrue, IsNone, IfSome, OnOk, OnErr, false};
+ghost use Rattle.std.specs.List.{All, last_or};
+ghost use Rattle.std.specs.List.Sorted.{IsPartitionPoint};
+ghost use Rattle.motion.specs.TickStates.{state_at, holds, AreJoined, AreLegs, IsLeg, IsTickState, MovesLittle};
+
+use crate::leg::{Leg, TickState};
+use outside::Memory;
+use std::alloc::Global;
+use std::marker::Model;
+
+/// How many legs have begun by the time: a search by halves.
+fn begun(legs: &[Leg], time: u64) -> usize
+    requires { AreLegs legs.now }
+    ensures bound { result ≤ length legs.now }
+    ensures parts { IsPartitionPoint (λ leg. leg.t1 ≤ time) (λ leg. time < leg.t1) legs.now result }
+{
+    legs.partition_point(|leg| leg.t1 <= time)
+}
+
+/// The legs of one vessel, in the order of their times. Legs that meet in one report touch; between others she is not
+/// seen.
+#[derive(Debug, Drop)]
+pub struct Legs {
+    legs: Vec<Leg>,
+}
+
+impl Model for Legs {
+    ghost use Rattle.std.specs.Prelude.{List};
+    ghost use Rattle.motion.specs.declared.leg.Leg.{Leg};
+    ghost use Rattle.motion.specs.TickStates.{AreLegs};
+
+    ghost Value = { List Leg };
+
+    ghost view = { λ s. s.legs.items };
+
+    ghost invariant = { λ s. AreLegs s.legs.items };
+}
+
+impl Legs {
+    /// No legs yet. This takes no memory.
+    pub fn new(alloc: Global) -> Legs
+        ensures { result ≡ [] }
+    {
+        Legs {
+            legs: Vec::new(alloc),
+        }
+    }
+
+    /// Puts a leg after the others. Where there is no memory for it, the legs are as before.
+    pub fn push(&mut self, leg: Leg) -> Result<(), Memory>
+        requires leg { IsLeg leg }
+        requires after { IfSome (last_or None self.old) (λ last. last.t2 ≤ leg.t1) }
+        ensures ok { OnOk result (self.new ≡ self.old ++ leg ∷ []) }
+        ensures memory { OnErr result (self.new ≡ self.old) }
+    {
+        self.legs.push(leg)?;
+        Ok(())
+    }
+
+    /// The vessel's state at a time: on the last leg that holds it, or `None` where no leg does.
+    pub fn at(&self, time: u64) -> Option<TickState>
+        ensures value { result ≡ state_at time self.now }
+        ensures none { IsNone result ↔ All (λ leg. holds time leg ≡ false) self.now }
+        ensures state { IfSome result IsTickState }
+    {
+        let begun = begun(&self.legs, time);
+        if begun == 0 {
+            return None;
+        }
+        let leg = &self.legs[begun - 1];
+        if leg.holds(time) {
+            Some(leg.state(time))
+        } else {
+            None
+        }
+    }
+
+    /// A law of the legs, which does nothing: where they meet or lie more than `gap` seconds apart, the vessel moves no
+    /// further from tick to tick than a step may say.
+    pub fn moves_little(&self, gap: u64)
+        requires { AreJoined gap self.now }
+        ensures { MovesLittle gap self.now }
+    {
+        let _ = &self.legs;
+    }
+
+    /// How many legs there are.
+    pub fn len(&self) -> usize
+        ensures { result ≡ length self.now }
+    {
+        self.legs.len()
+    }
+
+    /// Whether there are none.
+    pub fn is_empty(&self) -> bool
+        ensures { IsTrue result ↔ (self.now ≡ []) }
+    {
+        self.legs.is_empty()
+    }
+}

@@ -1,0 +1,96 @@
+//! One step of two vessels.
+ghost use Rattle.std.specs.Prelude.{◌≡◌, ◌^◌, ◌↔◌, IsTrue, IsSome, IfSome};
+ghost use Rattle.fixed_geometry.specs.Sizes.{IsBelow};
+ghost use Rattle.motion.specs.Ways.{way};
+
+use fixed_geometry::Point;
+use std::marker::Model;
+
+fn is_below(p: Point, size: u64) -> bool
+    ensures { IsTrue result ↔ IsBelow size p }
+{
+    p.x.unsigned_abs() < size && p.y.unsigned_abs() < size
+}
+
+/// From one tick to the next: the way from vessel A to vessel B at the first, `p`, and by how much it changes to the
+/// second, `w`. Between the ticks both move straight. A component of `p` is below 2^34 in size, one of `w` below 2^26.
+#[derive(Clone, Copy, Debug, PartialEq, Eq)]
+pub struct Step {
+    p: Point,
+    w: Point,
+}
+
+impl Model for Step {
+    ghost use Rattle.std.specs.Prelude.{◌^◌};
+    ghost use Rattle.fixed_geometry.specs.Sizes.{IsBelow};
+    ghost use Rattle.motion.specs.Steps.{RelativeMove};
+
+    ghost Value = { RelativeMove };
+
+    ghost view = { λ s. record { p = s.p; w = s.w } };
+
+    ghost invariant = { λ s. IsBelow (2 ^ 34) s.p × IsBelow (2 ^ 26) s.w };
+
+    ghost inverse = { λ s. record { p = s.p; w = s.w } };
+}
+
+impl Step {
+    /// The step with these ways, or `None` where a component is too large.
+    pub fn new(p: Point, w: Point) -> Option<Step>
+        ensures value { IfSome result (λ s. s ≡ record { p = p; w = w }) }
+        ensures some { IsSome result ↔ (IsBelow (2 ^ 34) p × IsBelow (2 ^ 26) w) }
+    {
+        if is_below(p, 1 << 34) && is_below(w, 1 << 26) {
+            Some(Step { p, w })
+        } else {
+            None
+        }
+    }
+
+    /// The step of vessel A, from `a0` to `a1`, and vessel B, from `b0` to `b1`.
+    pub fn of(a0: Point, b0: Point, a1: Point, b1: Point) -> Step
+        requires a0_small { IsBelow (2 ^ 33) a0 }
+        requires b0_small { IsBelow (2 ^ 33) b0 }
+        requires a1_small { IsBelow (2 ^ 33) a1 }
+        requires b1_small { IsBelow (2 ^ 33) b1 }
+        requires a_moves { IsBelow (2 ^ 25) (way a0 a1) }
+        requires b_moves { IsBelow (2 ^ 25) (way b0 b1) }
+        ensures p { result.p ≡ way a0 b0 }
+        ensures w { result.w ≡ way (way a0 b0) (way a1 b1) }
+    {
+        let p = difference(a0, b0);
+        let later = difference(a1, b1);
+        Step {
+            p,
+            w: difference(p, later),
+        }
+    }
+
+    /// The way from vessel A to vessel B at the first tick.
+    pub fn p(&self) -> Point
+        ensures value { result ≡ self.now.p }
+        ensures small { IsBelow (2 ^ 34) result }
+    {
+        self.p
+    }
+
+    /// By how much the way changes to the second tick.
+    pub fn w(&self) -> Point
+        ensures value { result ≡ self.now.w }
+        ensures small { IsBelow (2 ^ 26) result }
+    {
+        self.w
+    }
+}
+
+/// The way from `a` to `b`.
+fn difference(a: Point, b: Point) -> Point
+    requires a_small { IsBelow (2 ^ 60) a }
+    requires b_small { IsBelow (2 ^ 60) b }
+    ensures { result ≡ way a b }
+{
+    Point {
+        x: b.x - a.x,
+        y: b.y - a.y,
+    }
+}
