@@ -1,0 +1,62 @@
+//! What the least distance decides.
+ghost use Rattle.std.specs.Prelude.{ℕ, ◌≡◌, ◌*◌, ◌<◌, ◌≤◌, ◌^◌, ◌↔◌, IsTrue, IsNone, IfSome};
+ghost use Rattle.closest_approach.specs.Separation.{nearest_of, EntersWithin, IsNearer, IsNearest, IsSeparated, IsSeparatedByEnds};
+
+use crate::nearest::{Moment, Square, least_square, nearest};
+use fixed_geometry::isqrt;
+use motion::Step;
+
+fn is_at_least(square: Square, r: u64) -> bool
+    requires r_small { r < 2 ^ 31 }
+    requires under_small { square.under ≤ 2 ^ 53 }
+    ensures { IsTrue result ↔ (r * r * square.under ≤ square.over) }
+{
+    u128::from(r) * u128::from(r) * square.under <= square.over
+}
+
+/// Whether the distance is at least `r` tenths of a millimetre at every rational instant of the step. The two ends and one
+/// comparison of squares decide it.
+pub fn separated(step: &Step, r: u64) -> bool
+    requires { r < 2 ^ 31 }
+    ensures exact { IsTrue result ↔ IsSeparated step.now r }
+    ensures ends { IsTrue result ↔ IsSeparatedByEnds step.now r }
+{
+    is_at_least(least_square(step, 1), r)
+}
+
+/// Whether the distance is less than `r` at some rational instant up to `ticks` ticks after the beginning, where both
+/// vessels go on as in the step.
+pub fn enters_within(step: &Step, r: u64, ticks: u32) -> bool
+    requires r { r < 2 ^ 31 }
+    requires ticks { ticks ≤ 7200 }
+    ensures { IsTrue result ↔ EntersWithin step.now r ticks }
+{
+    !is_at_least(least_square(step, ticks), r)
+}
+
+/// The greatest whole number by which the step is separated: it is separated by each number up to this one, and by no
+/// greater.
+pub fn least(step: &Step) -> u64
+    ensures exact { (m : ℕ) → IsSeparated step.now m ↔ (m ≤ result) }
+    ensures ends { (m : ℕ) → IsSeparatedByEnds step.now m ↔ (m ≤ result) }
+{
+    let square = least_square(step, 1);
+    isqrt(square.over / square.under)
+}
+
+/// The instant of least distance, at which the distance is less than `r`: `0 / 1` where the vessels draw apart, `1 / 1`
+/// where they close up to the end, and else `-p.w / |w|^2`, not reduced. `None` where the step is separated by `r`.
+pub fn entry(step: &Step, r: u64) -> Option<Moment>
+    requires { r < 2 ^ 31 }
+    ensures none { IsNone result ↔ IsSeparated step.now r }
+    ensures moment { IfSome result (λ moment. moment ≡ nearest_of step.now 1) }
+    ensures instant { IfSome result (λ moment. (moment.a ≤ moment.b) × (0 < moment.b)) }
+    ensures nearest { IfSome result (λ moment. IsNearest step.now moment) }
+    ensures nearer { IfSome result (λ moment. IsNearer step.now r moment.a moment.b) }
+{
+    if separated(step, r) {
+        None
+    } else {
+        Some(nearest(step, 1))
+    }
+}
