@@ -1,0 +1,57 @@
+use Rattle.std.proofs.Common.{◌≡◌, ◌+◌, ◌-◌, length, min, sym, arith}
+use Rattle.mtl_formulas.specs.VerdictOrder.{least}
+use Rattle.mtl_formulas.specs.FormulaTree.{tree_of}
+use Rattle.mtl_formulas.specs.FormulaValue.{value_of, least_over}
+use Rattle.mtl_formulas.proofs.Values.{value_of-past, value_of-min}
+use Rattle.mtl_formulas.proofs.Verdicts.{greatest_over-ahead, least_over-ahead, least_over-one_more, greatest_over-back, least_over-back, until_at, since_at}
+use Rattle.mtl_formulas.proofs.evaluation.+evaluation.Goals as goal
+
+pub value-returns-then-i-rows : goal.value-returns-then-i-rows
+value-returns-then-i-rows g t c =
+    sym (value_of-past g.A.Atoms.answer c.args.rows.now (tree_of c.args.formula.now) c.args.i (omega arith))
+
+pub value_ahead-returns : goal.value_ahead-returns
+value_ahead-returns g t c =
+    let ahead = c.args.i + c.args.distance in
+    let at_end : c.min-position.result ≡ min ahead (length c.args.rows.now) = omega arith in
+    rw (c.value.ensures, at_end) (value_of-min g.A.Atoms.answer c.args.rows.now (tree_of c.args.formula.now) ahead)
+
+pub greatest_ahead-loop-distance-preserved : goal.greatest_ahead-loop-distance-preserved
+greatest_ahead-loop-distance-preserved g t c =
+    greatest_over-ahead _ c.args.i c.args.lower c.loop-distance.distance _ _ _ (omega arith)
+    c.or-greatest.ensures c.loop-distance.invariant c.value_ahead.ensures
+
+pub least_ahead-loop-distance-preserved : goal.least_ahead-loop-distance-preserved
+least_ahead-loop-distance-preserved g t c =
+    least_over-ahead _ c.args.i c.args.from c.loop-distance.distance _ _ _ (omega arith)
+    c.and-least.ensures c.loop-distance.invariant c.value_ahead.ensures
+
+pub until-loop-distance-preserved : goal.until-loop-distance-preserved
+until-loop-distance-preserved g t c =
+    let i = c.args.i in
+    let distance = c.loop-distance.distance in
+    let a = value_of g.A.Atoms.answer c.args.rows.now (tree_of c.args.a.now) in
+    let b = value_of g.A.Atoms.answer c.args.rows.now (tree_of c.args.b.now) in
+    record {
+      before = least_over-one_more a i distance _ _ _ c.and-before.ensures c.loop-distance.invariant.before c.value_ahead-in-loop-distance.ensures;
+      greatest =
+          greatest_over-ahead (λ k. least (b k) (least_over a i (k - i))) i c.args.lower distance _ _ _ (omega arith)
+          c.or-greatest.ensures c.loop-distance.invariant.greatest
+          (until_at a b i distance _ _ _ c.and.ensures c.value_ahead.ensures c.loop-distance.invariant.before);
+    }
+
+pub since-loop-distance-preserved : goal.since-loop-distance-preserved
+since-loop-distance-preserved g t c =
+    let i = c.args.i in
+    let distance = c.loop-distance.distance in
+    let a = value_of g.A.Atoms.answer c.args.rows.now (tree_of c.args.a.now) in
+    let b = value_of g.A.Atoms.answer c.args.rows.now (tree_of c.args.b.now) in
+    record {
+      after =
+          least_over-back a i (i + 1) distance _ _ _ (omega arith) (omega arith)
+          c.and-after.ensures c.value-in-loop-distance.ensures c.loop-distance.invariant.after;
+      greatest =
+          greatest_over-back (λ k. least (b k) (least_over a (k + 1) (i - k))) i ((i + 1) - c.args.lower) distance _ _ _ (omega arith) (omega arith)
+          c.or-greatest.ensures (since_at a b i distance _ _ _ (omega arith) c.and.ensures c.value.ensures c.loop-distance.invariant.after)
+          c.loop-distance.invariant.greatest;
+    }

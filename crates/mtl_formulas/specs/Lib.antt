@@ -1,0 +1,11 @@
+pub mod VerdictOrder
+pub mod AtomWords
+pub mod FormulaTree
+pub mod FormulaMeasures
+pub mod FormulaText
+pub mod FormulaTokens
+pub mod FormulaGrammar
+pub mod FormulaReading
+pub mod FormulaValue
+pub mod ParserSteps
+pub mod Building

@@ -1,0 +1,117 @@
+//! What formulas are made of: tests of one step of an ordered pair of vessels.
+ghost use Rattle.std.specs.Prelude.{◌≡◌};
+ghost use Rattle.mtl_formulas.specs.AtomWords.{word_of};
+
+use crate::verdict::Verdict;
+
+/// A test of one step of an ordered pair of vessels, the subject and the other. The kind of an engagement is that of its
+/// beginning.
+#[derive(Clone, Copy, Debug, PartialEq, Eq)]
+pub enum Atom {
+    /// `true`.
+    Always,
+    /// `false`.
+    Never,
+    /// Both vessels are seen at both ends of the step.
+    Seen,
+    /// There is risk of collision.
+    Risk,
+    /// The vessels are engaged.
+    Engaged,
+    /// The engagement begins here.
+    Begin,
+    /// Engaged, the subject overtaking (COLREGs Rule 13).
+    Overtaking,
+    /// Engaged, the subject being overtaken (Rule 13).
+    Overtaken,
+    /// Engaged head-on (Rule 14).
+    HeadOn,
+    /// Engaged in a crossing in which the subject gives way (Rule 15).
+    CrossingGives,
+    /// Engaged in a crossing in which the subject stands on (Rule 15).
+    CrossingStands,
+    /// Engaged in passing.
+    Passing,
+    /// Engaged, and of no other kind.
+    Unclassified,
+    /// Engaged for at least so many seconds.
+    Age(u32),
+    /// The distance does not shrink.
+    Opening,
+    /// The step is separated by so many metres.
+    Clear(u32),
+    /// The vessels are nearer than so many metres.
+    Close(u32),
+    /// The other is on the subject's port side.
+    OtherOnPort,
+    /// The subject crosses ahead of the other.
+    Ahead,
+    /// The subject no longer keeps course and speed (Rule 17).
+    Alters,
+    /// The subject's alteration is readily apparent (Rule 8).
+    Apparent,
+    /// The subject altered course to starboard.
+    ToStarboard,
+    /// The subject altered course to port.
+    ToPort,
+    /// The other's alteration is readily apparent (Rule 8).
+    OtherApparent,
+    /// The subject gives way by rank (Rule 18).
+    RankGives,
+    /// The other gives way by rank (Rule 18).
+    RankStands,
+    /// Neither gives way by rank (Rule 18).
+    BothPower,
+}
+
+impl Atom {
+    /// The word that the language has for the atom; an atom with a number has it in parentheses after the word.
+    pub(crate) fn word(self) -> &'static str
+        ensures { result.now ≡ word_of self }
+    {
+        match self {
+            Atom::Always => "true",
+            Atom::Never => "false",
+            Atom::Seen => "seen",
+            Atom::Risk => "risk",
+            Atom::Engaged => "engaged",
+            Atom::Begin => "begin",
+            Atom::Overtaking => "overtaking",
+            Atom::Overtaken => "overtaken",
+            Atom::HeadOn => "head_on",
+            Atom::CrossingGives => "crossing_gives",
+            Atom::CrossingStands => "crossing_stands",
+            Atom::Passing => "passing",
+            Atom::Unclassified => "unclassified",
+            Atom::Age(_) => "age",
+            Atom::Opening => "opening",
+            Atom::Clear(_) => "clear",
+            Atom::Close(_) => "close",
+            Atom::OtherOnPort => "other_on_port",
+            Atom::Ahead => "ahead",
+            Atom::Alters => "alters",
+            Atom::Apparent => "apparent",
+            Atom::ToStarboard => "to_starboard",
+            Atom::ToPort => "to_port",
+            Atom::OtherApparent => "other_apparent",
+            Atom::RankGives => "rank_gives",
+            Atom::RankStands => "rank_stands",
+            Atom::BothPower => "both_power",
+        }
+    }
+}
+
+/// A position of a trace. Its meaning is its answer to each atom.
+pub trait Atoms {
+    ghost use Rattle.std.specs.Prelude.{◌≡◌};
+    ghost use Rattle.mtl_formulas.specs.declared.atom.Atom.{Atom};
+    ghost use Rattle.mtl_formulas.specs.declared.verdict.Verdict.{Verdict};
+    ghost use Rattle.mtl_formulas.specs.FormulaMeasures.{IsValidAtom};
+
+    ghost answer: { Self → Atom → Verdict };
+
+    /// The answer to a valid atom: at most 7200 seconds, at most 100,000 metres.
+    fn value(&self, atom: Atom) -> Verdict
+        requires { IsValidAtom atom }
+        ensures { result ≡ answer self.now atom };
+}

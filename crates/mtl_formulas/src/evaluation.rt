@@ -1,0 +1,230 @@
+//! The value of a formula at a position, by its definition over the whole trace.
+//!
+//! The recursion goes down the formula alone, and so is no deeper than a valid formula. No memory is taken.
+ghost use Rattle.std.specs.Prelude.{◌≡◌, ◌+◌, ◌-◌, ◌<◌, ◌≤◌, length};
+ghost use Rattle.mtl_formulas.specs.declared.formula.LinkKind.TheVariants.{U, S};
+ghost use Rattle.mtl_formulas.specs.FormulaTree.{tree_of};
+ghost use Rattle.mtl_formulas.specs.FormulaMeasures.{IsValid};
+ghost use Rattle.mtl_formulas.specs.FormulaValue.{value_of, greatest_over, least_over, past_start, past_count, ahead_count, link_value};
+
+use crate::atom::Atoms;
+use crate::formula::{Formula, LinkKind, PairKind, Root, SpanKind};
+use crate::verdict::Verdict;
+
+/// The value of a formula at position `i` of the trace `rows`, whose position 0 is the first row: metric temporal logic
+/// after Koymans (1990), read with three values. At the trace's end and beyond every formula is `Open`.
+///
+/// Each operator over an interval asks its operands anew at each position of the interval.
+#[cycle(evaluation)]
+pub fn value<A: Atoms>(formula: &Formula, rows: &[A], i: usize) -> Verdict
+    requires { IsValid (tree_of formula.now) }
+    ensures { result ≡ value_of A.answer rows.now (tree_of formula.now) i }
+{
+    if i >= rows.len() {
+        return Verdict::Open;
+    }
+    match &formula.root {
+        Root::Leaf(atom) => rows[i].value(*atom),
+        Root::Negated(a) => value(a, rows, i).negated(),
+        Root::Pair(PairKind::And, a, b) => value(a, rows, i).and(value(b, rows, i)),
+        Root::Pair(PairKind::Or, a, b) => value(a, rows, i).or(value(b, rows, i)),
+        Root::Pair(PairKind::Implies, a, b) => value(a, rows, i).negated().or(value(b, rows, i)),
+        Root::Span(SpanKind::F, lower, upper, a) => greatest_ahead(a, rows, i, *lower, *upper),
+        Root::Span(SpanKind::G, lower, upper, a) => least_ahead(a, rows, i, *lower, *upper + 1),
+        Root::Span(SpanKind::O, lower, upper, a) => greatest_back(a, rows, i, *lower, *upper),
+        Root::Span(SpanKind::H, lower, upper, a) => least_back(a, rows, i, *lower, *upper + 1),
+        Root::Link(LinkKind::U, lower, upper, a, b) => until(a, b, rows, i, *lower, *upper),
+        Root::Link(LinkKind::S, lower, upper, a, b) => since(a, b, rows, i, *lower, *upper),
+    }
+}
+
+/// The value at so many positions ahead of `i`. The trace's end stands for all that lies beyond it.
+#[cycle(evaluation)]
+fn value_ahead<A: Atoms>(formula: &Formula, rows: &[A], i: usize, distance: u32) -> Verdict
+    requires { IsValid (tree_of formula.now) }
+    ensures { result ≡ value_of A.answer rows.now (tree_of formula.now) (i + distance) }
+{
+    let position = i.saturating_add(distance as usize).min(rows.len());
+    value(formula, rows, position)
+}
+
+/// The greatest value at `i + lower` to `i + upper`.
+#[cycle(evaluation)]
+fn greatest_ahead<A: Atoms>(
+    formula: &Formula,
+    rows: &[A],
+    i: usize,
+    lower: u32,
+    upper: u32,
+) -> Verdict
+    requires valid { IsValid (tree_of formula.now) }
+    requires ordered { lower ≤ upper }
+    requires bounded { upper ≤ 7200 }
+    ensures { let each = value_of A.answer rows.now (tree_of formula.now) in
+        result ≡ greatest_over each (i + lower) (ahead_count lower upper) }
+{
+    let mut greatest = Verdict::No;
+    for distance in lower..upper + 1 {
+        greatest = greatest.or(value_ahead(formula, rows, i, distance));
+    }
+    greatest
+}
+
+/// The least value at the positions from `i + from` on and before `i + end`.
+#[cycle(evaluation)]
+fn least_ahead<A: Atoms>(formula: &Formula, rows: &[A], i: usize, from: u32, end: u32) -> Verdict
+    requires valid { IsValid (tree_of formula.now) }
+    requires ordered { from ≤ end }
+    ensures { let each = value_of A.answer rows.now (tree_of formula.now) in
+        result ≡ least_over each (i + from) (end - from) }
+{
+    let mut least = Verdict::Yes;
+    for distance in from..end {
+        least = least.and(value_ahead(formula, rows, i, distance));
+    }
+    least
+}
+
+/// The greatest value at the positions from `i - upper` to `i - lower` that are not below 0.
+#[cycle(evaluation)]
+fn greatest_back<A: Atoms>(
+    formula: &Formula,
+    rows: &[A],
+    i: usize,
+    lower: u32,
+    upper: u32,
+) -> Verdict
+    requires valid { IsValid (tree_of formula.now) }
+    requires ordered { lower ≤ upper }
+    ensures { let each = value_of A.answer rows.now (tree_of formula.now) in
+        result ≡ greatest_over each (past_start i upper) (past_count i lower upper) }
+{
+    let mut greatest = Verdict::No;
+    for distance in lower as usize..(upper as usize).min(i) + 1 {
+        greatest = value(formula, rows, i - distance).or(greatest);
+    }
+    greatest
+}
+
+/// The least value at the positions, none below 0, that lie `from` positions back from `i` or more, and fewer than `end`.
+#[cycle(evaluation)]
+fn least_back<A: Atoms>(formula: &Formula, rows: &[A], i: usize, from: u32, end: u32) -> Verdict
+    requires valid { IsValid (tree_of formula.now) }
+    requires inside { i < length rows.now }
+    requires ordered { from ≤ end }
+    ensures { let each = value_of A.answer rows.now (tree_of formula.now) in
+        let start = (i + 1) - end in
+        result ≡ least_over each start (((i + 1) - from) - start) }
+{
+    let mut least = Verdict::Yes;
+    for distance in from as usize..(end as usize).min(i + 1) {
+        least = value(formula, rows, i - distance).and(least);
+    }
+    least
+}
+
+/// The value of `a U[lower,upper] b`. What the `a` before each position gives is carried along.
+#[cycle(evaluation)]
+fn until<A: Atoms>(
+    a: &Formula,
+    b: &Formula,
+    rows: &[A],
+    i: usize,
+    lower: u32,
+    upper: u32,
+) -> Verdict
+    requires valid_a { IsValid (tree_of a.now) }
+    requires valid_b { IsValid (tree_of b.now) }
+    requires ordered { lower ≤ upper }
+    requires bounded { upper ≤ 7200 }
+    ensures { let a_each = value_of A.answer rows.now (tree_of a.now) in
+        let b_each = value_of A.answer rows.now (tree_of b.now) in
+        result ≡ link_value U lower upper a_each b_each i }
+{
+    let mut before = least_ahead(a, rows, i, 0, lower);
+    let mut greatest = Verdict::No;
+    for distance in lower..upper + 1 {
+        greatest = greatest.or(value_ahead(b, rows, i, distance).and(before));
+        before = before.and(value_ahead(a, rows, i, distance));
+    }
+    greatest
+}
+
+/// The value of `a S[lower,upper] b`. What the `a` after each position gives is carried along.
+#[cycle(evaluation)]
+fn since<A: Atoms>(
+    a: &Formula,
+    b: &Formula,
+    rows: &[A],
+    i: usize,
+    lower: u32,
+    upper: u32,
+) -> Verdict
+    requires valid_a { IsValid (tree_of a.now) }
+    requires valid_b { IsValid (tree_of b.now) }
+    requires inside { i < length rows.now }
+    requires ordered { lower ≤ upper }
+    ensures { let a_each = value_of A.answer rows.now (tree_of a.now) in
+        let b_each = value_of A.answer rows.now (tree_of b.now) in
+        result ≡ link_value S lower upper a_each b_each i }
+{
+    let mut after = least_back(a, rows, i, 0, lower);
+    let mut greatest = Verdict::No;
+    for distance in lower as usize..(upper as usize).min(i) + 1 {
+        greatest = value(b, rows, i - distance).and(after).or(greatest);
+        after = value(a, rows, i - distance).and(after);
+    }
+    greatest
+}
+
+#[cfg(test)]
+mod tests {
+    use super::value;
+    use crate::atom::{Atom, Atoms};
+    use crate::formula::{Formula, SpanKind};
+    use crate::laws;
+    use crate::verdict::Verdict;
+    use std::test::Fail;
+
+    /// A row that gives this value to each atom.
+    #[derive(Clone, Copy)]
+    struct Row {
+        each: Verdict,
+    }
+
+    impl Atoms for Row {
+        ghost answer = { λ row atom. row.each };
+
+        fn value(&self, _atom: Atom) -> Verdict {
+            self.each
+        }
+    }
+
+    const QUIET: [Row; 4] = [Row { each: Verdict::No }; 4];
+
+    #[test]
+    fn risk_within_a_window_that_passes_the_end_is_open(rt: HostRuntime) -> Result<(), Fail> {
+        let ahead = Formula::span(rt.alloc(), SpanKind::F, 0, 2, Formula::leaf(Atom::Risk))?;
+        assert_eq!(rt; value(&ahead, &QUIET, 0), Verdict::No);
+        assert_eq!(rt; value(&ahead, &QUIET, 1), Verdict::No);
+        assert_eq!(rt; value(&ahead, &QUIET, 2), Verdict::Open);
+        assert_eq!(rt; value(&ahead, &QUIET, 3), Verdict::Open);
+        Ok(())
+    }
+
+    #[test]
+    fn nothing_lies_before_the_first_row(rt: HostRuntime) -> Result<(), Fail> {
+        let once = Formula::span(rt.alloc(), SpanKind::O, 0, 2, Formula::leaf(Atom::Risk))?;
+        let historically = Formula::span(rt.alloc(), SpanKind::H, 0, 2, Formula::leaf(Atom::Risk))?;
+        assert_eq!(rt; value(&once, &QUIET, 0), Verdict::No);
+        assert_eq!(rt; value(&historically, &QUIET, 0), Verdict::No);
+        Ok(())
+    }
+
+    #[test]
+    fn the_laws_can_be_cited() {
+        laws::decided_values_stay();
+        laws::reach();
+        laws::answers_suffice::<Row>();
+    }
+}

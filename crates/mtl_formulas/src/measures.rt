@@ -1,0 +1,78 @@
+//! How large and how far-reaching a formula is.
+ghost use Rattle.std.specs.Prelude.{◌≡◌};
+ghost use Rattle.mtl_formulas.specs.FormulaTree.{tree_of};
+ghost use Rattle.mtl_formulas.specs.FormulaMeasures.{IsValid, reach_of, node_count, window_cells, weight_of};
+
+use crate::formula::{Formula, LinkKind, Root, SpanKind};
+
+/// How many positions ahead the value at a position can look: 0 to 7200.
+pub fn future_reach(formula: &Formula) -> u32
+    requires { IsValid (tree_of formula.now) }
+    ensures { result ≡ reach_of (tree_of formula.now) }
+{
+    match &formula.root {
+        Root::Leaf(_) => 0,
+        Root::Negated(a) => future_reach(a),
+        Root::Pair(_, a, b) => future_reach(a).max(future_reach(b)),
+        Root::Span(SpanKind::F | SpanKind::G, _, upper, a) => *upper + future_reach(a),
+        Root::Span(SpanKind::O | SpanKind::H, _, _, a) => future_reach(a),
+        Root::Link(LinkKind::U, _, upper, a, b) => *upper + future_reach(a).max(future_reach(b)),
+        Root::Link(LinkKind::S, _, _, a, b) => future_reach(a).max(future_reach(b)),
+    }
+}
+
+/// How many atoms and operators the formula has: 1 to 256.
+pub fn nodes(formula: &Formula) -> u32
+    requires { IsValid (tree_of formula.now) }
+    ensures { result ≡ node_count (tree_of formula.now) }
+{
+    match &formula.root {
+        Root::Leaf(_) => 1,
+        Root::Negated(a) => nodes(a) + 1,
+        Root::Pair(_, a, b) => nodes(a) + nodes(b) + 1,
+        Root::Span(_, _, _, a) => nodes(a) + 1,
+        Root::Link(_, _, _, a, b) => nodes(a) + nodes(b) + 1,
+    }
+}
+
+/// What the formula costs a monitor: its nodes times its reach plus one, and for each temporal operator its upper bound
+/// in positions plus one.
+pub fn weight(formula: &Formula) -> u64
+    requires { IsValid (tree_of formula.now) }
+    ensures { result ≡ weight_of (tree_of formula.now) }
+{
+    let cells = nodes(formula) as u64 * (future_reach(formula) as u64 + 1);
+    cells + windows(formula)
+}
+
+/// The upper bounds of the temporal operators in positions, each plus one.
+#[tactic(auto, using(crate::proofs::Windows::window_cells_fit))]
+fn windows(formula: &Formula) -> u64
+    requires { IsValid (tree_of formula.now) }
+    ensures { result ≡ window_cells (tree_of formula.now) }
+{
+    match &formula.root {
+        Root::Leaf(_) => 0,
+        Root::Negated(a) => windows(a),
+        Root::Pair(_, a, b) => windows(a) + windows(b),
+        Root::Span(_, _, upper, a) => windows(a) + (*upper as u64 + 1),
+        Root::Link(_, _, upper, a, b) => windows(a) + windows(b) + (*upper as u64 + 1),
+    }
+}
+
+#[cfg(test)]
+mod tests {
+    use super::{future_reach, nodes, weight};
+    use crate::atom::Atom;
+    use crate::formula::{Formula, SpanKind};
+    use std::test::Fail;
+
+    #[test]
+    fn a_window_of_three_positions_is_measured(rt: HostRuntime) -> Result<(), Fail> {
+        let ahead = Formula::span(rt.alloc(), SpanKind::F, 0, 2, Formula::leaf(Atom::Risk))?;
+        assert_eq!(rt; future_reach(&ahead), 2);
+        assert_eq!(rt; nodes(&ahead), 2);
+        assert_eq!(rt; weight(&ahead), 2 * (2 + 1) + (2 + 1));
+        Ok(())
+    }
+}

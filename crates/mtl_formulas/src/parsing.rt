@@ -1,0 +1,94 @@
+//! Reading a formula from its text.
+ghost use Rattle.std.specs.Prelude.{◌≡◌, ◌≤◌, length, IfOk, IfSome};
+ghost use Rattle.mtl_formulas.specs.FormulaTree.{tree_of};
+ghost use Rattle.mtl_formulas.specs.FormulaMeasures.{IsValid};
+ghost use Rattle.mtl_formulas.specs.FormulaText.{IsTick};
+ghost use Rattle.mtl_formulas.specs.FormulaReading.{Meaning, IsMeaning, answered};
+
+use crate::building::build;
+use crate::formula::Formula;
+use crate::numbers::first_refused;
+use crate::steps::arrange;
+use crate::tokens::split;
+use outside::Memory;
+use std::alloc::{AllocError, AllocFailed, Global};
+
+/// Why a text gives no formula. A place is that of a byte, from 0.
+#[derive(Clone, Copy, Debug, PartialEq, Eq)]
+pub enum ParseFault {
+    /// The text is no formula. The place is the first byte of the first token with which no formula goes on, or the text's
+    /// length where the text ends too early.
+    Syntax(usize),
+    /// The text is a formula. The place is the first byte of its first refused number: metres above 100,000, seconds above
+    /// 7200 or between ticks, an upper bound below the lower one.
+    Number(usize),
+    /// The formula is deeper than 64, has more than 256 nodes, or reaches further than 7200 positions.
+    Size,
+    /// Memory ran out.
+    Memory,
+}
+
+impl From<AllocError> for ParseFault {
+    ghost use Rattle.std.specs.Prelude.{◌≡◌};
+    ghost use Rattle.mtl_formulas.specs.declared.parsing.ParseFault.TheVariants.{Memory};
+
+    ghost from_gives = { λ _ e. e ≡ Memory };
+
+    fn from(_e: AllocError) -> ParseFault {
+        ParseFault::Memory
+    }
+}
+
+impl<T: Drop> From<AllocFailed<T>> for ParseFault {
+    ghost use Rattle.std.specs.Prelude.{◌≡◌};
+    ghost use Rattle.mtl_formulas.specs.declared.parsing.ParseFault.TheVariants.{Memory};
+
+    ghost from_gives = { λ _ e. e ≡ Memory };
+
+    fn from(_e: AllocFailed<T>) -> ParseFault {
+        ParseFault::Memory
+    }
+}
+
+impl From<Memory> for ParseFault {
+    ghost use Rattle.std.specs.Prelude.{◌≡◌};
+    ghost use Rattle.mtl_formulas.specs.declared.parsing.ParseFault.TheVariants.{Memory};
+
+    ghost from_gives = { λ _ e. e ≡ Memory };
+
+    fn from(_e: Memory) -> ParseFault {
+        ParseFault::Memory
+    }
+}
+
+/// Reads a formula:
+///
+/// ```text
+/// formula     := disjunction [ "->" formula ]
+/// disjunction := conjunction { "|" conjunction }
+/// conjunction := middle { "&" middle }
+/// middle      := unary [ ( "U" | "S" ) bounds unary ]
+/// unary       := "!" unary | ( "F" | "G" | "O" | "H" ) bounds unary | "(" formula ")" | atom
+/// bounds      := "[" number "," number "]"
+/// ```
+///
+/// An atom is its word, with a number in parentheses for `age` in seconds, `clear` and `close` in metres. Bounds are in
+/// seconds, and are counted in positions of `tick` seconds. Spaces may stand before, between and after the tokens.
+///
+/// A wrong token is told before a refused number, and that before the size. At want of memory nothing is kept.
+pub fn parse(alloc: Global, text: &[u8], tick: u32) -> Result<Formula, ParseFault>
+    requires text { length text.now ≤ 1024 }
+    requires tick { IsTick tick }
+    // The answer is what the text means, and it means nothing else.
+    ensures right { IfSome (answered result) (IsMeaning text.now tick) }
+    ensures only { (m : Meaning) → IsMeaning text.now tick m →
+        IfSome (answered result) (λ n. n ≡ m) }
+    ensures valid { IfOk result (λ f. IsValid (tree_of f)) }
+{
+    let tokens = split(alloc, text)?;
+    let steps = arrange(alloc, &tokens, text.len())?;
+    if let Some(place) = first_refused(&tokens, tick) {
+        return Err(ParseFault::Number(place));
+    }
+    build(alloc, &steps, tick)
+}
