@@ -1,0 +1,107 @@
+#!/usr/bin/env python3
+"""Times `colregs points` on a log of position reports, beside other programs, in one run.
+
+    bench/points.py [--reports N] [--vessels N] [--rounds N] [PROGRAM ...]
+
+It writes a log of N position reports of ITU-R M.1371 message 1 (two million by default), each a line of its own with a
+right sum, and a scenario. Then it times each program in turn, some rounds long, with the log as standard input and its
+output thrown away, and prints the least time of each and its ratio to `wc -l`. A PROGRAM is a shell command; `{log}` in
+it stands for the log's path. The numbers are of this machine and this run: compare the ratios.
+"""
+import argparse
+import os
+import random
+import subprocess
+import sys
+import tempfile
+import time
+
+HERE = os.path.dirname(os.path.abspath(__file__))
+SCENARIO = """version = 1
+[window]
+start = 1700000000
+tick = 10
+ticks = 40
+[reference]
+lat = 28549600
+lon = -73407500
+[log]
+gap = 600
+slack = 60
+max_speed = 500
+"""
+
+
+def bits(value, width):
+    return format(value & ((1 << width) - 1), "0%db" % width)
+
+
+def armour(text):
+    """Six bits to a byte (IEC 61162-1)."""
+    out = []
+    for at in range(0, len(text), 6):
+        value = int(text[at:at + 6], 2)
+        out.append(chr(value + 48 if value < 40 else value + 56))
+    return "".join(out)
+
+
+def position_report(mmsi, latitude, longitude, sog, cog, heading, second):
+    fields = [(1, 6), (0, 2), (mmsi, 30), (0, 4), (128, 8), (sog, 10), (0, 1), (longitude, 28), (latitude, 27), (cog, 12),
+              (heading, 9), (second, 6), (0, 2), (0, 3), (0, 1), (0, 19)]
+    return armour("".join(bits(value, width) for value, width in fields))
+
+
+def sentence(payload, channel):
+    body = "AIVDM,1,1,,%s,%s,0" % (channel, payload)
+    total = 0
+    for byte in body.encode():
+        total ^= byte
+    return "!%s*%02X\n" % (body, total)
+
+
+def write_log(path, reports, vessels):
+    draw = random.Random(1)
+    with open(path, "w") as out:
+        for k in range(reports):
+            out.write(sentence(position_report(
+                200000001 + draw.randrange(vessels), 28549600 + draw.randrange(-500000, 500000),
+                -73407500 + draw.randrange(-500000, 500000), draw.randrange(0, 300), draw.randrange(0, 3600),
+                draw.randrange(0, 360), k % 60), "AB"[k % 2]))
+
+
+def seconds(command, log, cwd):
+    with open(log, "rb") as source:
+        begin = time.perf_counter()
+        done = subprocess.run(command, shell=True, stdin=source, stdout=subprocess.DEVNULL, cwd=cwd)
+        end = time.perf_counter()
+    if done.returncode != 0:
+        sys.exit("%s: status %d" % (command, done.returncode))
+    return end - begin
+
+
+def main():
+    words = argparse.ArgumentParser(description=__doc__, formatter_class=argparse.RawDescriptionHelpFormatter)
+    words.add_argument("--reports", type=int, default=2000000)
+    words.add_argument("--vessels", type=int, default=4000)
+    words.add_argument("--rounds", type=int, default=5)
+    words.add_argument("programs", nargs="*", metavar="PROGRAM")
+    given = words.parse_args()
+    colregs = os.path.join(HERE, "..", "crates", "colregs", "out", "colregs")
+    with tempfile.TemporaryDirectory() as place:
+        log = os.path.join(place, "log")
+        with open(os.path.join(place, "scenario.toml"), "w") as out:
+            out.write(SCENARIO)
+        write_log(log, given.reports, given.vessels)
+        commands = ["wc -l", "%s points scenario.toml" % os.path.abspath(colregs)]
+        commands += [program.replace("{log}", log) for program in given.programs]
+        least = [float("inf")] * len(commands)
+        for _ in range(given.rounds):
+            for k, command in enumerate(commands):
+                least[k] = min(least[k], seconds(command, log, place))
+        print("%d reports of %d vessels, %d bytes" % (given.reports, given.vessels, os.path.getsize(log)))
+        for command, best in zip(commands, least):
+            print("%8.3f s  %6.1f x wc -l  %s" % (best, best / least[0], command))
+
+
+if __name__ == "__main__":
+    main()

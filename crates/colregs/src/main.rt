@@ -1,0 +1,71 @@
+//! The program: `run` over the words, the files and the standard streams of the runtime.
+#![tactic(auto)]
+
+use colregs_program::{Status, run};
+use outside::{FileShelf, Memory, StdSink, StdSource, Word};
+use std::alloc::AllocError;
+use std::process::ExitCode;
+use std::{env, io};
+use thiserror::Error;
+
+/// The exit status where the runtime does not give the words. `run` never gives it.
+const NO_WORDS: u8 = 20;
+
+/// Why the words are not to be had.
+#[derive(Debug, Drop, Error)]
+enum WordsFault {
+    #[error("the words of the command line are not to be had: {0}")]
+    Runtime(#[from] io::Error),
+    #[error("there is no memory for the words of the command line")]
+    Memory,
+}
+
+impl From<AllocError> for WordsFault {
+    fn from(_: AllocError) -> WordsFault {
+        WordsFault::Memory
+    }
+}
+
+impl From<Memory> for WordsFault {
+    fn from(_: Memory) -> WordsFault {
+        WordsFault::Memory
+    }
+}
+
+/// The words behind the program's name.
+fn words(rt: &HostRuntime) -> Result<Vec<Word>, WordsFault> {
+    let mut words = Vec::new(rt.alloc());
+    for word in env::args(rt)?.skip(1) {
+        let word = Word::new(rt.alloc(), word.as_str())?;
+        if words.push(word).is_err() {
+            return Err(WordsFault::Memory);
+        }
+    }
+    Ok(words)
+}
+
+fn main(rt: HostRuntime) -> ExitCode {
+    let words = match words(&rt) {
+        Ok(words) => words,
+        Err(fault) => {
+            let _ = eprintln!(&rt; "{fault}");
+            return ExitCode::from(NO_WORDS);
+        }
+    };
+    let Ok(files) = rt.clone() else {
+        return ExitCode::from(Status::Memory.number());
+    };
+    let mut shelf = FileShelf::new(files);
+    let mut log = StdSource::new(rt.stdin());
+    let mut out = StdSink::new(rt.stdout());
+    let mut err = StdSink::new(rt.stderr());
+    let status = run(
+        rt.alloc(),
+        words.as_slice(),
+        &mut shelf,
+        &mut log,
+        &mut out,
+        &mut err,
+    );
+    ExitCode::from(status.number())
+}

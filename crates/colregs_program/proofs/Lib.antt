@@ -1,0 +1,9 @@
+pub mod Fetching
+pub mod Finishing
+pub mod Judging
+pub mod Lines
+pub mod Noting
+pub mod PointFields
+pub mod Reporting
+pub mod Standing
+pub mod Telling

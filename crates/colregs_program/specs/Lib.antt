@@ -1,0 +1,15 @@
+pub mod LogLines
+pub mod LineOutcomes
+pub mod AcceptedReports
+pub mod JudgedLines
+pub mod CsvRows
+pub mod CsvRowsText
+pub mod PointTexts
+pub mod PointsReport
+pub mod ScenarioValues
+pub mod Faults
+pub mod Messages
+pub mod Words
+pub mod Answers
+pub mod Latest
+pub mod LinesSoFar

@@ -1,0 +1,34 @@
+-- The report of `points`: a row for each accepted report, and then how many lines came to each outcome.
+use Rattle.std.specs.Prelude.{ℕ, ◌==◌, codes, count_by, flat_map, List, [], ◌∷◌, ◌++◌}
+use Rattle.std.specs.Fmt.{decimal, signed_decimal}
+use Rattle.colregs_program.specs.AcceptedReports.{accepted_among, outcome_of}
+use Rattle.colregs_program.specs.CsvRows.{optional_decimal, row_of}
+use Rattle.colregs_program.specs.JudgedLines.{judged_lines}
+use Rattle.colregs_program.specs.LineOutcomes.{all_outcomes, name_of, place_of}
+use Rattle.colregs_program.specs.declared.accepted.Accepted.{Accepted}
+use Rattle.colregs_program.specs.declared.accepted.Judged.{Judged}
+use Rattle.colregs_program.specs.declared.outcome.LineOutcome.{LineOutcome}
+use Rattle.colregs_program.specs.declared.scenario.Scenario.{Scenario}
+
+-- the vessel, the time, the place to the east and to the north in tenths of a millimetre, speed and course where they are known
+abbrev pub point_fields : Accepted → List (List ℕ)
+point_fields a =
+    codes "point" ∷ decimal a.report.mmsi ∷ decimal a.time ∷ signed_decimal a.point.x ∷ signed_decimal a.point.y
+    ∷ optional_decimal a.report.sog ∷ optional_decimal a.report.cog ∷ []
+
+-- how many lines came to an outcome
+abbrev pub count_of : LineOutcome → List Judged → ℕ
+count_of outcome lines = count_by (λ line. place_of (outcome_of line) == place_of outcome) lines
+
+abbrev pub count_fields : LineOutcome → ℕ → List (List ℕ)
+count_fields outcome count = codes "lines" ∷ name_of outcome ∷ decimal count ∷ [] ∷ [] ∷ [] ∷ [] ∷ []
+
+abbrev pub point_rows : List Judged → List ℕ
+point_rows lines = flat_map (λ a. row_of (point_fields a)) (accepted_among lines)
+
+abbrev pub count_rows : List Judged → List ℕ
+count_rows lines = flat_map (λ outcome. row_of (count_fields outcome (count_of outcome lines))) all_outcomes
+
+-- the report on a log
+unfoldable pub report_of : Scenario → List ℕ → List ℕ
+report_of scenario log = let lines = judged_lines scenario log in point_rows lines ++ count_rows lines

@@ -1,0 +1,79 @@
+//! The rows of a report, written one after the other into memory.
+ghost use Rattle.std.specs.Prelude.{◌≡◌, ◌++◌, OnOk, IfOk, string_bytes};
+ghost use Rattle.std.specs.Fmt.{decimal, signed_decimal};
+ghost use Rattle.colregs_program.specs.CsvRows.{optional_decimal, row_of};
+
+use csv::{Writer, WriterBuilder};
+use outside::Memory;
+use std::alloc::{AllocError, Global};
+use std::fmt::Write;
+
+/// The text of the rows so far. One writer takes them all, so that a row needs no memory of its own.
+#[derive(Drop)]
+pub(crate) struct CsvRows {
+    writer: Writer<Vec<u8>>,
+}
+
+impl CsvRows {
+    ghost use Rattle.std.specs.Prelude.{List, ℕ, [], map};
+    ghost use Rattle.colregs_program.specs.CsvRowsText.{HasText};
+
+    pub(crate) fn new(alloc: Global) -> CsvRows
+        ensures { HasText result [] }
+    {
+        CsvRows {
+            writer: WriterBuilder::new().from_writer(Vec::new(alloc)),
+        }
+    }
+
+    /// Writes a row. A writer over memory fails for want of memory alone; the rows may then only be dropped.
+    #[tactic(auto, unfolding(crate::specs::CsvRows::row_of))]
+    pub(crate) fn write(&mut self, fields: &[&[u8]]) -> Result<(), Memory>
+        ensures { OnOk result ((text : List ℕ) → HasText self.old text
+            → HasText self.new (text ++ row_of (map (λ field. field.now) fields.now))) }
+    {
+        match self.writer.write_fields(fields) {
+            Ok(()) => Ok(()),
+            Err(_) => Err(Memory),
+        }
+    }
+
+    /// The text of all rows.
+    pub(crate) fn into_text(self) -> Result<Vec<u8>, Memory>
+        ensures { IfOk result (λ kept. (text : List ℕ) → HasText self text → kept.items ≡ text) }
+    {
+        match self.writer.into_inner() {
+            Ok(text) => Ok(text),
+            Err(_) => Err(Memory),
+        }
+    }
+}
+
+/// The number's digits in place of the text.
+pub(crate) fn set_decimal(text: &mut String, number: u64) -> Result<(), AllocError>
+    ensures { OnOk result (string_bytes text.new ≡ decimal number) }
+{
+    text.clear();
+    write!(text, "{number}")
+}
+
+/// The same with a sign.
+pub(crate) fn set_signed_decimal(text: &mut String, number: i64) -> Result<(), AllocError>
+    ensures { OnOk result (string_bytes text.new ≡ signed_decimal number) }
+{
+    text.clear();
+    write!(text, "{number}")
+}
+
+/// The number's digits, or nothing.
+pub(crate) fn set_optional_decimal(text: &mut String, number: Option<u16>) -> Result<(), AllocError>
+    ensures { OnOk result (string_bytes text.new ≡ optional_decimal number) }
+{
+    match number {
+        Some(number) => set_decimal(text, u64::from(number)),
+        None => {
+            text.clear();
+            Ok(())
+        }
+    }
+}

@@ -1,0 +1,27 @@
+//! The program as one call: a scenario and a log of AIS sentences in, the report of one mode out.
+//!
+//! `run` reads the scenario from a shelf and the log from a source, judges the log's lines in their order, and writes
+//! the report to a sink. What it writes is the report that `specs/PointsReport.antt` defines from the bytes of the
+//! scenario and the log, however the reads are cut.
+#![tactic(auto)]
+
+mod accepted;
+mod count_rows;
+mod csv_rows;
+mod judge;
+mod log_lines;
+mod outcome;
+mod point_rows;
+mod program;
+mod report;
+mod scenario;
+mod status;
+#[cfg(test)]
+mod tests;
+mod words;
+
+pub use accepted::{Accepted, Judged};
+pub use outcome::LineOutcome;
+pub use program::run;
+pub use scenario::{LogNumbers, Scenario, Window};
+pub use status::{Cause, Key, Status, Which};

@@ -1,0 +1,46 @@
+//! The lines of a log, from its front.
+ghost use Rattle.std.specs.Prelude.{◌≡◌, ◌<◌, ◌≤◌, ◌∷◌, ◌-◌, drop, take, length, position};
+ghost use Rattle.colregs_program.specs.LogLines.{is_line_feed, lines_of, without_carriage_return};
+
+/// Where the first line feed stands.
+fn first_line_feed(rest: &[u8]) -> Option<usize>
+    ensures { result ≡ position is_line_feed rest.now }
+{
+    rest.iter().position(|byte| *byte == b'\n')
+}
+
+/// The part without the carriage return at its end, if it has one.
+fn strip_carriage_return(part: &[u8]) -> &[u8]
+    ensures { result.now ≡ without_carriage_return part.now }
+{
+    match part {
+        [front @ .., b'\r'] => front,
+        _ => part,
+    }
+}
+
+/// A line, and how many bytes of the log it takes with its end.
+#[derive(Clone, Copy)]
+pub(crate) struct LogLine<'a> {
+    pub(crate) bytes: &'a [u8],
+    pub(crate) taken: usize,
+}
+
+/// The first line of what is left of a log.
+pub(crate) fn first_line(rest: &[u8]) -> LogLine<'_>
+    requires { 0 < length rest.now }
+    ensures line { lines_of rest.now ≡ result.bytes.now ∷ lines_of (drop result.taken rest.now) }
+    ensures some { 0 < result.taken }
+    ensures within { result.taken ≤ length rest.now }
+{
+    match first_line_feed(rest) {
+        Some(end) => LogLine {
+            bytes: strip_carriage_return(&rest[..end]),
+            taken: end + 1,
+        },
+        None => LogLine {
+            bytes: strip_carriage_return(rest),
+            taken: rest.len(),
+        },
+    }
+}

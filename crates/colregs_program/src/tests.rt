@@ -1,0 +1,240 @@
+//! The worked rows of `points`, by whole runs in memory, and each fault by its number.
+ghost use Rattle.outside.specs.Calls.{AreCallNumbers};
+
+use crate::{Cause, Key, Status, Which, run};
+use outside::{MemorySink, MemorySource, PlainShelf, PlainSource, Source, Word};
+use std::alloc::Global;
+use std::test::Fail;
+
+const SCENARIO: &str = "version = 1
+[window]
+start = 1700000000
+tick = 10
+ticks = 40
+[reference]
+lat = 28549600
+lon = -73407500
+[log]
+gap = 600
+slack = 60
+max_speed = 500
+";
+
+const LOG: &[u8] = b"!AIVDM,1,1,,B,177KQJ5000G?tO`K>RA1wUbN0TKH,0*5C\n";
+
+const REPORT: &[u8] = b"point,477553000,1700000000,0,185200,0,510
+lines,empty,0,,,,
+lines,long,0,,,,
+lines,tag,0,,,,
+lines,other,0,,,,
+lines,form,0,,,,
+lines,sum,0,,,,
+lines,armour,0,,,,
+lines,outside,0,,,,
+lines,late,0,,,,
+lines,part,0,,,,
+lines,orphan,0,,,,
+lines,short,0,,,,
+lines,kind,0,,,,
+lines,notship,0,,,,
+lines,nopos,0,,,,
+lines,far,0,,,,
+lines,back,0,,,,
+lines,repeat,0,,,,
+lines,jump,0,,,,
+lines,static,0,,,,
+lines,point,1,,,,
+";
+
+/// What a run ended with, and what it wrote.
+#[derive(Drop)]
+struct Ended {
+    status: Status,
+    out: MemorySink,
+    err: MemorySink,
+}
+
+/// Runs `points scenario.toml` on this scenario and log.
+fn points<S: Source>(alloc: Global, scenario: &str, log: &mut S) -> Result<Ended, Fail> {
+    let words = vec![in alloc;
+        Word::new(alloc, "points")?,
+        Word::new(alloc, "scenario.toml")?,
+    ]?;
+    let file = (
+        Word::new(alloc, "scenario.toml")?,
+        scenario.as_bytes().to_vec(alloc)?,
+    );
+    let mut shelf = PlainShelf::new(vec![in alloc; file]?);
+    let mut out = MemorySink::new(alloc, 1000, Vec::new(alloc));
+    let mut err = MemorySink::new(alloc, 1000, Vec::new(alloc));
+    let status = run(alloc, words.as_slice(), &mut shelf, log, &mut out, &mut err);
+    Ok(Ended { status, out, err })
+}
+
+/// How `points` ends on this scenario and log, which write nothing, and what standard error gets.
+fn refused(alloc: Global, scenario: &str, log: &[u8], fails: Vec<u64>) -> Result<Ended, Fail>
+    requires { AreCallNumbers fails.items }
+{
+    let mut log = MemorySource::new(log.to_vec(alloc)?, 100, fails);
+    points(alloc, scenario, &mut log)
+}
+
+/// So many comment marks.
+fn marks(alloc: Global, count: usize) -> Result<Vec<u8>, Fail> {
+    Ok(vec![in alloc; b'#'; count]?)
+}
+
+#[test]
+fn position_report_in_pieces_of_any_length(rt: HostRuntime) -> Result<(), Fail> {
+    for piece in [1, 7, 46, 4096] {
+        let mut log = PlainSource::new(LOG.to_vec(rt.alloc())?, piece);
+        let ended = points(rt.alloc(), SCENARIO, &mut log)?;
+        assert_eq!(rt; ended.status, Status::Done, "in pieces of {piece}");
+        assert_eq!(rt; ended.out.bytes(), REPORT, "in pieces of {piece}");
+        assert_eq!(rt; ended.err.bytes(), b"".as_slice());
+    }
+    Ok(())
+}
+
+#[test]
+fn log_without_its_last_line_feed(rt: HostRuntime) -> Result<(), Fail> {
+    let mut log = PlainSource::new(LOG[..LOG.len() - 1].to_vec(rt.alloc())?, 1);
+    let ended = points(rt.alloc(), SCENARIO, &mut log)?;
+    assert_eq!(rt; ended.status, Status::Done);
+    assert_eq!(rt; ended.out.bytes(), REPORT);
+    Ok(())
+}
+
+#[test]
+fn empty_log(rt: HostRuntime) -> Result<(), Fail> {
+    let ended = refused(rt.alloc(), SCENARIO, b"", Vec::new(rt.alloc()))?;
+    assert_eq!(rt; ended.status, Status::Done);
+    let text = ended.out.bytes();
+    assert!(rt; text.starts_with(b"lines,empty,0,,,,\n"));
+    assert!(rt; text.ends_with(b"lines,point,0,,,,\n"));
+    Ok(())
+}
+
+#[test]
+fn scenario_that_no_toml_text_is(rt: HostRuntime) -> Result<(), Fail> {
+    let ended = refused(rt.alloc(), "version = = 1", LOG, Vec::new(rt.alloc()))?;
+    assert_eq!(rt;
+        ended.status,
+        Status::Scenario(Key::DOCUMENT, Cause::NotToml)
+    );
+    assert_eq!(rt; ended.status.number(), 3);
+    assert_eq!(rt;
+        ended.err.bytes(),
+        b"scenario: document: not toml\n".as_slice()
+    );
+    assert!(rt; ended.out.bytes().is_empty());
+    Ok(())
+}
+
+#[test]
+fn scenario_one_byte_too_long(rt: HostRuntime) -> Result<(), Fail> {
+    let Ok(long) = String::from_utf8(marks(rt.alloc(), 1048577)?) else {
+        return Err("marks are a text".into());
+    };
+    let ended = refused(rt.alloc(), long.as_str(), LOG, Vec::new(rt.alloc()))?;
+    assert_eq!(rt; ended.status, Status::Limit(Which::Scenario, 1048576));
+    assert_eq!(rt; ended.err.bytes(), b"limit: scenario 1048576\n".as_slice());
+    Ok(())
+}
+
+#[test]
+fn log_of_one_byte_more_than_the_scenario_allows(rt: HostRuntime) -> Result<(), Fail> {
+    let scenario = format!(in rt.alloc(); "{SCENARIO}max_bytes = 10\n")?;
+    let ended = refused(
+        rt.alloc(),
+        scenario.as_str(),
+        b"12345678901",
+        Vec::new(rt.alloc()),
+    )?;
+    assert_eq!(rt; ended.status, Status::Limit(Which::Log, 10));
+    assert_eq!(rt; ended.status.number(), 7);
+    assert_eq!(rt; ended.err.bytes(), b"limit: log 10\n".as_slice());
+    let ended = refused(
+        rt.alloc(),
+        scenario.as_str(),
+        b"1234567890",
+        Vec::new(rt.alloc()),
+    )?;
+    assert_eq!(rt; ended.status, Status::Done);
+    Ok(())
+}
+
+#[test]
+fn source_that_fails_after_a_hundred_bytes(rt: HostRuntime) -> Result<(), Fail> {
+    let log = marks(rt.alloc(), 200)?;
+    let ended = refused(
+        rt.alloc(),
+        SCENARIO,
+        log.as_slice(),
+        vec![in rt.alloc(); 1]?,
+    )?;
+    assert_eq!(rt; ended.status, Status::ReadFault);
+    assert_eq!(rt; ended.status.number(), 5);
+    assert_eq!(rt; ended.err.bytes(), b"log: not read\n".as_slice());
+    assert!(rt; ended.out.bytes().is_empty());
+    Ok(())
+}
+
+#[test]
+fn shelf_without_the_name(rt: HostRuntime) -> Result<(), Fail> {
+    let alloc = rt.alloc();
+    let words = vec![in alloc;
+        Word::new(alloc, "points")?,
+        Word::new(alloc, "missing.toml")?,
+    ]?;
+    let mut shelf = PlainShelf::new(Vec::new(alloc));
+    let mut log = PlainSource::new(LOG.to_vec(alloc)?, 100);
+    let mut out = MemorySink::new(alloc, 1000, Vec::new(alloc));
+    let mut err = MemorySink::new(alloc, 1000, Vec::new(alloc));
+    let status = run(
+        alloc,
+        words.as_slice(),
+        &mut shelf,
+        &mut log,
+        &mut out,
+        &mut err,
+    );
+    assert_eq!(rt; status, Status::ShelfFault);
+    assert_eq!(rt; status.number(), 4);
+    assert_eq!(rt; err.bytes(), b"scenario: not read\n".as_slice());
+    let status = run(alloc, &words[..1], &mut shelf, &mut log, &mut out, &mut err);
+    assert_eq!(rt; status, Status::Usage);
+    assert_eq!(rt; status.number(), 2);
+    assert!(rt; err.bytes().ends_with(b"usage: points SCENARIO\n"));
+    Ok(())
+}
+
+#[test]
+fn sink_whose_first_write_fails(rt: HostRuntime) -> Result<(), Fail> {
+    let alloc = rt.alloc();
+    let words = vec![in alloc;
+        Word::new(alloc, "points")?,
+        Word::new(alloc, "scenario.toml")?,
+    ]?;
+    let file = (
+        Word::new(alloc, "scenario.toml")?,
+        SCENARIO.as_bytes().to_vec(alloc)?,
+    );
+    let mut shelf = PlainShelf::new(vec![in alloc; file]?);
+    let mut log = PlainSource::new(LOG.to_vec(alloc)?, 100);
+    let mut out = MemorySink::new(alloc, 1000, vec![in alloc; 0]?);
+    let mut err = MemorySink::new(alloc, 1000, Vec::new(alloc));
+    let status = run(
+        alloc,
+        words.as_slice(),
+        &mut shelf,
+        &mut log,
+        &mut out,
+        &mut err,
+    );
+    assert_eq!(rt; status, Status::WriteFault);
+    assert_eq!(rt; status.number(), 6);
+    assert!(rt; out.bytes().is_empty());
+    assert_eq!(rt; err.bytes(), b"report: not written\n".as_slice());
+    Ok(())
+}
