@@ -3,6 +3,7 @@ pub mod Finishing
 pub mod Judging
 pub mod Lines
 pub mod Noting
+pub mod OneOutcome
 pub mod PointFields
 pub mod Reporting
 pub mod Standing

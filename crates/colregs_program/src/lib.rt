@@ -9,6 +9,7 @@ mod accepted;
 mod count_rows;
 mod csv_rows;
 mod judge;
+pub mod laws;
 mod log_lines;
 mod outcome;
 mod point_rows;

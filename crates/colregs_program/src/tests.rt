@@ -1,7 +1,7 @@
 //! The worked rows of `points`, by whole runs in memory, and each fault by its number.
 ghost use Rattle.outside.specs.Calls.{AreCallNumbers};
 
-use crate::{Cause, Key, Status, Which, run};
+use crate::{Cause, Key, Status, Which, laws, run};
 use outside::{MemorySink, MemorySource, PlainShelf, PlainSource, Source, Word};
 use std::alloc::Global;
 use std::test::Fail;
@@ -112,6 +112,7 @@ fn empty_log(rt: HostRuntime) -> Result<(), Fail> {
     let text = ended.out.bytes();
     assert!(rt; text.starts_with(b"lines,empty,0,,,,\n"));
     assert!(rt; text.ends_with(b"lines,point,0,,,,\n"));
+    laws::each_line_has_one_outcome();
     Ok(())
 }
 

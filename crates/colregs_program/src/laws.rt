@@ -1,0 +1,13 @@
+//! Laws of the report, which stand over the definitions alone.
+ghost use Rattle.std.specs.Prelude.{◌≡◌, ℕ, List, length, sum_by};
+ghost use Rattle.colregs_program.specs.JudgedLines.{judged_lines};
+ghost use Rattle.colregs_program.specs.LineOutcomes.{all_outcomes};
+ghost use Rattle.colregs_program.specs.LogLines.{lines_of};
+ghost use Rattle.colregs_program.specs.PointsReport.{count_of};
+ghost use Rattle.colregs_program.specs.declared.scenario.Scenario.{Scenario};
+
+/// Each line of a log has exactly one outcome: the counts of the outcomes sum to the number of lines.
+pub fn each_line_has_one_outcome()
+    ensures { (scenario : Scenario) (log : List ℕ) →
+        sum_by (λ outcome. count_of outcome (judged_lines scenario log)) all_outcomes ≡ length (lines_of log) }
+{}
