@@ -1,5 +1,5 @@
 //! Which position reports are accepted.
-ghost use Rattle.std.specs.Prelude.{◌≡◌, ◌≤◌, IfSome, option_copied, unsigned_abs};
+ghost use Rattle.std.specs.Prelude.{◌≡◌, option_copied};
 ghost use Rattle.ais_messages.specs.MessageFields.{IsReport};
 ghost use Rattle.colregs_program.specs.AcceptedReports.{is_back, judged_report, placed};
 

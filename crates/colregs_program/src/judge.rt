@@ -1,6 +1,5 @@
 //! Judging a log's lines one after the other.
 ghost use Rattle.std.specs.Prelude.{◌≡◌, ◌<◌, ◌+◌, ◌^◌, ◌++◌, ◌∷◌, [], List, ℕ, IfOk, OnOk, length, slice_index};
-ghost use Rattle.aivdm.specs.LineReading.{fields_seen};
 ghost use Rattle.ais_messages.specs.MessageFields.{IfPosition, IsReport};
 ghost use Rattle.colregs_program.specs.JudgedLines.{judged_line, judged_message};
 ghost use Rattle.colregs_program.specs.Latest.{HoldsLatest};

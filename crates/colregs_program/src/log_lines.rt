@@ -1,5 +1,5 @@
 //! The lines of a log, from its front.
-ghost use Rattle.std.specs.Prelude.{◌≡◌, ◌<◌, ◌≤◌, ◌∷◌, ◌-◌, drop, take, length, position};
+ghost use Rattle.std.specs.Prelude.{◌≡◌, ◌<◌, ◌≤◌, ◌∷◌, ◌-◌, drop, length, position};
 ghost use Rattle.colregs_program.specs.LogLines.{is_line_feed, lines_of, without_carriage_return};
 
 /// Where the first line feed stands.

@@ -1,6 +1,6 @@
 //! What becomes of each line of a log.
 ghost use Rattle.std.specs.Prelude.{◌≡◌, ◌<◌};
-ghost use Rattle.colregs_program.specs.LineOutcomes.{all_outcomes, name_of, place_of};
+ghost use Rattle.colregs_program.specs.LineOutcomes.{name_of, place_of};
 
 use ais_messages::MessageCause;
 use aivdm::LineCause;
