@@ -1,2 +1,3 @@
 pub mod CallLists
 pub mod Pieces
+pub mod Reading

@@ -1,6 +1,7 @@
 -- Calls that fail on purpose: which of them, and how many were made so far.
-use Rattle.std.specs.Prelude.{ℕ, ◌+◌, ◌-◌, ◌^◌, ◌==◌, ◌&&◌, if◌then◌else◌, min, nat_lt, Bool, true, IsTrue, List, [], ◌∷◌}
+use Rattle.std.specs.Prelude.{ℕ, ◌+◌, ◌^◌, ◌==◌, ◌&&◌, if◌then◌else◌, nat_lt, Bool, true, IsTrue, List, [], ◌∷◌}
 use Rattle.std.specs.List.{list_any, list_all}
+use Rattle.outside.specs.Causes.{one_more}
 
 -- Calls are numbered from 0, so the next one has the number `made`.
 pub record Calls : Type 0 where
@@ -11,9 +12,9 @@ pub record Calls : Type 0 where
 abbrev pub is_next_listed : Calls → Bool
 is_next_listed calls = list_any (λ n. n == calls.made) calls.fails
 
--- One call more was made. The number stands at the last value of its counter.
-abbrev pub one_more : Calls → Calls
-one_more calls = record { fails = calls.fails; made = min (calls.made + 1) (2 ^ 64 - 1) }
+-- One call more was made.
+abbrev pub with_one_more : Calls → Calls
+with_one_more calls = record { fails = calls.fails; made = one_more calls.made }
 
 -- how many calls failed, after a call that may have been listed
 abbrev pub faults_after : Calls → ℕ → ℕ

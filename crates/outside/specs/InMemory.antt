@@ -1,6 +1,6 @@
 -- What callers see of the kinds in memory, and what one call of them does beyond what the traits
 -- say.
-use Rattle.std.specs.Prelude.{ℕ, ◌≡◌, ◌≤◌, ◌+◌, ◌-◌, ◌^◌, min, nat_lt, List, length, None, Some, MatchBool}
+use Rattle.std.specs.Prelude.{ℕ, ◌≡◌, ◌≤◌, nat_lt, List, length, None, Some, MatchBool}
 use Rattle.std.specs.declared.option.Option.{Option}
 use Rattle.outside.specs.declared.source.Taken.{Taken}
 use Rattle.outside.specs.declared.source.Taken.TheVariants as taken
@@ -16,19 +16,25 @@ pub record PlainBytes : Type 0 where
   pub left : List ℕ
   pub piece : ℕ
 
--- the same, where some calls fail on purpose
+-- bytes to be read, where some calls fail on purpose
 pub record FailingBytes : Type 0 where
   pub left : List ℕ
   pub piece : ℕ
   pub calls : Calls
   pub faults : ℕ
 
--- bytes that were written, at most `piece` of them at a time
+-- bytes that were written, at most `piece` of them at a time, with room for `room` before more is asked for
 pub record Written : Type 0 where
   pub bytes : List ℕ
+  pub room : ℕ
   pub piece : ℕ
   pub calls : Calls
   pub faults : ℕ
+
+-- files, and how many fetches were made
+pub record PlainFiles : Type 0 where
+  pub files : Files
+  pub fetches : ℕ
 
 -- files, where some calls fail on purpose
 pub record FailingFiles : Type 0 where
@@ -46,11 +52,6 @@ GivesAtMost piece taken.Failed = Unit {0}
 abbrev pub TakesAtMost : ℕ → Put → Type 0
 TakesAtMost piece (put.Took n) = n ≤ piece
 TakesAtMost piece put.Failed = Unit {0}
-
--- A count is raised at each failed write, as far as it goes, and at no other.
-abbrev pub CountsFailure : ℕ → ℕ → Put → Type 0
-CountsFailure before now (put.Took n) = now ≡ before
-CountsFailure before now put.Failed = now ≡ min (before + 1) (2 ^ 64 - 1)
 
 -- A fetch gives all these bytes, or finds no memory for them.
 abbrev pub GivesAll : List ℕ → Fetched → Type 0

@@ -4,3 +4,6 @@ pub mod Streams
 pub mod Shelves
 pub mod InMemory
 pub mod WholeReading
+pub mod FaultTexts
+pub mod FileFetches
+pub mod Inner

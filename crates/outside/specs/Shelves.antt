@@ -6,7 +6,7 @@ use Rattle.std.specs.declared.alloc.Global.{Global}
 use Rattle.std.specs.declared.option.Option.{Option}
 use Rattle.outside.specs.declared.shelf.Fetched.{Fetched}
 use Rattle.outside.specs.declared.shelf.Fetched.TheVariants as fetched
-use Rattle.outside.specs.Causes.{Rose}
+use Rattle.outside.specs.Causes.{one_more}
 
 -- names, each with the bytes that lie under it
 abbrev pub Files : Type 0
@@ -30,10 +30,13 @@ names_differ (file ∷ files) =
 abbrev pub HaveDifferentNames : Files → Type 0
 HaveDifferentNames files = IsTrue (names_differ files)
 
--- Where the shelf tells its files, it gives the whole content, if that is no longer than the limit,
+-- A shelf gives no more bytes than the limit. Where it tells its files, it gives the whole content,
 -- and answers that it is too long only where it is longer.
 abbrev pub Fetches : Option Files → List ℕ → ℕ → Fetched → Type 0
-Fetches None name limit fetched = Unit {0}
+Fetches None name limit (fetched.Bytes v) = length v.items ≤ limit
+Fetches None name limit fetched.TooLong = Unit {0}
+Fetches None name limit fetched.Failed = Unit {0}
+Fetches None name limit fetched.Memory = Unit {0}
 Fetches (Some files) name limit (fetched.Bytes v) =
     (content_of name files ≡ Some v.items) × (length v.items ≤ limit)
 Fetches (Some files) name limit fetched.TooLong =
@@ -46,11 +49,11 @@ abbrev pub IsMissing : Option Files → List ℕ → Type 0
 IsMissing None name = ⊥
 IsMissing (Some files) name = content_of name files ≡ None
 
--- A shelf's count never falls. A fetch fails only where the count rose, or the name is told to be
--- missing.
+-- A fetch fails only where the count of faults rises by one, or where the name is told to be missing
+-- and the count stays. It stays at every other answer.
 abbrev pub FetchCause : Option Files → List ℕ → ℕ → ℕ → Fetched → Type 0
 FetchCause files name before now fetched.Failed =
-    (before ≤ now) × (Rose before now ⊎ IsMissing files name)
-FetchCause files name before now (fetched.Bytes v) = before ≤ now
-FetchCause files name before now fetched.TooLong = before ≤ now
-FetchCause files name before now fetched.Memory = before ≤ now
+    (now ≡ one_more before) ⊎ (now ≡ before × IsMissing files name)
+FetchCause files name before now (fetched.Bytes v) = now ≡ before
+FetchCause files name before now fetched.TooLong = now ≡ before
+FetchCause files name before now fetched.Memory = now ≡ before

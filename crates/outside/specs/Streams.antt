@@ -1,13 +1,13 @@
 -- What one read takes from a source, and what one write adds to a sink, where they tell their
 -- bytes.
-use Rattle.std.specs.Prelude.{ℕ, ◌≤◌, ◌<◌, List, length, take}
+use Rattle.std.specs.Prelude.{ℕ, ◌≡◌, ◌≤◌, ◌<◌, List, length, take}
 use Rattle.std.specs.declared.option.Option.{Option}
 use Rattle.std.specs.Io.KnownBytes.{Appends, Consumes, Keeps, IsAtEnd}
 use Rattle.outside.specs.declared.source.Taken.{Taken}
 use Rattle.outside.specs.declared.source.Taken.TheVariants as taken
 use Rattle.outside.specs.declared.sink.Put.{Put}
 use Rattle.outside.specs.declared.sink.Put.TheVariants as put
-use Rattle.outside.specs.Causes.{Rose}
+use Rattle.outside.specs.Causes.{one_more}
 
 -- What callers see of an adapter over a reader or a writer of std: the bytes that the reader has
 -- left or that the writer holds, where it tells them, and how often the adapter has failed.
@@ -22,11 +22,11 @@ Gives old new room (taken.Got n) = (1 ≤ n) × (n ≤ length room) × Consumes 
 Gives old new room taken.End = Keeps old new × IsAtEnd new
 Gives old new room taken.Failed = Keeps old new
 
--- A source's count never falls, and has risen where it failed.
+-- A source's count of faults rises by one where it failed, and nowhere else.
 abbrev pub ReadCause : ℕ → ℕ → Taken → Type 0
-ReadCause before now (taken.Got n) = before ≤ now
-ReadCause before now taken.End = before ≤ now
-ReadCause before now taken.Failed = (before ≤ now) × Rose before now
+ReadCause before now (taken.Got n) = now ≡ before
+ReadCause before now taken.End = now ≡ before
+ReadCause before now taken.Failed = now ≡ one_more before
 
 -- The sink took at least one byte, from the front of the piece, and appended what it took; or it
 -- failed and appended nothing.
@@ -34,16 +34,20 @@ abbrev pub Takes : Option (List ℕ) → Option (List ℕ) → List ℕ → Put 
 Takes old new piece (put.Took n) = (1 ≤ n) × (n ≤ length piece) × Appends old new (take n piece)
 Takes old new piece put.Failed = Keeps old new
 
--- What the sink took went to the writer below it. After a failure the writer may hold a part of the
--- piece, since the flush is the last step.
+-- The first bytes of these were appended: some of them, or none, or all.
+abbrev pub AppendsFront : Option (List ℕ) → Option (List ℕ) → List ℕ → Type 0
+AppendsFront old new bytes = (n : ℕ) × (n ≤ length bytes) × Appends old new (take n bytes)
+
+-- What the sink took went to the writer below it. After a failure the writer may hold a front of the
+-- piece, since the flush is the last step, and nothing else.
 abbrev pub PassesOn : Option (List ℕ) → Option (List ℕ) → List ℕ → Put → Type 0
 PassesOn old new piece (put.Took n) = Appends old new (take n piece)
-PassesOn old new piece put.Failed = Unit {0}
+PassesOn old new piece put.Failed = AppendsFront old new piece
 
--- A sink's count never falls, and has risen where it failed.
+-- A sink's count of faults rises by one where it failed, and nowhere else.
 abbrev pub WriteCause : ℕ → ℕ → Put → Type 0
-WriteCause before now (put.Took n) = before ≤ now
-WriteCause before now put.Failed = (before ≤ now) × Rose before now
+WriteCause before now (put.Took n) = now ≡ before
+WriteCause before now put.Failed = now ≡ one_more before
 
 -- A proper front of the bytes was appended: some of them, or none, and not all.
 abbrev pub AppendsPart : Option (List ℕ) → Option (List ℕ) → List ℕ → Type 0

@@ -1,8 +1,9 @@
 //! A shelf over the files of the system.
 ghost use Rattle.std.specs.Prelude.{◌≡◌, None};
+ghost use Rattle.outside.specs.Inner.FileReads.{FetchesAll, IsWithin};
 
 use crate::shelf::{Fetched, Shelf};
-use crate::source::StdSource;
+use crate::source::{Source, StdSource};
 use crate::whole::{ReadFault, read_whole};
 use crate::word::Word;
 use std::alloc::Global;
@@ -10,48 +11,66 @@ use std::fs;
 use std::marker::Model;
 use std::rt::Files;
 
-/// The files of the system. It tells nothing of them, and callers see it as its count of faults.
+/// The files of the system. It tells nothing of them, and callers see its counts of faults and of fetches.
 #[derive(Drop)]
 pub struct FileShelf<R> {
     rt: R,
     faults: u64,
+    fetches: u64,
 }
 
 impl<R> Model for FileShelf<R> {
-    ghost use Rattle.std.specs.Prelude.{ℕ};
+    ghost use Rattle.outside.specs.FileFetches.{FileCounts};
 
-    ghost Value = { ℕ };
+    ghost Value = { FileCounts };
 
-    ghost view = { λ s. s.faults };
+    ghost view = { λ s. record { faults = s.faults; fetches = s.fetches } };
+}
+
+/// All that the source has left, as what a fetch gives.
+fn fetch_all<S: Source>(alloc: Global, source: &mut S, limit: u64) -> Fetched
+    ensures { FetchesAll (S.left source.old) (S.left source.new)
+        (S.faults source.old) (S.faults source.new) limit result }
+{
+    match read_whole(alloc, source, limit) {
+        Ok(bytes) => Fetched::Bytes(bytes),
+        Err(ReadFault::TooLong) => Fetched::TooLong,
+        Err(ReadFault::Failed) => Fetched::Failed,
+        Err(ReadFault::Memory) => Fetched::Memory,
+    }
 }
 
 impl<R: Files> FileShelf<R> {
     /// Reads files through this runtime.
     pub fn new(rt: R) -> FileShelf<R>
-        ensures { result ≡ 0 }
+        ensures { result ≡ record { faults = 0; fetches = 0 } }
     {
-        FileShelf { rt, faults: 0 }
+        FileShelf {
+            rt,
+            faults: 0,
+            fetches: 0,
+        }
     }
 
-    fn read_file(&self, alloc: Global, name: &Word, limit: u64) -> Fetched {
+    fn read_file(&self, alloc: Global, name: &Word, limit: u64) -> Fetched
+        ensures { IsWithin limit result }
+    {
         let Ok(file) = fs::open(&self.rt, name.text()) else {
             return Fetched::Failed;
         };
-        match read_whole(alloc, &mut StdSource::new(file), limit) {
-            Ok(bytes) => Fetched::Bytes(bytes),
-            Err(ReadFault::TooLong) => Fetched::TooLong,
-            Err(ReadFault::Failed) => Fetched::Failed,
-            Err(ReadFault::Memory) => Fetched::Memory,
-        }
+        fetch_all(alloc, &mut StdSource::new(file), limit)
     }
 }
 
 impl<R: Files> Shelf for FileShelf<R> {
     ghost files = { λ _. None };
 
-    ghost faults = { λ count. count };
+    ghost faults = { λ s. s.faults };
+
+    ghost fetches = { λ s. s.fetches };
 
     fn fetch(&mut self, alloc: Global, name: &Word, limit: u64) -> Fetched {
+        self.fetches = self.fetches.saturating_add(1);
         let fetched = self.read_file(alloc, name, limit);
         if let Fetched::Failed = fetched {
             self.faults = self.faults.saturating_add(1);

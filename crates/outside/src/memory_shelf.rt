@@ -1,6 +1,7 @@
 //! Shelves in memory.
 ghost use Rattle.std.specs.Prelude.{◌≡◌, IsTrue, false, MatchOption, None, Some};
-ghost use Rattle.outside.specs.Calls.{AreCallNumbers, faults_after, is_next_listed, one_more};
+ghost use Rattle.outside.specs.Calls.{AreCallNumbers, faults_after, is_next_listed, with_one_more};
+ghost use Rattle.outside.specs.Causes.{one_more};
 ghost use Rattle.outside.specs.InMemory.{Answers};
 ghost use Rattle.outside.specs.Shelves.{content_of, FetchCause, Fetches, files_of, HaveDifferentNames};
 
@@ -36,44 +37,51 @@ fn copy_within(alloc: Global, bytes: &[u8], limit: u64) -> Fetched
     }
 }
 
-/// Files in memory. A fetch fails only where the name is not held.
+/// Files in memory. A fetch fails only where the name is not held. Callers see the files and how many fetches were made.
 #[derive(Drop)]
 pub struct PlainShelf {
     files: Vec<(Word, Vec<u8>)>,
+    fetches: u64,
 }
 
 impl Model for PlainShelf {
-    ghost use Rattle.outside.specs.Shelves.{Files, files_of};
+    ghost use Rattle.outside.specs.InMemory.{PlainFiles};
+    ghost use Rattle.outside.specs.Shelves.{files_of};
 
-    ghost Value = { Files };
+    ghost Value = { PlainFiles };
 
-    ghost view = { λ s. files_of s.files.items };
+    ghost view = { λ s. record { files = files_of s.files.items; fetches = s.fetches } };
 }
 
 impl PlainShelf {
     /// Holds these files, each under a name of its own.
     pub fn new(files: Vec<(Word, Vec<u8>)>) -> PlainShelf
         requires { HaveDifferentNames (files_of files.items) }
-        ensures { result ≡ files_of files.items }
+        ensures files { result.files ≡ files_of files.items }
+        ensures fetches { result.fetches ≡ 0 }
     {
-        PlainShelf { files }
+        PlainShelf { files, fetches: 0 }
     }
 }
 
 impl Shelf for PlainShelf {
-    ghost files = { λ held. Some held };
+    ghost files = { λ s. Some s.files };
 
     ghost faults = { λ _. 0 };
 
+    ghost fetches = { λ s. s.fetches };
+
     fn fetch(&mut self, alloc: Global, name: &Word, limit: u64) -> Fetched
         // What a shelf does.
-        ensures content { Fetches (Some self.old) name.now limit result }
-        ensures same { Some self.new ≡ Some self.old }
-        ensures cause { FetchCause (Some self.old) name.now 0 0 result }
+        ensures content { Fetches (Some self.old.files) name.now limit result }
+        ensures same { Some self.new.files ≡ Some self.old.files }
+        ensures cause { FetchCause (Some self.old.files) name.now 0 0 result }
+        ensures counted { self.new.fetches ≡ one_more self.old.fetches }
 
         // What this kind does.
-        ensures answer { Answers (content_of name.now self.old) limit result }
+        ensures answer { Answers (content_of name.now self.old.files) limit result }
     {
+        self.fetches = self.fetches.saturating_add(1);
         match find(self.files.as_slice(), name) {
             Some(bytes) => copy_within(alloc, bytes, limit),
             None => Fetched::Failed,
@@ -96,7 +104,7 @@ impl Model for MemoryShelf {
 
     ghost Value = { FailingFiles };
 
-    ghost view = { λ s. record { files = s.plain; calls = s.schedule; faults = s.faults } };
+    ghost view = { λ s. record { files = s.plain.files; calls = s.schedule; faults = s.faults } };
 
     ghost invariant = { λ s. s.faults ≤ s.schedule.made };
 }
@@ -125,19 +133,22 @@ impl Shelf for MemoryShelf {
 
     ghost faults = { λ s. s.faults };
 
+    ghost fetches = { λ s. s.calls.made };
+
     fn fetch(&mut self, alloc: Global, name: &Word, limit: u64) -> Fetched
         // What a shelf does.
         ensures content { Fetches (Some self.old.files) name.now limit result }
         ensures same { Some self.new.files ≡ Some self.old.files }
         ensures cause { FetchCause (Some self.old.files) name.now
             self.old.faults self.new.faults result }
+        ensures counted { self.new.calls.made ≡ one_more self.old.calls.made }
 
         // What this kind does.
         ensures listed { IsTrue (is_next_listed self.old.calls) → result ≡ Fetched.Failed }
         ensures not_listed { is_next_listed self.old.calls ≡ false
             → Answers (content_of name.now self.old.files) limit result }
-        ensures calls { self.new.calls ≡ one_more self.old.calls }
-        ensures counted { self.new.faults ≡ faults_after self.old.calls self.old.faults }
+        ensures calls { self.new.calls ≡ with_one_more self.old.calls }
+        ensures faults { self.new.faults ≡ faults_after self.old.calls self.old.faults }
     {
         if self.schedule.is_next_failing() {
             self.faults += 1;

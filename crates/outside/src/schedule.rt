@@ -1,6 +1,6 @@
 //! Which calls of a thing in memory are to fail.
 ghost use Rattle.std.specs.Prelude.{◌≡◌, ◌<◌, ◌^◌, IsTrue};
-ghost use Rattle.outside.specs.Calls.{AreCallNumbers, is_next_listed, one_more};
+ghost use Rattle.outside.specs.Calls.{AreCallNumbers, is_next_listed, with_one_more};
 
 use std::marker::Model;
 
@@ -34,7 +34,7 @@ impl Schedule {
     pub fn is_next_failing(&mut self) -> bool
         ensures listed { result ≡ is_next_listed self.old }
         ensures early { IsTrue result → self.old.made < 2 ^ 32 }
-        ensures counted { self.new ≡ one_more self.old }
+        ensures counted { self.new ≡ with_one_more self.old }
     {
         let call = self.made;
         self.made = self.made.saturating_add(1);

@@ -1,6 +1,7 @@
 //! Where whole contents lie under names.
 ghost use Rattle.std.specs.Prelude.{◌≡◌, List, ℕ};
 ghost use Rattle.std.specs.declared.option.Option.{Option};
+ghost use Rattle.outside.specs.Causes.{one_more};
 ghost use Rattle.outside.specs.Shelves.{FetchCause, Fetches};
 
 use crate::word::Word;
@@ -24,13 +25,17 @@ pub trait Shelf {
     /// The names with their contents, where the shelf tells them.
     ghost files: { Self → Option (List (List ℕ × List ℕ)) };
 
-    /// How often it has failed. The count never falls.
+    /// How often it has failed. The count stands still at the last value of 64 bits.
     ghost faults: { Self → ℕ };
+
+    /// How often it was asked. The count stands still at the last value of 64 bits.
+    ghost fetches: { Self → ℕ };
 
     /// Gives all the bytes under the name, if there are at most `limit` of them.
     fn fetch(&mut self, alloc: Global, name: &Word, limit: u64) -> Fetched
         ensures content { Fetches (files self.old) name.now limit result }
         ensures same { files self.new ≡ files self.old }
         ensures cause { FetchCause (files self.old) name.now
-            (faults self.old) (faults self.new) result };
+            (faults self.old) (faults self.new) result }
+        ensures counted { fetches self.new ≡ one_more (fetches self.old) };
 }

@@ -1,10 +1,10 @@
 //! Where bytes go.
-ghost use Rattle.std.specs.Prelude.{◌≡◌, ◌<◌, ◌≤◌, [], List, ℕ, false, IsTrue, length, None, Some};
+ghost use Rattle.std.specs.Prelude.{◌≡◌, ◌<◌, ◌≤◌, ◌+◌, [], List, ℕ, false, IsTrue, length, min, None, Some};
 ghost use Rattle.std.specs.declared.option.Option.{Option};
 ghost use Rattle.std.specs.Io.KnownBytes.{Appends};
-ghost use Rattle.outside.specs.Causes.{Rose};
-ghost use Rattle.outside.specs.Calls.{AreCallNumbers, is_next_listed, one_more};
-ghost use Rattle.outside.specs.InMemory.{CountsFailure, TakesAtMost};
+ghost use Rattle.outside.specs.Causes.{one_more};
+ghost use Rattle.outside.specs.Calls.{AreCallNumbers, is_next_listed, with_one_more};
+ghost use Rattle.outside.specs.InMemory.{TakesAtMost};
 ghost use Rattle.outside.specs.Streams.{AppendsPart, PassesOn, Takes, WriteCause};
 
 use crate::schedule::Schedule;
@@ -26,7 +26,7 @@ pub trait Sink {
     /// The bytes that it holds, where the sink tells them.
     ghost contents: { Self → Option (List ℕ) };
 
-    /// How often it has failed. The count never falls.
+    /// How often it has failed. The count stands still at the last value of 64 bits.
     ghost faults: { Self → ℕ };
 
     /// Takes bytes from the front of the piece, which must not be empty.
@@ -42,8 +42,8 @@ pub fn put_all<K: Sink>(sink: &mut K, bytes: &[u8]) -> bool
     ensures all { IsTrue result → Appends (K.contents sink.old) (K.contents sink.new) bytes.now }
     ensures part { result ≡ false
         → AppendsPart (K.contents sink.old) (K.contents sink.new) bytes.now }
-    ensures cause { result ≡ false → Rose (K.faults sink.old) (K.faults sink.new) }
-    ensures later { K.faults sink.old ≤ K.faults sink.new }
+    ensures failed { result ≡ false → K.faults sink.new ≡ one_more (K.faults sink.old) }
+    ensures counted { IsTrue result → K.faults sink.new ≡ K.faults sink.old }
 {
     let mut done = 0;
     while done < bytes.len() {
@@ -65,13 +65,14 @@ pub struct MemorySink {
 }
 
 impl Model for MemorySink {
-    ghost use Rattle.std.specs.Prelude.{◌≤◌};
+    ghost use Rattle.std.specs.Prelude.{◌≤◌, vec_capacity};
     ghost use Rattle.outside.specs.InMemory.{Written};
 
     ghost Value = { Written };
 
     ghost view = { λ s. record {
       bytes = s.bytes.items;
+      room = vec_capacity s.bytes;
       piece = s.piece;
       calls = s.schedule;
       faults = s.faults;
@@ -124,8 +125,9 @@ impl Sink for MemorySink {
         ensures at_most { TakesAtMost self.old.piece result }
         ensures same { self.new.piece ≡ self.old.piece }
         ensures listed { IsTrue (is_next_listed self.old.calls) → result ≡ Put.Failed }
-        ensures calls { self.new.calls ≡ one_more self.old.calls }
-        ensures counted { CountsFailure self.old.faults self.new.faults result }
+        ensures no_room { is_next_listed self.old.calls ≡ false → result ≡ Put.Failed
+            → self.old.room < length self.old.bytes + min (length piece.now) self.old.piece }
+        ensures calls { self.new.calls ≡ with_one_more self.old.calls }
     {
         let count = piece.len().min(self.piece);
         if self.schedule.is_next_failing()

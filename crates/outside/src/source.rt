@@ -1,7 +1,7 @@
 //! Where bytes come from.
 ghost use Rattle.std.specs.Prelude.{◌≡◌, ◌≢◌, ◌↔◌, ◌<◌, ◌≤◌, IsTrue, List, ℕ, take, length, Some};
 ghost use Rattle.std.specs.declared.option.Option.{Option};
-ghost use Rattle.outside.specs.Calls.{AreCallNumbers, faults_after, is_next_listed, one_more};
+ghost use Rattle.outside.specs.Calls.{AreCallNumbers, faults_after, is_next_listed, with_one_more};
 ghost use Rattle.outside.specs.InMemory.{GivesAtMost};
 ghost use Rattle.outside.specs.Streams.{Gives, ReadCause};
 
@@ -25,7 +25,7 @@ pub trait Source {
     /// The bytes that are left, where the source tells them.
     ghost left: { Self → Option (List ℕ) };
 
-    /// How often it has failed. The count never falls.
+    /// How often it has failed. The count stands still at the last value of 64 bits.
     ghost faults: { Self → ℕ };
 
     /// Puts the next bytes at the front of the room, which must not be empty.
@@ -172,7 +172,7 @@ impl Source for MemorySource {
         ensures at_most { GivesAtMost self.old.piece result }
         ensures same { self.new.piece ≡ self.old.piece }
         ensures listed { (result ≡ Taken.Failed) ↔ IsTrue (is_next_listed self.old.calls) }
-        ensures calls { self.new.calls ≡ one_more self.old.calls }
+        ensures calls { self.new.calls ≡ with_one_more self.old.calls }
         ensures counted { self.new.faults ≡ faults_after self.old.calls self.old.faults }
     {
         if self.schedule.is_next_failing() {

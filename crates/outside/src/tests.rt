@@ -1,8 +1,9 @@
 //! One happy path of each kind, its failing call, and pieces of one byte.
 use crate::{
-    Fetched, FileShelf, MemoryShelf, MemorySink, MemorySource, PlainShelf, PlainSource, Put, Shelf,
-    Sink, Source, StdSink, StdSource, Taken, Word, put_all,
+    Fetched, FileShelf, MemoryShelf, MemorySink, MemorySource, PlainShelf, PlainSource, Put,
+    ReadFault, Shelf, Sink, Source, StdSink, StdSource, Taken, Word, put_all, read_whole,
 };
+use std::io::{self, Write};
 use std::test::Fail;
 use std::{env, fs, process};
 
@@ -101,6 +102,75 @@ fn a_writer_of_std_is_a_sink(rt: HostRuntime) {
     let mut written = Vec::new(rt.alloc());
     assert!(rt; put_all(&mut StdSink::new(&mut written), b"red"));
     assert_eq!(rt; written.as_slice(), b"red".as_slice());
+}
+
+/// Takes all bytes, and counts how often it is flushed.
+#[derive(Drop)]
+struct Flushes {
+    count: u32,
+}
+
+impl Write for Flushes {
+    fn write(&mut self, buf: &[u8]) -> io::Result<usize> {
+        Ok(buf.len())
+    }
+
+    fn flush(&mut self) -> io::Result<()> {
+        self.count = self.count.saturating_add(1);
+        Ok(())
+    }
+}
+
+#[test]
+fn each_write_is_flushed(rt: HostRuntime) {
+    let mut writer = Flushes { count: 0 };
+    let mut sink = StdSink::new(&mut writer);
+    assert_eq!(rt; sink.write(b"red"), Put::Took(3));
+    assert_eq!(rt; sink.write(b"and"), Put::Took(3));
+    drop(sink);
+    assert_eq!(rt; writer.count, 2);
+}
+
+// One byte behind the limit is read, and no more.
+#[test]
+fn what_is_too_long_is_read_up_to_the_byte_behind_the_limit(rt: HostRuntime) -> Result<(), Fail> {
+    let mut source = PlainSource::new(b"abcdef".to_vec(rt.alloc())?, 3);
+    assert_eq!(rt;
+        read_whole(rt.alloc(), &mut source, 4),
+        Err(ReadFault::TooLong)
+    );
+    assert_eq!(rt;
+        read_whole(rt.alloc(), &mut source, 1),
+        Ok(b"f".to_vec(rt.alloc())?)
+    );
+    Ok(())
+}
+
+// A folder can be opened and cannot be read.
+#[test]
+fn a_folder_is_a_fault_and_no_file(rt: HostRuntime) -> Result<(), Fail> {
+    let folder = env::temp_dir(&rt)?;
+    let path = format!(in rt.alloc(); "{}", folder.display())?;
+    let name = Word::new(rt.alloc(), path.as_str())?;
+    let mut shelf = FileShelf::new(rt.clone()?);
+    assert_eq!(rt; shelf.fetch(rt.alloc(), &name, 0), Fetched::Failed);
+    Ok(())
+}
+
+#[test]
+fn of_two_files_the_named_one_is_fetched(rt: HostRuntime) -> Result<(), Fail> {
+    let folder = env::temp_dir(&rt)?;
+    let process = process::id(rt.process());
+    let first = format!(in rt.alloc(); "{}/first_{process}", folder.display())?;
+    let second = format!(in rt.alloc(); "{}/second_{process}", folder.display())?;
+    let name = Word::new(rt.alloc(), second.as_str())?;
+    fs::write(&rt, first.as_str(), b"red")?;
+    fs::write(&rt, second.as_str(), b"green")?;
+    let fetched = FileShelf::new(rt.clone()?).fetch(rt.alloc(), &name, 5);
+    fs::remove_file(&rt, first.as_str())?;
+    fs::remove_file(&rt, second.as_str())?;
+    assert_eq!(rt; fetched, Fetched::Bytes(b"green".to_vec(rt.alloc())?));
+    Ok(())
 }
 
 // The file has more than one block, so that its end is met in a later read.

@@ -1,11 +1,13 @@
 //! Reading a source to its end.
-ghost use Rattle.std.specs.Prelude.{◌≡◌, ◌≤◌, ◌<◌, ◌+◌, length, IfOk, OnOk, IsErrOf, true, false, vec_len};
+ghost use Rattle.std.specs.Prelude.{◌≡◌, ◌≤◌, ◌<◌, ◌+◌, length, IfOk, IfErr, MatchResult, OnOk, IsErrOf, true, false, vec_len};
 ghost use Rattle.std.specs.Io.KnownBytes.{Consumes, IsAtEnd, Keeps};
-ghost use Rattle.outside.specs.Causes.{Rose};
-ghost use Rattle.outside.specs.WholeReading.{Adds, Exceeds};
+ghost use Rattle.outside.specs.Inner.OneRead.{Adds};
+ghost use Rattle.outside.specs.WholeReading.{Exceeds, ReadCount, StopsAt};
 
 use crate::source::{Source, Taken};
 use std::alloc::{AllocError, Global};
+use std::error::Error;
+use std::fmt;
 
 /// Why a source was not read whole.
 #[derive(Clone, Copy, Debug, PartialEq, Eq)]
@@ -17,6 +19,23 @@ pub enum ReadFault {
     /// There was no memory for them.
     Memory,
 }
+
+impl fmt::Display for ReadFault {
+    ghost use Rattle.std.specs.Prelude.{Some};
+    ghost use Rattle.outside.specs.FaultTexts.{read_fault_text};
+
+    ghost output = { λ fault. Some (read_fault_text fault) };
+
+    fn fmt<W: fmt::Write>(&self, f: &mut fmt::Formatter<W>) -> fmt::Result {
+        f.write_str(match self {
+            ReadFault::Failed => "a read failed",
+            ReadFault::TooLong => "too long",
+            ReadFault::Memory => "out of memory",
+        })
+    }
+}
+
+impl Error for ReadFault {}
 
 impl From<AllocError> for ReadFault {
     ghost use Rattle.std.specs.Prelude.{◌≡◌};
@@ -39,7 +58,7 @@ fn zeros(alloc: Global, count: usize) -> Result<Vec<u8>, AllocError>
     vec![in alloc; 0u8; count]
 }
 
-/// Reads once, and tells whether there may be more.
+/// Reads once, no more than the room holds, and tells whether there may be more.
 fn read_more<S: Source>(
     source: &mut S,
     room: &mut [u8],
@@ -47,15 +66,15 @@ fn read_more<S: Source>(
     limit: u64,
 ) -> Result<bool, ReadFault>
     requires some_room { 0 < length room.old }
+    requires little_room { length bytes.old.items + length room.old ≤ limit + 1 }
     requires short { length bytes.old.items ≤ limit }
     ensures more { result ≡ Ok true → Adds (S.left source.old) (S.left source.new) bytes.old.items bytes.new.items }
     ensures end { result ≡ Ok false → Keeps (S.left source.old) (S.left source.new) × IsAtEnd (S.left source.new) }
     ensures same { result ≡ Ok false → bytes.new.items ≡ bytes.old.items }
     ensures short { length bytes.new.items ≤ limit }
-    ensures too_long { IsErrOf result ReadFault.TooLong
-        → Exceeds limit (S.left source.old) (length bytes.old.items) }
-    ensures failed { IsErrOf result ReadFault.Failed → Rose (S.faults source.old) (S.faults source.new) }
-    ensures later { S.faults source.old ≤ S.faults source.new }
+    ensures stops { IfErr result (StopsAt limit (length bytes.old.items) (S.left source.old) (S.left source.new)) }
+    ensures count { MatchResult result (λ _. S.faults source.new ≡ S.faults source.old)
+        (ReadCount (S.faults source.old) (S.faults source.new)) }
 {
     match source.read(room) {
         Taken::Got(count) => {
@@ -70,7 +89,30 @@ fn read_more<S: Source>(
     }
 }
 
-/// All that the source has left, where that is no longer than the limit. What is longer is not read to its end.
+/// Reads once, up to the byte behind the limit, and tells whether there may be more.
+fn read_block<S: Source>(
+    source: &mut S,
+    block: &mut [u8],
+    bytes: &mut Vec<u8>,
+    limit: u64,
+) -> Result<bool, ReadFault>
+    requires some_room { 0 < length block.old }
+    requires short { length bytes.old.items ≤ limit }
+    ensures more { result ≡ Ok true → Adds (S.left source.old) (S.left source.new) bytes.old.items bytes.new.items }
+    ensures end { result ≡ Ok false → Keeps (S.left source.old) (S.left source.new) × IsAtEnd (S.left source.new) }
+    ensures same { result ≡ Ok false → bytes.new.items ≡ bytes.old.items }
+    ensures short { length bytes.new.items ≤ limit }
+    ensures stops { IfErr result (StopsAt limit (length bytes.old.items) (S.left source.old) (S.left source.new)) }
+    ensures count { MatchResult result (λ _. S.faults source.new ≡ S.faults source.old)
+        (ReadCount (S.faults source.old) (S.faults source.new)) }
+{
+    let most = (limit - bytes.len() as u64).saturating_add(1);
+    let room = block.len().min(most as usize);
+    read_more(source, &mut block[..room], bytes, limit)
+}
+
+/// All that the source has left, where that is no longer than the limit. What is longer is read up to the byte behind
+/// the limit.
 pub fn read_whole<S: Source>(
     alloc: Global,
     source: &mut S,
@@ -79,12 +121,13 @@ pub fn read_whole<S: Source>(
     ensures all { IfOk result (λ v. Consumes (S.left source.old) (S.left source.new) v.items) }
     ensures end { OnOk result (IsAtEnd (S.left source.new)) }
     ensures limit { IfOk result (λ v. length v.items ≤ limit) }
+    ensures stops { IfErr result (StopsAt limit 0 (S.left source.old) (S.left source.new)) }
     ensures too_long { IsErrOf result ReadFault.TooLong → Exceeds limit (S.left source.old) 0 }
-    ensures failed { IsErrOf result ReadFault.Failed → Rose (S.faults source.old) (S.faults source.new) }
-    ensures later { S.faults source.old ≤ S.faults source.new }
+    ensures count { MatchResult result (λ _. S.faults source.new ≡ S.faults source.old)
+        (ReadCount (S.faults source.old) (S.faults source.new)) }
 {
-    let mut room = zeros(alloc, BLOCK)?;
+    let mut block = zeros(alloc, BLOCK)?;
     let mut bytes = Vec::new(alloc);
-    while read_more(source, room.as_mut_slice(), &mut bytes, limit)? {}
+    while read_block(source, block.as_mut_slice(), &mut bytes, limit)? {}
     Ok(bytes)
 }

@@ -1,0 +1,3 @@
+-- Definitions that proofs need and no public clause cites.
+pub mod OneRead
+pub mod FileReads
