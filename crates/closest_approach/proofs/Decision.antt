@@ -6,7 +6,8 @@ use Rattle.std.proofs.lemmas.Nat.{le-div}
 use Rattle.std.proofs.Math.Nat.{mul-div-le}
 use Rattle.fixed_geometry.specs.Plane.{norm2_of}
 use Rattle.motion.specs.Steps.{RelativeMove}
-use Rattle.closest_approach.specs.Separation.{way_at, nearest_of, EntersWithin, IsApart, IsNearer, IsNearest, IsSeparated, IsSeparatedFor}
+use Rattle.closest_approach.specs.Inner.LongSteps.{IsSeparatedFor}
+use Rattle.closest_approach.specs.Separation.{displacement_at, nearest_of, EntersWithin, IsApart, IsNearer, IsNearest, IsSeparated}
 use Rattle.closest_approach.specs.declared.nearest.Moment.{Moment}
 use Rattle.closest_approach.proofs.Order.{times-le, times-le_cancel}
 use Rattle.closest_approach.proofs.LeastMoment.{IsLeastFor, nearest_least}
@@ -27,10 +28,10 @@ unfolding IsSeparatedFor
 separated_if step r ticks moment h apart a b le some =
     let m : ℕ = moment.b * moment.b in
     let n : ℕ = b * b in
-    times-le_cancel m (pos n *ℤ pos (r * r)) (norm2_of (way_at step a b)) (square-pos moment.b h.some)
-    (chain (pos m *ℤ (pos n *ℤ pos (r * r))) (pos n *ℤ norm2_of (way_at step moment.a moment.b)) (pos m *ℤ norm2_of (way_at step a b))
-    (subst (λ (z : ℤ). z ≤ℤ (pos n *ℤ norm2_of (way_at step moment.a moment.b))) (swap m n (r * r))
-    (times-le n (pos m *ℤ pos (r * r)) (norm2_of (way_at step moment.a moment.b)) apart))
+    times-le_cancel m (pos n *ℤ pos (r * r)) (norm2_of (displacement_at step a b)) (square-pos moment.b h.some)
+    (chain (pos m *ℤ (pos n *ℤ pos (r * r))) (pos n *ℤ norm2_of (displacement_at step moment.a moment.b)) (pos m *ℤ norm2_of (displacement_at step a b))
+    (subst (λ (z : ℤ). z ≤ℤ (pos n *ℤ norm2_of (displacement_at step moment.a moment.b))) (swap m n (r * r))
+    (times-le n (pos m *ℤ pos (r * r)) (norm2_of (displacement_at step moment.a moment.b)) apart))
     (h.least a b le))
 
 -- ---- a square as a quotient
@@ -116,7 +117,7 @@ decides_entering step r ticks least square false test apart nearer = (
 
 pub nearer_where_not : (step : RelativeMove) (r : ℕ) → (IsSeparated step r → ⊥) → IsNearer step r (nearest_of step 1).a (nearest_of step 1).b
 nearer_where_not step r not =
-    by_lt_z (norm2_of (way_at step (nearest_of step 1).a (nearest_of step 1).b)) (pos ((nearest_of step 1).b * (nearest_of step 1).b) *ℤ pos (r * r))
+    by_lt_z (norm2_of (displacement_at step (nearest_of step 1).a (nearest_of step 1).b)) (pos ((nearest_of step 1).b * (nearest_of step 1).b) *ℤ pos (r * r))
     (λ nearer. nearer)
     (λ apart. absurd (not (separated_one step r (separated_if step r 1 (nearest_of step 1) (nearest_least step 1) apart))))
 

@@ -3,7 +3,7 @@ use Rattle.std.proofs.Common.{◌≡◌, ℕ, ◌*◌, ◌<◌, ℤ, pos, neg_�
 use Rattle.std.proofs.lemmas.Int.{ints}
 use Rattle.fixed_geometry.specs.Plane.{dot_of, norm2_of, turn_of}
 use Rattle.motion.specs.Steps.{RelativeMove}
-use Rattle.closest_approach.specs.Separation.{way_at, nearest_of, IsApart, IsSeparated, IsSeparatedByEnds}
+use Rattle.closest_approach.specs.Separation.{displacement_at, nearest_of, IsApart, IsSeparated, IsSeparatedByEnds}
 use Rattle.closest_approach.specs.declared.nearest.Moment.{Moment}
 use Rattle.closest_approach.proofs.Products as by_parts
 use Rattle.closest_approach.proofs.Order.{times-le, times-le_cancel, once}
@@ -12,7 +12,7 @@ use Rattle.closest_approach.proofs.Choice.{by_choice, nearest_of-is, back_is, si
 use Rattle.closest_approach.proofs.LeastMoment.{nearest_least, square_at_start}
 use Rattle.closest_approach.proofs.Decision.{separated_if, separated_one}
 
-square_at_end : (step : RelativeMove) → norm2_of (way_at step 1 1) ≡ norm2_of (record { x = step.p.x +ℤ step.w.x; y = step.p.y +ℤ step.w.y })
+square_at_end : (step : RelativeMove) → norm2_of (displacement_at step 1 1) ≡ norm2_of (record { x = step.p.x +ℤ step.w.x; y = step.p.y +ℤ step.w.y })
 square_at_end step = ap₂ by_parts.norm2_of (both step.p.x step.w.x) (both step.p.y step.w.y)
   where
     both : (x u : ℤ) → pos 1 *ℤ x +ℤ pos 1 *ℤ u ≡ x +ℤ u
@@ -22,7 +22,7 @@ square_at_end step = ap₂ by_parts.norm2_of (both step.p.x step.w.x) (both step
 record IsBetween (step : RelativeMove) : Type 0 where
   some : 0 < unsigned_abs (norm2_of step.w)
   length : norm2_of step.w ≡ pos (unsigned_abs (norm2_of step.w))
-  square : norm2_of (way_at step (unsigned_abs (dot_of step.p step.w)) (unsigned_abs (norm2_of step.w)))
+  square : norm2_of (displacement_at step (unsigned_abs (dot_of step.p step.w)) (unsigned_abs (norm2_of step.w)))
       ≡ pos (unsigned_abs (norm2_of step.w)) *ℤ (turn_of step.p step.w *ℤ turn_of step.p step.w)
 
 one_tick : (z : ℤ) → pos 1 *ℤ z ≡ z

@@ -1,12 +1,12 @@
 -- The identity of squares, by which the least distance along a straight move is known from its ends and one product.
 use Rattle.std.proofs.Common.{◌≡◌, ℕ, ℤ, pos, ◌+ℤ◌, ◌*ℤ◌, ◌*◌, arith, ◌∙◌, ap}
 use Rattle.closest_approach.proofs.Products.{dot_of, turn_of}
-use Rattle.closest_approach.proofs.Signed.{polynomials, diff_of, diff_same}
+use Rattle.fixed_geometry.proofs.ForCallers.{polynomials, diff_of, diff_same}
 
 pub lagrange : (x y u v : ℤ) → dot_of x y x y *ℤ dot_of u v u v ≡ dot_of u v x y *ℤ dot_of u v x y +ℤ turn_of u v x y *ℤ turn_of u v x y
 lagrange x y u v = rw (← diff_of x, ← diff_of y, ← diff_of u, ← diff_of v) (simp polynomials (diff_same _ _ _ _ (omega arith)))
 
--- the point a/b of the way from p to p + w, b times
+-- the point a/b of the line from p to p + w, b times
 pub dot_at : (px py wx wy : ℤ) (a b : ℕ) → dot_of (pos b *ℤ px +ℤ pos a *ℤ wx) (pos b *ℤ py +ℤ pos a *ℤ wy) wx wy ≡ pos b *ℤ dot_of px py wx wy +ℤ pos a *ℤ dot_of wx wy wx wy
 dot_at px py wx wy a b = rw (← diff_of px, ← diff_of py, ← diff_of wx, ← diff_of wy) (simp polynomials (diff_same _ _ _ _ (omega arith)))
 

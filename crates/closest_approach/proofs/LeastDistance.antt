@@ -2,7 +2,7 @@
 use Rattle.std.proofs.Common.{◌≡◌, ℕ, ℤ, pos, ◌+ℤ◌, ◌-ℤ◌, ◌*ℤ◌, neg_ℤ, ◌≤ℤ◌, ◌-◌, ◌*◌, ◌≤◌, ◌<◌, arith, ◌∙◌, ap, sym, subst}
 use Rattle.std.proofs.lemmas.Int.{ints}
 use Rattle.closest_approach.proofs.Products.{dot_of, turn_of, norm2_of}
-use Rattle.closest_approach.proofs.Signed.{polynomials, diff_of, diff_same}
+use Rattle.fixed_geometry.proofs.ForCallers.{polynomials, diff_of, diff_same}
 use Rattle.closest_approach.proofs.Identity.{identity}
 use Rattle.closest_approach.proofs.Order.{square-nonneg, times-eq_cancel, times-nonneg, times-le_zero}
 

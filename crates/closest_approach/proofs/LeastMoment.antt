@@ -3,10 +3,10 @@ use Rattle.std.proofs.Common.{◌≡◌, ℕ, ◌*◌, ◌≤◌, ◌<◌, ℤ, 
 use Rattle.std.proofs.lemmas.Int.{ints}
 use Rattle.fixed_geometry.specs.Plane.{dot_of, turn_of, norm2_of}
 use Rattle.motion.specs.Steps.{RelativeMove}
-use Rattle.closest_approach.specs.Separation.{way_at, nearest_of}
+use Rattle.closest_approach.specs.Separation.{displacement_at, nearest_of}
 use Rattle.closest_approach.specs.declared.nearest.Moment.{Moment}
 use Rattle.closest_approach.proofs.Products as by_parts
-use Rattle.closest_approach.proofs.Signed.{polynomials, diff_of, diff_same}
+use Rattle.fixed_geometry.proofs.ForCallers.{polynomials, diff_of, diff_same}
 use Rattle.closest_approach.proofs.Order.{times-le, once}
 use Rattle.closest_approach.proofs.LeastDistance.{norm2-nonneg, least_at_start, least_at_end, square_within, least_within}
 use Rattle.closest_approach.proofs.Choice.{by_choice, nearest_of-is, back_is, size_is, some_length, in_time}
@@ -16,8 +16,8 @@ pub record IsLeastFor (step : RelativeMove) (ticks : ℕ) (moment : Moment) : Ty
   pub some : 0 < moment.b
   pub within : moment.a ≤ moment.b * ticks
   pub least : (a b : ℕ) → a ≤ b * ticks →
-      (pos (b * b) *ℤ norm2_of (way_at step moment.a moment.b)) ≤ℤ (pos (moment.b * moment.b) *ℤ norm2_of (way_at step a b))
-  pub turned : (moment.b ≡ 1 → ⊥) → norm2_of (way_at step moment.a moment.b) ≡ pos moment.b *ℤ (turn_of step.p step.w *ℤ turn_of step.p step.w)
+      (pos (b * b) *ℤ norm2_of (displacement_at step moment.a moment.b)) ≤ℤ (pos (moment.b * moment.b) *ℤ norm2_of (displacement_at step a b))
+  pub turned : (moment.b ≡ 1 → ⊥) → norm2_of (displacement_at step moment.a moment.b) ≡ pos moment.b *ℤ (turn_of step.p step.w *ℤ turn_of step.p step.w)
 
 at_start : (x u : ℤ) → pos 1 *ℤ x +ℤ pos 0 *ℤ u ≡ x
 at_start x u = omega (arith, ints)
@@ -25,17 +25,17 @@ at_start x u = omega (arith, ints)
 at_tick : (n : ℕ) (x u : ℤ) → pos 1 *ℤ x +ℤ pos n *ℤ u ≡ x +ℤ pos n *ℤ u
 at_tick n x u = omega (arith, ints)
 
-pub square_at_start : (step : RelativeMove) → norm2_of (way_at step 0 1) ≡ norm2_of step.p
+pub square_at_start : (step : RelativeMove) → norm2_of (displacement_at step 0 1) ≡ norm2_of step.p
 square_at_start step = ap₂ by_parts.norm2_of (at_start step.p.x step.w.x) (at_start step.p.y step.w.y)
 
-pub square_at_tick : (step : RelativeMove) (n : ℕ) → norm2_of (way_at step n 1) ≡ by_parts.norm2_of (step.p.x +ℤ pos n *ℤ step.w.x) (step.p.y +ℤ pos n *ℤ step.w.y)
+pub square_at_tick : (step : RelativeMove) (n : ℕ) → norm2_of (displacement_at step n 1) ≡ by_parts.norm2_of (step.p.x +ℤ pos n *ℤ step.w.x) (step.p.y +ℤ pos n *ℤ step.w.y)
 square_at_tick step n = ap₂ by_parts.norm2_of (at_tick n step.p.x step.w.x) (at_tick n step.p.y step.w.y)
 
 start_least : (step : RelativeMove) (ticks : ℕ) → pos 0 ≤ℤ dot_of step.p step.w → IsLeastFor step ticks (record { a = 0; b = 1 })
 start_least step ticks apart = record {
   some = omega arith;
   within = omega arith;
-  least = λ a b _. subst₂ (λ (u v : ℤ). (pos (b * b) *ℤ u) ≤ℤ v) (sym (square_at_start step)) (sym (once (norm2_of (way_at step a b))))
+  least = λ a b _. subst₂ (λ (u v : ℤ). (pos (b * b) *ℤ u) ≤ℤ v) (sym (square_at_start step)) (sym (once (norm2_of (displacement_at step a b))))
       (least_at_start step.p.x step.p.y step.w.x step.w.y apart a b);
   turned = λ other. absurd (other refl);
 }
@@ -44,7 +44,7 @@ last_least : (step : RelativeMove) (ticks : ℕ) → (pos ticks *ℤ norm2_of st
 last_least step ticks over = record {
   some = omega arith;
   within = omega arith;
-  least = λ a b le. subst₂ (λ (u v : ℤ). (pos (b * b) *ℤ u) ≤ℤ v) (sym (square_at_tick step ticks)) (sym (once (norm2_of (way_at step a b))))
+  least = λ a b le. subst₂ (λ (u v : ℤ). (pos (b * b) *ℤ u) ≤ℤ v) (sym (square_at_tick step ticks)) (sym (once (norm2_of (displacement_at step a b))))
       (least_at_end step.p.x step.p.y step.w.x step.w.y ticks (closing (dot_of step.p step.w) (pos ticks *ℤ norm2_of step.w) over) a b le);
   turned = λ other. absurd (other refl);
 }
@@ -62,12 +62,12 @@ within_least step ticks inwards more =
     let sign : pos 0 ≤ℤ length2 = norm2-nonneg step.w.x step.w.y in
     let some : 0 < k = some_length along length2 ticks sign inwards more in
     let length : length2 ≡ pos k = size_is length2 sign in
-    let square : norm2_of (way_at step (unsigned_abs along) k) ≡ pos k *ℤ t =
+    let square : norm2_of (displacement_at step (unsigned_abs along) k) ≡ pos k *ℤ t =
     square_within step.p.x step.p.y step.w.x step.w.y (unsigned_abs along) k some length (back_is along inwards) in
     record {
       some = some;
       within = in_time along length2 ticks sign inwards more;
-      least = λ a b _. moved k b t (norm2_of (way_at step (unsigned_abs along) k)) (norm2_of (way_at step a b)) square
+      least = λ a b _. moved k b t (norm2_of (displacement_at step (unsigned_abs along) k)) (norm2_of (displacement_at step a b)) square
           (least_within step.p.x step.p.y step.w.x step.w.y k length a b);
       turned = λ _. square;
     }

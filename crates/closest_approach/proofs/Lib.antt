@@ -1,4 +1,3 @@
-pub mod Signed
 pub mod Products
 pub mod Identity
 pub mod Order

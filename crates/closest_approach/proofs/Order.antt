@@ -2,7 +2,7 @@
 use Rattle.std.proofs.Common.{◌≡◌, ℕ, ℤ, pos, negsuc, ◌+ℤ◌, ◌*ℤ◌, ◌≤ℤ◌, ◌+◌, ◌-◌, ◌*◌, ◌<◌, arith, ◌∙◌, ap}
 use Rattle.std.proofs.lemmas.Int.{ints, by_lt_z}
 use borrow.Author.Differences.{up, down}
-use Rattle.closest_approach.proofs.Signed.{polynomials, diff_of, diff_same}
+use Rattle.fixed_geometry.proofs.ForCallers.{polynomials, diff_of, diff_same}
 
 times-add : (k n : ℕ) (x : ℤ) → pos k *ℤ (x +ℤ pos n) ≡ pos k *ℤ x +ℤ pos (k * n)
 times-add k n x = rw (← diff_of x) (simp polynomials (diff_same _ _ _ _ (omega arith)))

@@ -1,4 +1,4 @@
--- Products of two ways, by their components.
+-- Products of two vectors, by their components.
 use Rattle.std.proofs.Common.{ℤ, ◌+ℤ◌, ◌-ℤ◌, ◌*ℤ◌}
 
 abbrev pub dot_of : ℤ → ℤ → ℤ → ℤ → ℤ

@@ -5,25 +5,21 @@ use Rattle.fixed_geometry.specs.declared.point.Point.{Point}
 use Rattle.motion.specs.Steps.{RelativeMove}
 use Rattle.closest_approach.specs.declared.nearest.Moment.{Moment}
 
--- the way from the one vessel to the other, b times, at the instant a / b: b p + a w
-abbrev pub way_at : RelativeMove → ℕ → ℕ → Point
-way_at step a b = record { x = pos b *ℤ step.p.x +ℤ pos a *ℤ step.w.x; y = pos b *ℤ step.p.y +ℤ pos a *ℤ step.w.y }
+-- the displacement from the one vessel to the other, b times, at the instant a / b: b p + a w
+abbrev pub displacement_at : RelativeMove → ℕ → ℕ → Point
+displacement_at step a b = record { x = pos b *ℤ step.p.x +ℤ pos a *ℤ step.w.x; y = pos b *ℤ step.p.y +ℤ pos a *ℤ step.w.y }
 
 -- The distance at the instant a / b is at least r.
 abbrev pub IsApart : RelativeMove → ℕ → ℕ → ℕ → Type 0
-IsApart step r a b = (pos (b * b) *ℤ pos (r * r)) ≤ℤ norm2_of (way_at step a b)
+IsApart step r a b = (pos (b * b) *ℤ pos (r * r)) ≤ℤ norm2_of (displacement_at step a b)
 
 -- It is less than r.
 abbrev pub IsNearer : RelativeMove → ℕ → ℕ → ℕ → Type 0
-IsNearer step r a b = norm2_of (way_at step a b) <ℤ (pos (b * b) *ℤ pos (r * r))
+IsNearer step r a b = norm2_of (displacement_at step a b) <ℤ (pos (b * b) *ℤ pos (r * r))
 
 -- The distance is at least r at every instant of the step.
 unfoldable pub IsSeparated : RelativeMove → ℕ → Type 0
 IsSeparated step r = (a b : ℕ) → a ≤ b → 0 < b → IsApart step r a b
-
--- The same, up to so many ticks after the beginning, where both vessels go on as in the step.
-unfoldable pub IsSeparatedFor : RelativeMove → ℕ → ℕ → Type 0
-IsSeparatedFor step r ticks = (a b : ℕ) → a ≤ b * ticks → 0 < b → IsApart step r a b
 
 -- Separation by the two ends of the step and one comparison of squares: where the vessels are nearest between the ends,
 -- the square of the turn is at least r^2 times that of the change.
@@ -44,7 +40,7 @@ pub record EntersWithin (step : RelativeMove) (r ticks : ℕ) : Type 0 where
 -- At no instant of the step is the distance less than at this moment.
 abbrev pub IsNearest : RelativeMove → Moment → Type 0
 IsNearest step moment = (a b : ℕ) → a ≤ b → 0 < b →
-    (pos (b * b) *ℤ norm2_of (way_at step moment.a moment.b)) ≤ℤ (pos (moment.b * moment.b) *ℤ norm2_of (way_at step a b))
+    (pos (b * b) *ℤ norm2_of (displacement_at step moment.a moment.b)) ≤ℤ (pos (moment.b * moment.b) *ℤ norm2_of (displacement_at step a b))
 
 -- the moment of least distance up to so many ticks after the beginning: the beginning, where the vessels draw apart from
 -- it on; the end, where they close up to it; else - p.w / |w|^2

@@ -1,12 +1,13 @@
 //! The instant of least distance, and the square of the distance then.
 ghost use Rattle.std.specs.Prelude.{ℕ, pos, ◌≡◌, ◌+◌, ◌*◌, ◌<◌, ◌≤◌, ◌^◌, ◌+ℤ◌, ◌*ℤ◌, unsigned_abs};
 ghost use Rattle.fixed_geometry.specs.Plane.{dot_of, norm2_of, turn_of};
-ghost use Rattle.closest_approach.specs.Separation.{way_at, nearest_of, IsSeparatedFor, IsNearer};
+ghost use Rattle.closest_approach.specs.Inner.LongSteps.{IsSeparatedFor};
+ghost use Rattle.closest_approach.specs.Separation.{displacement_at, nearest_of, IsNearer};
 
 use fixed_geometry::{Point, dot, norm2, turn};
 use motion::Step;
 
-/// An instant of a step: `a / b` of a tick after its beginning.
+/// An instant of a step: `a / b` of a tick after its beginning, from 0 to 1.
 #[derive(Clone, Copy, Debug, PartialEq, Eq)]
 pub struct Moment {
     /// The parts of the tick that are over.
@@ -22,7 +23,7 @@ pub(crate) struct Square {
     pub(crate) under: u128,
 }
 
-/// The dot product of the way and its change: below 0 where the vessels close.
+/// The dot product of the displacement and its change: below 0 where the vessels close.
 fn along(step: &Step) -> i128
     ensures value { result ≡ dot_of step.now.p step.now.w }
     ensures small { unsigned_abs result ≤ 2 ^ 61 }
@@ -46,7 +47,7 @@ fn length2(step: &Step) -> u128
     norm2(step.w())
 }
 
-/// One component of the way after whole ticks.
+/// One component of the displacement after whole ticks.
 fn component(p: i64, w: i64, ticks: u64) -> i64
     requires p_small { unsigned_abs p ≤ 2 ^ 34 }
     requires w_small { unsigned_abs w ≤ 2 ^ 26 }
@@ -60,7 +61,7 @@ fn component(p: i64, w: i64, ticks: u64) -> i64
 /// The square of the distance after whole ticks.
 fn square_at_tick(step: &Step, ticks: u64) -> u128
     requires { ticks ≤ 7200 }
-    ensures { pos result ≡ norm2_of (way_at step.now ticks 1) }
+    ensures { pos result ≡ norm2_of (displacement_at step.now ticks 1) }
 {
     let p = step.p();
     let w = step.w();

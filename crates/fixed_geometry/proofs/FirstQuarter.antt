@@ -68,7 +68,7 @@ falls_at (x ∷ []) k h lt = absurd (omega arith)
 falls_at (x ∷ y ∷ ys) zero h lt = leb-true y x (and_parts (nat_le y x) (falls (y ∷ ys)) h).0
 falls_at (x ∷ y ∷ ys) (suc k) h lt = falls_at (y ∷ ys) k (and_parts (nat_le y x) (falls (y ∷ ys)) h).1 (omega arith)
 
--- ---- A way that has turned by an angle of the first quarter has turned by each lesser one.
+-- ---- A vector that has turned by an angle of the first quarter has turned by each lesser one.
 
 earlier_by_sizes : (s s' c c' n e : ℕ) → s ≤ s' → c' ≤ c → leb (s' * n) (c' * e) ≡ true → leb (s * n) (c * e) ≡ true
 earlier_by_sizes s s' c c' n e rise fall h =

@@ -1,5 +1,5 @@
 pub mod Table
-pub mod Signed
+pub mod ForCallers
 pub mod Region
 pub mod FirstQuarter
 pub mod Greatest

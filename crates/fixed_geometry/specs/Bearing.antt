@@ -1,7 +1,7 @@
 -- Bearings, and the angles between two directions, in tenths of a degree.
 use Rattle.std.specs.Prelude.{ℕ, zero, suc, ◌+◌, Bool, ◌&&◌, if◌then◌else◌, Option, Some, None, ℤ, pos, neg_ℤ, ◌-ℤ◌, ◌*ℤ◌, int_lt, int_le, unsigned_abs}
 use Rattle.std.specs.Int.{int_rem_euclid}
-use Rattle.fixed_geometry.specs.Circle.{short_way}
+use Rattle.fixed_geometry.specs.Circle.{shorter_arc}
 use Rattle.fixed_geometry.specs.Compass.{sine_of, cosine_of}
 use Rattle.fixed_geometry.specs.declared.point.Point.{Point}
 
@@ -10,7 +10,7 @@ unfoldable pub greatest_below : ℕ → (ℕ → Bool) → ℕ
 greatest_below zero test = 0
 greatest_below (suc n) test = if test n then n else greatest_below n test
 
--- whether a way that leads n ahead and e to starboard has turned by k tenths of a degree or more: S(k) n ≤ C(k) e
+-- whether a vector of n ahead and e to starboard has turned by k tenths of a degree or more: n sin k ≤ e cos k
 abbrev pub has_turned : ℤ → ℤ → ℕ → Bool
 has_turned n e k = int_le (sine_of k *ℤ n) (cosine_of k *ℤ e)
 
@@ -18,7 +18,7 @@ has_turned n e k = int_le (sine_of k *ℤ n) (cosine_of k *ℤ e)
 unfoldable pub quarter_angle : ℤ → ℤ → ℕ
 quarter_angle n e = greatest_below 900 (has_turned n e)
 
--- The bearing of a way is counted clockwise from north, by quarters of the circle. A way of no length has none.
+-- The bearing of a vector is counted clockwise from north, by quarters of the circle. A vector of no length has none.
 unfoldable pub bearing_of : Point → Option ℕ
 bearing_of r =
     if int_lt (pos 0) r.y && int_le (pos 0) r.x then Some (quarter_angle r.y r.x)
@@ -33,4 +33,4 @@ relative_of b d = unsigned_abs (int_rem_euclid (pos b -ℤ pos d) (pos 3600))
 
 -- the turn from direction d to direction e, from -1799 to 1800: positive to starboard
 unfoldable pub swing_of : ℕ → ℕ → ℤ
-swing_of d e = short_way 1800 (pos e -ℤ pos d)
+swing_of d e = shorter_arc 1800 (pos e -ℤ pos d)

@@ -40,7 +40,7 @@ abbrev pub quarters_further : ℕ → Point → Point
 quarters_further zero p = p
 quarters_further (suc n) p = quarter_further (quarters_further n p)
 
--- the way of length 1,000,000 at k tenths of a degree clockwise from north
+-- the vector of length 1,000,000 at k tenths of a degree clockwise from north
 unfoldable pub unit_of : ℕ → Point
 unit_of k = quarters_further (k / 900) (quarter_of (k % 900))
 

@@ -7,3 +7,4 @@ pub mod Place
 pub mod Projection
 pub mod Velocity
 pub mod Bearing
+pub mod Inner

@@ -1,4 +1,4 @@
--- Products of two ways in the plane.
+-- Products of two vectors in the plane.
 use Rattle.std.specs.Prelude.{ℤ, ◌+ℤ◌, ◌-ℤ◌, ◌*ℤ◌}
 use Rattle.fixed_geometry.specs.declared.point.Point.{Point}
 

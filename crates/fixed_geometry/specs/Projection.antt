@@ -1,7 +1,7 @@
 -- The projection of latitudes and longitudes, in ten thousandths of a minute, into the plane about a reference.
 use Rattle.std.specs.Prelude.{ℕ, ◌^◌, ◌≤◌, ◌&&◌, nat_le, if◌then◌else◌, Option, Some, None, ℤ, pos, ◌-ℤ◌, ◌*ℤ◌, unsigned_abs}
 use Rattle.fixed_geometry.specs.Rounding.{rounded}
-use Rattle.fixed_geometry.specs.Circle.{short_way}
+use Rattle.fixed_geometry.specs.Circle.{shorter_arc}
 use Rattle.fixed_geometry.specs.Compass.{cosine_of}
 use Rattle.fixed_geometry.specs.declared.point.Point.{Point}
 
@@ -12,7 +12,7 @@ tenths_of latitude = unsigned_abs (rounded (pos (unsigned_abs latitude)) 60000)
 -- A minute of latitude is 1852 metres, and one of longitude is shorter by the cosine of the reference's latitude.
 abbrev pub east_of : ℤ → ℤ → ℤ → ℤ
 east_of latitude0 longitude0 longitude =
-    rounded (short_way 108000000 (longitude -ℤ longitude0) *ℤ pos 1852 *ℤ cosine_of (tenths_of latitude0)) (10 ^ 6)
+    rounded (shorter_arc 108000000 (longitude -ℤ longitude0) *ℤ pos 1852 *ℤ cosine_of (tenths_of latitude0)) (10 ^ 6)
 
 abbrev pub north_of : ℤ → ℤ → ℤ
 north_of latitude0 latitude = (latitude -ℤ latitude0) *ℤ pos 1852

@@ -7,7 +7,7 @@ use crate::compass::quarter;
 use crate::point::{Point, product};
 use crate::rounding::{difference, round_the_circle};
 
-/// Whether a way that leads `n` ahead and `e` to starboard has turned by `k` tenths of a degree or more.
+/// Whether a vector of `n` ahead and `e` to starboard has turned by `k` tenths of a degree or more.
 fn has_turned(n: i64, e: i64, k: u16) -> bool
     requires n_small { unsigned_abs n ≤ 2 ^ 62 }
     requires e_small { unsigned_abs e ≤ 2 ^ 62 }
@@ -18,7 +18,7 @@ fn has_turned(n: i64, e: i64, k: u16) -> bool
     product(x, n) <= product(y, e)
 }
 
-/// By how much such a way has turned. Within a quarter the sines rise and the cosines fall, so halving finds it.
+/// By how much such a vector has turned. Within a quarter the sines rise and the cosines fall, so halving finds it.
 fn quarter_angle(n: i64, e: i64) -> u16
     requires n_sign { pos 0 ≤ℤ n }
     requires n_small { unsigned_abs n ≤ 2 ^ 62 }
@@ -40,8 +40,8 @@ fn quarter_angle(n: i64, e: i64) -> u16
     low
 }
 
-/// The bearing of a way by the compass: the greatest whole tenth of a degree clockwise from north that it has reached.
-/// `None` where it has no length.
+/// The bearing of a vector by the compass, below 3600: the greatest whole tenth of a degree clockwise from north that it has
+/// reached. `None` where it has no length. Components are at most 2^62 in size.
 pub fn bearing(r: Point) -> Option<u16>
     requires { IsWithin (2 ^ 62) r }
     ensures value { result ≡ bearing_of r }
@@ -61,7 +61,8 @@ pub fn bearing(r: Point) -> Option<u16>
     }
 }
 
-/// A bearing as it is seen from a vessel that points in a direction: 0 is ahead, 900 on her starboard beam.
+/// A bearing as it is seen from a vessel that points in a direction, in tenths of a degree below 3600: 0 is ahead, 900 on her
+/// starboard beam, 1800 astern.
 #[tactic(auto, unfolding(crate::specs::Bearing::relative_of))]
 pub fn relative(bearing: u16, direction: u16) -> u16
     requires bearing { bearing < 3600 }
@@ -72,7 +73,8 @@ pub fn relative(bearing: u16, direction: u16) -> u16
     (bearing + 3600 - direction) % 3600
 }
 
-/// The turn from one direction to another, from -1799 to 1800: positive to starboard, and half a turn is 1800.
+/// The turn from one direction to another, in tenths of a degree from -1799 to 1800: positive to starboard. Exactly half a
+/// turn is 1800, and so to starboard.
 #[tactic(auto, unfolding(crate::specs::Bearing::swing_of))]
 pub fn swing(from: u16, to: u16) -> i16
     requires from { from < 3600 }

@@ -133,8 +133,8 @@ pub(crate) fn quarter(k: u16) -> Point
     }
 }
 
-/// The vector of length 1,000,000 at `k` tenths of a degree clockwise from north: the sine to the east and the cosine to
-/// the north, in millionths.
+/// The vector of length 1,000,000 at `k` tenths of a degree clockwise from north, `k` below 3600: the sine to the east and the
+/// cosine to the north, in millionths.
 #[tactic(auto, unfolding(crate::specs::Compass::unit_of))]
 pub fn unit(k: u16) -> Point
     requires { k < 3600 }

@@ -3,10 +3,13 @@ ghost use Rattle.std.specs.Prelude.{ℕ, pos, ◌≡◌, ◌^◌, ◌+◌, ◌*�
 ghost use Rattle.fixed_geometry.specs.Plane.{dot_of, turn_of, norm2_of};
 ghost use Rattle.fixed_geometry.specs.Sizes.{IsWithin};
 
-/// A point of the plane, or the way from one point to another: tenths of a millimetre to the east and to the north.
+/// A point of the plane, or a vector in it, as the displacement from one point to another, which is the second less the
+/// first.
 #[derive(Clone, Copy, Debug, PartialEq, Eq)]
 pub struct Point {
+    /// Tenths of a millimetre to the east.
     pub x: i64,
+    /// Tenths of a millimetre to the north.
     pub y: i64,
 }
 
@@ -28,7 +31,7 @@ fn sum(a: i128, b: i128) -> i128
     a + b
 }
 
-fn difference(a: i128, b: i128) -> i128
+fn minus(a: i128, b: i128) -> i128
     requires a_small { unsigned_abs a ≤ 2 ^ 124 }
     requires b_small { unsigned_abs b ≤ 2 ^ 124 }
     ensures value { result ≡ a -ℤ b }
@@ -46,7 +49,8 @@ fn square(a: i64) -> u128
     size * size
 }
 
-/// The dot product of two ways: positive where they lead the same way, negative where they lead opposite ways.
+/// The dot product of two vectors, components at most 2^62 in size: positive where the angle between them is less than a
+/// right angle, negative where it is more.
 pub fn dot(a: Point, b: Point) -> i128
     requires a_small { IsWithin (2 ^ 62) a }
     requires b_small { IsWithin (2 ^ 62) b }
@@ -57,7 +61,8 @@ pub fn dot(a: Point, b: Point) -> i128
     sum(product(a.x, b.x), product(a.y, b.y))
 }
 
-/// The cross product of two ways: positive where `b` leads to port of `a`, negative where it leads to starboard.
+/// The cross product of two vectors, components at most 2^62 in size: positive where `b` points to port of `a`, negative
+/// where it points to starboard.
 pub fn turn(a: Point, b: Point) -> i128
     requires a_small { IsWithin (2 ^ 62) a }
     requires b_small { IsWithin (2 ^ 62) b }
@@ -65,10 +70,10 @@ pub fn turn(a: Point, b: Point) -> i128
     ensures small { unsigned_abs result
         ≤ unsigned_abs a.x * unsigned_abs b.y + unsigned_abs a.y * unsigned_abs b.x }
 {
-    difference(product(a.x, b.y), product(a.y, b.x))
+    minus(product(a.x, b.y), product(a.y, b.x))
 }
 
-/// The square of a way's length.
+/// The square of a vector's length, components at most 2^62 in size.
 pub fn norm2(a: Point) -> u128
     requires { IsWithin (2 ^ 62) a }
     ensures value { pos result ≡ norm2_of a }

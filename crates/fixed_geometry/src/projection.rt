@@ -1,6 +1,7 @@
 //! The projection of places on the earth into the plane about a reference.
 //!
-//! Latitudes and longitudes are in ten thousandths of a minute, as ITU-R M.1371 gives them: a degree is 600,000.
+//! Latitudes and longitudes are in ten thousandths of a minute, as ITU-R M.1371-5, Annex 8, section 3.1 gives them: a degree is
+//! 600,000.
 ghost use Rattle.std.specs.Prelude.{pos, ◌≡◌, ◌+◌, ◌≤◌, ◌*◌, ◌-ℤ◌, ◌*ℤ◌, ◌↔◌, IsSome, IfSome, unsigned_abs};
 ghost use Rattle.fixed_geometry.specs.Compass.{cosine_of};
 ghost use Rattle.fixed_geometry.specs.Projection.{IsInRegion, projection_of, east_of, tenths_of};
@@ -19,7 +20,8 @@ pub struct Reference {
 }
 
 impl Model for Reference {
-    ghost use Rattle.fixed_geometry.specs.Place.{Place, IsPlaceWithin};
+    ghost use Rattle.fixed_geometry.specs.Place.{Place};
+    ghost use Rattle.fixed_geometry.specs.Inner.Places.{IsPlaceWithin};
 
     ghost Value = { Place };
 
@@ -31,8 +33,8 @@ impl Model for Reference {
 }
 
 impl Reference {
-    /// A reference at a latitude and a longitude, positive to the north and to the east. `None` beyond 75 degrees of
-    /// latitude or 180 degrees of longitude.
+    /// A reference at a latitude and a longitude in ten thousandths of a minute, positive to the north and to the east.
+    /// `None` beyond 75 degrees of latitude or 180 degrees of longitude.
     pub fn new(lat: i32, lon: i32) -> Option<Reference>
         ensures some { IsSome result ↔ (unsigned_abs lat ≤ 45000000 × unsigned_abs lon ≤ 108000000) }
         ensures value { IfSome result (λ r. r ≡ record { latitude = lat; longitude = lon }) }
@@ -72,9 +74,9 @@ fn east(reference: Reference, lon: i32) -> i64
     requires { unsigned_abs lon ≤ 108000000 }
     ensures { result ≡ east_of reference.latitude reference.longitude lon }
 {
-    let way = round_the_circle(difference(reference.longitude, lon), 108_000_000);
+    let arc = round_the_circle(difference(reference.longitude, lon), 108_000_000);
     round_quotient(
-        scale(length(way), latitude_cosine(reference.latitude)),
+        scale(length(arc), latitude_cosine(reference.latitude)),
         1_000_000,
     )
 }
@@ -87,8 +89,9 @@ fn north(reference: Reference, lat: i32) -> i64
     difference(reference.latitude, lat)
 }
 
-/// The point of a place, given by its latitude and its longitude. `None` outside the region: more than 2 degrees of
-/// latitude, or 222,240 metres to the east or to the west, from the reference.
+/// The point of a place, given by its latitude and its longitude in ten thousandths of a minute, at most 90 and 180 degrees in
+/// size. `None` outside the region: more than 2 degrees of latitude, or 222,240 metres to the east or to the west, from the
+/// reference.
 pub fn project(reference: Reference, lat: i32, lon: i32) -> Option<Point>
     requires lat { unsigned_abs lat ≤ 54000000 }
     requires lon { unsigned_abs lon ≤ 108000000 }

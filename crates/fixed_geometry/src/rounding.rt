@@ -1,7 +1,7 @@
 //! Products and quotients of whole numbers, and differences round a circle.
 ghost use Rattle.std.specs.Prelude.{pos, ◌≡◌, ◌+◌, ◌*◌, ◌<◌, ◌≤◌, ◌^◌, ◌-ℤ◌, ◌*ℤ◌, unsigned_abs};
 ghost use Rattle.fixed_geometry.specs.Rounding.{rounded};
-ghost use Rattle.fixed_geometry.specs.Circle.{short_way};
+ghost use Rattle.fixed_geometry.specs.Circle.{shorter_arc};
 
 /// A length times a sine or a cosine.
 pub(crate) fn scale(length: i64, millionths: i64) -> i64
@@ -13,7 +13,8 @@ pub(crate) fn scale(length: i64, millionths: i64) -> i64
     length * millionths
 }
 
-/// The whole number nearest to `a / b`, halves upwards. Every rounding in the plane is this one.
+/// The whole number nearest to `a / b`, halves upwards, for `a` at most 2^61 in size and `b` above 0. Every rounding in the plane
+/// is this one.
 #[tactic(auto, unfolding(crate::specs::Rounding::rounded))]
 pub fn round_quotient(a: i64, b: u32) -> i64
     requires a_small { unsigned_abs a ≤ 2 ^ 61 }
@@ -32,11 +33,11 @@ pub(crate) fn difference(from: i32, to: i32) -> i64
     i64::from(to) - i64::from(from)
 }
 
-/// A difference of at most one turn, the short way round: above minus `half` a turn and at most `half` a turn.
-#[tactic(auto, unfolding(crate::specs::Circle::short_way))]
+/// A difference of at most one turn, taken along the shorter arc: above minus `half` a turn and at most `half` a turn.
+#[tactic(auto, unfolding(crate::specs::Circle::shorter_arc))]
 pub(crate) fn round_the_circle(difference: i64, half: u32) -> i64
     requires { unsigned_abs difference ≤ 2 * half }
-    ensures value { result ≡ short_way half difference }
+    ensures value { result ≡ shorter_arc half difference }
     ensures small { unsigned_abs result ≤ half }
 {
     let half = i64::from(half);

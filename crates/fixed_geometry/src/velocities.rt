@@ -19,8 +19,8 @@ fn component(speed: u16, millionths: i64) -> i64
     round_quotient(463 * scale(i64::from(speed), millionths), 900_000)
 }
 
-/// The velocity of a course in tenths of a degree and a speed in tenths of a knot, the units of ITU-R M.1371: how far it
-/// leads in a second.
+/// The velocity of a course in tenths of a degree, below 3600, and a speed in tenths of a knot, at most 1022, the units of
+/// ITU-R M.1371-5, Annex 8, section 3.1: the displacement in a second, in tenths of a millimetre.
 #[tactic(auto, unfolding(crate::specs::Velocity::velocity_of))]
 pub fn velocity(course: u16, speed: u16) -> Point
     requires course { course < 3600 }

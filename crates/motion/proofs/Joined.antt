@@ -7,8 +7,9 @@ use Rattle.std.proofs.lemmas.Bool.Decides.{nat_tests}
 use Rattle.fixed_geometry.specs.Sizes.{IsBelow}
 use Rattle.fixed_geometry.specs.declared.point.Point.{Point}
 use Rattle.motion.specs.Between.{between}
-use Rattle.motion.specs.TickStates.{AreJoined, AreLegs, IsLeg, Meets, MovesLittle, holds, state_at, state_on}
-use Rattle.motion.specs.Ways.{way}
+use Rattle.motion.specs.Inner.LegOrder.{AreLegs}
+use Rattle.motion.specs.TickStates.{AreJoined, IsLeg, Meets, MovesLittle, holds, state_at, state_on}
+use Rattle.motion.specs.Displacement.{displacement}
 use Rattle.motion.specs.declared.leg.Leg.{Leg}
 use Rattle.motion.specs.declared.leg.TickState.{TickState}
 use Rattle.motion.proofs.LastPassing.{IsLastAt, found}
@@ -170,7 +171,7 @@ unfolding state_on component_at
 moves_little gap legs h joined t u before after le minute close at_t at_u =
     let a = seen_on t legs before at_t in
     let b = seen_on u legs after at_u in
-    let P : TickState → TickState → Type 0 = λ s v. IsBelow (2 ^ 25) (way s.point v.point) in
+    let P : TickState → TickState → Type 0 = λ s v. IsBelow (2 ^ 25) (displacement s.point v.point) in
     subst₂ P a.is b.is (record {
       x = component_near (λ leg. leg.p1.x) (λ leg. leg.p2.x) slow_x (λ e l m. ap (λ (p : Point). p.x) m.point) gap t u legs a.leg b.leg h joined a.last b.last le minute close;
       y = component_near (λ leg. leg.p1.y) (λ leg. leg.p2.y) slow_y (λ e l m. ap (λ (p : Point). p.y) m.point) gap t u legs a.leg b.leg h joined a.last b.last le minute close;

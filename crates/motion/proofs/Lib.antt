@@ -1,7 +1,6 @@
 pub mod Parts
 pub mod LastPassing
 pub mod Search
-pub mod Differences
-pub mod Signed
+pub mod Displacements
 pub mod Speed
 pub mod Joined

@@ -1,4 +1,4 @@
--- A part of a way, rounded, is no longer than the way.
+-- A part of a whole, rounded, is no longer than the whole.
 use Rattle.std.proofs.Common.{◌≡◌, ℕ, suc, ◌+◌, ◌-◌, ◌*◌, ◌/◌, ◌<◌, ◌≤◌, ◌⊎◌, inl, inr, ℤ, pos, negsuc, ◌+ℤ◌, ◌-ℤ◌, ◌*ℤ◌, ◌≤ℤ◌, unsigned_abs, arith, ap, mul-le-mul_left}
 use Rattle.std.proofs.lemmas.Int.{ints}
 use Rattle.std.proofs.lemmas.Nat.{div_below}
@@ -6,9 +6,9 @@ use Rattle.std.specs.Int.{int_div_euclid}
 use Rattle.fixed_geometry.specs.Rounding.{rounded}
 use Rattle.motion.specs.Between.{between}
 
--- from 0 to the way, or from the way to 0
+-- from 0 to the whole, or from the whole to 0
 LiesOn : ℤ → ℤ → Type 0
-LiesOn way q = (pos 0 ≤ℤ q × q ≤ℤ way) ⊎ (way ≤ℤ q × q ≤ℤ pos 0)
+LiesOn whole q = (pos 0 ≤ℤ q × q ≤ℤ whole) ⊎ (whole ≤ℤ q × q ≤ℤ pos 0)
 
 up_quotient : (n s b : ℕ) → 0 < b → s ≤ b → (2 * (n * s) + b) / (2 * b) ≤ n
 up_quotient n s b some part =
@@ -30,7 +30,7 @@ floor_down z a d e = ap (λ (v : ℤ). int_div_euclid v (pos d)) e
 little : (a d : ℕ) → 0 < d → a < d → a / d < 1
 little a d some h = div_below a d 1 some (omega arith)
 
-rounded_part : (way : ℤ) (s b : ℕ) → 0 < b → s ≤ b → LiesOn way (rounded (way *ℤ pos s) b)
+rounded_part : (whole : ℤ) (s b : ℕ) → 0 < b → s ≤ b → LiesOn whole (rounded (whole *ℤ pos s) b)
 unfolding LiesOn rounded
 rounded_part (pos n) s b some part =
     let e = floor_up (pos 2 *ℤ (pos n *ℤ pos s) +ℤ pos b) (2 * (n * s) + b) (2 * b) (omega (arith, ints)) in

@@ -7,7 +7,8 @@ use Rattle.std.proofs.lemmas.List.Elements.{All-append}
 use Rattle.std.specs.List.{All, last_or}
 use Rattle.std.specs.List.Sorted.{IsNonDecreasingBy, IsPartitionPoint}
 use Rattle.motion.specs.declared.leg.Leg.{Leg}
-use Rattle.motion.specs.TickStates.{AreLegs, IsLeg, holds, state_at, state_on}
+use Rattle.motion.specs.Inner.LegOrder.{AreLegs}
+use Rattle.motion.specs.TickStates.{IsLeg, holds, state_at, state_on}
 use Rattle.motion.proofs.LastPassing.{filter_none, last_passing, last_or-at}
 
 pub begin_in_order : (legs : List Leg) → AreLegs legs → IsNonDecreasingBy (λ leg. leg.t1) legs

@@ -1,4 +1,5 @@
--- How far a vessel moves in a time: no leg is faster than 102.2 knots, and 9 times the way in t seconds is 4731860 t at most.
+-- How far a vessel moves in a time: no leg is faster than 102.2 knots, and 9 times the distance in t seconds is 4731860 t at
+-- most.
 use Rattle.std.proofs.Common.{◌≡◌, ℕ, zero, suc, ◌+◌, ◌-◌, ◌*◌, ◌<◌, ◌≤◌, ◌⊎◌, inl, inr, ℤ, pos, negsuc, ◌+ℤ◌, ◌-ℤ◌, ◌*ℤ◌, ◌≤ℤ◌, ◌<ℤ◌, unsigned_abs, arith, sym, subst, mul-le-mul_left}
 use Rattle.std.proofs.Math.Nat.{mul-div-le, lt-mul-div-succ, le_of_mul-le-mul_left}
 use Rattle.std.proofs.lemmas.Int.{ints, unsigned_abs-mul}
@@ -6,7 +7,7 @@ use Rattle.std.proofs.lemmas.Nat.{mul-lt}
 use Rattle.std.specs.Int.{int_div_euclid}
 use Rattle.fixed_geometry.specs.Rounding.{rounded}
 use Rattle.motion.specs.Between.{between}
-use Rattle.motion.proofs.Signed.{polynomials, diff_of, diff_same}
+use Rattle.fixed_geometry.proofs.ForCallers.{polynomials, diff_of, diff_same}
 
 -- ---- the speed of a leg
 
@@ -33,10 +34,10 @@ one_component x y most h =
 
 -- ---- a part of a leg
 
--- q is nearest to s / b of the way
-record IsNear (way q : ℤ) (s b : ℕ) : Type 0 where
-  low : (pos (2 * b) *ℤ q) ≤ℤ (pos 2 *ℤ (way *ℤ pos s) +ℤ pos b)
-  high : (pos 2 *ℤ (way *ℤ pos s) +ℤ pos b) <ℤ (pos (2 * b) *ℤ q +ℤ pos (2 * b))
+-- q is nearest to s / b of the move
+record IsNear (move q : ℤ) (s b : ℕ) : Type 0 where
+  low : (pos (2 * b) *ℤ q) ≤ℤ (pos 2 *ℤ (move *ℤ pos s) +ℤ pos b)
+  high : (pos 2 *ℤ (move *ℤ pos s) +ℤ pos b) <ℤ (pos (2 * b) *ℤ q +ℤ pos (2 * b))
 
 floor_low : (z : ℤ) (d : ℕ) → 0 < d → (pos d *ℤ int_div_euclid z (pos d)) ≤ℤ z
 floor_low (pos a) d some = let h = mul-div-le a d in omega (arith, ints)
@@ -46,44 +47,44 @@ floor_high : (z : ℤ) (d : ℕ) → 0 < d → z <ℤ (pos d *ℤ int_div_euclid
 floor_high (pos a) d some = let h = lt-mul-div-succ a some in omega (arith, ints)
 floor_high (negsuc a) d some = let h = mul-div-le a d in omega (arith, ints)
 
-rounded_near : (way : ℤ) (s b : ℕ) → 0 < b → IsNear way (rounded (way *ℤ pos s) b) s b
+rounded_near : (move : ℤ) (s b : ℕ) → 0 < b → IsNear move (rounded (move *ℤ pos s) b) s b
 unfolding rounded
-rounded_near way s b some = record {
-  low = floor_low (pos 2 *ℤ (way *ℤ pos s) +ℤ pos b) (2 * b) (omega arith);
-  high = floor_high (pos 2 *ℤ (way *ℤ pos s) +ℤ pos b) (2 * b) (omega arith);
+rounded_near move s b some = record {
+  low = floor_low (pos 2 *ℤ (move *ℤ pos s) +ℤ pos b) (2 * b) (omega arith);
+  high = floor_high (pos 2 *ℤ (move *ℤ pos s) +ℤ pos b) (2 * b) (omega arith);
 }
 
-nothing_near : (way : ℤ) (b : ℕ) → 0 < b → IsNear way (pos 0) 0 b
-nothing_near way b some = record { low = omega (arith, ints); high = omega (arith, ints) }
+nothing_near : (move : ℤ) (b : ℕ) → 0 < b → IsNear move (pos 0) 0 b
+nothing_near move b some = record { low = omega (arith, ints); high = omega (arith, ints) }
 
-all_near : (way : ℤ) (b : ℕ) → 0 < b → IsNear way way b b
-all_near way b some =
-    let e : pos (2 * b) *ℤ way ≡ pos 2 *ℤ (way *ℤ pos b) = rw (← diff_of way) (simp polynomials (diff_same _ _ _ _ (omega arith))) in
+all_near : (move : ℤ) (b : ℕ) → 0 < b → IsNear move move b b
+all_near move b some =
+    let e : pos (2 * b) *ℤ move ≡ pos 2 *ℤ (move *ℤ pos b) = rw (← diff_of move) (simp polynomials (diff_same _ _ _ _ (omega arith))) in
     record { low = omega (arith, ints); high = omega (arith, ints) }
 
 apart : (b : ℕ) (p q : ℤ) → pos (2 * b) *ℤ q ≡ pos (2 * b) *ℤ p +ℤ pos 2 *ℤ (pos b *ℤ (q -ℤ p))
 apart b p q = rw (← diff_of p, ← diff_of q) (simp polynomials (diff_same _ _ _ _ (omega arith)))
 
-later : (way : ℤ) (s d : ℕ) → way *ℤ pos (s + d) ≡ way *ℤ pos s +ℤ way *ℤ pos d
-later way s d = rw (← diff_of way) (simp polynomials (diff_same _ _ _ _ (omega arith)))
+later : (move : ℤ) (s d : ℕ) → move *ℤ pos (s + d) ≡ move *ℤ pos s +ℤ move *ℤ pos d
+later move s d = rw (← diff_of move) (simp polynomials (diff_same _ _ _ _ (omega arith)))
 
 sizes : (a w : ℤ) (b most : ℕ) → 9 * unsigned_abs w ≤ most → a ≤ℤ (w +ℤ pos b) → (w -ℤ pos b) ≤ℤ a → 9 * unsigned_abs a ≤ most + 9 * b
 sizes a w b most h up down = omega (arith, ints)
 
--- two places on one way
-near_each_other : (way p q : ℤ) (s d b : ℕ) → 0 < b → 9 * unsigned_abs way ≤ 4731860 * b → IsNear way p s b → IsNear way q (s + d) b
+-- two places on one move
+near_each_other : (move p q : ℤ) (s d b : ℕ) → 0 < b → 9 * unsigned_abs move ≤ 4731860 * b → IsNear move p s b → IsNear move q (s + d) b
     → 9 * unsigned_abs (q -ℤ p) ≤ 4731860 * d + 9
-near_each_other way p q s d b some slow np nq =
+near_each_other move p q s d b some slow np nq =
     let a : ℤ = pos b *ℤ (q -ℤ p) in
     let e1 = apart b p q in
-    let e2 = later way s d in
+    let e2 = later move s d in
     let l1 = np.low in
     let h1 = np.high in
     let l2 = nq.low in
     let h2 = nq.high in
-    let wide : unsigned_abs (way *ℤ pos d) ≡ unsigned_abs way * d = unsigned_abs-mul way (pos d) in
-    let slower : d * (9 * unsigned_abs way) ≤ d * (4731860 * b) = mul-le-mul_left d slow in
-    let size : 9 * unsigned_abs a ≤ 4731860 * b * d + 9 * b = sizes a (way *ℤ pos d) b (4731860 * b * d) (omega arith) (omega (arith, ints)) (omega (arith, ints)) in
+    let wide : unsigned_abs (move *ℤ pos d) ≡ unsigned_abs move * d = unsigned_abs-mul move (pos d) in
+    let slower : d * (9 * unsigned_abs move) ≤ d * (4731860 * b) = mul-le-mul_left d slow in
+    let size : 9 * unsigned_abs a ≤ 4731860 * b * d + 9 * b = sizes a (move *ℤ pos d) b (4731860 * b * d) (omega arith) (omega (arith, ints)) (omega (arith, ints)) in
     let part : unsigned_abs a ≡ b * unsigned_abs (q -ℤ p) = unsigned_abs-mul (pos b) (q -ℤ p) in
     let scaled : b * (9 * unsigned_abs (q -ℤ p)) ≤ b * (4731860 * d + 9) = omega arith in
     le_of_mul-le-mul_left scaled some

@@ -1,11 +1,11 @@
 -- The legs between the reports of a vessel, and her state at a time.
 use Rattle.std.specs.Prelude.{ℕ, ◌≡◌, ◌+◌, ◌-◌, ◌*◌, ◌^◌, ◌≤◌, ◌<◌, ◌⊎◌, Bool, ◌&&◌, nat_le, List, length, Option, None, Some, IfSome, pos, ◌*ℤ◌, ◌≤ℤ◌}
-use Rattle.std.specs.List.{All, AllAdjacentBelow, AllPairs, filter, last_or}
+use Rattle.std.specs.List.{AllAdjacentBelow, filter, last_or}
 use Rattle.std.specs.Option.{option_map}
 use Rattle.fixed_geometry.specs.Plane.{norm2_of}
 use Rattle.fixed_geometry.specs.Sizes.{IsBelow, IsWithin}
 use Rattle.motion.specs.Between.{between}
-use Rattle.motion.specs.Ways.{way}
+use Rattle.motion.specs.Displacement.{displacement}
 use Rattle.motion.specs.declared.leg.Leg.{Leg}
 use Rattle.motion.specs.declared.leg.TickState.{TickState}
 
@@ -16,14 +16,9 @@ pub record IsLeg (leg : Leg) : Type 0 where
   pub short : leg.t2 - leg.t1 ≤ 3600
   pub begins : IsWithin 2222400000 leg.p1
   pub ends : IsWithin 2222400000 leg.p2
-  pub slow : (pos 81 *ℤ norm2_of (way leg.p1 leg.p2)) ≤ℤ pos (4630 * 1022 * (leg.t2 - leg.t1) * (4630 * 1022 * (leg.t2 - leg.t1)))
+  pub slow : (pos 81 *ℤ norm2_of (displacement leg.p1 leg.p2)) ≤ℤ pos (4630 * 1022 * (leg.t2 - leg.t1) * (4630 * 1022 * (leg.t2 - leg.t1)))
   pub direction : IfSome leg.direction (λ d. d < 3600)
   pub speed : IfSome leg.speed (λ v. v ≤ 1022)
-
--- legs of one vessel: none begins before an earlier one is over
-pub record AreLegs (legs : List Leg) : Type 0 where
-  pub each : All IsLeg legs
-  pub ordered : AllPairs (λ earlier later. earlier.t2 ≤ later.t1) legs
 
 -- A leg holds its two ends and the times between them.
 abbrev pub holds : ℕ → Leg → Bool
@@ -44,9 +39,10 @@ state_on t leg = record {
 unfoldable pub state_at : ℕ → List Leg → Option TickState
 state_at t legs = option_map (state_on t) (last_or None (filter (holds t) legs))
 
--- A vessel that is seen lies in the region, and heads and moves as a report can say.
-pub record IsTickState (state : TickState) : Type 0 where
-  pub point : IsWithin 2222400000 state.point
+-- A vessel lies at most so far from the origin in each component, and heads and moves as a report can say. In the region
+-- that is 2,222,400,000, and a predicted or planned one reaches 7,900,640,400.
+pub record IsTickState (size : ℕ) (state : TickState) : Type 0 where
+  pub point : IsWithin size state.point
   pub direction : IfSome state.direction (λ d. d < 3600)
   pub speed : IfSome state.speed (λ v. v ≤ 1022)
 
@@ -63,4 +59,4 @@ AreJoined gap legs = AllAdjacentBelow (λ earlier later. Meets earlier later ⊎
 -- than 2^25 in each component.
 abbrev pub MovesLittle : ℕ → List Leg → Type 0
 MovesLittle gap legs = (t u : ℕ) (before after : TickState) → t ≤ u → u ≤ t + 60 → u ≤ t + gap
-    → state_at t legs ≡ Some before → state_at u legs ≡ Some after → IsBelow (2 ^ 25) (way before.point after.point)
+    → state_at t legs ≡ Some before → state_at u legs ≡ Some after → IsBelow (2 ^ 25) (displacement before.point after.point)

@@ -8,7 +8,8 @@ use fixed_geometry::{Point, round_quotient};
 /// Where a vessel is at a time, and how she was last reported to head and to move.
 #[derive(Clone, Copy, Debug, PartialEq, Eq)]
 pub struct TickState {
-    /// In tenths of a millimetre, at most 2,222,400,000 from the origin in each component.
+    /// In tenths of a millimetre. A vessel seen on her legs lies at most 2,222,400,000 from the origin in each component, a
+    /// predicted or planned one at most 7,900,640,400.
     pub point: Point,
     /// Tenths of a degree clockwise from north, below 3600.
     pub direction: Option<u16>,
@@ -16,8 +17,8 @@ pub struct TickState {
     pub speed: Option<u16>,
 }
 
-/// The straight way of a vessel from one report of hers to the next, an hour later at most. Times are seconds since the
-/// Unix epoch.
+/// The straight track of a vessel from one report of hers to the next, an hour later at most. Times are seconds since the
+/// Unix epoch, points in tenths of a millimetre, at most 2,222,400,000 in each component.
 #[derive(Clone, Copy, Debug, PartialEq, Eq)]
 pub struct Leg {
     /// When the leg begins, and where.
@@ -26,9 +27,9 @@ pub struct Leg {
     /// When it ends, and where.
     pub t2: u64,
     pub p2: Point,
-    /// By the report at `t1`: tenths of a degree clockwise from north, below 3600.
+    /// Her direction by the report at `t1`: tenths of a degree clockwise from north, below 3600.
     pub direction: Option<u16>,
-    /// By the report at `t1`: tenths of a knot, at most 1022.
+    /// Her speed by the report at `t1`: tenths of a knot, at most 1022.
     pub speed: Option<u16>,
 }
 
@@ -41,8 +42,8 @@ fn scale(length: i64, factor: u64) -> i64
     length * factor as i64
 }
 
-/// One component of the place after a part of the way.
-fn part_way(from: i64, to: i64, since: u64, whole: u64) -> i64
+/// One component of the point after `since` of the leg's `whole` seconds.
+fn between(from: i64, to: i64, since: u64, whole: u64) -> i64
     requires from_small { unsigned_abs from ≤ 2222400000 }
     requires to_small { unsigned_abs to ≤ 2222400000 }
     requires some { 0 < whole }
@@ -68,14 +69,14 @@ impl Leg {
         requires begun { self.now.t1 ≤ time }
         requires not_over { time ≤ self.now.t2 }
         ensures value { result ≡ state_on time self.now }
-        ensures state { IsTickState result }
+        ensures state { IsTickState 2222400000 result }
     {
         let since = time - self.t1;
         let whole = self.t2 - self.t1;
         TickState {
             point: Point {
-                x: part_way(self.p1.x, self.p2.x, since, whole),
-                y: part_way(self.p1.y, self.p2.y, since, whole),
+                x: between(self.p1.x, self.p2.x, since, whole),
+                y: between(self.p1.y, self.p2.y, since, whole),
             },
             direction: self.direction,
             speed: self.speed,

@@ -2,7 +2,8 @@
 ghost use Rattle.std.specs.Prelude.{◌≡◌, ◌≤◌, ◌<◌, ◌++◌, ◌∷◌, [], ◌↔◌, None, length, IsTrue, IsNone, IfSome, OnOk, OnErr, false};
 ghost use Rattle.std.specs.List.{All, last_or};
 ghost use Rattle.std.specs.List.Sorted.{IsPartitionPoint};
-ghost use Rattle.motion.specs.TickStates.{state_at, holds, AreJoined, AreLegs, IsLeg, IsTickState, MovesLittle};
+ghost use Rattle.motion.specs.Inner.LegOrder.{AreLegs};
+ghost use Rattle.motion.specs.TickStates.{state_at, holds, AreJoined, IsLeg, IsTickState, MovesLittle};
 
 use crate::leg::{Leg, TickState};
 use outside::Memory;
@@ -28,7 +29,7 @@ pub struct Legs {
 impl Model for Legs {
     ghost use Rattle.std.specs.Prelude.{List};
     ghost use Rattle.motion.specs.declared.leg.Leg.{Leg};
-    ghost use Rattle.motion.specs.TickStates.{AreLegs};
+    ghost use Rattle.motion.specs.Inner.LegOrder.{AreLegs};
 
     ghost Value = { List Leg };
 
@@ -47,7 +48,9 @@ impl Legs {
         }
     }
 
-    /// Puts a leg after the others. Where there is no memory for it, the legs are as before.
+    /// Puts a leg after the others: it lasts at most an hour, lies in the region, and is no faster than 102.2 knots, the
+    /// greatest speed that ITU-R M.1371-5, Annex 8, section 3.1 can tell. Where there is no memory for it, the legs are as
+    /// before.
     pub fn push(&mut self, leg: Leg) -> Result<(), Memory>
         requires leg { IsLeg leg }
         requires after { IfSome (last_or None self.old) (λ last. last.t2 ≤ leg.t1) }
@@ -58,11 +61,12 @@ impl Legs {
         Ok(())
     }
 
-    /// The vessel's state at a time: on the last leg that holds it, or `None` where no leg does.
+    /// The vessel's state at a time, in seconds since the Unix epoch: on the last leg that holds it, or `None` where no leg
+    /// does.
     pub fn at(&self, time: u64) -> Option<TickState>
         ensures value { result ≡ state_at time self.now }
         ensures none { IsNone result ↔ All (λ leg. holds time leg ≡ false) self.now }
-        ensures state { IfSome result IsTickState }
+        ensures state { IfSome result (IsTickState 2222400000) }
     {
         let begun = begun(&self.legs, time);
         if begun == 0 {

@@ -1,7 +1,7 @@
 //! One step of two vessels.
 ghost use Rattle.std.specs.Prelude.{◌≡◌, ◌^◌, ◌↔◌, IsTrue, IsSome, IfSome};
 ghost use Rattle.fixed_geometry.specs.Sizes.{IsBelow};
-ghost use Rattle.motion.specs.Ways.{way};
+ghost use Rattle.motion.specs.Displacement.{displacement};
 
 use fixed_geometry::Point;
 use std::marker::Model;
@@ -12,8 +12,9 @@ fn is_below(p: Point, size: u64) -> bool
     p.x.unsigned_abs() < size && p.y.unsigned_abs() < size
 }
 
-/// From one tick to the next: the way from vessel A to vessel B at the first, `p`, and by how much it changes to the
-/// second, `w`. Between the ticks both move straight. A component of `p` is below 2^34 in size, one of `w` below 2^26.
+/// From one tick to the next: the displacement from vessel A to vessel B at the first, `p`, and by how much it changes to the
+/// second, `w`, in tenths of a millimetre. Between the ticks both move straight. A component of `p` is below 2^34 in size, one
+/// of `w` below 2^26.
 #[derive(Clone, Copy, Debug, PartialEq, Eq)]
 pub struct Step {
     p: Point,
@@ -35,7 +36,8 @@ impl Model for Step {
 }
 
 impl Step {
-    /// The step with these ways, or `None` where a component is too large.
+    /// The step with this displacement and this change, or `None` where a component is too large: 2^34 or more in size
+    /// for `p`, 2^26 or more for `w`.
     pub fn new(p: Point, w: Point) -> Option<Step>
         ensures value { IfSome result (λ s. s ≡ record { p = p; w = w }) }
         ensures some { IsSome result ↔ (IsBelow (2 ^ 34) p × IsBelow (2 ^ 26) w) }
@@ -47,26 +49,27 @@ impl Step {
         }
     }
 
-    /// The step of vessel A, from `a0` to `a1`, and vessel B, from `b0` to `b1`.
+    /// The step of vessel A, from `a0` to `a1`, and vessel B, from `b0` to `b1`. Components of the points are below 2^33 in
+    /// size, and each vessel moves by less than 2^25 in each.
     pub fn of(a0: Point, b0: Point, a1: Point, b1: Point) -> Step
         requires a0_small { IsBelow (2 ^ 33) a0 }
         requires b0_small { IsBelow (2 ^ 33) b0 }
         requires a1_small { IsBelow (2 ^ 33) a1 }
         requires b1_small { IsBelow (2 ^ 33) b1 }
-        requires a_moves { IsBelow (2 ^ 25) (way a0 a1) }
-        requires b_moves { IsBelow (2 ^ 25) (way b0 b1) }
-        ensures p { result.p ≡ way a0 b0 }
-        ensures w { result.w ≡ way (way a0 b0) (way a1 b1) }
+        requires a_moves { IsBelow (2 ^ 25) (displacement a0 a1) }
+        requires b_moves { IsBelow (2 ^ 25) (displacement b0 b1) }
+        ensures p { result.p ≡ displacement a0 b0 }
+        ensures w { result.w ≡ displacement (displacement a0 b0) (displacement a1 b1) }
     {
-        let p = difference(a0, b0);
-        let later = difference(a1, b1);
+        let p = displacement(a0, b0);
+        let later = displacement(a1, b1);
         Step {
             p,
-            w: difference(p, later),
+            w: displacement(p, later),
         }
     }
 
-    /// The way from vessel A to vessel B at the first tick.
+    /// The displacement from vessel A to vessel B at the first tick.
     pub fn p(&self) -> Point
         ensures value { result ≡ self.now.p }
         ensures small { IsBelow (2 ^ 34) result }
@@ -74,7 +77,7 @@ impl Step {
         self.p
     }
 
-    /// By how much the way changes to the second tick.
+    /// By how much the displacement changes to the second tick.
     pub fn w(&self) -> Point
         ensures value { result ≡ self.now.w }
         ensures small { IsBelow (2 ^ 26) result }
@@ -83,11 +86,11 @@ impl Step {
     }
 }
 
-/// The way from `a` to `b`.
-fn difference(a: Point, b: Point) -> Point
+/// The displacement from `a` to `b`.
+fn displacement(a: Point, b: Point) -> Point
     requires a_small { IsBelow (2 ^ 60) a }
     requires b_small { IsBelow (2 ^ 60) b }
-    ensures { result ≡ way a b }
+    ensures { result ≡ displacement a b }
 {
     Point {
         x: b.x - a.x,

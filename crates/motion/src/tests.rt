@@ -1,4 +1,5 @@
-ghost use Rattle.std.specs.Prelude.{◌≡◌};
+ghost use Rattle.std.specs.Prelude.{◌≡◌, ◌+◌, ◌<◌, ◌^◌};
+ghost use Rattle.motion.specs.TickStates.{IsLeg};
 
 use super::*;
 use fixed_geometry::Point;
@@ -30,6 +31,29 @@ fn the_later_of_two_legs_holds_the_time_at_which_they_meet(rt: HostRuntime) -> R
     assert_eq!(rt; state.direction, Some(0));
     assert_eq!(rt; state.point, corner);
     assert!(rt; legs.at(21).is_none());
+    Ok(())
+}
+
+/// A leg of ten seconds on which a vessel lies still.
+fn still(t1: u64) -> Leg
+    requires { t1 < 2 ^ 40 }
+    ensures leg { IsLeg result }
+    ensures begins { result.t1 ≡ t1 }
+    ensures ends { result.t2 ≡ t1 + 10 }
+{
+    let origin = Point { x: 0, y: 0 };
+    leg(t1, origin, t1 + 10, origin, 900)
+}
+
+#[test]
+fn fifty_legs_are_kept(rt: HostRuntime) -> Result<(), Fail> {
+    let mut legs = Legs::new(rt.alloc());
+    for k in 0..50 {
+        legs.push(still(10 * k))?;
+    }
+    assert_eq!(rt; legs.len(), 50);
+    assert!(rt; legs.at(495).is_some());
+    assert!(rt; legs.at(501).is_none());
     Ok(())
 }
 

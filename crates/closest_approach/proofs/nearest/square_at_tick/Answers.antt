@@ -1,7 +1,7 @@
 use Rattle.std.proofs.Common.{◌≡◌, ◌∙◌, ℕ, ℤ, pos, ◌+ℤ◌, ◌*ℤ◌, ap, ap₂, arith, rules}
 use Rattle.std.specs.Int.{w64}
 use Rattle.std.proofs.lemmas.Int.{ints, to_z-of_z}
-use Rattle.closest_approach.proofs.Signed.{read}
+use Rattle.fixed_geometry.proofs.ForCallers.{read}
 use Rattle.fixed_geometry.specs.declared.point.Point.{Point}
 use Rattle.closest_approach.proofs.Products.{norm2_of}
 use Rattle.closest_approach.proofs.nearest.square_at_tick.Goals as goal

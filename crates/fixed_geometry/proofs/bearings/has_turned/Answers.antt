@@ -3,7 +3,7 @@ use Rattle.std.specs.Int.{w64, w128}
 use Rattle.std.specs.Int.Signed.{le_z}
 use Rattle.std.proofs.lemmas.Int.{to_z-of_z}
 use Rattle.fixed_geometry.specs.declared.point.Point.{Point}
-use Rattle.fixed_geometry.proofs.Signed.{read}
+use Rattle.fixed_geometry.proofs.ForCallers.{read}
 use Rattle.fixed_geometry.proofs.FirstQuarter.{unit_of-first}
 use Rattle.fixed_geometry.proofs.bearings.has_turned.Goals as goal
 

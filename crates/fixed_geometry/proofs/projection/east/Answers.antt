@@ -2,11 +2,11 @@ use Rattle.std.proofs.Common.{◌≡◌, ℤ, pos, ◌-ℤ◌, ◌*ℤ◌, ap, a
 use Rattle.std.specs.Int.{w32, w64}
 use Rattle.std.proofs.lemmas.Int.{ints, to_z-of_z}
 use Rattle.fixed_geometry.specs.Rounding.{rounded}
-use Rattle.fixed_geometry.specs.Circle.{short_way}
+use Rattle.fixed_geometry.specs.Circle.{shorter_arc}
 use Rattle.fixed_geometry.specs.Compass.{cosine_of}
 use Rattle.fixed_geometry.specs.Place.{Place}
 use Rattle.fixed_geometry.specs.Projection.{tenths_of}
-use Rattle.fixed_geometry.proofs.Signed.{read}
+use Rattle.fixed_geometry.proofs.ForCallers.{read}
 use Rattle.fixed_geometry.proofs.projection.east.Goals as goal
 
 pub returns : goal.returns
@@ -14,8 +14,8 @@ returns c =
     let longitude0 = ap (λ (p : Place). p.longitude) c.reference.view_is in
     let latitude0 = ap (λ (p : Place). p.latitude) c.reference.view_is in
     let difference : c.difference.result ≡ c.args.lon -ℤ c.args.reference.longitude = omega (arith, ints) in
-    let way = read w64 c.round_the_circle-way.result _ (search rules) (c.round_the_circle-way.ensures.value ∙ ap (short_way 108000000) (read w64 c.difference.result _ (search rules) difference)) in
-    let length = read w64 c.length.result _ (search rules) (c.length.ensures.value ∙ ap (λ (z : ℤ). z *ℤ pos 1852) way) in
+    let arc = read w64 c.round_the_circle-arc.result _ (search rules) (c.round_the_circle-arc.ensures.value ∙ ap (shorter_arc 108000000) (read w64 c.difference.result _ (search rules) difference)) in
+    let length = read w64 c.length.result _ (search rules) (c.length.ensures.value ∙ ap (λ (z : ℤ). z *ℤ pos 1852) arc) in
     let cosine = read w64 c.latitude_cosine.result _ (search rules)
     (c.latitude_cosine.ensures.value ∙ ap (λ (z : ℤ). cosine_of (tenths_of z)) (to_z-of_z w32 c.reference.inside.latitude (search rules) ∙ latitude0)) in
     read w64 c.round_quotient.result _ (search rules) (c.round_quotient.ensures ∙ ap (λ (z : ℤ). rounded z 1000000)

@@ -2,7 +2,7 @@ use Rattle.std.proofs.Common.{arith, rules, to_z, of_z, ◌∙◌, ap, pos, ◌-
 use Rattle.std.specs.Int.{w32, w64}
 use Rattle.std.proofs.lemmas.Int.{ints, to_z-of_z}
 use Rattle.fixed_geometry.specs.Projection.{east_of}
-use Rattle.fixed_geometry.proofs.Signed.{read}
+use Rattle.fixed_geometry.proofs.ForCallers.{read}
 use Rattle.fixed_geometry.proofs.Region.{inside, beyond_north, beyond_east}
 use Rattle.fixed_geometry.proofs.projection.project.Goals as goal
 

@@ -1,5 +1,5 @@
 use Rattle.std.proofs.Common.{subst}
-use Rattle.motion.specs.TickStates.{AreLegs}
+use Rattle.motion.specs.Inner.LegOrder.{AreLegs}
 use Rattle.motion.proofs.Joined.{moves_little}
 use Rattle.motion.proofs.legs.Legs.moves_little.Goals as goal
 

@@ -4,14 +4,14 @@ use Rattle.std.proofs.lemmas.Int.{ints, to_z-of_z}
 use Rattle.fixed_geometry.specs.Rounding.{rounded}
 use Rattle.motion.specs.Between.{between}
 use Rattle.motion.proofs.Parts.{between_small}
-use Rattle.motion.proofs.leg.part_way.Goals as goal
+use Rattle.motion.proofs.leg.between.Goals as goal
 
 place : (c : goal.After-round_quotient) → c.args.from +ℤ c.round_quotient.result ≡ between c.args.from c.args.to c.args.since c.args.whole
 unfolding between
 place c =
-    let way : to_z w64 (of_z w64 (to_z w64 (of_z w64 c.args.to) -ℤ to_z w64 (of_z w64 c.args.from))) ≡ c.args.to -ℤ c.args.from = omega (arith, ints) in
+    let move : to_z w64 (of_z w64 (to_z w64 (of_z w64 c.args.to) -ℤ to_z w64 (of_z w64 c.args.from))) ≡ c.args.to -ℤ c.args.from = omega (arith, ints) in
     let scaled : to_z w64 (of_z w64 c.scale.result) ≡ (c.args.to -ℤ c.args.from) *ℤ pos c.args.since =
-    to_z-of_z w64 c.scale.result (search rules) ∙ (c.scale.ensures.value ∙ ap (λ (z : ℤ). z *ℤ pos c.args.since) way) in
+    to_z-of_z w64 c.scale.result (search rules) ∙ (c.scale.ensures.value ∙ ap (λ (z : ℤ). z *ℤ pos c.args.since) move) in
     ap (λ (z : ℤ). c.args.from +ℤ z) (c.round_quotient.ensures ∙ ap (λ (z : ℤ). rounded z c.args.whole) scaled)
 
 small : (c : goal.After-round_quotient) → unsigned_abs (c.args.from +ℤ c.round_quotient.result) ≤ 2222400000

@@ -1,6 +1,6 @@
--- Signed numbers: as they stand after a call, and equations of polynomials over them. For these each variable is read as a
--- difference of two naturals, sums and products of differences are differences again, and `omega` multiplies the naturals
--- out.
+-- Lemmas on whole numbers for this crate and the crates above: signed numbers as they stand after a call, and equations of
+-- polynomials over them. For these each variable is read as a difference of two naturals, sums and products of
+-- differences are differences again, and `omega` multiplies the naturals out.
 use Rattle.std.proofs.Common.{◌≡◌, ℕ, ◌+◌, ◌*◌, ℤ, pos, ◌+ℤ◌, ◌-ℤ◌, ◌*ℤ◌, neg_ℤ, arith, ap, to_z, of_z, FitsSigned, ◌∙◌}
 use Rattle.std.proofs.lemmas.Int.{ints, to_z-of_z}
 use Rattle.std.specs.Int.{Width}
