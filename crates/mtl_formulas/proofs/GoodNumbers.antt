@@ -16,13 +16,13 @@ use Rattle.mtl_formulas.specs.declared.tokens.Measure.{Measure}
 use Rattle.mtl_formulas.specs.declared.tokens.Measure.TheVariants as measures
 use Rattle.mtl_formulas.specs.declared.tokens.Token.{Token}
 use Rattle.mtl_formulas.specs.declared.tokens.Token.TheVariants as tokens
-use Rattle.mtl_formulas.specs.declared.tokens.Placed.{Placed}
+use Rattle.mtl_formulas.specs.declared.tokens.IndexedToken.{IndexedToken}
 use Rattle.mtl_formulas.specs.AtomWords.{word_of, number_of}
 use Rattle.mtl_formulas.specs.FormulaTree.{FormulaTree, leaf, negation, pair, span, link}
 use Rattle.mtl_formulas.specs.FormulaMeasures.{IsValidAtom, HasValidParts}
 use Rattle.mtl_formulas.specs.FormulaTokens.{is_letter, measured, plain_atoms, measure_token, word_token_from, word_token, number_token, sign_token, front_run, run_token, tokens_from, tokens_of, kinds}
 use Rattle.mtl_formulas.specs.FormulaGrammar.{Category, Phrase, plain, numbered, negated, over, grouped, alone, linked, one_conjunct, conjoined, one_disjunct, disjoined, unconditional, conditional, IsFormula}
-use Rattle.mtl_formulas.specs.FormulaReading.{is_refused_time, is_refused, is_refused_token, refused_places, in_positions}
+use Rattle.mtl_formulas.specs.FormulaReading.{is_refused_time, is_refused, is_refused_token, refused_indices, in_positions}
 
 -- seconds that are not refused
 pub record GoodTime (tick n : ℕ) : Type 0 where
@@ -205,32 +205,32 @@ abbrev pub AllPlain : List Token → Type 0
 AllPlain [] = Unit {0}
 AllPlain (t ∷ ts) = Plain t × AllPlain ts
 
-plain_tokens : (behind place : ℕ) (bs : List ℕ) → AllPlain (kinds (tokens_from behind place bs))
-plain_tokens behind place [] = tt
-plain_tokens (suc behind) place (b ∷ bs) = plain_tokens behind (place + 1) bs
-plain_tokens zero place (b ∷ bs) = by_cases (b == 32) (plain_tokens 0 (place + 1) bs) (plain_tokens (length (front_run (b ∷ bs)) - 1) (place + 1) bs)
+plain_tokens : (behind index : ℕ) (bs : List ℕ) → AllPlain (kinds (tokens_from behind index bs))
+plain_tokens behind index [] = tt
+plain_tokens (suc behind) index (b ∷ bs) = plain_tokens behind (index + 1) bs
+plain_tokens zero index (b ∷ bs) = by_cases (b == 32) (plain_tokens 0 (index + 1) bs) (plain_tokens (length (front_run (b ∷ bs)) - 1) (index + 1) bs)
   where
-    by_cases : (space : Bool) → AllPlain (kinds (tokens_from 0 (place + 1) bs)) → AllPlain (kinds (tokens_from (length (front_run (b ∷ bs)) - 1) (place + 1) bs)) →
-        AllPlain (kinds (cond space (tokens_from 0 (place + 1) bs) (record { token = run_token (front_run (b ∷ bs)); place = place } ∷ tokens_from (length (front_run (b ∷ bs)) - 1) (place + 1) bs)))
+    by_cases : (space : Bool) → AllPlain (kinds (tokens_from 0 (index + 1) bs)) → AllPlain (kinds (tokens_from (length (front_run (b ∷ bs)) - 1) (index + 1) bs)) →
+        AllPlain (kinds (cond space (tokens_from 0 (index + 1) bs) (record { token = run_token (front_run (b ∷ bs)); index = index } ∷ tokens_from (length (front_run (b ∷ bs)) - 1) (index + 1) bs)))
     by_cases true h k = h
     by_cases false h k = ((plain_run (front_run (b ∷ bs))).plain, k)
 
-none_left : (b : Bool) (place : ℕ) (rest : List ℕ) → cond b (place ∷ []) [] ++ rest ≡ [] → (b ≡ false) × (rest ≡ [])
-none_left true place rest h = cc
-none_left false place rest h = (refl, h)
+none_left : (b : Bool) (index : ℕ) (rest : List ℕ) → cond b (index ∷ []) [] ++ rest ≡ [] → (b ≡ false) × (rest ≡ [])
+none_left true index rest h = cc
+none_left false index rest h = (refl, h)
 
 token_accepted : (tick : ℕ) (before : List Token) (t : Token) → Plain t → is_refused_token tick before t ≡ false → Accepted tick before t
 token_accepted tick before (tokens.Number n) h k = k
 token_accepted tick before (tokens.Atom a) h k = h
 token_accepted tick before _ h k = tt
 
--- With no refused place each token is accepted.
-all_accepted : (tick : ℕ) (before : List Token) (ps : List Placed) → AllPlain (kinds ps) → refused_places tick before ps ≡ [] → AllAccepted tick before (kinds ps)
+-- With no refused index each token is accepted.
+all_accepted : (tick : ℕ) (before : List Token) (ps : List IndexedToken) → AllPlain (kinds ps) → refused_indices tick before ps ≡ [] → AllAccepted tick before (kinds ps)
 all_accepted tick before [] h none = tt
 all_accepted tick before (p ∷ ps) h none =
-    let split = none_left (is_refused_token tick before p.token) p.place (refused_places tick (p.token ∷ before) ps) none in
+    let split = none_left (is_refused_token tick before p.token) p.index (refused_indices tick (p.token ∷ before) ps) none in
     (token_accepted tick before p.token h.0 split.0, all_accepted tick (p.token ∷ before) ps h.1 split.1)
 
 -- A formula without a refused number has a good tree.
-pub formula_good : (tick : ℕ) (text : List ℕ) (t : FormulaTree) → IsFormula (kinds (tokens_of text)) t → refused_places tick [] (tokens_of text) ≡ [] → Good tick t
+pub formula_good : (tick : ℕ) (text : List ℕ) (t : FormulaTree) → IsFormula (kinds (tokens_of text)) t → refused_indices tick [] (tokens_of text) ≡ [] → Good tick t
 formula_good tick text t p none = (splits tick p [] (all_accepted tick [] (tokens_of text) (plain_tokens 0 0 text) none)).good

@@ -4,31 +4,31 @@ use Rattle.std.specs.Prelude.{IfSome, IfOk}
 use Rattle.mtl_formulas.specs.declared.formula.Formula.{Formula}
 use Rattle.mtl_formulas.specs.declared.parsing.ParseFault.{ParseFault}
 use Rattle.mtl_formulas.specs.declared.parsing.ParseFault.TheVariants as faults
-use Rattle.mtl_formulas.specs.declared.steps.Step.{Step}
+use Rattle.mtl_formulas.specs.declared.postfix.PostfixItem.{PostfixItem}
 use Rattle.mtl_formulas.specs.FormulaTree.{FormulaTree, tree_of}
 use Rattle.mtl_formulas.specs.FormulaMeasures.{HasValidParts, IsValid}
 use Rattle.mtl_formulas.specs.FormulaTokens.{tokens_of, kinds}
 use Rattle.mtl_formulas.specs.FormulaGrammar.{IsFormula}
-use Rattle.mtl_formulas.specs.FormulaReading.{refused_places, in_positions, IsReading, IsSyntaxFault, IsNumberFault, IsWithinLimits, IsTooLarge, Meaning, tree, syntax_fault, number_fault, size_fault, IsMeaning, answered}
-use Rattle.mtl_formulas.specs.ParserSteps.{steps_of, read, at_start, Arranges}
-use Rattle.mtl_formulas.specs.Building.{Builds}
+use Rattle.mtl_formulas.specs.FormulaReading.{refused_indices, in_positions, IsReading, IsSyntaxFault, IsNumberFault, IsWithinLimits, IsTooLarge, Meaning, tree, syntax_fault, number_fault, size_fault, IsMeaning, answered}
+use Rattle.mtl_formulas.specs.Inner.Postfix.{postfix_of, read, at_start, Arranges}
+use Rattle.mtl_formulas.specs.Inner.Building.{Builds}
 use Rattle.mtl_formulas.proofs.Faults.{read_formula, formula_read, read_fault, fault_read}
 use Rattle.mtl_formulas.proofs.Trees.{same_tree}
 use Rattle.mtl_formulas.proofs.GoodNumbers.{formula_good, good_valid}
 
 -- what the parser makes of the tokens
-abbrev pub outcome : List ℕ → Result (List Step) ℕ
+abbrev pub outcome : List ℕ → Result (List PostfixItem) ℕ
 outcome text = read (length text) at_start (tokens_of text)
 
 module _ (text : List ℕ) (tick : ℕ) where
-  reading_outcome : (t : FormulaTree) (h : IsReading text tick t) → outcome text ≡ Ok (steps_of h.written)
+  reading_outcome : (t : FormulaTree) (h : IsReading text tick t) → outcome text ≡ Ok (postfix_of h.written)
   reading_outcome t h = formula_read (length text) (tokens_of text) h.written h.formula
 
   same_reading : (s t : FormulaTree) → IsReading text tick s → IsReading text tick t → s ≡ t
   same_reading s t h k =
       let first = reading_outcome s h in
       let second = reading_outcome t k in
-      let same : steps_of h.written ≡ steps_of k.written = cc in
+      let same : postfix_of h.written ≡ postfix_of k.written = cc in
       h.positions ∙ (same_tree tick h.written k.written same ∙ sym k.positions)
 
   within_large : (t : FormulaTree) → IsWithinLimits t → IsTooLarge t → ⊥
@@ -39,7 +39,7 @@ module _ (text : List ℕ) (tick : ℕ) where
   syntax_outcome : (p : ℕ) → IsSyntaxFault text p → outcome text ≡ Err p
   syntax_outcome p h = fault_read (length text) (tokens_of text) p h
 
-  number_outcome : (p : ℕ) (h : IsNumberFault text tick p) → outcome text ≡ Ok (steps_of h.written)
+  number_outcome : (p : ℕ) (h : IsNumberFault text tick p) → outcome text ≡ Ok (postfix_of h.written)
   number_outcome p h = formula_read (length text) (tokens_of text) h.written h.formula
 
   -- A text has one meaning.
@@ -67,19 +67,19 @@ module _ (text : List ℕ) (tick : ℕ) where
   only_answer (Some n) h m k = one_meaning n m h k
 
   -- what can be built where no number is refused
-  pub can_build : (c : List Step) → outcome text ≡ Ok c → refused_places tick [] (tokens_of text) ≡ [] → 1 ≤ tick →
-      (t : FormulaTree) × (c ≡ steps_of t) × HasValidParts (in_positions tick t)
+  pub can_build : (c : List PostfixItem) → outcome text ≡ Ok c → refused_indices tick [] (tokens_of text) ≡ [] → 1 ≤ tick →
+      (t : FormulaTree) × (c ≡ postfix_of t) × HasValidParts (in_positions tick t)
   can_build c is none some =
       let (t, p, same) = read_formula (length text) (tokens_of text) c is in
       (t, same, good_valid tick t some (formula_good tick text t p none))
 
-  pub number_answer : (c : List Step) (place : ℕ) (more : List ℕ) → outcome text ≡ Ok c → refused_places tick [] (tokens_of text) ≡ place ∷ more → IsNumberFault text tick place
-  number_answer c place more is first =
+  pub number_answer : (c : List PostfixItem) (index : ℕ) (more : List ℕ) → outcome text ≡ Ok c → refused_indices tick [] (tokens_of text) ≡ index ∷ more → IsNumberFault text tick index
+  number_answer c index more is first =
       let (t, p, same) = read_formula (length text) (tokens_of text) c is in
       record { written = t; formula = p; more = more; first = first }
 
-  pub built_answer : (c : List Step) (r : Result Formula ParseFault) → outcome text ≡ Ok c → refused_places tick [] (tokens_of text) ≡ [] →
-      ((t : FormulaTree) → c ≡ steps_of t → Builds r (in_positions tick t)) → IfSome (answered r) (IsMeaning text tick)
+  pub built_answer : (c : List PostfixItem) (r : Result Formula ParseFault) → outcome text ≡ Ok c → refused_indices tick [] (tokens_of text) ≡ [] →
+      ((t : FormulaTree) → c ≡ postfix_of t → Builds r (in_positions tick t)) → IfSome (answered r) (IsMeaning text tick)
   built_answer c r is none builds =
       let (t, p, same) = read_formula (length text) (tokens_of text) c is in
       by_cases t p r (builds t same)
@@ -91,18 +91,18 @@ module _ (text : List ℕ) (tick : ℕ) where
       by_cases t p (Err (faults.Syntax q)) h = absurd h
       by_cases t p (Err (faults.Number q)) h = absurd h
 
-  pub syntax_answer : (place : ℕ) → outcome text ≡ Err place → IsSyntaxFault text place
-  syntax_answer place is = read_fault (length text) (tokens_of text) place is
+  pub syntax_answer : (index : ℕ) → outcome text ≡ Err index → IsSyntaxFault text index
+  syntax_answer index is = read_fault (length text) (tokens_of text) index is
 
   pub arranged_fault : (e : ParseFault) → Arranges (Err e) (outcome text) → IfSome (answered (Err e)) (IsMeaning text tick)
-  arranged_fault (faults.Syntax place) h = syntax_answer place h
+  arranged_fault (faults.Syntax index) h = syntax_answer index h
   arranged_fault faults.Memory h = tt
-  arranged_fault (faults.Number place) h = absurd h
+  arranged_fault (faults.Number index) h = absurd h
   arranged_fault faults.Size h = absurd h
 
   -- what was built is valid
-  pub built_valid : (c : List Step) (r : Result Formula ParseFault) → ((t : FormulaTree) × (c ≡ steps_of t) × HasValidParts (in_positions tick t)) →
-      ((t : FormulaTree) → c ≡ steps_of t → Builds r (in_positions tick t)) → IfOk r (λ f. IsValid (tree_of f))
+  pub built_valid : (c : List PostfixItem) (r : Result Formula ParseFault) → ((t : FormulaTree) × (c ≡ postfix_of t) × HasValidParts (in_positions tick t)) →
+      ((t : FormulaTree) → c ≡ postfix_of t → Builds r (in_positions tick t)) → IfOk r (λ f. IsValid (tree_of f))
   built_valid c r can builds = let (t, same, valid) = can in by_cases t valid r (builds t same)
     where
       by_cases : (t : FormulaTree) → HasValidParts (in_positions tick t) → (r : Result Formula ParseFault) → Builds r (in_positions tick t) → IfOk r (λ f. IsValid (tree_of f))

@@ -3,8 +3,8 @@ use Rattle.std.proofs.Common.{◌≡◌, ℕ, Bool, true, false, List, [], ◌�
 use Rattle.mtl_formulas.specs.declared.tokens.Token.{Token}
 use Rattle.mtl_formulas.specs.declared.tokens.Token.TheVariants as tokens
 use Rattle.mtl_formulas.specs.declared.tokens.Measure.TheVariants as measures
-use Rattle.mtl_formulas.specs.declared.tokens.Placed.{Placed}
-use Rattle.mtl_formulas.specs.FormulaReading.{is_refused, is_refused_token, refused_places}
+use Rattle.mtl_formulas.specs.declared.tokens.IndexedToken.{IndexedToken}
+use Rattle.mtl_formulas.specs.FormulaReading.{is_refused, is_refused_token, refused_indices}
 
 -- the nearest token, where there is one
 abbrev pub nearest : List Token → Token
@@ -31,23 +31,23 @@ two_decide_token : (tick : ℕ) (before : List Token) (t : Token) → is_refused
 two_decide_token tick before (tokens.Number n) = two_decide tick before n
 two_decide_token tick before _ = refl
 
-module _ (tick : ℕ) (all : List Placed) where
+module _ (tick : ℕ) (all : List IndexedToken) where
   -- no number before those that are left is refused
-  pub record Scanned (left : List Placed) (earlier previous : Token) : Type 0 where
+  pub record Scanned (left : List IndexedToken) (earlier previous : Token) : Type 0 where
     pub before : List Token
     pub earlier_is : earlier ≡ next_nearest before
     pub previous_is : previous ≡ nearest before
-    pub same : refused_places tick [] all ≡ refused_places tick before left
+    pub same : refused_indices tick [] all ≡ refused_indices tick before left
 
   pub scanned_none : Scanned all tokens.Wrong tokens.Wrong
   scanned_none = record { before = []; earlier_is = refl; previous_is = refl; same = refl }
 
-  refusal_here : (left : List Placed) (earlier previous : Token) (p : Placed) (b : Bool) (h : Scanned (p ∷ left) earlier previous) →
+  refusal_here : (left : List IndexedToken) (earlier previous : Token) (p : IndexedToken) (b : Bool) (h : Scanned (p ∷ left) earlier previous) →
       b ≡ is_refused_token tick (previous ∷ earlier ∷ []) p.token → is_refused_token tick h.before p.token ≡ b
   refusal_here left earlier previous p b h is =
       sym (two_decide_token tick h.before p.token) ∙ sym (rw (h.earlier_is, h.previous_is) at is)
 
-  pub scanned_more : (left : List Placed) (earlier previous : Token) (p : Placed) → Scanned (p ∷ left) earlier previous →
+  pub scanned_more : (left : List IndexedToken) (earlier previous : Token) (p : IndexedToken) → Scanned (p ∷ left) earlier previous →
       false ≡ is_refused_token tick (previous ∷ earlier ∷ []) p.token → Scanned left previous p.token
   scanned_more left earlier previous p h is = record {
     before = p.token ∷ h.before;
@@ -56,7 +56,7 @@ module _ (tick : ℕ) (all : List Placed) where
     same = h.same ∙ (rw (refusal_here left earlier previous p false h is) refl);
   }
 
-  pub scanned_found : (left : List Placed) (earlier previous : Token) (p : Placed) → Scanned (p ∷ left) earlier previous →
-      true ≡ is_refused_token tick (previous ∷ earlier ∷ []) p.token → (more : List ℕ) × (refused_places tick [] all ≡ p.place ∷ more)
+  pub scanned_found : (left : List IndexedToken) (earlier previous : Token) (p : IndexedToken) → Scanned (p ∷ left) earlier previous →
+      true ≡ is_refused_token tick (previous ∷ earlier ∷ []) p.token → (more : List ℕ) × (refused_indices tick [] all ≡ p.index ∷ more)
   scanned_found left earlier previous p h is =
-      (refused_places tick (p.token ∷ h.before) left, h.same ∙ (rw (refusal_here left earlier previous p true h is) refl))
+      (refused_indices tick (p.token ∷ h.before) left, h.same ∙ (rw (refusal_here left earlier previous p true h is) refl))

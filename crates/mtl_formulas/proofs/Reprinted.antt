@@ -18,12 +18,12 @@ use Rattle.mtl_formulas.specs.declared.tokens.Measure.{Measure}
 use Rattle.mtl_formulas.specs.declared.tokens.Measure.TheVariants as measures
 use Rattle.mtl_formulas.specs.declared.tokens.Token.{Token}
 use Rattle.mtl_formulas.specs.declared.tokens.Token.TheVariants as tokens
-use Rattle.mtl_formulas.specs.declared.tokens.Placed.{Placed}
+use Rattle.mtl_formulas.specs.declared.tokens.IndexedToken.{IndexedToken}
 use Rattle.mtl_formulas.specs.FormulaTree.{FormulaTree, leaf, negation, pair, span, link}
 use Rattle.mtl_formulas.specs.FormulaText.{atom_text, pair_sign, span_letter, link_letter, bounds_text, text_of}
 use Rattle.mtl_formulas.specs.FormulaTokens.{is_letter, is_word_byte, word_token, tokens_of, kinds}
 use Rattle.mtl_formulas.specs.FormulaGrammar.{unary, formula, bounds, Phrase, plain, numbered, negated, over, grouped, alone, linked, one_conjunct, conjoined, one_disjunct, disjoined, unconditional, conditional, IsFormula}
-use Rattle.mtl_formulas.specs.FormulaReading.{is_refused_time, is_refused, is_refused_token, refused_places, in_positions, IsReading}
+use Rattle.mtl_formulas.specs.FormulaReading.{is_refused_time, is_refused, is_refused_token, refused_indices, in_positions, IsReading}
 use Rattle.mtl_formulas.proofs.GoodNumbers.{GoodTime, GoodAtom, GoodBounds, Good, formula_good}
 use Rattle.mtl_formulas.proofs.TokenRuns.{text_kinds, space_kinds, run_kinds, word_kinds, Stops, atom_kinds, number_kinds}
 
@@ -101,7 +101,7 @@ printed_accepted tick (span kind l u t) after h rest before = (refl, bounds_acce
 printed_accepted tick (link kind l u s t) after h rest before =
     (refl, printed_accepted tick s _ h.1.0 (λ b. (refl, bounds_accepted tick l u _ _ h.0 (λ d. printed_accepted tick t _ h.1.1 (λ e. (refl, rest _)) d))) _)
 
-none_refused : (tick : ℕ) (before : List Token) (ps : List Placed) → NoneRefused tick before (kinds ps) → refused_places tick before ps ≡ []
+none_refused : (tick : ℕ) (before : List Token) (ps : List IndexedToken) → NoneRefused tick before (kinds ps) → refused_indices tick before ps ≡ []
 none_refused tick before [] h = refl
 none_refused tick before (p ∷ ps) h = rw h.0 (none_refused tick (p.token ∷ before) ps h.1)
 

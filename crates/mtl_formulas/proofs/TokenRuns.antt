@@ -18,7 +18,7 @@ use Rattle.mtl_formulas.specs.AtomWords.{word_of, number_of}
 use Rattle.mtl_formulas.specs.FormulaTokens.{is_letter, is_word_byte, word_token, front_run, run_token, tokens_from, kinds}
 use Rattle.mtl_formulas.proofs.TokenSteps.{tokens_behind}
 
--- The place does not matter to the kinds.
+-- The index does not matter to the kinds.
 kinds_anywhere : (behind p q : ℕ) (bs : List ℕ) → kinds (tokens_from behind p bs) ≡ kinds (tokens_from behind q bs)
 kinds_anywhere behind p q [] = refl
 kinds_anywhere (suc behind) p q (b ∷ bs) = kinds_anywhere behind (p + 1) (q + 1) bs
@@ -26,8 +26,8 @@ kinds_anywhere zero p q (b ∷ bs) = by_cases (b == 32) (kinds_anywhere 0 (p + 1
   where
     by_cases : (space : Bool) → kinds (tokens_from 0 (p + 1) bs) ≡ kinds (tokens_from 0 (q + 1) bs) →
         kinds (tokens_from (length (front_run (b ∷ bs)) - 1) (p + 1) bs) ≡ kinds (tokens_from (length (front_run (b ∷ bs)) - 1) (q + 1) bs) →
-        kinds (cond space (tokens_from 0 (p + 1) bs) (record { token = run_token (front_run (b ∷ bs)); place = p } ∷ tokens_from (length (front_run (b ∷ bs)) - 1) (p + 1) bs))
-        ≡ kinds (cond space (tokens_from 0 (q + 1) bs) (record { token = run_token (front_run (b ∷ bs)); place = q } ∷ tokens_from (length (front_run (b ∷ bs)) - 1) (q + 1) bs))
+        kinds (cond space (tokens_from 0 (p + 1) bs) (record { token = run_token (front_run (b ∷ bs)); index = p } ∷ tokens_from (length (front_run (b ∷ bs)) - 1) (p + 1) bs))
+        ≡ kinds (cond space (tokens_from 0 (q + 1) bs) (record { token = run_token (front_run (b ∷ bs)); index = q } ∷ tokens_from (length (front_run (b ∷ bs)) - 1) (q + 1) bs))
     by_cases true h k = h
     by_cases false h k = ap (λ (ts : List Token). run_token (front_run (b ∷ bs)) ∷ ts) k
 

@@ -65,58 +65,58 @@ least_over-same f g start (suc count) same =
 pub greatest_over-ahead : (f : ℕ → Verdict) (i lower distance : ℕ) (now so_far here : Verdict) → lower ≤ distance
     → now ≡ greatest so_far here → so_far ≡ greatest_over f (i + lower) (distance - lower) → here ≡ f (i + distance)
     → now ≡ greatest_over f (i + lower) ((distance + 1) - lower)
-greatest_over-ahead f i lower distance now so_far here ordered step before at =
+greatest_over-ahead f i lower distance now so_far here ordered item before at =
     let more : (distance + 1) - lower ≡ suc (distance - lower) = omega arith in
-    let place : (i + lower) + (distance - lower) ≡ i + distance = omega arith in
-    rw (more, greatest_over-suc f (i + lower) (distance - lower), place, ← before, ← at) step
+    let index : (i + lower) + (distance - lower) ≡ i + distance = omega arith in
+    rw (more, greatest_over-suc f (i + lower) (distance - lower), index, ← before, ← at) item
 
 pub least_over-ahead : (f : ℕ → Verdict) (i lower distance : ℕ) (now so_far here : Verdict) → lower ≤ distance
     → now ≡ least so_far here → so_far ≡ least_over f (i + lower) (distance - lower) → here ≡ f (i + distance)
     → now ≡ least_over f (i + lower) ((distance + 1) - lower)
-least_over-ahead f i lower distance now so_far here ordered step before at =
+least_over-ahead f i lower distance now so_far here ordered item before at =
     let more : (distance + 1) - lower ≡ suc (distance - lower) = omega arith in
-    let place : (i + lower) + (distance - lower) ≡ i + distance = omega arith in
-    rw (more, least_over-suc f (i + lower) (distance - lower), place, ← before, ← at) step
+    let index : (i + lower) + (distance - lower) ≡ i + distance = omega arith in
+    rw (more, least_over-suc f (i + lower) (distance - lower), index, ← before, ← at) item
 
 pub least_over-one_more : (f : ℕ → Verdict) (i distance : ℕ) (now so_far here : Verdict)
     → now ≡ least so_far here → so_far ≡ least_over f i distance → here ≡ f (i + distance)
     → now ≡ least_over f i (distance + 1)
-least_over-one_more f i distance now so_far here step before at =
+least_over-one_more f i distance now so_far here item before at =
     let more : distance + 1 ≡ suc distance = omega arith in
-    rw (more, least_over-suc f i distance, ← before, ← at) step
+    rw (more, least_over-suc f i distance, ← before, ← at) item
 
 -- One more position of a window that looks back, and that holds all before an end.
 pub greatest_over-back : (f : ℕ → Verdict) (i end distance : ℕ) (now here so_far : Verdict) → distance ≤ i → (i + 1) - distance ≤ end
     → now ≡ greatest here so_far → here ≡ f (i - distance) → so_far ≡ greatest_over f ((i + 1) - distance) (end - ((i + 1) - distance))
     → now ≡ greatest_over f ((i + 1) - (distance + 1)) (end - ((i + 1) - (distance + 1)))
-greatest_over-back f i end distance now here so_far inside ends step at before =
+greatest_over-back f i end distance now here so_far inside ends item at before =
     let start : (i + 1) - (distance + 1) ≡ i - distance = omega arith in
     let next : (i - distance) + 1 ≡ (i + 1) - distance = omega arith in
     let more : end - (i - distance) ≡ suc (end - ((i + 1) - distance)) = omega arith in
-    rw (start, more, next, ← before, ← at) step
+    rw (start, more, next, ← before, ← at) item
 
 pub least_over-back : (f : ℕ → Verdict) (i end distance : ℕ) (now here so_far : Verdict) → distance ≤ i → (i + 1) - distance ≤ end
     → now ≡ least here so_far → here ≡ f (i - distance) → so_far ≡ least_over f ((i + 1) - distance) (end - ((i + 1) - distance))
     → now ≡ least_over f ((i + 1) - (distance + 1)) (end - ((i + 1) - (distance + 1)))
-least_over-back f i end distance now here so_far inside ends step at before =
+least_over-back f i end distance now here so_far inside ends item at before =
     let start : (i + 1) - (distance + 1) ≡ i - distance = omega arith in
     let next : (i - distance) + 1 ≡ (i + 1) - distance = omega arith in
     let more : end - (i - distance) ≡ suc (end - ((i + 1) - distance)) = omega arith in
-    rw (start, more, next, ← before, ← at) step
+    rw (start, more, next, ← before, ← at) item
 
 -- b at a position, and a from i on before it
 pub until_at : (a b : ℕ → Verdict) (i distance : ℕ) (here b_here before : Verdict)
     → here ≡ least b_here before → b_here ≡ b (i + distance) → before ≡ least_over a i distance
     → here ≡ least (b (i + distance)) (least_over a i ((i + distance) - i))
-until_at a b i distance here b_here before step at run =
+until_at a b i distance here b_here before item at run =
     let count : (i + distance) - i ≡ distance = omega arith in
-    rw (count, ← run, ← at) step
+    rw (count, ← run, ← at) item
 
 -- b at a position, and a after it up to i
 pub since_at : (a b : ℕ → Verdict) (i distance : ℕ) (here b_here after : Verdict) → distance ≤ i
     → here ≡ least b_here after → b_here ≡ b (i - distance) → after ≡ least_over a ((i + 1) - distance) ((i + 1) - ((i + 1) - distance))
     → here ≡ least (b (i - distance)) (least_over a ((i - distance) + 1) (i - (i - distance)))
-since_at a b i distance here b_here after inside step at run =
+since_at a b i distance here b_here after inside item at run =
     let next : (i - distance) + 1 ≡ (i + 1) - distance = omega arith in
     let count : i - (i - distance) ≡ (i + 1) - ((i + 1) - distance) = omega arith in
-    rw (next, count, ← run, ← at) step
+    rw (next, count, ← run, ← at) item

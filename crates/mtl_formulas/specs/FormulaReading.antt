@@ -6,7 +6,7 @@ use Rattle.mtl_formulas.specs.declared.parsing.ParseFault.TheVariants as faults
 use Rattle.mtl_formulas.specs.declared.tokens.Measure.TheVariants as measures
 use Rattle.mtl_formulas.specs.declared.tokens.Token.{Token}
 use Rattle.mtl_formulas.specs.declared.tokens.Token.TheVariants as tokens
-use Rattle.mtl_formulas.specs.declared.tokens.Placed.{Placed}
+use Rattle.mtl_formulas.specs.declared.tokens.IndexedToken.{IndexedToken}
 use Rattle.mtl_formulas.specs.FormulaTree.{FormulaTree, leaf, negation, pair, span, link, tree_of}
 use Rattle.mtl_formulas.specs.FormulaMeasures.{depth_of, node_count, reach_of}
 use Rattle.mtl_formulas.specs.FormulaTokens.{tokens_of, kinds}
@@ -30,11 +30,11 @@ abbrev pub is_refused_token : ℕ → List Token → Token → Bool
 is_refused_token tick before (tokens.Number n) = is_refused tick before n
 is_refused_token tick before _ = false
 
--- the places of the refused numbers, in the order of the text
-abbrev pub refused_places : ℕ → List Token → List Placed → List ℕ
-refused_places tick before [] = []
-refused_places tick before (p ∷ ps) =
-    (if is_refused_token tick before p.token then p.place ∷ [] else []) ++ refused_places tick (p.token ∷ before) ps
+-- the indices of the refused numbers, in the order of the text
+abbrev pub refused_indices : ℕ → List Token → List IndexedToken → List ℕ
+refused_indices tick before [] = []
+refused_indices tick before (p ∷ ps) =
+    (if is_refused_token tick before p.token then p.index ∷ [] else []) ++ refused_indices tick (p.token ∷ before) ps
 
 -- the tree with its bounds in positions
 abbrev pub in_positions : ℕ → FormulaTree → FormulaTree
@@ -48,34 +48,34 @@ in_positions tick (link kind l u s t) = link kind (l / tick) (u / tick) (in_posi
 pub record IsReading (text : List ℕ) (tick : ℕ) (t : FormulaTree) : Type 0 where
   pub written : FormulaTree
   pub formula : IsFormula (kinds (tokens_of text)) written
-  pub numbers : refused_places tick [] (tokens_of text) ≡ []
+  pub numbers : refused_indices tick [] (tokens_of text) ≡ []
   pub positions : t ≡ in_positions tick written
 
--- A formula begins with the tokens before this place, and none with them and the token at it.
-pub record IsFirstWrong (ps : List Placed) (place : ℕ) : Type 0 where
-  pub before : List Placed
-  pub wrong : Placed
-  pub after : List Placed
+-- A formula begins with the tokens before this index, and none with them and the token at it.
+pub record IsFirstWrong (ps : List IndexedToken) (index : ℕ) : Type 0 where
+  pub before : List IndexedToken
+  pub wrong : IndexedToken
+  pub after : List IndexedToken
   pub parts : ps ≡ before ++ wrong ∷ after
   pub right : IsBeginning (kinds before)
   pub none : IsBeginning (kinds before ++ wrong.token ∷ []) → ⊥
-  pub at : place ≡ wrong.place
+  pub at : index ≡ wrong.index
 
 -- A formula begins with the tokens, but they are none.
-pub record IsUnfinished (ps : List Placed) : Type 0 where
+pub record IsUnfinished (ps : List IndexedToken) : Type 0 where
   pub right : IsBeginning (kinds ps)
   pub none : (t : FormulaTree) → IsFormula (kinds ps) t → ⊥
 
--- The text is no formula: the place of the first wrong token, or the text's length where none is wrong.
+-- The text is no formula: the index of the first wrong token, or the text's length where none is wrong.
 abbrev pub IsSyntaxFault : List ℕ → ℕ → Type 0
-IsSyntaxFault text place = IsFirstWrong (tokens_of text) place ⊎ IsUnfinished (tokens_of text) × (place ≡ length text)
+IsSyntaxFault text index = IsFirstWrong (tokens_of text) index ⊎ IsUnfinished (tokens_of text) × (index ≡ length text)
 
--- The text is a formula: the place of the first refused number.
-pub record IsNumberFault (text : List ℕ) (tick place : ℕ) : Type 0 where
+-- The text is a formula: the index of the first refused number.
+pub record IsNumberFault (text : List ℕ) (tick index : ℕ) : Type 0 where
   pub written : FormulaTree
   pub formula : IsFormula (kinds (tokens_of text)) written
   pub more : List ℕ
-  pub first : refused_places tick [] (tokens_of text) ≡ place ∷ more
+  pub first : refused_indices tick [] (tokens_of text) ≡ index ∷ more
 
 abbrev pub IsWithinLimits : FormulaTree → Type 0
 IsWithinLimits t = (depth_of t ≤ 64) × (node_count t ≤ 256) × (reach_of t ≤ 7200)
@@ -92,14 +92,14 @@ pub data Meaning : Type 0 where
 -- what the text means at a tick
 abbrev pub IsMeaning : List ℕ → ℕ → Meaning → Type 0
 IsMeaning text tick (tree t) = IsReading text tick t × IsWithinLimits t
-IsMeaning text tick (syntax_fault place) = IsSyntaxFault text place
-IsMeaning text tick (number_fault place) = IsNumberFault text tick place
+IsMeaning text tick (syntax_fault index) = IsSyntaxFault text index
+IsMeaning text tick (number_fault index) = IsNumberFault text tick index
 IsMeaning text tick size_fault = (t : FormulaTree) × IsReading text tick t × IsTooLarge t
 
 -- the meaning that was answered; none where memory ran out
 abbrev pub answered : Result Formula ParseFault → Option Meaning
 answered (Ok f) = Some (tree (tree_of f))
-answered (Err (faults.Syntax place)) = Some (syntax_fault place)
-answered (Err (faults.Number place)) = Some (number_fault place)
+answered (Err (faults.Syntax index)) = Some (syntax_fault index)
+answered (Err (faults.Number index)) = Some (number_fault index)
 answered (Err faults.Size) = Some size_fault
 answered (Err faults.Memory) = None

@@ -12,7 +12,7 @@ use Rattle.mtl_formulas.specs.declared.tokens.Measure.{Measure}
 use Rattle.mtl_formulas.specs.declared.tokens.Measure.TheVariants as measures
 use Rattle.mtl_formulas.specs.declared.tokens.Token.{Token}
 use Rattle.mtl_formulas.specs.declared.tokens.Token.TheVariants as tokens
-use Rattle.mtl_formulas.specs.declared.tokens.Placed.{Placed}
+use Rattle.mtl_formulas.specs.declared.tokens.IndexedToken.{IndexedToken}
 use Rattle.mtl_formulas.specs.AtomWords.{word_of}
 
 abbrev pub is_letter : ℕ → Bool
@@ -86,17 +86,17 @@ run_token (b ∷ bs) =
     else if bytes_eq (b ∷ bs) (codes "->") then tokens.Pair Implies
     else sign_token b
 
--- The tokens of a text that stands at a place, after so many bytes of a token before. Spaces stand between tokens.
-abbrev pub tokens_from : ℕ → ℕ → List ℕ → List Placed
-tokens_from behind place [] = []
-tokens_from (suc behind) place (b ∷ bs) = tokens_from behind (place + 1) bs
-tokens_from zero place (b ∷ bs) =
-    if b == 32 then tokens_from 0 (place + 1) bs
-    else record { token = run_token (front_run (b ∷ bs)); place = place } ∷ tokens_from (length (front_run (b ∷ bs)) - 1) (place + 1) bs
+-- The tokens of a text that stands at an index, after so many bytes of a token before. Spaces stand between tokens.
+abbrev pub tokens_from : ℕ → ℕ → List ℕ → List IndexedToken
+tokens_from behind index [] = []
+tokens_from (suc behind) index (b ∷ bs) = tokens_from behind (index + 1) bs
+tokens_from zero index (b ∷ bs) =
+    if b == 32 then tokens_from 0 (index + 1) bs
+    else record { token = run_token (front_run (b ∷ bs)); index = index } ∷ tokens_from (length (front_run (b ∷ bs)) - 1) (index + 1) bs
 
--- the tokens of a text, each with the place of its first byte
-abbrev pub tokens_of : List ℕ → List Placed
+-- the tokens of a text, each with the index of its first byte
+abbrev pub tokens_of : List ℕ → List IndexedToken
 tokens_of text = tokens_from 0 0 text
 
-abbrev pub kinds : List Placed → List Token
-kinds ps = map (λ (p : Placed). p.token) ps
+abbrev pub kinds : List IndexedToken → List Token
+kinds ps = map (λ (p : IndexedToken). p.token) ps

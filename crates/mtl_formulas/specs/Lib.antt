@@ -7,5 +7,5 @@ pub mod FormulaTokens
 pub mod FormulaGrammar
 pub mod FormulaReading
 pub mod FormulaValue
-pub mod ParserSteps
-pub mod Building
+pub mod FaultTexts
+pub mod Inner

@@ -5,7 +5,7 @@ ghost use Rattle.mtl_formulas.specs.AtomWords.{word_of};
 use crate::verdict::Verdict;
 
 /// A test of one step of an ordered pair of vessels, the subject and the other. The kind of an engagement is that of its
-/// beginning.
+/// beginning. The rules are those of the COLREGs 1972.
 #[derive(Clone, Copy, Debug, PartialEq, Eq)]
 pub enum Atom {
     /// `true`.
@@ -34,13 +34,13 @@ pub enum Atom {
     Passing,
     /// Engaged, and of no other kind.
     Unclassified,
-    /// Engaged for at least so many seconds.
+    /// Engaged for at least so many seconds, 0 to 7200.
     Age(u32),
     /// The distance does not shrink.
     Opening,
-    /// The step is separated by so many metres.
+    /// The step is separated by so many metres, 0 to 100,000.
     Clear(u32),
-    /// The vessels are nearer than so many metres.
+    /// The vessels are nearer than so many metres, 0 to 100,000.
     Close(u32),
     /// The other is on the subject's port side.
     OtherOnPort,
@@ -101,7 +101,7 @@ impl Atom {
     }
 }
 
-/// A position of a trace. Its meaning is its answer to each atom.
+/// A position of a trace: a step of one ordered pair. Its meaning is its answer to each atom.
 pub trait Atoms {
     ghost use Rattle.std.specs.Prelude.{◌≡◌};
     ghost use Rattle.mtl_formulas.specs.declared.atom.Atom.{Atom};

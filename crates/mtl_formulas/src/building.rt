@@ -1,16 +1,16 @@
-//! The tree that the steps of the parser build, within the limits.
+//! The tree that a postfix form builds, within the limits.
 ghost use Rattle.std.specs.Prelude.{◌≡◌, ◌≤◌, ◌<◌, ◌∷◌, vec_len, length};
 ghost use Rattle.mtl_formulas.specs.FormulaTree.{FormulaTree, tree_of, leaf, negation, pair, span, link};
 ghost use Rattle.mtl_formulas.specs.FormulaMeasures.{HasValidParts, node_count, span_reach, link_reach};
 ghost use Rattle.mtl_formulas.specs.FormulaReading.{in_positions};
-ghost use Rattle.mtl_formulas.specs.ParserSteps.{steps_of};
-ghost use Rattle.mtl_formulas.specs.Building.{IsFit, MakesPart, trees, built, CanAdd, Pushes, Adds, Builds};
+ghost use Rattle.mtl_formulas.specs.Inner.Postfix.{postfix_of};
+ghost use Rattle.mtl_formulas.specs.Inner.Building.{IsFit, MakesPart, trees, built, CanAdd, Pushes, Adds, Builds};
 
 use crate::atom::Atom;
 use crate::formula::{Formula, LinkKind, PairKind, SpanKind};
 use crate::parsing::ParseFault;
 use crate::part::Part;
-use crate::steps::Step;
+use crate::postfix::PostfixItem;
 use std::alloc::Global;
 
 /// The limits of a formula.
@@ -148,28 +148,28 @@ fn push(parts: &mut Vec<Part>, part: Part) -> Result<(), ParseFault>
     Ok(())
 }
 
-/// Builds what a step says of the parts that were built last.
-fn add(alloc: Global, parts: &mut Vec<Part>, step: Step, tick: u32) -> Result<(), ParseFault>
+/// Builds what an item says from the parts that were built last.
+fn add(alloc: Global, parts: &mut Vec<Part>, item: PostfixItem, tick: u32) -> Result<(), ParseFault>
     requires tick { 1 ≤ tick }
-    requires fit { CanAdd (built tick step (trees parts.old.items)) }
-    ensures { Adds result (built tick step (trees parts.old.items)) (trees parts.new.items) }
+    requires fit { CanAdd (built tick item (trees parts.old.items)) }
+    ensures { Adds result (built tick item (trees parts.old.items)) (trees parts.new.items) }
 {
-    match step {
-        Step::Leaf(atom) => push(parts, make_leaf(atom)),
-        Step::Not => {
+    match item {
+        PostfixItem::Leaf(atom) => push(parts, make_leaf(atom)),
+        PostfixItem::Not => {
             let a = pop(parts);
             push(parts, negate(alloc, a)?)
         }
-        Step::Pair(kind) => {
+        PostfixItem::Pair(kind) => {
             let b = pop(parts);
             let a = pop(parts);
             push(parts, join(alloc, kind, a, b)?)
         }
-        Step::Span(kind, lower, upper) => {
+        PostfixItem::Span(kind, lower, upper) => {
             let a = pop(parts);
             push(parts, stretch(alloc, kind, lower / tick, upper / tick, a)?)
         }
-        Step::Link(kind, lower, upper) => {
+        PostfixItem::Link(kind, lower, upper) => {
             let b = pop(parts);
             let a = pop(parts);
             push(
@@ -180,19 +180,23 @@ fn add(alloc: Global, parts: &mut Vec<Part>, step: Step, tick: u32) -> Result<()
     }
 }
 
-/// The formula that all the steps build, its bounds in positions of `tick` seconds.
-pub(crate) fn build(alloc: Global, steps: &[Step], tick: u32) -> Result<Formula, ParseFault>
+/// The formula that a postfix form builds, its bounds in positions of `tick` seconds.
+pub(crate) fn build(
+    alloc: Global,
+    postfix: &[PostfixItem],
+    tick: u32,
+) -> Result<Formula, ParseFault>
     requires tick { 1 ≤ tick }
-    requires tree { (t : FormulaTree) × (steps.now ≡ steps_of t)
+    requires tree { (t : FormulaTree) × (postfix.now ≡ postfix_of t)
         × HasValidParts (in_positions tick t) }
-    ensures { (t : FormulaTree) → steps.now ≡ steps_of t → Builds result (in_positions tick t) }
+    ensures { (t : FormulaTree) → postfix.now ≡ postfix_of t → Builds result (in_positions tick t) }
 {
-    if steps.len() > NODES {
+    if postfix.len() > NODES {
         return Err(ParseFault::Size);
     }
     let mut parts = Vec::new(alloc);
-    for step in steps {
-        add(alloc, &mut parts, *step, tick)?;
+    for item in postfix {
+        add(alloc, &mut parts, *item, tick)?;
     }
     Ok(pop(&mut parts).formula)
 }

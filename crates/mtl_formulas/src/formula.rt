@@ -40,8 +40,9 @@ pub enum LinkKind {
     S,
 }
 
-/// A formula of metric temporal logic. It is seen as its tree; its bounds are counted in positions. A valid one is at most
-/// 64 deep, has at most 256 nodes and reaches at most 7200 positions ahead.
+/// A formula of metric temporal logic (Koymans 1990). It is seen as its tree; its bounds are counted in positions of one
+/// tick each, `lower <= upper <= 7200`. A valid one is at most 64 deep, has at most 256 nodes and reaches at most 7200
+/// positions ahead.
 #[derive(Drop)]
 #[cycle(formula)]
 pub struct Formula {
@@ -58,19 +59,30 @@ pub(crate) enum Root {
     Link(LinkKind, u32, u32, Box<Formula>, Box<Formula>),
 }
 
-/// The root of a formula with its operands. The two numbers are the bounds, in positions.
+/// The root of a formula with its operands. The two numbers are the bounds, lower and upper, in positions, 0 to 7200.
 #[derive(Clone, Copy)]
 pub enum Node<'a> {
+    /// A test of one position.
     Atom(Atom),
+    /// `!a`.
     Not(&'a Formula),
+    /// `a & b`.
     And(&'a Formula, &'a Formula),
+    /// `a | b`.
     Or(&'a Formula, &'a Formula),
+    /// `a -> b`.
     Implies(&'a Formula, &'a Formula),
+    /// Finally: somewhere in an interval ahead.
     F(u32, u32, &'a Formula),
+    /// Globally: everywhere in an interval ahead.
     G(u32, u32, &'a Formula),
+    /// Once: somewhere in an interval behind.
     O(u32, u32, &'a Formula),
+    /// Historically: everywhere in an interval behind.
     H(u32, u32, &'a Formula),
+    /// `a U b`.
     U(u32, u32, &'a Formula, &'a Formula),
+    /// `a S b`.
     S(u32, u32, &'a Formula, &'a Formula),
 }
 

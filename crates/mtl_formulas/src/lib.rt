@@ -1,5 +1,10 @@
-//! Formulas of metric temporal logic (Koymans 1990) over discrete positions, with bounded closed intervals and three
-//! values: the tree, its text and its plain meaning over a trace.
+//! Formulas of metric temporal logic (R. Koymans, "Specifying real-time properties with metric temporal logic", Real-Time
+//! Systems 2, 1990) over discrete positions, with bounded closed intervals and three values: the tree, its text and its
+//! plain meaning over a trace.
+//!
+//! A position is a step of one tick, so at a tick of 10 seconds `F[0,20] risk` looks at the positions `i`, `i + 1` and
+//! `i + 2`. Over a trace of four positions without risk its values are No at 0, No at 1, and Open at 2 and 3, where the
+//! window passes the trace's end and the answer is not yet known.
 #![tactic(auto)]
 
 mod atom;
@@ -12,8 +17,8 @@ mod measures;
 mod numbers;
 mod parsing;
 mod part;
+mod postfix;
 mod printing;
-mod steps;
 mod tokens;
 mod verdict;
 

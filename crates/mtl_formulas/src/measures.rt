@@ -5,7 +5,7 @@ ghost use Rattle.mtl_formulas.specs.FormulaMeasures.{IsValid, reach_of, node_cou
 
 use crate::formula::{Formula, LinkKind, Root, SpanKind};
 
-/// How many positions ahead the value at a position can look: 0 to 7200.
+/// How many positions ahead the value at a position can look: 0 to 7200. An F, G or U adds its upper bound.
 pub fn future_reach(formula: &Formula) -> u32
     requires { IsValid (tree_of formula.now) }
     ensures { result ≡ reach_of (tree_of formula.now) }
@@ -35,8 +35,8 @@ pub fn nodes(formula: &Formula) -> u32
     }
 }
 
-/// What the formula costs a monitor: its nodes times its reach plus one, and for each temporal operator its upper bound
-/// in positions plus one.
+/// What the formula may cost a monitor, as a number without a unit: its nodes times its reach plus one, and for each
+/// temporal operator its upper bound in positions plus one.
 pub fn weight(formula: &Formula) -> u64
     requires { IsValid (tree_of formula.now) }
     ensures { result ≡ weight_of (tree_of formula.now) }

@@ -1,28 +1,28 @@
 //! Which numbers of a formula are refused.
 ghost use Rattle.std.specs.Prelude.{◌≡◌, ◌≤◌, [], ◌∷◌, List, ℕ, MatchOption};
-ghost use Rattle.mtl_formulas.specs.FormulaReading.{is_refused_time, is_refused, is_refused_token, refused_places};
+ghost use Rattle.mtl_formulas.specs.FormulaReading.{is_refused_time, is_refused, is_refused_token, refused_indices};
 
-use crate::tokens::{Measure, Placed, Token};
+use crate::tokens::{IndexedToken, Measure, Token};
 
 /// The greatest number of seconds, and of metres.
 const SECONDS: u32 = 7200;
 
 const METRES: u32 = 100_000;
 
-/// The place of the first refused number of a formula.
-pub(crate) fn first_refused(tokens: &[Placed], tick: u32) -> Option<usize>
+/// The index of the first refused number of a formula.
+pub(crate) fn first_refused(tokens: &[IndexedToken], tick: u32) -> Option<usize>
     requires { 1 ≤ tick }
-    ensures { let refused = refused_places tick [] tokens.now in
-        MatchOption result (refused ≡ []) (λ place. (more : List ℕ) × (refused ≡ place ∷ more)) }
+    ensures { let refused = refused_indices tick [] tokens.now in
+        MatchOption result (refused ≡ []) (λ index. (more : List ℕ) × (refused ≡ index ∷ more)) }
 {
     let mut earlier = Token::Wrong;
     let mut previous = Token::Wrong;
-    for placed in tokens {
-        if is_refused_token(earlier, previous, placed.token, tick) {
-            return Some(placed.place);
+    for indexed in tokens {
+        if is_refused_token(earlier, previous, indexed.token, tick) {
+            return Some(indexed.index);
         }
         earlier = previous;
-        previous = placed.token;
+        previous = indexed.token;
     }
     None
 }

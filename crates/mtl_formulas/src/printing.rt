@@ -12,8 +12,9 @@ use outside::Memory;
 use std::alloc::{AllocError, Global};
 use std::fmt::Write;
 
-/// The text of a formula, with its bounds in seconds at a tick of so many seconds. A formula that was parsed at this tick
-/// is parsed from it again, where it has at most 1024 bytes.
+/// The text of a formula, with its bounds in seconds at a tick of 1 to 60 seconds: an atom as its word, `!` before its
+/// operand, `F[0,20] a`, and the operators of two operands in parentheses with spaces, as `(a U[0,20] b)`. A formula that
+/// some text means at this tick is parsed from it again as the same tree, where it has at most 1024 bytes.
 pub fn print(alloc: Global, formula: &Formula, tick: u32) -> Result<Vec<u8>, Memory>
     requires valid { IsValid (tree_of formula.now) }
     requires tick { IsTick tick }

@@ -52,7 +52,7 @@ fn operators_and_spaces_are_printed_in_one_way(rt: HostRuntime) -> Result<(), Fa
 }
 
 #[test]
-fn a_wrong_token_is_told_by_its_place(rt: HostRuntime) {
+fn a_wrong_token_is_told_by_its_index(rt: HostRuntime) {
     let alloc = rt.alloc();
     assert_eq!(rt;
         parse(alloc, b"risk &", 10).err(),
@@ -78,7 +78,7 @@ fn a_wrong_token_is_told_by_its_place(rt: HostRuntime) {
 }
 
 #[test]
-fn a_refused_number_is_told_by_its_place(rt: HostRuntime) {
+fn a_refused_number_is_told_by_its_index(rt: HostRuntime) {
     let alloc = rt.alloc();
     assert_eq!(rt;
         parse(alloc, b"F[0,25] risk", 10).err(),

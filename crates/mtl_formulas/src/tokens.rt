@@ -51,11 +51,11 @@ pub(crate) enum Token {
     Wrong,
 }
 
-/// A token and the place of its first byte.
+/// A token and the index of its first byte.
 #[derive(Clone, Copy)]
-pub(crate) struct Placed {
+pub(crate) struct IndexedToken {
     pub token: Token,
-    pub place: usize,
+    pub index: usize,
 }
 
 /// The atoms that have no number.
@@ -86,8 +86,8 @@ const PLAIN: [Atom; 24] = [
     Atom::BothPower,
 ];
 
-/// The tokens of a text, each with its place.
-pub(crate) fn split(alloc: Global, text: &[u8]) -> Result<Vec<Placed>, AllocError>
+/// The tokens of a text, each with its index.
+pub(crate) fn split(alloc: Global, text: &[u8]) -> Result<Vec<IndexedToken>, AllocError>
     ensures { IfOk result (λ tokens. tokens.items ≡ tokens_of text.now) }
 {
     let mut tokens = Vec::new(alloc);
@@ -97,7 +97,7 @@ pub(crate) fn split(alloc: Global, text: &[u8]) -> Result<Vec<Placed>, AllocErro
             at += 1;
         } else {
             let (token, len) = front(&text[at..]);
-            tokens.push(Placed { token, place: at })?;
+            tokens.push(IndexedToken { token, index: at })?;
             at += len;
         }
     }

@@ -1,11 +1,11 @@
--- How the steps of the parser build a tree. The trees that were built and wait for their operator stand with the last first.
+-- How a postfix form builds a tree. The trees that were built and wait for their operator stand with the last first.
 use Rattle.std.specs.Prelude.{ℕ, ◌≡◌, ◌<◌, ◌≤◌, ◌/◌, List, ◌∷◌, map, reverse, ◌⊎◌, Option, Some, None, Result, Ok, Err}
 use Rattle.mtl_formulas.specs.declared.formula.Formula.{Formula}
 use Rattle.mtl_formulas.specs.declared.parsing.ParseFault.{ParseFault}
 use Rattle.mtl_formulas.specs.declared.parsing.ParseFault.TheVariants as faults
 use Rattle.mtl_formulas.specs.declared.part.Part.{Part}
-use Rattle.mtl_formulas.specs.declared.steps.Step.{Step}
-use Rattle.mtl_formulas.specs.declared.steps.Step.TheVariants as steps
+use Rattle.mtl_formulas.specs.declared.postfix.PostfixItem.{PostfixItem}
+use Rattle.mtl_formulas.specs.declared.postfix.PostfixItem.TheVariants as postfix
 use Rattle.mtl_formulas.specs.FormulaTree.{FormulaTree, leaf, negation, pair, span, link, tree_of}
 use Rattle.mtl_formulas.specs.FormulaMeasures.{depth_of, node_count, reach_of, HasValidParts}
 use Rattle.mtl_formulas.specs.FormulaReading.{IsWithinLimits, IsTooLarge}
@@ -29,21 +29,21 @@ Pushes (Ok _) pushed after = after ≡ pushed
 Pushes (Err faults.Memory) pushed after = Unit {0}
 Pushes (Err _) pushed after = ⊥
 
--- the trees after one more step: bounds are turned into positions; None where operands are missing
-abbrev pub built : ℕ → Step → List FormulaTree → Option (List FormulaTree)
-built tick (steps.Leaf a) σ = Some (leaf a ∷ σ)
-built tick steps.Not (t ∷ σ) = Some (negation t ∷ σ)
-built tick (steps.Pair kind) (t ∷ s ∷ σ) = Some (pair kind s t ∷ σ)
-built tick (steps.Span kind l u) (t ∷ σ) = Some (span kind (l / tick) (u / tick) t ∷ σ)
-built tick (steps.Link kind l u) (t ∷ s ∷ σ) = Some (link kind (l / tick) (u / tick) s t ∷ σ)
+-- the trees after one more item: bounds are turned into positions; None where operands are missing
+abbrev pub built : ℕ → PostfixItem → List FormulaTree → Option (List FormulaTree)
+built tick (postfix.Leaf a) σ = Some (leaf a ∷ σ)
+built tick postfix.Not (t ∷ σ) = Some (negation t ∷ σ)
+built tick (postfix.Pair kind) (t ∷ s ∷ σ) = Some (pair kind s t ∷ σ)
+built tick (postfix.Span kind l u) (t ∷ σ) = Some (span kind (l / tick) (u / tick) t ∷ σ)
+built tick (postfix.Link kind l u) (t ∷ s ∷ σ) = Some (link kind (l / tick) (u / tick) s t ∷ σ)
 built tick _ _ = None
 
--- The step finds its operands, and what it builds is fit.
+-- The item finds its operands, and what it builds is fit.
 abbrev pub CanAdd : Option (List FormulaTree) → Type 0
 CanAdd (Some (t ∷ σ)) = IsFit t
 CanAdd _ = ⊥
 
--- The trees are those after the step; or the new one is too deep or reaches too far.
+-- The trees are those after the item; or the new one is too deep or reaches too far.
 abbrev pub Adds : Result (Unit {0}) ParseFault → Option (List FormulaTree) → List FormulaTree → Type 0
 Adds (Ok _) next after = next ≡ Some after
 Adds (Err faults.Size) (Some (t ∷ σ)) after = (64 < depth_of t) ⊎ (7200 < reach_of t)

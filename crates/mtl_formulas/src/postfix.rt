@@ -1,17 +1,17 @@
-//! From tokens to the steps that build a tree, and the place of the first wrong token. The parser keeps what it expects
-//! in a list of its own, so parentheses cost no recursion.
+//! From tokens to the postfix form of a formula, in which an operator stands after its operands, or to the index of the
+//! first wrong token. The parser keeps what it expects in a list of its own, so parentheses cost no recursion.
 ghost use Rattle.std.specs.Prelude.{◌≡◌, ◌++◌, [], IfOk, OnOk, reverse};
-ghost use Rattle.mtl_formulas.specs.ParserSteps.{bounded_step, formula_and, replacement, left_out, taken, all_left_out, IsOfBounds, IsOfNumber, Replaces, LeavesOut, Takes, read, at_start, Arranges};
+ghost use Rattle.mtl_formulas.specs.Inner.Postfix.{bounded_item, formula_and, replacement, left_out, taken, all_left_out, IsOfBounds, IsOfNumber, Replaces, LeavesOut, Takes, read, at_start, Arranges};
 
 use crate::atom::Atom;
 use crate::formula::{LinkKind, PairKind, SpanKind};
 use crate::parsing::ParseFault;
-use crate::tokens::{Measure, Placed, Token};
+use crate::tokens::{IndexedToken, Measure, Token};
 use std::alloc::{AllocError, Global};
 
-/// A step of building a tree. An operator takes the operands that were built last. Bounds are in seconds.
+/// An item of a postfix form. An operator takes the operands that were built last. Bounds are in seconds.
 #[derive(Clone, Copy)]
-pub(crate) enum Step {
+pub(crate) enum PostfixItem {
     Leaf(Atom),
     Not,
     Pair(PairKind),
@@ -27,12 +27,12 @@ pub(crate) enum Bounded {
 }
 
 impl Bounded {
-    fn over(self, lower: u32, upper: u32) -> Step
-        ensures { result ≡ bounded_step self lower upper }
+    fn over(self, lower: u32, upper: u32) -> PostfixItem
+        ensures { result ≡ bounded_item self lower upper }
     {
         match self {
-            Bounded::Span(kind) => Step::Span(kind, lower, upper),
-            Bounded::Link(kind) => Step::Link(kind, lower, upper),
+            Bounded::Span(kind) => PostfixItem::Span(kind, lower, upper),
+            Bounded::Link(kind) => PostfixItem::Link(kind, lower, upper),
         }
     }
 }
@@ -49,8 +49,8 @@ pub(crate) enum Expected {
     /// `->` with a formula, or nothing.
     ImpliesRest,
     Shut,
-    /// No token: a step is written.
-    Write(Step),
+    /// No token: an item is written.
+    Write(PostfixItem),
     OpenBounds(Bounded),
     Lower(Bounded),
     Comma(Bounded, u32),
@@ -61,23 +61,27 @@ pub(crate) enum Expected {
     ShutNumber(Atom),
 }
 
-/// The steps that build the tree of a formula, or the place where the tokens are wrong: `end` where none is wrong and
+/// The postfix form of a formula, or the index where the tokens are wrong: `end` where none is wrong and
 /// they end too early.
-pub(crate) fn arrange(alloc: Global, tokens: &[Placed], end: usize) -> Result<Vec<Step>, ParseFault>
+pub(crate) fn arrange(
+    alloc: Global,
+    tokens: &[IndexedToken],
+    end: usize,
+) -> Result<Vec<PostfixItem>, ParseFault>
     ensures { Arranges result (read end at_start tokens.now) }
 {
     let mut stack = Vec::new(alloc);
-    let mut steps = Vec::new(alloc);
+    let mut postfix = Vec::new(alloc);
     expect_formula(&mut stack)?;
-    for placed in tokens {
-        if !offer(&mut stack, &mut steps, placed.token)? {
-            return Err(ParseFault::Syntax(placed.place));
+    for indexed in tokens {
+        if !offer(&mut stack, &mut postfix, indexed.token)? {
+            return Err(ParseFault::Syntax(indexed.index));
         }
     }
-    if !finish(&mut stack, &mut steps)? {
+    if !finish(&mut stack, &mut postfix)? {
         return Err(ParseFault::Syntax(end));
     }
-    Ok(steps)
+    Ok(postfix)
 }
 
 /// Expects a formula next, its operand first.
@@ -95,16 +99,20 @@ fn expect_formula(stack: &mut Vec<Expected>) -> Result<(), AllocError>
 }
 
 /// Leaves things out until one takes the token. False where the token is wrong.
-fn offer(stack: &mut Vec<Expected>, steps: &mut Vec<Step>, token: Token) -> Result<bool, AllocError>
+fn offer(
+    stack: &mut Vec<Expected>,
+    postfix: &mut Vec<PostfixItem>,
+    token: Token,
+) -> Result<bool, AllocError>
     ensures { IfOk result (λ found.
         Takes found (taken token (reverse stack.old.items))
-        stack.new.items steps.old.items steps.new.items) }
+        stack.new.items postfix.old.items postfix.new.items) }
 {
     while let Some(expected) = stack.pop() {
         if replace(stack, expected, token)? {
             return Ok(true);
         }
-        if !leave_out(steps, expected)? {
+        if !leave_out(postfix, expected)? {
             return Ok(false);
         }
     }
@@ -112,26 +120,26 @@ fn offer(stack: &mut Vec<Expected>, steps: &mut Vec<Step>, token: Token) -> Resu
 }
 
 /// Leaves out all that is expected. False where something may not be left out.
-fn finish(stack: &mut Vec<Expected>, steps: &mut Vec<Step>) -> Result<bool, AllocError>
+fn finish(stack: &mut Vec<Expected>, postfix: &mut Vec<PostfixItem>) -> Result<bool, AllocError>
     ensures { IfOk result (λ found.
-        LeavesOut found (all_left_out (reverse stack.old.items)) steps.old.items steps.new.items) }
+        LeavesOut found (all_left_out (reverse stack.old.items)) postfix.old.items postfix.new.items) }
 {
     while let Some(expected) = stack.pop() {
-        if !leave_out(steps, expected)? {
+        if !leave_out(postfix, expected)? {
             return Ok(false);
         }
     }
     Ok(true)
 }
 
-/// Leaves out a thing expected, and writes its step. False where it may not be left out.
-fn leave_out(steps: &mut Vec<Step>, expected: Expected) -> Result<bool, AllocError>
+/// Leaves out a thing expected, and writes its item. False where it may not be left out.
+fn leave_out(postfix: &mut Vec<PostfixItem>, expected: Expected) -> Result<bool, AllocError>
     ensures { IfOk result (λ found.
-        LeavesOut found (left_out expected) steps.old.items steps.new.items) }
+        LeavesOut found (left_out expected) postfix.old.items postfix.new.items) }
 {
     match expected {
-        Expected::Write(step) => {
-            steps.push(step)?;
+        Expected::Write(item) => {
+            postfix.push(item)?;
             Ok(true)
         }
         Expected::LinkRest | Expected::AndRest | Expected::OrRest | Expected::ImpliesRest => {
@@ -161,14 +169,14 @@ fn replace(stack: &mut Vec<Expected>, expected: Expected, token: Token) -> Resul
     }
 }
 
-/// In the place of an operand.
+/// What is expected instead of an operand.
 fn replace_operand(stack: &mut Vec<Expected>, token: Token) -> Result<bool, AllocError>
     ensures { IfOk result (λ found.
         Replaces found (replacement Expected.Operand token) stack.old.items stack.new.items) }
 {
     match token {
         Token::Atom(atom) => {
-            stack.push(Expected::Write(Step::Leaf(atom)))?;
+            stack.push(Expected::Write(PostfixItem::Leaf(atom)))?;
             Ok(true)
         }
         Token::Measure(measure) => {
@@ -176,7 +184,7 @@ fn replace_operand(stack: &mut Vec<Expected>, token: Token) -> Result<bool, Allo
             Ok(true)
         }
         Token::Not => {
-            stack.push(Expected::Write(Step::Not))?;
+            stack.push(Expected::Write(PostfixItem::Not))?;
             stack.push(Expected::Operand)?;
             Ok(true)
         }
@@ -193,7 +201,7 @@ fn replace_operand(stack: &mut Vec<Expected>, token: Token) -> Result<bool, Allo
     }
 }
 
-/// In the place of what may follow an operand: an operator over an interval, with its other operand.
+/// What is expected instead of what may follow an operand: an operator over an interval, with its other operand.
 fn replace_link(stack: &mut Vec<Expected>, token: Token) -> Result<bool, AllocError>
     ensures { IfOk result (λ found.
         Replaces found (replacement Expected.LinkRest token) stack.old.items stack.new.items) }
@@ -207,7 +215,7 @@ fn replace_link(stack: &mut Vec<Expected>, token: Token) -> Result<bool, AllocEr
     }
 }
 
-/// In the place of further conjuncts: an operand, the step that joins it, and still further conjuncts.
+/// What is expected instead of further conjuncts: an operand, the item that joins it, and still further conjuncts.
 fn replace_and(stack: &mut Vec<Expected>, token: Token) -> Result<bool, AllocError>
     ensures { IfOk result (λ found.
         Replaces found (replacement Expected.AndRest token) stack.old.items stack.new.items) }
@@ -216,7 +224,7 @@ fn replace_and(stack: &mut Vec<Expected>, token: Token) -> Result<bool, AllocErr
         Token::Pair(PairKind::And) => {
             stack.extend_from_slice(&[
                 Expected::AndRest,
-                Expected::Write(Step::Pair(PairKind::And)),
+                Expected::Write(PostfixItem::Pair(PairKind::And)),
                 Expected::LinkRest,
                 Expected::Operand,
             ])?;
@@ -226,7 +234,7 @@ fn replace_and(stack: &mut Vec<Expected>, token: Token) -> Result<bool, AllocErr
     }
 }
 
-/// In the place of further disjuncts.
+/// What is expected instead of further disjuncts.
 fn replace_or(stack: &mut Vec<Expected>, token: Token) -> Result<bool, AllocError>
     ensures { IfOk result (λ found.
         Replaces found (replacement Expected.OrRest token) stack.old.items stack.new.items) }
@@ -235,7 +243,7 @@ fn replace_or(stack: &mut Vec<Expected>, token: Token) -> Result<bool, AllocErro
         Token::Pair(PairKind::Or) => {
             stack.extend_from_slice(&[
                 Expected::OrRest,
-                Expected::Write(Step::Pair(PairKind::Or)),
+                Expected::Write(PostfixItem::Pair(PairKind::Or)),
                 Expected::AndRest,
                 Expected::LinkRest,
                 Expected::Operand,
@@ -246,14 +254,14 @@ fn replace_or(stack: &mut Vec<Expected>, token: Token) -> Result<bool, AllocErro
     }
 }
 
-/// In the place of what may follow a disjunction. A whole formula comes after `->`, so it groups to the right.
+/// What is expected instead of what may follow a disjunction. A whole formula comes after `->`, so it groups to the right.
 fn replace_implies(stack: &mut Vec<Expected>, token: Token) -> Result<bool, AllocError>
     ensures { IfOk result (λ found.
         Replaces found (replacement Expected.ImpliesRest token) stack.old.items stack.new.items) }
 {
     match token {
         Token::Pair(PairKind::Implies) => {
-            stack.push(Expected::Write(Step::Pair(PairKind::Implies)))?;
+            stack.push(Expected::Write(PostfixItem::Pair(PairKind::Implies)))?;
             expect_formula(stack)?;
             Ok(true)
         }
@@ -261,7 +269,7 @@ fn replace_implies(stack: &mut Vec<Expected>, token: Token) -> Result<bool, Allo
     }
 }
 
-/// In the place of a part of an interval, which only one kind of token takes.
+/// What is expected instead of a part of an interval, which only one kind of token takes.
 fn replace_bounds(
     stack: &mut Vec<Expected>,
     expected: Expected,
@@ -297,7 +305,7 @@ fn replace_bounds(
     }
 }
 
-/// In the place of a parenthesis or a number in parentheses, which only one kind of token takes.
+/// What is expected instead of a parenthesis or a number in parentheses, which only one kind of token takes.
 fn replace_number(
     stack: &mut Vec<Expected>,
     expected: Expected,
@@ -318,7 +326,7 @@ fn replace_number(
             Ok(true)
         }
         (Expected::ShutNumber(atom), Token::Shut) => {
-            stack.push(Expected::Write(Step::Leaf(atom)))?;
+            stack.push(Expected::Write(PostfixItem::Leaf(atom)))?;
             Ok(true)
         }
         _ => Ok(false),
