@@ -3,7 +3,7 @@ use Rattle.std.specs.Prelude.{◌≡◌, ◌⊎◌, ℕ, List, Some, IsUtf8}
 use Rattle.toml.specs.Data.{Members}
 use Rattle.toml.specs.Parse.{parse_document}
 use Rattle.scenario.specs.KeyFaults.{IsFaultless, IsFirstFault}
-use Rattle.scenario.specs.ScenarioValues.{HasValues}
+use Rattle.scenario.specs.ScenarioValues.{scenario_of}
 use Rattle.scenario.specs.declared.key.Key.{Key}
 use Rattle.scenario.specs.declared.cause.Cause.{Cause}
 use Rattle.scenario.specs.declared.cause.Cause.TheVariants as cause
@@ -19,7 +19,7 @@ pub record Means (bytes : List ℕ) (scenario : Scenario) : Type 0 where
   pub document : Members
   pub reads : Reads bytes document
   pub faultless : IsFaultless document
-  pub values : HasValues document scenario
+  pub values : scenario ≡ scenario_of document
 
 -- The bytes are no TOML document: that is the fault of the first row, `document`.
 pub record IsNoToml (bytes : List ℕ) (key : Key) (why : Cause) : Type 0 where

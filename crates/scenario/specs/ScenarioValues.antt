@@ -1,5 +1,5 @@
 -- The values of a scenario: the numbers at its keys, and their ranges.
-use Rattle.std.specs.Prelude.{◌≡◌, ℕ, ◌≤◌, ◌^◌, ℤ, pos, codes, List, Option, Some, None}
+use Rattle.std.specs.Prelude.{◌≡◌, ℕ, ◌≤◌, ◌^◌, ℤ, pos, negsuc, codes, List, Option, Some, None}
 use Rattle.toml.specs.Data.{Data, Members, as_integer}
 use Rattle.fixed_geometry.specs.Place.{Place}
 use Rattle.scenario.specs.KeyFaults.{found_in, integer_at, table_at}
@@ -7,41 +7,67 @@ use Rattle.scenario.specs.declared.values.Window.{Window}
 use Rattle.scenario.specs.declared.values.LogNumbers.{LogNumbers}
 use Rattle.scenario.specs.declared.values.Scenario.{Scenario}
 
--- the integer at a key, or another number where the key is left out
+-- the integer at a key; 0 where there is none, which is so in no document without a fault
+
+abbrev pub integer_of : Option ℤ → ℤ
+integer_of None = pos 0
+integer_of (Some z) = z
+
+abbrev pub natural_of : Option ℤ → ℕ
+natural_of None = 0
+natural_of (Some (pos n)) = n
+natural_of (Some (negsuc n)) = 0
+
+abbrev pub signed_at : List ℕ → List ℕ → Members → ℤ
+signed_at table name document = integer_of (integer_at table name document)
+
+abbrev pub natural_at : List ℕ → List ℕ → Members → ℕ
+natural_at table name document = natural_of (integer_at table name document)
+
+-- the integer at a key that may be left out for another number
 
 abbrev pub integer_or : ℤ → Option Data → Option ℤ
 integer_or otherwise None = Some otherwise
 integer_or otherwise (Some found) = as_integer found
 
-unfoldable pub optional_at : List ℕ → List ℕ → ℤ → Members → Option ℤ
-optional_at table name otherwise document = integer_or otherwise (found_in name (table_at table document))
+unfoldable pub optional_at : List ℕ → List ℕ → ℕ → Members → ℕ
+optional_at table name otherwise document = natural_of (integer_or (pos otherwise) (found_in name (table_at table document)))
 
 -- the window of ticks: `start` in seconds since 1970, `tick` in seconds, and how many ticks
-pub record HasWindow (document : Members) (window : Window) : Type 0 where
-  pub start : integer_at (codes "window") (codes "start") document ≡ Some (pos window.start)
-  pub tick : integer_at (codes "window") (codes "tick") document ≡ Some (pos window.tick)
-  pub ticks : integer_at (codes "window") (codes "ticks") document ≡ Some (pos window.ticks)
+unfoldable pub window_of : Members → Window
+window_of document = record {
+  start = natural_at (codes "window") (codes "start") document;
+  tick = natural_at (codes "window") (codes "tick") document;
+  ticks = natural_at (codes "window") (codes "ticks") document;
+}
 
 -- the place of the plane's origin, in ten thousandths of a minute, positive to the north and to the east
-pub record HasReference (document : Members) (reference : Place) : Type 0 where
-  pub latitude : integer_at (codes "reference") (codes "lat") document ≡ Some reference.latitude
-  pub longitude : integer_at (codes "reference") (codes "lon") document ≡ Some reference.longitude
+unfoldable pub reference_of : Members → Place
+reference_of document = record {
+  latitude = signed_at (codes "reference") (codes "lat") document;
+  longitude = signed_at (codes "reference") (codes "lon") document;
+}
 
 -- the greatest length of a log, in bytes, where the scenario names none
 abbrev pub greatest_log : ℕ
 greatest_log = 2 ^ 30
 
 -- the numbers by which a log's lines are judged
-pub record HasLogNumbers (document : Members) (log : LogNumbers) : Type 0 where
-  pub gap : integer_at (codes "log") (codes "gap") document ≡ Some (pos log.gap)
-  pub slack : integer_at (codes "log") (codes "slack") document ≡ Some (pos log.slack)
-  pub max_speed : integer_at (codes "log") (codes "max_speed") document ≡ Some (pos log.max_speed)
-  pub max_bytes : optional_at (codes "log") (codes "max_bytes") (pos greatest_log) document ≡ Some (pos log.max_bytes)
+unfoldable pub log_numbers_of : Members → LogNumbers
+log_numbers_of document = record {
+  gap = natural_at (codes "log") (codes "gap") document;
+  slack = natural_at (codes "log") (codes "slack") document;
+  max_speed = natural_at (codes "log") (codes "max_speed") document;
+  max_bytes = optional_at (codes "log") (codes "max_bytes") greatest_log document;
+}
 
-pub record HasValues (document : Members) (scenario : Scenario) : Type 0 where
-  pub window : HasWindow document scenario.window
-  pub reference : HasReference document scenario.reference
-  pub log : HasLogNumbers document scenario.log
+-- the values of a document without a fault
+unfoldable pub scenario_of : Members → Scenario
+scenario_of document = record {
+  window = window_of document;
+  reference = reference_of document;
+  log = log_numbers_of document;
+}
 
 -- Each value is in its key's range. A reference is so by its type.
 

@@ -46,6 +46,5 @@ pub fn read(alloc: Global, bytes: &[u8], need_own: bool) -> Result<Scenario, Sce
     ensures told { (key : Key) (cause : Cause) → IsRefused bytes.now key cause
         → (result ≡ Err (ScenarioFault.Fault key cause)) ⊎ (result ≡ Err ScenarioFault.Memory) }
 {
-    let _no_own_ship = need_own;
     reading(alloc, bytes)
 }
