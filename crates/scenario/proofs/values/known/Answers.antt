@@ -1,0 +1,11 @@
+use Rattle.toml.specs.View.{table_view}
+use Rattle.scenario.proofs.Held.{known, from_tick}
+use Rattle.scenario.proofs.values.known.Goals as goal
+
+pub returns-clause-held : goal.returns-clause-held
+returns-clause-held c =
+    known (table_view c.args.document.now) c.args.table.now c.args.name.now c.args.low c.args.high c.integer_found.result c.requires.known c.requires.faultless c.integer_found.ensures
+
+pub returns-clause-tick : goal.returns-clause-tick
+returns-clause-tick c =
+    λ begins. from_tick (table_view c.args.document.now) c.args.table.now c.args.name.now c.integer_found.result begins c.requires.faultless c.integer_found.ensures
