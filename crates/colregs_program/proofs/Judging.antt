@@ -6,7 +6,7 @@ use Rattle.colregs_program.specs.LinesSoFar.{StandsFor}
 use Rattle.colregs_program.specs.LogLines.{lines_of}
 use Rattle.colregs_program.specs.declared.accepted.Judged.{Judged}
 use Rattle.colregs_program.specs.declared.judge.Judge.{Judge}
-use Rattle.colregs_program.specs.declared.scenario.Scenario.{Scenario}
+use Rattle.scenario.specs.declared.values.Scenario.{Scenario}
 
 -- The judge stands for the lines of a log up to a place.
 pub record StandsUpTo (judge : Judge) (scenario : Scenario) (log : List ℕ) (at : ℕ) : Type 0 where

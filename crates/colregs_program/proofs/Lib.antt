@@ -1,5 +1,3 @@
-pub mod Fetching
-pub mod Finishing
 pub mod Judging
 pub mod Lines
 pub mod Noting
@@ -7,4 +5,6 @@ pub mod OneOutcome
 pub mod PointFields
 pub mod Reporting
 pub mod Standing
-pub mod Telling
+pub mod Due
+pub mod SettingUp
+pub mod Refusals

@@ -9,7 +9,7 @@ use Rattle.colregs_program.specs.PointsReport.{count_of}
 use Rattle.colregs_program.specs.declared.accepted.Judged.{Judged}
 use Rattle.colregs_program.specs.declared.outcome.LineOutcome.{LineOutcome}
 use Rattle.colregs_program.specs.declared.outcome.LineOutcome.TheVariants as outcomes
-use Rattle.colregs_program.specs.declared.scenario.Scenario.{Scenario}
+use Rattle.scenario.specs.declared.values.Scenario.{Scenario}
 
 -- 1 where a line came to the outcome, else 0
 abbrev counted : LineOutcome → LineOutcome → ℕ

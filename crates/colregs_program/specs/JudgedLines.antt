@@ -12,7 +12,7 @@ use Rattle.colregs_program.specs.LineOutcomes.{line_outcome, message_outcome}
 use Rattle.colregs_program.specs.LogLines.{lines_of}
 use Rattle.colregs_program.specs.declared.accepted.Judged.{Judged}
 use Rattle.colregs_program.specs.declared.accepted.Judged.TheVariants as judged
-use Rattle.colregs_program.specs.declared.scenario.Scenario.{Scenario}
+use Rattle.scenario.specs.declared.values.Scenario.{Scenario}
 
 -- a message; its time is the window's start
 abbrev pub judged_message : Scenario → List Judged → Decoded → Judged

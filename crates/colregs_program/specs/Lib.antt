@@ -6,10 +6,11 @@ pub mod CsvRows
 pub mod CsvRowsText
 pub mod PointTexts
 pub mod PointsReport
-pub mod ScenarioValues
-pub mod Faults
-pub mod Messages
-pub mod Words
 pub mod Answers
 pub mod Latest
 pub mod LinesSoFar
+pub mod Requests
+pub mod Endings
+pub mod Told
+pub mod FaultLines
+pub mod Inner

@@ -7,7 +7,7 @@ use Rattle.colregs_program.specs.PointsReport.{point_rows}
 use Rattle.colregs_program.specs.Latest.{HoldsLatest}
 use Rattle.colregs_program.specs.declared.accepted.Judged.{Judged}
 use Rattle.colregs_program.specs.declared.judge.Judge.{Judge}
-use Rattle.colregs_program.specs.declared.scenario.Scenario.{Scenario}
+use Rattle.scenario.specs.declared.values.Scenario.{Scenario}
 
 abbrev pub scenario_of : Judge → Scenario
 scenario_of judge = judge.scenario

@@ -8,7 +8,7 @@ use Rattle.colregs_program.specs.LineOutcomes.{all_outcomes, name_of, place_of}
 use Rattle.colregs_program.specs.declared.accepted.Accepted.{Accepted}
 use Rattle.colregs_program.specs.declared.accepted.Judged.{Judged}
 use Rattle.colregs_program.specs.declared.outcome.LineOutcome.{LineOutcome}
-use Rattle.colregs_program.specs.declared.scenario.Scenario.{Scenario}
+use Rattle.scenario.specs.declared.values.Scenario.{Scenario}
 
 -- the vessel, the time, the place to the east and to the north in tenths of a millimetre, speed and course where they are known
 abbrev pub point_fields : Accepted → List (List ℕ)

@@ -10,7 +10,7 @@ use crate::count_rows::{all_outcomes, write_counts};
 use crate::csv_rows::CsvRows;
 use crate::outcome::LineOutcome;
 use crate::point_rows::{PointTexts, write_point};
-use crate::scenario::Scenario;
+use scenario::Scenario;
 use ais_messages::{Decoded, Message, decode};
 use aivdm::{Body, Joined, Joiner, read_line};
 use outside::Memory;

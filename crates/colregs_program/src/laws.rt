@@ -4,7 +4,7 @@ ghost use Rattle.colregs_program.specs.JudgedLines.{judged_lines};
 ghost use Rattle.colregs_program.specs.LineOutcomes.{all_outcomes};
 ghost use Rattle.colregs_program.specs.LogLines.{lines_of};
 ghost use Rattle.colregs_program.specs.PointsReport.{count_of};
-ghost use Rattle.colregs_program.specs.declared.scenario.Scenario.{Scenario};
+ghost use Rattle.scenario.specs.declared.values.Scenario.{Scenario};
 
 /// Each line of a log has exactly one outcome: the counts of the outcomes sum to the number of lines.
 pub fn each_line_has_one_outcome()

@@ -8,6 +8,7 @@
 mod accepted;
 mod count_rows;
 mod csv_rows;
+mod fault_line;
 mod judge;
 pub mod laws;
 mod log_lines;
@@ -15,14 +16,15 @@ mod outcome;
 mod point_rows;
 mod program;
 mod report;
-mod scenario;
+mod request;
+mod set_up;
 mod status;
 #[cfg(test)]
 mod tests;
-mod words;
 
 pub use accepted::{Accepted, Judged};
 pub use outcome::LineOutcome;
 pub use program::run;
-pub use scenario::{LogNumbers, Scenario, Window};
-pub use status::{Cause, Key, Status, Which};
+pub use request::Mode;
+pub use scenario::{Cause, Key, LogNumbers, Scenario, Window};
+pub use status::{Status, Which};

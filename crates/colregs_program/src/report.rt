@@ -1,14 +1,56 @@
-//! The report of `points` on a log that was read whole.
-ghost use Rattle.std.specs.Prelude.{◌≡◌, [], IfOk, OnOk};
+//! The report on a log that is read whole.
+ghost use Rattle.std.specs.Prelude.{◌≡◌, ◌≤◌, [], length, IfErr, IfOk, IfSome, OnOk};
+ghost use Rattle.std.specs.Io.KnownBytes.{IsAtEnd};
+ghost use Rattle.scenario.specs.declared.values.Scenario.{Scenario};
+ghost use Rattle.colregs_program.specs.Endings.{ending_of};
+ghost use Rattle.colregs_program.specs.Inner.LogFaults.{LogCause};
 ghost use Rattle.colregs_program.specs.JudgedLines.{judged_lines};
 ghost use Rattle.colregs_program.specs.LinesSoFar.{StandsFor, scenario_of};
 ghost use Rattle.colregs_program.specs.PointsReport.{report_of};
 
 use crate::judge::Judge;
 use crate::log_lines::first_line;
-use crate::scenario::Scenario;
-use outside::Memory;
+use crate::request::Mode;
+use crate::status::{Status, Which};
+use outside::{Memory, ReadFault, Source, read_whole};
+use scenario::Scenario;
 use std::alloc::Global;
+
+/// Why there is no report on a log.
+#[derive(Clone, Copy, Debug, PartialEq, Eq)]
+pub(crate) enum LogFault {
+    /// A read failed.
+    NotRead,
+    /// The log is longer than this many bytes.
+    TooLong(u64),
+    Memory,
+}
+
+impl From<Memory> for LogFault {
+    ghost use Rattle.std.specs.Prelude.{◌≡◌};
+    ghost use Rattle.colregs_program.specs.declared.report.LogFault.TheVariants.{Memory};
+
+    ghost from_gives = { λ _ made. made ≡ Memory };
+
+    fn from(_: Memory) -> LogFault {
+        LogFault::Memory
+    }
+}
+
+impl From<LogFault> for Status {
+    ghost use Rattle.std.specs.Prelude.{◌≡◌};
+    ghost use Rattle.colregs_program.specs.Inner.LogFaults.{answer_of};
+
+    ghost from_gives = { λ fault status. status ≡ answer_of fault };
+
+    fn from(fault: LogFault) -> Status {
+        match fault {
+            LogFault::NotRead => Status::ReadFault,
+            LogFault::TooLong(most) => Status::Limit(Which::Log, most),
+            LogFault::Memory => Status::Memory,
+        }
+    }
+}
 
 /// Takes each line of a log.
 fn take_lines(judge: &mut Judge, log: &[u8]) -> Result<(), Memory>
@@ -23,16 +65,63 @@ fn take_lines(judge: &mut Judge, log: &[u8]) -> Result<(), Memory>
     Ok(())
 }
 
-/// The report on a log.
+/// The report of `points` on a log.
 #[tactic(auto, unfolding(crate::specs::PointsReport::report_of))]
-pub(crate) fn points_report(
-    alloc: Global,
-    scenario: &Scenario,
-    log: &[u8],
-) -> Result<Vec<u8>, Memory>
+fn points_report(alloc: Global, scenario: &Scenario, log: &[u8]) -> Result<Vec<u8>, Memory>
     ensures { IfOk result (λ report. report.items ≡ report_of scenario.now log.now) }
 {
     let mut judge = Judge::new(alloc, scenario);
     take_lines(&mut judge, log)?;
     judge.into_report(alloc)
+}
+
+/// What the request comes to on a log.
+fn ending(
+    alloc: Global,
+    mode: Mode,
+    scenario: &Scenario,
+    log: &[u8],
+) -> Result<Vec<u8>, Memory>
+    ensures { IfOk result (λ ending. ending.items ≡ ending_of mode scenario.now log.now) }
+{
+    match mode {
+        Mode::Points => points_report(alloc, scenario, log),
+    }
+}
+
+/// All the bytes of the log.
+fn log_bytes<S: Source>(alloc: Global, most: u64, log: &mut S) -> Result<Vec<u8>, LogFault>
+    ensures all { IfOk result (λ bytes. IfSome (S.left log.old) (λ told. told ≡ bytes.items)) }
+    ensures short { IfOk result (λ bytes. length bytes.items ≤ most) }
+    ensures end { OnOk result (IsAtEnd (S.left log.new)) }
+    ensures calm { OnOk result (S.faults log.new ≡ S.faults log.old) }
+    ensures cause { IfErr result (LogCause most (S.left log.old) (S.left log.new) (S.faults log.old) (S.faults log.new)) }
+{
+    match read_whole(alloc, log, most) {
+        Ok(bytes) => Ok(bytes),
+        Err(ReadFault::Failed) => Err(LogFault::NotRead),
+        Err(ReadFault::TooLong) => Err(LogFault::TooLong(most)),
+        Err(ReadFault::Memory) => Err(LogFault::Memory),
+    }
+}
+
+/// Reads the log to its end, and gives what the request comes to on it.
+pub(crate) fn report_on<S: Source>(
+    alloc: Global,
+    mode: Mode,
+    scenario: &Scenario,
+    log: &mut S,
+) -> Result<Vec<u8>, LogFault>
+    ensures report { IfOk result (λ report. IfSome (S.left log.old) (λ bytes.
+        (length bytes ≤ scenario.now.log.max_bytes) × (report.items ≡ ending_of mode scenario.now bytes))) }
+    ensures end { OnOk result (IsAtEnd (S.left log.new)) }
+    ensures calm { OnOk result (S.faults log.new ≡ S.faults log.old) }
+    ensures cause { IfErr result (LogCause scenario.now.log.max_bytes
+        (S.left log.old) (S.left log.new) (S.faults log.old) (S.faults log.new)) }
+{
+    let bytes = log_bytes(alloc, scenario.log.max_bytes, log)?;
+    match ending(alloc, mode, scenario, bytes.as_slice()) {
+        Ok(report) => Ok(report),
+        Err(_) => Err(LogFault::Memory),
+    }
 }

@@ -1,35 +1,15 @@
 //! How a run ends.
-ghost use Rattle.std.specs.Prelude.{◌≡◌, IfOk, OnErr, string_bytes};
-ghost use Rattle.colregs_program.specs.Faults.{fault_text, number_of, IsLimit};
+ghost use Rattle.std.specs.Prelude.{◌≡◌};
+ghost use Rattle.colregs_program.specs.FaultLines.{number_of};
 
-use std::alloc::{AllocError, Global};
-
-/// A key of the scenario, by its place in the order in which the keys are tested.
-#[derive(Clone, Copy, Debug, PartialEq, Eq)]
-pub struct Key {
-    pub row: u8,
-    /// An item of the key's list, counted from 0; 0 where the key has none.
-    pub item: u16,
-}
-
-impl Key {
-    /// The whole document.
-    pub const DOCUMENT: Key = Key { row: 0, item: 0 };
-}
-
-/// Why a scenario is refused.
-#[derive(Clone, Copy, Debug, PartialEq, Eq)]
-pub enum Cause {
-    /// It is no TOML text of a scenario.
-    NotToml,
-}
+use scenario::{Cause, Key};
 
 /// What is limited.
 #[derive(Clone, Copy, Debug, PartialEq, Eq)]
 pub enum Which {
-    /// The bytes of the scenario.
+    /// The bytes of the scenario, at most 2^20.
     Scenario,
-    /// The bytes of the log.
+    /// The bytes of the log, at most as many as the scenario allows.
     Log,
 }
 
@@ -40,23 +20,21 @@ pub enum Status {
     Done,
     /// The words are not accepted.
     Usage,
-    /// The scenario is refused at this key.
+    /// The scenario is refused at this key, the first with a fault, for this cause.
     Scenario(Key, Cause),
-    /// The scenario was not to be had.
+    /// The scenario was not to be had: the shelf failed, or has nothing under the name.
     ShelfFault,
     /// The log could not be read on.
     ReadFault,
     /// The report could not be written on.
     WriteFault,
-    /// Something is longer than this many bytes.
+    /// Something is more than this many.
     Limit(Which, u64),
     /// Memory ran out.
     Memory,
 }
 
 impl Status {
-    ghost use Rattle.colregs_program.specs.Messages.{message_bytes};
-
     /// The exit status of the program.
     pub fn number(&self) -> u8
         ensures { result ≡ number_of self.now }
@@ -70,55 +48,6 @@ impl Status {
             Status::WriteFault => 6,
             Status::Limit(..) => 7,
             Status::Memory => 8,
-        }
-    }
-
-    /// What standard error gets. Only the text of a limit needs memory.
-    pub(crate) fn message(&self, alloc: Global) -> Result<Message, AllocError>
-        ensures text { IfOk result (λ message. message_bytes message ≡ fault_text self.now) }
-        ensures memory { OnErr result (IsLimit self.now) }
-    {
-        let text = match self {
-            Status::Done => "",
-            Status::Usage => "usage: points SCENARIO\n",
-            Status::Scenario(_, Cause::NotToml) => "scenario: document: not toml\n",
-            Status::ShelfFault => "scenario: not read\n",
-            Status::ReadFault => "log: not read\n",
-            Status::WriteFault => "report: not written\n",
-            Status::Limit(which, most) => return Ok(Message::Made(limit_text(
-                alloc, *which, *most,
-            )?)),
-            Status::Memory => "memory\n",
-        };
-        Ok(Message::Fixed(text))
-    }
-}
-
-fn limit_text(alloc: Global, which: Which, most: u64) -> Result<String, AllocError>
-    ensures { IfOk result (λ text. string_bytes text ≡ fault_text (Status.Limit which most)) }
-{
-    match which {
-        Which::Scenario => format!(in alloc; "limit: scenario {most}\n"),
-        Which::Log => format!(in alloc; "limit: log {most}\n"),
-    }
-}
-
-/// A line for standard error, or nothing.
-#[derive(Drop)]
-pub(crate) enum Message {
-    Fixed(&'static str),
-    Made(String),
-}
-
-impl Message {
-    ghost use Rattle.colregs_program.specs.Messages.{message_bytes};
-
-    pub(crate) fn as_bytes(&self) -> &[u8]
-        ensures { result.now ≡ message_bytes self.now }
-    {
-        match self {
-            Message::Fixed(text) => text.as_bytes(),
-            Message::Made(text) => text.as_bytes(),
         }
     }
 }

@@ -2,7 +2,7 @@ use Rattle.std.proofs.Common.{subst}
 use Rattle.colregs_program.specs.JudgedLines.{judged_lines}
 use Rattle.colregs_program.specs.LinesSoFar.{StandsFor}
 use Rattle.colregs_program.specs.PointsReport.{report_of}
-use Rattle.colregs_program.specs.declared.scenario.Scenario.{Scenario}
+use Rattle.scenario.specs.declared.values.Scenario.{Scenario}
 use Rattle.colregs_program.proofs.Reporting.{IfOk-weaker}
 use Rattle.colregs_program.proofs.report.points_report.Goals as goal
 

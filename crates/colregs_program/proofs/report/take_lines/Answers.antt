@@ -1,7 +1,7 @@
 use Rattle.std.proofs.Common.{◌+◌, subst, sym, ◌∙◌, arith}
 use Rattle.colregs_program.specs.JudgedLines.{judged_lines}
 use Rattle.colregs_program.specs.LinesSoFar.{StandsFor, scenario_of}
-use Rattle.colregs_program.specs.declared.scenario.Scenario.{Scenario}
+use Rattle.scenario.specs.declared.values.Scenario.{Scenario}
 use Rattle.colregs_program.proofs.Judging.{StandsUpTo, at_end, one_line_on}
 use Rattle.colregs_program.proofs.report.take_lines.Goals as goal
 

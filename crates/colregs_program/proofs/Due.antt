@@ -1,0 +1,80 @@
+-- The answer that words, shelf and log call for, step by step.
+use Rattle.std.proofs.Common.{ℕ, ◌≡◌, ◌≤◌, ◌<◌, ◌+◌, ◌⊎◌, nat_lt, List, length, Option, None, Some, IfSome, Result, Ok, Err, refl, ap, sym, subst, ◌∙◌, arith}
+use Rattle.outside.specs.Shelves.{Files, IsMissing}
+use Rattle.scenario.specs.declared.values.Scenario.{Scenario}
+use Rattle.colregs_program.specs.Answers.{IsDue, IsScenario, LiesUnder, Meets, Requested, greatest_scenario}
+use Rattle.colregs_program.specs.Endings.{refusal_of}
+use Rattle.colregs_program.specs.Requests.{Request, request_of}
+use Rattle.colregs_program.specs.Inner.SetUps.{IsSetUpDue, answer_of}
+use Rattle.colregs_program.specs.declared.request.Mode.{Mode}
+use Rattle.colregs_program.specs.declared.set_up.SetUpFault.{SetUpFault}
+use Rattle.colregs_program.specs.declared.set_up.SetUpFault.TheVariants as fault
+use Rattle.colregs_program.specs.declared.status.Status.{Status}
+use Rattle.colregs_program.specs.declared.status.Status.TheVariants as status
+use Rattle.colregs_program.specs.declared.status.Which.TheVariants as which
+
+pub usage_due : (words : List (List ℕ)) (files : Option Files) (log : Option (List ℕ)) (due : Status)
+    → request_of words ≡ None → IsDue words files log due → due ≡ status.Usage
+usage_due words files log status.Usage refused is = refl
+usage_due words files log status.ShelfFault refused is = cc (refused, is.1)
+usage_due words files log (status.Limit which.Scenario most) refused is = cc (refused, is.1.1)
+usage_due words files log (status.Limit which.Log most) refused is = cc (refused, is.3.accepted)
+usage_due words files log (status.Scenario key why) refused is = cc (refused, is.1)
+usage_due words files log status.Done refused is = cc (refused, is.3.accepted)
+usage_due words files log status.ReadFault refused is = absurd is
+usage_due words files log status.WriteFault refused is = absurd is
+usage_due words files log status.Memory refused is = absurd is
+
+-- the answer to what is met in a log
+abbrev pub answer_to : Option Status → Status
+answer_to None = status.Done
+answer_to (Some refusal) = refusal
+
+-- the answer that is due where setting up comes to this
+abbrev pub Follows : Option (List ℕ) → Mode → Status → Result Scenario SetUpFault → Type 0
+Follows log mode due (Ok scenario) = (bytes : List ℕ) × (log ≡ Some bytes) × (answer_to (refusal_of mode scenario bytes) ≡ due)
+Follows log mode due (Err why) = answer_of why ≡ due
+
+-- what setting up is to come to, where an answer is due
+pub record SetUpDue (files : Option Files) (log : Option (List ℕ)) (request : Request) (due : Status) : Type 0 where
+  pub came : Result Scenario SetUpFault
+  pub is : IsSetUpDue files request.name came
+  pub follows : Follows log request.mode due came
+
+-- P holds of what the words ask for
+of_request : (words : List (List ℕ)) (request : Request) (P : Request → Type 0) → request_of words ≡ Some request → Requested words P → P request
+of_request words request P accepted asked = let same : asked.0 ≡ request = cc (asked.1, accepted) in subst P same asked.2
+
+of_meeting : (words : List (List ℕ)) (files : Option Files) (log : Option (List ℕ)) (request : Request) (refusal : Option Status)
+    → request_of words ≡ Some request → Meets words files log refusal → SetUpDue files log request (answer_to refusal)
+of_meeting words files log request refusal accepted meets =
+    let same : meets.0 ≡ request = cc (meets.3.accepted, accepted) in
+    subst (λ (r : Request). SetUpDue files log r (answer_to refusal)) same (record {
+      came = Ok meets.1;
+      is = meets.3.lies;
+      follows = (meets.2, meets.3.gives, ap answer_to meets.4);
+    })
+
+pub set_up_due : (words : List (List ℕ)) (files : Option Files) (log : Option (List ℕ)) (request : Request) (due : Status)
+    → request_of words ≡ Some request → IsDue words files log due → SetUpDue files log request due
+set_up_due words files log request status.Usage accepted is = cc (accepted, is)
+set_up_due words files log request status.ShelfFault accepted is = record {
+  came = Err fault.NotHad;
+  is = of_request words request (λ r. IsMissing files r.name) accepted is;
+  follows = refl;
+}
+set_up_due words files log request (status.Limit which.Scenario most) accepted is = record {
+  came = Err fault.TooLong;
+  is = of_request words request (λ r. LiesUnder files r.name (λ text. greatest_scenario < length text)) accepted is.1;
+  follows = ap (status.Limit which.Scenario) (sym is.0);
+}
+set_up_due words files log request (status.Scenario key why) accepted is = record {
+  came = Err (fault.Refused key why);
+  is = of_request words request (λ r. IsSetUpDue files r.name (Err (fault.Refused key why))) accepted is;
+  follows = refl;
+}
+set_up_due words files log request (status.Limit which.Log most) accepted is = of_meeting words files log request (Some (status.Limit which.Log most)) accepted is
+set_up_due words files log request status.Done accepted is = of_meeting words files log request None accepted is
+set_up_due words files log request status.ReadFault accepted is = absurd is
+set_up_due words files log request status.WriteFault accepted is = absurd is
+set_up_due words files log request status.Memory accepted is = absurd is

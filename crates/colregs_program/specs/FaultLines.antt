@@ -1,0 +1,48 @@
+-- What a run writes to standard error: a line that names the fault.
+use Rattle.std.specs.Prelude.{ℕ, codes, Bool, true, false, List, [], ◌∷◌, ◌++◌}
+use Rattle.std.specs.Fmt.{decimal}
+use Rattle.scenario.specs.ScenarioTexts.{fault_text}
+use Rattle.colregs_program.specs.declared.status.Which.{Which}
+use Rattle.colregs_program.specs.declared.status.Which.TheVariants as which
+use Rattle.colregs_program.specs.declared.status.Status.{Status}
+use Rattle.colregs_program.specs.declared.status.Status.TheVariants as status
+
+abbrev pub line : List ℕ → List ℕ
+line text = text ++ 10 ∷ []
+
+abbrev pub limited : Which → List ℕ
+limited which.Scenario = codes "scenario"
+limited which.Log = codes "log"
+
+-- the line of a fault; nothing where the run is finished
+abbrev pub fault_line : Status → List ℕ
+fault_line status.Done = []
+fault_line status.Usage = line (codes "usage: points SCENARIO")
+fault_line (status.Scenario key cause) = line (codes "scenario: " ++ fault_text key cause)
+fault_line status.ShelfFault = line (codes "scenario: not read")
+fault_line status.ReadFault = line (codes "log: not read")
+fault_line status.WriteFault = line (codes "report: not written")
+fault_line (status.Limit which most) = line (codes "limit: " ++ limited which ++ codes " " ++ decimal most)
+fault_line status.Memory = line (codes "memory")
+
+-- the exit status
+abbrev pub number_of : Status → ℕ
+number_of status.Done = 0
+number_of status.Usage = 2
+number_of (status.Scenario key cause) = 3
+number_of status.ShelfFault = 4
+number_of status.ReadFault = 5
+number_of status.WriteFault = 6
+number_of (status.Limit which most) = 7
+number_of status.Memory = 8
+
+-- whether a fault's line is made of the fault's own numbers or names, which takes memory
+abbrev pub is_made : Status → Bool
+is_made (status.Limit which most) = true
+is_made (status.Scenario key cause) = true
+is_made status.Done = false
+is_made status.Usage = false
+is_made status.ShelfFault = false
+is_made status.ReadFault = false
+is_made status.WriteFault = false
+is_made status.Memory = false

@@ -1,0 +1,4 @@
+-- Definitions that proofs need and no public clause cites.
+pub mod LineBytes
+pub mod LogFaults
+pub mod SetUps

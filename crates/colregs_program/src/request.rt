@@ -1,0 +1,52 @@
+//! What the words of the command line ask for.
+ghost use Rattle.std.specs.Prelude.{◌≡◌, option_map};
+ghost use Rattle.colregs_program.specs.Requests.{is_name, mode_named, request_of};
+
+use outside::Word;
+
+/// What the program is to do.
+#[derive(Clone, Copy, Debug, PartialEq, Eq)]
+pub enum Mode {
+    /// Positions out of a log, as points of the plane.
+    Points,
+}
+
+/// What is asked for: a mode, with the scenario of a name.
+#[derive(Clone, Copy)]
+pub(crate) struct Request<'a> {
+    pub(crate) mode: Mode,
+    pub(crate) name: &'a Word,
+}
+
+fn is_name(word: &Word) -> bool
+    ensures { result ≡ is_name word.now }
+{
+    match word.bytes() {
+        [] => false,
+        [first, ..] => *first != b'-',
+    }
+}
+
+fn mode_named(word: &Word) -> Option<Mode>
+    ensures { result ≡ mode_named word.now }
+{
+    match word.text() {
+        "points" => Some(Mode::Points),
+        _ => None,
+    }
+}
+
+/// What the words ask for, where they are accepted.
+pub(crate) fn request_of(words: &[Word]) -> Option<Request<'_>>
+    ensures { option_map (λ request. record { mode = request.mode; name = request.name.now }) result
+        ≡ request_of words.now }
+{
+    let [mode, name] = words else {
+        return None;
+    };
+    if !is_name(name) {
+        return None;
+    }
+    let mode = mode_named(mode)?;
+    Some(Request { mode, name })
+}

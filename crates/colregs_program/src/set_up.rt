@@ -1,0 +1,80 @@
+//! The scenario of a run, from the shelf.
+ghost use Rattle.std.specs.Prelude.{◌≡◌, ◌⊎◌, ◌≤◌, ◌^◌, length, IfOk, IfErr, OnOk, Result, Err, Some};
+ghost use Rattle.outside.specs.Causes.{one_more};
+ghost use Rattle.scenario.specs.declared.values.Scenario.{Scenario};
+ghost use Rattle.colregs_program.specs.Answers.{Holds, IsScenario};
+ghost use Rattle.colregs_program.specs.Inner.SetUps.{IsSetUpDue, SetUpCause};
+ghost use Rattle.colregs_program.specs.declared.set_up.SetUpFault.{SetUpFault};
+
+use crate::status::{Status, Which};
+use outside::{Fetched, Shelf, Word};
+use scenario::{Cause, Key, Scenario, ScenarioFault, read};
+use std::alloc::Global;
+
+/// The greatest length of a scenario, in bytes.
+pub(crate) const GREATEST_SCENARIO: u64 = 1 << 20;
+
+/// Why there is no scenario.
+#[derive(Clone, Copy, Debug, PartialEq, Eq)]
+pub(crate) enum SetUpFault {
+    /// The shelf failed, or has nothing under the name.
+    NotHad,
+    /// It is longer than the limit.
+    TooLong,
+    /// The first key with a fault.
+    Refused(Key, Cause),
+    Memory,
+}
+
+impl From<ScenarioFault> for SetUpFault {
+    ghost use Rattle.std.specs.Prelude.{◌≡◌};
+    ghost use Rattle.colregs_program.specs.Inner.SetUps.{set_up_fault};
+
+    ghost from_gives = { λ fault made. made ≡ set_up_fault fault };
+
+    fn from(fault: ScenarioFault) -> SetUpFault {
+        match fault {
+            ScenarioFault::Fault(key, cause) => SetUpFault::Refused(key, cause),
+            ScenarioFault::Memory => SetUpFault::Memory,
+        }
+    }
+}
+
+impl From<SetUpFault> for Status {
+    ghost use Rattle.std.specs.Prelude.{◌≡◌};
+    ghost use Rattle.colregs_program.specs.Inner.SetUps.{answer_of};
+
+    ghost from_gives = { λ fault status. status ≡ answer_of fault };
+
+    fn from(fault: SetUpFault) -> Status {
+        match fault {
+            SetUpFault::NotHad => Status::ShelfFault,
+            SetUpFault::TooLong => Status::Limit(Which::Scenario, GREATEST_SCENARIO),
+            SetUpFault::Refused(key, cause) => Status::Scenario(key, cause),
+            SetUpFault::Memory => Status::Memory,
+        }
+    }
+}
+
+/// The scenario under a name.
+pub(crate) fn set_up<H: Shelf>(
+    alloc: Global,
+    name: &Word,
+    shelf: &mut H,
+) -> Result<Scenario, SetUpFault>
+    ensures scenario { IfOk result (λ scenario. Holds (H.files shelf.old) name.now (λ text. IsScenario text scenario)) }
+    ensures cause { IfErr result (SetUpCause (H.files shelf.old) name.now (H.faults shelf.old) (H.faults shelf.new)) }
+    ensures due { (due : Result Scenario SetUpFault) → IsSetUpDue (H.files shelf.old) name.now due
+        → (H.faults shelf.new ≡ one_more (H.faults shelf.old)) ⊎ ((result ≡ due) ⊎ (result ≡ Err SetUpFault.Memory)) }
+    ensures fetched { H.fetches shelf.new ≡ one_more (H.fetches shelf.old) }
+{
+    match shelf.fetch(alloc, name, GREATEST_SCENARIO) {
+        Fetched::Bytes(text) => match read(alloc, text.as_slice(), false) {
+            Ok(scenario) => Ok(scenario),
+            Err(fault) => Err(fault.into()),
+        },
+        Fetched::TooLong => Err(SetUpFault::TooLong),
+        Fetched::Failed => Err(SetUpFault::NotHad),
+        Fetched::Memory => Err(SetUpFault::Memory),
+    }
+}
