@@ -1,5 +1,5 @@
 -- The first fault of a list of rows, and the row of a number.
-use Rattle.std.proofs.Common.{◌≡◌, ℕ, suc, List, [], ◌∷◌, ◌++◌, map, find, ◌==◌, Bool, true, false, if◌then◌else◌, Option, Some, None, refl, ap, sym, ◌∙◌, All, IfSome, arith, option_map}
+use Rattle.std.proofs.Common.{◌≡◌, ℕ, suc, List, [], ◌∷◌, ◌++◌, map, find, ◌==◌, true, false, if◌then◌else◌, Option, Some, None, refl, ap, sym, ◌∙◌, All, IfSome, arith, option_map}
 use Rattle.std.proofs.lemmas.List.Elements.{All-cons}
 use Rattle.scenario.specs.ScenarioKeys.{Row}
 use Rattle.scenario.specs.KeyFaults.{IsFirst}

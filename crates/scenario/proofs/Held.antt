@@ -1,6 +1,6 @@
 -- What a document without a fault holds at a key.
 use Rattle.std.specs.Prelude.{if◌then◌else◌, codes, find}
-use Rattle.std.proofs.Common.{subst, MatchOption, ◌≡◌, ℕ, suc, ◌≤◌, ◌&&◌, ℤ, pos, negsuc, ◌≤ℤ◌, int_le, nat_le, List, [], ◌∷◌, Bool, true, false, Option, Some, None, Result, Ok, Err, refl, ◌∙◌, All, arith}
+use Rattle.std.proofs.Common.{subst, MatchOption, ◌≡◌, ℕ, suc, ◌≤◌, ◌&&◌, ℤ, pos, negsuc, ◌≤ℤ◌, int_le, List, [], ◌∷◌, Bool, true, false, Option, Some, None, Result, Ok, Err, refl, ◌∙◌, All, arith}
 use Rattle.std.proofs.lemmas.Bool.{and_parts}
 use Rattle.std.proofs.lemmas.Int.{ints}
 use Rattle.std.proofs.lemmas.Bool.Decides.{nat_tests}

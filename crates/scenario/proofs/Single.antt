@@ -1,12 +1,10 @@
 -- A document has one meaning: its values, or its first fault.
-use Rattle.std.specs.Prelude.{IsUtf8}
-use Rattle.std.proofs.Common.{◌≡◌, ◌⊎◌, inl, inr, ℕ, pos, List, map, Option, Some, None, Result, Ok, Err, IfOk, refl, ap, sym, ◌∙◌, subst}
+use Rattle.std.proofs.Common.{◌≡◌, ◌⊎◌, inl, inr, ℕ, List, map, Some, None, Result, Ok, Err, IfOk, refl, ap, sym, ◌∙◌, subst}
 use Rattle.toml.specs.Data.{Members}
-use Rattle.toml.specs.Parse.{parse_document}
 use Rattle.scenario.specs.ScenarioKeys.{rows}
 use Rattle.scenario.specs.KeyFaults.{fault_of, tick_of, IsFaultless, IsFirstFault}
 use Rattle.scenario.specs.ScenarioValues.{scenario_of}
-use Rattle.scenario.specs.ScenarioReading.{IsFaultOfKey, IsNoToml, IsRefused, Means, Reads}
+use Rattle.scenario.specs.ScenarioReading.{IsRefused, Means, Reads}
 use Rattle.scenario.specs.Inner.FirstOf.{first_of}
 use Rattle.scenario.proofs.Firsts.{first_at, none_of}
 use Rattle.scenario.specs.declared.cause.Cause.{Cause}

@@ -1,5 +1,5 @@
 -- The values of a scenario: the numbers at its keys, and their ranges.
-use Rattle.std.specs.Prelude.{◌≡◌, ℕ, ◌≤◌, ◌^◌, ℤ, pos, negsuc, codes, List, Option, Some, None}
+use Rattle.std.specs.Prelude.{ℕ, ◌≤◌, ◌^◌, ℤ, pos, negsuc, codes, List, Option, Some, None}
 use Rattle.toml.specs.Data.{Data, Members, as_integer}
 use Rattle.fixed_geometry.specs.Place.{Place}
 use Rattle.scenario.specs.KeyFaults.{found_in, integer_at, table_at}
