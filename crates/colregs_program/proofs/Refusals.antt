@@ -51,9 +51,9 @@ came_due words files log request due before now came accepted is gives calm =
     elim (gives d.came d.is) [
       | inl risen ↦ absurd (calm (rose before now risen))
       | inr either ↦ elim either [
-          | inl same ↦ inl (subst (Follows log request.mode due) (sym same) d.follows)
-          | inr memory ↦ inr memory
-        ]
+        | inl same ↦ inl (subst (Follows log request.mode due) (sym same) d.follows)
+        | inr memory ↦ inr memory
+      ]
     ]
 
 pub not_set_up : (words : List (List ℕ)) (files : Option Files) (log : Option (List ℕ)) (request : Request) (due told : Status) (before now : ℕ) (why : SetUpFault) (Made : Type 0)
@@ -63,8 +63,8 @@ not_set_up words files log request due told before now why Made accepted is give
     elim (came_due words files log request due before now (Err why) accepted is gives calm) [
       | inl follows ↦ told_is told (set_up.answer_of why) due Made is_told follows
       | inr memory ↦
-        let memory_alone : why ≡ fault.Memory = cc memory in
-        inr (memory_told told Made (subst (λ (w : SetUpFault). IsTold told (set_up.answer_of w) Made) memory_alone is_told))
+          let memory_alone : why ≡ fault.Memory = cc memory in
+          inr (memory_told told Made (subst (λ (w : SetUpFault). IsTold told (set_up.answer_of w) Made) memory_alone is_told))
     ]
 
 -- where setting up gave a scenario, the log decides

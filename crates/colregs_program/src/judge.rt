@@ -10,10 +10,10 @@ use crate::count_rows::{all_outcomes, write_counts};
 use crate::csv_rows::CsvRows;
 use crate::outcome::LineOutcome;
 use crate::point_rows::{PointTexts, write_point};
-use scenario::Scenario;
 use ais_messages::{Decoded, Message, decode};
 use aivdm::{Body, Joined, Joiner, read_line};
 use outside::Memory;
+use scenario::Scenario;
 use std::alloc::Global;
 use std::collections::BTreeMap;
 

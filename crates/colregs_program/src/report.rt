@@ -76,12 +76,7 @@ fn points_report(alloc: Global, scenario: &Scenario, log: &[u8]) -> Result<Vec<u
 }
 
 /// What the request comes to on a log.
-fn ending(
-    alloc: Global,
-    mode: Mode,
-    scenario: &Scenario,
-    log: &[u8],
-) -> Result<Vec<u8>, Memory>
+fn ending(alloc: Global, mode: Mode, scenario: &Scenario, log: &[u8]) -> Result<Vec<u8>, Memory>
     ensures { IfOk result (λ ending. ending.items ≡ ending_of mode scenario.now log.now) }
 {
     match mode {

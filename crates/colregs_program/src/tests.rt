@@ -2,7 +2,7 @@
 ghost use Rattle.outside.specs.Calls.{AreCallNumbers};
 
 use crate::{Cause, Key, Status, Which, laws, run};
-use outside::{MemorySink, MemorySource, PlainShelf, PlainSource, Source, Word};
+use outside::{MemorySink, MemorySource, PlainShelf, PlainSource, Source, Taken, Word};
 use std::alloc::Global;
 use std::test::Fail;
 
@@ -117,16 +117,19 @@ fn empty_log(rt: HostRuntime) -> Result<(), Fail> {
 }
 
 #[test]
-fn scenario_that_no_toml_text_is(rt: HostRuntime) -> Result<(), Fail> {
+fn refused_scenario_is_told_by_its_first_fault(rt: HostRuntime) -> Result<(), Fail> {
     let ended = refused(rt.alloc(), "version = = 1", LOG, Vec::new(rt.alloc()))?;
-    assert_eq!(rt;
-        ended.status,
-        Status::Scenario(Key::DOCUMENT, Cause::NotToml)
-    );
+    let document = Key { row: 0, item: 0 };
+    assert_eq!(rt; ended.status, Status::Scenario(document, Cause::NotToml));
     assert_eq!(rt; ended.status.number(), 3);
     assert_eq!(rt;
         ended.err.bytes(),
         b"scenario: document: not toml\n".as_slice()
+    );
+    let ended = refused(rt.alloc(), "version = 1\n", LOG, Vec::new(rt.alloc()))?;
+    assert_eq!(rt;
+        ended.err.bytes(),
+        b"scenario: window.start: missing\n".as_slice()
     );
     assert!(rt; ended.out.bytes().is_empty());
     Ok(())
@@ -165,19 +168,36 @@ fn log_of_one_byte_more_than_the_scenario_allows(rt: HostRuntime) -> Result<(), 
     Ok(())
 }
 
+// What is left of the log shows that nothing is read behind the fault.
 #[test]
 fn source_that_fails_after_a_hundred_bytes(rt: HostRuntime) -> Result<(), Fail> {
-    let log = marks(rt.alloc(), 200)?;
-    let ended = refused(
-        rt.alloc(),
-        SCENARIO,
-        log.as_slice(),
-        vec![in rt.alloc(); 1]?,
-    )?;
+    let fails = vec![in rt.alloc(); 1]?;
+    let mut log = MemorySource::new(marks(rt.alloc(), 150)?, 100, fails);
+    let ended = points(rt.alloc(), SCENARIO, &mut log)?;
     assert_eq!(rt; ended.status, Status::ReadFault);
     assert_eq!(rt; ended.status.number(), 5);
     assert_eq!(rt; ended.err.bytes(), b"log: not read\n".as_slice());
     assert!(rt; ended.out.bytes().is_empty());
+    let mut room = [0u8; 100];
+    assert_eq!(rt; log.read(&mut room), Taken::Got(50));
+    Ok(())
+}
+
+// Long enough that each of its lines, and the report, ask for memory more than once.
+#[test]
+fn log_of_three_hundred_lines(rt: HostRuntime) -> Result<(), Fail> {
+    let mut log = Vec::new(rt.alloc());
+    for _ in 0..300u32 {
+        log.extend_from_slice(LOG)?;
+    }
+    let mut source = PlainSource::new(log, 1000);
+    let ended = points(rt.alloc(), SCENARIO, &mut source)?;
+    assert_eq!(rt; ended.status, Status::Done);
+    assert!(rt;
+        ended.out.bytes().ends_with(
+            b"lines,back,299,,,,\nlines,repeat,0,,,,\nlines,jump,0,,,,\nlines,static,0,,,,\nlines,point,1,,,,\n"
+        )
+    );
     Ok(())
 }
 
@@ -210,9 +230,10 @@ fn shelf_without_the_name(rt: HostRuntime) -> Result<(), Fail> {
     Ok(())
 }
 
-#[test]
-fn sink_whose_first_write_fails(rt: HostRuntime) -> Result<(), Fail> {
-    let alloc = rt.alloc();
+/// Runs `points` on the good scenario and log, where these writes to `out` fail and each to `err` does.
+fn failing(alloc: Global, fails: Vec<u64>) -> Result<Ended, Fail>
+    requires { AreCallNumbers fails.items }
+{
     let words = vec![in alloc;
         Word::new(alloc, "points")?,
         Word::new(alloc, "scenario.toml")?,
@@ -223,8 +244,8 @@ fn sink_whose_first_write_fails(rt: HostRuntime) -> Result<(), Fail> {
     );
     let mut shelf = PlainShelf::new(vec![in alloc; file]?);
     let mut log = PlainSource::new(LOG.to_vec(alloc)?, 100);
-    let mut out = MemorySink::new(alloc, 1000, vec![in alloc; 0]?);
-    let mut err = MemorySink::new(alloc, 1000, Vec::new(alloc));
+    let mut out = MemorySink::new(alloc, 100, fails);
+    let mut err = MemorySink::new(alloc, 100, vec![in alloc; 0]?);
     let status = run(
         alloc,
         words.as_slice(),
@@ -233,9 +254,19 @@ fn sink_whose_first_write_fails(rt: HostRuntime) -> Result<(), Fail> {
         &mut out,
         &mut err,
     );
-    assert_eq!(rt; status, Status::WriteFault);
-    assert_eq!(rt; status.number(), 6);
-    assert!(rt; out.bytes().is_empty());
-    assert_eq!(rt; err.bytes(), b"report: not written\n".as_slice());
+    Ok(Ended { status, out, err })
+}
+
+// A failing standard error changes no status.
+#[test]
+fn each_write_that_fails_leaves_the_front_before_it(rt: HostRuntime) -> Result<(), Fail> {
+    for call in 0..4u64 {
+        let ended = failing(rt.alloc(), vec![in rt.alloc(); call]?)?;
+        assert_eq!(rt; ended.status, Status::WriteFault);
+        assert_eq!(rt; ended.status.number(), 6);
+        assert_eq!(rt; ended.out.bytes().len(), call as usize * 100);
+        assert!(rt; REPORT.starts_with(ended.out.bytes()));
+        assert!(rt; ended.err.bytes().is_empty());
+    }
     Ok(())
 }
