@@ -5,7 +5,7 @@ use Rattle.std.proofs.lemmas.Grind.{flat_map-append}
 use Rattle.std.proofs.lemmas.Nat.{mod-pow-add, div-mul-add, mod_low}
 use Rattle.std.specs.Int.{bit_at}
 use Rattle.aivdm.specs.BitFields.{binary, number_of, unsigned_at}
-use Rattle.aivdm.specs.Sextets.{bits_in}
+use Rattle.aivdm.specs.Inner.Sextets.{bits_in}
 
 -- ---- numbers and their bits
 

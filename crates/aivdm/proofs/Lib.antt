@@ -1,3 +1,5 @@
 pub mod BitLists
+pub mod Blocks
+pub mod Masks
 pub mod Payloads
-pub mod Lines
+pub mod Positions

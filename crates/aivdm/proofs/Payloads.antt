@@ -5,7 +5,7 @@ use Rattle.std.proofs.lemmas.Bool.Decides.{nat_tests}
 use Rattle.std.specs.List.{refill}
 use Rattle.aivdm.specs.BitFields.{binary}
 use Rattle.aivdm.specs.PayloadBits.{bits_of, is_armour, six_bits}
-use Rattle.aivdm.specs.Sextets.{bits_in, AreSextets}
+use Rattle.aivdm.specs.Inner.Sextets.{bits_in, AreSextets}
 use Rattle.aivdm.proofs.BitLists.{length-bits_in}
 
 six_bits-below : (byte : ℕ) → IsTrue (is_armour byte) → six_bits byte < 64

@@ -1,4 +1,11 @@
 pub mod BitFields
-pub mod PayloadBits
+pub mod Checksums
+pub mod FragmentJoining
+pub mod Inner
 pub mod LineReading
-pub mod Sextets
+pub mod OpenMessages
+pub mod PayloadBits
+pub mod ReadingOf
+pub mod SentenceWriting
+pub mod Sentences
+pub mod TagBlocks

@@ -1,109 +1,145 @@
--- What a line of an AIS log says (IEC 61162-1, the VDM sentence).
-use Rattle.std.specs.Prelude.{◌≡◌, ℕ, ◌+◌, ◌*◌, ◌≤◌, Bool, false, ◌&&◌, ◌==◌, List, [], ◌∷◌, ◌++◌, length, take, drop, fold, bit_xor, All, IsTrue, Option, Some, None, IfSome, Result, Ok, Err, slice_get, nat_eq, bytes_eq, codes, if◌then◌else◌}
-use Rattle.std.specs.List.{slice_split, join_with_byte, list_all}
-use Rattle.std.specs.Char.{is_ascii_uppercase, is_ascii_alphanumeric, is_digit, digit_value}
-use Rattle.std.specs.Option.{option_eq}
-use Rattle.aivdm.specs.declared.sentence.Sentence.{Sentence}
-use Rattle.aivdm.specs.declared.sentence.LineCause.{LineCause}
-use Rattle.aivdm.specs.declared.sentence.LineCause.TheVariants.{Form}
-use Rattle.aivdm.specs.declared.sentence.Body.{Body}
-use Rattle.aivdm.specs.declared.sentence.Body.TheVariants as body
-use Rattle.aivdm.specs.declared.sentence.Reading.{Reading}
+-- What a line of an AIS log says (IEC 61162-1:2010, sentences VDM and VDO; NMEA 0183 4.10, TAG block).
+use Rattle.std.specs.Prelude.{◌≡◌, ℕ, ◌-◌, ◌≤◌, ◌<◌, Bool, false, ◌||◌, ◌==◌, List, [], ◌∷◌, ◌++◌, length, All, IsTrue, Option, Some, None, IsSome, IfSome, Result, Ok, Err, slice_get}
+use Rattle.std.specs.List.{join_with_byte}
+use Rattle.std.specs.Option.{option_map}
+use Rattle.std.specs.Char.{is_ascii_uppercase, is_ascii_digit, is_ascii_alphanumeric}
+use Rattle.aivdm.specs.Checksums.{sum_of, hexadecimal}
 use Rattle.aivdm.specs.PayloadBits.{is_armour}
+use Rattle.aivdm.specs.Sentences.{SentenceFields, LineContent}
+use Rattle.aivdm.specs.TagBlocks.{IsTagged}
+use Rattle.aivdm.specs.declared.sentence.LineCause.{LineCause}
+use Rattle.aivdm.specs.declared.sentence.LineCause.TheVariants.{Empty, Long, Tag, Other, Form, Sum, Armour}
 
--- a sentence's fields
-pub record SentenceFields : Type 0 where
+-- ---- how a sentence is spelled
+
+-- a sentence's bytes, field by field
+pub record SentenceText : Type 0 where
+  pub talker : List ℕ
+  pub kind : ℕ
   pub total : ℕ
   pub number : ℕ
-  pub seq : Option ℕ
-  pub channel : Option ℕ
+  pub seq : List ℕ
+  pub channel : List ℕ
   pub payload : List ℕ
   pub fill : ℕ
+  pub high : ℕ
+  pub low : ℕ
+  pub suffix : List ℕ
 
--- what a line says: its stamp, and the sentence on it or why it is none
-pub record LineContent : Type 0 where
-  pub stamp : Option ℕ
-  pub body : Result SentenceFields LineCause
+-- the bytes strictly between `!` and the `*` behind the fill, over which the sum goes: 86 and 68 are `VD`, 44 is a comma
+abbrev pub summed : SentenceText → List ℕ
+summed t = join_with_byte 44
+    ((t.talker ++ 86 ∷ 68 ∷ t.kind ∷ []) ∷ (t.total ∷ []) ∷ (t.number ∷ []) ∷ t.seq ∷ t.channel ∷ t.payload ∷ (t.fill ∷ []) ∷ [])
 
--- the bytes between the commas
-abbrev pub cut_at_commas : List ℕ → List (List ℕ)
-cut_at_commas line = slice_split (λ byte. byte == 44) line
+-- from `!` (33) on; behind `*` (42) stand the digits of the sum, and what may follow them
+abbrev pub sentence_text : SentenceText → List ℕ
+sentence_text t = 33 ∷ summed t ++ 42 ∷ t.high ∷ t.low ∷ t.suffix
 
--- the exclusive or of the bytes
-abbrev pub sum_of : List ℕ → ℕ
-sum_of bytes = fold bit_xor 0 bytes
+-- ---- the form of each field
 
--- one capital letter
-abbrev pub is_channel : List ℕ → Bool
-is_channel (letter ∷ []) = is_ascii_uppercase letter
-is_channel _ = false
+-- two capital letters or digits, then `VDM` or `VDO`
+pub record IsAddress (talker : List ℕ) (kind : ℕ) : Type 0 where
+  pub two : length talker ≡ 2
+  pub bytes : All (λ byte. IsTrue (is_ascii_uppercase byte || is_ascii_digit byte)) talker
+  pub letter : IsTrue ((kind == 77) || (kind == 79))
 
--- 28 bytes, each of which stands for six bits
-abbrev pub is_payload : List ℕ → Bool
-is_payload payload = (length payload == 28) && list_all is_armour payload
+-- one byte that passes the test, or nothing
+pub record IsOptional (test : ℕ → Bool) (field : List ℕ) : Type 0 where
+  pub one : length field ≤ 1
+  pub each : All (λ byte. IsTrue (test byte)) field
 
--- the number that two hexadecimal digits of either case spell
-abbrev pub hexadecimal : ℕ → ℕ → Option ℕ
-hexadecimal high low =
-    if is_digit high 16 && is_digit low 16 then Some (16 * digit_value high + digit_value low) else None
+-- nothing, or a comma, a space or a tab and anything
+abbrev pub IsSuffix : List ℕ → Type 0
+IsSuffix suffix = IfSome (slice_get suffix 0) (λ byte. IsTrue ((byte == 44) || (byte == 32) || (byte == 9)))
 
--- the sum that the last field tells, after the fill 0 and `*`
-abbrev pub sum_told : List ℕ → Option ℕ
-sum_told (fill ∷ star ∷ high ∷ low ∷ []) = if (fill == 48) && (star == 42) then hexadecimal high low else None
-sum_told _ = None
+-- Each field is of its form: 48 to 57 are the digits. The total is 1 to 9, the number 1 to the total, the fill 0 to 5.
+pub record HasForm (t : SentenceText) : Type 0 where
+  pub address : IsAddress t.talker t.kind
+  pub total_from : 49 ≤ t.total
+  pub total_to : t.total ≤ 57
+  pub number_from : 49 ≤ t.number
+  pub number_to : t.number ≤ t.total
+  pub seq : IsOptional is_ascii_digit t.seq
+  pub channel : IsOptional is_ascii_alphanumeric t.channel
+  pub payload_some : 1 ≤ length t.payload
+  pub payload_bytes : All (λ byte. (byte == 44) ≡ false) t.payload
+  pub fill_from : 48 ≤ t.fill
+  pub fill_to : t.fill ≤ 53
+  pub sum_digits : IsSome (hexadecimal t.high t.low)
+  pub suffix : IsSuffix t.suffix
 
--- each field of a sentence is of its form, and the sum that it tells is this one
-abbrev pub are_right : (head total number seq channel payload end : List ℕ) → ℕ → Bool
-are_right head total number seq channel payload end sum =
-    bytes_eq head (codes "!AIVDM") && bytes_eq total (codes "1") && bytes_eq number (codes "1") && bytes_eq seq []
-    && is_channel channel && is_payload payload && option_eq nat_eq (sum_told end) (Some sum)
+-- The sum that the sentence tells is its own.
+abbrev pub HasSum : SentenceText → Type 0
+HasSum t = hexadecimal t.high t.low ≡ Some (sum_of (summed t))
 
--- The sentence with these fields between its commas. The sum is over what lies strictly between `!` and `*`.
-abbrev pub sentence_of : List (List ℕ) → Result SentenceFields LineCause
-sentence_of (head ∷ total ∷ number ∷ seq ∷ channel ∷ payload ∷ end ∷ []) =
-    let summed = join_with_byte 44 (drop 1 head ∷ total ∷ number ∷ seq ∷ channel ∷ payload ∷ take 1 end ∷ []) in
-    if are_right head total number seq channel payload end (sum_of summed)
-    then Ok (record { total = 1; number = 1; seq = None; channel = slice_get channel 0; payload = payload; fill = 0 })
-    else Err Form
-sentence_of _ = Err Form
+-- Each byte of the payload stands for six bits.
+abbrev pub IsArmoured : List ℕ → Type 0
+IsArmoured payload = All (λ byte. IsTrue (is_armour byte)) payload
 
--- what a line says, as a function of its bytes
-unfoldable pub reading_of : List ℕ → LineContent
-reading_of line = record { stamp = None; body = sentence_of (cut_at_commas line) }
+-- what the fields say
+abbrev pub fields_of : SentenceText → SentenceFields
+fields_of t = record {
+  total = t.total - 48;
+  number = t.number - 48;
+  seq = option_map (λ digit. digit - 48) (slice_get t.seq 0);
+  channel = slice_get t.channel 0;
+  payload = t.payload;
+  fill = t.fill - 48;
+}
 
--- ---- a reading, with its payload as a list
+-- ---- why a line is no sentence
 
-abbrev pub fields_seen : Sentence → SentenceFields
-fields_seen s = record { total = s.total; number = s.number; seq = s.seq; channel = s.channel; payload = s.payload.now; fill = s.fill }
+-- The rest of a line begins as a VDM or VDO sentence does.
+abbrev pub BeginsAsSentence : List ℕ → Type 0
+BeginsAsSentence rest =
+    (talker : List ℕ) × (kind : ℕ) × (more : List ℕ) × IsAddress talker kind × (rest ≡ 33 ∷ talker ++ 86 ∷ 68 ∷ kind ∷ 44 ∷ more)
 
-abbrev pub sentence_seen : Result Sentence LineCause → Result SentenceFields LineCause
-sentence_seen (Ok s) = Ok (fields_seen s)
-sentence_seen (Err cause) = Err cause
+-- what each cause says of a line; from `tag` on it says which splits of the line there are none of
+abbrev pub Applies : LineCause → List ℕ → Type 0
+Applies Empty line = line ≡ []
+Applies Long line = 1024 < length line
+Applies Tag line = (stamp : Option ℕ) (rest : List ℕ) → ¬ (IsTagged line stamp rest)
+Applies Other line = (stamp : Option ℕ) (rest : List ℕ) → IsTagged line stamp rest → ¬ (BeginsAsSentence rest)
+Applies Form line = (stamp : Option ℕ) (t : SentenceText) → IsTagged line stamp (sentence_text t) → ¬ (HasForm t)
+Applies Sum line = (stamp : Option ℕ) (t : SentenceText) → IsTagged line stamp (sentence_text t) → HasForm t → ¬ (HasSum t)
+Applies Armour line = (stamp : Option ℕ) (t : SentenceText) → IsTagged line stamp (sentence_text t) → HasForm t → HasSum t → ¬ (IsArmoured t.payload)
 
-abbrev pub body_seen : Body → Result SentenceFields LineCause
-body_seen (body.Sentence s) = Ok (fields_seen s)
-body_seen (body.Dropped cause) = Err cause
+-- the order in which they are tested
+abbrev pub causes : List LineCause
+causes = Empty ∷ Long ∷ Tag ∷ Other ∷ Form ∷ Sum ∷ Armour ∷ []
 
-abbrev pub reading_seen : Reading → LineContent
-reading_seen r = record { stamp = r.stamp; body = body_seen r.body }
+-- the first cause that applies
+pub record IsFirstCause (cause : LineCause) (line : List ℕ) : Type 0 where
+  pub before : List LineCause
+  pub after : List LineCause
+  pub place : causes ≡ before ++ cause ∷ after
+  pub none : All (λ earlier. ¬ (Applies earlier line)) before
+  pub applies : Applies cause line
 
--- P holds of the sentence, if there is one
-abbrev pub IfSentence : Body → (Sentence → Type 0) → Type 0
-IfSentence (body.Sentence s) P = P s
-IfSentence (body.Dropped cause) P = Unit {0}
+-- A line that is dropped as empty, long or for its tag block has no stamp. Each other has that of its tag block.
+abbrev pub KeepsStamp : LineCause → List ℕ → Option ℕ → Type 0
+KeepsStamp Empty line stamp = stamp ≡ None
+KeepsStamp Long line stamp = stamp ≡ None
+KeepsStamp Tag line stamp = stamp ≡ None
+KeepsStamp Other line stamp = (rest : List ℕ) × IsTagged line stamp rest
+KeepsStamp Form line stamp = (rest : List ℕ) × IsTagged line stamp rest
+KeepsStamp Sum line stamp = (rest : List ℕ) × IsTagged line stamp rest
+KeepsStamp Armour line stamp = (rest : List ℕ) × IsTagged line stamp rest
 
--- the fields are those of some sentence
-pub record IsSentence (s : SentenceFields) : Type 0 where
-  pub counted : 1 ≤ s.number
-  pub within : s.number ≤ s.total
-  pub total_digit : s.total ≤ 9
-  pub seq_digit : IfSome s.seq (λ digit. digit ≤ 9)
-  pub channel_letter : IfSome s.channel (λ byte. IsTrue (is_ascii_alphanumeric byte))
-  pub some_payload : 1 ≤ length s.payload
-  pub short_payload : length s.payload ≤ 1024
-  pub armoured : All (λ byte. IsTrue (is_armour byte)) s.payload
-  pub fill_bits : s.fill ≤ 5
+-- ---- the reading
 
--- the list is a part of the other one, without a gap
-abbrev pub IsPart : List ℕ → List ℕ → Type 0
-IsPart part whole = (front back : List ℕ) × (whole ≡ front ++ (part ++ back))
+-- The line is this sentence, behind a tag block with this stamp, or none.
+pub record IsSentenceLine (line : List ℕ) (stamp : Option ℕ) (t : SentenceText) : Type 0 where
+  pub short : length line ≤ 1024
+  pub tagged : IsTagged line stamp (sentence_text t)
+  pub form : HasForm t
+  pub sum : HasSum t
+  pub armour : IsArmoured t.payload
+
+abbrev pub IsBody : List ℕ → Option ℕ → Result SentenceFields LineCause → Type 0
+IsBody line stamp (Ok fields) = (t : SentenceText) × IsSentenceLine line stamp t × (fields ≡ fields_of t)
+IsBody line stamp (Err cause) = IsFirstCause cause line × KeepsStamp cause line stamp
+
+-- what the line says; each line has exactly one reading
+abbrev pub IsReading : List ℕ → LineContent → Type 0
+IsReading line content = IsBody line content.stamp content.body

@@ -1,15 +1,16 @@
 //! The bits of a message.
-ghost use Rattle.std.specs.Prelude.{◌≡◌, ◌==◌, ◌+◌, ◌^◌, ◌<◌, ◌≤◌, length, map, All, IfOk, IsOk, IsTrue};
-ghost use Rattle.aivdm.specs.BitFields.{number_of, signed_at, unsigned_at};
+ghost use Rattle.std.specs.Prelude.{◌≡◌, ◌==◌, ◌+◌, ◌-◌, ◌*◌, ◌/◌, ◌%◌, ◌^◌, ◌<◌, ◌≤◌, ◌++◌, [], length, map, take, All, IfOk, IsOk, IsTrue, OnOk, OnErr};
+ghost use Rattle.smallvec.specs.SmallVec.{small_vec_len, HasRoomFor};
+ghost use Rattle.aivdm.specs.BitFields.{binary, number_of, signed_at, unsigned_at};
 ghost use Rattle.aivdm.specs.PayloadBits.{bits_of, is_armour, six_bits};
-ghost use Rattle.aivdm.specs.Sextets.{bits_in};
+ghost use Rattle.aivdm.specs.Inner.Sextets.{bits_in, sextets_of, AreSextets};
 
 use outside::Memory;
 use smallvec::SmallVec;
 use std::alloc::Global;
 use std::marker::Model;
 
-/// A list of bits. Up to 432 of them lie in the value itself, and more in memory.
+/// The bits of a message (ITU-R M.1371-5, annex 2, 3.3.7). Up to 432 of them lie in the value itself, and more in memory.
 #[derive(Debug, Drop)]
 pub struct Bits {
     /// Six bits to an element, the highest first. The last one may hold more than there are.
@@ -19,13 +20,13 @@ pub struct Bits {
 
 impl Model for Bits {
     ghost use Rattle.std.specs.Prelude.{List, Bool, take};
-    ghost use Rattle.aivdm.specs.Sextets.{bits_in, AreSextets};
+    ghost use Rattle.aivdm.specs.Inner.Sextets.{bits_in, IsSound};
 
     ghost Value = { List Bool };
 
     ghost view = { λ b. take b.len (bits_in b.sextets.items) };
 
-    ghost invariant = { λ b. AreSextets b.sextets.items b.len };
+    ghost invariant = { λ b. IsSound b.sextets.items b.sextets.capacity b.len };
 }
 
 impl Bits {
@@ -42,10 +43,61 @@ impl Bits {
             return Err(Memory);
         };
         dearmour(sextets.as_mut_slice());
-        Ok(Bits {
-            sextets,
-            len: 6 * payload.len() - fill as usize,
-        })
+        let len = 6 * sextets.len() - fill as usize;
+        Ok(Bits { sextets, len })
+    }
+
+    /// No bits.
+    pub fn new(alloc: Global) -> Bits
+        ensures { result ≡ [] }
+    {
+        Bits {
+            sextets: SmallVec::new(alloc),
+            len: 0,
+        }
+    }
+
+    /// Appends the `width` lowest bits of `value`, the highest first. Where there is no memory, the bits stay as they were; up to
+    /// 432 bits take none.
+    pub fn append(&mut self, value: u32, width: u32) -> Result<(), Memory>
+        requires some { 1 ≤ width }
+        requires most { width ≤ 32 }
+        requires fits { value < 2 ^ width }
+        ensures ok { OnOk result (self.new ≡ self.old ++ binary width value) }
+        ensures inline { length self.old + width ≤ 432 → IsOk result }
+        ensures err { OnErr result (self.new ≡ self.old) }
+    {
+        let Some(len) = grown(self.len, width as usize) else {
+            return Err(Memory);
+        };
+        let more = (len + 5) / 6 - self.sextets.len();
+        if self.sextets.reserve(more).is_err() {
+            return Err(Memory);
+        }
+        append_bits(&mut self.sextets, self.len, u64::from(value), width);
+        self.len = len;
+        Ok(())
+    }
+
+    /// Appends the bits of a payload without the last `fill` ones. Where there is no memory, the bits stay as they were.
+    pub(crate) fn append_payload(&mut self, payload: &[u8], fill: u8) -> Result<(), Memory>
+        requires some { 1 ≤ length payload.now }
+        requires short { length payload.now ≤ 1024 }
+        requires armoured { All (λ byte. IsTrue (is_armour byte)) payload.now }
+        requires fill { fill ≤ 5 }
+        ensures ok { OnOk result (self.new ≡ self.old ++ bits_of payload.now fill) }
+        ensures err { OnErr result (self.new ≡ self.old) }
+    {
+        let Some(len) = grown(self.len, 6 * payload.len()) else {
+            return Err(Memory);
+        };
+        if self.sextets.reserve(payload.len()).is_err() {
+            return Err(Memory);
+        }
+        append_sextets(&mut self.sextets, self.len, payload);
+        self.len = len - fill as usize;
+        self.sextets.truncate((self.len + 5) / 6);
+        Ok(())
     }
 
     /// How many bits there are.
@@ -124,4 +176,64 @@ fn number(sextets: &[u8]) -> u64
         number = number * 64 + u64::from(*sextet);
     }
     number
+}
+
+/// So many bits and more. No memory has room for more than a `usize` counts.
+fn grown(len: usize, more: usize) -> Option<usize>
+    requires { more ≤ 6144 }
+{
+    if len > usize::MAX - 8192 { None } else { Some(len + more) }
+}
+
+/// Appends the lowest bits of a number behind the first `len` bits.
+fn append_bits(sextets: &mut SmallVec<u8, 72>, len: usize, value: u64, width: u32)
+    requires some { 1 ≤ width }
+    requires most { width ≤ 32 }
+    requires fits { value < 2 ^ width }
+    requires sextets { AreSextets sextets.old.items len }
+    requires room { (len + width + 5) / 6 ≤ sextets.old.capacity }
+    ensures bits { take (len + width) (bits_in sextets.new.items) ≡ take len (bits_in sextets.old.items) ++ binary width value }
+    ensures sextets { AreSextets sextets.new.items (len + width) }
+    ensures capacity { sextets.new.capacity ≡ sextets.old.capacity }
+{
+    let kept = (len % 6) as u32;
+    let mut number = value;
+    if kept > 0 {
+        let last = sextets.pop().unwrap_or(0);
+        number += u64::from(last >> (6 - kept)) << width;
+    }
+    let count = (kept + width + 5) / 6;
+    push_sextets(sextets, number << (6 * count - kept - width), count);
+}
+
+/// Appends the lowest 6 bits for each of so many elements of a number.
+fn push_sextets(sextets: &mut SmallVec<u8, 72>, number: u64, count: u32)
+    requires few { count ≤ 7 }
+    requires room { HasRoomFor sextets.old count }
+    ensures items { sextets.new.items ≡ sextets.old.items ++ sextets_of count number }
+    ensures capacity { sextets.new.capacity ≡ sextets.old.capacity }
+{
+    let mut left = count;
+    while left > 0 {
+        left -= 1;
+        sextets.push_reserved(((number >> (6 * left)) % 64) as u8);
+    }
+}
+
+/// Appends the bits of a payload behind the first `len` bits.
+fn append_sextets(sextets: &mut SmallVec<u8, 72>, len: usize, payload: &[u8])
+    requires armoured { All (λ byte. IsTrue (is_armour byte)) payload.now }
+    requires sextets { AreSextets sextets.old.items len }
+    requires room { HasRoomFor sextets.old (length payload.now) }
+    requires small { len + 6 * length payload.now < 2 ^ 64 }
+    ensures bits { take (len + 6 * length payload.now) (bits_in sextets.new.items)
+        ≡ take len (bits_in sextets.old.items) ++ bits_of payload.now 0 }
+    ensures sextets { AreSextets sextets.new.items (len + 6 * length payload.now) }
+    ensures capacity { sextets.new.capacity ≡ sextets.old.capacity }
+{
+    let mut len = len;
+    for byte in payload {
+        append_bits(sextets, len, u64::from(sextet(*byte)), 6);
+        len += 6;
+    }
 }

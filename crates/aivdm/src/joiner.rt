@@ -1,47 +1,213 @@
 //! From sentences to messages.
-ghost use Rattle.std.specs.Prelude.{◌≡◌, ◌≤◌, length, IfOk, IsOk};
-ghost use Rattle.aivdm.specs.LineReading.{fields_seen, IsSentence};
+//!
+//! A message of several sentences is joined by the sequential identifier and the channel of its sentences. Of each such key
+//! at most one message is open: the parts 1 to k that came last. A sentence that does not continue it closes it.
+ghost use Rattle.std.specs.Prelude.{◌≡◌, ◌≤◌, ◌++◌, ◌∷◌, [], List, length, position, IfOk, IsOk, OnOk, OnErr};
+ghost use Rattle.std.specs.Prelude.{Ok, Err, ◌==◌};
+ghost use Rattle.aivdm.specs.FragmentJoining.{joined_of, Taken};
+ghost use Rattle.aivdm.specs.OpenMessages.{StandsFor};
+ghost use Rattle.aivdm.specs.Inner.OpenRuns.{has_key, joined_next, runs_next};
 ghost use Rattle.aivdm.specs.PayloadBits.{bits_of};
+ghost use Rattle.aivdm.specs.Sentences.{fields_seen, IsSentence};
 
 use crate::bits::Bits;
 use crate::sentence::Sentence;
 use outside::Memory;
 use std::alloc::Global;
+use std::marker::Model;
+use std::mem;
+
+/// By how many seconds a part of a message may be later than the first part.
+const LONGEST_WAIT: u64 = 30;
 
 /// What a sentence completes.
 #[derive(Debug, Drop)]
 pub enum Joined {
-    /// A message, the bits of its parts in order.
+    /// A message, the bits of its parts in order, each without its fill.
     Message(Bits),
-    /// A message that more sentences are to complete.
+    /// Nothing yet: it continues or begins a message that more sentences are to complete.
     Waiting,
-    /// Nothing: the sentences before it are missing.
+    /// Nothing: the sentences before it that it needs are missing, or too long ago.
     Orphan,
+}
+
+/// A message of several sentences that has begun.
+#[derive(Debug, Drop)]
+pub(crate) struct Begun {
+    seq: Option<u8>,
+    channel: Option<u8>,
+    total: u8,
+    /// How many parts came. 0 where the message is closed.
+    count: u8,
+    /// When the first part came, in seconds.
+    since: u64,
+    bits: Bits,
 }
 
 /// The messages that have begun.
 #[derive(Debug, Drop)]
 pub struct Joiner {
     alloc: Global,
+    /// At most one of each key.
+    begun: Vec<Begun>,
+}
+
+impl Model for Joiner {
+    ghost use Rattle.std.specs.Prelude.{List};
+    ghost use Rattle.aivdm.specs.declared.joiner.Begun.{Begun};
+
+    ghost Value = { List Begun };
+
+    ghost view = { λ joiner. joiner.begun.items };
 }
 
 impl Joiner {
     /// No message has begun.
-    pub fn new(alloc: Global) -> Joiner {
-        Joiner { alloc }
+    pub fn new(alloc: Global) -> Joiner
+        ensures { StandsFor result [] }
+    {
+        Joiner {
+            alloc,
+            begun: Vec::new(alloc),
+        }
     }
 
-    /// Takes the next sentence, received at `time`, in seconds since the Unix epoch. It is the whole of a message.
+    /// Takes the next sentence, received at `time`, in seconds since the Unix epoch.
     ///
-    /// Up to 72 bytes of payload take no memory. Where there is none for more, the joiner stays as it was.
+    /// A sentence of total 1 is a message by itself; up to 72 bytes of its payload take no memory. Where there is no memory
+    /// for a sentence, the joiner stays as it was.
     pub fn take(&mut self, sentence: &Sentence<'_>, time: u64) -> Result<Joined, Memory>
         requires sentence { IsSentence (fields_seen sentence.now) }
-        requires alone { sentence.now.total ≡ 1 }
-        ensures message { IfOk result (λ joined. joined ≡ Joined.Message (bits_of sentence.now.payload.now sentence.now.fill)) }
-        ensures inline { length sentence.now.payload.now ≤ 72 → IsOk result }
-        ensures joiner { self.new ≡ self.old }
+        ensures joined { IfOk result (λ joined. (taken : List Taken) → StandsFor self.old taken
+            → joined ≡ joined_of taken (record { sentence = fields_seen sentence.now; time = time })) }
+        ensures stands { OnOk result ((taken : List Taken) → StandsFor self.old taken
+            → StandsFor self.new (taken ++ record { sentence = fields_seen sentence.now; time = time } ∷ [])) }
+        ensures single { sentence.now.total ≡ 1
+            → IfOk result (λ joined. joined ≡ Joined.Message (bits_of sentence.now.payload.now sentence.now.fill)) }
+        ensures memory { OnErr result (self.new ≡ self.old) }
+        ensures alone { sentence.now.total ≡ 1 → self.new ≡ self.old }
+        ensures inline { sentence.now.total ≡ 1 → length sentence.now.payload.now ≤ 72 → IsOk result }
     {
-        let bits = Bits::from_payload(self.alloc, sentence.payload, sentence.fill)?;
+        if sentence.total == 1 {
+            return Ok(Joined::Message(whole(self.alloc, sentence)?));
+        }
+        join(self.alloc, &mut self.begun, sentence, time)
+    }
+}
+
+/// The bits of a sentence.
+fn whole(alloc: Global, sentence: &Sentence<'_>) -> Result<Bits, Memory>
+    requires sentence { IsSentence (fields_seen sentence.now) }
+    ensures bits { IfOk result (λ bits. bits ≡ bits_of sentence.now.payload.now sentence.now.fill) }
+    ensures inline { length sentence.now.payload.now ≤ 72 → IsOk result }
+{
+    Bits::from_payload(alloc, sentence.payload, sentence.fill)
+}
+
+impl Begun {
+    ghost use Rattle.aivdm.specs.Inner.OpenRuns.{awaits, begun_by, has_key, joined_on, run_on};
+
+    /// Whether it is of the key of this sentence.
+    fn has_key(&self, sentence: &Sentence<'_>) -> bool
+        ensures { result ≡ has_key (fields_seen sentence.now) self.now }
+    {
+        self.seq == sentence.seq && self.channel == sentence.channel
+    }
+
+    /// A message of which this is the first part.
+    fn new(alloc: Global, sentence: &Sentence<'_>, time: u64) -> Result<Begun, Memory>
+        requires sentence { IsSentence (fields_seen sentence.now) }
+        ensures { IfOk result (λ begun. begun ≡ begun_by (record { sentence = fields_seen sentence.now; time = time })) }
+    {
+        let bits = whole(alloc, sentence)?;
+        Ok(Begun {
+            seq: sentence.seq,
+            channel: sentence.channel,
+            total: sentence.total,
+            count: 1,
+            since: time,
+            bits,
+        })
+    }
+
+    /// Whether a sentence of its key is its next part, in time.
+    fn awaits(&self, sentence: &Sentence<'_>, time: u64) -> bool
+        ensures { result ≡ awaits self.now (record { sentence = fields_seen sentence.now; time = time }) }
+    {
+        self.total == sentence.total
+            && self.count < sentence.number
+            && sentence.number - self.count == 1
+            && time <= self.since.saturating_add(LONGEST_WAIT)
+    }
+
+    /// Takes a sentence of its key that is not a first part.
+    fn go_on(
+        &mut self,
+        alloc: Global,
+        sentence: &Sentence<'_>,
+        time: u64,
+    ) -> Result<Joined, Memory>
+        requires sentence { IsSentence (fields_seen sentence.now) }
+        ensures joined { IfOk result (λ joined. joined ≡ joined_on self.old (record { sentence = fields_seen sentence.now; time = time })) }
+        ensures run { OnOk result (self.new ≡ run_on self.old (record { sentence = fields_seen sentence.now; time = time })) }
+        ensures err { OnErr result (self.new ≡ self.old) }
+    {
+        if !self.awaits(sentence, time) {
+            self.count = 0;
+            return Ok(Joined::Orphan);
+        }
+        if self
+            .bits
+            .append_payload(sentence.payload, sentence.fill)
+            .is_err()
+        {
+            return Err(Memory);
+        }
+        if sentence.number < sentence.total {
+            self.count = sentence.number;
+            return Ok(Joined::Waiting);
+        }
+        self.count = 0;
+        let bits = mem::replace(&mut self.bits, Bits::new(alloc));
         Ok(Joined::Message(bits))
     }
+}
+
+/// Takes the next sentence of a message of several.
+fn join(
+    alloc: Global,
+    begun: &mut Vec<Begun>,
+    sentence: &Sentence<'_>,
+    time: u64,
+) -> Result<Joined, Memory>
+    requires sentence { IsSentence (fields_seen sentence.now) }
+    ensures joined { IfOk result (λ joined. joined ≡ joined_next begun.old.items (record { sentence = fields_seen sentence.now; time = time })) }
+    ensures runs { OnOk result (begun.new.items ≡ runs_next begun.old.items (record { sentence = fields_seen sentence.now; time = time })) }
+    ensures err { OnErr result (begun.new.items ≡ begun.old.items) }
+{
+    let place = place_of(begun.as_slice(), sentence);
+    if sentence.number == 1 {
+        let first = Begun::new(alloc, sentence, time)?;
+        return match place {
+            Some(at) => {
+                begun[at] = first;
+                Ok(Joined::Waiting)
+            }
+            None => match begun.push(first) {
+                Ok(()) => Ok(Joined::Waiting),
+                Err(_) => Err(Memory),
+            },
+        };
+    }
+    match place {
+        Some(at) => begun[at].go_on(alloc, sentence, time),
+        None => Ok(Joined::Orphan),
+    }
+}
+
+/// Where the message of the sentence's key stands.
+fn place_of(begun: &[Begun], sentence: &Sentence<'_>) -> Option<usize>
+    ensures { result ≡ position (has_key (fields_seen sentence.now)) begun.now }
+{
+    begun.iter().position(|run| run.has_key(sentence))
 }

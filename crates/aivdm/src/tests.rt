@@ -22,9 +22,3 @@ fn sentence_off_the_air(rt: HostRuntime) -> Result<(), Fail> {
     assert_eq!(rt; bits.unsigned(116, 12), 510);
     Ok(())
 }
-
-#[test]
-fn sum_of_another_sentence(rt: HostRuntime) {
-    let reading = read_line(b"!AIVDM,1,1,,B,177KQJ5000G?tO`K>RA1wUbN0TKH,0*5D");
-    assert!(rt; matches!(reading.body, Body::Dropped(LineCause::Form)));
-}

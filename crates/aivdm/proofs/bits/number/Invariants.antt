@@ -1,6 +1,6 @@
 use Rattle.std.proofs.Common.{◌≡◌, take}
 use Rattle.aivdm.specs.BitFields.{number_of}
-use Rattle.aivdm.specs.Sextets.{bits_in}
+use Rattle.aivdm.specs.Inner.Sextets.{bits_in}
 use Rattle.aivdm.proofs.bits.number.Given as goal
 
 -- the number of the sextets so far

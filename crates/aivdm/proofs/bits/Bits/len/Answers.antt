@@ -3,4 +3,4 @@ use Rattle.aivdm.proofs.BitLists.{length-take_bits_in}
 use Rattle.aivdm.proofs.bits.Bits.len.Goals as goal
 
 pub returns : goal.returns
-returns c = sym (length-take_bits_in c.self.inside.sextets.items c.self.inside.len c.self.invariant.enough) ∙ ap length c.self.view_is
+returns c = sym (length-take_bits_in c.self.inside.sextets.items c.self.inside.len c.self.invariant.sextets_are.enough) ∙ ap length c.self.view_is
