@@ -1,12 +1,12 @@
 -- Each line has exactly one outcome.
 use Rattle.std.proofs.Common.{◌≡◌, ◌==◌, ℕ, suc, ◌+◌, cond, List, [], ◌∷◌, ◌++◌, length, sum_by, refl, ap, ◌∙◌, arith}
 use Rattle.std.proofs.lemmas.List.Sums.{sum_by-cons}
-use Rattle.colregs_program.specs.AcceptedReports.{outcome_of}
-use Rattle.colregs_program.specs.JudgedLines.{judged_after, judged_line, judged_lines}
+use Rattle.colregs_program.specs.EachLine.{each_after}
+use Rattle.colregs_program.specs.JudgedLines.{judged_line, judged_lines, outcome_of}
 use Rattle.colregs_program.specs.LineOutcomes.{all_outcomes, place_of}
 use Rattle.colregs_program.specs.LogLines.{lines_of}
 use Rattle.colregs_program.specs.PointsReport.{count_of}
-use Rattle.colregs_program.specs.declared.accepted.Judged.{Judged}
+use Rattle.colregs_program.specs.declared.judged.Judged.{Judged}
 use Rattle.colregs_program.specs.declared.outcome.LineOutcome.{LineOutcome}
 use Rattle.colregs_program.specs.declared.outcome.LineOutcome.TheVariants as outcomes
 use Rattle.scenario.specs.declared.values.Scenario.{Scenario}
@@ -62,12 +62,12 @@ counts_sum (line ∷ lines) =
     ∙ sum_by-sum (counted (outcome_of line)) (λ outcome. count_of outcome lines) all_outcomes
     ∙ omega (arith, once (outcome_of line), counts_sum lines)
 
-judged-length : (scenario : Scenario) (before : List Judged) (lines : List (List ℕ)) → length (judged_after scenario before lines) ≡ length lines
-unfolding judged_after
-judged-length scenario before [] = refl
-judged-length scenario before (line ∷ lines) =
-    ap suc (judged-length scenario (before ++ judged_line scenario before line ∷ []) lines)
+each_after-length : {A B : Type 0} (f : List A → A → B) (before xs : List A) → length (each_after f before xs) ≡ length xs
+unfolding each_after
+each_after-length f before [] = refl
+each_after-length f before (x ∷ xs) = ap suc (each_after-length f (before ++ x ∷ []) xs)
 
 pub one_outcome : (scenario : Scenario) (log : List ℕ)
-    → sum_by (λ outcome. count_of outcome (judged_lines scenario log)) all_outcomes ≡ length (lines_of log)
-one_outcome scenario log = counts_sum (judged_lines scenario log) ∙ judged-length scenario [] (lines_of log)
+    → sum_by (λ outcome. count_of outcome (judged_lines scenario (lines_of log))) all_outcomes ≡ length (lines_of log)
+unfolding judged_lines
+one_outcome scenario log = counts_sum (judged_lines scenario (lines_of log)) ∙ each_after-length (judged_line scenario) [] (lines_of log)

@@ -4,15 +4,15 @@ use Rattle.std.proofs.Math.ListN.{get_or}
 use Rattle.std.proofs.lemmas.Grind.{flat_map-append}
 use Rattle.std.proofs.lemmas.List.{take_all, take_more}
 use Rattle.colregs_program.specs.CsvRows.{row_of}
-use Rattle.colregs_program.specs.CsvRowsText.{HasText}
+use Rattle.colregs_program.specs.Inner.CsvRowsText.{HasText}
 use Rattle.colregs_program.specs.declared.csv_rows.CsvRows.{CsvRows}
 use Rattle.colregs_program.specs.declared.outcome.LineOutcome.TheVariants as outcomes
 use Rattle.colregs_program.specs.LineOutcomes.{all_outcomes, place_of}
-use Rattle.colregs_program.specs.LinesSoFar.{AreCounts}
+use Rattle.colregs_program.specs.Inner.JudgeState.{AreCounts}
 use Rattle.colregs_program.specs.PointsReport.{count_fields, count_rows}
-use Rattle.colregs_program.specs.declared.accepted.Judged.{Judged}
+use Rattle.colregs_program.specs.declared.judged.Judged.{Judged}
 use Rattle.colregs_program.specs.declared.outcome.LineOutcome.{LineOutcome}
-use Rattle.colregs_program.proofs.Noting.{place_within}
+use Rattle.colregs_program.proofs.Counting.{place_within}
 
 pub IfOk-weaker : {A E : Type 0} {P Q : A → Type 0} (r : Result A E) → ((v : A) → P v → Q v) → IfOk r P → IfOk r Q
 IfOk-weaker (Ok v) f p = f v p

@@ -1,37 +1,29 @@
 -- Which position reports are accepted: those with a place in the region that come after the vessel's latest accepted one.
-use Rattle.std.specs.Prelude.{ℕ, ℤ, ◌-◌, ◌==◌, Bool, false, nat_le, List, length, filter, slice_get, Option, Some, None, Result, Ok, Err, if◌then◌else◌}
-use Rattle.std.specs.List.{filter_map}
+use Rattle.std.specs.Prelude.{ℕ, ℤ, ◌==◌, Bool, false, nat_le, List, [], ◌∷◌, ◌++◌, filter, fold, Option, Some, None, Result, Ok, Err, if◌then◌else◌}
+use Rattle.std.specs.List.{filter_map, last_or}
 use Rattle.fixed_geometry.specs.Place.{Place}
 use Rattle.fixed_geometry.specs.Projection.{projection_of}
 use Rattle.fixed_geometry.specs.declared.point.Point.{Point}
+use Rattle.ais_messages.specs.declared.message.Message.{Message}
+use Rattle.ais_messages.specs.declared.message.Message.TheVariants.{Position}
 use Rattle.ais_messages.specs.declared.message.PositionReport.{PositionReport}
+use Rattle.colregs_program.specs.SentLines.{Sent}
 use Rattle.colregs_program.specs.declared.outcome.LineOutcome.{LineOutcome}
 use Rattle.colregs_program.specs.declared.outcome.LineOutcome.TheVariants as outcome
 use Rattle.colregs_program.specs.declared.accepted.Accepted.{Accepted}
-use Rattle.colregs_program.specs.declared.accepted.Judged.{Judged}
-use Rattle.colregs_program.specs.declared.accepted.Judged.TheVariants as judged
-
-abbrev pub outcome_of : Judged → LineOutcome
-outcome_of (judged.Accepted report) = outcome.Point
-outcome_of (judged.Without came) = came
+use Rattle.colregs_program.specs.declared.judged.Judged.{Judged}
+use Rattle.colregs_program.specs.declared.judged.Judged.TheVariants as judged
 
 abbrev pub report_in : Judged → Option Accepted
 report_in (judged.Accepted report) = Some report
 report_in (judged.Without _) = None
 
--- the accepted reports among lines, in their order
-abbrev pub accepted_among : List Judged → List Accepted
-accepted_among lines = filter_map report_in lines
-
 abbrev pub is_of : ℕ → Accepted → Bool
 is_of mmsi accepted = accepted.report.mmsi == mmsi
 
-abbrev pub last_of : {A : Type 0} → List A → Option A
-last_of xs = slice_get xs (length xs - 1)
-
 -- the latest accepted report of a vessel
-unfoldable pub latest_of : ℕ → List Judged → Option Accepted
-latest_of mmsi lines = last_of (filter (is_of mmsi) (accepted_among lines))
+unfoldable pub latest_of : ℕ → List Accepted → Option Accepted
+latest_of mmsi accepted = last_or None (filter (is_of mmsi) accepted)
 
 -- the point of a report in the plane, or why it has none
 abbrev pub in_region : Option Point → Result Point LineOutcome
@@ -56,3 +48,16 @@ judged_at time report latest (Ok point) =
 -- what a report of this time comes to, after the latest accepted one of its vessel
 unfoldable pub judged_report : Place → ℕ → PositionReport → Option Accepted → Judged
 judged_report reference time report latest = judged_at time report latest (placed reference report.place)
+
+-- what a message comes to, after the accepted reports before it
+abbrev pub judged_message : Place → List Accepted → ℕ → Message → Judged
+judged_message reference accepted time (Position report) = judged_report reference time report (latest_of report.mmsi accepted)
+
+-- the accepted reports, with those of one message more
+abbrev pub with_message : Place → List Accepted → Sent → List Accepted
+with_message reference accepted sent =
+    accepted ++ filter_map report_in (judged_message reference accepted sent.time sent.message ∷ [])
+
+-- the accepted reports among messages, in their order
+unfoldable pub accepted_among : Place → List Sent → List Accepted
+accepted_among reference messages = fold (with_message reference) [] messages

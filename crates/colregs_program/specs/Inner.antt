@@ -2,3 +2,8 @@
 pub mod LineBytes
 pub mod LogFaults
 pub mod SetUps
+pub mod JudgeState
+pub mod LatestReports
+pub mod Times
+pub mod CsvRowsText
+pub mod RowFields

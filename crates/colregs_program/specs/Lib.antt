@@ -3,14 +3,13 @@ pub mod LineOutcomes
 pub mod AcceptedReports
 pub mod JudgedLines
 pub mod CsvRows
-pub mod CsvRowsText
-pub mod PointTexts
 pub mod PointsReport
 pub mod Answers
-pub mod Latest
-pub mod LinesSoFar
 pub mod Requests
 pub mod Endings
 pub mod Told
 pub mod FaultLines
 pub mod Inner
+pub mod EachLine
+pub mod LineTimes
+pub mod SentLines

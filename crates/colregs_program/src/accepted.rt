@@ -3,6 +3,7 @@ ghost use Rattle.std.specs.Prelude.{◌≡◌, option_copied};
 ghost use Rattle.ais_messages.specs.MessageFields.{IsReport};
 ghost use Rattle.colregs_program.specs.AcceptedReports.{is_back, judged_report, placed};
 
+use crate::judged::Judged;
 use crate::outcome::LineOutcome;
 use ais_messages::PositionReport;
 use fixed_geometry::{Point, Reference, project};
@@ -14,15 +15,6 @@ pub struct Accepted {
     pub time: u64,
     pub point: Point,
     pub report: PositionReport,
-}
-
-/// What a line of the log comes to.
-#[derive(Clone, Copy, Debug, PartialEq, Eq)]
-pub enum Judged {
-    /// Its report is accepted.
-    Accepted(Accepted),
-    /// It has no report that is accepted.
-    Without(LineOutcome),
 }
 
 /// The place of a report in the plane, or why it has none.

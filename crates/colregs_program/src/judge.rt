@@ -1,17 +1,25 @@
 //! Judging a log's lines one after the other.
-ghost use Rattle.std.specs.Prelude.{◌≡◌, ◌<◌, ◌+◌, ◌^◌, ◌++◌, ◌∷◌, [], List, ℕ, IfOk, OnOk, length, slice_index};
+ghost use Rattle.std.specs.Prelude.{◌≡◌, ◌<◌, ◌+◌, ◌^◌, ◌++◌, ◌∷◌, [], List, ℕ, IfOk, OnOk, Ok, length, slice_index};
+ghost use Rattle.std.specs.List.{filter_map};
+ghost use Rattle.aivdm.specs.FragmentJoining.{Taken};
+ghost use Rattle.aivdm.specs.OpenMessages.{StandsFor as JoinerStandsFor};
+ghost use Rattle.aivdm.specs.Sentences.{IfSentence, IsSentence, body_seen, fields_seen};
 ghost use Rattle.ais_messages.specs.MessageFields.{IfPosition, IsReport};
-ghost use Rattle.colregs_program.specs.JudgedLines.{judged_line, judged_message};
-ghost use Rattle.colregs_program.specs.Latest.{HoldsLatest};
-ghost use Rattle.colregs_program.specs.declared.accepted.Judged.{Judged};
+ghost use Rattle.ais_messages.specs.declared.message.Message.TheVariants.{Position};
+ghost use Rattle.colregs_program.specs.AcceptedReports.{accepted_among, judged_message, report_in, with_message};
+ghost use Rattle.colregs_program.specs.JudgedLines.{judged_line, judged_lines, judged_sent};
+ghost use Rattle.colregs_program.specs.SentLines.{Sent, sent_decoded};
+ghost use Rattle.colregs_program.specs.Inner.LatestReports.{HoldsLatest};
+ghost use Rattle.colregs_program.specs.declared.accepted.Accepted.{Accepted};
+ghost use Rattle.scenario.specs.declared.values.Scenario.{Scenario};
 
-use crate::accepted::{Accepted, Judged, judge_report};
-use crate::count_rows::{all_outcomes, write_counts};
-use crate::csv_rows::CsvRows;
+use crate::accepted::{Accepted, judge_report};
+use crate::judged::Judged;
+use crate::line_times::LineTimes;
 use crate::outcome::LineOutcome;
-use crate::point_rows::{PointTexts, write_point};
-use ais_messages::{Decoded, Message, decode};
-use aivdm::{Body, Joined, Joiner, read_line};
+use ais_messages::{Decoded, Message, PositionReport, decode};
+use aivdm::{Body, Joined, Joiner, Sentence, read_line};
+use fixed_geometry::Reference;
 use outside::Memory;
 use scenario::Scenario;
 use std::alloc::Global;
@@ -20,79 +28,41 @@ use std::collections::BTreeMap;
 /// The latest accepted report of each vessel, by her MMSI.
 type Latest = BTreeMap<u32, Accepted>;
 
-/// What a message comes to, after the lines so far.
-fn judge_message(scenario: &Scenario, latest: &Latest, decoded: Decoded) -> Judged
-    requires { IfPosition decoded IsReport }
-    ensures { (before : List Judged) → HoldsLatest latest.now before
-        → result ≡ judged_message scenario.now before decoded }
-{
-    match decoded {
-        Decoded::Message(Message::Position(report)) => judge_report(
-            scenario.reference,
-            scenario.window.start,
-            report,
-            latest.get(&report.mmsi),
-        ),
-        Decoded::Dropped(cause) => Judged::Without(cause.into()),
-    }
-}
-
-/// What a line comes to, after the lines so far.
-#[tactic(auto, unfolding(crate::specs::JudgedLines::judged_line))]
-fn judge_line(
-    scenario: &Scenario,
-    latest: &Latest,
-    joiner: &mut Joiner,
-    line: &[u8],
-) -> Result<Judged, Memory>
-    ensures { IfOk result (λ judged. (before : List Judged) → HoldsLatest latest.now before
-        → judged ≡ judged_line scenario.now before line.now) }
-{
-    match read_line(line).body {
-        Body::Dropped(cause) => Ok(Judged::Without(cause.into())),
-        Body::Sentence(sentence) => match joiner.take(&sentence, scenario.window.start)? {
-            Joined::Message(bits) => Ok(judge_message(scenario, latest, decode(&bits))),
-            Joined::Waiting => Ok(Judged::Without(LineOutcome::Part)),
-            Joined::Orphan => Ok(Judged::Without(LineOutcome::Orphan)),
-        },
-    }
-}
-
-/// What is kept of the lines so far: it stands for the list of what they came to.
+/// What is kept of the lines so far: it stands for the list of them.
 #[derive(Drop)]
 pub(crate) struct Judge {
-    scenario: Scenario,
+    reference: Reference,
+    times: LineTimes,
     joiner: Joiner,
     latest: Latest,
-    /// How many lines came to each outcome, by its place.
+    /// How many lines came to each outcome, by its index.
     counts: [u64; 21],
-    rows: CsvRows,
-    texts: PointTexts,
 }
 
 impl Judge {
-    ghost use Rattle.std.specs.Prelude.{◌-◌, min, slice_set, Some};
-    ghost use Rattle.std.specs.BTreeMap.{Updates};
-    ghost use Rattle.std.specs.Ordering.{nat_cmp};
-    ghost use Rattle.colregs_program.specs.CsvRows.{row_of};
-    ghost use Rattle.colregs_program.specs.CsvRowsText.{HasText};
+    ghost use Rattle.std.specs.Prelude.{◌-◌, min, slice_set};
     ghost use Rattle.colregs_program.specs.LineOutcomes.{place_of};
-    ghost use Rattle.colregs_program.specs.LinesSoFar.{StandsFor, scenario_of};
-    ghost use Rattle.colregs_program.specs.PointsReport.{count_rows, point_fields, point_rows};
+    ghost use Rattle.colregs_program.specs.Inner.JudgeState.{AreCounts, GoesOn, StandsFor, heard_by, listed};
 
     /// No line came yet.
     pub(crate) fn new(alloc: Global, scenario: &Scenario) -> Judge
-        ensures scenario { scenario_of result ≡ scenario.now }
-        ensures empty { StandsFor result [] }
+        ensures { StandsFor result scenario.now [] }
     {
         Judge {
-            scenario: *scenario,
+            reference: scenario.reference,
+            times: LineTimes::new(scenario),
             joiner: Joiner::new(alloc),
             latest: BTreeMap::new(alloc),
             counts: [0; 21],
-            rows: CsvRows::new(alloc),
-            texts: PointTexts::new(alloc),
         }
+    }
+
+    /// How many lines came to each outcome, by its index in the order of the report.
+    pub(crate) fn counts(&self) -> &[u64; 21]
+        ensures { (scenario : Scenario) (lines : List (List ℕ)) → StandsFor self.now scenario lines
+            → AreCounts result.now (judged_lines scenario lines) }
+    {
+        &self.counts
     }
 
     /// Counts one line more, as far as a count goes.
@@ -106,56 +76,94 @@ impl Judge {
         self.counts[place] = self.counts[place].saturating_add(1);
     }
 
-    /// Writes the row of an accepted report, and keeps it as the latest of its vessel.
-    fn accept(&mut self, accepted: &Accepted) -> Result<(), Memory>
-        ensures rows { OnOk result ((text : List ℕ) → HasText self.old.rows text
-            → HasText self.new.rows (text ++ row_of (point_fields accepted.now))) }
-        ensures latest { OnOk result (Updates nat_cmp self.old.latest self.new.latest accepted.now.report.mmsi (Some accepted.now)) }
-        ensures scenario { self.new.scenario ≡ self.old.scenario }
-        ensures counts { self.new.counts ≡ self.old.counts }
+    /// Keeps an accepted report as the latest of its vessel.
+    fn keep(&mut self, judged: &Judged) -> Result<(), Memory>
+        ensures latest { OnOk result ((accepted : List Accepted) → HoldsLatest self.old.latest accepted
+            → HoldsLatest self.new.latest (accepted ++ filter_map report_in (judged.now ∷ []))) }
+        ensures same { self.new ≡ record self.old { latest = self.new.latest } }
     {
-        write_point(&mut self.rows, &mut self.texts, accepted)?;
+        let Judged::Accepted(accepted) = judged else {
+            return Ok(());
+        };
         match self.latest.insert(accepted.report.mmsi, *accepted) {
             Ok(_) => Ok(()),
             Err(_) => Err(Memory),
         }
     }
 
-    /// Notes what the next line came to.
-    fn note(&mut self, judged: Judged) -> Result<(), Memory>
-        ensures same { scenario_of self.new ≡ scenario_of self.old }
-        ensures line { OnOk result ((before : List Judged) → length before + 1 < 2 ^ 64 → StandsFor self.old before
-            → StandsFor self.new (before ++ judged ∷ [])) }
+    /// Judges a report, and keeps it where it is accepted.
+    fn judge_report(&mut self, report: PositionReport, time: u64) -> Result<Judged, Memory>
+        requires { IsReport report }
+        ensures judged { IfOk result (λ judged. (accepted : List Accepted) → HoldsLatest self.old.latest accepted
+            → judged ≡ judged_message self.old.reference accepted time (Position report)) }
+        ensures latest { OnOk result ((accepted : List Accepted) → HoldsLatest self.old.latest accepted
+            → HoldsLatest self.new.latest (with_message self.old.reference accepted (record { message = Position report; time = time }))) }
+        ensures same { self.new ≡ record self.old { latest = self.new.latest } }
     {
-        match judged {
-            Judged::Accepted(accepted) => {
-                self.accept(&accepted)?;
-                self.count(LineOutcome::Point);
-                Ok(())
-            }
-            Judged::Without(outcome) => {
-                self.count(outcome);
-                Ok(())
-            }
+        let judged = judge_report(self.reference, time, report, self.latest.get(&report.mmsi));
+        self.keep(&judged)?;
+        Ok(judged)
+    }
+
+    /// Judges what the bits of a message are read as.
+    fn judge_decoded(&mut self, decoded: Decoded, time: u64) -> Result<Judged, Memory>
+        requires { IfPosition decoded IsReport }
+        ensures judged { IfOk result (λ judged. (messages : List Sent) → HoldsLatest self.old.latest (accepted_among self.old.reference messages)
+            → judged ≡ judged_sent self.old.reference messages (sent_decoded time decoded)) }
+        ensures latest { OnOk result ((messages : List Sent) → HoldsLatest self.old.latest (accepted_among self.old.reference messages)
+            → HoldsLatest self.new.latest (accepted_among self.old.reference (messages ++ listed (sent_decoded time decoded)))) }
+        ensures same { self.new ≡ record self.old { latest = self.new.latest } }
+    {
+        match decoded {
+            Decoded::Message(Message::Position(report)) => self.judge_report(report, time),
+            Decoded::Dropped(cause) => Ok(Judged::Without(cause.into())),
         }
     }
 
-    /// Takes the next line. Where memory runs out, the judge may only be dropped.
-    pub(crate) fn take(&mut self, line: &[u8]) -> Result<(), Memory>
-        ensures same { scenario_of self.new ≡ scenario_of self.old }
-        ensures line { OnOk result ((before : List Judged) → length before + 1 < 2 ^ 64 → StandsFor self.old before
-            → StandsFor self.new (before ++ judged_line (scenario_of self.old) before line.now ∷ [])) }
+    /// Judges a sentence that is in time.
+    fn judge_sentence(&mut self, sentence: &Sentence<'_>, time: u64) -> Result<Judged, Memory>
+        requires { IsSentence (fields_seen sentence.now) }
+        ensures judged { IfOk result (λ judged. (taken : List Taken) (messages : List Sent) → JoinerStandsFor self.old.joiner taken
+            → HoldsLatest self.old.latest (accepted_among self.old.reference messages)
+            → GoesOn self.old.reference self.new judged taken messages (Ok (record { sentence = fields_seen sentence.now; time = time }))) }
+        ensures same { self.new ≡ record self.old { joiner = self.new.joiner; latest = self.new.latest } }
     {
-        let judged = judge_line(&self.scenario, &self.latest, &mut self.joiner, line)?;
-        self.note(judged)
+        match self.joiner.take(sentence, time)? {
+            Joined::Message(bits) => self.judge_decoded(decode(&bits), time),
+            Joined::Waiting => Ok(Judged::Without(LineOutcome::Part)),
+            Joined::Orphan => Ok(Judged::Without(LineOutcome::Orphan)),
+        }
     }
 
-    /// The report on the lines so far: the rows of the accepted reports, and the count of each outcome.
-    pub(crate) fn into_report(mut self, alloc: Global) -> Result<Vec<u8>, Memory>
-        ensures { IfOk result (λ report. (lines : List Judged) → StandsFor self lines
-            → report.items ≡ point_rows lines ++ count_rows lines) }
+    /// Judges what a line says.
+    fn judge_body(&mut self, body: &Body<'_>, time: u64) -> Result<Judged, Memory>
+        requires { IfSentence body.now (λ s. IsSentence (fields_seen s)) }
+        ensures judged { IfOk result (λ judged. (taken : List Taken) (messages : List Sent) → JoinerStandsFor self.old.joiner taken
+            → HoldsLatest self.old.latest (accepted_among self.old.reference messages)
+            → GoesOn self.old.reference self.new judged taken messages (heard_by self.old.times time (body_seen body.now))) }
+        ensures same { self.new ≡ record self.old { joiner = self.new.joiner; latest = self.new.latest } }
     {
-        write_counts(alloc, &mut self.rows, &self.counts, all_outcomes())?;
-        self.rows.into_text()
+        match body {
+            Body::Dropped(cause) => Ok(Judged::Without((*cause).into())),
+            Body::Sentence(sentence) => match self.times.untimely(time) {
+                Some(outcome) => Ok(Judged::Without(outcome)),
+                None => self.judge_sentence(sentence, time),
+            },
+        }
+    }
+
+    /// Takes the next line, and gives what it comes to. Where memory runs out, the judge may only be dropped.
+    pub(crate) fn take(&mut self, line: &[u8]) -> Result<Judged, Memory>
+        ensures judged { IfOk result (λ judged. (scenario : Scenario) (before : List (List ℕ)) → StandsFor self.old scenario before
+            → judged ≡ judged_line scenario before line.now) }
+        ensures stands { OnOk result ((scenario : Scenario) (before : List (List ℕ)) → length before + 1 < 2 ^ 64
+            → StandsFor self.old scenario before → StandsFor self.new scenario (before ++ line.now ∷ [])) }
+    {
+        let reading = read_line(line);
+        let time = self.times.time(reading.stamp);
+        let judged = self.judge_body(&reading.body, time)?;
+        self.times.pass(reading.stamp);
+        self.count(judged.outcome());
+        Ok(judged)
     }
 }

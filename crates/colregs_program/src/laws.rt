@@ -9,5 +9,5 @@ ghost use Rattle.scenario.specs.declared.values.Scenario.{Scenario};
 /// Each line of a log has exactly one outcome: the counts of the outcomes sum to the number of lines.
 pub fn each_line_has_one_outcome()
     ensures { (scenario : Scenario) (log : List ℕ) →
-        sum_by (λ outcome. count_of outcome (judged_lines scenario log)) all_outcomes ≡ length (lines_of log) }
+        sum_by (λ outcome. count_of outcome (judged_lines scenario (lines_of log))) all_outcomes ≡ length (lines_of log) }
 {}

@@ -6,14 +6,15 @@
 #![tactic(auto)]
 
 mod accepted;
-mod count_rows;
 mod csv_rows;
 mod fault_line;
 mod judge;
+mod judged;
 pub mod laws;
+mod line_times;
 mod log_lines;
 mod outcome;
-mod point_rows;
+mod points_rows;
 mod program;
 mod report;
 mod request;
@@ -22,7 +23,8 @@ mod status;
 #[cfg(test)]
 mod tests;
 
-pub use accepted::{Accepted, Judged};
+pub use accepted::Accepted;
+pub use judged::Judged;
 pub use outcome::LineOutcome;
 pub use program::run;
 pub use request::Mode;

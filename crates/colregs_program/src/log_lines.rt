@@ -2,11 +2,13 @@
 ghost use Rattle.std.specs.Prelude.{◌≡◌, ◌<◌, ◌≤◌, ◌∷◌, ◌-◌, drop, length, position};
 ghost use Rattle.colregs_program.specs.LogLines.{is_line_feed, lines_of, without_carriage_return};
 
+use memchr::memchr;
+
 /// Where the first line feed stands.
 fn first_line_feed(rest: &[u8]) -> Option<usize>
     ensures { result ≡ position is_line_feed rest.now }
 {
-    rest.iter().position(|byte| *byte == b'\n')
+    memchr(b'\n', rest)
 }
 
 /// The part without the carriage return at its end, if it has one.

@@ -5,11 +5,15 @@ ghost use Rattle.scenario.specs.declared.values.Scenario.{Scenario};
 ghost use Rattle.colregs_program.specs.Endings.{ending_of};
 ghost use Rattle.colregs_program.specs.Inner.LogFaults.{LogCause};
 ghost use Rattle.colregs_program.specs.JudgedLines.{judged_lines};
-ghost use Rattle.colregs_program.specs.LinesSoFar.{StandsFor, scenario_of};
-ghost use Rattle.colregs_program.specs.PointsReport.{report_of};
+ghost use Rattle.colregs_program.specs.LogLines.{lines_of};
+ghost use Rattle.colregs_program.specs.Inner.CsvRowsText.{HasText};
+ghost use Rattle.colregs_program.specs.Inner.JudgeState.{StandsFor};
+ghost use Rattle.colregs_program.specs.PointsReport.{point_rows, report_of};
 
+use crate::csv_rows::CsvRows;
 use crate::judge::Judge;
 use crate::log_lines::first_line;
+use crate::points_rows::{all_outcomes, write_counts, write_line};
 use crate::request::Mode;
 use crate::status::{Status, Which};
 use outside::{Memory, ReadFault, Source, read_whole};
@@ -52,14 +56,13 @@ impl From<LogFault> for Status {
     }
 }
 
-/// Takes each line of a log.
-fn take_lines(judge: &mut Judge, log: &[u8]) -> Result<(), Memory>
-    ensures { OnOk result (StandsFor judge.old [] → StandsFor judge.new (judged_lines (scenario_of judge.old) log.now)) }
-{
+/// Takes each line of a log, and writes its rows.
+fn take_lines(judge: &mut Judge, rows: &mut CsvRows, log: &[u8]) -> Result<(), Memory> {
     let mut at = 0;
     while at < log.len() {
         let line = first_line(&log[at..]);
-        judge.take(line.bytes)?;
+        let judged = judge.take(line.bytes)?;
+        write_line(rows, &judged)?;
         at += line.taken;
     }
     Ok(())
@@ -71,8 +74,10 @@ fn points_report(alloc: Global, scenario: &Scenario, log: &[u8]) -> Result<Vec<u
     ensures { IfOk result (λ report. report.items ≡ report_of scenario.now log.now) }
 {
     let mut judge = Judge::new(alloc, scenario);
-    take_lines(&mut judge, log)?;
-    judge.into_report(alloc)
+    let mut rows = CsvRows::new(alloc);
+    take_lines(&mut judge, &mut rows, log)?;
+    write_counts(&mut rows, judge.counts(), all_outcomes())?;
+    rows.into_text()
 }
 
 /// What the request comes to on a log.

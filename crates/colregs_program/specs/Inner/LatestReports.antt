@@ -4,7 +4,6 @@ use Rattle.std.specs.BTreeMap.{BTreeMap, get}
 use Rattle.std.specs.Ordering.{nat_cmp}
 use Rattle.colregs_program.specs.AcceptedReports.{latest_of}
 use Rattle.colregs_program.specs.declared.accepted.Accepted.{Accepted}
-use Rattle.colregs_program.specs.declared.accepted.Judged.{Judged}
 
-abbrev pub HoldsLatest : BTreeMap ℕ Accepted → List Judged → Type 0
-HoldsLatest map lines = (mmsi : ℕ) → get nat_cmp map mmsi ≡ latest_of mmsi lines
+abbrev pub HoldsLatest : BTreeMap ℕ Accepted → List Accepted → Type 0
+HoldsLatest map accepted = (mmsi : ℕ) → get nat_cmp map mmsi ≡ latest_of mmsi accepted

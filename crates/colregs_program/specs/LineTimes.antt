@@ -1,0 +1,40 @@
+-- The times of a log's lines. A stamp is the time of a line's tag block (NMEA 0183 4.10), in seconds since 1970.
+use Rattle.std.specs.Prelude.{ℕ, ◌+◌, ◌*◌, max, Bool, false, ◌&&◌, nat_le, nat_lt, List, [], ◌∷◌, filter, Option, Some, None, unwrap_or}
+use Rattle.std.specs.List.{filter_map, last_or}
+use Rattle.aivdm.specs.ReadingOf.{reading_of}
+use Rattle.scenario.specs.declared.values.Scenario.{Scenario}
+use Rattle.scenario.specs.declared.values.Window.{Window}
+
+abbrev pub stamp_of : List ℕ → Option ℕ
+stamp_of line = (reading_of line).stamp
+
+abbrev pub stamps_of : List (List ℕ) → List ℕ
+stamps_of lines = filter_map stamp_of lines
+
+-- The time of the last of these lines: its stamp, else the nearest earlier stamp, else the window's start.
+unfoldable pub time_of : Scenario → List (List ℕ) → ℕ
+time_of scenario lines = unwrap_or (last_or None (stamps_of lines)) scenario.window.start
+
+-- the time of the last tick
+abbrev pub end_of : Window → ℕ
+end_of window = window.start + window.ticks * window.tick
+
+-- The window of lines reaches a gap before the first tick, and a gap behind the last.
+abbrev pub lies_in : Window → ℕ → ℕ → Bool
+lies_in window gap time = nat_le window.start (time + gap) && nat_le time (end_of window + gap)
+
+abbrev pub is_in_window : Scenario → ℕ → Bool
+is_in_window scenario time = lies_in scenario.window scenario.log.gap time
+
+pub greatest : List ℕ → Option ℕ
+greatest [] = None
+greatest (n ∷ ns) = Some (max n (unwrap_or (greatest ns) n))
+
+-- The clock behind these lines: the greatest of their stamps that lies in the window of lines.
+unfoldable pub clock_of : Scenario → List (List ℕ) → Option ℕ
+clock_of scenario lines = greatest (filter (is_in_window scenario) (stamps_of lines))
+
+-- A time is late where the clock is past it by more than the slack.
+abbrev pub is_late : ℕ → Option ℕ → ℕ → Bool
+is_late slack None time = false
+is_late slack (Some clock) time = nat_lt (time + slack) clock
