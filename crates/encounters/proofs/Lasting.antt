@@ -107,7 +107,7 @@ module _ (detect : Detect) (steps : List (Option PairStep)) where
 last_index : (steps : List (Option PairStep)) (x : Option PairStep) → length (steps ++ x ∷ []) - 1 ≡ length steps
 last_index steps x = omega (arith, length-append steps (x ∷ []))
 
-to_last : (detect : Detect) (steps : List (Option PairStep)) (x : Option PairStep) (state : EngagementState)
+pub to_last : (detect : Detect) (steps : List (Option PairStep)) (x : Option PairStep) (state : EngagementState)
     → IsState detect (steps ++ x ∷ []) (length steps) state → IsStateAfter detect (steps ++ x ∷ []) state
 to_last detect steps x state h = subst (λ (i : ℕ). IsState detect (steps ++ x ∷ []) i state) (sym (last_index steps x)) h
 
@@ -119,8 +119,8 @@ seen_within (x ∷ steps) (suc k) pair h = let lt = seen_within steps k pair h i
 pub apart_at_first : (detect : Detect) → IsStateAfter detect [] Apart
 apart_at_first detect = λ h. let yes : false ≡ true = h.seen h.start (omega arith) h.until in cc
 
-pub after_unseen : (detect : Detect) (steps : List (Option PairStep)) → IsStateAfter detect (steps ++ None ∷ []) Apart
-after_unseen detect steps = to_last detect steps None Apart (unseen detect (steps ++ None ∷ []) (length steps) (seen_at-last steps None))
+pub after_unseen : (detect : Detect) (steps : List (Option PairStep)) → IsState detect (steps ++ None ∷ []) (length steps) Apart
+after_unseen detect steps = unseen detect (steps ++ None ∷ []) (length steps) (seen_at-last steps None)
 
 module _ (detect : Detect) (steps : List (Option PairStep)) (pair : PairStep) where
   free_of : IsStateAfter detect steps Apart → Free detect (steps ++ Some pair ∷ []) (length steps)
@@ -150,12 +150,12 @@ module _ (detect : Detect) (steps : List (Option PairStep)) (pair : PairStep) wh
       let all : List (Option PairStep) = steps ++ Some pair ∷ [] in
       subst (IsState detect all (length steps)) (sym is) (stays_free detect all (length steps) pair (seen_at-last steps (Some pair)) not (free_of h))
 
-  after_engaged : (state next : EngagementState) → length steps < 2 ^ 31 → IsStateAfter detect steps state → Follows detect state pair next → IsState detect (steps ++ Some pair ∷ []) (length steps) next
-  after_engaged Apart next short h follows = after_apart next h follows
-  after_engaged (Engaged kind age a b) next short h (inl (clear, is)) =
+  pub after_seen : (state next : EngagementState) → length steps < 2 ^ 31 → IsStateAfter detect steps state → Follows detect state pair next → IsState detect (steps ++ Some pair ∷ []) (length steps) next
+  after_seen Apart next short h follows = after_apart next h follows
+  after_seen (Engaged kind age a b) next short h (inl (clear, is)) =
       let all : List (Option PairStep) = steps ++ Some pair ∷ [] in
       subst (IsState detect all (length steps)) (sym is) (ends detect all (length steps) pair (seen_at-last steps (Some pair)) clear)
-  after_engaged (Engaged kind age a b) next short h (inr (not, is)) =
+  after_seen (Engaged kind age a b) next short h (inr (not, is)) =
       let all : List (Option PairStep) = steps ++ Some pair ∷ [] in
       let n : ℕ = length steps in
       let m : ℕ = length steps - 1 in
@@ -177,7 +177,3 @@ module _ (detect : Detect) (steps : List (Option PairStep)) (pair : PairStep) wh
         state_a = before.state_a;
         state_b = before.state_b;
       })
-
-  pub after_seen : (state next : EngagementState) → length steps < 2 ^ 31 → IsStateAfter detect steps state → Follows detect state pair next
-      → IsStateAfter detect (steps ++ Some pair ∷ []) next
-  after_seen state next short h follows = to_last detect steps (Some pair) next (after_engaged state next short h follows)

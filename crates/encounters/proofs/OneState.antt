@@ -2,8 +2,7 @@
 use Rattle.std.proofs.Common.{◌≡◌, ℕ, ◌+◌, ◌≤◌, ◌⊎◌, inl, inr, List, refl, sym, ap, ◌∙◌, arith}
 use Rattle.std.specs.Prelude.{Option, Some}
 use Rattle.std.proofs.lemmas.Option.{same_Some}
-use Rattle.encounters.specs.Engagement.{IsBeginning, IsEngagedFrom, IsState, later_by, seen_at}
-use Rattle.encounters.specs.Inner.Following.{class_at}
+use Rattle.encounters.specs.Engagement.{class_at, IsBeginning, IsEngagedFrom, IsState, later_by, seen_at}
 use Rattle.encounters.specs.declared.detect.Detect.{Detect}
 use Rattle.encounters.specs.declared.pair_step.PairStep.{PairStep}
 use Rattle.encounters.specs.declared.engagement_state.EngagementState.{EngagementState}

@@ -31,13 +31,17 @@ pub record IsBeginning (detect : Detect) (steps : List (Option PairStep)) (i fir
   pub engaged : IsEngagedFrom detect steps first i
   pub least : (other : ℕ) → other ≤ i → IsEngagedFrom detect steps other i → first ≤ other
 
+-- the class at a step that is seen
+abbrev pub class_at : Detect → PairStep → Class
+class_at detect pair = class_of pair.step pair.a.direction pair.b.direction detect.angles
+
 -- The engagement at i: its kind is the class at its beginning, its age the steps since then, and a and b are the states there.
 pub record IsEngagement (detect : Detect) (steps : List (Option PairStep)) (i : ℕ) (kind : Class) (age : ℕ) (a b : TickState) : Type 0 where
   pub beginning : ℕ
   pub begins : IsBeginning detect steps i beginning
   pub pair : PairStep
   pub first : seen_at steps beginning ≡ Some pair
-  pub class : kind ≡ class_of pair.step pair.a.direction pair.b.direction detect.angles
+  pub class : kind ≡ class_at detect pair
   pub since : age ≡ i - beginning
   pub state_a : a ≡ pair.a
   pub state_b : b ≡ pair.b

@@ -5,6 +5,7 @@ ghost use Rattle.encounters.specs.declared.detect.Detect.{Detect};
 ghost use Rattle.encounters.specs.declared.pair_step.PairStep.{PairStep};
 ghost use Rattle.encounters.specs.declared.engagement_state.EngagementState.TheVariants.{Apart, Engaged};
 ghost use Rattle.encounters.specs.Directions.{HasDirection, HaveDirections, HaveDirectionsSince};
+ghost use Rattle.encounters.specs.Engagement.{IsState};
 ghost use Rattle.encounters.specs.Inner.Following.{Follows};
 ghost use Rattle.encounters.specs.Risk.{IsDetect};
 ghost use Rattle.encounters.specs.Standing.{IsStateAfter, StandsFor};
@@ -17,8 +18,8 @@ use motion::TickState;
 use sectors::{Class, class_of};
 use std::marker::Model;
 
-/// The state after one of vessels that are apart.
-fn begun(detect: &Detect, pair: &PairStep) -> EngagementState
+/// The state at a step that is seen, after one at which the vessels are apart.
+fn after_apart(detect: &Detect, pair: &PairStep) -> EngagementState
     requires detect { IsDetect detect.now }
     requires directions { HaveDirections pair.now }
     ensures follows { Follows detect.now Apart pair.now result }
@@ -41,8 +42,8 @@ fn begun(detect: &Detect, pair: &PairStep) -> EngagementState
     }
 }
 
-/// The state after one of vessels that are engaged. Where there is risk they are not past and clear.
-fn continued(
+/// The state at a step that is seen, after one at which they are engaged. Where there is risk they are not past and clear.
+fn after_engaged(
     detect: &Detect,
     pair: &PairStep,
     kind: Class,
@@ -68,8 +69,8 @@ fn continued(
     }
 }
 
-/// The state after another where the next step is seen.
-fn following(detect: &Detect, state: EngagementState, pair: &PairStep) -> EngagementState
+/// The state at a step that is seen, after another.
+fn after_seen(detect: &Detect, state: EngagementState, pair: &PairStep) -> EngagementState
     requires detect { IsDetect detect.now }
     requires pair { HaveDirections pair.now }
     requires state { HaveDirectionsSince state }
@@ -77,23 +78,25 @@ fn following(detect: &Detect, state: EngagementState, pair: &PairStep) -> Engage
     ensures directions { HaveDirectionsSince result }
 {
     match state {
-        EngagementState::Apart => begun(detect, pair),
-        EngagementState::Engaged { kind, age, a, b } => continued(detect, pair, kind, age, a, b),
+        EngagementState::Apart => after_apart(detect, pair),
+        EngagementState::Engaged { kind, age, a, b } => after_engaged(
+            detect, pair, kind, age, a, b,
+        ),
     }
 }
 
-/// The state after another, by the next step.
-fn after(detect: &Detect, state: EngagementState, seen: Option<&PairStep>) -> EngagementState
+/// The state at a step, after another.
+fn after_step(detect: &Detect, state: EngagementState, seen: Option<&PairStep>) -> EngagementState
     requires detect { IsDetect detect.now }
     requires seen { IfSome (option_copied seen) HaveDirections }
     requires state { HaveDirectionsSince state }
     ensures state { (steps : List (Option PairStep)) → length steps < 2 ^ 31 → IsStateAfter detect.now steps state
-        → IsStateAfter detect.now (steps ++ option_copied seen.entry ∷ []) result }
+        → IsState detect.now (steps ++ option_copied seen.entry ∷ []) (length steps) result }
     ensures directions { HaveDirectionsSince result }
 {
     match seen {
         None => EngagementState::Apart,
-        Some(pair) => following(detect, state, pair),
+        Some(pair) => after_seen(detect, state, pair),
     }
 }
 
@@ -138,12 +141,12 @@ impl Engagement {
     pub fn step(&mut self, seen: Option<&PairStep>) -> EngagementState
         requires { IfSome (option_copied seen) HaveDirections }
         ensures state { (detect : Detect) (steps : List (Option PairStep)) → length steps < 2 ^ 31 → StandsFor self.old detect steps
-            → IsStateAfter detect (steps ++ option_copied seen.entry ∷ []) result }
+            → IsState detect (steps ++ option_copied seen.entry ∷ []) (length steps) result }
         ensures stands { (detect : Detect) (steps : List (Option PairStep)) → length steps < 2 ^ 31 → StandsFor self.old detect steps
             → StandsFor self.new detect (steps ++ option_copied seen.entry ∷ []) }
         ensures directions { HaveDirectionsSince result }
     {
-        let state = after(&self.detect, self.latest, seen);
+        let state = after_step(&self.detect, self.latest, seen);
         self.latest = state;
         state
     }
