@@ -1,2 +1,3 @@
 pub mod MessageFields
+pub mod SixBitText
 pub use Rattle.aivdm.specs.BitFields

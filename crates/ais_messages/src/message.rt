@@ -1,13 +1,14 @@
 //! What a message says.
+use crate::text::Text20;
 
-/// A vessel's report of her position and motion (ITU-R M.1371, messages 1 to 3).
+/// A vessel's report of her position and motion (ITU-R M.1371-5, annex 8, messages 1 to 3, 18, 19 and 27).
 #[derive(Clone, Copy, Debug, PartialEq, Eq)]
 pub struct PositionReport {
-    /// The type of the message.
+    /// The type of the message: 1, 2, 3, 18, 19 or 27.
     pub kind: u8,
     /// The Maritime Mobile Service Identity, 200000000 to 799999999 for a ship.
     pub mmsi: u32,
-    /// The navigational status, 0 to 15.
+    /// The navigational status, 0 to 15; 15 where the type has none.
     pub status: u8,
     /// Latitude, at most 54000000 in size, and longitude, at most 108000000, in 1/10000 minute, north and east positive.
     pub place: Option<(i32, i32)>,
@@ -21,10 +22,41 @@ pub struct PositionReport {
     pub second: u8,
 }
 
-/// A message that was read.
+/// What a ship's static report tells of her hull (ITU-R M.1371-5, annex 8, messages 5, 19 and 24 B).
 #[derive(Clone, Copy, Debug, PartialEq, Eq)]
+pub struct ShipData {
+    /// Type of ship and cargo, 0 to 255 (annex 8, table 53).
+    pub kind: u8,
+    /// From the antenna to the bow, in metres, 0 to 511.
+    pub bow: u16,
+    /// From the antenna to the stern, in metres, 0 to 511.
+    pub stern: u16,
+    /// From the antenna to the port side, in metres, 0 to 63.
+    pub port: u8,
+    /// From the antenna to the starboard side, in metres, 0 to 63.
+    pub starboard: u8,
+}
+
+/// What a ship tells of herself that does not change as she moves (ITU-R M.1371-5, annex 8, messages 5, 19 and 24).
+#[derive(Debug, Drop, PartialEq)]
+pub struct StaticReport {
+    /// The Maritime Mobile Service Identity, 200000000 to 799999999 for a ship.
+    pub mmsi: u32,
+    /// Her name, where the message has one.
+    pub name: Option<Text20>,
+    /// Her type and size, where the message has them.
+    pub ship: Option<ShipData>,
+}
+
+/// A message that was read.
+#[derive(Debug, Drop, PartialEq)]
 pub enum Message {
+    /// Messages 1, 2, 3, 18 and 27.
     Position(PositionReport),
+    /// Messages 5 and 24.
+    Static(StaticReport),
+    /// Message 19.
+    Both(PositionReport, StaticReport),
 }
 
 /// Why a message was not read.
@@ -39,7 +71,7 @@ pub enum MessageCause {
 }
 
 /// What the bits of a message are read as.
-#[derive(Clone, Copy, Debug, PartialEq, Eq)]
+#[derive(Debug, Drop, PartialEq)]
 pub enum Decoded {
     Message(Message),
     Dropped(MessageCause),

@@ -1,0 +1,12 @@
+pub use Rattle.fixed_geometry.specs.Bearing
+pub use Rattle.fixed_geometry.specs.Plane
+pub use Rattle.motion.specs.Steps
+pub use Rattle.closest_approach.specs.Separation
+pub use Rattle.sectors.specs.Class
+pub use Rattle.mtl_formulas.specs.VerdictOrder
+pub mod Risk
+pub mod Directions
+pub mod Engagement
+pub mod Standing
+pub mod Alterations
+pub mod Inner

@@ -1,0 +1,66 @@
+//! Risk of collision, opening, and past and clear.
+ghost use Rattle.std.specs.Prelude.{pos, ◌≡◌, ◌*◌, ◌≤◌, ◌≤ℤ◌, ◌↔◌, IsTrue};
+ghost use Rattle.fixed_geometry.specs.Plane.{norm2_of};
+ghost use Rattle.encounters.specs.Risk.{HasRisk, IsDetect, IsOpening, IsPastClear};
+
+use crate::detect::Detect;
+use closest_approach::enters_within;
+use fixed_geometry::{dot, norm2};
+use motion::Step;
+
+/// The square of a distance.
+fn square(distance: u64) -> u128
+    requires { distance ≤ 1000000000 }
+    ensures { result ≡ distance * distance }
+{
+    u128::from(distance) * u128::from(distance)
+}
+
+/// Whether the vessels are at most so far apart at the step's beginning.
+fn is_within(step: &Step, distance: u64) -> bool
+    requires { distance ≤ 1000000000 }
+    ensures { IsTrue result ↔ (norm2_of step.now.p ≤ℤ pos (distance * distance)) }
+{
+    norm2(step.p()) <= square(distance)
+}
+
+/// Whether they are at least so far apart there.
+fn is_beyond(step: &Step, distance: u64) -> bool
+    requires { distance ≤ 1000000000 }
+    ensures { IsTrue result ↔ (pos (distance * distance) ≤ℤ norm2_of step.now.p) }
+{
+    square(distance) <= norm2(step.p())
+}
+
+/// Whether there is risk of collision (Rule 7) at a step that is seen: the vessels are at most `watch` apart, and come nearer
+/// than `risk` at some instant within the horizon, where both go on as they do.
+pub fn risk(detect: &Detect, step: &Step) -> bool
+    requires { IsDetect detect.now }
+    ensures { IsTrue result ↔ HasRisk detect.now step.now }
+{
+    if is_within(step, detect.watch) {
+        enters_within(step, detect.risk, detect.horizon)
+    } else {
+        false
+    }
+}
+
+/// Whether the vessels draw apart at the beginning of a step, or keep their distance.
+pub fn opening(step: &Step) -> bool
+    ensures { IsTrue result ↔ IsOpening step.now }
+{
+    dot(step.p(), step.w()) >= 0
+}
+
+/// Whether they are past and clear (Rule 13 (d)) at a step that is seen: there is no risk, they are opening, and at least
+/// `clear` apart.
+pub fn past_clear(detect: &Detect, step: &Step) -> bool
+    requires { IsDetect detect.now }
+    ensures { IsTrue result ↔ IsPastClear detect.now step.now }
+{
+    if opening(step) && is_beyond(step, detect.clear) {
+        !risk(detect, step)
+    } else {
+        false
+    }
+}
