@@ -32,7 +32,7 @@ nearest-push stamps (Some stamp) = last_or-push None stamps stamp
 greatest-push : (xs : List ℕ) (y : ℕ) → greatest (xs ++ y ∷ []) ≡ Some (at_least y (greatest xs))
 greatest-push [] y = refl
 greatest-push (x ∷ xs) y = one_more x y (greatest xs) (greatest (xs ++ y ∷ [])) (greatest-push xs y)
-    where
+  where
     one_more : (x y : ℕ) (old new : Option ℕ) → new ≡ Some (at_least y old) → Some (max x (unwrap_or new x)) ≡ Some (max y (max x (unwrap_or old x)))
     one_more x y None new is = rw is (ap Some (omega arith))
     one_more x y (Some m) new is = rw is (ap Some (omega arith))
@@ -71,7 +71,7 @@ kept times scenario before lines (Some stamp) keeps more = record {
   clock = rw (keeps.window, keeps.log, keeps.clock) (
       sym (ap (λ (l : List ℕ). greatest (filter (is_in_window scenario) l)) more
       ∙ clock-push scenario (stamps_of before) stamp (is_in_window scenario stamp) refl)
-    );
+      );
 }
 
 pub KeepsTimes-push : (times : LineTimes) (scenario : Scenario) (before : List (List ℕ)) (line : List ℕ) → KeepsTimes times scenario before

@@ -5,7 +5,7 @@ use Rattle.fixed_geometry.specs.Place.{Place}
 use Rattle.fixed_geometry.specs.Projection.{projection_of}
 use Rattle.fixed_geometry.specs.declared.point.Point.{Point}
 use Rattle.ais_messages.specs.declared.message.Message.{Message}
-use Rattle.ais_messages.specs.declared.message.Message.TheVariants.{Position}
+use Rattle.ais_messages.specs.declared.message.Message.TheVariants as message
 use Rattle.ais_messages.specs.declared.message.PositionReport.{PositionReport}
 use Rattle.colregs_program.specs.SentLines.{Sent}
 use Rattle.colregs_program.specs.declared.outcome.LineOutcome.{LineOutcome}
@@ -51,7 +51,9 @@ judged_report reference time report latest = judged_at time report latest (place
 
 -- what a message comes to, after the accepted reports before it
 abbrev pub judged_message : Place → List Accepted → ℕ → Message → Judged
-judged_message reference accepted time (Position report) = judged_report reference time report (latest_of report.mmsi accepted)
+judged_message reference accepted time (message.Position report) = judged_report reference time report (latest_of report.mmsi accepted)
+judged_message reference accepted time (message.Both report ship) = judged_report reference time report (latest_of report.mmsi accepted)
+judged_message reference accepted time (message.Static ship) = judged.Without outcome.Static
 
 -- the accepted reports, with those of one message more
 abbrev pub with_message : Place → List Accepted → Sent → List Accepted

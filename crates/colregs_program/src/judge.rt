@@ -4,9 +4,8 @@ ghost use Rattle.std.specs.List.{filter_map};
 ghost use Rattle.aivdm.specs.FragmentJoining.{Taken};
 ghost use Rattle.aivdm.specs.OpenMessages.{StandsFor as JoinerStandsFor};
 ghost use Rattle.aivdm.specs.Sentences.{IfSentence, IsSentence, body_seen, fields_seen};
-ghost use Rattle.ais_messages.specs.MessageFields.{IfPosition, IsReport};
-ghost use Rattle.ais_messages.specs.declared.message.Message.TheVariants.{Position};
-ghost use Rattle.colregs_program.specs.AcceptedReports.{accepted_among, judged_message, report_in, with_message};
+ghost use Rattle.ais_messages.specs.MessageFields.{IfMessage, IsMessage, IsReport};
+ghost use Rattle.colregs_program.specs.AcceptedReports.{accepted_among, judged_message, judged_report, latest_of, report_in, with_message};
 ghost use Rattle.colregs_program.specs.JudgedLines.{judged_line, judged_lines, judged_sent};
 ghost use Rattle.colregs_program.specs.SentLines.{Sent, sent_decoded};
 ghost use Rattle.colregs_program.specs.Inner.LatestReports.{HoldsLatest};
@@ -95,9 +94,9 @@ impl Judge {
     fn judge_report(&mut self, report: PositionReport, time: u64) -> Result<Judged, Memory>
         requires { IsReport report }
         ensures judged { IfOk result (λ judged. (accepted : List Accepted) → HoldsLatest self.old.latest accepted
-            → judged ≡ judged_message self.old.reference accepted time (Position report)) }
-        ensures latest { OnOk result ((accepted : List Accepted) → HoldsLatest self.old.latest accepted
-            → HoldsLatest self.new.latest (with_message self.old.reference accepted (record { message = Position report; time = time }))) }
+            → judged ≡ judged_report self.old.reference time report (latest_of report.mmsi accepted)) }
+        ensures latest { IfOk result (λ judged. (accepted : List Accepted) → HoldsLatest self.old.latest accepted
+            → HoldsLatest self.new.latest (accepted ++ filter_map report_in (judged ∷ []))) }
         ensures same { self.new ≡ record self.old { latest = self.new.latest } }
     {
         let judged = judge_report(self.reference, time, report, self.latest.get(&report.mmsi));
@@ -105,9 +104,25 @@ impl Judge {
         Ok(judged)
     }
 
+    /// Judges a message. What it tells of the ship is not kept yet.
+    fn judge_message(&mut self, message: Message, time: u64) -> Result<Judged, Memory>
+        requires { IsMessage message }
+        ensures judged { IfOk result (λ judged. (accepted : List Accepted) → HoldsLatest self.old.latest accepted
+            → judged ≡ judged_message self.old.reference accepted time message) }
+        ensures latest { OnOk result ((accepted : List Accepted) → HoldsLatest self.old.latest accepted
+            → HoldsLatest self.new.latest (with_message self.old.reference accepted (record { message = message; time = time }))) }
+        ensures same { self.new ≡ record self.old { latest = self.new.latest } }
+    {
+        match message {
+            Message::Position(report) => self.judge_report(report, time),
+            Message::Both(report, _) => self.judge_report(report, time),
+            Message::Static(_) => Ok(Judged::Without(LineOutcome::Static)),
+        }
+    }
+
     /// Judges what the bits of a message are read as.
     fn judge_decoded(&mut self, decoded: Decoded, time: u64) -> Result<Judged, Memory>
-        requires { IfPosition decoded IsReport }
+        requires { IfMessage decoded IsMessage }
         ensures judged { IfOk result (λ judged. (messages : List Sent) → HoldsLatest self.old.latest (accepted_among self.old.reference messages)
             → judged ≡ judged_sent self.old.reference messages (sent_decoded time decoded)) }
         ensures latest { OnOk result ((messages : List Sent) → HoldsLatest self.old.latest (accepted_among self.old.reference messages)
@@ -115,7 +130,7 @@ impl Judge {
         ensures same { self.new ≡ record self.old { latest = self.new.latest } }
     {
         match decoded {
-            Decoded::Message(Message::Position(report)) => self.judge_report(report, time),
+            Decoded::Message(message) => self.judge_message(message, time),
             Decoded::Dropped(cause) => Ok(Judged::Without(cause.into())),
         }
     }
