@@ -54,15 +54,15 @@ unfolding accepted_among
 accepted-push reference messages next = fold-append (with_message reference) [] messages (next ∷ [])
 
 pub nothing_sent : (scenario : Scenario) → sent scenario [] ≡ []
-unfolding sent, each_after
+unfolding sent each_after
 nothing_sent scenario = refl
 
 pub nothing_heard : (scenario : Scenario) → heard scenario [] ≡ []
-unfolding heard, each_after
+unfolding heard each_after
 nothing_heard scenario = refl
 
 pub nothing_judged : (scenario : Scenario) → judged_lines scenario [] ≡ []
-unfolding judged_lines, each_after
+unfolding judged_lines each_after
 nothing_judged scenario = refl
 
 pub nothing_accepted : (reference : Place) → accepted_among reference [] ≡ []
