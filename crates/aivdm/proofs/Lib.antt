@@ -1,5 +1,14 @@
+pub mod Appended
 pub mod BitLists
 pub mod Blocks
+pub mod Cuts
+pub mod Digits
 pub mod Masks
+pub mod OneReading
+pub mod Parts
 pub mod Payloads
 pub mod Positions
+pub mod SentenceCuts
+pub mod SentenceFacts
+pub mod Steps
+pub mod TagCuts

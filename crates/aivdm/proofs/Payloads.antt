@@ -1,6 +1,7 @@
 -- A payload's bytes as sextets.
-use Rattle.std.proofs.Common.{◌≡◌, ℕ, ◌-◌, ◌*◌, ◌<◌, ◌≤◌, List, [], ◌∷◌, ◌++◌, length, take, drop, map, flat_map, get_or, All, IsTrue, refl, sym, ap, ◌∙◌, arith, take_all, append-nil, get_or-drop, length-take-le}
-use Rattle.std.proofs.lemmas.List.{length-map, get_or-map, drop_all, get_or-append_right}
+use Rattle.std.proofs.Common.{◌≡◌, ℕ, ◌+◌, ◌-◌, ◌*◌, ◌<◌, ◌≤◌, Bool, List, [], ◌∷◌, ◌++◌, length, take, drop, map, flat_map, get_or, All, IsTrue, refl, sym, ap, ap₂, ◌∙◌, arith, take_all, append-nil, get_or-drop, length-take, length-take-le}
+use Rattle.std.proofs.lemmas.List.{length-map, get_or-map, drop_all, get_or-append_right, take_more}
+use Rattle.std.proofs.lemmas.Grind.{flat_map-append}
 use Rattle.std.proofs.lemmas.Bool.Decides.{nat_tests}
 use Rattle.std.specs.List.{refill}
 use Rattle.aivdm.specs.BitFields.{binary}
@@ -44,3 +45,37 @@ AreSextets-payload payload fill some few armoured = record {
       let there : k < length payload = omega (arith, length-map payload six_bits) in
       rw (get_or-map six_bits payload k d d there) (six_bits-below (get_or payload k d) (armoured k d there));
 }
+
+-- the bits of all bytes, with no fill
+pub bits_of-all : (payload : List ℕ) → bits_of payload 0 ≡ flat_map (λ byte. binary 6 (six_bits byte)) payload
+unfolding bits_of
+bits_of-all payload =
+    let bits = flat_map (λ byte. binary 6 (six_bits byte)) payload in take_all (length bits - 0) bits (omega arith)
+
+pub bits_of-none : bits_of [] 0 ≡ []
+bits_of-none = bits_of-all []
+
+-- one byte more
+pub bits_of-more : (payload : List ℕ) (i : ℕ) → i < length payload → bits_of (take (i + 1) payload) 0 ≡ bits_of (take i payload) 0 ++ binary 6 (six_bits (get_or payload i 0))
+bits_of-more payload i below =
+    let byte = get_or payload i 0 in
+    bits_of-all (take (i + 1) payload)
+    ∙ ap (flat_map (λ (byte : ℕ). binary 6 (six_bits byte))) (take_more payload i 0 below)
+    ∙ flat_map-append (λ (byte : ℕ). binary 6 (six_bits byte)) (take i payload) (byte ∷ [])
+    ∙ ap (λ (bits : List Bool). flat_map (λ (byte : ℕ). binary 6 (six_bits byte)) (take i payload) ++ bits) (append-nil (binary 6 (six_bits byte)))
+    ∙ ap (λ (bits : List Bool). bits ++ binary 6 (six_bits byte)) (sym (bits_of-all (take i payload)))
+
+length-payload_bits : (payload : List ℕ) → length (flat_map (λ byte. binary 6 (six_bits byte)) payload) ≡ 6 * length payload
+length-payload_bits payload =
+    ap length (sym (bits_in-map payload)) ∙ length-bits_in (map six_bits payload) ∙ ap (λ n. 6 * n) (length-map payload six_bits)
+
+-- without the fill
+pub bits_of-cut : (payload : List ℕ) (fill : ℕ) → take (6 * length payload - fill) (bits_of payload 0) ≡ bits_of payload fill
+unfolding bits_of
+bits_of-cut payload fill =
+    ap₂ (λ (n : ℕ) (bits : List Bool). take (n - fill) bits) (sym (length-payload_bits payload)) (bits_of-all payload)
+
+pub length-bits_of : (payload : List ℕ) (fill : ℕ) → length (bits_of payload fill) ≡ 6 * length payload - fill
+unfolding bits_of
+length-bits_of payload fill =
+    let bits = flat_map (λ byte. binary 6 (six_bits byte)) payload in omega (arith, length-take (length bits - fill) bits, length-payload_bits payload)

@@ -1,5 +1,5 @@
 //! The bits of a message.
-ghost use Rattle.std.specs.Prelude.{◌≡◌, ◌==◌, ◌+◌, ◌-◌, ◌*◌, ◌/◌, ◌%◌, ◌^◌, ◌<◌, ◌≤◌, ◌++◌, [], length, map, take, All, IfOk, IsOk, IsTrue, OnOk, OnErr};
+ghost use Rattle.std.specs.Prelude.{◌≡◌, ◌==◌, ◌+◌, ◌-◌, ◌*◌, ◌/◌, ◌%◌, ◌^◌, ◌<◌, ◌≤◌, ◌++◌, [], length, map, take, All, IfNone, IfOk, IfSome, IsOk, IsTrue, OnOk, OnErr};
 ghost use Rattle.smallvec.specs.SmallVec.{small_vec_len, HasRoomFor};
 ghost use Rattle.aivdm.specs.BitFields.{binary, number_of, signed_at, unsigned_at};
 ghost use Rattle.aivdm.specs.PayloadBits.{bits_of, is_armour, six_bits};
@@ -181,6 +181,9 @@ fn number(sextets: &[u8]) -> u64
 /// So many bits and more. No memory has room for more than a `usize` counts.
 fn grown(len: usize, more: usize) -> Option<usize>
     requires { more ≤ 6144 }
+    ensures sum { IfSome result (λ grown. grown ≡ len + more) }
+    ensures fits { IfSome result (λ grown. grown + 2048 ≤ 2 ^ 64) }
+    ensures none { IfNone result (432 < len) }
 {
     if len > usize::MAX - 8192 { None } else { Some(len + more) }
 }
@@ -197,13 +200,27 @@ fn append_bits(sextets: &mut SmallVec<u8, 72>, len: usize, value: u64, width: u3
     ensures capacity { sextets.new.capacity ≡ sextets.old.capacity }
 {
     let kept = (len % 6) as u32;
-    let mut number = value;
-    if kept > 0 {
-        let last = sextets.pop().unwrap_or(0);
-        number += u64::from(last >> (6 - kept)) << width;
-    }
+    let high = pop_kept(sextets, len, kept);
     let count = (kept + width + 5) / 6;
+    let number = (high << width) + value;
     push_sextets(sextets, number << (6 * count - kept - width), count);
+}
+
+/// Takes off the last sextet where not all of it counts, and gives the number in the bits of it that do.
+fn pop_kept(sextets: &mut SmallVec<u8, 72>, len: usize, kept: u32) -> u64
+    requires sextets { AreSextets sextets.old.items len }
+    requires kept { kept ≡ len % 6 }
+    ensures bits { take len (bits_in sextets.old.items) ≡ bits_in sextets.new.items ++ binary kept result }
+    ensures bound { result < 2 ^ kept }
+    ensures len { 6 * length sextets.new.items + kept ≡ len }
+    ensures six { All (λ sextet. sextet < 64) sextets.new.items }
+    ensures capacity { sextets.new.capacity ≡ sextets.old.capacity }
+{
+    if kept == 0 {
+        return 0;
+    }
+    let last = sextets.pop().unwrap_or(0);
+    u64::from(last >> (6 - kept))
 }
 
 /// Appends the lowest 6 bits for each of so many elements of a number.
@@ -231,9 +248,9 @@ fn append_sextets(sextets: &mut SmallVec<u8, 72>, len: usize, payload: &[u8])
     ensures sextets { AreSextets sextets.new.items (len + 6 * length payload.now) }
     ensures capacity { sextets.new.capacity ≡ sextets.old.capacity }
 {
-    let mut len = len;
+    let mut so_far = len;
     for byte in payload {
-        append_bits(sextets, len, u64::from(sextet(*byte)), 6);
-        len += 6;
+        append_bits(sextets, so_far, u64::from(sextet(*byte)), 6);
+        so_far += 6;
     }
 }

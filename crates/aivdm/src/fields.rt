@@ -1,5 +1,5 @@
 //! The fields of a VDM or VDO sentence.
-ghost use Rattle.std.specs.Prelude.{◌≡◌, ◌+◌, ◌-◌, ◌≤◌, length, IfOk};
+ghost use Rattle.std.specs.Prelude.{◌≡◌};
 ghost use Rattle.aivdm.specs.Inner.LineCuts.{address_at, count_at, cut_at, end_at, is_suffix, is_talker_byte, kind_at, digit_at, letter_at};
 ghost use Rattle.aivdm.specs.Inner.Seen.{behind_seen, count_seen, cut_seen, optional_seen};
 
@@ -19,8 +19,7 @@ pub(crate) struct Fields<'a> {
 #[inline(always)]
 #[tactic(auto, unfolding(crate::specs::Inner::LineCuts::address_at))]
 pub(crate) fn behind_address(bytes: &[u8]) -> Result<&[u8], LineCause>
-    ensures rest { behind_seen result ≡ address_at bytes.now }
-    ensures within { IfOk result (λ rest. length rest.now ≤ length bytes.now) }
+    ensures { behind_seen result ≡ address_at bytes.now }
 {
     match bytes {
         [b'!', a, b, rest @ ..] if is_talker_byte(*a) && is_talker_byte(*b) => behind_kind(rest),
@@ -52,8 +51,7 @@ fn behind_kind(bytes: &[u8]) -> Result<&[u8], LineCause>
 #[inline(always)]
 #[tactic(auto, unfolding(crate::specs::Inner::LineCuts::cut_at))]
 pub(crate) fn read_fields(bytes: &[u8]) -> Result<Fields<'_>, LineCause>
-    ensures fields { cut_seen result ≡ cut_at bytes.now }
-    ensures within { IfOk result (λ fields. length fields.suffix.now + 4 ≤ length bytes.now) }
+    ensures { cut_seen result ≡ cut_at bytes.now }
 {
     let (total, number, rest) = read_counts(bytes)?;
     let (seq, rest) = read_digit(rest)?;

@@ -1,6 +1,6 @@
 //! From a line's bytes to what it says.
-ghost use Rattle.std.specs.Prelude.{◌≡◌};
-ghost use Rattle.aivdm.specs.Inner.LineCuts.{sentence_at};
+ghost use Rattle.std.specs.Prelude.{◌≡◌, ◌+◌, ◌≤◌, length};
+ghost use Rattle.aivdm.specs.Inner.LineCuts.{sentence_at, summed_in};
 ghost use Rattle.aivdm.specs.Inner.Seen.{sentence_seen};
 ghost use Rattle.aivdm.specs.LineReading.{IsReading};
 ghost use Rattle.aivdm.specs.ReadingOf.{dropped, reading_of};
@@ -25,6 +25,15 @@ pub fn read_line(line: &[u8]) -> Reading<'_>
     ensures same { reading_seen result ≡ reading_of line.now }
     ensures sentence { IfSentence result.body (λ s. IsSentence (fields_seen s)) }
     ensures part { IfSentence result.body (λ s. IsPart s.payload.now line.now) }
+{
+    read(line)
+}
+
+/// Reads a line.
+#[inline(always)]
+#[tactic(auto, unfolding(crate::specs::ReadingOf::reading_of))]
+fn read(line: &[u8]) -> Reading<'_>
+    ensures { reading_seen result ≡ reading_of line.now }
 {
     if line.is_empty() {
         return dropped(LineCause::Empty);
@@ -70,13 +79,20 @@ fn sentence(bytes: &[u8]) -> Result<Sentence<'_>, LineCause>
 {
     let rest = behind_address(bytes)?;
     let fields = read_fields(rest)?;
-    // The sum is over what lies between the first byte and the `*`, behind which stand two digits and the suffix.
-    let summed = &bytes[1..bytes.len() - fields.suffix.len() - 3];
-    if fields.told != sum_of(summed) {
+    if fields.told != sum_of(summed(bytes, fields.suffix.len())) {
         return Err(LineCause::Sum);
     }
     if !is_armoured(fields.sentence.payload) {
         return Err(LineCause::Armour);
     }
     Ok(fields.sentence)
+}
+
+/// What lies between the first byte of a sentence and the `*`, behind which stand two digits and a suffix of this length.
+#[inline(always)]
+fn summed(bytes: &[u8], suffix: usize) -> &[u8]
+    requires { suffix + 4 ≤ length bytes.now }
+    ensures { result.now ≡ summed_in bytes.now suffix }
+{
+    &bytes[1..bytes.len() - suffix - 3]
 }

@@ -133,29 +133,39 @@ pub record Cut : Type 0 where
   pub told : ℕ
   pub suffix : List ℕ
 
--- the fields behind the address
+-- the fields behind the address, one after another
+abbrev pub with_end : ℕ × ℕ × List ℕ → Option ℕ → Option ℕ → List ℕ → ℕ × ℕ × List ℕ → Result Cut LineCause
+with_end count seq channel payload end =
+    if length payload == 0 then Err Form
+    else Ok (record {
+      fields = record { total = count.0; number = count.1; seq = seq; channel = channel; payload = payload; fill = end.0 };
+      told = end.1;
+      suffix = end.2;
+    })
+
+abbrev pub with_channel : ℕ × ℕ × List ℕ → Option ℕ → Option ℕ × List ℕ → Result Cut LineCause
+with_channel count seq channel = end_at (after_byte 44 channel.1) >>= with_end count seq channel.0 (before_byte 44 channel.1)
+
+abbrev pub with_seq : ℕ × ℕ × List ℕ → Option ℕ × List ℕ → Result Cut LineCause
+with_seq count seq = letter_at seq.1 >>= with_channel count seq.0
+
+abbrev pub with_count : ℕ × ℕ × List ℕ → Result Cut LineCause
+with_count count = digit_at count.2 >>= with_seq count
+
 unfoldable pub cut_at : List ℕ → Result Cut LineCause
-cut_at bytes =
-    count_at bytes >>= λ count.
-    (digit_at count.2 >>= λ seq.
-    (letter_at seq.1 >>= λ channel.
-    (end_at (after_byte 44 channel.1) >>= λ end.
-    (if length (before_byte 44 channel.1) == 0 then Err Form
-     else Ok (record {
-       fields = record { total = count.0; number = count.1; seq = seq.0; channel = channel.0; payload = before_byte 44 channel.1; fill = end.0 };
-       told = end.1;
-       suffix = end.2;
-     })))))
+cut_at bytes = count_at bytes >>= with_count
 
 -- what lies between `!` and the `*` before a suffix of this length
 abbrev pub summed_in : List ℕ → ℕ → List ℕ
 summed_in bytes suffix = take (length bytes - suffix - 3 - 1) (drop 1 bytes)
 
+-- the tests behind the form
+abbrev pub tested : List ℕ → Cut → Result SentenceFields LineCause
+tested bytes cut =
+    if cut.told == sum_of (summed_in bytes (length cut.suffix))
+    then (if list_all is_armour cut.fields.payload then Ok cut.fields else Err Armour)
+    else Err Sum
+
 -- the sentence behind the tag block
 unfoldable pub sentence_at : List ℕ → Result SentenceFields LineCause
-sentence_at bytes =
-    address_at bytes >>= λ rest.
-    (cut_at rest >>= λ cut.
-    (if cut.told == sum_of (summed_in bytes (length cut.suffix))
-     then (if list_all is_armour cut.fields.payload then Ok cut.fields else Err Armour)
-     else Err Sum))
+sentence_at bytes = address_at bytes >>= λ rest. (cut_at rest >>= tested bytes)
