@@ -8,3 +8,5 @@ pub mod Refusals
 pub mod Reporting
 pub mod SettingUp
 pub mod Timing
+pub mod Positions
+pub mod GoingOn

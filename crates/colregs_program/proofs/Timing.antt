@@ -30,7 +30,8 @@ nearest-push stamps None = ap (last_or None) (append-nil stamps)
 nearest-push stamps (Some stamp) = last_or-push None stamps stamp
 
 greatest-push : (xs : List ℕ) (y : ℕ) → greatest (xs ++ y ∷ []) ≡ Some (at_least y (greatest xs))
-greatest-push [] y = refl
+unfolding greatest
+greatest-push [] y = ap Some (omega arith)
 greatest-push (x ∷ xs) y = one_more x y (greatest xs) (greatest (xs ++ y ∷ [])) (greatest-push xs y)
   where
     one_more : (x y : ℕ) (old new : Option ℕ) → new ≡ Some (at_least y old) → Some (max x (unwrap_or new x)) ≡ Some (max y (max x (unwrap_or old x)))
@@ -85,3 +86,9 @@ time_is times scenario before line keeps =
     let last : last_or None (stamps_of (before ++ line ∷ [])) ≡ nearest_of (stamp_of line) (last_or None (stamps_of before)) =
     ap (last_or None) (stamps-push before line) ∙ nearest-push (stamps_of before) (stamp_of line) in
     rw (keeps.nearest, keeps.window) (sym (ap (λ (o : Option ℕ). unwrap_or o scenario.window.start) last))
+
+-- no line came yet
+pub KeepsTimes-none : (times : LineTimes) (scenario : Scenario) → times.window ≡ scenario.window → times.log ≡ scenario.log → times.nearest ≡ None
+    → times.clock ≡ None → KeepsTimes times scenario []
+unfolding clock_of greatest
+KeepsTimes-none times scenario window log nearest clock = record { window = window; log = log; nearest = nearest; clock = clock }

@@ -26,7 +26,7 @@ lies_in window gap time = nat_le window.start (time + gap) && nat_le time (end_o
 abbrev pub is_in_window : Scenario → ℕ → Bool
 is_in_window scenario time = lies_in scenario.window scenario.log.gap time
 
-pub greatest : List ℕ → Option ℕ
+unfoldable pub greatest : List ℕ → Option ℕ
 greatest [] = None
 greatest (n ∷ ns) = Some (max n (unwrap_or (greatest ns) n))
 

@@ -32,7 +32,7 @@ impl<'a> Field<'a> {
 
     /// The field's text, which for a number lies in the buffer.
     fn text(self, buffer: &'a mut Buffer) -> &'a [u8]
-        ensures { result.now ≡ field_text self }
+        ensures { result.now ≡ field_text self.entry }
     {
         match self {
             Field::Text(text) => text,
@@ -92,7 +92,7 @@ impl CsvRows {
     /// Writes a row. A writer over memory fails for want of memory alone; the rows may then only be dropped.
     pub(crate) fn write(&mut self, row: Row<'_>) -> Result<(), Memory>
         ensures { OnOk result ((text : List ℕ) → HasText self.old text
-            → HasText self.new (text ++ row_of (map field_text row))) }
+            → HasText self.new (text ++ row_of (map field_text row.entry))) }
     {
         let [a, b, c, d, e, f, g] = row;
         self.write_texts(&[

@@ -39,7 +39,9 @@ pub(crate) struct Judge {
 }
 
 impl Judge {
-    ghost use Rattle.std.specs.Prelude.{◌-◌, min, slice_set};
+    ghost use Rattle.std.specs.Prelude.{◌-◌, min, slice_set, Some};
+    ghost use Rattle.std.specs.BTreeMap.{Updates};
+    ghost use Rattle.std.specs.Ordering.{nat_cmp};
     ghost use Rattle.colregs_program.specs.LineOutcomes.{place_of};
     ghost use Rattle.colregs_program.specs.Inner.JudgeState.{AreCounts, GoesOn, StandsFor, heard_by, listed};
 
@@ -75,18 +77,26 @@ impl Judge {
         self.counts[place] = self.counts[place].saturating_add(1);
     }
 
-    /// Keeps an accepted report as the latest of its vessel.
+    /// Keeps a report as the latest of its vessel.
+    fn keep_report(&mut self, accepted: &Accepted) -> Result<(), Memory>
+        ensures latest { OnOk result (Updates nat_cmp self.old.latest self.new.latest accepted.now.report.mmsi (Some accepted.now)) }
+        ensures same { self.new ≡ record self.old { latest = self.new.latest } }
+    {
+        match self.latest.insert(accepted.report.mmsi, *accepted) {
+            Ok(_) => Ok(()),
+            Err(_) => Err(Memory),
+        }
+    }
+
+    /// Keeps the report of a line, where it is accepted.
     fn keep(&mut self, judged: &Judged) -> Result<(), Memory>
         ensures latest { OnOk result ((accepted : List Accepted) → HoldsLatest self.old.latest accepted
             → HoldsLatest self.new.latest (accepted ++ filter_map report_in (judged.now ∷ []))) }
         ensures same { self.new ≡ record self.old { latest = self.new.latest } }
     {
-        let Judged::Accepted(accepted) = judged else {
-            return Ok(());
-        };
-        match self.latest.insert(accepted.report.mmsi, *accepted) {
-            Ok(_) => Ok(()),
-            Err(_) => Err(Memory),
+        match judged {
+            Judged::Accepted(accepted) => self.keep_report(accepted),
+            Judged::Without(_) => Ok(()),
         }
     }
 

@@ -1,0 +1,23 @@
+use Rattle.std.proofs.Common.{rules, ap, ◌≡◌, ◌∙◌, sym}
+use Rattle.aivdm.specs.ReadingOf.{reading_of}
+use Rattle.aivdm.specs.Sentences.{LineContent, body_seen}
+use Rattle.colregs_program.specs.LineTimes.{stamp_of}
+use Rattle.colregs_program.proofs.GoingOn.{Judges, judged_is, stands_on}
+use Rattle.colregs_program.proofs.judge.Judge.take.Goals as goal
+
+judges : (c : goal.After-in_ok-judged) → Judges c.args.self.now c.judge_body.new.self c.in_ok-judged.judged c.args.line.now
+judges c =
+    let stamp : c.read_line-reading.result.stamp ≡ stamp_of c.args.line.now = ap (λ (content : LineContent). content.stamp) c.read_line-reading.ensures.same in
+    record {
+      time = c.time-time.result;
+      body = body_seen c.read_line-reading.result.body;
+      timed = rw (← stamp) c.time-time.ensures;
+      said = ap (λ (content : LineContent). content.body) c.read_line-reading.ensures.same;
+      on = c.in_ok-judged.ensures.judged;
+    }
+
+pub returns-clause-judged : goal.returns-clause-judged
+returns-clause-judged c = ?
+
+pub returns-clause-stands : goal.returns-clause-stands
+returns-clause-stands c = ?
