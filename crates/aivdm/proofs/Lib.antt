@@ -3,6 +3,7 @@ pub mod BitLists
 pub mod Blocks
 pub mod Cuts
 pub mod Digits
+pub mod Joining
 pub mod Masks
 pub mod OneReading
 pub mod Parts
@@ -10,5 +11,6 @@ pub mod Payloads
 pub mod Positions
 pub mod SentenceCuts
 pub mod SentenceFacts
+pub mod Standing
 pub mod Steps
 pub mod TagCuts

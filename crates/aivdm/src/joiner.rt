@@ -6,7 +6,7 @@ ghost use Rattle.std.specs.Prelude.{◌≡◌, ◌≤◌, ◌++◌, ◌∷◌, [
 ghost use Rattle.std.specs.Prelude.{Ok, Err, ◌==◌};
 ghost use Rattle.aivdm.specs.FragmentJoining.{joined_of, Taken};
 ghost use Rattle.aivdm.specs.OpenMessages.{StandsFor};
-ghost use Rattle.aivdm.specs.Inner.OpenRuns.{has_key, joined_next, runs_next};
+ghost use Rattle.aivdm.specs.Inner.OpenRuns.{has_key, joined_next, put, runs_next};
 ghost use Rattle.aivdm.specs.PayloadBits.{bits_of};
 ghost use Rattle.aivdm.specs.Sentences.{fields_seen, IsSentence};
 
@@ -188,21 +188,34 @@ fn join(
     let place = place_of(begun.as_slice(), sentence);
     if sentence.number == 1 {
         let first = Begun::new(alloc, sentence, time)?;
-        return match place {
-            Some(at) => {
-                begun[at] = first;
-                Ok(Joined::Waiting)
-            }
-            None => match begun.push(first) {
-                Ok(()) => Ok(Joined::Waiting),
-                Err(_) => Err(Memory),
-            },
-        };
+        keep(begun, sentence, place, first)?;
+        return Ok(Joined::Waiting);
     }
     match place {
         Some(at) => begun[at].go_on(alloc, sentence, time),
         None => Ok(Joined::Orphan),
     }
+}
+
+/// Keeps a message in place of the one of the sentence's key, or behind all.
+fn keep(
+    begun: &mut Vec<Begun>,
+    sentence: &Sentence<'_>,
+    place: Option<usize>,
+    first: Begun,
+) -> Result<(), Memory>
+    requires { place ≡ position (has_key (fields_seen sentence.now)) begun.old.items }
+    ensures ok { OnOk result (begun.new.items ≡ put (fields_seen sentence.now) first begun.old.items) }
+    ensures err { OnErr result (begun.new.items ≡ begun.old.items) }
+{
+    if let Some(at) = place {
+        begun[at] = first;
+        return Ok(());
+    }
+    if begun.push(first).is_err() {
+        return Err(Memory);
+    }
+    Ok(())
 }
 
 /// Where the message of the sentence's key stands.

@@ -1,5 +1,6 @@
 -- The joiner's step on its list of messages that have begun, in the order of the code.
-use Rattle.std.specs.Prelude.{ℕ, ◌+◌, ◌-◌, ◌==◌, Bool, ◌&&◌, List, [], ◌∷◌, ◌++◌, nat_eq, nat_lt, nat_le, if◌then◌else◌}
+use Rattle.std.specs.Prelude.{ℕ, ◌+◌, ◌-◌, ◌==◌, Bool, ◌&&◌, List, [], ◌∷◌, ◌++◌, nat_eq, nat_lt, nat_le, Option, Some, None, if◌then◌else◌}
+use Rattle.std.specs.List.{find}
 use Rattle.std.specs.Option.{option_eq}
 use Rattle.aivdm.specs.FragmentJoining.{Taken, part_bits, total_of, number_of_part}
 use Rattle.aivdm.specs.Sentences.{SentenceFields}
@@ -41,22 +42,28 @@ run_on run part =
           else record run { count = 0; bits = [] })
     else record run { count = 0 }
 
--- what the next part comes to
-abbrev pub joined_found : List Begun → Taken → Joined
-joined_found [] part = if number_of_part part == 1 then Waiting else Orphan
-joined_found (run ∷ runs) part =
-    if has_key part.sentence run then (if number_of_part part == 1 then Waiting else joined_on run part) else joined_found runs part
+-- what a part comes to, by the message of its key, if there is one
+abbrev pub joined_by : Option Begun → Taken → Joined
+joined_by None part = if number_of_part part == 1 then Waiting else Orphan
+joined_by (Some run) part = if number_of_part part == 1 then Waiting else joined_on run part
 
--- the messages behind it
-abbrev pub runs_found : List Begun → Taken → List Begun
-runs_found [] part = if number_of_part part == 1 then begun_by part ∷ [] else []
-runs_found (run ∷ runs) part =
-    if has_key part.sentence run
-    then (if number_of_part part == 1 then begun_by part else run_on run part) ∷ runs
-    else run ∷ runs_found runs part
+-- the message behind it, if there is one
+abbrev pub run_by : Option Begun → Taken → Option Begun
+run_by None part = if number_of_part part == 1 then Some (begun_by part) else None
+run_by (Some run) part = if number_of_part part == 1 then Some (begun_by part) else Some (run_on run part)
 
+-- a message in place of the first of its key, or at the end
+abbrev pub put : SentenceFields → Begun → List Begun → List Begun
+put sentence new [] = new ∷ []
+put sentence new (run ∷ runs) = if has_key sentence run then new ∷ runs else run ∷ put sentence new runs
+
+abbrev pub put_some : SentenceFields → Option Begun → List Begun → List Begun
+put_some sentence None runs = runs
+put_some sentence (Some new) runs = put sentence new runs
+
+-- what the next part comes to, and the messages behind it
 unfoldable pub joined_next : List Begun → Taken → Joined
-joined_next runs part = joined_found runs part
+joined_next runs part = joined_by (find (has_key part.sentence) runs) part
 
 unfoldable pub runs_next : List Begun → Taken → List Begun
-runs_next runs part = runs_found runs part
+runs_next runs part = put_some part.sentence (run_by (find (has_key part.sentence) runs) part) runs
