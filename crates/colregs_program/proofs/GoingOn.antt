@@ -34,6 +34,10 @@ pub OnOk-weaker : {A E : Type 0} {P Q : Type 0} (r : Result A E) → (P → Q) �
 OnOk-weaker (Ok v) f p = f p
 OnOk-weaker (Err e) f p = tt
 
+pub IfOk-both : {A E : Type 0} {P R : A → Type 0} {Q : Type 0} (r : Result A E) → ((v : A) → P v → Q → R v) → IfOk r P → OnOk r Q → IfOk r R
+IfOk-both (Ok v) f p q = f v p q
+IfOk-both (Err e) f p q = tt
+
 -- ---- what a sentence that is in time comes to
 
 abbrev after : List Taken → Taken → List Taken
@@ -136,4 +140,23 @@ stands_on old noted new came line scenario before few stands judges is =
       joiner = subst (JoinerStandsFor noted.joiner) (sym (heard-push scenario before line)) on.joiner;
       latest = subst (λ (l : List Sent). HoldsLatest noted.latest (accepted_among scenario.reference l)) (sym (sent-push scenario before line)) on.latest;
       counts = subst (AreCounts (counted old.counts came)) judged_more counts;
+    })
+
+-- the record that counting makes, in the words of the lemma above
+pub new_is : (old noted new : Judge) (came : Judged) (line : List ℕ) (times : LineTimes) (stamp : Option ℕ) (outcome : LineOutcome)
+    → noted ≡ record old { joiner = noted.joiner; latest = noted.latest } → times ≡ times_behind noted.times stamp → stamp ≡ stamp_of line → outcome ≡ outcome_of came
+    → new ≡ record { reference = noted.reference; times = times; joiner = noted.joiner; latest = noted.latest;
+        counts = slice_set noted.counts (place_of outcome) (min (slice_index noted.counts (place_of outcome) + 1) (2 ^ 64 - 1)) }
+    → new ≡ record { reference = old.reference; times = times_behind old.times (stamp_of line); joiner = noted.joiner; latest = noted.latest; counts = counted old.counts came }
+new_is old noted new came line times stamp outcome same passed stamped told is =
+    let reference : noted.reference ≡ old.reference = ap (λ (j : Judge). j.reference) same in
+    let kept : noted.times ≡ old.times = ap (λ (j : Judge). j.times) same in
+    let counts : noted.counts ≡ old.counts = ap (λ (j : Judge). j.counts) same in
+    let timed : times ≡ times_behind old.times (stamp_of line) = passed ∙ (λ i. times_behind (kept i) (stamped i)) in
+    is ∙ (λ i. record {
+      reference = reference i;
+      times = timed i;
+      joiner = noted.joiner;
+      latest = noted.latest;
+      counts = slice_set (counts i) (place_of (told i)) (min (slice_index (counts i) (place_of (told i)) + 1) (2 ^ 64 - 1));
     })

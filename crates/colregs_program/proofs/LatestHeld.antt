@@ -52,6 +52,6 @@ pub HoldsLatest-accepted : (map map' : BTreeMap ℕ Accepted) (reports : List Ac
     → Updates nat_cmp map map' a.report.mmsi (Some a) → HoldsLatest map' (reports ++ filter_map report_in (judged.Accepted a ∷ []))
 HoldsLatest-accepted map map' reports a holds updates mmsi = held_at map map' reports a holds updates mmsi (is_of mmsi a) refl
 
-pub HoldsLatest-without : (map : BTreeMap ℕ Accepted) (reports : List Accepted) (other : LineOutcome) → HoldsLatest map reports
-    → HoldsLatest map (reports ++ filter_map report_in (judged.Without other ∷ []))
-HoldsLatest-without map reports other holds mmsi = holds mmsi ∙ ap (latest_of mmsi) (sym (append-nil reports))
+pub HoldsLatest-without : (map : BTreeMap ℕ Accepted) (reports : List Accepted) (came : LineOutcome) → HoldsLatest map reports
+    → HoldsLatest map (reports ++ filter_map report_in (judged.Without came ∷ []))
+HoldsLatest-without map reports came holds mmsi = holds mmsi ∙ ap (latest_of mmsi) (sym (append-nil reports))

@@ -10,3 +10,5 @@ pub mod SettingUp
 pub mod Timing
 pub mod Positions
 pub mod GoingOn
+pub mod TakingLines
+pub mod RowFields

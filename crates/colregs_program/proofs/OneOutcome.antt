@@ -62,7 +62,7 @@ counts_sum (line ∷ lines) =
     ∙ sum_by-sum (counted (outcome_of line)) (λ outcome. count_of outcome lines) all_outcomes
     ∙ omega (arith, once (outcome_of line), counts_sum lines)
 
-each_after-length : {A B : Type 0} (f : List A → A → B) (before xs : List A) → length (each_after f before xs) ≡ length xs
+pub each_after-length : {A B : Type 0} (f : List A → A → B) (before xs : List A) → length (each_after f before xs) ≡ length xs
 unfolding each_after
 each_after-length f before [] = refl
 each_after-length f before (x ∷ xs) = ap suc (each_after-length f (before ++ x ∷ []) xs)

@@ -6,4 +6,3 @@ pub mod JudgeState
 pub mod LatestReports
 pub mod Times
 pub mod CsvRowsText
-pub mod RowFields

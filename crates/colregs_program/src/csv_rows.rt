@@ -1,62 +1,12 @@
 //! The rows of a report, written one after the other into memory.
-ghost use Rattle.std.specs.Prelude.{◌≡◌, ◌∷◌, [], ◌++◌, OnOk, IfOk, map};
+ghost use Rattle.std.specs.Prelude.{◌≡◌, ◌++◌, [], OnOk, IfOk};
 ghost use Rattle.std.specs.Fmt.{decimal, signed_decimal};
-ghost use Rattle.colregs_program.specs.CsvRows.{row_of};
+ghost use Rattle.colregs_program.specs.CsvRows.{optional_decimal, row_of};
 
 use csv::{Writer, WriterBuilder};
 use itoa::Buffer;
 use outside::Memory;
 use std::alloc::Global;
-
-/// A field of a row.
-#[derive(Clone, Copy)]
-pub(crate) enum Field<'a> {
-    Text(&'a [u8]),
-    Natural(u64),
-    Signed(i64),
-    Empty,
-}
-
-impl<'a> Field<'a> {
-    ghost use Rattle.colregs_program.specs.Inner.RowFields.{field_text, optional_text};
-
-    /// A number, or an empty field.
-    pub(crate) fn optional(number: Option<u16>) -> Field<'a>
-        ensures { field_text result ≡ optional_text number }
-    {
-        match number {
-            Some(number) => Field::Natural(u64::from(number)),
-            None => Field::Empty,
-        }
-    }
-
-    /// The field's text, which for a number lies in the buffer.
-    fn text(self, buffer: &'a mut Buffer) -> &'a [u8]
-        ensures { result.now ≡ field_text self.entry }
-    {
-        match self {
-            Field::Text(text) => text,
-            Field::Natural(number) => natural_digits(buffer, number),
-            Field::Signed(number) => signed_digits(buffer, number),
-            Field::Empty => b"",
-        }
-    }
-}
-
-fn natural_digits(buffer: &mut Buffer, number: u64) -> &[u8]
-    ensures { result.now ≡ decimal number }
-{
-    buffer.format(number).as_bytes()
-}
-
-fn signed_digits(buffer: &mut Buffer, number: i64) -> &[u8]
-    ensures { result.now ≡ signed_decimal number }
-{
-    buffer.format(number).as_bytes()
-}
-
-/// A row: seven fields, of which those that a kind of row does not use are empty.
-pub(crate) type Row<'a> = [Field<'a>; 7];
 
 /// The text of the rows so far. One writer takes them all, so that a row needs no memory of its own.
 #[derive(Drop)]
@@ -65,8 +15,7 @@ pub(crate) struct CsvRows {
 }
 
 impl CsvRows {
-    ghost use Rattle.std.specs.Prelude.{List, ℕ};
-    ghost use Rattle.colregs_program.specs.Inner.RowFields.{field_text};
+    ghost use Rattle.std.specs.Prelude.{List, ℕ, map};
     ghost use Rattle.colregs_program.specs.Inner.CsvRowsText.{HasText};
 
     pub(crate) fn new(alloc: Global) -> CsvRows
@@ -77,33 +26,16 @@ impl CsvRows {
         }
     }
 
-    /// Writes a row of these texts.
+    /// Writes a row. A writer over memory fails for want of memory alone; the rows may then only be dropped.
     #[tactic(auto, unfolding(crate::specs::CsvRows::row_of))]
-    fn write_texts(&mut self, texts: &[&[u8]]) -> Result<(), Memory>
+    pub(crate) fn write(&mut self, fields: &[&[u8]]) -> Result<(), Memory>
         ensures { OnOk result ((text : List ℕ) → HasText self.old text
-            → HasText self.new (text ++ row_of (map (λ field. field.now) texts.now))) }
+            → HasText self.new (text ++ row_of (map (λ field. field.now) fields.now))) }
     {
-        match self.writer.write_fields(texts) {
+        match self.writer.write_fields(fields) {
             Ok(()) => Ok(()),
             Err(_) => Err(Memory),
         }
-    }
-
-    /// Writes a row. A writer over memory fails for want of memory alone; the rows may then only be dropped.
-    pub(crate) fn write(&mut self, row: Row<'_>) -> Result<(), Memory>
-        ensures { OnOk result ((text : List ℕ) → HasText self.old text
-            → HasText self.new (text ++ row_of (map field_text row.entry))) }
-    {
-        let [a, b, c, d, e, f, g] = row;
-        self.write_texts(&[
-            a.text(&mut Buffer::new()),
-            b.text(&mut Buffer::new()),
-            c.text(&mut Buffer::new()),
-            d.text(&mut Buffer::new()),
-            e.text(&mut Buffer::new()),
-            f.text(&mut Buffer::new()),
-            g.text(&mut Buffer::new()),
-        ])
     }
 
     /// The text of all rows.
@@ -114,5 +46,29 @@ impl CsvRows {
             Ok(text) => Ok(text),
             Err(_) => Err(Memory),
         }
+    }
+}
+
+/// The digits of a number, which lie in the buffer.
+pub(crate) fn digits(buffer: &mut Buffer, number: u64) -> &[u8]
+    ensures { result.now ≡ decimal number }
+{
+    buffer.format(number).as_bytes()
+}
+
+/// The same with a sign.
+pub(crate) fn signed_digits(buffer: &mut Buffer, number: i64) -> &[u8]
+    ensures { result.now ≡ signed_decimal number }
+{
+    buffer.format(number).as_bytes()
+}
+
+/// The digits of a number, or nothing.
+pub(crate) fn optional_digits(buffer: &mut Buffer, number: Option<u16>) -> &[u8]
+    ensures { result.now ≡ optional_decimal number }
+{
+    match number {
+        Some(number) => digits(buffer, u64::from(number)),
+        None => b"",
     }
 }

@@ -1,15 +1,15 @@
 //! The rows of the report of `points`.
-ghost use Rattle.std.specs.Prelude.{◌≡◌, ◌++◌, List, ℕ, OnOk, flat_map, map, slice_index};
+ghost use Rattle.std.specs.Prelude.{◌≡◌, ◌++◌, List, ℕ, OnOk, flat_map, slice_index};
 ghost use Rattle.colregs_program.specs.CsvRows.{row_of};
 ghost use Rattle.colregs_program.specs.Inner.CsvRowsText.{HasText};
-ghost use Rattle.colregs_program.specs.Inner.RowFields.{field_text};
 ghost use Rattle.colregs_program.specs.LineOutcomes.{all_outcomes, place_of};
 ghost use Rattle.colregs_program.specs.PointsReport.{count_fields, point_fields, rows_of_line};
 
 use crate::accepted::Accepted;
-use crate::csv_rows::{CsvRows, Field, Row};
+use crate::csv_rows::{CsvRows, digits, optional_digits, signed_digits};
 use crate::judged::Judged;
 use crate::outcome::LineOutcome;
+use itoa::Buffer;
 use outside::Memory;
 
 /// All outcomes, in the order of the report.
@@ -20,32 +20,43 @@ pub(crate) fn all_outcomes() -> &'static [LineOutcome]
     &LineOutcome::ALL
 }
 
-fn point_row(accepted: &Accepted) -> Row<'static>
-    ensures { map field_text result ≡ point_fields accepted.now }
+/// Writes the row of an accepted report. Its numbers' digits lie on the stack.
+fn write_point(rows: &mut CsvRows, accepted: &Accepted) -> Result<(), Memory>
+    ensures { OnOk result ((text : List ℕ) → HasText rows.old text
+        → HasText rows.new (text ++ row_of (point_fields accepted.now))) }
 {
-    [
-        Field::Text(b"point"),
-        Field::Natural(u64::from(accepted.report.mmsi)),
-        Field::Natural(accepted.time),
-        Field::Signed(accepted.point.x),
-        Field::Signed(accepted.point.y),
-        Field::optional(accepted.report.sog),
-        Field::optional(accepted.report.cog),
-    ]
+    let mut mmsi = Buffer::new();
+    let mut time = Buffer::new();
+    let mut x = Buffer::new();
+    let mut y = Buffer::new();
+    let mut speed = Buffer::new();
+    let mut course = Buffer::new();
+    rows.write(&[
+        b"point",
+        digits(&mut mmsi, u64::from(accepted.report.mmsi)),
+        digits(&mut time, accepted.time),
+        signed_digits(&mut x, accepted.point.x),
+        signed_digits(&mut y, accepted.point.y),
+        optional_digits(&mut speed, accepted.report.sog),
+        optional_digits(&mut course, accepted.report.cog),
+    ])
 }
 
-fn count_row(outcome: LineOutcome, count: u64) -> Row<'static>
-    ensures { map field_text result ≡ count_fields outcome count }
+/// Writes the row of an outcome.
+fn write_count(rows: &mut CsvRows, outcome: LineOutcome, count: u64) -> Result<(), Memory>
+    ensures { OnOk result ((text : List ℕ) → HasText rows.old text
+        → HasText rows.new (text ++ row_of (count_fields outcome count))) }
 {
-    [
-        Field::Text(b"lines"),
-        Field::Text(outcome.name().as_bytes()),
-        Field::Natural(count),
-        Field::Empty,
-        Field::Empty,
-        Field::Empty,
-        Field::Empty,
-    ]
+    let mut number = Buffer::new();
+    rows.write(&[
+        b"lines",
+        outcome.name().as_bytes(),
+        digits(&mut number, count),
+        b"",
+        b"",
+        b"",
+        b"",
+    ])
 }
 
 /// Writes the rows of a line: that of its accepted report, if it has one.
@@ -54,7 +65,7 @@ pub(crate) fn write_line(rows: &mut CsvRows, judged: &Judged) -> Result<(), Memo
         → HasText rows.new (text ++ rows_of_line judged.now)) }
 {
     match judged {
-        Judged::Accepted(accepted) => rows.write(point_row(accepted)),
+        Judged::Accepted(accepted) => write_point(rows, accepted),
         Judged::Without(_) => Ok(()),
     }
 }
@@ -69,7 +80,7 @@ pub(crate) fn write_counts(
         ++ flat_map (λ outcome. row_of (count_fields outcome (slice_index counts.now (place_of outcome)))) outcomes.now)) }
 {
     for outcome in outcomes {
-        rows.write(count_row(*outcome, counts[outcome.place()]))?;
+        write_count(rows, *outcome, counts[outcome.place()])?;
     }
     Ok(())
 }

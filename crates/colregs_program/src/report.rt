@@ -57,7 +57,12 @@ impl From<LogFault> for Status {
 }
 
 /// Takes each line of a log, and writes its rows.
-fn take_lines(judge: &mut Judge, rows: &mut CsvRows, log: &[u8]) -> Result<(), Memory> {
+fn take_lines(judge: &mut Judge, rows: &mut CsvRows, log: &[u8]) -> Result<(), Memory>
+    ensures lines { OnOk result ((scenario : Scenario) → StandsFor judge.old scenario []
+        → StandsFor judge.new scenario (lines_of log.now)) }
+    ensures rows { OnOk result ((scenario : Scenario) → StandsFor judge.old scenario [] → HasText rows.old []
+        → HasText rows.new (point_rows (judged_lines scenario (lines_of log.now)))) }
+{
     let mut at = 0;
     while at < log.len() {
         let line = first_line(&log[at..]);

@@ -1,11 +1,11 @@
-use Rattle.std.proofs.Common.{rules, ap, ◌≡◌, ◌∙◌, sym}
+use Rattle.std.proofs.Common.{ap, sym, ◌≡◌}
 use Rattle.aivdm.specs.ReadingOf.{reading_of}
 use Rattle.aivdm.specs.Sentences.{LineContent, body_seen}
 use Rattle.colregs_program.specs.LineTimes.{stamp_of}
-use Rattle.colregs_program.proofs.GoingOn.{Judges, judged_is, stands_on}
+use Rattle.colregs_program.proofs.GoingOn.{Judges, judged_is, new_is, stands_on}
 use Rattle.colregs_program.proofs.judge.Judge.take.Goals as goal
 
-judges : (c : goal.After-in_ok-judged) → Judges c.args.self.now c.judge_body.new.self c.in_ok-judged.judged c.args.line.now
+judges : (c : goal.After-count) → Judges c.args.self.now c.judge_body.new.self c.in_ok-judged.judged c.args.line.now
 judges c =
     let stamp : c.read_line-reading.result.stamp ≡ stamp_of c.args.line.now = ap (λ (content : LineContent). content.stamp) c.read_line-reading.ensures.same in
     record {
@@ -17,7 +17,12 @@ judges c =
     }
 
 pub returns-clause-judged : goal.returns-clause-judged
-returns-clause-judged c = ?
+returns-clause-judged c = λ scenario before stands.
+    judged_is c.args.self.now c.judge_body.new.self c.in_ok-judged.judged c.args.line.now scenario before stands (judges c)
 
 pub returns-clause-stands : goal.returns-clause-stands
-returns-clause-stands c = ?
+returns-clause-stands c = λ scenario before few stands.
+    let stamp : c.read_line-reading.result.stamp ≡ stamp_of c.args.line.now = ap (λ (content : LineContent). content.stamp) c.read_line-reading.ensures.same in
+    let is = new_is c.args.self.now c.judge_body.new.self c.count.new.self c.in_ok-judged.judged c.args.line.now c.pass.new.self _ c.outcome.result
+    c.in_ok-judged.ensures.same c.pass.ensures stamp c.outcome.ensures c.count.ensures in
+    stands_on c.args.self.now c.judge_body.new.self c.count.new.self c.in_ok-judged.judged c.args.line.now scenario before few stands (judges c) is
