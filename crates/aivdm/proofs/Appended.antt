@@ -152,7 +152,7 @@ sextets_of-none items (suc left) n none = absurd (omega arith)
 
 -- ---- a number behind kept bits
 
-below_power : (high value kept width : ℕ) → high < 2 ^ kept → value < 2 ^ width → high * 2 ^ width + value < 2 ^ (kept + width)
+pub below_power : (high value kept width : ℕ) → high < 2 ^ kept → value < 2 ^ width → high * 2 ^ width + value < 2 ^ (kept + width)
 below_power high value kept width h v =
     let product : (high + 1) * 2 ^ width ≤ 2 ^ kept * 2 ^ width = mul-le-mul_right (2 ^ width) (omega arith) in
     let power = pow-add 2 kept width in

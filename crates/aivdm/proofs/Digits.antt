@@ -10,7 +10,7 @@ use Rattle.std.specs.List.{list_all}
 use Rattle.std.specs.Str.Parse.{digits_value}
 use Rattle.aivdm.proofs.Parts.{list_all-fails}
 
-numerals : IsNumeralModel (λ ds. all_ascii_digits ds ≡ true) (digits_value 10)
+pub numerals : IsNumeralModel (λ ds. all_ascii_digits ds ≡ true) (digits_value 10)
 numerals = numerals_by_value (λ ds. all_ascii_digits ds ≡ true) tells_all_ascii_digits
 
 pub digits-below : (digits : List ℕ) (k : ℕ) → all_ascii_digits digits ≡ true → length digits ≤ k → digits_value 10 digits < 10 ^ k

@@ -14,3 +14,5 @@ pub mod SentenceFacts
 pub mod Standing
 pub mod Steps
 pub mod TagCuts
+pub mod Written
+pub mod WrittenLines

@@ -23,17 +23,22 @@ tag_text (Some stamp) = 92 ∷ (codes "c:" ++ decimal stamp) ++ sum_text (codes 
 abbrev pub sentence_content : ℕ → List ℕ → ℕ → List ℕ
 sentence_content channel payload fill = codes "AIVDM,1,1,," ++ (channel ∷ 44 ∷ payload) ++ (44 ∷ (48 + fill) ∷ [])
 
+-- the line: the tag block, and from `!` (33) on the sentence
+abbrev pub line_text : Option ℕ → ℕ → List ℕ → ℕ → List ℕ
+line_text stamp channel payload fill =
+    tag_text stamp ++ (33 ∷ sentence_content channel payload fill ++ sum_text (sentence_content channel payload fill))
+
 -- how many bits fill up the last byte
 abbrev pub fill_of : List Bool → ℕ
 fill_of bits = (6 - length bits % 6) % 6
 
--- The line is this message with this stamp: its payload is the bits and zeros, and the line reads so.
+-- The line is this message with this stamp. Its payload is the bits and zeros that fill it up; without them it is the bits.
 pub record IsWritten (stamp : Option ℕ) (bits : List Bool) (channel : ℕ) (line : List ℕ) : Type 0 where
   pub payload : List ℕ
-  pub whole : bits_of payload 0 ≡ bits ++ replicate (fill_of bits) false
-  pub text : line ≡ tag_text stamp ++ 33 ∷ sentence_content channel payload (fill_of bits) ++ sum_text (sentence_content channel payload (fill_of bits))
+  pub filled : bits_of payload 0 ≡ bits ++ replicate (fill_of bits) false
+  pub unfilled : bits_of payload (fill_of bits) ≡ bits
+  pub text : line ≡ line_text stamp channel payload (fill_of bits)
   pub reads : IsReading line (record {
     stamp = stamp;
     body = Ok (record { total = 1; number = 1; seq = None; channel = Some channel; payload = payload; fill = fill_of bits });
   })
-  pub same : bits_of payload (fill_of bits) ≡ bits

@@ -1,9 +1,9 @@
 //! From messages to sentences.
-ghost use Rattle.std.specs.Prelude.{◌≡◌, ◌+◌, ◌^◌, ◌<◌, ◌≤◌, ◌++◌, ◌∷◌, [], codes, length, string_bytes, IfOk, IfSome, IsTrue, OnOk};
+ghost use Rattle.std.specs.Prelude.{◌≡◌, ◌+◌, ◌-◌, ◌*◌, ◌^◌, ◌<◌, ◌≤◌, ◌++◌, ◌∷◌, [], codes, drop, length, string_bytes, IfOk, IfSome, IsTrue, OnOk};
 ghost use Rattle.std.specs.Char.{is_ascii_uppercase};
 ghost use Rattle.std.specs.Fmt.{decimal};
 ghost use Rattle.aivdm.specs.Checksums.{sum_of};
-ghost use Rattle.aivdm.specs.SentenceWriting.{hexadecimal_digit, sentence_content, sum_text, tag_text, IsWritten};
+ghost use Rattle.aivdm.specs.SentenceWriting.{fill_of, hexadecimal_digit, line_text, sentence_content, sum_text, tag_text, IsWritten};
 ghost use Rattle.aivdm.specs.Inner.Armouring.{armour_of, payload_of};
 
 use crate::bits::Bits;
@@ -26,10 +26,19 @@ pub fn write_sentence(
     requires seconds { IfSome stamp (λ time. time < 100_000_000_000) }
     ensures { IfOk result (λ line. IsWritten stamp bits.now channel line.items) }
 {
-    let mut line = Vec::new(alloc);
-    if let Some(time) = stamp {
-        write_tag(alloc, &mut line, time)?;
-    }
+    write_line(alloc, stamp, bits, channel)
+}
+
+/// Writes the line.
+fn write_line(
+    alloc: Global,
+    stamp: Option<u64>,
+    bits: &Bits,
+    channel: u8,
+) -> Result<Vec<u8>, Memory>
+    ensures { IfOk result (λ line. line.items ≡ line_text stamp channel (payload_of bits.now) (fill_of bits.now)) }
+{
+    let mut line = tag_block(alloc, stamp)?;
     let content = sentence_content(alloc, bits, channel)?;
     push(&mut line, b"!")?;
     push(&mut line, content.as_slice())?;
@@ -37,14 +46,20 @@ pub fn write_sentence(
     Ok(line)
 }
 
-/// Writes a tag block with a time alone.
-fn write_tag(alloc: Global, line: &mut Vec<u8>, time: u64) -> Result<(), Memory>
+/// A tag block with a time alone, or nothing.
+fn tag_block(alloc: Global, stamp: Option<u64>) -> Result<Vec<u8>, Memory>
+    ensures { IfOk result (λ tag. tag.items ≡ tag_text stamp) }
 {
+    let mut tag = Vec::new(alloc);
+    let Some(time) = stamp else {
+        return Ok(tag);
+    };
     let content = time_field(alloc, time)?;
-    push(line, b"\\")?;
-    push(line, content.as_bytes())?;
-    push_sum(line, content.as_bytes())?;
-    push(line, b"\\")
+    push(&mut tag, b"\\")?;
+    push(&mut tag, content.as_bytes())?;
+    push_sum(&mut tag, content.as_bytes())?;
+    push(&mut tag, b"\\")?;
+    Ok(tag)
 }
 
 /// The field that tells a time.
@@ -58,7 +73,9 @@ fn time_field(alloc: Global, time: u64) -> Result<String, Memory>
 }
 
 /// What stands between `!` and `*`.
-fn sentence_content(alloc: Global, bits: &Bits, channel: u8) -> Result<Vec<u8>, Memory> {
+fn sentence_content(alloc: Global, bits: &Bits, channel: u8) -> Result<Vec<u8>, Memory>
+    ensures { IfOk result (λ content. content.items ≡ sentence_content channel (payload_of bits.now) (fill_of bits.now)) }
+{
     let mut content = Vec::new(alloc);
     push(&mut content, b"AIVDM,1,1,,")?;
     push(&mut content, &[channel, b','])?;
@@ -76,14 +93,31 @@ fn push_payload(line: &mut Vec<u8>, bits: &Bits) -> Result<(), Memory>
     for place in 0..whole {
         push(line, &[armour(bits.unsigned(6 * place, 6) as u8)])?;
     }
-    let rest = (bits.len() % 6) as u32;
-    if rest > 0 {
-        push(
-            line,
-            &[armour((bits.unsigned(6 * whole, rest) << (6 - rest)) as u8)],
-        )?;
+    push_rest(line, bits, 6 * whole)
+}
+
+/// Appends the byte for fewer than six bits, which zeros fill up.
+fn push_rest(line: &mut Vec<u8>, bits: &Bits, first: usize) -> Result<(), Memory>
+    requires within { first ≤ length bits.now }
+    requires few { length bits.now < first + 6 }
+    ensures { OnOk result (line.new.items ≡ line.old.items ++ payload_of (drop first bits.now)) }
+{
+    let rest = (bits.len() - first) as u32;
+    if rest == 0 {
+        return Ok(());
     }
-    Ok(())
+    let number = bits.unsigned(first, rest);
+    push(line, &[armour(with_zeros(number, rest))])
+}
+
+/// The sextet that begins with the bits of a number.
+fn with_zeros(number: u32, width: u32) -> u8
+    requires few { width ≤ 6 }
+    requires fits { number < 2 ^ width }
+    ensures value { result ≡ number * 2 ^ (6 - width) }
+    ensures bound { result < 64 }
+{
+    (number << (6 - width)) as u8
 }
 
 /// The byte that stands for six bits.
