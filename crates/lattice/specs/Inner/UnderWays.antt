@@ -1,0 +1,16 @@
+-- A vessel under way, and how she has advanced.
+use Rattle.std.specs.Prelude.{ℕ, ◌≡◌, ◌<◌, ◌≤◌, List}
+use Rattle.fixed_geometry.specs.Sizes.{IsWithin}
+use Rattle.lattice.specs.Grids.{Grid}
+use Rattle.lattice.specs.OwnMotion.{direction_after, point_after, speed_after}
+use Rattle.lattice.specs.declared.under_way.UnderWay.{UnderWay}
+
+pub record IsUnderWay (size : ℕ) (vessel : UnderWay) : Type 0 where
+  pub point : IsWithin size vessel.point
+  pub direction : vessel.direction < 3600
+  pub speed : vessel.speed ≤ 1022
+
+pub record HasAdvanced (grid : Grid) (plan : List ℕ) (tick : ℕ) (start : UnderWay) (steps : ℕ) (reached : UnderWay) : Type 0 where
+  pub point : reached.point ≡ point_after grid plan tick start.point start.direction start.speed steps
+  pub direction : reached.direction ≡ direction_after grid plan start.direction steps
+  pub speed : reached.speed ≡ speed_after grid plan start.speed steps

@@ -1,0 +1,9 @@
+pub mod Grids
+pub mod PlanNumbers
+pub mod OwnMotion
+pub use Rattle.fixed_geometry.specs.Bearing
+pub use Rattle.fixed_geometry.specs.Sizes
+pub use Rattle.fixed_geometry.specs.Velocity
+pub use Rattle.motion.specs.Displacement
+pub use Rattle.motion.specs.TickStates
+pub mod Inner
