@@ -1,0 +1,143 @@
+-- A state that follows some rows follows them with the next, and can be closed; and its answers are right.
+use Rattle.std.proofs.Common.{◌≡◌, ℕ, ◌+◌, ◌-◌, ◌<◌, ◌≤◌, refl, ap, sym, ◌∙◌, arith, true, inl, inr, List, [], ◌∷◌, ◌++◌, length, Option, Some, None, append_assoc, length-append}
+use Rattle.std.specs.Prelude.{nat_lt, slice_get}
+use Rattle.std.proofs.lemmas.Bool.Decides.{nat_tests}
+use Rattle.std.proofs.lemmas.List.{length_push, append-nil}
+use Rattle.std.proofs.lemmas.Option.{slice_get_past}
+use Rattle.mtl_formulas.specs.declared.atom.Atom.{Atom}
+use Rattle.mtl_formulas.specs.declared.verdict.Verdict.{Verdict}
+use Rattle.mtl_formulas.specs.declared.verdict.Verdict.TheVariants.{Open}
+use Rattle.mtl_formulas.specs.FormulaTree.{FormulaTree}
+use Rattle.mtl_formulas.specs.FormulaMeasures.{reach_of}
+use Rattle.mtl_formulas.specs.FormulaValue.{answer_at}
+use Rattle.mtl_monitor.specs.declared.building.Operand.{Operand}
+use Rattle.mtl_monitor.specs.declared.program.Program.{Program}
+use Rattle.mtl_monitor.specs.declared.trace_state.TraceState.{TraceState}
+use Rattle.mtl_monitor.specs.Traces.{Trace, value_in}
+use Rattle.mtl_monitor.specs.Inner.Steps.{value_at}
+use Rattle.mtl_monitor.specs.Inner.Standing.{root_at, IsRow, EndsAt, KeepAll, GiveAll, Passes}
+use Rattle.mtl_monitor.specs.Following.{Follows, Closes, IsEnded, formula_at}
+use Rattle.mtl_monitor.specs.Monitoring.{IsNext}
+
+next_row : (rows more : Trace) (r : Atom → Verdict) → slice_get (rows ++ r ∷ more) (length rows) ≡ Some r
+next_row [] more r = refl
+next_row (first ∷ rows) more r = next_row rows more r
+
+IsRow-next : (rows more : Trace) (r : Atom → Verdict) → IsRow (rows ++ r ∷ more) r (length rows)
+IsRow-next rows more r a = rw (next_row rows more r)
+
+EndsAt-next : (rows more : Trace) (r : Atom → Verdict) → EndsAt (rows ++ r ∷ more) (length rows) (length rows + 1)
+EndsAt-next rows more r j h =
+    let count : length (rows ++ r ∷ more) ≡ length rows + length (r ∷ more) = length-append rows (r ∷ more) in
+    let before : nat_lt j (length rows + 1) ≡ true = grind (arith, nat_tests) in
+    let inside : j < length (rows ++ r ∷ more) = omega arith in
+    let within : nat_lt j (length (rows ++ r ∷ more)) ≡ true = grind (arith, nat_tests) in
+    rw (before, within)
+
+regrouped : (rows more : Trace) (r : Atom → Verdict) → (rows ++ r ∷ []) ++ more ≡ rows ++ r ∷ more
+regrouped rows more r = append_assoc rows (r ∷ []) more
+
+abbrev pub beyond : Atom → Verdict
+beyond a = Open
+
+IsRow-beyond : (rows : Trace) (i : ℕ) → length rows ≤ i → IsRow rows beyond i
+IsRow-beyond rows i h a = sym (ap (answer_at (λ r. r) rows a) (slice_get_past rows i h))
+
+-- what follows its rows can be closed
+pub Closes-Follows : (p : Program) (s : TraceState) (formulas : List FormulaTree) (rows : Trace) → Follows p s formulas rows → Closes p s formulas rows
+Closes-Follows p s formulas rows h =
+    let all : KeepAll (rows ++ []) h.trees p.nodes.items s.states.items (length rows) = h.keeps [] in
+    record {
+      trees = h.trees;
+      of = h.of;
+      all_fed = h.all_fed;
+      all_passed = omega (arith, h.all_passed);
+      keeps = rw h.all_passed (rw (append-nil rows) at all);
+      gives = λ some. rw h.all_passed (rw (append-nil rows) at (h.gives (omega (arith, h.all_passed)) []));
+    }
+
+module _ (p : Program) (s s' : TraceState) (formulas : List FormulaTree) (rows : Trace) where
+  module _ (r : Atom → Verdict) (h : Follows p s formulas rows) (fed : s'.fed ≡ s.passed + 1) (passed : s'.passed ≡ s.passed + 1)
+      (q : Passes p.nodes.items s.states.items s'.states.items s'.values.items r s.passed (s.passed + 1)) where
+    row_is : (more : Trace) → IsRow (rows ++ r ∷ more) r s.passed
+    row_is more = rw h.all_passed (IsRow-next rows more r)
+
+    end_is : (more : Trace) → EndsAt (rows ++ r ∷ more) s.passed (s.passed + 1)
+    end_is more = rw h.all_passed (EndsAt-next rows more r)
+
+    kept_before : (more : Trace) → KeepAll (rows ++ r ∷ more) h.trees p.nodes.items s.states.items s.passed
+    kept_before more = rw h.all_passed (h.keeps (r ∷ more))
+
+    kept_after : (more : Trace) → KeepAll ((rows ++ r ∷ []) ++ more) h.trees p.nodes.items s'.states.items (s.passed + 1)
+    kept_after more = rw (regrouped rows more r) (q.kept (rows ++ r ∷ more) h.trees h.of.sound.program (row_is more) (end_is more) (kept_before more))
+
+    gave_after : (more : Trace) → GiveAll ((rows ++ r ∷ []) ++ more) h.trees p.nodes.items s'.values.items s.passed
+    gave_after more = rw (regrouped rows more r) (q.given (rows ++ r ∷ more) h.trees h.of.sound.program (row_is more) (end_is more) (kept_before more))
+
+    pub Follows-next : Follows p s' formulas (rows ++ r ∷ [])
+    Follows-next =
+        let one_more : length (rows ++ r ∷ []) ≡ length rows + 1 = length_push rows r in
+        let count : length (rows ++ r ∷ []) ≡ s.passed + 1 = omega (arith, h.all_passed, one_more) in
+        let last : (s.passed + 1) - 1 ≡ s.passed = omega arith in
+        record {
+          trees = h.trees;
+          of = h.of;
+          all_fed = fed ∙ sym count;
+          all_passed = passed ∙ sym count;
+          keeps = λ more. rw count (kept_after more);
+          gives = λ some more. rw (count, last) (gave_after more);
+        }
+
+  -- a row beyond the end
+  pub Closes-next : Closes p s formulas rows → s'.fed ≡ s.fed → s'.passed ≡ s.passed + 1
+      → Passes p.nodes.items s.states.items s'.states.items s'.values.items beyond s.passed s.fed → Closes p s' formulas rows
+  Closes-next h fed passed q =
+      let last : (s.passed + 1) - 1 ≡ s.passed = omega arith in
+      let row : IsRow rows beyond s.passed = IsRow-beyond rows s.passed h.all_passed in
+      let end : EndsAt rows s.passed s.fed = λ j below. rw h.all_fed refl in
+      record {
+        trees = h.trees;
+        of = h.of;
+        all_fed = fed ∙ h.all_fed;
+        all_passed = omega (arith, passed, h.all_passed);
+        keeps = rw passed (q.kept rows h.trees h.of.sound.program row end h.keeps);
+        gives = λ some. rw (passed, last) (q.given rows h.trees h.of.sound.program row end h.keeps);
+      }
+
+-- the answers to the last row that passed
+module _ (p : Program) (s : TraceState) (formulas : List FormulaTree) (rows : Trace) (k : ℕ) (root : Operand) (v : Verdict)
+    (root_is : root ≡ root_at p.roots.items k) (v_is : v ≡ value_at s.values.items root.index) where
+  pub fed_value : Follows p s formulas rows → k < length formulas → root.late < s.passed
+      → ((s.passed - root.late - 1) + 1 + reach_of (formula_at formulas k) ≡ length rows)
+      × ((more : Trace) → v ≡ value_in (rows ++ more) (formula_at formulas k) (s.passed - root.late - 1))
+  fed_value h inside ready =
+      let is = h.of.each k inside in
+      let late : root.late ≡ (root_at p.roots.items k).late = ap (λ (o : Operand). o.late) root_is in
+      let index : root.index ≡ (root_at p.roots.items k).index = ap (λ (o : Operand). o.index) root_is in
+      let some : 0 < length rows = omega (arith, h.all_passed) in
+      let at : s.passed - root.late - 1 ≡ (length rows - 1) - (root_at p.roots.items k).late = omega (arith, h.all_passed, late) in (
+        omega (arith, h.all_passed, late, is.late),
+        λ more. rw (v_is, index, at, ← is.tree, ← is.lateness)
+            ((h.gives some more).each (root_at p.roots.items k).index is.inside (omega (arith, is.lateness, late, h.all_passed))),
+      )
+
+  pub ended_value : Closes p s formulas rows → k < length formulas → root.late < s.passed
+      → v ≡ value_in rows (formula_at formulas k) (s.passed - root.late - 1)
+  ended_value h inside ready =
+      let is = h.of.each k inside in
+      let late : root.late ≡ (root_at p.roots.items k).late = ap (λ (o : Operand). o.late) root_is in
+      let index : root.index ≡ (root_at p.roots.items k).index = ap (λ (o : Operand). o.index) root_is in
+      let at : s.passed - root.late - 1 ≡ (s.passed - 1) - (root_at p.roots.items k).late = omega (arith, late) in
+      rw (v_is, index, at, ← is.tree, ← is.lateness)
+      ((h.gives (omega arith)).each (root_at p.roots.items k).index is.inside (omega (arith, is.lateness, late)))
+
+-- One row beyond the end after another, a formula's next answer comes.
+pub IsNext-ended : (answer : Option (ℕ × Verdict)) (t : FormulaTree) (rows : Trace) (past next : ℕ) → length rows + past ≡ next + reach_of t + 1 → past ≤ reach_of t
+    → next < length rows → IsEnded answer t rows past → IsNext answer t rows next
+IsNext-ended None t rows past next count few inside ended = elim ended [
+  | inl early ↦ absurd (omega (arith, early, count))
+  | inr late ↦ absurd (omega (arith, late, few))
+]
+IsNext-ended (Some a) t rows past next count few inside ended =
+    let here : a.0 ≡ next = omega (arith, ended.0, count) in
+    (here, inside, rw here at ended.2)

@@ -1,0 +1,66 @@
+-- Programs and the states of traces.
+use Rattle.std.proofs.Common.{◌≡◌, sym, ◌∙◌, arith, List, [], ◌++◌}
+use Rattle.mtl_formulas.specs.FormulaTree.{FormulaTree}
+use Rattle.mtl_monitor.specs.declared.program.Program.{Program}
+use Rattle.mtl_monitor.specs.declared.trace_state.TraceState.{TraceState}
+use Rattle.mtl_monitor.specs.Traces.{Trace}
+use Rattle.mtl_monitor.specs.Inner.Starting.{AreFresh}
+use Rattle.mtl_monitor.specs.Following.{IsProgramWith, IsProgramOf, Fits, HasRoom, Follows, Closes}
+use Rattle.mtl_monitor.specs.Growing.{IsProgramFor}
+use Rattle.mtl_monitor.proofs.Beginning.{Keeps-fresh}
+
+-- A new state follows no rows.
+pub Follows-new : (p : Program) (s : TraceState) (formulas : List FormulaTree) → AreFresh p.nodes.items s.states.items s.values.items
+    → s.fed ≡ 0 → s.passed ≡ 0 → IsProgramOf p formulas → Follows p s formulas []
+Follows-new p s formulas fresh fed passed is =
+    record {
+      trees = is.trees;
+      of = is.of;
+      all_fed = fed;
+      all_passed = passed;
+      keeps = λ more. record { each = λ k h. Keeps-fresh ([] ++ more) p.nodes.items is.trees _ _ _ _ (is.of.sound.program.computes k h) (fresh.each k h) };
+      gives = λ some more. absurd (omega arith);
+    }
+
+-- Programs of one formula are equal in all that counts.
+pub record AreEqual (p q : Program) : Type 0 where
+  pub nodes : p.nodes.items ≡ q.nodes.items
+  pub roots : p.roots.items ≡ q.roots.items
+  pub reach : p.reach ≡ q.reach
+
+pub equal_programs : (p q : Program) (t : FormulaTree) → IsProgramFor p t → IsProgramFor q t → AreEqual p q
+equal_programs p q t is was =
+    record { nodes = is.nodes ∙ sym was.nodes; roots = is.roots ∙ sym was.roots; reach = is.reach ∙ sym was.reach }
+
+module _ (p q : Program) (e : AreEqual p q) where
+  with_equal : (formulas trees : List FormulaTree) → IsProgramWith q formulas trees → IsProgramWith p formulas trees
+  with_equal formulas trees is =
+      record { sound = rw e.nodes is.sound; count = rw e.roots is.count; each = rw (e.nodes, e.roots) is.each; farthest = rw e.reach is.farthest }
+
+  pub Follows-equal : (s : TraceState) (formulas : List FormulaTree) (rows : Trace) → Follows q s formulas rows → Follows p s formulas rows
+  Follows-equal s formulas rows h =
+      record {
+        trees = h.trees;
+        of = with_equal formulas h.trees h.of;
+        all_fed = h.all_fed;
+        all_passed = h.all_passed;
+        keeps = rw e.nodes h.keeps;
+        gives = rw e.nodes h.gives;
+      }
+
+  pub Closes-equal : (s : TraceState) (formulas : List FormulaTree) (rows : Trace) → Closes q s formulas rows → Closes p s formulas rows
+  Closes-equal s formulas rows h =
+      record {
+        trees = h.trees;
+        of = with_equal formulas h.trees h.of;
+        all_fed = h.all_fed;
+        all_passed = h.all_passed;
+        keeps = rw e.nodes h.keeps;
+        gives = rw e.nodes h.gives;
+      }
+
+  pub Fits-equal : (s : TraceState) → Fits q s → Fits p s
+  Fits-equal s h = record { states = rw e.nodes h.states; values = rw e.nodes h.values }
+
+  pub HasRoom-equal : (s : TraceState) → HasRoom q s → HasRoom p s
+  HasRoom-equal s h = rw e.nodes h

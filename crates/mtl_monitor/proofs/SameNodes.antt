@@ -1,0 +1,146 @@
+-- Nodes that are found to be the same are equal, and compute the same.
+use Rattle.std.proofs.Common.{◌≡◌, ℕ, ◌+◌, ◌-◌, ◌≤◌, refl, ap, ap₂, sym, ◌∙◌, arith, Bool, true, false, List, [], ◌∷◌, get_or}
+use Rattle.std.specs.Prelude.{◌==◌, ◌&&◌}
+use Rattle.std.proofs.lemmas.Bool.Decides.{nat_tests}
+use Rattle.mtl_formulas.specs.declared.atom.Atom.{Atom}
+use Rattle.mtl_formulas.specs.declared.atom.Atom.TheVariants as atom
+use Rattle.mtl_formulas.specs.declared.formula.PairKind.{PairKind}
+use Rattle.mtl_formulas.specs.declared.formula.PairKind.TheVariants.{And, Or, Implies}
+use Rattle.mtl_formulas.specs.declared.formula.SpanKind.{SpanKind}
+use Rattle.mtl_formulas.specs.declared.formula.SpanKind.TheVariants.{F, G, O, H}
+use Rattle.mtl_formulas.specs.declared.formula.LinkKind.TheVariants.{U, S}
+use Rattle.mtl_formulas.specs.FormulaTree.{FormulaTree, span, link}
+use Rattle.mtl_monitor.specs.declared.node.Operator.{Operator}
+use Rattle.mtl_monitor.specs.declared.node.Operator.TheVariants as op
+use Rattle.mtl_monitor.specs.declared.node.ProgramNode.{ProgramNode}
+use Rattle.mtl_monitor.specs.Inner.Standing.{tree_at, IsTimed, Computes}
+use Rattle.mtl_monitor.specs.Inner.Compiling.{kind_index, argument_of, same_atom, same_pair, same_span, same_operator, same_node}
+
+first : (p q : Bool) → (p && q) ≡ true → p ≡ true
+first true q h = refl
+first false q h = h
+
+second : (p q : Bool) → (p && q) ≡ true → q ≡ true
+second true q h = h
+second false q h = cc
+
+equal : (m n : ℕ) → (m == n) ≡ true → m ≡ n
+equal m n h = grind (arith, nat_tests)
+
+-- the atom with this index among the kinds, and this number
+abbrev atom_from : ℕ → ℕ → Atom
+atom_from k n =
+    get_or (atom.Always ∷ atom.Never ∷ atom.Seen ∷ atom.Risk ∷ atom.Engaged ∷ atom.Begin ∷ atom.Overtaking ∷ atom.Overtaken ∷ atom.HeadOn
+    ∷ atom.CrossingGives ∷ atom.CrossingStands ∷ atom.Passing ∷ atom.Unclassified ∷ atom.Age n ∷ atom.Opening ∷ atom.Clear n ∷ atom.Close n
+    ∷ atom.OtherOnPort ∷ atom.Ahead ∷ atom.Alters ∷ atom.Apparent ∷ atom.ToStarboard ∷ atom.ToPort ∷ atom.OtherApparent ∷ atom.RankGives
+    ∷ atom.RankStands ∷ atom.BothPower ∷ []) k atom.Always
+
+round : (a : Atom) → atom_from (kind_index a) (argument_of a) ≡ a
+round atom.Always = refl
+round atom.Never = refl
+round atom.Seen = refl
+round atom.Risk = refl
+round atom.Engaged = refl
+round atom.Begin = refl
+round atom.Overtaking = refl
+round atom.Overtaken = refl
+round atom.HeadOn = refl
+round atom.CrossingGives = refl
+round atom.CrossingStands = refl
+round atom.Passing = refl
+round atom.Unclassified = refl
+round (atom.Age n) = refl
+round atom.Opening = refl
+round (atom.Clear n) = refl
+round (atom.Close n) = refl
+round atom.OtherOnPort = refl
+round atom.Ahead = refl
+round atom.Alters = refl
+round atom.Apparent = refl
+round atom.ToStarboard = refl
+round atom.ToPort = refl
+round atom.OtherApparent = refl
+round atom.RankGives = refl
+round atom.RankStands = refl
+round atom.BothPower = refl
+
+same_atom-equal : (a b : Atom) → same_atom a b ≡ true → a ≡ b
+same_atom-equal a b h =
+    let kind : kind_index a ≡ kind_index b = equal _ _ (first (kind_index a == kind_index b) (argument_of a == argument_of b) h) in
+    let number : argument_of a ≡ argument_of b = equal _ _ (second (kind_index a == kind_index b) (argument_of a == argument_of b) h) in
+    sym (round a) ∙ (ap₂ atom_from kind number ∙ round b)
+
+same_pair-equal : (k m : PairKind) → same_pair k m ≡ true → k ≡ m
+same_pair-equal And And h = refl
+same_pair-equal Or Or h = refl
+same_pair-equal Implies Implies h = refl
+same_pair-equal _ _ h = cc
+
+same_span-equal : (k m : SpanKind) → same_span k m ≡ true → k ≡ m
+same_span-equal F F h = refl
+same_span-equal G G h = refl
+same_span-equal O O h = refl
+same_span-equal H H h = refl
+same_span-equal _ _ h = cc
+
+both : (m n j k : ℕ) → ((m == n) && (j == k)) ≡ true → (m ≡ n) × (j ≡ k)
+both m n j k h = (equal m n (first (m == n) (j == k) h), equal j k (second (m == n) (j == k) h))
+
+three : (m n j k a b : ℕ) → ((m == n) && ((j == k) && (a == b))) ≡ true → (m ≡ n) × (j ≡ k) × (a ≡ b)
+three m n j k a b h =
+    let rest = both j k a b (second (m == n) ((j == k) && (a == b)) h) in
+    (equal m n (first (m == n) ((j == k) && (a == b)) h), rest.0, rest.1)
+
+same_operator-equal : (o p : Operator) → same_operator o p ≡ true → o ≡ p
+same_operator-equal (op.Atom a) (op.Atom b) h = ap op.Atom (same_atom-equal a b h)
+same_operator-equal (op.Not a) (op.Not b) h = ap op.Not (equal a b h)
+same_operator-equal (op.Pair kind a b) (op.Pair other c d) h =
+    let kinds_are : kind ≡ other = same_pair-equal kind other (first (same_pair kind other) ((a == c) && (b == d)) h) in
+    let rest = both a c b d (second (same_pair kind other) ((a == c) && (b == d)) h) in
+    rw (kinds_are, rest.0, rest.1)
+same_operator-equal (op.Late cells from a) (op.Late others start b) h =
+    let all = three cells others from start a b h in
+    rw (all.0, all.1, all.2)
+same_operator-equal (op.Window kind width from a) (op.Window other breadth start b) h =
+    let kinds_are : kind ≡ other = same_span-equal kind other (first (same_span kind other) ((width == breadth) && ((from == start) && (a == b))) h) in
+    let rest = three width breadth from start a b (second (same_span kind other) ((width == breadth) && ((from == start) && (a == b))) h) in
+    rw (kinds_are, rest.0, rest.1, rest.2)
+same_operator-equal (op.Since width lower from a b) (op.Since breadth least start c d) h =
+    let front = both width breadth lower least (first ((width == breadth) && (lower == least)) ((from == start) && ((a == c) && (b == d))) h) in
+    let rest = three from start a c b d (second ((width == breadth) && (lower == least)) ((from == start) && ((a == c) && (b == d))) h) in
+    rw (front.0, front.1, rest.0, rest.1, rest.2)
+same_operator-equal (op.Until from full lower a behind b) (op.Until start whole least c beyond d) h =
+    let front = three from start full whole lower least (first ((from == start) && ((full == whole) && (lower == least))) ((a == c) && ((behind == beyond) && (b == d))) h) in
+    let rest = three a c behind beyond b d (second ((from == start) && ((full == whole) && (lower == least))) ((a == c) && ((behind == beyond) && (b == d))) h) in
+    rw (front.0, front.1, front.2, rest.0, rest.1, rest.2)
+same_operator-equal _ _ h = cc
+
+pub same_node-equal : (node other : ProgramNode) → same_node node other ≡ true → node ≡ other
+same_node-equal node other h =
+    let late : node.late ≡ other.late = equal _ _ (first (node.late == other.late) (same_operator node.operator other.operator) h) in
+    let operator : node.operator ≡ other.operator = same_operator-equal _ _ (second (node.late == other.late) (same_operator node.operator other.operator) h) in
+    ap₂ (λ (o : Operator) (l : ℕ). let n : ProgramNode = record { operator = o; late = l } in n) operator late
+
+window_bounds : (kind : SpanKind) (l u m v operand late width : ℕ) → IsTimed kind l u operand late → IsTimed kind m v operand late
+    → l ≤ u → m ≤ v → width ≡ (u + 1) - l → width ≡ (v + 1) - m → (l ≡ m) × (u ≡ v)
+window_bounds F l u m v operand late width is was h k wide broad = (omega arith, omega arith)
+window_bounds G l u m v operand late width is was h k wide broad = (omega arith, omega arith)
+window_bounds O l u m v operand late width is was h k wide broad = (omega arith, omega arith)
+window_bounds H l u m v operand late width is was h k wide broad = (omega arith, omega arith)
+
+-- An operator computes one formula.
+pub Computes-once : (nodes : List ProgramNode) (trees : List FormulaTree) (o : Operator) (late : ℕ) (s t : FormulaTree)
+    → Computes nodes trees o late s → Computes nodes trees o late t → s ≡ t
+Computes-once nodes trees (op.Atom a) late s t is was = is.0 ∙ sym was.0
+Computes-once nodes trees (op.Not a) late s t is was = is.0 ∙ sym was.0
+Computes-once nodes trees (op.Pair kind a b) late s t is was = is.0 ∙ sym was.0
+Computes-once nodes trees (op.Late cells from a) late s t is was = is.0 ∙ sym was.0
+Computes-once nodes trees (op.Window kind width from a) late s t is was =
+    let bounds = window_bounds kind is.1.lower is.1.upper was.1.lower was.1.upper from late width is.1.timed was.1.timed is.1.ordered was.1.ordered is.1.wide was.1.wide in
+    is.1.tree ∙ (ap₂ (λ l u. span kind l u (tree_at trees a)) bounds.0 bounds.1 ∙ sym was.1.tree)
+Computes-once nodes trees (op.Since width lower from a b) late s t is was =
+    let upper : is.2.upper ≡ was.2.upper = omega (arith, is.2.wide, was.2.wide, is.2.ordered, was.2.ordered) in
+    is.2.tree ∙ (ap (λ u. link S lower u (tree_at trees a) (tree_at trees b)) upper ∙ sym was.2.tree)
+Computes-once nodes trees (op.Until from full lower a behind b) late s t is was =
+    let upper : is.3.upper ≡ was.3.upper = omega (arith, is.3.timed, was.3.timed) in
+    is.3.tree ∙ (ap (λ u. link U lower u (tree_at trees a) (tree_at trees b)) upper ∙ sym was.3.tree)

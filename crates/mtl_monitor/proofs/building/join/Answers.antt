@@ -1,0 +1,9 @@
+use Rattle.std.proofs.Common.{◌≡◌, max, arith}
+use Rattle.mtl_monitor.proofs.building.join.Goals as goal
+
+pub returns-clause-made : goal.returns-clause-made
+returns-clause-made c =
+    let late : c.max-late.result ≡ max c.args.a.late c.args.b.late = omega (arith, c.max-late.ensures) in
+    let x = c.in_ok-x.ensures.made in
+    let y = c.in_ok-y.ensures.made in
+    rw (y.0, y.1, x.0, x.1, late) at c.put.ensures.made

@@ -1,0 +1,28 @@
+use Rattle.std.proofs.Common.{◌≡◌, ◌++◌, ◌∷◌, [], max, arith}
+use Rattle.mtl_formulas.specs.FormulaTree.{tree_of}
+use Rattle.mtl_formulas.specs.FormulaMeasures.{reach_of}
+use Rattle.mtl_monitor.specs.Inner.Compiling.{compiled}
+use Rattle.mtl_monitor.proofs.GrowingProgram.{valid_after, below_after, inside_after, IsProgramOf-grown}
+use Rattle.mtl_monitor.proofs.program.Program.with.Goals as goal
+
+pub invariant_of-result : goal.invariant_of-result
+invariant_of-result c =
+    let old = c.args.self in
+    let t = tree_of c.args.formula.now in
+    let made = c.in_ok-root.ensures.made in
+    let roots : c.push.new.self.items ≡ old.roots.items ++ (compiled old.nodes.items t).operand ∷ [] = rw (← made.1) c.in-Ok.ensures.items in
+    record {
+      valid = rw made.0 (valid_after old.nodes.items old.roots.items t c.requires old.valid);
+      below = rw made.0 (below_after old.nodes.items old.roots.items t c.requires old.below);
+      inside = rw (made.0, roots) (inside_after old.nodes.items old.roots.items t c.requires old.inside);
+      reach_small = omega (arith, c.max.ensures, old.reach_small, c.in_ok-root.ensures.late, c.requires.reach);
+    }
+
+pub returns-in-Ok-clause-formulas : goal.returns-in-Ok-clause-formulas
+returns-in-Ok-clause-formulas c = λ formulas h.
+    let old = c.args.self in
+    let t = tree_of c.args.formula.now in
+    let made = c.in_ok-root.ensures.made in
+    let roots : c.push.new.self.items ≡ old.roots.items ++ (compiled old.nodes.items t).operand ∷ [] = rw (← made.1) c.in-Ok.ensures.items in
+    let reach : c.max.result ≡ max old.reach (reach_of t) = omega (arith, c.max.ensures, c.in_ok-root.ensures.late) in
+    IsProgramOf-grown old formulas t c.requires h _ (record { nodes = made.0; roots = roots; reach = reach })

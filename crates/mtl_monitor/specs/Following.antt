@@ -1,0 +1,98 @@
+-- What a program and the state of a trace stand for. A reader has only to know that a new state follows no rows, how each call
+-- takes this on, and what the answers are: what the nodes keep for it is of no matter here.
+use Rattle.std.specs.Prelude.{◌≡◌, ℕ, ◌+◌, ◌-◌, ◌<◌, ◌≤◌, max, List, [], ◌∷◌, ◌++◌, length, get_or, ◌⊎◌, Option, Some, None}
+use Rattle.mtl_formulas.specs.declared.atom.Atom.TheVariants.{Always}
+use Rattle.mtl_formulas.specs.declared.verdict.Verdict.{Verdict}
+use Rattle.mtl_formulas.specs.FormulaTree.{FormulaTree, leaf}
+use Rattle.mtl_formulas.specs.FormulaMeasures.{reach_of}
+use Rattle.mtl_monitor.specs.declared.building.Operand.{Operand}
+use Rattle.mtl_monitor.specs.declared.node.ProgramNode.{ProgramNode}
+use Rattle.mtl_monitor.specs.declared.program.Program.{Program}
+use Rattle.mtl_monitor.specs.declared.trace_state.TraceState.{TraceState}
+use Rattle.mtl_monitor.specs.Traces.{Trace, value_in}
+use Rattle.mtl_monitor.specs.Inner.Standing.{tree_at, late_at, root_at, Sound, KeepAll, GiveAll}
+use Rattle.mtl_monitor.specs.Inner.Copying.{HaveShapes}
+
+-- the formula with this index
+abbrev pub formula_at : List FormulaTree → ℕ → FormulaTree
+formula_at formulas k = get_or formulas k (leaf Always)
+
+-- how many positions ahead the farthest of the formulas looks
+abbrev pub greatest_reach : List FormulaTree → ℕ
+greatest_reach [] = 0
+greatest_reach (t ∷ ts) = max (reach_of t) (greatest_reach ts)
+
+-- The node computes the formula, as late as that reaches.
+pub record IsRoot (nodes : List ProgramNode) (trees : List FormulaTree) (root : Operand) (t : FormulaTree) : Type 0 where
+  pub inside : root.index < length nodes
+  pub tree : tree_at trees root.index ≡ t
+  pub late : root.late ≡ reach_of t
+  pub lateness : late_at nodes root.index ≡ root.late
+
+-- The nodes compute these trees, and the roots among them these formulas.
+pub record IsProgramWith (p : Program) (formulas trees : List FormulaTree) : Type 0 where
+  pub sound : Sound p.nodes.items trees
+  pub count : length p.roots.items ≡ length formulas
+  pub each : (k : ℕ) → k < length formulas → IsRoot p.nodes.items trees (root_at p.roots.items k) (formula_at formulas k)
+  pub farthest : p.reach ≡ greatest_reach formulas
+
+-- The program is one of these formulas, in this order.
+pub record IsProgramOf (p : Program) (formulas : List FormulaTree) : Type 0 where
+  pub trees : List FormulaTree
+  pub of : IsProgramWith p formulas trees
+
+-- how many formulas
+abbrev pub count_of : Program → ℕ
+count_of p = length p.roots.items
+
+-- The state is one of this program.
+pub record Fits (p : Program) (s : TraceState) : Type 0 where
+  pub states : length s.states.items ≡ length p.nodes.items
+  pub values : length s.values.items ≡ length p.nodes.items
+
+-- It has the room that the program takes, so it can take over any other state of which the same is true.
+abbrev pub HasRoom : Program → TraceState → Type 0
+HasRoom p s = HaveShapes p.nodes.items s.states.items
+
+-- Both are states of one program.
+abbrev pub AreOfOneProgram : TraceState → TraceState → Type 0
+AreOfOneProgram s r = (p : Program) × (Fits p s × HasRoom p s × Fits p r × HasRoom p r)
+
+-- how many rows were fed, and how many passed at the end beyond them
+abbrev pub fed_of : TraceState → ℕ
+fed_of s = s.fed
+
+abbrev pub past_of : TraceState → ℕ
+past_of s = s.passed - s.fed
+
+-- The state of the program of these formulas was fed these rows, and may be fed more.
+pub record Follows (p : Program) (s : TraceState) (formulas : List FormulaTree) (rows : Trace) : Type 0 where
+  pub trees : List FormulaTree
+  pub of : IsProgramWith p formulas trees
+  pub all_fed : s.fed ≡ length rows
+  pub all_passed : s.passed ≡ length rows
+  pub keeps : (more : Trace) → KeepAll (rows ++ more) trees p.nodes.items s.states.items (length rows)
+  pub gives : 0 < length rows → (more : Trace) → GiveAll (rows ++ more) trees p.nodes.items s.values.items (length rows - 1)
+
+-- The state of the program of these formulas was fed these rows, and no more come.
+pub record Closes (p : Program) (s : TraceState) (formulas : List FormulaTree) (rows : Trace) : Type 0 where
+  pub trees : List FormulaTree
+  pub of : IsProgramWith p formulas trees
+  pub all_fed : s.fed ≡ length rows
+  pub all_passed : length rows ≤ s.passed
+  pub keeps : KeepAll rows trees p.nodes.items s.states.items s.passed
+  pub gives : 0 < s.passed → GiveAll rows trees p.nodes.items s.values.items (s.passed - 1)
+
+-- A formula's answer to the last of these rows: the value at the position that lies its reach before, which no further rows change.
+-- None where there is no such position.
+abbrev pub IsFed : Option (ℕ × Verdict) → FormulaTree → Trace → Type 0
+IsFed None t rows = length rows ≤ reach_of t
+IsFed (Some a) t rows =
+    (a.0 + 1 + reach_of t ≡ length rows) × ((more : Trace) → a.1 ≡ value_in (rows ++ more) t a.0)
+
+-- A formula's answer where so many rows have passed beyond the trace's end: the value at the position that lies its reach before,
+-- over the whole trace. None where there is no such position in the trace.
+abbrev pub IsEnded : Option (ℕ × Verdict) → FormulaTree → Trace → ℕ → Type 0
+IsEnded None t rows past = (length rows + past ≤ reach_of t) ⊎ (reach_of t < past)
+IsEnded (Some a) t rows past =
+    (a.0 + 1 + reach_of t ≡ length rows + past) × (a.0 < length rows) × (a.1 ≡ value_in rows t a.0)

@@ -1,0 +1,35 @@
+-- What nodes keep, taken over without memory.
+use Rattle.std.specs.Prelude.{◌≡◌, ℕ, ◌-◌, ◌<◌, List, length}
+use Rattle.mtl_monitor.specs.declared.node.Operator.{Operator}
+use Rattle.mtl_monitor.specs.declared.node.Operator.TheVariants as op
+use Rattle.mtl_monitor.specs.declared.node.ProgramNode.{ProgramNode}
+use Rattle.mtl_monitor.specs.declared.node.Kept.{Kept}
+use Rattle.mtl_monitor.specs.declared.node.Kept.TheVariants as kinds
+use Rattle.mtl_monitor.specs.Inner.Standing.{node_at, state_at}
+
+-- They are of one kind, and their rings have the same room.
+abbrev pub HasRoomOf : Kept → Kept → Type 0
+HasRoomOf kinds.Plain kinds.Plain = Unit {0}
+HasRoomOf (kinds.Ring b) (kinds.Ring c) = b.capacity ≡ c.capacity
+HasRoomOf (kinds.Window s) (kinds.Window r) = Unit {0}
+HasRoomOf (kinds.Since f h) (kinds.Since g i) = Unit {0}
+HasRoomOf (kinds.Until s f) (kinds.Until r g) = s.cells.capacity ≡ r.cells.capacity
+HasRoomOf _ _ = ⊥
+
+abbrev pub HaveRoomOf : List Kept → List Kept → Type 0
+HaveRoomOf states others = (k : ℕ) → k < length others → HasRoomOf (state_at states k) (state_at others k)
+
+-- A node of this operator keeps this, with room for all that it reads.
+abbrev pub HasShape : Operator → Kept → Type 0
+HasShape (op.Late cells from a) (kinds.Ring b) = b.capacity ≡ cells
+HasShape (op.Window kind width from a) (kinds.Window s) = Unit {0}
+HasShape (op.Since width lower from a b) (kinds.Since hits bars) = Unit {0}
+HasShape (op.Until from full lower a behind b) (kinds.Until s bars) = s.cells.capacity ≡ full - from
+HasShape (op.Atom a) kinds.Plain = Unit {0}
+HasShape (op.Not a) kinds.Plain = Unit {0}
+HasShape (op.Pair kind a b) kinds.Plain = Unit {0}
+HasShape _ _ = ⊥
+
+pub record HaveShapes (nodes : List ProgramNode) (states : List Kept) : Type 0 where
+  pub count : length states ≡ length nodes
+  pub each : (k : ℕ) → k < length nodes → HasShape (node_at nodes k).operator (state_at states k)

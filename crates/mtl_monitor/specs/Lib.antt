@@ -1,0 +1,5 @@
+pub mod Traces
+pub mod Following
+pub mod Growing
+pub mod Monitoring
+pub mod Inner

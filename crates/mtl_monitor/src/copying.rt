@@ -1,0 +1,57 @@
+//! What nodes keep, taken over from the nodes of another state of the same program.
+ghost use Rattle.std.specs.Prelude.{◌≡◌, length};
+ghost use Rattle.mtl_monitor.specs.Inner.Copying.{HasRoomOf, HaveRoomOf};
+
+use crate::lookahead::Lookahead;
+use crate::node::Kept;
+use circular_buffer::HeapCircularBuffer;
+
+fn copy_ring<T: Copy + Drop>(ring: &mut HeapCircularBuffer<T>, other: &HeapCircularBuffer<T>)
+    requires { ring.old.capacity ≡ other.now.capacity }
+    ensures { ring.new ≡ other.now }
+{
+    let _length = other.len();
+    ring.clear();
+    let (front, back) = other.as_slices();
+    ring.extend_from_slice(front);
+    ring.extend_from_slice(back);
+}
+
+fn copy_ahead(ahead: &mut Lookahead, other: &Lookahead)
+    requires { ahead.old.cells.capacity ≡ other.now.cells.capacity }
+    ensures { ahead.new ≡ other.now }
+{
+    copy_ring(&mut ahead.cells, &other.cells);
+    ahead.older = other.older;
+    ahead.run = other.run;
+}
+
+fn copy_kept(keeps: &mut Kept, other: &Kept)
+    requires { HasRoomOf keeps.old other.now }
+    ensures { keeps.new ≡ other.now }
+{
+    match (keeps, other) {
+        (Kept::Ring(ring), Kept::Ring(other)) => copy_ring(ring, other),
+        (Kept::Window(seen), Kept::Window(other)) => *seen = *other,
+        (Kept::Since(hits, bars), Kept::Since(other_hits, other_bars)) => {
+            *hits = *other_hits;
+            *bars = *other_bars;
+        }
+        (Kept::Until(ahead, bars), Kept::Until(other, other_bars)) => {
+            copy_ahead(ahead, other);
+            *bars = *other_bars;
+        }
+        _ => {}
+    }
+}
+
+/// Takes over what other nodes of the same program keep.
+pub(crate) fn copy_all(states: &mut [Kept], others: &[Kept])
+    requires same { length states.old ≡ length others.now }
+    requires room { HaveRoomOf states.old others.now }
+    ensures { states.new ≡ others.now }
+{
+    for k in 0..others.len() {
+        copy_kept(&mut states[k], &others[k]);
+    }
+}

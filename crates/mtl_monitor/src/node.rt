@@ -1,0 +1,43 @@
+//! The nodes of a program, and what each keeps between rows.
+use crate::left::Left;
+use crate::lookahead::Lookahead;
+use circular_buffer::HeapCircularBuffer;
+use mtl_formulas::{Atom, PairKind, SpanKind, Verdict};
+
+/// What a node computes. Operands are named by the indices of their nodes. The value of a node at a row is its formula's
+/// value so many positions back as the node is late.
+#[derive(Clone, Copy)]
+pub(crate) enum Operator {
+    Atom(Atom),
+    Not(usize),
+    Pair(PairKind, usize, usize),
+    /// The operand's value, kept for so many rows. The operand gives values from a row on.
+    Late(u32, u32, usize),
+    /// The greatest or least of so many of the operand's last values, which it gives from a row on.
+    Window(SpanKind, u32, u32, usize),
+    /// S: whether the second operand held at one of so many of its last values, and the first since then. The second
+    /// operand is taken so many rows late, and gives values from a row on.
+    Since(u32, u32, u32, usize, usize),
+    /// U: whether the second operand holds in a window ahead, and the first until then. The operands give values from a row
+    /// on, and the window is full from a second row on. So many positions lie before the window: for these the first operand
+    /// is taken once more, later by the window's width.
+    Until(u32, u32, u32, usize, usize, usize),
+}
+
+#[derive(Clone, Copy)]
+pub(crate) struct ProgramNode {
+    pub operator: Operator,
+    pub late: u32,
+}
+
+/// What a node keeps between rows.
+#[derive(Drop)]
+pub(crate) enum Kept {
+    Plain,
+    Ring(HeapCircularBuffer<Verdict>),
+    Window(Left),
+    /// What held, and what the first operand bars.
+    Since(Left, Left),
+    /// The window ahead, and what the first operand bars before it.
+    Until(Lookahead, Left),
+}

@@ -1,0 +1,83 @@
+//! Several formulas as one program.
+ghost use Rattle.std.specs.Prelude.{◌≡◌, ◌≤◌, length};
+ghost use Rattle.mtl_monitor.specs.Inner.Standing.{AllValid, AllValid-prop, AllBelow, AllBelow-prop, AllInside, AllInside-prop};
+
+use crate::building::{Operand, add};
+use crate::node::ProgramNode;
+use mtl_formulas::Formula;
+use outside::Memory;
+use std::alloc::Global;
+
+/// The formulas that are evaluated together over each trace. Equal parts of them stand once, and what is known of one trace is
+/// a `TraceState` beside it, so one program serves many traces.
+#[derive(Drop)]
+pub struct Program {
+    pub(crate) nodes: Vec<ProgramNode>,
+    pub(crate) roots: Vec<Operand>,
+    pub(crate) reach: u32,
+    ghost valid: { AllValid nodes.items } by { AllValid-prop nodes.items },
+    ghost below: { AllBelow nodes.items } by { AllBelow-prop nodes.items },
+    ghost inside: { AllInside (length nodes.items) roots.items } by { AllInside-prop (length nodes.items) roots.items },
+    ghost reach_small: { reach ≤ 7200 },
+}
+
+impl Program {
+    ghost use Rattle.std.specs.Prelude.{IfOk, List, [], ◌∷◌, ◌++◌, ◌+◌};
+    ghost use Rattle.mtl_formulas.specs.FormulaTree.{FormulaTree, tree_of};
+    ghost use Rattle.mtl_formulas.specs.FormulaMeasures.{IsValid};
+    ghost use Rattle.mtl_monitor.specs.Following.{IsProgramOf, count_of, greatest_reach};
+    ghost use Rattle.mtl_monitor.specs.Growing.{IsEmpty, GrowsBy};
+
+    /// The program of no formula. It takes no memory.
+    pub fn new(alloc: Global) -> Program
+        ensures formulas { IsProgramOf result [] }
+        ensures count { count_of result ≡ 0 }
+        ensures empty { IsEmpty result }
+    {
+        Program {
+            nodes: Vec::new(alloc),
+            roots: Vec::new(alloc),
+            reach: 0,
+        }
+    }
+
+    /// The program with a further formula, whose index is the number of those before it. At `Memory` all is dropped.
+    pub fn with(self, formula: &Formula) -> Result<Program, Memory>
+        requires { IsValid (tree_of formula.now) }
+        ensures formulas { (formulas : List FormulaTree) → IsProgramOf self formulas →
+            IfOk result (λ p. IsProgramOf p (formulas ++ tree_of formula.now ∷ [])) }
+        ensures count { IfOk result (λ p. count_of p ≡ count_of self + 1) }
+        // Equal programs with equal formulas are equal.
+        ensures grows { IfOk result (λ p. GrowsBy self p (tree_of formula.now)) }
+    {
+        let Program {
+            mut nodes,
+            mut roots,
+            reach,
+        } = self;
+        let root = add(&mut nodes, formula)?;
+        match roots.push(root) {
+            Ok(()) => Ok(Program {
+                nodes,
+                roots,
+                reach: reach.max(root.late),
+            }),
+            Err(_) => Err(Memory),
+        }
+    }
+
+    /// How many formulas.
+    pub fn formula_count(&self) -> usize
+        ensures count { result ≡ count_of self.now }
+        ensures formulas { (formulas : List FormulaTree) → IsProgramOf self.now formulas → result ≡ length formulas }
+    {
+        self.roots.len()
+    }
+
+    /// How many positions ahead the farthest of the formulas looks, 0 to 7200.
+    pub fn reach(&self) -> u32
+        ensures { (formulas : List FormulaTree) → IsProgramOf self.now formulas → result ≡ greatest_reach formulas }
+    {
+        self.reach
+    }
+}

@@ -1,0 +1,176 @@
+//! What is known of one trace.
+ghost use Rattle.std.specs.Prelude.{◌≡◌, ◌≤◌, ◌<◌, ◌+◌, ◌^◌};
+
+use crate::copying::copy_all;
+use crate::node::Kept;
+use crate::passing::pass_all;
+use crate::program::Program;
+use crate::starting::start;
+use mtl_formulas::{Atom, Atoms, Verdict};
+use outside::Memory;
+use std::alloc::Global;
+
+/// A row past the trace's end.
+struct Beyond;
+
+impl Atoms for Beyond {
+    ghost use Rattle.mtl_formulas.specs.declared.verdict.Verdict.TheVariants.{Open};
+
+    ghost answer = { λ row atom. Open };
+
+    fn value(&self, _atom: Atom) -> Verdict {
+        Verdict::Open
+    }
+}
+
+/// The state of a program over one trace, whose rows come one by one.
+#[derive(Drop)]
+pub struct TraceState {
+    pub(crate) states: Vec<Kept>,
+    pub(crate) values: Vec<Verdict>,
+    pub(crate) fed: u32,
+    pub(crate) passed: u32,
+    ghost in_order: { fed ≤ passed },
+}
+
+impl TraceState {
+    ghost use Rattle.std.specs.Prelude.{IfOk, max, List, [], ◌∷◌, ◌++◌};
+    ghost use Rattle.mtl_formulas.specs.FormulaTree.{FormulaTree};
+    ghost use Rattle.mtl_monitor.specs.Traces.{Trace};
+    ghost use Rattle.mtl_monitor.specs.declared.program.Program.{Program};
+    ghost use Rattle.mtl_monitor.specs.Inner.Standing.{Passes};
+    ghost use Rattle.mtl_monitor.specs.Following.{IsProgramOf, Fits, HasRoom, AreOfOneProgram, Follows, Closes, IsFed, IsEnded, formula_at, count_of, fed_of, past_of};
+
+    /// The state of a program over a trace of which no row was fed. It takes all its memory here.
+    pub fn new(alloc: Global, program: &Program) -> Result<TraceState, Memory>
+        ensures fits { IfOk result (Fits program.now) }
+        ensures room { IfOk result (HasRoom program.now) }
+        ensures fed { IfOk result (λ s. fed_of s ≡ 0) }
+        ensures past { IfOk result (λ s. past_of s ≡ 0) }
+        ensures follows { IfOk result (λ s. (formulas : List FormulaTree) →
+            IsProgramOf program.now formulas → Follows program.now s formulas []) }
+    {
+        let (states, values) = start(alloc, &program.nodes)?;
+        Ok(TraceState {
+            states,
+            values,
+            fed: 0,
+            passed: 0,
+        })
+    }
+
+    /// Passes row `i` through all nodes. The trace is known to end at `end`, or not before.
+    fn pass<A: Atoms>(&mut self, program: &Program, row: &A, i: u32, end: u32)
+        requires { Fits program.now self.old }
+        ensures fits { Fits program.now self.new }
+        ensures room { HasRoom program.now self.old → HasRoom program.now self.new }
+        ensures fed { self.new.fed ≡ self.old.fed }
+        ensures passed { self.new.passed ≡ self.old.passed }
+        ensures passes { Passes program.now.nodes.items self.old.states.items self.new.states.items
+            self.new.values.items (A.answer row.now) i end }
+    {
+        pass_all(
+            &program.nodes,
+            &mut self.states,
+            &mut self.values,
+            row,
+            i,
+            end,
+        );
+    }
+
+    /// Feeds the next row.
+    pub fn feed<A: Atoms>(&mut self, program: &Program, row: &A)
+        requires fits { Fits program.now self.old }
+        requires unclosed { past_of self.old ≡ 0 }
+        requires small { fed_of self.old < 2 ^ 31 }
+        ensures fits { Fits program.now self.new }
+        ensures room { HasRoom program.now self.old → HasRoom program.now self.new }
+        ensures fed { fed_of self.new ≡ fed_of self.old + 1 }
+        ensures past { past_of self.new ≡ 0 }
+        ensures follows { (formulas : List FormulaTree) (rows : Trace) →
+            Follows program.now self.old formulas rows →
+            Follows program.now self.new formulas (rows ++ A.answer row.now ∷ []) }
+    {
+        let i = self.passed;
+        self.passed = i + 1;
+        self.fed = i + 1;
+        self.pass(program, row, i, i + 1);
+    }
+
+    /// Passes one row beyond the trace's end: none is fed any more.
+    pub fn pass_end(&mut self, program: &Program)
+        requires fits { Fits program.now self.old }
+        requires small_fed { fed_of self.old ≤ 2 ^ 31 }
+        requires small_past { past_of self.old < 2 ^ 30 }
+        ensures fits { Fits program.now self.new }
+        ensures room { HasRoom program.now self.old → HasRoom program.now self.new }
+        ensures fed { fed_of self.new ≡ fed_of self.old }
+        ensures past { past_of self.new ≡ past_of self.old + 1 }
+        ensures begins { (formulas : List FormulaTree) (rows : Trace) →
+            Follows program.now self.old formulas rows → Closes program.now self.new formulas rows }
+        ensures goes_on { (formulas : List FormulaTree) (rows : Trace) →
+            Closes program.now self.old formulas rows → Closes program.now self.new formulas rows }
+    {
+        let i = self.passed;
+        self.passed = i + 1;
+        self.pass(program, &Beyond, i, self.fed);
+    }
+
+    /// Passes rows beyond the trace's end until so many rows have passed, those of the trace among them.
+    pub(crate) fn pass_end_to(&mut self, program: &Program, count: u32)
+        requires fits { Fits program.now self.old }
+        requires small_fed { fed_of self.old ≤ 2 ^ 31 }
+        requires small { count ≤ fed_of self.old + 7200 }
+        ensures fits { Fits program.now self.new }
+        ensures room { HasRoom program.now self.old → HasRoom program.now self.new }
+        ensures fed { self.new.fed ≡ self.old.fed }
+        ensures passed { self.new.passed ≡ max self.old.passed count }
+        ensures closes { (formulas : List FormulaTree) (rows : Trace) →
+            Closes program.now self.old formulas rows → Closes program.now self.new formulas rows }
+    {
+        for _ in self.passed..count {
+            self.pass_end(program);
+        }
+    }
+
+    /// The answer of the formula with this index to the row that passed last: a position, and its value there. Each
+    /// position of the trace is answered once, in order, where each row is followed by this call, and as many rows pass
+    /// beyond the end as the formula reaches.
+    pub fn answer(&self, program: &Program, formula: usize) -> Option<(u32, Verdict)>
+        requires fits { Fits program.now self.now }
+        requires inside { formula < count_of program.now }
+        ensures fed { (formulas : List FormulaTree) (rows : Trace) → Follows program.now self.now formulas rows →
+            IsFed result (formula_at formulas formula) rows }
+        ensures ended { (formulas : List FormulaTree) (rows : Trace) → Closes program.now self.now formulas rows →
+            IsEnded result (formula_at formulas formula) rows (past_of self.now) }
+    {
+        let root = program.roots[formula];
+        if self.passed <= root.late {
+            return None;
+        }
+        let position = self.passed - root.late - 1;
+        if position >= self.fed {
+            return None;
+        }
+        Some((position, self.values[root.index]))
+    }
+
+    /// Takes over another state of the same program. It takes no memory.
+    pub fn copy_from(&mut self, other: &TraceState)
+        requires { AreOfOneProgram self.old other.now }
+        ensures fits { (p : Program) → Fits p other.now → Fits p self.new }
+        ensures room { (p : Program) → HasRoom p other.now → HasRoom p self.new }
+        ensures fed { fed_of self.new ≡ fed_of other.now }
+        ensures past { past_of self.new ≡ past_of other.now }
+        ensures follows { (p : Program) (formulas : List FormulaTree) (rows : Trace) →
+            Follows p other.now formulas rows → Follows p self.new formulas rows }
+        ensures closes { (p : Program) (formulas : List FormulaTree) (rows : Trace) →
+            Closes p other.now formulas rows → Closes p self.new formulas rows }
+    {
+        copy_all(&mut self.states, &other.states);
+        self.values.copy_from_slice(&other.values);
+        self.fed = other.fed;
+        self.passed = other.passed;
+    }
+}
