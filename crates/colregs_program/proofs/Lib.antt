@@ -1,6 +1,5 @@
 pub mod Counting
 pub mod Due
-pub mod LatestHeld
 pub mod Lines
 pub mod OneOutcome
 pub mod Pushing

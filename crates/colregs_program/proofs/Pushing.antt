@@ -1,15 +1,15 @@
 -- What one line more adds to what is made of each line.
-use Rattle.std.proofs.Common.{◌≡◌, ℕ, List, [], ◌∷◌, ◌++◌, append_assoc, append-nil, fold, Option, Some, None, Result, Ok, Err, refl, ap, sym, ◌∙◌}
-use Rattle.std.specs.List.{filter_map}
+use Rattle.std.proofs.Common.{◌≡◌, ℕ, List, [], ◌∷◌, ◌++◌, length, append_assoc, append-nil, Bool, true, false, ◌||◌, IsTrue, ◌<◌, ◌≤◌, nat_lt, Option, Some, None, Result, Ok, Err, refl, ap, sym, subst, ◌∙◌, arith}
+use Rattle.std.specs.List.{filter_map, list_any}
+use Rattle.std.proofs.lemmas.Bool.Decides.{nat_tests}
 use Rattle.std.proofs.lemmas.List.Elements.{filter_map-append}
-use Rattle.std.proofs.lemmas.List.Sums.{fold-append}
 use Rattle.aivdm.specs.FragmentJoining.{Taken}
-use Rattle.fixed_geometry.specs.Place.{Place}
 use Rattle.scenario.specs.declared.values.Scenario.{Scenario}
-use Rattle.colregs_program.specs.AcceptedReports.{accepted_among, with_message}
+use Rattle.tracks.specs.AcceptedReports.{Numbers}
+use Rattle.tracks.specs.VesselsHeld.{held_of}
 use Rattle.colregs_program.specs.EachLine.{each_after, each_line, value_in}
-use Rattle.colregs_program.specs.JudgedLines.{judged_line, judged_lines}
-use Rattle.colregs_program.specs.SentLines.{Sent, heard, heard_of, sent, sent_of}
+use Rattle.colregs_program.specs.JudgedLines.{greatest_held, held_behind, is_crowded, judged_line, judged_lines}
+use Rattle.colregs_program.specs.SentLines.{heard, heard_of, sent, sent_of}
 use Rattle.colregs_program.specs.Inner.JudgeState.{listed}
 use Rattle.colregs_program.specs.declared.judged.Judged.{Judged}
 use Rattle.colregs_program.specs.declared.outcome.LineOutcome.{LineOutcome}
@@ -21,6 +21,14 @@ each_after-push f before [] y = ap (λ b. f b y ∷ []) (sym (append-nil before)
 each_after-push f before (x ∷ xs) y =
     ap (λ l. f before x ∷ l) (each_after-push f (before ++ x ∷ []) xs y)
     ∙ ap (λ b. f before x ∷ each_after f (before ++ x ∷ []) xs ++ f b y ∷ []) (append_assoc before (x ∷ []) xs)
+
+each_after-append : {A B : Type 0} (f : List A → A → B) (before xs ys : List A)
+    → each_after f before (xs ++ ys) ≡ each_after f before xs ++ each_after f (before ++ xs) ys
+unfolding each_after
+each_after-append f before [] ys = ap (λ b. each_after f b ys) (sym (append-nil before))
+each_after-append f before (x ∷ xs) ys =
+    ap (λ l. f before x ∷ l) (each_after-append f (before ++ x ∷ []) xs ys)
+    ∙ ap (λ b. f before x ∷ each_after f (before ++ x ∷ []) xs ++ each_after f b ys) (append_assoc before (x ∷ []) xs)
 
 listed_is : {A : Type 0} (r : Result A LineOutcome) → filter_map value_in (r ∷ []) ≡ listed r
 listed_is (Ok value) = refl
@@ -48,11 +56,6 @@ pub judged-push : (scenario : Scenario) (before : List (List ℕ)) (line : List 
 unfolding judged_lines
 judged-push scenario before line = each_after-push (judged_line scenario) [] before line
 
-pub accepted-push : (reference : Place) (messages : List Sent) (next : Sent)
-    → accepted_among reference (messages ++ next ∷ []) ≡ with_message reference (accepted_among reference messages) next
-unfolding accepted_among
-accepted-push reference messages next = fold-append (with_message reference) [] messages (next ∷ [])
-
 pub nothing_sent : (scenario : Scenario) → sent scenario [] ≡ []
 unfolding sent each_after
 nothing_sent scenario = refl
@@ -65,6 +68,52 @@ pub nothing_judged : (scenario : Scenario) → judged_lines scenario [] ≡ []
 unfolding judged_lines each_after
 nothing_judged scenario = refl
 
-pub nothing_accepted : (reference : Place) → accepted_among reference [] ≡ []
-unfolding accepted_among
-nothing_accepted reference = refl
+
+-- ---- more vessels than are held
+
+any-append : (xs ys : List ℕ) → list_any (λ held. nat_lt greatest_held held) (xs ++ ys)
+    ≡ list_any (λ held. nat_lt greatest_held held) xs || list_any (λ held. nat_lt greatest_held held) ys
+any-append [] ys = refl
+any-append (x ∷ xs) ys = one_more (nat_lt greatest_held x) (any-append xs ys)
+    where
+    one_more : (first : Bool) {all some others : Bool} → all ≡ some || others → first || all ≡ (first || some) || others
+    one_more true is = refl
+    one_more false is = is
+
+pub nothing_crowded : (scenario : Scenario) → is_crowded scenario [] ≡ false
+unfolding is_crowded each_after
+nothing_crowded scenario = refl
+
+few_is : (held : ℕ) → held ≤ greatest_held → nat_lt greatest_held held ≡ false
+few_is held few = grind (arith, nat_tests)
+
+-- a line that makes no more vessels held than can be
+pub calm-push : (scenario : Scenario) (before : List (List ℕ)) (line : List ℕ) → is_crowded scenario before ≡ false
+    → held_behind scenario before line ≤ greatest_held → is_crowded scenario (before ++ line ∷ []) ≡ false
+unfolding is_crowded
+calm-push scenario before line calm few =
+    ap (list_any (λ held. nat_lt greatest_held held)) (each_after-push (held_behind scenario) [] before line)
+    ∙ any-append (each_line (held_behind scenario) before) (held_behind scenario before line ∷ [])
+    ∙ both calm (few_is (held_behind scenario before line) few)
+    where
+    both : {a b : Bool} → a ≡ false → b ≡ false → a || (b || false) ≡ false
+    both p q = rw (p, q) refl
+
+-- a line that makes more vessels held
+pub crowded_at : (scenario : Scenario) (before rest : List (List ℕ)) (line : List ℕ) → greatest_held < held_behind scenario before line
+    → IsTrue (is_crowded scenario (before ++ line ∷ rest))
+unfolding is_crowded each_after
+crowded_at scenario before rest line more =
+    let f = held_behind scenario in
+    let here : nat_lt greatest_held (held_behind scenario before line) ≡ true = grind (arith, nat_tests) in
+    let split = ap (list_any (λ held. nat_lt greatest_held held)) (each_after-append f [] before (line ∷ rest))
+    ∙ any-append (each_line f before) (f before line ∷ each_after f (before ++ line ∷ []) rest) in
+    split ∙ among here
+    where
+    among : {a b c : Bool} → b ≡ true → a || (b || c) ≡ true
+    among {a = true} is = refl
+    among {a = false} is = rw is refl
+
+pub nothing_held : (numbers : Numbers) → length (held_of numbers []) ≤ greatest_held
+unfolding held_of
+nothing_held numbers = omega arith

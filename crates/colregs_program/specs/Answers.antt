@@ -60,6 +60,7 @@ IsDue words files log (status.Limit which.Scenario most) =
 IsDue words files log (status.Scenario key cause) =
     Requested words (λ request. LiesUnder files request.name (λ text. (length text ≤ greatest_scenario) × IsRefused text key cause))
 IsDue words files log (status.Limit which.Log most) = Meets words files log (Some (status.Limit which.Log most))
+IsDue words files log (status.Limit which.Vessels most) = Meets words files log (Some (status.Limit which.Vessels most))
 IsDue words files log status.Done = Meets words files log None
 IsDue words files log status.ReadFault = ⊥
 IsDue words files log status.WriteFault = ⊥
@@ -72,6 +73,7 @@ IsBeforeLog status.ShelfFault = true
 IsBeforeLog (status.Limit which.Scenario most) = true
 IsBeforeLog (status.Scenario key cause) = true
 IsBeforeLog (status.Limit which.Log most) = false
+IsBeforeLog (status.Limit which.Vessels most) = false
 IsBeforeLog status.Done = false
 IsBeforeLog status.ReadFault = false
 IsBeforeLog status.WriteFault = false

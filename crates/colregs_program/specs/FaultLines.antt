@@ -13,6 +13,7 @@ line text = text ++ 10 ∷ []
 abbrev pub limited : Which → List ℕ
 limited which.Scenario = codes "scenario"
 limited which.Log = codes "log"
+limited which.Vessels = codes "vessels"
 
 -- the line of a fault; nothing where the run is finished
 abbrev pub fault_line : Status → List ℕ

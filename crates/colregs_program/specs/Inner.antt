@@ -3,6 +3,5 @@ pub mod LineBytes
 pub mod LogFaults
 pub mod SetUps
 pub mod JudgeState
-pub mod LatestReports
 pub mod Times
 pub mod CsvRowsText

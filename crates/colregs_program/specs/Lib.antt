@@ -1,6 +1,5 @@
 pub mod LogLines
 pub mod LineOutcomes
-pub mod AcceptedReports
 pub mod JudgedLines
 pub mod CsvRows
 pub mod PointsReport

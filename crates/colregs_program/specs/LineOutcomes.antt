@@ -4,6 +4,8 @@ use Rattle.aivdm.specs.declared.sentence.LineCause.{LineCause}
 use Rattle.aivdm.specs.declared.sentence.LineCause.TheVariants as line_cause
 use Rattle.ais_messages.specs.declared.message.MessageCause.{MessageCause}
 use Rattle.ais_messages.specs.declared.message.MessageCause.TheVariants as message_cause
+use Rattle.tracks.specs.declared.entry.ReportCause.{ReportCause}
+use Rattle.tracks.specs.declared.entry.ReportCause.TheVariants as report_cause
 use Rattle.colregs_program.specs.declared.outcome.LineOutcome.{LineOutcome}
 use Rattle.colregs_program.specs.declared.outcome.LineOutcome.TheVariants as outcome
 
@@ -75,3 +77,10 @@ abbrev pub message_outcome : MessageCause → LineOutcome
 message_outcome message_cause.Short = outcome.Short
 message_outcome message_cause.Kind = outcome.Kind
 message_outcome message_cause.NotShip = outcome.NotShip
+
+abbrev pub report_outcome : ReportCause → LineOutcome
+report_outcome report_cause.NoPos = outcome.NoPos
+report_outcome report_cause.Far = outcome.Far
+report_outcome report_cause.Back = outcome.Back
+report_outcome report_cause.Repeat = outcome.Repeat
+report_outcome report_cause.Jump = outcome.Jump

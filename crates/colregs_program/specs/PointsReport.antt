@@ -4,7 +4,7 @@ use Rattle.std.specs.Fmt.{decimal, signed_decimal}
 use Rattle.colregs_program.specs.CsvRows.{optional_decimal, row_of}
 use Rattle.colregs_program.specs.JudgedLines.{judged_lines, outcome_of}
 use Rattle.colregs_program.specs.LineOutcomes.{all_outcomes, name_of, place_of}
-use Rattle.colregs_program.specs.declared.accepted.Accepted.{Accepted}
+use Rattle.tracks.specs.declared.accepted.Accepted.{Accepted}
 use Rattle.colregs_program.specs.LogLines.{lines_of}
 use Rattle.colregs_program.specs.declared.judged.Judged.{Judged}
 use Rattle.colregs_program.specs.declared.judged.Judged.TheVariants as judged

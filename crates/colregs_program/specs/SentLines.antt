@@ -10,18 +10,13 @@ use Rattle.aivdm.specs.declared.sentence.LineCause.{LineCause}
 use Rattle.ais_messages.specs.MessageFields.{decoded_of}
 use Rattle.ais_messages.specs.declared.message.Decoded.{Decoded}
 use Rattle.ais_messages.specs.declared.message.Decoded.TheVariants as decoded
-use Rattle.ais_messages.specs.declared.message.Message.{Message}
+use Rattle.tracks.specs.VesselsHeld.{Sent}
 use Rattle.colregs_program.specs.EachLine.{each_line, value_in}
 use Rattle.colregs_program.specs.LineOutcomes.{line_outcome, message_outcome}
 use Rattle.colregs_program.specs.LineTimes.{clock_of, is_in_window, is_late, time_of}
 use Rattle.colregs_program.specs.declared.outcome.LineOutcome.{LineOutcome}
 use Rattle.colregs_program.specs.declared.outcome.LineOutcome.TheVariants as outcome
 use Rattle.scenario.specs.declared.values.Scenario.{Scenario}
-
--- a message, and when it was received
-pub record Sent : Type 0 where
-  pub message : Message
-  pub time : ℕ
 
 -- ---- the sentences
 

@@ -62,5 +62,6 @@ fn limit_line(alloc: Global, which: Which, most: u64) -> Result<String, AllocErr
     match which {
         Which::Scenario => format!(in alloc; "limit: scenario {most}\n"),
         Which::Log => format!(in alloc; "limit: log {most}\n"),
+        Which::Vessels => format!(in alloc; "limit: vessels {most}\n"),
     }
 }

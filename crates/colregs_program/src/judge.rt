@@ -1,59 +1,74 @@
 //! Judging a log's lines one after the other.
-ghost use Rattle.std.specs.Prelude.{◌≡◌, ◌<◌, ◌+◌, ◌^◌, ◌++◌, ◌∷◌, [], List, ℕ, IfOk, OnOk, Ok, length, slice_index};
-ghost use Rattle.std.specs.List.{filter_map};
+ghost use Rattle.std.specs.Prelude.{◌≡◌, ◌≤◌, ◌<◌, ◌+◌, ◌^◌, ◌++◌, ◌∷◌, [], ◌↔◌, List, ℕ, IfOk, OnOk, Ok, Err, length, slice_index};
 ghost use Rattle.aivdm.specs.FragmentJoining.{Taken};
 ghost use Rattle.aivdm.specs.OpenMessages.{StandsFor as JoinerStandsFor};
 ghost use Rattle.aivdm.specs.Sentences.{IfSentence, IsSentence, body_seen, fields_seen};
-ghost use Rattle.ais_messages.specs.MessageFields.{IfMessage, IsMessage, IsReport};
-ghost use Rattle.colregs_program.specs.AcceptedReports.{accepted_among, judged_message, judged_report, latest_of, report_in, with_message};
-ghost use Rattle.colregs_program.specs.JudgedLines.{judged_line, judged_lines, judged_sent};
-ghost use Rattle.colregs_program.specs.SentLines.{Sent, sent_decoded};
-ghost use Rattle.colregs_program.specs.Inner.LatestReports.{HoldsLatest};
-ghost use Rattle.colregs_program.specs.declared.accepted.Accepted.{Accepted};
+ghost use Rattle.ais_messages.specs.MessageFields.{IfMessage, IsMessage};
+ghost use Rattle.scenario.specs.ScenarioValues.{IsInRange};
 ghost use Rattle.scenario.specs.declared.values.Scenario.{Scenario};
+ghost use Rattle.tracks.specs.AcceptedReports.{Numbers};
+ghost use Rattle.tracks.specs.Standing.{StandsFor as BookStandsFor};
+ghost use Rattle.tracks.specs.VesselsHeld.{Sent, entry_of, held_of};
+ghost use Rattle.tracks.specs.declared.entry.BookFault.TheVariants.{TooManyVessels};
+ghost use Rattle.colregs_program.specs.JudgedLines.{greatest_held, held_behind, judged_entry, judged_line, judged_lines};
+ghost use Rattle.colregs_program.specs.SentLines.{sent_decoded, sent_heard};
 
-use crate::accepted::{Accepted, judge_report};
 use crate::judged::Judged;
 use crate::line_times::LineTimes;
 use crate::outcome::LineOutcome;
-use ais_messages::{Decoded, Message, PositionReport, decode};
+use ais_messages::{Decoded, Message, decode};
 use aivdm::{Body, Joined, Joiner, Sentence, read_line};
-use fixed_geometry::Reference;
-use outside::Memory;
 use scenario::Scenario;
 use std::alloc::Global;
-use std::collections::BTreeMap;
+use tracks::{Accepted, Book, BookFault, Entry};
 
-/// The latest accepted report of each vessel, by her MMSI.
-type Latest = BTreeMap<u32, Accepted>;
+/// What a message comes to, from its entry in the book.
+fn judged(message: &Message, time: u64, entry: Entry) -> Judged
+    ensures { result ≡ judged_entry (record { message = message.now; time = time }) entry }
+{
+    match entry {
+        Entry::Point(point) => match message {
+            Message::Position(report) | Message::Both(report, _) => Judged::Accepted(Accepted {
+                time,
+                point,
+                report: *report,
+            }),
+            Message::Static(_) => Judged::Without(LineOutcome::Static),
+        },
+        Entry::Static => Judged::Without(LineOutcome::Static),
+        Entry::Dropped(cause) => Judged::Without(cause.into()),
+    }
+}
 
 /// What is kept of the lines so far: it stands for the list of them.
 #[derive(Drop)]
 pub(crate) struct Judge {
-    reference: Reference,
     times: LineTimes,
     joiner: Joiner,
-    latest: Latest,
+    book: Book,
     /// How many lines came to each outcome, by its index.
     counts: [u64; 21],
 }
 
 impl Judge {
-    ghost use Rattle.std.specs.Prelude.{◌-◌, min, slice_set, Some};
-    ghost use Rattle.std.specs.BTreeMap.{Updates};
-    ghost use Rattle.std.specs.Ordering.{nat_cmp};
+    ghost use Rattle.std.specs.Prelude.{◌-◌, min, slice_set};
     ghost use Rattle.colregs_program.specs.LineOutcomes.{place_of};
-    ghost use Rattle.colregs_program.specs.Inner.JudgeState.{AreCounts, GoesOn, StandsFor, heard_by, listed};
+    ghost use Rattle.colregs_program.specs.Inner.JudgeState.{AreCounts, Enters, GoesOn, StandsFor, heard_by, held_with};
 
     /// No line came yet.
     pub(crate) fn new(alloc: Global, scenario: &Scenario) -> Judge
+        requires { IsInRange scenario.now }
         ensures { StandsFor result scenario.now [] }
     {
         Judge {
-            reference: scenario.reference,
             times: LineTimes::new(scenario),
             joiner: Joiner::new(alloc),
-            latest: BTreeMap::new(alloc),
+            book: Book::new(
+                alloc,
+                scenario.reference,
+                scenario.log.gap,
+                scenario.log.max_speed,
+            ),
             counts: [0; 21],
         }
     }
@@ -77,96 +92,63 @@ impl Judge {
         self.counts[place] = self.counts[place].saturating_add(1);
     }
 
-    /// Keeps a report as the latest of its vessel.
-    fn keep_report(&mut self, accepted: &Accepted) -> Result<(), Memory>
-        ensures latest { OnOk result (Updates nat_cmp self.old.latest self.new.latest accepted.now.report.mmsi (Some accepted.now)) }
-        ensures same { self.new ≡ record self.old { latest = self.new.latest } }
+    /// Judges a message, and keeps what it tells.
+    fn judge_message(&mut self, message: &Message, time: u64) -> Result<Judged, BookFault>
+        requires { IsMessage message.now }
+        ensures judged { IfOk result (λ judged. (numbers : Numbers) (before : List Sent) → BookStandsFor self.old.book numbers before
+            → Enters numbers self.new judged before (Ok (record { message = message.now; time = time }))) }
+        ensures crowded { result ≡ Err TooManyVessels → (numbers : Numbers) (before : List Sent) → BookStandsFor self.old.book numbers before
+            → greatest_held < held_with numbers before (Ok (record { message = message.now; time = time })) }
+        ensures same { self.new ≡ record self.old { book = self.new.book } }
     {
-        match self.latest.insert(accepted.report.mmsi, *accepted) {
-            Ok(_) => Ok(()),
-            Err(_) => Err(Memory),
-        }
-    }
-
-    /// Keeps the report of a line, where it is accepted.
-    fn keep(&mut self, judged: &Judged) -> Result<(), Memory>
-        ensures latest { OnOk result ((accepted : List Accepted) → HoldsLatest self.old.latest accepted
-            → HoldsLatest self.new.latest (accepted ++ filter_map report_in (judged.now ∷ []))) }
-        ensures same { self.new ≡ record self.old { latest = self.new.latest } }
-    {
-        match judged {
-            Judged::Accepted(accepted) => self.keep_report(accepted),
-            Judged::Without(_) => Ok(()),
-        }
-    }
-
-    /// Judges a report, and keeps it where it is accepted.
-    fn judge_report(&mut self, report: PositionReport, time: u64) -> Result<Judged, Memory>
-        requires { IsReport report }
-        ensures judged { IfOk result (λ judged. (accepted : List Accepted) → HoldsLatest self.old.latest accepted
-            → judged ≡ judged_report self.old.reference time report (latest_of report.mmsi accepted)) }
-        ensures latest { IfOk result (λ judged. (accepted : List Accepted) → HoldsLatest self.old.latest accepted
-            → HoldsLatest self.new.latest (accepted ++ filter_map report_in (judged ∷ []))) }
-        ensures same { self.new ≡ record self.old { latest = self.new.latest } }
-    {
-        let judged = judge_report(self.reference, time, report, self.latest.get(&report.mmsi));
-        self.keep(&judged)?;
-        Ok(judged)
-    }
-
-    /// Judges a message. What it tells of the ship is not kept yet.
-    fn judge_message(&mut self, message: Message, time: u64) -> Result<Judged, Memory>
-        requires { IsMessage message }
-        ensures judged { IfOk result (λ judged. (accepted : List Accepted) → HoldsLatest self.old.latest accepted
-            → judged ≡ judged_message self.old.reference accepted time message) }
-        ensures latest { OnOk result ((accepted : List Accepted) → HoldsLatest self.old.latest accepted
-            → HoldsLatest self.new.latest (with_message self.old.reference accepted (record { message = message; time = time }))) }
-        ensures same { self.new ≡ record self.old { latest = self.new.latest } }
-    {
-        match message {
-            Message::Position(report) => self.judge_report(report, time),
-            Message::Both(report, _) => self.judge_report(report, time),
-            Message::Static(_) => Ok(Judged::Without(LineOutcome::Static)),
-        }
+        let entry = self.book.take(message, time)?;
+        Ok(judged(message, time, entry))
     }
 
     /// Judges what the bits of a message are read as.
-    fn judge_decoded(&mut self, decoded: Decoded, time: u64) -> Result<Judged, Memory>
-        requires { IfMessage decoded IsMessage }
-        ensures judged { IfOk result (λ judged. (messages : List Sent) → HoldsLatest self.old.latest (accepted_among self.old.reference messages)
-            → judged ≡ judged_sent self.old.reference messages (sent_decoded time decoded)) }
-        ensures latest { OnOk result ((messages : List Sent) → HoldsLatest self.old.latest (accepted_among self.old.reference messages)
-            → HoldsLatest self.new.latest (accepted_among self.old.reference (messages ++ listed (sent_decoded time decoded)))) }
-        ensures same { self.new ≡ record self.old { latest = self.new.latest } }
+    fn judge_decoded(&mut self, decoded: &Decoded, time: u64) -> Result<Judged, BookFault>
+        requires { IfMessage decoded.now IsMessage }
+        ensures judged { IfOk result (λ judged. (numbers : Numbers) (before : List Sent) → BookStandsFor self.old.book numbers before
+            → length (held_of numbers before) ≤ greatest_held
+            → Enters numbers self.new judged before (sent_decoded time decoded.now)) }
+        ensures crowded { result ≡ Err TooManyVessels → (numbers : Numbers) (before : List Sent) → BookStandsFor self.old.book numbers before
+            → greatest_held < held_with numbers before (sent_decoded time decoded.now) }
+        ensures same { self.new ≡ record self.old { book = self.new.book } }
     {
         match decoded {
             Decoded::Message(message) => self.judge_message(message, time),
-            Decoded::Dropped(cause) => Ok(Judged::Without(cause.into())),
+            Decoded::Dropped(cause) => Ok(Judged::Without((*cause).into())),
         }
     }
 
     /// Judges a sentence that is in time.
-    fn judge_sentence(&mut self, sentence: &Sentence<'_>, time: u64) -> Result<Judged, Memory>
+    fn judge_sentence(&mut self, sentence: &Sentence<'_>, time: u64) -> Result<Judged, BookFault>
         requires { IsSentence (fields_seen sentence.now) }
-        ensures judged { IfOk result (λ judged. (taken : List Taken) (messages : List Sent) → JoinerStandsFor self.old.joiner taken
-            → HoldsLatest self.old.latest (accepted_among self.old.reference messages)
-            → GoesOn self.old.reference self.new judged taken messages (Ok (record { sentence = fields_seen sentence.now; time = time }))) }
-        ensures same { self.new ≡ record self.old { joiner = self.new.joiner; latest = self.new.latest } }
+        ensures judged { IfOk result (λ judged. (numbers : Numbers) (taken : List Taken) (messages : List Sent) → JoinerStandsFor self.old.joiner taken
+            → BookStandsFor self.old.book numbers messages → length (held_of numbers messages) ≤ greatest_held
+            → GoesOn numbers self.new judged taken messages (Ok (record { sentence = fields_seen sentence.now; time = time }))) }
+        ensures crowded { result ≡ Err TooManyVessels → (numbers : Numbers) (taken : List Taken) (messages : List Sent)
+            → JoinerStandsFor self.old.joiner taken → BookStandsFor self.old.book numbers messages
+            → greatest_held < held_with numbers messages (sent_heard taken (Ok (record { sentence = fields_seen sentence.now; time = time }))) }
+        ensures same { self.new ≡ record self.old { joiner = self.new.joiner; book = self.new.book } }
     {
         match self.joiner.take(sentence, time)? {
-            Joined::Message(bits) => self.judge_decoded(decode(&bits), time),
+            Joined::Message(bits) => self.judge_decoded(&decode(&bits), time),
             Joined::Waiting => Ok(Judged::Without(LineOutcome::Part)),
             Joined::Orphan => Ok(Judged::Without(LineOutcome::Orphan)),
         }
     }
 
     /// Judges what a line says.
-    fn judge_body(&mut self, body: &Body<'_>, time: u64) -> Result<Judged, Memory>
+    fn judge_body(&mut self, body: &Body<'_>, time: u64) -> Result<Judged, BookFault>
         requires { IfSentence body.now (λ s. IsSentence (fields_seen s)) }
-        ensures judged { IfOk result (λ judged. (taken : List Taken) (messages : List Sent) → JoinerStandsFor self.old.joiner taken
-            → HoldsLatest self.old.latest (accepted_among self.old.reference messages)
-            → GoesOn self.old.reference self.new judged taken messages (heard_by self.old.times time (body_seen body.now))) }
-        ensures same { self.new ≡ record self.old { joiner = self.new.joiner; latest = self.new.latest } }
+        ensures judged { IfOk result (λ judged. (numbers : Numbers) (taken : List Taken) (messages : List Sent) → JoinerStandsFor self.old.joiner taken
+            → BookStandsFor self.old.book numbers messages → length (held_of numbers messages) ≤ greatest_held
+            → GoesOn numbers self.new judged taken messages (heard_by self.old.times time (body_seen body.now))) }
+        ensures crowded { result ≡ Err TooManyVessels → (numbers : Numbers) (taken : List Taken) (messages : List Sent)
+            → JoinerStandsFor self.old.joiner taken → BookStandsFor self.old.book numbers messages
+            → greatest_held < held_with numbers messages (sent_heard taken (heard_by self.old.times time (body_seen body.now))) }
+        ensures same { self.new ≡ record self.old { joiner = self.new.joiner; book = self.new.book } }
     {
         match body {
             Body::Dropped(cause) => Ok(Judged::Without((*cause).into())),
@@ -177,12 +159,15 @@ impl Judge {
         }
     }
 
-    /// Takes the next line, and gives what it comes to. Where memory runs out, the judge may only be dropped.
-    pub(crate) fn take(&mut self, line: &[u8]) -> Result<Judged, Memory>
+    /// Takes the next line, and gives what it comes to. Where it makes a 4097th vessel held, or memory runs out, the judge may
+    /// only be dropped.
+    pub(crate) fn take(&mut self, line: &[u8]) -> Result<Judged, BookFault>
         ensures judged { IfOk result (λ judged. (scenario : Scenario) (before : List (List ℕ)) → StandsFor self.old scenario before
             → judged ≡ judged_line scenario before line.now) }
         ensures stands { OnOk result ((scenario : Scenario) (before : List (List ℕ)) → length before + 1 < 2 ^ 64
             → StandsFor self.old scenario before → StandsFor self.new scenario (before ++ line.now ∷ [])) }
+        ensures crowded { result ≡ Err TooManyVessels → (scenario : Scenario) (before : List (List ℕ)) → StandsFor self.old scenario before
+            → greatest_held < held_behind scenario before line.now }
     {
         let reading = read_line(line);
         let time = self.times.time(reading.stamp);

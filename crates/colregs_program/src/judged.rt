@@ -2,8 +2,8 @@
 ghost use Rattle.std.specs.Prelude.{◌≡◌};
 ghost use Rattle.colregs_program.specs.JudgedLines.{outcome_of};
 
-use crate::accepted::Accepted;
 use crate::outcome::LineOutcome;
+use tracks::Accepted;
 
 /// What a line of the log comes to.
 #[derive(Clone, Copy, Debug, PartialEq, Eq)]

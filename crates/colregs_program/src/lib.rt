@@ -5,7 +5,6 @@
 //! scenario and the log, however the reads are cut.
 #![tactic(auto)]
 
-mod accepted;
 mod csv_rows;
 mod fault_line;
 mod judge;
@@ -23,10 +22,10 @@ mod status;
 #[cfg(test)]
 mod tests;
 
-pub use accepted::Accepted;
 pub use judged::Judged;
 pub use outcome::LineOutcome;
 pub use program::run;
 pub use request::Mode;
 pub use scenario::{Cause, Key, LogNumbers, Scenario, Window};
 pub use status::{Status, Which};
+pub use tracks::Accepted;

@@ -4,6 +4,7 @@ ghost use Rattle.colregs_program.specs.LineOutcomes.{name_of, place_of};
 
 use ais_messages::MessageCause;
 use aivdm::LineCause;
+use tracks::ReportCause;
 
 /// The one outcome of a line, in the order in which the report counts them.
 #[derive(Clone, Copy, Debug, PartialEq, Eq)]
@@ -82,6 +83,23 @@ impl From<MessageCause> for LineOutcome {
             MessageCause::Short => LineOutcome::Short,
             MessageCause::Kind => LineOutcome::Kind,
             MessageCause::NotShip => LineOutcome::NotShip,
+        }
+    }
+}
+
+impl From<ReportCause> for LineOutcome {
+    ghost use Rattle.std.specs.Prelude.{◌≡◌};
+    ghost use Rattle.colregs_program.specs.LineOutcomes.{report_outcome};
+
+    ghost from_gives = { λ cause outcome. outcome ≡ report_outcome cause };
+
+    fn from(cause: ReportCause) -> LineOutcome {
+        match cause {
+            ReportCause::NoPos => LineOutcome::NoPos,
+            ReportCause::Far => LineOutcome::Far,
+            ReportCause::Back => LineOutcome::Back,
+            ReportCause::Repeat => LineOutcome::Repeat,
+            ReportCause::Jump => LineOutcome::Jump,
         }
     }
 }

@@ -5,12 +5,12 @@ ghost use Rattle.colregs_program.specs.Inner.CsvRowsText.{HasText};
 ghost use Rattle.colregs_program.specs.LineOutcomes.{all_outcomes, place_of};
 ghost use Rattle.colregs_program.specs.PointsReport.{count_fields, point_fields, rows_of_line};
 
-use crate::accepted::Accepted;
 use crate::csv_rows::{CsvRows, digits, optional_digits, signed_digits};
 use crate::judged::Judged;
 use crate::outcome::LineOutcome;
 use itoa::Buffer;
 use outside::Memory;
+use tracks::Accepted;
 
 /// All outcomes, in the order of the report.
 #[tactic(auto, unfolding(crate::specs::LineOutcomes::all_outcomes))]

@@ -10,7 +10,7 @@ ghost use Rattle.scenario.specs.ScenarioReading.{IsRefused};
 ghost use Rattle.scenario.specs.declared.key.Key.{Key};
 ghost use Rattle.scenario.specs.declared.cause.Cause.{Cause};
 ghost use Rattle.colregs_program.specs.Answers.{greatest_scenario, Holds, IsBeforeLog, IsDue, Requested, Runs};
-ghost use Rattle.colregs_program.specs.Endings.{ending_of, refusal_of, settled};
+ghost use Rattle.colregs_program.specs.Endings.{ending_of, refusal_of};
 ghost use Rattle.colregs_program.specs.FaultLines.{fault_line, is_made};
 ghost use Rattle.colregs_program.specs.Requests.{request_of};
 ghost use Rattle.colregs_program.specs.Told.{Gains};
@@ -92,6 +92,9 @@ pub fn run<H: Shelf, S: Source, K: Sink, E: Sink>(
     ensures log_limit { (most : ℕ) → result ≡ Status.Limit which.Log most
         → StopsAt most 0 (S.left log.old) (S.left log.new) read.TooLong
         × Runs words.now (H.files shelf.old) (λ _ scenario. most ≡ scenario.log.max_bytes) }
+    ensures vessel_limit { (most : ℕ) → result ≡ Status.Limit which.Vessels most → IsAtEnd (S.left log.new)
+        × Runs words.now (H.files shelf.old) (λ request scenario.
+        IfSome (S.left log.old) (λ bytes. refusal_of request.mode scenario bytes ≡ Some (Status.Limit which.Vessels most))) }
     ensures write_fault { result ≡ Status.WriteFault → (K.faults out.new ≡ one_more (K.faults out.old))
         × IsAtEnd (S.left log.new)
         × Runs words.now (H.files shelf.old) (λ request scenario.

@@ -1,10 +1,12 @@
 //! The report on a log that is read whole.
-ghost use Rattle.std.specs.Prelude.{◌≡◌, ◌≤◌, [], length, IfErr, IfOk, IfSome, OnOk};
+ghost use Rattle.std.specs.Prelude.{◌≡◌, ◌≤◌, [], false, length, Err, IfErr, IfOk, IfSome, IsTrue, OnOk};
 ghost use Rattle.std.specs.Io.KnownBytes.{IsAtEnd};
 ghost use Rattle.scenario.specs.declared.values.Scenario.{Scenario};
 ghost use Rattle.colregs_program.specs.Endings.{ending_of};
 ghost use Rattle.colregs_program.specs.Inner.LogFaults.{LogCause};
-ghost use Rattle.colregs_program.specs.JudgedLines.{judged_lines};
+ghost use Rattle.scenario.specs.ScenarioValues.{IsInRange};
+ghost use Rattle.tracks.specs.declared.entry.BookFault.TheVariants.{TooManyVessels};
+ghost use Rattle.colregs_program.specs.JudgedLines.{is_crowded, judged_lines};
 ghost use Rattle.colregs_program.specs.LogLines.{lines_of};
 ghost use Rattle.colregs_program.specs.Inner.CsvRowsText.{HasText};
 ghost use Rattle.colregs_program.specs.Inner.JudgeState.{StandsFor};
@@ -19,6 +21,10 @@ use crate::status::{Status, Which};
 use outside::{Memory, ReadFault, Source, read_whole};
 use scenario::Scenario;
 use std::alloc::Global;
+use tracks::BookFault;
+
+/// The greatest number of vessels that are held.
+const GREATEST_HELD: u64 = 4096;
 
 /// Why there is no report on a log.
 #[derive(Clone, Copy, Debug, PartialEq, Eq)]
@@ -27,6 +33,8 @@ pub(crate) enum LogFault {
     NotRead,
     /// The log is longer than this many bytes.
     TooLong(u64),
+    /// A line makes more than 4096 vessels held.
+    TooManyVessels,
     Memory,
 }
 
@@ -41,6 +49,20 @@ impl From<Memory> for LogFault {
     }
 }
 
+impl From<BookFault> for LogFault {
+    ghost use Rattle.std.specs.Prelude.{◌≡◌};
+    ghost use Rattle.colregs_program.specs.Inner.LogFaults.{log_fault};
+
+    ghost from_gives = { λ fault made. made ≡ log_fault fault };
+
+    fn from(fault: BookFault) -> LogFault {
+        match fault {
+            BookFault::TooManyVessels => LogFault::TooManyVessels,
+            BookFault::Memory => LogFault::Memory,
+        }
+    }
+}
+
 impl From<LogFault> for Status {
     ghost use Rattle.std.specs.Prelude.{◌≡◌};
     ghost use Rattle.colregs_program.specs.Inner.LogFaults.{answer_of};
@@ -51,17 +73,20 @@ impl From<LogFault> for Status {
         match fault {
             LogFault::NotRead => Status::ReadFault,
             LogFault::TooLong(most) => Status::Limit(Which::Log, most),
+            LogFault::TooManyVessels => Status::Limit(Which::Vessels, GREATEST_HELD),
             LogFault::Memory => Status::Memory,
         }
     }
 }
 
 /// Takes each line of a log, and writes its rows.
-fn take_lines(judge: &mut Judge, rows: &mut CsvRows, log: &[u8]) -> Result<(), Memory>
+fn take_lines(judge: &mut Judge, rows: &mut CsvRows, log: &[u8]) -> Result<(), BookFault>
     ensures lines { OnOk result ((scenario : Scenario) → StandsFor judge.old scenario []
         → StandsFor judge.new scenario (lines_of log.now)) }
     ensures rows { OnOk result ((scenario : Scenario) → StandsFor judge.old scenario [] → HasText rows.old []
         → HasText rows.new (point_rows (judged_lines scenario (lines_of log.now)))) }
+    ensures crowded { result ≡ Err TooManyVessels → (scenario : Scenario) → StandsFor judge.old scenario []
+        → IsTrue (is_crowded scenario (lines_of log.now)) }
 {
     let mut at = 0;
     while at < log.len() {
@@ -75,19 +100,25 @@ fn take_lines(judge: &mut Judge, rows: &mut CsvRows, log: &[u8]) -> Result<(), M
 
 /// The report of `points` on a log.
 #[tactic(auto, unfolding(crate::specs::PointsReport::report_of))]
-fn points_report(alloc: Global, scenario: &Scenario, log: &[u8]) -> Result<Vec<u8>, Memory>
-    ensures { IfOk result (λ report. report.items ≡ report_of scenario.now log.now) }
+fn points_report(alloc: Global, scenario: &Scenario, log: &[u8]) -> Result<Vec<u8>, BookFault>
+    requires { IsInRange scenario.now }
+    ensures report { IfOk result (λ report. report.items ≡ report_of scenario.now log.now) }
+    ensures calm { OnOk result (is_crowded scenario.now (lines_of log.now) ≡ false) }
+    ensures crowded { result ≡ Err TooManyVessels → IsTrue (is_crowded scenario.now (lines_of log.now)) }
 {
     let mut judge = Judge::new(alloc, scenario);
     let mut rows = CsvRows::new(alloc);
     take_lines(&mut judge, &mut rows, log)?;
     write_counts(&mut rows, judge.counts(), all_outcomes())?;
-    rows.into_text()
+    Ok(rows.into_text()?)
 }
 
 /// What the request comes to on a log.
-fn ending(alloc: Global, mode: Mode, scenario: &Scenario, log: &[u8]) -> Result<Vec<u8>, Memory>
-    ensures { IfOk result (λ ending. ending.items ≡ ending_of mode scenario.now log.now) }
+fn ending(alloc: Global, mode: Mode, scenario: &Scenario, log: &[u8]) -> Result<Vec<u8>, BookFault>
+    requires { IsInRange scenario.now }
+    ensures ending { IfOk result (λ ending. ending.items ≡ ending_of mode scenario.now log.now) }
+    ensures calm { OnOk result (is_crowded scenario.now (lines_of log.now) ≡ false) }
+    ensures crowded { result ≡ Err TooManyVessels → IsTrue (is_crowded scenario.now (lines_of log.now)) }
 {
     match mode {
         Mode::Points => points_report(alloc, scenario, log),
@@ -95,13 +126,18 @@ fn ending(alloc: Global, mode: Mode, scenario: &Scenario, log: &[u8]) -> Result<
 }
 
 /// All the bytes of the log.
-fn log_bytes<S: Source>(alloc: Global, most: u64, log: &mut S) -> Result<Vec<u8>, LogFault>
+fn log_bytes<S: Source>(
+    alloc: Global,
+    scenario: &Scenario,
+    log: &mut S,
+) -> Result<Vec<u8>, LogFault>
     ensures all { IfOk result (λ bytes. IfSome (S.left log.old) (λ told. told ≡ bytes.items)) }
-    ensures short { IfOk result (λ bytes. length bytes.items ≤ most) }
+    ensures short { IfOk result (λ bytes. length bytes.items ≤ scenario.now.log.max_bytes) }
     ensures end { OnOk result (IsAtEnd (S.left log.new)) }
     ensures calm { OnOk result (S.faults log.new ≡ S.faults log.old) }
-    ensures cause { IfErr result (LogCause most (S.left log.old) (S.left log.new) (S.faults log.old) (S.faults log.new)) }
+    ensures cause { IfErr result (LogCause scenario.now (S.left log.old) (S.left log.new) (S.faults log.old) (S.faults log.new)) }
 {
+    let most = scenario.log.max_bytes;
     match read_whole(alloc, log, most) {
         Ok(bytes) => Ok(bytes),
         Err(ReadFault::Failed) => Err(LogFault::NotRead),
@@ -117,16 +153,17 @@ pub(crate) fn report_on<S: Source>(
     scenario: &Scenario,
     log: &mut S,
 ) -> Result<Vec<u8>, LogFault>
-    ensures report { IfOk result (λ report. IfSome (S.left log.old) (λ bytes.
-        (length bytes ≤ scenario.now.log.max_bytes) × (report.items ≡ ending_of mode scenario.now bytes))) }
+    requires { IsInRange scenario.now }
+    ensures report { IfOk result (λ report. IfSome (S.left log.old) (λ bytes. (length bytes ≤ scenario.now.log.max_bytes)
+        × (is_crowded scenario.now (lines_of bytes) ≡ false) × (report.items ≡ ending_of mode scenario.now bytes))) }
     ensures end { OnOk result (IsAtEnd (S.left log.new)) }
     ensures calm { OnOk result (S.faults log.new ≡ S.faults log.old) }
-    ensures cause { IfErr result (LogCause scenario.now.log.max_bytes
+    ensures cause { IfErr result (LogCause scenario.now
         (S.left log.old) (S.left log.new) (S.faults log.old) (S.faults log.new)) }
 {
-    let bytes = log_bytes(alloc, scenario.log.max_bytes, log)?;
+    let bytes = log_bytes(alloc, scenario, log)?;
     match ending(alloc, mode, scenario, bytes.as_slice()) {
         Ok(report) => Ok(report),
-        Err(_) => Err(LogFault::Memory),
+        Err(fault) => Err(fault.into()),
     }
 }

@@ -1,6 +1,7 @@
 //! The scenario of a run, from the shelf.
 ghost use Rattle.std.specs.Prelude.{◌≡◌, ◌⊎◌, ◌≤◌, ◌^◌, length, IfOk, IfErr, OnOk, Result, Err, Some};
 ghost use Rattle.outside.specs.Causes.{one_more};
+ghost use Rattle.scenario.specs.ScenarioValues.{IsInRange};
 ghost use Rattle.scenario.specs.declared.values.Scenario.{Scenario};
 ghost use Rattle.colregs_program.specs.Answers.{Holds, IsScenario};
 ghost use Rattle.colregs_program.specs.Inner.SetUps.{IsSetUpDue, SetUpCause};
@@ -63,6 +64,7 @@ pub(crate) fn set_up<H: Shelf>(
     shelf: &mut H,
 ) -> Result<Scenario, SetUpFault>
     ensures scenario { IfOk result (λ scenario. Holds (H.files shelf.old) name.now (λ text. IsScenario text scenario)) }
+    ensures in_range { IfOk result IsInRange }
     ensures cause { IfErr result (SetUpCause (H.files shelf.old) name.now (H.faults shelf.old) (H.faults shelf.new)) }
     ensures due { (due : Result Scenario SetUpFault) → IsSetUpDue (H.files shelf.old) name.now due
         → (H.faults shelf.new ≡ one_more (H.faults shelf.old)) ⊎ ((result ≡ due) ⊎ (result ≡ Err SetUpFault.Memory)) }

@@ -11,6 +11,8 @@ pub enum Which {
     Scenario,
     /// The bytes of the log, at most as many as the scenario allows.
     Log,
+    /// The vessels that are held, at most 4096.
+    Vessels,
 }
 
 /// How a run ends. Standard error gets a line that names each fault.

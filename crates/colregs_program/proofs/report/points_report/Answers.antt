@@ -14,5 +14,5 @@ returns c =
     let counts = c.counts.ensures scenario (lines_of c.args.log.now) (taken.lines scenario c.new-judge.ensures) in
     let rows = c.in_ok-write_counts.ensures (point_rows lines) (taken.rows scenario c.new-judge.ensures c.new-rows.ensures) in
     IfOk-weaker c.into_text.result (λ report is.
-      is _ rows ∙ ap (λ text. point_rows lines ++ text) (count_rows-from_counts c.counts.result.now lines c.all_outcomes.result.now c.all_outcomes.ensures counts))
+    is _ rows ∙ ap (λ text. point_rows lines ++ text) (count_rows-from_counts c.counts.result.now lines c.all_outcomes.result.now c.all_outcomes.ensures counts))
     c.into_text.ensures

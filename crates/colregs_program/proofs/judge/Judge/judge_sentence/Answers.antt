@@ -1,11 +1,12 @@
-use Rattle.std.proofs.Common.{refl, sym, ap, subst, ◌∙◌, ◌∷◌, [], ◌++◌, ℕ, List}
+use Rattle.std.proofs.Common.{refl, sym, ap, subst, ◌∙◌, ◌∷◌, [], ◌++◌, IfOk}
 use Rattle.aivdm.specs.FragmentJoining.{Taken}
 use Rattle.aivdm.specs.OpenMessages.{StandsFor as JoinerStandsFor}
 use Rattle.aivdm.specs.Sentences.{fields_seen}
 use Rattle.colregs_program.specs.SentLines.{sent_decoded}
 use Rattle.colregs_program.specs.declared.judge.Judge.{Judge}
 use Rattle.colregs_program.specs.declared.outcome.LineOutcome.TheVariants as outcome
-use Rattle.colregs_program.proofs.GoingOn.{GoesOn-message, GoesOn-silent, IfOk-both}
+use Rattle.colregs_program.proofs.GoingOn.{GoesOn-message, GoesOn-silent, crowded_message}
+use Rattle.colregs_program.proofs.Reporting.{IfOk-weaker}
 use Rattle.colregs_program.proofs.judge.Judge.judge_sentence.Goals as goal
 
 pub returns-in-Message-clause-judged : goal.returns-in-Message-clause-judged
@@ -13,21 +14,25 @@ returns-in-Message-clause-judged c =
     let next : Taken = record { sentence = fields_seen c.args.sentence.now; time = c.args.time } in
     let judge = c.judge_decoded.new.self in
     let kept = ap (λ (j : Judge). j.joiner) c.judge_decoded.ensures.same in
-    IfOk-both c.judge_decoded.result
-    (λ came is latest taken messages stands holds. GoesOn-message c.args.self.now.reference judge came taken messages next _ c.decode.result
+    IfOk-weaker c.judge_decoded.result
+    (λ came enters numbers taken messages stands book few. GoesOn-message numbers judge came taken messages next _ c.decode.result
       (sym c.in-Message.is ∙ c.in_ok-bits.ensures.joined taken stands)
       (ap (sent_decoded c.args.time) (sym c.decode.ensures.fields))
       (subst (λ joiner. JoinerStandsFor joiner (taken ++ next ∷ [])) (sym kept) (c.in_ok-bits.ensures.stands taken stands))
-      (is messages holds)
-      (latest messages holds))
-    c.judge_decoded.ensures.judged c.judge_decoded.ensures.latest
+      (enters numbers messages book few))
+    c.judge_decoded.ensures.judged
+
+pub returns-in-Message-clause-crowded : goal.returns-in-Message-clause-crowded
+returns-in-Message-clause-crowded c = λ fault numbers taken messages stands book.
+    crowded_message numbers taken messages _ _ c.decode.result (sym c.in-Message.is ∙ c.in_ok-bits.ensures.joined taken stands)
+    (ap (sent_decoded c.args.time) (sym c.decode.ensures.fields)) (c.judge_decoded.ensures.crowded fault numbers messages book)
 
 pub returns-in-Waiting-clause-judged : goal.returns-in-Waiting-clause-judged
-returns-in-Waiting-clause-judged c = λ taken messages stands holds.
-    GoesOn-silent c.args.self.now.reference _ outcome.Part taken messages _ _ (sym c.in-Waiting.is ∙ c.in_ok-bits.ensures.joined taken stands) refl
-    (c.in_ok-bits.ensures.stands taken stands) holds
+returns-in-Waiting-clause-judged c = λ numbers taken messages stands book few.
+    GoesOn-silent numbers _ outcome.Part taken messages _ _ (sym c.in-Waiting.is ∙ c.in_ok-bits.ensures.joined taken stands) refl
+    (c.in_ok-bits.ensures.stands taken stands) book few
 
 pub returns-in-Orphan-clause-judged : goal.returns-in-Orphan-clause-judged
-returns-in-Orphan-clause-judged c = λ taken messages stands holds.
-    GoesOn-silent c.args.self.now.reference _ outcome.Orphan taken messages _ _ (sym c.in-Orphan.is ∙ c.in_ok-bits.ensures.joined taken stands) refl
-    (c.in_ok-bits.ensures.stands taken stands) holds
+returns-in-Orphan-clause-judged c = λ numbers taken messages stands book few.
+    GoesOn-silent numbers _ outcome.Orphan taken messages _ _ (sym c.in-Orphan.is ∙ c.in_ok-bits.ensures.joined taken stands) refl
+    (c.in_ok-bits.ensures.stands taken stands) book few

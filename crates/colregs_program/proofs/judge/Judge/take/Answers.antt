@@ -2,7 +2,7 @@ use Rattle.std.proofs.Common.{ap, sym, ◌≡◌}
 use Rattle.aivdm.specs.ReadingOf.{reading_of}
 use Rattle.aivdm.specs.Sentences.{LineContent, body_seen}
 use Rattle.colregs_program.specs.LineTimes.{stamp_of}
-use Rattle.colregs_program.proofs.GoingOn.{Judges, judged_is, new_is, stands_on}
+use Rattle.colregs_program.proofs.GoingOn.{Judges, crowded_by, judged_is, new_is, stands_on}
 use Rattle.colregs_program.proofs.judge.Judge.take.Goals as goal
 
 judges : (c : goal.After-count) → Judges c.args.self.now c.judge_body.new.self c.in_ok-judged.judged c.args.line.now
