@@ -1,14 +1,14 @@
 //! What is kept of one vessel.
-ghost use Rattle.std.specs.Prelude.{◌≡◌, ◌≤◌, ◌<◌, None, IfOk, IfSome, OnOk, OnErr, Some};
+ghost use Rattle.std.specs.Prelude.{◌≡◌, ◌≤◌, ◌<◌, All, None, IfOk, IfSome, OnOk, OnErr, Some};
 ghost use Rattle.std.specs.List.{last_or};
 ghost use Rattle.std.specs.Option.{option_copied};
 ghost use Rattle.ais_messages.specs.MessageFields.{IsMessage, IsReport};
 ghost use Rattle.motion.specs.TickStates.{IsLeg};
 ghost use Rattle.tracks.specs.AcceptedReports.{judged};
 ghost use Rattle.tracks.specs.JoinedReports.{direction_of, joined};
-ghost use Rattle.tracks.specs.Inner.Keeping.{Follows, IsKept, accepted_by, told, untold, vessel_after, vessel_with};
+ghost use Rattle.tracks.specs.Inner.Keeping.{Follows, IsKept, accepted_by, accepted_in, joined_after, told, untold, vessel_after, vessel_with};
 ghost use Rattle.tracks.specs.Standing.{IsAccepted, IsNumbers};
-ghost use Rattle.tracks.specs.VesselsHeld.{entry_at, entry_by, reported_in};
+ghost use Rattle.tracks.specs.VesselsHeld.{entry_at, entry_by, reported_in, static_in};
 
 use crate::accepted::Accepted;
 use crate::entry::Entry;
@@ -56,6 +56,30 @@ fn leg_between(gap: u32, from: &Accepted, to: &Accepted) -> Option<Leg>
     })
 }
 
+/// The latest of her accepted reports.
+fn latest(points: &[Accepted]) -> Option<&Accepted>
+    requires { All IsAccepted points.now }
+    ensures value { option_copied result ≡ last_or None points.now }
+    ensures accepted { IfSome (option_copied result) IsAccepted }
+{
+    points.last()
+}
+
+/// The leg to a report that is accepted after these, if it is joined to the latest of them.
+fn leg_to(gap: u32, points: &[Accepted], accepted: &Accepted) -> Option<Leg>
+    requires gap { gap ≤ 3600 }
+    requires points { All IsAccepted points.now }
+    requires accepted { IsAccepted accepted.now }
+    requires follows { IfSome (last_or None points.now) (λ latest. Follows gap latest accepted.now) }
+    ensures value { result ≡ joined_after gap (last_or None points.now) accepted.now }
+    ensures leg { IfSome result IsLeg }
+{
+    match latest(points) {
+        None => None,
+        Some(latest) => leg_between(gap, latest, accepted),
+    }
+}
+
 /// Her accepted reports, the legs between them, and what she told of herself.
 #[derive(Debug, Drop)]
 pub(crate) struct Vessel {
@@ -97,10 +121,7 @@ impl Vessel {
         ensures err { OnErr result (self.new ≡ self.old) }
         ensures kept { IsKept gap self.new }
     {
-        let leg = match self.points.last() {
-            None => None,
-            Some(latest) => leg_between(gap, latest, &accepted),
-        };
+        let leg = leg_to(gap, &self.points, &accepted);
         self.points.push(accepted)?;
         let Some(leg) = leg else {
             return Ok(());
@@ -129,7 +150,7 @@ impl Vessel {
         ensures err { OnErr result (self.new ≡ self.old) }
         ensures kept { IsKept numbers.now.gap self.new }
     {
-        match judge(numbers, self.points.last(), report, time) {
+        match judge(numbers, latest(&self.points), report, time) {
             Err(cause) => Ok(Entry::Dropped(cause)),
             Ok(accepted) => {
                 self.accept(numbers.gap, accepted)?;
@@ -150,7 +171,40 @@ impl Vessel {
         }
     }
 
+    /// Takes the position report of a message of hers, if it has one.
+    fn take_position(
+        &mut self,
+        numbers: &Numbers,
+        message: &Message,
+        time: u64,
+    ) -> Result<Entry, Memory>
+        requires numbers { IsNumbers numbers.now }
+        requires kept { IsKept numbers.now.gap self.old }
+        requires message { IsMessage message.now }
+        ensures entry { IfOk result (λ entry. entry ≡ entry_at numbers.now (last_or None self.old.points)
+            (reported_in (record { message = message.now; time = time }))) }
+        ensures ok { OnOk result (self.new ≡ vessel_with numbers.now.gap self.old (accepted_in numbers.now (last_or None self.old.points)
+            (reported_in (record { message = message.now; time = time })))) }
+        ensures err { OnErr result (self.new ≡ self.old) }
+        ensures kept { IsKept numbers.now.gap self.new }
+    {
+        match position_report(message) {
+            None => Ok(Entry::Static),
+            Some(report) => self.take_report(numbers, report, time),
+        }
+    }
+
+    /// Keeps the static report of a message of hers, if it has one.
+    fn keep_static(&mut self, message: &Message)
+        ensures { self.new ≡ told self.old (static_in message.now) }
+    {
+        if let Some(report) = static_report(message) {
+            self.keep(report);
+        }
+    }
+
     /// Takes a message of hers. Where there is no memory, the vessel is as before.
+    #[tactic(auto, unfolding(crate::specs::Inner::Keeping::vessel_after))]
     pub(crate) fn take(
         &mut self,
         numbers: &Numbers,
@@ -166,13 +220,8 @@ impl Vessel {
         ensures err { OnErr result (self.new ≡ self.old) }
         ensures kept { IsKept numbers.now.gap self.new }
     {
-        let entry = match position_report(message) {
-            None => Entry::Static,
-            Some(report) => self.take_report(numbers, report, time)?,
-        };
-        if let Some(report) = static_report(message) {
-            self.keep(report);
-        }
+        let entry = self.take_position(numbers, message, time)?;
+        self.keep_static(message);
         Ok(entry)
     }
 

@@ -6,7 +6,7 @@ use Rattle.motion.specs.TickStates.{AreJoined}
 use Rattle.motion.specs.declared.leg.Leg.{Leg}
 use Rattle.ais_messages.specs.declared.message.StaticReport.{StaticReport}
 use Rattle.tracks.specs.AcceptedReports.{Numbers, Reported, distance2, judged, square}
-use Rattle.tracks.specs.JoinedReports.{legs_between}
+use Rattle.tracks.specs.JoinedReports.{joined, legs_between}
 use Rattle.tracks.specs.Standing.{BookValue, IsAccepted, IsNumbers, VesselValue}
 use Rattle.tracks.specs.VesselsHeld.{Sent, reported_in, static_in}
 use Rattle.tracks.specs.Inner.AscendingNumbers.{Ascends}
@@ -62,6 +62,11 @@ makes_held numbers one = is_some (static_in one.message) || is_some (accepted_in
 pub record Follows (gap : ℕ) (latest now : Accepted) : Type 0 where
   pub after : latest.time < now.time
   pub slow : now.time ≤ latest.time + gap → 81 * distance2 latest now ≤ square (4630 * 1022 * (now.time - latest.time))
+
+-- the leg to a report from the latest one, if they are joined
+abbrev pub joined_after : ℕ → Option Accepted → Accepted → Option Leg
+joined_after gap None now = None
+joined_after gap (Some latest) now = joined gap latest now
 
 -- The last leg ends at the latest report, or more than the gap before it.
 abbrev pub EndsAt : ℕ → Accepted → Leg → Type 0
