@@ -19,6 +19,7 @@ usage_due words files log status.Usage refused is = refl
 usage_due words files log status.ShelfFault refused is = cc (refused, is.1)
 usage_due words files log (status.Limit which.Scenario most) refused is = cc (refused, is.1.1)
 usage_due words files log (status.Limit which.Log most) refused is = cc (refused, is.3.accepted)
+usage_due words files log (status.Limit which.Vessels most) refused is = cc (refused, is.3.accepted)
 usage_due words files log (status.Scenario key why) refused is = cc (refused, is.1)
 usage_due words files log status.Done refused is = cc (refused, is.3.accepted)
 usage_due words files log status.ReadFault refused is = absurd is
@@ -74,6 +75,8 @@ set_up_due words files log request (status.Scenario key why) accepted is = recor
   follows = refl;
 }
 set_up_due words files log request (status.Limit which.Log most) accepted is = of_meeting words files log request (Some (status.Limit which.Log most)) accepted is
+set_up_due words files log request (status.Limit which.Vessels most) accepted is =
+    of_meeting words files log request (Some (status.Limit which.Vessels most)) accepted is
 set_up_due words files log request status.Done accepted is = of_meeting words files log request None accepted is
 set_up_due words files log request status.ReadFault accepted is = absurd is
 set_up_due words files log request status.WriteFault accepted is = absurd is

@@ -38,7 +38,7 @@ OnOk-weaker (Err e) f p = tt
 -- what is not above the greatest number of vessels
 pub few_unless : (n : ℕ) → (greatest_held < n → ⊥) → n ≤ greatest_held
 few_unless n calm = decide (nat_lt greatest_held n) refl
-    where
+  where
     decide : (test : Bool) → nat_lt greatest_held n ≡ test → n ≤ greatest_held
     decide true is = absurd (calm (grind (arith, nat_tests, is)))
     decide false is = grind (arith, nat_tests, is)
@@ -178,7 +178,7 @@ stands_on old noted new came line scenario before few stands judges is =
 pub crowded_by : (old : Judge) (line : List ℕ) (scenario : Scenario) (before : List (List ℕ)) (time : ℕ) (body : Result SentenceFields LineCause) → StandsFor old scenario before
     → time ≡ unwrap_or (nearest_of (stamp_of line) old.times.nearest) old.times.window.start → body ≡ (reading_of line).body
     → ((numbers : Numbers) (taken : List Taken) (messages : List Sent) → JoinerStandsFor old.joiner taken → BookStandsFor old.book numbers messages
-      → greatest_held < held_with numbers messages (sent_heard taken (heard_by old.times time body)))
+    → greatest_held < held_with numbers messages (sent_heard taken (heard_by old.times time body)))
     → greatest_held < held_behind scenario before line
 unfolding sent_of
 crowded_by old line scenario before time body stands timed said more =
@@ -191,10 +191,9 @@ crowded_by old line scenario before time body stands timed said more =
 pub new_is : (old noted new : Judge) (came : Judged) (line : List ℕ) (times : LineTimes) (stamp : Option ℕ) (outcome : LineOutcome)
     → noted ≡ record old { joiner = noted.joiner; book = noted.book } → times ≡ times_behind noted.times stamp → stamp ≡ stamp_of line → outcome ≡ outcome_of came
     → new ≡ record {
-      reference = noted.reference;
       times = times;
       joiner = noted.joiner;
-      latest = noted.latest;
+      book = noted.book;
       counts = slice_set noted.counts (place_of outcome) (min (slice_index noted.counts (place_of outcome) + 1) (2 ^ 64 - 1));
     }
     → new ≡ record { times = times_behind old.times (stamp_of line); joiner = noted.joiner; book = noted.book; counts = counted old.counts came }

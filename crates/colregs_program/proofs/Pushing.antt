@@ -3,6 +3,7 @@ use Rattle.std.proofs.Common.{◌≡◌, ℕ, List, [], ◌∷◌, ◌++◌, len
 use Rattle.std.specs.List.{filter_map, list_any}
 use Rattle.std.proofs.lemmas.Bool.Decides.{nat_tests}
 use Rattle.std.proofs.lemmas.List.Elements.{filter_map-append}
+use Rattle.std.proofs.lemmas.List.Folds.{list_any-append}
 use Rattle.aivdm.specs.FragmentJoining.{Taken}
 use Rattle.scenario.specs.declared.values.Scenario.{Scenario}
 use Rattle.tracks.specs.AcceptedReports.{Numbers}
@@ -68,17 +69,7 @@ pub nothing_judged : (scenario : Scenario) → judged_lines scenario [] ≡ []
 unfolding judged_lines each_after
 nothing_judged scenario = refl
 
-
 -- ---- more vessels than are held
-
-any-append : (xs ys : List ℕ) → list_any (λ held. nat_lt greatest_held held) (xs ++ ys)
-    ≡ list_any (λ held. nat_lt greatest_held held) xs || list_any (λ held. nat_lt greatest_held held) ys
-any-append [] ys = refl
-any-append (x ∷ xs) ys = one_more (nat_lt greatest_held x) (any-append xs ys)
-    where
-    one_more : (first : Bool) {all some others : Bool} → all ≡ some || others → first || all ≡ (first || some) || others
-    one_more true is = refl
-    one_more false is = is
 
 pub nothing_crowded : (scenario : Scenario) → is_crowded scenario [] ≡ false
 unfolding is_crowded each_after
@@ -93,9 +84,9 @@ pub calm-push : (scenario : Scenario) (before : List (List ℕ)) (line : List �
 unfolding is_crowded
 calm-push scenario before line calm few =
     ap (list_any (λ held. nat_lt greatest_held held)) (each_after-push (held_behind scenario) [] before line)
-    ∙ any-append (each_line (held_behind scenario) before) (held_behind scenario before line ∷ [])
+    ∙ list_any-append (λ held. nat_lt greatest_held held) (each_line (held_behind scenario) before) (held_behind scenario before line ∷ [])
     ∙ both calm (few_is (held_behind scenario before line) few)
-    where
+  where
     both : {a b : Bool} → a ≡ false → b ≡ false → a || (b || false) ≡ false
     both p q = rw (p, q) refl
 
@@ -107,12 +98,12 @@ crowded_at scenario before rest line more =
     let f = held_behind scenario in
     let here : nat_lt greatest_held (held_behind scenario before line) ≡ true = grind (arith, nat_tests) in
     let split = ap (list_any (λ held. nat_lt greatest_held held)) (each_after-append f [] before (line ∷ rest))
-    ∙ any-append (each_line f before) (f before line ∷ each_after f (before ++ line ∷ []) rest) in
-    split ∙ among here
-    where
-    among : {a b c : Bool} → b ≡ true → a || (b || c) ≡ true
-    among {a = true} is = refl
-    among {a = false} is = rw is refl
+    ∙ list_any-append (λ held. nat_lt greatest_held held) (each_line f before) (f before line ∷ each_after f (before ++ line ∷ []) rest) in
+    split ∙ among (list_any (λ held. nat_lt greatest_held held) (each_line f before)) _ _ here
+  where
+    among : (a b c : Bool) → b ≡ true → a || (b || c) ≡ true
+    among true b c is = refl
+    among false b c is = rw is refl
 
 pub nothing_held : (numbers : Numbers) → length (held_of numbers []) ≤ greatest_held
 unfolding held_of

@@ -1,9 +1,9 @@
 -- Lines taken one after the other.
-use Rattle.std.proofs.Common.{◌≡◌, ℕ, ◌+◌, ◌-◌, ◌≤◌, ◌<◌, ◌^◌, List, [], ◌∷◌, ◌++◌, length, take, drop, flat_map, append_assoc, append-nil, refl, sym, ap, subst, ◌∙◌, arith}
+use Rattle.std.proofs.Common.{◌≡◌, ℕ, ◌+◌, ◌-◌, ◌≤◌, ◌<◌, ◌^◌, List, [], ◌∷◌, ◌++◌, length, take, drop, IsTrue, flat_map, append_assoc, append-nil, refl, sym, ap, subst, ◌∙◌, arith}
 use Rattle.std.proofs.lemmas.Grind.{flat_map-append}
 use Rattle.std.proofs.lemmas.List.{drop-drop, drop_all, length_push, take_all, length-drop}
 use Rattle.scenario.specs.declared.values.Scenario.{Scenario}
-use Rattle.colregs_program.specs.JudgedLines.{judged_line, judged_lines}
+use Rattle.colregs_program.specs.JudgedLines.{greatest_held, held_behind, is_crowded, judged_line, judged_lines}
 use Rattle.colregs_program.specs.LogLines.{lines_of}
 use Rattle.colregs_program.specs.PointsReport.{point_rows, rows_of_line}
 use Rattle.colregs_program.specs.Inner.CsvRowsText.{HasText}
@@ -11,7 +11,7 @@ use Rattle.colregs_program.specs.Inner.JudgeState.{StandsFor}
 use Rattle.colregs_program.specs.declared.csv_rows.CsvRows.{CsvRows}
 use Rattle.colregs_program.specs.declared.judge.Judge.{Judge}
 use Rattle.colregs_program.specs.declared.judged.Judged.{Judged}
-use Rattle.colregs_program.proofs.Pushing.{judged-push, nothing_judged}
+use Rattle.colregs_program.proofs.Pushing.{crowded_at, judged-push, nothing_judged}
 
 -- The lines of a log up to a place were taken, and their rows written.
 pub record TakenUpTo (first judge : Judge) (none rows : CsvRows) (log : List ℕ) (at : ℕ) : Type 0 where
@@ -61,6 +61,18 @@ one_line_on first judge judge' none rows rows' log at taken line came up within 
           subst (HasText rows') (rows-push scenario up.before line came (is scenario up.before (up.stands scenario stands)))
           (writes (point_rows (judged_lines scenario up.before)) (up.written scenario stands has));
     }
+
+-- a line that makes more vessels held than can be
+pub crowded_log : (first judge : Judge) (none rows : CsvRows) (log : List ℕ) (at taken : ℕ) (line : List ℕ) (scenario : Scenario)
+    → (up : TakenUpTo first judge none rows log at)
+    → lines_of (take (length log - at) (drop at log)) ≡ line ∷ lines_of (drop taken (take (length log - at) (drop at log)))
+    → greatest_held < held_behind scenario up.before line → IsTrue (is_crowded scenario (lines_of log))
+crowded_log first judge none rows log at taken line scenario up first_line more =
+    let rest : take (length log - at) (drop at log) ≡ drop at log = take_all (length log - at) (drop at log) (omega (arith, length-drop at log)) in
+    let others = lines_of (drop taken (take (length log - at) (drop at log))) in
+    let split : lines_of (drop at log) ≡ line ∷ others = ap lines_of (sym rest) ∙ first_line in
+    subst (λ (lines : List (List ℕ)). IsTrue (is_crowded scenario lines)) (ap (λ lines. up.before ++ lines) (sym split) ∙ up.whole)
+    (crowded_at scenario up.before others line more)
 
 -- at the log's end
 pub before_is : (first judge : Judge) (none rows : CsvRows) (log : List ℕ) (at : ℕ) → length log ≤ at → (up : TakenUpTo first judge none rows log at)

@@ -183,6 +183,48 @@ fn source_that_fails_after_a_hundred_bytes(rt: HostRuntime) -> Result<(), Fail> 
     Ok(())
 }
 
+/// Five parts of two keys, and three lines with times: own ship at second 100, and the other at seconds 0 and -1000.
+const PARTS_AND_TIMES: &[u8] =
+    b"!AIVDM,2,1,3,A,55P5TL01VIaAL@7WKO@mBplU@<PDhh000000001S;AJ::4A80?4i@E53,0*3D
+!AIVDM,2,1,3,B,55P5TL01VIaAL@7WKO@mBplU@<PDhh000000001S;AJ::4A80?4i@E53,0*3E
+!AIVDM,2,2,3,A,1@0000000000000,2*56
+!AIVDM,2,2,3,B,1@0000000000000,2*55
+!AIVDM,2,2,3,B,1@0000000000000,2*55
+\\c:1700000100*5E\\!AIVDM,1,1,,A,15P5TL0P2l00001wwHt000000000,0*5C
+\\c:1700000000*5F\\!AIVDM,1,1,,A,177KQJ0P2lOwwtp00W4725`00000,0*31
+\\c:1699999000*57\\!AIVDM,1,1,,A,177KQJ0P2lOwwtp00W4725`00000,0*31
+";
+
+const PARTS_AND_TIMES_COUNTED: &[u8] = b"lines,outside,1,,,,
+lines,late,1,,,,
+lines,part,2,,,,
+lines,orphan,1,,,,
+lines,short,0,,,,
+lines,kind,0,,,,
+lines,notship,0,,,,
+lines,nopos,0,,,,
+lines,far,0,,,,
+lines,back,0,,,,
+lines,repeat,0,,,,
+lines,jump,0,,,,
+lines,static,2,,,,
+lines,point,1,,,,
+";
+
+#[test]
+fn parts_of_two_keys_and_times_out_of_order(rt: HostRuntime) -> Result<(), Fail> {
+    let scenario = SCENARIO.replace(
+        rt.alloc(),
+        "lat = 28549600\nlon = -73407500",
+        "lat = 0\nlon = 0",
+    )?;
+    let mut log = PlainSource::new(PARTS_AND_TIMES.to_vec(rt.alloc())?, 50);
+    let ended = points(rt.alloc(), scenario.as_str(), &mut log)?;
+    assert_eq!(rt; ended.status, Status::Done);
+    assert!(rt; ended.out.bytes().ends_with(PARTS_AND_TIMES_COUNTED));
+    Ok(())
+}
+
 // Long enough that each of its lines, and the report, ask for memory more than once.
 #[test]
 fn log_of_three_hundred_lines(rt: HostRuntime) -> Result<(), Fail> {

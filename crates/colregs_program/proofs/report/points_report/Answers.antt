@@ -2,7 +2,7 @@ use Rattle.std.proofs.Common.{◌++◌, ap, ◌∙◌}
 use Rattle.colregs_program.specs.JudgedLines.{judged_lines}
 use Rattle.colregs_program.specs.LogLines.{lines_of}
 use Rattle.colregs_program.specs.PointsReport.{point_rows, report_of}
-use Rattle.colregs_program.proofs.Reporting.{IfOk-weaker, count_rows-from_counts}
+use Rattle.colregs_program.proofs.Reporting.{count_rows-from_counts}
 use Rattle.colregs_program.proofs.report.points_report.Goals as goal
 
 pub returns : goal.returns
@@ -11,8 +11,12 @@ returns c =
     let scenario = c.args.scenario.now in
     let lines = judged_lines scenario (lines_of c.args.log.now) in
     let taken = c.in_ok-take_lines.ensures in
-    let counts = c.counts.ensures scenario (lines_of c.args.log.now) (taken.lines scenario c.new-judge.ensures) in
+    let stands = taken.lines scenario c.new-judge.ensures in
+    let counts = c.counts.ensures scenario (lines_of c.args.log.now) stands in
     let rows = c.in_ok-write_counts.ensures (point_rows lines) (taken.rows scenario c.new-judge.ensures c.new-rows.ensures) in
-    IfOk-weaker c.into_text.result (λ report is.
-    is _ rows ∙ ap (λ text. point_rows lines ++ text) (count_rows-from_counts c.counts.result.now lines c.all_outcomes.result.now c.all_outcomes.ensures counts))
-    c.into_text.ensures
+    record {
+      report = c.in_ok-into_text.ensures _ rows
+          ∙ ap (λ text. point_rows lines ++ text) (count_rows-from_counts c.counts.result.now lines c.all_outcomes.result.now c.all_outcomes.ensures counts);
+      calm = stands.calm;
+      crowded = λ fault. cc fault;
+    }

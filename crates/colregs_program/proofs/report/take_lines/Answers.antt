@@ -1,9 +1,9 @@
-use Rattle.std.proofs.Common.{ℕ, List, ◌+◌, subst, ap, arith}
+use Rattle.std.proofs.Common.{ℕ, List, ◌+◌, subst, sym, ap, arith, Err}
 use Rattle.colregs_program.specs.JudgedLines.{judged_lines}
 use Rattle.colregs_program.specs.PointsReport.{point_rows}
 use Rattle.colregs_program.specs.Inner.CsvRowsText.{HasText}
 use Rattle.colregs_program.specs.Inner.JudgeState.{StandsFor}
-use Rattle.colregs_program.proofs.TakingLines.{before_is, from_front, one_line_on}
+use Rattle.colregs_program.proofs.TakingLines.{before_is, crowded_log, from_front, one_line_on}
 use Rattle.colregs_program.proofs.report.take_lines.Goals as goal
 
 pub loop-at-init : goal.loop-at-init
@@ -29,3 +29,10 @@ returns-clause-rows c = λ scenario empty none.
     let up = c.loop-at.invariant.up in
     subst (λ (lines : List (List ℕ)). HasText c.loop-at.rows (point_rows (judged_lines scenario lines)))
     (before_is _ _ _ _ c.args.log.now c.loop-at.at c.loop-at-test.false up) (up.written scenario empty none)
+
+pub returns-in_err-judged-clause-crowded : goal.returns-in_err-judged-clause-crowded
+returns-in_err-judged-clause-crowded c = λ told scenario empty.
+    let said = rw told at c.from_residual.ensures in
+    let up = c.loop-at.invariant.up in
+    crowded_log _ _ _ _ c.args.log.now c.loop-at.at c.first_line-line.result.taken c.first_line-line.result.bytes.now scenario up c.first_line-line.ensures.line
+    (c.in_err-judged.ensures.crowded (ap Err (sym said.1)) scenario up.before (up.stands scenario empty))

@@ -16,10 +16,10 @@ returns-in-Message-clause-judged c =
     let kept = ap (λ (j : Judge). j.joiner) c.judge_decoded.ensures.same in
     IfOk-weaker c.judge_decoded.result
     (λ came enters numbers taken messages stands book few. GoesOn-message numbers judge came taken messages next _ c.decode.result
-      (sym c.in-Message.is ∙ c.in_ok-bits.ensures.joined taken stands)
-      (ap (sent_decoded c.args.time) (sym c.decode.ensures.fields))
-      (subst (λ joiner. JoinerStandsFor joiner (taken ++ next ∷ [])) (sym kept) (c.in_ok-bits.ensures.stands taken stands))
-      (enters numbers messages book few))
+    (sym c.in-Message.is ∙ c.in_ok-bits.ensures.joined taken stands)
+    (ap (sent_decoded c.args.time) (sym c.decode.ensures.fields))
+    (subst (λ joiner. JoinerStandsFor joiner (taken ++ next ∷ [])) (sym kept) (c.in_ok-bits.ensures.stands taken stands))
+    (enters numbers messages book few))
     c.judge_decoded.ensures.judged
 
 pub returns-in-Message-clause-crowded : goal.returns-in-Message-clause-crowded

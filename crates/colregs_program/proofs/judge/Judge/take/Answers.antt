@@ -1,4 +1,4 @@
-use Rattle.std.proofs.Common.{ap, sym, ◌≡◌}
+use Rattle.std.proofs.Common.{ap, sym, ◌≡◌, Err}
 use Rattle.aivdm.specs.ReadingOf.{reading_of}
 use Rattle.aivdm.specs.Sentences.{LineContent, body_seen}
 use Rattle.colregs_program.specs.LineTimes.{stamp_of}
@@ -26,3 +26,11 @@ returns-clause-stands c = λ scenario before few stands.
     let is = new_is c.args.self.now c.judge_body.new.self c.count.new.self c.in_ok-judged.judged c.args.line.now c.pass.new.self _ c.outcome.result
     c.in_ok-judged.ensures.same c.pass.ensures stamp c.outcome.ensures c.count.ensures in
     stands_on c.args.self.now c.judge_body.new.self c.count.new.self c.in_ok-judged.judged c.args.line.now scenario before few stands (judges c) is
+
+pub returns-in_err-judged-clause-crowded : goal.returns-in_err-judged-clause-crowded
+returns-in_err-judged-clause-crowded c = λ told scenario before stands.
+    let said = rw told at c.from_residual.ensures in
+    let stamp : c.read_line-reading.result.stamp ≡ stamp_of c.args.line.now = ap (λ (content : LineContent). content.stamp) c.read_line-reading.ensures.same in
+    crowded_by c.args.self.now c.args.line.now scenario before c.time-time.result (body_seen c.read_line-reading.result.body) stands
+    (rw (← stamp) c.time-time.ensures) (ap (λ (content : LineContent). content.body) c.read_line-reading.ensures.same)
+    (c.in_err-judged.ensures.crowded (ap Err (sym said.1)))
