@@ -57,12 +57,16 @@ legs_of numbers sent mmsi = legs_between numbers.gap (accepted_of numbers sent m
 abbrev pub static_reports_of : List Sent → ℕ → List StaticReport
 static_reports_of sent mmsi = filter_map (λ one. static_in one.message) (messages_of sent mmsi)
 
--- her name, and her type and size, each as it was told last
-unfoldable pub statics_of : List Sent → ℕ → Statics
-statics_of sent mmsi = record {
-  name = last_or None (filter_map (λ report. report.name) (static_reports_of sent mmsi));
-  ship = last_or None (filter_map (λ report. report.ship) (static_reports_of sent mmsi));
+-- name, and type and size, each as it was told last
+abbrev pub last_told : List StaticReport → Statics
+last_told reports = record {
+  name = last_or None (filter_map (λ report. report.name) reports);
+  ship = last_or None (filter_map (λ report. report.ship) reports);
 }
+
+-- what she told of herself
+unfoldable pub statics_of : List Sent → ℕ → Statics
+statics_of sent mmsi = last_told (static_reports_of sent mmsi)
 
 -- ---- the vessels that are held
 

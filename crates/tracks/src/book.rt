@@ -1,5 +1,5 @@
 //! The book of vessels.
-ghost use Rattle.std.specs.Prelude.{ℕ, ◌≡◌, ◌<◌, ◌≤◌, ◌++◌, ◌∷◌, [], ◌↔◌, All, Contains, Err, IfOk, IfSome, List, None, OnErr, OnOk, Some, length, slice_get, vec_len, if◌then◌else◌};
+ghost use Rattle.std.specs.Prelude.{ℕ, true, ◌≡◌, ◌<◌, ◌≤◌, ◌++◌, ◌∷◌, [], ◌↔◌, All, Contains, Err, IfOk, IfSome, List, None, OnErr, OnOk, Some, length, slice_get, vec_len, if◌then◌else◌};
 ghost use Rattle.std.specs.List.{insert};
 ghost use Rattle.std.specs.Option.{option_copied};
 ghost use Rattle.ais_messages.specs.MessageFields.{IsMessage};
@@ -178,10 +178,28 @@ impl Book {
         if self.held.len() >= MOST_VESSELS {
             return Err(BookFault::TooManyVessels);
         }
+        match self.hold(at, mmsi, message, time) {
+            Ok(()) => Ok(entry),
+            Err(_) => Err(BookFault::Memory),
+        }
+    }
+
+    /// Takes a message that makes its vessel held.
+    fn hold(&mut self, at: usize, mmsi: u32, message: &Message, time: u64) -> Result<(), Memory>
+        requires message { IsMessage message.now }
+        requires sender { mmsi ≡ sender_of message.now }
+        requires place { at ≤ length self.old.held }
+        requires absent { ¬ Contains self.old.held mmsi }
+        requires more { with_number mmsi self.old.held ≡ insert self.old.held at mmsi }
+        requires room { length self.old.held < 4096 }
+        requires holding { makes_held self.old.numbers (record { message = message.now; time = time }) ≡ true }
+        ensures stands { OnOk result ((numbers : Numbers) (sent : List Sent) → StandsFor self.old numbers sent
+            → StandsFor self.new numbers (sent ++ record { message = message.now; time = time } ∷ [])) }
+        ensures same { OnErr result (self.new ≡ self.old) }
+    {
         let mut vessel = Vessel::new(self.alloc);
         vessel.take(&self.numbers, message, time)?;
-        put(&mut self.held, &mut self.vessels, at, mmsi, vessel)?;
-        Ok(entry)
+        put(&mut self.held, &mut self.vessels, at, mmsi, vessel)
     }
 
     /// The vessel of this identity, if she is held.
