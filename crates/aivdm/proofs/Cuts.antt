@@ -31,10 +31,10 @@ cut-whole byte bytes y ys e =
     let test = λ (other : ℕ). other == byte in
     let place = position_or_len test bytes in
     elim (cases_lt place (length bytes)) [
-      inl there ↦
+      | inl there ↦
           split_at_first test bytes 0 there
           ∙ ap₂ (λ (b : ℕ) (l : List ℕ). before_byte byte bytes ++ b ∷ l) (eqb-true (get_or bytes place 0) byte (passes_at_first test bytes 0 there)) e
-    | inr past ↦ absurd (cons_no_nil (sym e ∙ drop_all (place + 1) bytes (omega arith)))
+      | inr past ↦ absurd (cons_no_nil (sym e ∙ drop_all (place + 1) bytes (omega arith)))
     ]
   where
     cons_no_nil : y ∷ ys ≡ [] → ⊥

@@ -278,7 +278,6 @@ address-fails (a ∷ []) = refl
 address-fails (a ∷ b ∷ []) = refl
 address-fails (mark ∷ a ∷ b ∷ rest) = FailsBy-if Other _ (kind_at rest) (Err Other) (kind-fails rest) refl
 
-
 -- ---- the sentence
 
 -- how a sentence is spelled, from left to right
@@ -394,10 +393,10 @@ pub cut-fails : (bytes : List ℕ) → FailsBy Form (cut_at bytes)
 unfolding cut_at digit_at letter_at
 cut-fails bytes =
     FailsBy-bind Form (count_at bytes) with_count (count-fails bytes) (λ count.
-      FailsBy-bind Form (digit_at count.2) (with_seq count) (optional-fails is_ascii_digit (λ byte. byte - 48) count.2) (λ seq.
-        FailsBy-bind Form (letter_at seq.1) (with_channel count seq.0) (optional-fails is_ascii_alphanumeric (λ byte. byte) seq.1) (λ channel.
-          FailsBy-bind Form (end_at (after_byte 44 channel.1)) (with_end count seq.0 channel.0 (before_byte 44 channel.1)) (end-fails (after_byte 44 channel.1)) (λ end.
-            FailsBy-if Form (length (before_byte 44 channel.1) == 0) (Err Form) _ refl tt))))
+    FailsBy-bind Form (digit_at count.2) (with_seq count) (optional-fails is_ascii_digit (λ byte. byte - 48) count.2) (λ seq.
+    FailsBy-bind Form (letter_at seq.1) (with_channel count seq.0) (optional-fails is_ascii_alphanumeric (λ byte. byte) seq.1) (λ channel.
+    FailsBy-bind Form (end_at (after_byte 44 channel.1)) (with_end count seq.0 channel.0 (before_byte 44 channel.1)) (end-fails (after_byte 44 channel.1)) (λ end.
+    FailsBy-if Form (length (before_byte 44 channel.1) == 0) (Err Form) _ refl tt))))
 
 -- ---- what is spelled so is cut so
 
@@ -505,6 +504,7 @@ rest_kind rest = by_address (outcome (address_at rest))
         → IsNoAddress rest ⊎ (IsNoForm rest ⊎ ((t : SentenceText) × IsText rest t))
     by_cut more a (inl (cut, e)) = inr (inr (is_text rest more cut a e))
     by_cut more a (inr (c, e)) = inr (inl (no_form rest more a (fails_by Form (cut_at more) c (cut-fails more) e)))
+
     by_address : ((more : List ℕ) × (address_at rest ≡ Ok more)) ⊎ ((c : LineCause) × (address_at rest ≡ Err c))
         → IsNoAddress rest ⊎ (IsNoForm rest ⊎ ((t : SentenceText) × IsText rest t))
     by_address (inl (more, a)) = by_cut more a (outcome (cut_at more))

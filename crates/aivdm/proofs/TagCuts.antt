@@ -35,6 +35,7 @@ parts_bytes (byte ∷ bytes) star slash =
     onto : (parts : List (List ℕ)) → IsTrue (is_field_byte byte) → AllByRecursion FieldBytes parts → AllByRecursion FieldBytes (onto_first byte parts)
     onto [] h all = ((h, tt), tt)
     onto (part ∷ parts) h all = ((h, all.0), all.1)
+
     by_comma : (b : Bool) → (byte == 44) ≡ b → AllByRecursion FieldBytes (slice_split (λ byte. byte == 44) bytes)
         → AllByRecursion FieldBytes (slice_split (λ byte. byte == 44) (byte ∷ bytes))
     by_comma true e all = rw e (tt, all)
@@ -188,8 +189,8 @@ stamps_read s (field ∷ fields) stamp e =
     let others = stamps_read (first_time s step.0) fields stamp step.2 in (
       ((read.some, read.digits), others.0),
       others.1
-      ∙ first_first s step.0 (stamp_of fields)
-      ∙ ap (first_time s) (ap (λ (t : Option ℕ). first_time t (stamp_of fields)) read.time_is ∙ sym (stamp_cons field fields)),
+          ∙ first_first s step.0 (stamp_of fields)
+          ∙ ap (first_time s) (ap (λ (t : Option ℕ). first_time t (stamp_of fields)) read.time_is ∙ sym (stamp_cons field fields)),
     )
 
 stamps_again : (s : Option ℕ) (fields : List (List ℕ)) → AreRead fields → stamp_among s fields ≡ Ok (first_time s (stamp_of fields))
@@ -412,10 +413,10 @@ unfolding block_at stamp_in with_stamp
 block-fails bytes =
     let content = before_byte 42 bytes in
     FailsBy-bind Tag (block_end (after_byte 42 bytes)) (with_stamp content) (end_block-fails (after_byte 42 bytes)) (λ end.
-      FailsBy-if Tag _ (stamp_in content >>= λ stamp. Ok (stamp, end.1)) (Err Tag)
-      (FailsBy-bind Tag (stamp_in content) (λ stamp. Ok (stamp, end.1))
-      (FailsBy-if Tag _ (stamp_among None (slice_split (λ byte. byte == 44) content)) (Err Tag) (stamps-fail None (slice_split (λ byte. byte == 44) content)) refl)
-      (λ stamp. tt)) refl)
+    FailsBy-if Tag _ (stamp_in content >>= λ stamp. Ok (stamp, end.1)) (Err Tag)
+    (FailsBy-bind Tag (stamp_in content) (λ stamp. Ok (stamp, end.1))
+    (FailsBy-if Tag _ (stamp_among None (slice_split (λ byte. byte == 44) content)) (Err Tag) (stamps-fail None (slice_split (λ byte. byte == 44) content)) refl)
+    (λ stamp. tt)) refl)
 
 pub tag-fails : (line : List ℕ) → FailsBy Tag (tag_at line)
 unfolding tag_at

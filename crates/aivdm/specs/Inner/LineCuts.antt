@@ -69,7 +69,7 @@ unfoldable pub block_at : List ℕ → Result (Option ℕ × List ℕ) LineCause
 block_at bytes =
     block_end (after_byte 42 bytes) >>= λ end.
     (if end.0 == sum_of (before_byte 42 bytes)
-     then (stamp_in (before_byte 42 bytes) >>= λ stamp. Ok (stamp, end.1)) else Err Tag)
+    then (stamp_in (before_byte 42 bytes) >>= λ stamp. Ok (stamp, end.1)) else Err Tag)
 
 -- the stamp of a line's tag block, and what follows the block
 unfoldable pub tag_at : List ℕ → Result (Option ℕ × List ℕ) LineCause

@@ -38,8 +38,8 @@ abbrev pub run_on : Begun → Taken → Begun
 run_on run part =
     if awaits run part
     then (if nat_lt (number_of_part part) (total_of part)
-          then record run { count = number_of_part part; bits = run.bits ++ part_bits part }
-          else record run { count = 0; bits = [] })
+    then record run { count = number_of_part part; bits = run.bits ++ part_bits part }
+    else record run { count = 0; bits = [] })
     else record run { count = 0 }
 
 -- what a part comes to, by the message of its key, if there is one

@@ -35,8 +35,8 @@ loop-byte-preserved c =
           ∙ ap (λ (bits : List Bool). bits ++ binary 6 c.from.result) c.loop-byte.invariant.bits
           ∙ append_assoc front (bits_of (take i payload) 0) (binary 6 c.from.result)
           ∙ ap (λ (bits : List Bool). front ++ bits) (
-            ap (λ (n : ℕ). bits_of (take i payload) 0 ++ binary 6 n) (c.from.ensures ∙ c.sextet.ensures.value)
-            ∙ sym (bits_of-more payload i c.loop-byte-test.true)
+          ap (λ (n : ℕ). bits_of (take i payload) 0 ++ binary 6 n) (c.from.ensures ∙ c.sextet.ensures.value)
+          ∙ sym (bits_of-more payload i c.loop-byte-test.true)
           );
       sextets = then;
       room = omega (arith, now.enough, now.needed, then.enough, then.needed, c.loop-byte.invariant.room, c.append_bits.ensures.capacity);
