@@ -1,5 +1,5 @@
 -- Bits that are appended to bits.
-use Rattle.std.proofs.Common.{◌≡◌, ℕ, zero, suc, ◌+◌, ◌-◌, ◌*◌, ◌/◌, ◌%◌, ◌^◌, ◌<◌, ◌≤◌, Bool, true, false, List, [], ◌∷◌, ◌++◌, length, take, drop, take_all, get_or, All, Option, Some, None, IsSome, unwrap_or, refl, sym, ap, ap₂, ◌∙◌, subst, arith, append_assoc, append-nil, pow-add, length-append, length-take, take-append-drop, take-take, mod-lt, lit<, mod-eq_of_lt, add-suc, zero-mul, one-mul}
+use Rattle.std.proofs.Common.{◌≡◌, ℕ, zero, suc, ◌+◌, ◌-◌, ◌*◌, ◌/◌, ◌%◌, ◌^◌, ◌<◌, ◌≤◌, Bool, true, false, List, [], ◌∷◌, ◌++◌, length, take, drop, take_all, get_or, All, Option, Some, None, IsSome, unwrap_or, refl, sym, ap, ap₂, ◌∙◌, subst, arith, append_assoc, append-nil, pow-add, length-append, length-take, take-append-drop, take-take, mod-lt, lit<, mod-eq_of_lt}
 use Rattle.std.proofs.lemmas.Grind.{flat_map-append}
 use Rattle.std.proofs.lemmas.List.{take_at, take-append-le}
 use Rattle.std.proofs.lemmas.List.Elements.{All-append, All-cons, All-nil}
@@ -12,7 +12,7 @@ use Rattle.aivdm.specs.BitFields.{binary, number_of}
 use Rattle.aivdm.specs.PayloadBits.{bits_of}
 use Rattle.aivdm.specs.Inner.Sextets.{bits_in, sextets_of, AreSextets}
 use Rattle.aivdm.proofs.Payloads.{bits_of-cut}
-use Rattle.aivdm.proofs.BitLists.{length-binary, number_of-append, number_of-below, number_of-binary, length-bits_in, length-take_bits_in}
+use Rattle.aivdm.proofs.BitLists.{length-binary, number_of-append, number_of-below, number_of-binary, length-bits_in}
 
 -- bits are the same where they are as many and stand for one number
 pub same_bits : (xs ys : List Bool) → length xs ≡ length ys → number_of xs ≡ number_of ys → xs ≡ ys

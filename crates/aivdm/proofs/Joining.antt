@@ -1,18 +1,16 @@
 -- What the joiner keeps of the sentences of a key, against the last of them.
-use Rattle.std.proofs.Common.{◌≡◌, ◌==◌, ◌&&◌, ℕ, zero, suc, ◌+◌, ◌-◌, ◌<◌, ◌≤◌, Bool, true, false, List, [], ◌∷◌, ◌++◌, length, drop, filter, flat_map, nat_eq, nat_lt, nat_le, Option, Some, None, ◌⊎◌, inl, inr, slice_get, if◌then◌else◌, refl, sym, ap, ap₂, ◌∙◌, subst, arith, append_assoc, append-nil, length-append, length-drop, eq-eqb}
-use Rattle.std.proofs.lemmas.Bool.{and_parts, and_from, and_left, and_right, le-leb, eqb-true, eqb-false, ne_eqb, ltb-true, ltb-false, lt-ltb, le-ltb, leb-true, cond-true, cond-false, cases_Bool, cases_lt, cases_eq, false≢true}
+use Rattle.std.proofs.Common.{◌≡◌, ◌==◌, ◌&&◌, ℕ, zero, suc, ◌+◌, ◌-◌, ◌<◌, ◌≤◌, Bool, true, false, List, [], ◌∷◌, ◌++◌, length, drop, nat_lt, nat_le, Option, Some, None, ◌⊎◌, inl, inr, slice_get, if◌then◌else◌, refl, sym, ap, ◌∙◌, subst, arith, append-nil, length-append, eq-eqb}
+use Rattle.std.proofs.lemmas.Bool.{and_parts, and_from, and_left, and_right, le-leb, eqb-true, ne_eqb, ltb-true, ltb-false, lt-ltb, leb-true, cond-true, cond-false, cases_eq, false≢true}
 use Rattle.std.proofs.lemmas.Bool.Decides.{nat_tests}
 use Rattle.std.proofs.lemmas.Grind.{flat_map-append}
 use Rattle.std.proofs.lemmas.List.{drop-append-le, drop_all}
 use Rattle.std.proofs.lemmas.List.Folds.{list_all-append}
-use Rattle.std.specs.List.{enumerate_from, find, list_all}
-use Rattle.std.specs.Option.{option_and_then, option_eq}
-use Rattle.aivdm.specs.FragmentJoining.{Taken, total_of, number_of_part, have_one_key, of_key, last_of, is_run, part_bits, joined_bits, joined_run, joined_of}
-use Rattle.aivdm.specs.Inner.OpenRuns.{has_key, begun_by, awaits, joined_on, run_on, joined_by, run_by, put, put_some, joined_next, runs_next}
+use Rattle.std.specs.List.{enumerate_from, list_all}
+use Rattle.std.specs.Option.{option_and_then}
+use Rattle.aivdm.specs.FragmentJoining.{Taken, total_of, number_of_part, last_of, is_run, part_bits, joined_bits, joined_run}
+use Rattle.aivdm.specs.Inner.OpenRuns.{begun_by, awaits, joined_on, run_on, joined_by, run_by}
 use Rattle.aivdm.specs.Inner.KeptParts.{open_behind, open_parts, Keeps, KeepsOpen}
-use Rattle.aivdm.specs.Sentences.{SentenceFields}
 use Rattle.aivdm.specs.declared.joiner.Begun.{Begun}
-use Rattle.aivdm.specs.declared.joiner.Joined.{Joined}
 use Rattle.aivdm.specs.declared.joiner.Joined.TheVariants.{Message, Waiting, Orphan}
 
 -- ---- lists with one element more at the end

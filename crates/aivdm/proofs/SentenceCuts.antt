@@ -1,20 +1,19 @@
 -- The cuts of a sentence against how a sentence is spelled.
-use Rattle.std.proofs.Common.{◌≡◌, ◌==◌, ◌&&◌, ◌||◌, ℕ, suc, ◌+◌, ◌-◌, ◌≤◌, Bool, true, false, List, [], ◌∷◌, ◌++◌, length, take, drop, nat_le, All, IsTrue, Option, Some, None, IsSome, IfSome, ◌⊎◌, inl, inr, Result, Ok, Err, slice_get, if◌then◌else◌, refl, sym, ap, ◌∙◌, subst, arith, append_assoc, length-append, eq-eqb}
-use Rattle.std.proofs.lemmas.Bool.{and_parts, and_from, eqb-true, ne_eqb, false≢true, leb-true, le-leb, cond-true, cond-false}
-use Rattle.std.proofs.lemmas.Bool.Decides.{nat_tests}
+use Rattle.std.proofs.Common.{◌≡◌, ◌==◌, ◌&&◌, ◌||◌, ℕ, suc, ◌+◌, ◌-◌, ◌≤◌, Bool, true, false, List, [], ◌∷◌, ◌++◌, length, nat_le, All, IsTrue, Option, Some, None, IsSome, ◌⊎◌, inl, inr, Ok, Err, slice_get, if◌then◌else◌, refl, sym, ap, ◌∙◌, subst, arith, append_assoc, length-append}
+use Rattle.std.proofs.lemmas.Bool.{and_parts, eqb-true, ne_eqb, false≢true, leb-true, le-leb, cond-true}
 use Rattle.std.proofs.lemmas.List.{take_at}
 use Rattle.std.proofs.lemmas.List.Elements.{All-from_recursion}
 use Rattle.std.specs.List.{list_all}
 use Rattle.std.specs.Option.{option_map}
-use Rattle.std.specs.Char.{is_ascii_uppercase, is_ascii_digit, is_ascii_alphanumeric}
+use Rattle.std.specs.Char.{is_ascii_digit, is_ascii_alphanumeric}
 use Rattle.aivdm.specs.Checksums.{sum_of, hexadecimal}
 use Rattle.aivdm.specs.Inner.LineCuts.{◌>>=◌, told_or, before_byte, after_byte, is_talker_byte, kind_at, address_at, count_at, after_comma, optional_at, digit_at, letter_at, is_suffix, end_at, Cut, with_end, with_channel, with_seq, with_count, cut_at, summed_in, tested, sentence_at}
-use Rattle.aivdm.specs.LineReading.{SentenceText, summed, sentence_text, IsAddress, IsOptional, IsSuffix, HasForm, HasSum, IsArmoured, fields_of, BeginsAsSentence}
+use Rattle.aivdm.specs.LineReading.{SentenceText, summed, sentence_text, IsAddress, IsOptional, IsSuffix, HasForm, fields_of, BeginsAsSentence}
 use Rattle.aivdm.specs.PayloadBits.{is_armour}
 use Rattle.aivdm.specs.Sentences.{SentenceFields}
 use Rattle.aivdm.specs.declared.sentence.LineCause.{LineCause}
 use Rattle.aivdm.specs.declared.sentence.LineCause.TheVariants.{Other, Form, Sum, Armour}
-use Rattle.aivdm.proofs.Cuts.{Lacks, before-cut, after-cut, cut-whole, before-lacks}
+use Rattle.aivdm.proofs.Cuts.{before-cut, after-cut, cut-whole, before-lacks}
 use Rattle.aivdm.proofs.Steps.{bind_ok, bind_at, bind_fails, if_ok, unless_ok, outcome, ok_no_error, FailsBy, FailsBy-bind, FailsBy-if, fails_by, told_from, told-fails}
 
 -- ---- total and number

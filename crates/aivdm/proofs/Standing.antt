@@ -1,5 +1,5 @@
 -- The joiner stands for the sentences that it has taken, one more each time.
-use Rattle.std.proofs.Common.{◌≡◌, ◌==◌, ◌&&◌, ℕ, suc, ◌+◌, ◌<◌, ◌≤◌, Bool, true, false, cond, not, List, [], ◌∷◌, ◌++◌, length, set, get_or, filter, nat_eq, nat_lt, Option, Some, None, Result, Ok, Err, IfOk, OnOk, position, slice_get, if◌then◌else◌, refl, sym, ap, ap₂, ◌∙◌, subst, arith, append-nil, eq-eqb, one-add}
+use Rattle.std.proofs.Common.{◌≡◌, ◌==◌, ◌&&◌, ℕ, suc, ◌+◌, ◌<◌, ◌≤◌, Bool, true, false, cond, not, List, [], ◌∷◌, ◌++◌, length, set, get_or, filter, nat_eq, nat_lt, Option, Some, None, position, slice_get, if◌then◌else◌, refl, sym, ap, ap₂, ◌∙◌, subst, arith, append-nil, eq-eqb}
 use Rattle.std.proofs.lemmas.Bool.{and_parts, and_from, and_left, and_right, eqb-true, ne_eqb, lt-ltb, le-ltb, ltb-true, ltb-false, cond-true, cond-false, false_from_ne_true, false≢true}
 use Rattle.std.proofs.lemmas.List.Elements.{filter-append}
 use Rattle.std.proofs.lemmas.List.Folds.{find_at}
@@ -12,9 +12,8 @@ use Rattle.aivdm.specs.Inner.KeptParts.{open_parts, KeepsOpen}
 use Rattle.aivdm.specs.OpenMessages.{StandsFor}
 use Rattle.aivdm.specs.Sentences.{SentenceFields}
 use Rattle.aivdm.specs.declared.joiner.Begun.{Begun}
-use Rattle.aivdm.specs.declared.joiner.Joined.{Joined}
 use Rattle.aivdm.specs.declared.joiner.Joined.TheVariants.{Message, Waiting, Orphan}
-use Rattle.aivdm.proofs.Joining.{Steps, closed_run, first_joined, first_run, last_number, orphan_run, steps}
+use Rattle.aivdm.proofs.Joining.{closed_run, first_joined, first_run, last_number, orphan_run, steps}
 
 -- ---- keys
 

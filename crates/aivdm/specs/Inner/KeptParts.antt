@@ -1,5 +1,5 @@
 -- Which sentences of a key a joiner keeps.
-use Rattle.std.specs.Prelude.{ℕ, ◌≡◌, ◌-◌, ◌&&◌, List, [], ◌∷◌, length, nat_lt, Option, Some, None, slice_get, if◌then◌else◌}
+use Rattle.std.specs.Prelude.{◌≡◌, ◌-◌, ◌&&◌, List, [], ◌∷◌, length, nat_lt, Option, Some, None, slice_get, if◌then◌else◌}
 use Rattle.std.specs.Option.{option_and_then}
 use Rattle.aivdm.specs.FragmentJoining.{Taken, is_run, joined_bits, last_of, number_of_part, total_of}
 use Rattle.aivdm.specs.declared.joiner.Begun.{Begun}

@@ -1,6 +1,6 @@
-use Rattle.std.proofs.Common.{rules, ◌+◌, ◌++◌, Bool, List, ℕ, take, length, sym, ap, ◌∙◌, arith, append_assoc, append-nil, take_all}
+use Rattle.std.proofs.Common.{rules, ◌++◌, Bool, List, ℕ, take, sym, ap, ◌∙◌, arith, append_assoc, append-nil}
 use Rattle.aivdm.specs.BitFields.{binary}
-use Rattle.aivdm.specs.PayloadBits.{bits_of, six_bits}
+use Rattle.aivdm.specs.PayloadBits.{bits_of}
 use Rattle.aivdm.specs.Inner.Sextets.{bits_in}
 use Rattle.aivdm.proofs.Payloads.{bits_of-none, bits_of-more}
 use Rattle.aivdm.proofs.bits.append_sextets.Goals as goal

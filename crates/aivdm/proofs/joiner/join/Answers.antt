@@ -1,10 +1,9 @@
-use Rattle.std.proofs.Common.{◌≡◌, List, Option, Some, None, Result, IfOk, OnOk, position, slice_set, sym, ap, ◌∙◌, subst}
+use Rattle.std.proofs.Common.{◌≡◌, Some, None, position, slice_set, sym, ap, ◌∙◌}
 use Rattle.std.specs.List.{find}
 use Rattle.aivdm.specs.FragmentJoining.{Taken}
 use Rattle.aivdm.specs.Inner.OpenRuns.{has_key, joined_next, joined_on, put, run_on, runs_next}
 use Rattle.aivdm.specs.Sentences.{fields_seen}
 use Rattle.aivdm.specs.declared.joiner.Begun.{Begun}
-use Rattle.aivdm.specs.declared.joiner.Joined.{Joined}
 use Rattle.aivdm.proofs.Standing.{at_first, at_found, at_none, place_found, place_none, put_place}
 use Rattle.aivdm.proofs.Steps.{then_ok, then_on}
 use Rattle.aivdm.proofs.joiner.join.Goals as goal

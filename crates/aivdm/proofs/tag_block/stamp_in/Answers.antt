@@ -1,4 +1,4 @@
-use Rattle.std.proofs.Common.{◌≡◌, None, Some, Option, Err, is_some, Bor, List, ℕ, rules, sym, ap, ◌∙◌}
+use Rattle.std.proofs.Common.{◌≡◌, Option, Err, is_some, Bor, List, ℕ, rules, sym, ap, ◌∙◌}
 use Rattle.aivdm.specs.Inner.LineCuts.{stamp_among}
 use Rattle.aivdm.specs.Inner.Seen.{parts_left}
 use Rattle.aivdm.proofs.TagCuts.{plain_stamp, slashed_stamp, stamp_stops, none_from}

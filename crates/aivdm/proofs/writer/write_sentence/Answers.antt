@@ -1,4 +1,4 @@
-use Rattle.std.proofs.Common.{◌≡◌, Vec}
+use Rattle.std.proofs.Common.{◌≡◌}
 use Rattle.aivdm.specs.Inner.Armouring.{payload_of}
 use Rattle.aivdm.specs.SentenceWriting.{fill_of, line_text, IsWritten}
 use Rattle.aivdm.proofs.Steps.{then_ok}
