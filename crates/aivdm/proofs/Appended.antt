@@ -1,5 +1,5 @@
 -- Bits that are appended to bits.
-use Rattle.std.proofs.Common.{◌≡◌, ℕ, zero, suc, ◌+◌, ◌-◌, ◌*◌, ◌/◌, ◌%◌, ◌^◌, ◌<◌, ◌≤◌, Bool, true, false, List, [], ◌∷◌, ◌++◌, length, take, drop, take_all, get_or, All, Option, Some, None, IsSome, unwrap_or, refl, sym, ap, ap₂, ◌∙◌, subst, arith, append_assoc, append-nil, pow-add, length-append, length-take, take-append-drop, take-take, mod-lt, lit<, mod-eq_of_lt, add-suc, zero-mul, one-mul}
+use Rattle.std.proofs.Common.{◌≡◌, ℕ, zero, suc, ◌+◌, ◌-◌, ◌*◌, ◌/◌, ◌%◌, ◌^◌, ◌<◌, ◌≤◌, Bool, true, false, List, [], ◌∷◌, ◌++◌, length, take, drop, take_all, get_or, All, Option, Some, None, IsSome, unwrap_or, refl, sym, ap, ap₂, ◌∙◌, subst, arith, append_assoc, append-nil, pow-add, length-append, length-take, take-append-drop, take-take, mod-lt, lit<, mod-eq_of_lt}
 use Rattle.std.proofs.lemmas.Grind.{flat_map-append}
 use Rattle.std.proofs.lemmas.List.{take_at, take-append-le}
 use Rattle.std.proofs.lemmas.List.Elements.{All-append, All-cons, All-nil}
@@ -12,7 +12,7 @@ use Rattle.aivdm.specs.BitFields.{binary, number_of}
 use Rattle.aivdm.specs.PayloadBits.{bits_of}
 use Rattle.aivdm.specs.Inner.Sextets.{bits_in, sextets_of, AreSextets}
 use Rattle.aivdm.proofs.Payloads.{bits_of-cut}
-use Rattle.aivdm.proofs.BitLists.{length-binary, number_of-append, number_of-below, number_of-binary, length-bits_in, length-take_bits_in}
+use Rattle.aivdm.proofs.BitLists.{length-binary, number_of-append, number_of-below, number_of-binary, length-bits_in}
 
 -- bits are the same where they are as many and stand for one number
 pub same_bits : (xs ys : List Bool) → length xs ≡ length ys → number_of xs ≡ number_of ys → xs ≡ ys
@@ -93,10 +93,10 @@ appended whole kept width high value blank count fit small =
     ap (take (6 * length whole + places)) (bits_in-append whole (sextets_of count (number * 2 ^ blank)))
     ∙ take_past (bits_in whole) (bits_in (sextets_of count (number * 2 ^ blank))) (6 * length whole) places (length-bits_in whole)
     ∙ ap (λ (bits : List Bool). bits_in whole ++ bits) (
-      ap (take places) (bits_in-sextets_of count (number * 2 ^ blank) ∙ ap (λ (w : ℕ). binary w (number * 2 ^ blank)) (sym fit))
-      ∙ take-binary places blank (number * 2 ^ blank)
-      ∙ ap (binary places) back
-      ∙ binary-pair kept width high value small
+    ap (take places) (bits_in-sextets_of count (number * 2 ^ blank) ∙ ap (λ (w : ℕ). binary w (number * 2 ^ blank)) (sym fit))
+    ∙ take-binary places blank (number * 2 ^ blank)
+    ∙ ap (binary places) back
+    ∙ binary-pair kept width high value small
     )
 
 -- the last sextet and those before it
@@ -184,9 +184,9 @@ appended_so old whole new len kept width high value count front place six h v k 
     let places : len + width ≡ 6 * length whole + (kept + width) = omega arith in
     let sizes : length new ≡ length whole + count = ap length new_is ∙ length-append whole (sextets_of count number) ∙ ap (λ (n : ℕ). length whole + n) (length-sextets_of count number) in (
       ap₂ take places (ap bits_in new_is)
-      ∙ appended whole kept width high value blank count fit v
-      ∙ sym (append_assoc (bits_in whole) (binary kept high) (binary width value))
-      ∙ ap (λ (bits : List Bool). bits ++ binary width value) (sym front),
+          ∙ appended whole kept width high value blank count fit v
+          ∙ sym (append_assoc (bits_in whole) (binary kept high) (binary width value))
+          ∙ ap (λ (bits : List Bool). bits ++ binary width value) (sym front),
       record {
         enough = omega arith;
         needed = omega arith;
@@ -199,9 +199,9 @@ appended_so old whole new len kept width high value count front place six h v k 
 cut_bits : (items : List ℕ) (len k : ℕ) → len ≤ 6 * k → len ≤ 6 * length items → take len (bits_in (take k items)) ≡ take len (bits_in items)
 cut_bits items len k here there =
     sym (
-      ap (λ (xs : List ℕ). take len (bits_in xs)) (sym (take-append-drop k items))
-      ∙ ap (take len) (bits_in-append (take k items) (drop k items))
-      ∙ take-append-le len (bits_in (take k items)) (bits_in (drop k items)) (omega (arith, length-bits_in (take k items), length-take k items))
+    ap (λ (xs : List ℕ). take len (bits_in xs)) (sym (take-append-drop k items))
+    ∙ ap (take len) (bits_in-append (take k items) (drop k items))
+    ∙ take-append-le len (bits_in (take k items)) (bits_in (drop k items)) (omega (arith, length-bits_in (take k items), length-take k items))
     )
 
 pub filled : (items : List ℕ) (front : List Bool) (payload : List ℕ) (len fill : ℕ) → length front ≡ len → fill ≤ 5 → 1 ≤ length payload

@@ -1,5 +1,5 @@
 -- What stands before and after the first of some byte.
-use Rattle.std.proofs.Common.{◌≡◌, ◌==◌, ℕ, ◌+◌, ◌<◌, ◌≤◌, true, false, List, [], ◌∷◌, ◌++◌, length, take, drop, get_or, get_or-take, All, refl, sym, ap, ap₂, ◌∙◌, arith, eq-eqb, inl, inr, length-append, length-take, drop-drop}
+use Rattle.std.proofs.Common.{◌≡◌, ◌==◌, ℕ, ◌+◌, ◌<◌, false, List, [], ◌∷◌, ◌++◌, length, get_or, get_or-take, All, refl, sym, ap₂, ◌∙◌, arith, eq-eqb, inl, inr, length-append, length-take, drop-drop}
 use Rattle.std.proofs.lemmas.Bool.{cases_lt, eqb-true}
 use Rattle.std.proofs.lemmas.List.{drop_all, drop_at, take_at, get_or_append_left}
 use Rattle.std.proofs.lemmas.List.Sums.{split_at_first, fails_before_first, passes_at_first, position_or_len_is}
@@ -31,10 +31,10 @@ cut-whole byte bytes y ys e =
     let test = λ (other : ℕ). other == byte in
     let place = position_or_len test bytes in
     elim (cases_lt place (length bytes)) [
-      inl there ↦
+      | inl there ↦
           split_at_first test bytes 0 there
           ∙ ap₂ (λ (b : ℕ) (l : List ℕ). before_byte byte bytes ++ b ∷ l) (eqb-true (get_or bytes place 0) byte (passes_at_first test bytes 0 there)) e
-    | inr past ↦ absurd (cons_no_nil (sym e ∙ drop_all (place + 1) bytes (omega arith)))
+      | inr past ↦ absurd (cons_no_nil (sym e ∙ drop_all (place + 1) bytes (omega arith)))
     ]
   where
     cons_no_nil : y ∷ ys ≡ [] → ⊥

@@ -1,18 +1,16 @@
 -- What the joiner keeps of the sentences of a key, against the last of them.
-use Rattle.std.proofs.Common.{◌≡◌, ◌==◌, ◌&&◌, ℕ, zero, suc, ◌+◌, ◌-◌, ◌<◌, ◌≤◌, Bool, true, false, List, [], ◌∷◌, ◌++◌, length, drop, filter, flat_map, nat_eq, nat_lt, nat_le, Option, Some, None, ◌⊎◌, inl, inr, slice_get, if◌then◌else◌, refl, sym, ap, ap₂, ◌∙◌, subst, arith, append_assoc, append-nil, length-append, length-drop, eq-eqb}
-use Rattle.std.proofs.lemmas.Bool.{and_parts, and_from, and_left, and_right, le-leb, eqb-true, eqb-false, ne_eqb, ltb-true, ltb-false, lt-ltb, le-ltb, leb-true, cond-true, cond-false, cases_Bool, cases_lt, cases_eq, false≢true}
+use Rattle.std.proofs.Common.{◌≡◌, ◌==◌, ◌&&◌, ℕ, zero, suc, ◌+◌, ◌-◌, ◌<◌, ◌≤◌, Bool, true, false, List, [], ◌∷◌, ◌++◌, length, drop, nat_lt, nat_le, Option, Some, None, ◌⊎◌, inl, inr, slice_get, if◌then◌else◌, refl, sym, ap, ◌∙◌, subst, arith, append-nil, length-append, eq-eqb}
+use Rattle.std.proofs.lemmas.Bool.{and_parts, and_from, and_left, and_right, le-leb, eqb-true, ne_eqb, ltb-true, ltb-false, lt-ltb, leb-true, cond-true, cond-false, cases_eq, false≢true}
 use Rattle.std.proofs.lemmas.Bool.Decides.{nat_tests}
 use Rattle.std.proofs.lemmas.Grind.{flat_map-append}
 use Rattle.std.proofs.lemmas.List.{drop-append-le, drop_all}
 use Rattle.std.proofs.lemmas.List.Folds.{list_all-append}
-use Rattle.std.specs.List.{enumerate_from, find, list_all}
-use Rattle.std.specs.Option.{option_and_then, option_eq}
-use Rattle.aivdm.specs.FragmentJoining.{Taken, total_of, number_of_part, have_one_key, of_key, last_of, is_run, part_bits, joined_bits, joined_run, joined_of}
-use Rattle.aivdm.specs.Inner.OpenRuns.{has_key, begun_by, awaits, joined_on, run_on, joined_by, run_by, put, put_some, joined_next, runs_next}
-use Rattle.aivdm.specs.OpenMessages.{open_behind, open_parts, Keeps, KeepsOpen, StandsFor}
-use Rattle.aivdm.specs.Sentences.{SentenceFields}
+use Rattle.std.specs.List.{enumerate_from, list_all}
+use Rattle.std.specs.Option.{option_and_then}
+use Rattle.aivdm.specs.FragmentJoining.{Taken, total_of, number_of_part, last_of, is_run, part_bits, joined_bits, joined_run}
+use Rattle.aivdm.specs.Inner.OpenRuns.{begun_by, awaits, joined_on, run_on, joined_by, run_by}
+use Rattle.aivdm.specs.Inner.KeptParts.{open_behind, open_parts, Keeps, KeepsOpen}
 use Rattle.aivdm.specs.declared.joiner.Begun.{Begun}
-use Rattle.aivdm.specs.declared.joiner.Joined.{Joined}
 use Rattle.aivdm.specs.declared.joiner.Joined.TheVariants.{Message, Waiting, Orphan}
 
 -- ---- lists with one element more at the end
@@ -26,8 +24,8 @@ snoc_view : {X : Type 0} (xs : List X) → (xs ≡ []) ⊎ ((front : List X) × 
 snoc_view [] = inl refl
 snoc_view {X} (x ∷ xs) =
     elim (snoc_view xs) [
-      inl none ↦ inr ([], x, ap (λ (l : List X). x ∷ l) none)
-    | inr (front, last, e) ↦ inr (x ∷ front, last, ap (λ (l : List X). x ∷ l) e)
+      | inl none ↦ inr ([], x, ap (λ (l : List X). x ∷ l) none)
+      | inr (front, last, e) ↦ inr (x ∷ front, last, ap (λ (l : List X). x ∷ l) e)
     ]
 
 last_more : {X : Type 0} (k : ℕ) (xs : List X) (x : X) → last_of (suc k) (xs ++ x ∷ []) ≡ last_of k xs ++ x ∷ []
@@ -260,6 +258,7 @@ module _ (front : List Taken) (last : Taken) where
     where
       kept : List Taken
       kept = last_of (number_of_part last) before
+
       by_awaited : (first : Taken) (others : List Taken) (m : ℕ) → number_of_part last ≡ suc m → kept ≡ first ∷ others → is_run kept ≡ true → open_parts before ≡ Some kept
           → (b : Bool) → awaited found part ≡ b → awaited found part ≡ false
       by_awaited first others m n head run_kept open_now false e = e
@@ -275,10 +274,12 @@ module _ (front : List Taken) (last : Taken) where
           let runs : is_run (last_of (number_of_part part) (before ++ part ∷ [])) ≡ true
           = ap is_run looked ∙ run_more first others part ∙ and_from (is_run (first ∷ others)) (extends first (length (first ∷ others)) part) (ap is_run (sym head) ∙ run_kept) extends_now in
           absurd (false≢true (sym run ∙ runs))
+
       some_number : is_run kept ≡ true → (n : ℕ) → number_of_part last ≡ n → 1 ≤ n
       some_number run_kept zero e =
           absurd (false≢true (sym no_run ∙ ap is_run (sym (ap (λ (n : ℕ). last_of n before) e ∙ empty_run before)) ∙ run_kept))
       some_number run_kept (suc n) e = omega arith
+
       by_open : (b : Bool) → (is_run kept && nat_lt (number_of_part last) (total_of last)) ≡ b → awaited found part ≡ false
       by_open false e =
           closed_awaits found part (subst (KeepsOpen found) (open_is ∙ cond-false _ (Some kept) None e) keeps) two
@@ -374,14 +375,18 @@ on_step run parts part first others other within awaits_so keeps whole run_so = 
   where
     looked : List Taken
     looked = last_of (number_of_part part) (parts ++ part ∷ [])
+
     joined_is : joined_by (Some run) part ≡ (if nat_lt (number_of_part part) (total_of part) then Waiting else Message (run.bits ++ part_bits part))
     joined_is =
         cond-false _ Waiting (joined_on run part) other
         ∙ cond-true _ (if nat_lt (number_of_part part) (total_of part) then Waiting else Message (run.bits ++ part_bits part)) Orphan awaits_so
+
     bits_are : joined_bits looked ≡ run.bits ++ part_bits part
     bits_are = ap joined_bits whole ∙ joined_more first others part ∙ ap (λ (bits : List Bool). bits ++ part_bits part) (sym keeps.3)
+
     number_is : number_of_part part ≡ length (first ∷ (others ++ part ∷ []))
     number_is = run_last (first ∷ others) part (ap is_run (sym whole) ∙ run_so)
+
     by_end : (b : Bool) → nat_lt (number_of_part part) (total_of part) ≡ b → Steps (Some run) parts part
     by_end true below =
         let not_last : (number_of_part part == total_of part) ≡ false = ne_eqb (number_of_part part) (total_of part) (λ e. absurd (omega (arith, ltb-true (number_of_part part) (total_of part) below))) in
@@ -405,14 +410,57 @@ pub steps : (found : Option Begun) (parts : List Taken) (part : Taken) → Keeps
 unfolding awaited
 steps found parts part keeps some within more =
     elim (cases_eq (number_of_part part) 1) [
-      inl one ↦ step_first found parts part one more
-    | inr others ↦
-        let two : 2 ≤ number_of_part part = omega arith in
-        let other : (number_of_part part == 1) ≡ false = ne_eqb (number_of_part part) 1 others in
-        elim (goes found parts part keeps two within) [
-          inl on ↦
-              subst (λ (f : Option Begun). Steps f parts part) (sym on.found_is)
-              (on_step on.run parts part on.first on.others other within (ap (λ (f : Option Begun). awaited f part) (sym on.found_is) ∙ on.awaited_so) on.keeps on.whole on.run_so)
-        | inr off ↦ step_off found parts part two off
-        ]
+      | inl one ↦ step_first found parts part one more
+      | inr others ↦
+          let two : 2 ≤ number_of_part part = omega arith in
+          let other : (number_of_part part == 1) ≡ false = ne_eqb (number_of_part part) 1 others in
+          elim (goes found parts part keeps two within) [
+            | inl on ↦
+                subst (λ (f : Option Begun). Steps f parts part) (sym on.found_is)
+                (on_step on.run parts part on.first on.others other within (ap (λ (f : Option Begun). awaited f part) (sym on.found_is) ∙ on.awaited_so) on.keeps on.whole on.run_so)
+            | inr off ↦ step_off found parts part two off
+          ]
     ]
+
+-- ---- a whole message is closed
+
+waiting_no_message : {bits : List Bool} → Waiting ≡ Message bits → ⊥
+waiting_no_message e = cc
+
+orphan_no_message : {bits : List Bool} → Orphan ≡ Message bits → ⊥
+orphan_no_message e = cc
+
+pub closed_run : (front : List Taken) (last next : Taken) → number_of_part last ≡ total_of last → 2 ≤ number_of_part next → number_of_part next ≤ total_of next
+    → is_run (last_of (number_of_part next) ((front ++ last ∷ []) ++ next ∷ [])) ≡ false
+closed_run front last next whole two within = by_run (is_run looked) refl
+  where
+    looked : List Taken
+    looked = last_of (number_of_part next) ((front ++ last ∷ []) ++ next ∷ [])
+
+    by_run : (b : Bool) → is_run looked ≡ b → is_run looked ≡ false
+    by_run false run = run
+    by_run true run =
+        let j = from_two (number_of_part next) two in
+        let head = head_view (last_of j.0 front) last in
+        let parts = last_of j.0 front ++ last ∷ [] in
+        let whole_run : looked ≡ head.0 ∷ (head.1 ++ next ∷ []) = looked_at front last next j.0 j.1 ∙ ap (λ (l : List Taken). l ++ next ∷ []) head.2 in
+        let both = run_parts head.0 head.1 next (ap is_run (sym whole_run) ∙ run) in
+        let size : length parts ≡ length (head.0 ∷ head.1) = ap length head.2 in
+        let last_number : number_of_part last ≡ length parts = run_last (last_of j.0 front) last (ap is_run head.2 ∙ both.0) in
+        let last_total : total_of last ≡ total_of head.0 = run_total head.0 head.1 (last_of j.0 front) last (sym head.2) both.0 in
+        let next_total = both.1.total in
+        let next_number = both.1.number in
+        absurd (omega arith)
+
+-- a sentence of several that completes a message has the number of its total
+pub last_number : (last : Taken) (run : List Taken) (bits : List Bool) → joined_run last run ≡ Message bits → number_of_part last ≡ total_of last
+unfolding joined_run
+last_number last run bits e = by_tests (is_run run) (number_of_part last == total_of last) refl e
+  where
+    by_tests : (r b : Bool) → (number_of_part last == total_of last) ≡ b → (if r then (if b then Message (joined_bits run) else Waiting) else Orphan) ≡ Message bits → number_of_part last ≡ total_of last
+    by_tests true true h e = eqb-true (number_of_part last) (total_of last) h
+    by_tests true false h e = absurd (waiting_no_message e)
+    by_tests false b h e = absurd (orphan_no_message e)
+
+pub orphan_run : (last : Taken) (run : List Taken) → is_run run ≡ false → joined_run last run ≡ Orphan
+orphan_run last run e = joined_when last run false (number_of_part last == total_of last) e refl

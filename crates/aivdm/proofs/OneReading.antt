@@ -1,6 +1,6 @@
 -- Each line has one reading.
-use Rattle.std.proofs.Common.{◌≡◌, ◌==◌, ℕ, zero, suc, ◌+◌, ◌<◌, ◌≤◌, Bool, true, false, List, [], ◌∷◌, ◌++◌, length, get_or, nat_lt, All, IsTrue, Option, Some, None, ◌⊎◌, inl, inr, Result, Ok, Err, slice_get, if◌then◌else◌, refl, sym, ap, ◌∙◌, subst, arith, length-append, eq-eqb}
-use Rattle.std.proofs.lemmas.Bool.{eqb-true, eqb-false, cond-true, cond-false, ltb-true, ltb-false, le-ltb, cases_order, false≢true}
+use Rattle.std.proofs.Common.{◌≡◌, ◌==◌, ℕ, zero, suc, ◌+◌, ◌<◌, ◌≤◌, Bool, true, false, List, [], ◌∷◌, ◌++◌, length, get_or, nat_lt, All, Option, Some, ◌⊎◌, inl, inr, Result, Ok, Err, if◌then◌else◌, refl, sym, ap, ◌∙◌, subst, arith, length-append, eq-eqb}
+use Rattle.std.proofs.lemmas.Bool.{eqb-true, eqb-false, cond-true, cond-false, ltb-true, ltb-false, cases_order}
 use Rattle.std.proofs.lemmas.List.{get_or_append_left}
 use Rattle.std.proofs.lemmas.List.Elements.{All-from_recursion}
 use Rattle.std.proofs.lemmas.List.Sums.{AllPass-from_list_all, list_all-from_AllPass}
@@ -96,12 +96,12 @@ first_at before after c line place none applies =
 one_first : (c d : LineCause) (line : List ℕ) → IsFirstCause c line → IsFirstCause d line → c ≡ d
 one_first c d line first other =
     elim (cases_order (rank c) (rank d)) [
-      inl same ↦ same_cause c d same
-    | inr apart ↦
-        elim apart [
-          inl below ↦ absurd (first_earlier d line other c below first.applies)
-        | inr above ↦ absurd (first_earlier c line first d above other.applies)
-        ]
+      | inl same ↦ same_cause c d same
+      | inr apart ↦
+          elim apart [
+            | inl below ↦ absurd (first_earlier d line other c below first.applies)
+            | inr above ↦ absurd (first_earlier c line first d above other.applies)
+          ]
     ]
 
 -- ---- one tag block, or none
@@ -147,16 +147,16 @@ module _ (line : List ℕ) (tag : Option ℕ × List ℕ) (h : IsShort line tag)
   other_body : IsNoAddress tag.1 → IsBody line tag.0 (Err Other)
   other_body kind = (
     first_at (Empty ∷ Long ∷ Tag ∷ []) (Form ∷ Sum ∷ Armour ∷ []) Other line refl
-    (not_empty line h.some, (not_long line h.short, (not_tag, tt)))
-    (λ stamp rest tagged begins. kind.none (subst BeginsAsSentence (rest_is stamp rest tagged) begins)),
+        (not_empty line h.some, (not_long line h.short, (not_tag, tt)))
+        (λ stamp rest tagged begins. kind.none (subst BeginsAsSentence (rest_is stamp rest tagged) begins)),
     (tag.1, tagged_so),
   )
 
   form_body : IsNoForm tag.1 → IsBody line tag.0 (Err Form)
   form_body kind = (
     first_at (Empty ∷ Long ∷ Tag ∷ Other ∷ []) (Sum ∷ Armour ∷ []) Form line refl
-    (not_empty line h.some, (not_long line h.short, (not_tag, (not_other kind.begins, tt))))
-    (λ stamp t tagged form. kind.none t (sym (rest_is stamp (sentence_text t) tagged)) form),
+        (not_empty line h.some, (not_long line h.short, (not_tag, (not_other kind.begins, tt))))
+        (λ stamp t tagged form. kind.none t (sym (rest_is stamp (sentence_text t) tagged)) form),
     (tag.1, tagged_so),
   )
 
@@ -185,8 +185,8 @@ module _ (line : List ℕ) (tag : Option ℕ × List ℕ) (h : IsShort line tag)
     sum_body : sentence_at tag.1 ≡ Err Sum → IsBody line tag.0 (Err Sum)
     sum_body e = (
       first_at (Empty ∷ Long ∷ Tag ∷ Other ∷ Form ∷ []) (Armour ∷ []) Sum line refl
-      (not_empty line h.some, (not_long line h.short, (not_tag, (not_other begins, (not_form, tt)))))
-      (λ stamp u tagged form sum. no_sum (list_all is_armour u.payload) (fields_of u) (sym (read_right stamp u tagged form sum) ∙ e)),
+          (not_empty line h.some, (not_long line h.short, (not_tag, (not_other begins, (not_form, tt)))))
+          (λ stamp u tagged form sum. no_sum (list_all is_armour u.payload) (fields_of u) (sym (read_right stamp u tagged form sum) ∙ e)),
       (tag.1, tagged_so),
     )
       where
@@ -197,9 +197,9 @@ module _ (line : List ℕ) (tag : Option ℕ × List ℕ) (h : IsShort line tag)
     armour_body : HasSum t → sentence_at tag.1 ≡ Err Armour → IsBody line tag.0 (Err Armour)
     armour_body sum e = (
       first_at (Empty ∷ Long ∷ Tag ∷ Other ∷ Form ∷ Sum ∷ []) [] Armour line refl
-      (not_empty line h.some, (not_long line h.short, (not_tag, (not_other begins, (not_form, ((λ applies. applies tag.0 t text_tagged text.form sum), tt))))))
-      (λ stamp u tagged form right armour.
-        ok_no_error (sym (cond-true _ (Ok (fields_of u)) (Err Armour) (list_all-from_AllPass is_armour u.payload armour)) ∙ sym (read_right stamp u tagged form right) ∙ e)),
+          (not_empty line h.some, (not_long line h.short, (not_tag, (not_other begins, (not_form, ((λ applies. applies tag.0 t text_tagged text.form sum), tt))))))
+          (λ stamp u tagged form right armour.
+          ok_no_error (sym (cond-true _ (Ok (fields_of u)) (Err Armour) (list_all-from_AllPass is_armour u.payload armour)) ∙ sym (read_right stamp u tagged form right) ∙ e)),
       (tag.1, tagged_so),
     )
 
@@ -215,6 +215,7 @@ module _ (line : List ℕ) (tag : Option ℕ × List ℕ) (h : IsShort line tag)
       where
         read : sentence_at tag.1 ≡ (if text.told == sum_of (summed t) then (if list_all is_armour t.payload then Ok (fields_of t) else Err Armour) else Err Sum)
         read = read_by tag.0 t text.told text_tagged text.form text.tells
+
         by_armour : (a : Bool) → list_all is_armour t.payload ≡ a → HasSum t → sentence_at tag.1 ≡ (if list_all is_armour t.payload then Ok (fields_of t) else Err Armour)
             → IsBody line tag.0 (sentence_at tag.1)
         by_armour true armour sum passed =
@@ -222,6 +223,7 @@ module _ (line : List ℕ) (tag : Option ℕ × List ℕ) (h : IsShort line tag)
         by_armour false armour sum passed =
             let e : sentence_at tag.1 ≡ Err Armour = passed ∙ cond-false _ (Ok (fields_of t)) (Err Armour) armour in
             subst (IsBody line tag.0) (sym e) (armour_body sum e)
+
         by_tests : (b a : Bool) → (text.told == sum_of (summed t)) ≡ b → list_all is_armour t.payload ≡ a → IsBody line tag.0 (sentence_at tag.1)
         by_tests true a right armour =
             let sum : HasSum t = text.tells ∙ ap Some (eqb-true text.told (sum_of (summed t)) right) in
@@ -234,12 +236,12 @@ module _ (line : List ℕ) (tag : Option ℕ × List ℕ) (h : IsShort line tag)
   rest_body : IsBody line tag.0 (sentence_at tag.1)
   rest_body =
       elim (rest_kind tag.1) [
-        inl kind ↦ subst (IsBody line tag.0) (sym kind.read) (other_body kind)
-      | inr others ↦
-          elim others [
-            inl kind ↦ subst (IsBody line tag.0) (sym kind.read) (form_body kind)
-          | inr text ↦ text_body text.0 text.1
-          ]
+        | inl kind ↦ subst (IsBody line tag.0) (sym kind.read) (other_body kind)
+        | inr others ↦
+            elim others [
+              | inl kind ↦ subst (IsBody line tag.0) (sym kind.read) (form_body kind)
+              | inr text ↦ text_body text.0 text.1
+            ]
       ]
 
 -- ---- each line
@@ -259,10 +261,11 @@ reads line = by_empty (length line == 0) refl
         let fails : tag_at line ≡ Err Tag = fails_by Tag (tag_at line) c (tag-fails line) e in
         subst (λ (r : Result (Option ℕ × List ℕ) LineCause). IsReading line (read_from r)) (sym fails) (
           first_at (Empty ∷ Long ∷ []) (Other ∷ Form ∷ Sum ∷ Armour ∷ []) Tag line refl
-          (not_empty line some, (not_long line short, tt))
-          (λ stamp rest tagged. ok_no_error (sym (tag_again line stamp rest tagged) ∙ fails)),
+              (not_empty line some, (not_long line short, tt))
+              (λ stamp rest tagged. ok_no_error (sym (tag_again line stamp rest tagged) ∙ fails)),
           refl,
         )
+
     by_long : (length line == 0) ≡ false → (b : Bool) → nat_lt 1024 (length line) ≡ b
         → IsReading line (if b then dropped Long else read_from (tag_at line))
     by_long some true long = (
@@ -270,6 +273,7 @@ reads line = by_empty (length line == 0) refl
       refl,
     )
     by_long some false short = by_tag some (ltb-false 1024 (length line) short) (outcome (tag_at line))
+
     by_empty : (b : Bool) → (length line == 0) ≡ b
         → IsReading line (if b then dropped Empty else (if nat_lt 1024 (length line) then dropped Long else read_from (tag_at line)))
     by_empty true none = (
@@ -313,8 +317,8 @@ same_text line a b t u p q =
     = same_tag line (b, sentence_text u) a (sentence_text t) (tag_again line b (sentence_text u) q.tagged) p.tagged in (
       ap (λ (r : Option ℕ × List ℕ). r.0) tags,
       ok_same (sentence_at (sentence_text u)) (fields_of t) (fields_of u)
-      (ap sentence_at (sym (ap (λ (r : Option ℕ × List ℕ). r.1) tags)) ∙ read t p.form p.sum p.armour)
-      (read u q.form q.sum q.armour),
+          (ap sentence_at (sym (ap (λ (r : Option ℕ × List ℕ). r.1) tags)) ∙ read t p.form p.sum p.armour)
+          (read u q.form q.sum q.armour),
     )
   where
     read : (v : SentenceText) → HasForm v → HasSum v → IsArmoured v.payload → sentence_at (sentence_text v) ≡ Ok (fields_of v)

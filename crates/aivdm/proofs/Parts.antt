@@ -1,5 +1,5 @@
 -- The place of a byte, and the parts of bytes round it.
-use Rattle.std.proofs.Common.{◌≡◌, ◌==◌, ℕ, zero, suc, ◌+◌, ◌-◌, ◌<◌, ◌≤◌, Bool, true, false, List, [], ◌∷◌, length, take, drop, get_or, All, Option, Some, None, position, nat_lt, if◌then◌else◌, refl, sym, ap, ◌∙◌, arith, length-drop, take_all}
+use Rattle.std.proofs.Common.{◌≡◌, ℕ, zero, suc, ◌+◌, ◌-◌, ◌<◌, ◌≤◌, Bool, true, false, List, [], ◌∷◌, length, take, drop, get_or, All, Some, None, position, nat_lt, if◌then◌else◌, refl, ◌∙◌, arith, length-drop, take_all}
 use Rattle.std.proofs.lemmas.Bool.{and_left, and_right, ltb-true, ltb-false}
 use Rattle.std.proofs.lemmas.List.Splits.{slice_split_first, slice_split_none}
 use Rattle.std.proofs.lemmas.List.Sums.{fails_before_first}

@@ -1,20 +1,19 @@
 -- The cuts of a sentence against how a sentence is spelled.
-use Rattle.std.proofs.Common.{◌≡◌, ◌==◌, ◌&&◌, ◌||◌, ℕ, suc, ◌+◌, ◌-◌, ◌≤◌, Bool, true, false, List, [], ◌∷◌, ◌++◌, length, take, drop, nat_le, All, IsTrue, Option, Some, None, IsSome, IfSome, ◌⊎◌, inl, inr, Result, Ok, Err, slice_get, if◌then◌else◌, refl, sym, ap, ◌∙◌, subst, arith, append_assoc, length-append, eq-eqb}
-use Rattle.std.proofs.lemmas.Bool.{and_parts, and_from, eqb-true, ne_eqb, false≢true, leb-true, le-leb, cond-true, cond-false}
-use Rattle.std.proofs.lemmas.Bool.Decides.{nat_tests}
+use Rattle.std.proofs.Common.{◌≡◌, ◌==◌, ◌&&◌, ◌||◌, ℕ, suc, ◌+◌, ◌-◌, ◌≤◌, Bool, true, false, List, [], ◌∷◌, ◌++◌, length, nat_le, All, IsTrue, Option, Some, None, IsSome, ◌⊎◌, inl, inr, Ok, Err, slice_get, if◌then◌else◌, refl, sym, ap, ◌∙◌, subst, arith, append_assoc, length-append}
+use Rattle.std.proofs.lemmas.Bool.{and_parts, eqb-true, ne_eqb, false≢true, leb-true, le-leb, cond-true}
 use Rattle.std.proofs.lemmas.List.{take_at}
 use Rattle.std.proofs.lemmas.List.Elements.{All-from_recursion}
 use Rattle.std.specs.List.{list_all}
 use Rattle.std.specs.Option.{option_map}
-use Rattle.std.specs.Char.{is_ascii_uppercase, is_ascii_digit, is_ascii_alphanumeric}
+use Rattle.std.specs.Char.{is_ascii_digit, is_ascii_alphanumeric}
 use Rattle.aivdm.specs.Checksums.{sum_of, hexadecimal}
 use Rattle.aivdm.specs.Inner.LineCuts.{◌>>=◌, told_or, before_byte, after_byte, is_talker_byte, kind_at, address_at, count_at, after_comma, optional_at, digit_at, letter_at, is_suffix, end_at, Cut, with_end, with_channel, with_seq, with_count, cut_at, summed_in, tested, sentence_at}
-use Rattle.aivdm.specs.LineReading.{SentenceText, summed, sentence_text, IsAddress, IsOptional, IsSuffix, HasForm, HasSum, IsArmoured, fields_of, BeginsAsSentence}
+use Rattle.aivdm.specs.LineReading.{SentenceText, summed, sentence_text, IsAddress, IsOptional, IsSuffix, HasForm, fields_of, BeginsAsSentence}
 use Rattle.aivdm.specs.PayloadBits.{is_armour}
 use Rattle.aivdm.specs.Sentences.{SentenceFields}
 use Rattle.aivdm.specs.declared.sentence.LineCause.{LineCause}
 use Rattle.aivdm.specs.declared.sentence.LineCause.TheVariants.{Other, Form, Sum, Armour}
-use Rattle.aivdm.proofs.Cuts.{Lacks, before-cut, after-cut, cut-whole, before-lacks}
+use Rattle.aivdm.proofs.Cuts.{before-cut, after-cut, cut-whole, before-lacks}
 use Rattle.aivdm.proofs.Steps.{bind_ok, bind_at, bind_fails, if_ok, unless_ok, outcome, ok_no_error, FailsBy, FailsBy-bind, FailsBy-if, fails_by, told_from, told-fails}
 
 -- ---- total and number
@@ -278,7 +277,6 @@ address-fails (a ∷ []) = refl
 address-fails (a ∷ b ∷ []) = refl
 address-fails (mark ∷ a ∷ b ∷ rest) = FailsBy-if Other _ (kind_at rest) (Err Other) (kind-fails rest) refl
 
-
 -- ---- the sentence
 
 -- how a sentence is spelled, from left to right
@@ -394,10 +392,10 @@ pub cut-fails : (bytes : List ℕ) → FailsBy Form (cut_at bytes)
 unfolding cut_at digit_at letter_at
 cut-fails bytes =
     FailsBy-bind Form (count_at bytes) with_count (count-fails bytes) (λ count.
-      FailsBy-bind Form (digit_at count.2) (with_seq count) (optional-fails is_ascii_digit (λ byte. byte - 48) count.2) (λ seq.
-        FailsBy-bind Form (letter_at seq.1) (with_channel count seq.0) (optional-fails is_ascii_alphanumeric (λ byte. byte) seq.1) (λ channel.
-          FailsBy-bind Form (end_at (after_byte 44 channel.1)) (with_end count seq.0 channel.0 (before_byte 44 channel.1)) (end-fails (after_byte 44 channel.1)) (λ end.
-            FailsBy-if Form (length (before_byte 44 channel.1) == 0) (Err Form) _ refl tt))))
+    FailsBy-bind Form (digit_at count.2) (with_seq count) (optional-fails is_ascii_digit (λ byte. byte - 48) count.2) (λ seq.
+    FailsBy-bind Form (letter_at seq.1) (with_channel count seq.0) (optional-fails is_ascii_alphanumeric (λ byte. byte) seq.1) (λ channel.
+    FailsBy-bind Form (end_at (after_byte 44 channel.1)) (with_end count seq.0 channel.0 (before_byte 44 channel.1)) (end-fails (after_byte 44 channel.1)) (λ end.
+    FailsBy-if Form (length (before_byte 44 channel.1) == 0) (Err Form) _ refl tt))))
 
 -- ---- what is spelled so is cut so
 
@@ -505,6 +503,7 @@ rest_kind rest = by_address (outcome (address_at rest))
         → IsNoAddress rest ⊎ (IsNoForm rest ⊎ ((t : SentenceText) × IsText rest t))
     by_cut more a (inl (cut, e)) = inr (inr (is_text rest more cut a e))
     by_cut more a (inr (c, e)) = inr (inl (no_form rest more a (fails_by Form (cut_at more) c (cut-fails more) e)))
+
     by_address : ((more : List ℕ) × (address_at rest ≡ Ok more)) ⊎ ((c : LineCause) × (address_at rest ≡ Err c))
         → IsNoAddress rest ⊎ (IsNoForm rest ⊎ ((t : SentenceText) × IsText rest t))
     by_address (inl (more, a)) = by_cut more a (outcome (cut_at more))

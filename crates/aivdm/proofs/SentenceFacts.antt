@@ -1,16 +1,16 @@
 -- What the form of a line's sentence makes of its fields.
-use Rattle.std.proofs.Common.{◌≡◌, ◌==◌, ◌||◌, ℕ, ◌+◌, ◌-◌, ◌≤◌, true, List, [], ◌∷◌, ◌++◌, length, All, IsTrue, Option, Some, None, ◌⊎◌, inl, inr, IfSome, Result, Ok, Err, slice_get, refl, sym, ap, ◌∙◌, subst, arith, append_assoc, length-append}
+use Rattle.std.proofs.Common.{◌≡◌, ℕ, ◌-◌, ◌≤◌, true, List, [], ◌∷◌, ◌++◌, length, IsTrue, Option, inl, inr, IfSome, Ok, slice_get, refl, sym, ap, ◌∙◌, subst, arith, append_assoc, length-append}
 use Rattle.std.proofs.lemmas.Bool.Decides.{nat_tests}
 use Rattle.std.specs.Char.{is_ascii_digit, is_ascii_alphanumeric}
 use Rattle.std.specs.Option.{option_map}
-use Rattle.aivdm.specs.LineReading.{SentenceText, sentence_text, IsOptional, HasForm, fields_of, IsSentenceLine, IsBody, IsReading}
+use Rattle.aivdm.specs.LineReading.{SentenceText, sentence_text, IsOptional, fields_of, IsSentenceLine, IsBody, IsReading}
 use Rattle.aivdm.specs.Sentences.{SentenceFields, LineContent, fields_seen, body_seen, reading_seen, IfSentence, IsSentence, IsPart}
 use Rattle.aivdm.specs.declared.sentence.Body.{Body}
 use Rattle.aivdm.specs.declared.sentence.Body.TheVariants as body
 use Rattle.aivdm.specs.declared.sentence.Reading.{Reading}
 use Rattle.aivdm.specs.declared.sentence.Sentence.{Sentence}
 use Rattle.aivdm.specs.TagBlocks.{IsTagged, block_text}
-use Rattle.aivdm.proofs.SentenceCuts.{fields_spelled, text_spelled}
+use Rattle.aivdm.proofs.SentenceCuts.{text_spelled}
 
 digit_seq : (seq : List ℕ) → IsOptional is_ascii_digit seq → IfSome (option_map (λ digit. digit - 48) (slice_get seq 0)) (λ digit. digit ≤ 9)
 digit_seq [] form = tt

@@ -1,19 +1,19 @@
 -- The joiner stands for the sentences that it has taken, one more each time.
-use Rattle.std.proofs.Common.{◌≡◌, ◌==◌, ◌&&◌, ℕ, suc, ◌+◌, ◌<◌, ◌≤◌, Bool, true, false, cond, not, List, [], ◌∷◌, ◌++◌, length, set, get_or, filter, nat_eq, nat_lt, Option, Some, None, Result, Ok, Err, IfOk, OnOk, position, slice_get, if◌then◌else◌, refl, sym, ap, ap₂, ◌∙◌, subst, arith, append-nil, eq-eqb, one-add}
+use Rattle.std.proofs.Common.{◌≡◌, ◌==◌, ◌&&◌, ℕ, suc, ◌+◌, ◌<◌, ◌≤◌, Bool, true, false, cond, not, List, [], ◌∷◌, ◌++◌, length, set, get_or, filter, nat_eq, nat_lt, Option, Some, None, position, slice_get, if◌then◌else◌, refl, sym, ap, ap₂, ◌∙◌, subst, arith, append-nil, eq-eqb}
 use Rattle.std.proofs.lemmas.Bool.{and_parts, and_from, and_left, and_right, eqb-true, ne_eqb, lt-ltb, le-ltb, ltb-true, ltb-false, cond-true, cond-false, false_from_ne_true, false≢true}
 use Rattle.std.proofs.lemmas.List.Elements.{filter-append}
 use Rattle.std.proofs.lemmas.List.Folds.{find_at}
 use Rattle.std.proofs.lemmas.Option.{slice_get-get_or, slice_get_past}
 use Rattle.std.specs.List.{find, position_or_len}
 use Rattle.std.specs.Option.{option_eq}
-use Rattle.aivdm.specs.FragmentJoining.{Taken, total_of, number_of_part, have_one_key, of_key, last_of, part_bits, joined_run, joined_of}
+use Rattle.aivdm.specs.FragmentJoining.{Taken, total_of, number_of_part, have_one_key, is_run, of_key, last_of, part_bits, joined_run, joined_of}
 use Rattle.aivdm.specs.Inner.OpenRuns.{has_key, awaits, begun_by, joined_on, run_on, joined_by, run_by, put, put_some, joined_next, runs_next}
-use Rattle.aivdm.specs.OpenMessages.{open_parts, KeepsOpen, StandsFor}
+use Rattle.aivdm.specs.Inner.KeptParts.{open_parts, KeepsOpen}
+use Rattle.aivdm.specs.OpenMessages.{StandsFor}
 use Rattle.aivdm.specs.Sentences.{SentenceFields}
 use Rattle.aivdm.specs.declared.joiner.Begun.{Begun}
-use Rattle.aivdm.specs.declared.joiner.Joined.{Joined}
 use Rattle.aivdm.specs.declared.joiner.Joined.TheVariants.{Message, Waiting, Orphan}
-use Rattle.aivdm.proofs.Joining.{Steps, first_joined, first_run, steps}
+use Rattle.aivdm.proofs.Joining.{closed_run, first_joined, first_run, last_number, orphan_run, steps}
 
 -- ---- keys
 
@@ -178,8 +178,8 @@ stands_more runs taken part stands some within more =
     = of_key_more key taken part true (and_from (nat_lt 1 (total_of part)) (have_one_key key part.sentence) several (own_key key)) in
     let not_one : (total_of part == 1) ≡ false = ne_eqb (total_of part) 1 (λ e. absurd (omega arith)) in (
       step.joined
-      ∙ ap (λ (l : List Taken). joined_run part (last_of (number_of_part part) l)) (sym counted)
-      ∙ sym (cond-false _ (Message (part_bits part)) (joined_run part (last_of (number_of_part part) (of_key key (taken ++ part ∷ [])))) not_one),
+          ∙ ap (λ (l : List Taken). joined_run part (last_of (number_of_part part) l)) (sym counted)
+          ∙ sym (cond-false _ (Message (part_bits part)) (joined_run part (last_of (number_of_part part) (of_key key (taken ++ part ∷ [])))) not_one),
       λ other. by_key other (have_one_key other key) refl step.keeps counted,
     )
   where
@@ -297,9 +297,9 @@ module _ (runs : List Begun) (part : Taken) where
       let other : (number_of_part part == 1) ≡ false = ne_eqb (number_of_part part) 1 later in (
         sym (joined_at runs part (Some run) e ∙ cond-false (number_of_part part == 1) Waiting (joined_on run part) other),
         sym (
-          runs_at runs part (Some run) e
-          ∙ ap (λ (r : Option Begun). put_some part.sentence r runs) (cond-false (number_of_part part == 1) (Some (begun_by part)) (Some (run_on run part)) other)
-        ),
+            runs_at runs part (Some run) e
+            ∙ ap (λ (r : Option Begun). put_some part.sentence r runs) (cond-false (number_of_part part == 1) (Some (begun_by part)) (Some (run_on run part)) other)
+            ),
       )
 
   pub at_none : (number_of_part part ≡ 1 → ⊥) → find (has_key part.sentence) runs ≡ None → (Orphan ≡ joined_next runs part) × (runs ≡ runs_next runs part)
@@ -309,12 +309,27 @@ module _ (runs : List Begun) (part : Taken) where
         sym (runs_at runs part None e ∙ ap (λ (r : Option Begun). put_some part.sentence r runs) (cond-false (number_of_part part == 1) (Some (begun_by part)) None other)),
       )
 
--- ---- what holds of an answer
+-- ---- a whole message is closed
 
-pub then_ok : {A E : Type 0} (r : Result A E) (P Q : A → Type 0) → IfOk r P → ((x : A) → P x → Q x) → IfOk r Q
-then_ok (Ok x) P Q p step = step x p
-then_ok (Err e) P Q p step = tt
-
-pub then_on : {A E : Type 0} (r : Result A E) (P Q : Type 0) → OnOk r P → (P → Q) → OnOk r Q
-then_on (Ok x) P Q p step = step p
-then_on (Err e) P Q p step = tt
+pub closed : (before : List Taken) (last next : Taken) (bits : List Bool) → 1 < total_of last → joined_of before last ≡ Message bits
+    → have_one_key next.sentence last.sentence ≡ true → 2 ≤ number_of_part next → number_of_part next ≤ total_of next
+    → joined_of (before ++ last ∷ []) next ≡ Orphan
+unfolding joined_of
+closed before last next bits several completes same two within =
+    let several_last : nat_lt 1 (total_of last) ≡ true = lt-ltb 1 (total_of last) several in
+    let several_next : nat_lt 1 (total_of next) ≡ true = lt-ltb 1 (total_of next) (omega arith) in
+    let last_not_one : (total_of last == 1) ≡ false = ne_eqb (total_of last) 1 (λ e. absurd (omega arith)) in
+    let next_not_one : (total_of next == 1) ≡ false = ne_eqb (total_of next) 1 (λ e. absurd (omega arith)) in
+    let run = last_of (number_of_part last) (of_key last.sentence (before ++ last ∷ [])) in
+    let whole : number_of_part last ≡ total_of last
+    = last_number last run bits (sym (cond-false _ (Message (part_bits last)) (joined_run last run) last_not_one) ∙ completes) in
+    let key = next.sentence in
+    let front = of_key key before in
+    let with_last : of_key key (before ++ last ∷ []) ≡ front ++ last ∷ []
+    = of_key_more key before last true (and_from (nat_lt 1 (total_of last)) (have_one_key key last.sentence) several_last same) in
+    let with_next : of_key key ((before ++ last ∷ []) ++ next ∷ []) ≡ (front ++ last ∷ []) ++ next ∷ []
+    = of_key_more key (before ++ last ∷ []) next true (and_from (nat_lt 1 (total_of next)) (have_one_key key next.sentence) several_next (own_key key))
+    ∙ ap (λ (l : List Taken). l ++ next ∷ []) with_last in
+    let looked = last_of (number_of_part next) (of_key key ((before ++ last ∷ []) ++ next ∷ [])) in
+    cond-false _ (Message (part_bits next)) (joined_run next looked) next_not_one
+    ∙ orphan_run next looked (ap (λ (l : List Taken). is_run (last_of (number_of_part next) l)) with_next ∙ closed_run front last next whole two within)

@@ -1,5 +1,5 @@
--- Steps of which each may fail, one after another.
-use Rattle.std.proofs.Common.{◌≡◌, Bool, true, false, ◌⊎◌, inl, inr, ℕ, Option, Some, None, Result, Ok, Err, if◌then◌else◌, refl}
+-- Steps of which each may fail, one after another, and what holds of an answer.
+use Rattle.std.proofs.Common.{◌≡◌, Bool, true, false, ◌⊎◌, inl, inr, ℕ, Option, Some, None, Result, Ok, Err, IfOk, OnOk, if◌then◌else◌, refl}
 use Rattle.aivdm.specs.Inner.LineCuts.{◌>>=◌, told_or}
 use Rattle.aivdm.specs.declared.sentence.LineCause.{LineCause}
 
@@ -55,3 +55,13 @@ told_from c (Some sum) told e = cc
 pub told-fails : (c : LineCause) (o : Option ℕ) → FailsBy c (told_or c o)
 told-fails c None = refl
 told-fails c (Some sum) = tt
+
+-- ---- what holds of an answer
+
+pub then_ok : {A E : Type 0} (r : Result A E) (P Q : A → Type 0) → IfOk r P → ((x : A) → P x → Q x) → IfOk r Q
+then_ok (Ok x) P Q p step = step x p
+then_ok (Err e) P Q p step = tt
+
+pub then_on : {A E : Type 0} (r : Result A E) (P Q : Type 0) → OnOk r P → (P → Q) → OnOk r Q
+then_on (Ok x) P Q p step = step p
+then_on (Err e) P Q p step = tt

@@ -1,24 +1,23 @@
 -- The cuts of a tag block against how a tag block is spelled.
-use Rattle.std.proofs.Common.{◌≡◌, ◌≢◌, ◌==◌, ◌&&◌, ℕ, ◌+◌, ◌-◌, ◌≤◌, Bool, true, false, not, List, [], ◌∷◌, ◌++◌, length, drop, codes, nat_eq, nat_le, All, IsTrue, Option, Some, None, is_some, position, ◌⊎◌, inl, inr, Result, Ok, Err, slice_get, if◌then◌else◌, refl, sym, ap, ◌∙◌, subst, arith, append_assoc, eq-eqb}
-use Rattle.std.proofs.lemmas.Bool.{and_parts, and_from, eqb-true, ne_eqb, eqb-false, leb-true, le-leb, cond-true, cond-false, and_right, false≢true, not-true, not_from_false}
+use Rattle.std.proofs.Common.{◌≡◌, ◌≢◌, ◌==◌, ◌&&◌, ℕ, ◌≤◌, Bool, true, false, not, List, [], ◌∷◌, ◌++◌, length, drop, nat_eq, nat_le, IsTrue, Option, Some, None, is_some, position, inl, inr, Result, Ok, Err, slice_get, if◌then◌else◌, refl, sym, ap, ◌∙◌, subst, arith, append_assoc, eq-eqb}
+use Rattle.std.proofs.lemmas.Bool.{eqb-true, ne_eqb, eqb-false, leb-true, le-leb, cond-true, cond-false, and_right, false≢true, not-true, not_from_false}
 use Rattle.std.proofs.lemmas.Bool.Decides.{nat_tests}
 use Rattle.std.proofs.lemmas.List.Elements.{All-from_recursion, recursion_from_All, All-head, All-tail, All-append, All-cons, All-nil, All-weaker}
 use Rattle.std.proofs.lemmas.List.Splits.{slice_split_at, slice_split_none, join_with_byte-slice_split, length-slice_split}
 use Rattle.std.proofs.lemmas.List.Sums.{AllPass-from_list_all, list_all-from_AllPass, passes_at_first}
-use Rattle.std.specs.List.{AllByRecursion, find, join_with_byte, list_all, onto_first, position_or_len, slice_split}
-use Rattle.std.specs.Option.{option_map}
+use Rattle.std.specs.List.{AllByRecursion, join_with_byte, list_all, onto_first, position_or_len, slice_split}
 use Rattle.std.specs.Char.{is_ascii_digit}
 use Rattle.std.specs.Str.{all_ascii_digits}
 use Rattle.std.specs.Str.Parse.{digits_value}
 use Rattle.aivdm.specs.Checksums.{sum_of, hexadecimal}
 use Rattle.aivdm.specs.Inner.LineCuts.{◌>>=◌, told_or, before_byte, after_byte, time_of, time_in, first_time, stamp_among, stamp_in, block_end, block_at, tag_at}
-use Rattle.aivdm.specs.TagBlocks.{is_field_byte, tells_time, AreTimeDigits, IsTagField, seconds_of, stamp_of, TagBlock, content_of, block_text, IsTagBlock, HasTagBlock, HasNoTagBlock, IsTagged}
+use Rattle.aivdm.specs.TagBlocks.{is_field_byte, tells_time, AreTimeDigits, IsTagField, seconds_of, stamp_of, TagBlock, content_of, block_text, IsTagBlock, HasTagBlock, IsTagged}
 use Rattle.aivdm.specs.declared.sentence.LineCause.{LineCause}
 use Rattle.aivdm.specs.declared.sentence.LineCause.TheVariants.{Tag}
 use Rattle.aivdm.proofs.Cuts.{Lacks, before-cut, after-cut, cut-whole, before-lacks}
 use Rattle.aivdm.proofs.Digits.{digits_tests}
 use Rattle.aivdm.proofs.Parts.{list_all-fails, position-some, position-fails}
-use Rattle.aivdm.proofs.Steps.{bind_ok, bind_at, bind_fails, if_ok, unless_ok, FailsBy, FailsBy-bind, FailsBy-if, told_from, told-fails}
+use Rattle.aivdm.proofs.Steps.{bind_ok, bind_at, bind_fails, if_ok, FailsBy, FailsBy-bind, FailsBy-if, told_from, told-fails}
 
 -- ---- fields and what is joined of them
 
@@ -35,6 +34,7 @@ parts_bytes (byte ∷ bytes) star slash =
     onto : (parts : List (List ℕ)) → IsTrue (is_field_byte byte) → AllByRecursion FieldBytes parts → AllByRecursion FieldBytes (onto_first byte parts)
     onto [] h all = ((h, tt), tt)
     onto (part ∷ parts) h all = ((h, all.0), all.1)
+
     by_comma : (b : Bool) → (byte == 44) ≡ b → AllByRecursion FieldBytes (slice_split (λ byte. byte == 44) bytes)
         → AllByRecursion FieldBytes (slice_split (λ byte. byte == 44) (byte ∷ bytes))
     by_comma true e all = rw e (tt, all)
@@ -188,8 +188,8 @@ stamps_read s (field ∷ fields) stamp e =
     let others = stamps_read (first_time s step.0) fields stamp step.2 in (
       ((read.some, read.digits), others.0),
       others.1
-      ∙ first_first s step.0 (stamp_of fields)
-      ∙ ap (first_time s) (ap (λ (t : Option ℕ). first_time t (stamp_of fields)) read.time_is ∙ sym (stamp_cons field fields)),
+          ∙ first_first s step.0 (stamp_of fields)
+          ∙ ap (first_time s) (ap (λ (t : Option ℕ). first_time t (stamp_of fields)) read.time_is ∙ sym (stamp_cons field fields)),
     )
 
 stamps_again : (s : Option ℕ) (fields : List (List ℕ)) → AreRead fields → stamp_among s fields ≡ Ok (first_time s (stamp_of fields))
@@ -412,10 +412,10 @@ unfolding block_at stamp_in with_stamp
 block-fails bytes =
     let content = before_byte 42 bytes in
     FailsBy-bind Tag (block_end (after_byte 42 bytes)) (with_stamp content) (end_block-fails (after_byte 42 bytes)) (λ end.
-      FailsBy-if Tag _ (stamp_in content >>= λ stamp. Ok (stamp, end.1)) (Err Tag)
-      (FailsBy-bind Tag (stamp_in content) (λ stamp. Ok (stamp, end.1))
-      (FailsBy-if Tag _ (stamp_among None (slice_split (λ byte. byte == 44) content)) (Err Tag) (stamps-fail None (slice_split (λ byte. byte == 44) content)) refl)
-      (λ stamp. tt)) refl)
+    FailsBy-if Tag _ (stamp_in content >>= λ stamp. Ok (stamp, end.1)) (Err Tag)
+    (FailsBy-bind Tag (stamp_in content) (λ stamp. Ok (stamp, end.1))
+    (FailsBy-if Tag _ (stamp_among None (slice_split (λ byte. byte == 44) content)) (Err Tag) (stamps-fail None (slice_split (λ byte. byte == 44) content)) refl)
+    (λ stamp. tt)) refl)
 
 pub tag-fails : (line : List ℕ) → FailsBy Tag (tag_at line)
 unfolding tag_at

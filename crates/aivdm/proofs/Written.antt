@@ -1,10 +1,10 @@
 -- A message as a line, and the line read again.
-use Rattle.std.proofs.Common.{◌≡◌, ◌≢◌, ◌==◌, ◌&&◌, ◌||◌, ℕ, zero, suc, ◌+◌, ◌-◌, ◌*◌, ◌/◌, ◌%◌, ◌^◌, ◌<◌, ◌≤◌, Bool, true, false, List, [], ◌∷◌, ◌++◌, length, take, drop, replicate, flat_map, get_or, All, IsTrue, Option, Some, None, IfSome, codes, Ok, slice_get, fold, bit_xor, if◌then◌else◌, refl, sym, ap, ap₂, ◌∙◌, subst, arith, append_assoc, append-nil, pow-add, length-append, length-take, length-drop, take-append-drop, inl, inr, mod-eq_of_lt}
+use Rattle.std.proofs.Common.{◌≡◌, ℕ, zero, suc, ◌+◌, ◌-◌, ◌*◌, ◌^◌, ◌<◌, ◌≤◌, Bool, true, false, List, [], ◌∷◌, ◌++◌, length, take, drop, replicate, flat_map, All, IsTrue, refl, sym, ap, ap₂, ◌∙◌, subst, arith, append_assoc, append-nil, length-append, length-take, length-drop, take-append-drop, inl, inr, mod-eq_of_lt}
 use Rattle.std.proofs.lemmas.Bool.{cases_lt, cases_eq}
 use Rattle.std.proofs.lemmas.Bool.Decides.{nat_tests}
 use Rattle.std.proofs.lemmas.List.{take_at, length-replicate}
-use Rattle.std.proofs.lemmas.List.Elements.{All-append, All-cons, All-nil, All-weaker, All-from_recursion}
-use Rattle.std.proofs.lemmas.Nat.{pow_pos, xor_lt}
+use Rattle.std.proofs.lemmas.List.Elements.{All-cons, All-nil}
+use Rattle.std.proofs.lemmas.Nat.{pow_pos}
 use Rattle.aivdm.specs.BitFields.{binary, number_of}
 use Rattle.aivdm.specs.PayloadBits.{bits_of, is_armour, six_bits}
 use Rattle.aivdm.specs.SentenceWriting.{fill_of}
@@ -82,9 +82,9 @@ last_chunk bits some few =
     ∙ same_bits (binary 6 raised) (bits ++ replicate blank false)
     (length-binary 6 raised ∙ omega (arith, length-append bits (replicate blank false), length-replicate blank false))
     (
-      number_of-binary 6 raised
-      ∙ mod-eq_of_lt small
-      ∙ sym (number_of-append bits (replicate blank false) ∙ rw (length-replicate blank false, zeros_number blank) (omega arith))
+    number_of-binary 6 raised
+    ∙ mod-eq_of_lt small
+    ∙ sym (number_of-append bits (replicate blank false) ∙ rw (length-replicate blank false, zeros_number blank) (omega arith))
     )
 
 abbrev armour_bits : ℕ → List Bool
@@ -121,12 +121,12 @@ payload_bits_by : (n : ℕ) (bits : List Bool) → length bits ≤ n → flat_ma
 payload_bits_by zero bits few = payload_empty bits (omega arith)
 payload_bits_by (suc n) bits few =
     elim (cases_lt (length bits) 6) [
-      inl short ↦
+      | inl short ↦
           elim (cases_eq (length bits) 0) [
-            inl none ↦ payload_empty bits none
-          | inr some ↦ payload_short bits (omega arith) short
+            | inl none ↦ payload_empty bits none
+            | inr some ↦ payload_short bits (omega arith) short
           ]
-    | inr long ↦ payload_long bits long (payload_bits_by n (drop 6 bits) (omega (arith, length-drop 6 bits)))
+      | inr long ↦ payload_long bits long (payload_bits_by n (drop 6 bits) (omega (arith, length-drop 6 bits)))
     ]
 
 pub payload_bits : (bits : List Bool) → bits_of (payload_of bits) 0 ≡ bits ++ replicate (fill_of bits) false
@@ -152,19 +152,19 @@ payload_armour_by zero bits few = subst (All (λ byte. IsTrue (is_armour byte)))
 payload_armour_by (suc n) bits few =
     let P = λ (byte : ℕ). IsTrue (is_armour byte) in
     elim (cases_lt (length bits) 6) [
-      inl short ↦
+      | inl short ↦
           elim (cases_eq (length bits) 0) [
-            inl none ↦ subst (All P) (sym (payload_none bits none)) (All-nil P)
-          | inr some ↦
-              let raised = number_of bits * 2 ^ (6 - length bits) in
-              subst (All P) (sym (payload_rest bits (omega arith) short))
-              (All-cons P (armour_of raised) [] (armour_is raised (raised_below (number_of bits) (length bits) (number_of-below bits) (omega arith))) (All-nil P))
+            | inl none ↦ subst (All P) (sym (payload_none bits none)) (All-nil P)
+            | inr some ↦
+                let raised = number_of bits * 2 ^ (6 - length bits) in
+                subst (All P) (sym (payload_rest bits (omega arith) short))
+                (All-cons P (armour_of raised) [] (armour_is raised (raised_below (number_of bits) (length bits) (number_of-below bits) (omega arith))) (All-nil P))
           ]
-    | inr long ↦
-        let number = number_of (take 6 bits) in
-        subst (All P) (sym (payload_six bits long))
-        (All-cons P (armour_of number) (payload_of (drop 6 bits)) (armour_is number (number_below (take 6 bits) (omega (arith, length-take 6 bits))))
-        (payload_armour_by n (drop 6 bits) (omega (arith, length-drop 6 bits))))
+      | inr long ↦
+          let number = number_of (take 6 bits) in
+          subst (All P) (sym (payload_six bits long))
+          (All-cons P (armour_of number) (payload_of (drop 6 bits)) (armour_is number (number_below (take 6 bits) (omega (arith, length-take 6 bits))))
+          (payload_armour_by n (drop 6 bits) (omega (arith, length-drop 6 bits))))
     ]
 
 pub payload_armour : (bits : List Bool) → All (λ byte. IsTrue (is_armour byte)) (payload_of bits)

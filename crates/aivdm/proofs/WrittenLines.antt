@@ -1,24 +1,23 @@
 -- The line of a message reads as the message.
-use Rattle.std.proofs.Common.{◌≡◌, ◌≢◌, ◌==◌, ◌&&◌, ◌||◌, ℕ, zero, suc, ◌+◌, ◌-◌, ◌*◌, ◌/◌, ◌%◌, ◌^◌, ◌<◌, ◌≤◌, Bool, true, false, List, [], ◌∷◌, ◌++◌, length, drop, All, IsTrue, Option, Some, None, IfSome, is_some, inl, inr, codes, Ok, slice_get, fold, bit_xor, refl, sym, ap, ap₂, ◌∙◌, subst, arith, append_assoc, length-append, mod-lt, lit<, lit≤}
-use Rattle.std.proofs.lemmas.Bool.{agree_below, agree_below_at, cond-true, and_from, eqb-true, eqb-false, lt-ltb, le-ltb}
+use Rattle.std.proofs.Common.{◌≡◌, ◌≢◌, ◌==◌, ◌||◌, ℕ, ◌+◌, ◌-◌, ◌*◌, ◌/◌, ◌%◌, ◌<◌, ◌≤◌, Bool, true, false, List, [], ◌∷◌, ◌++◌, length, All, IsTrue, Option, Some, None, IfSome, is_some, inl, inr, codes, slice_get, fold, bit_xor, refl, sym, ap, ◌∙◌, subst, arith, append_assoc, length-append, mod-lt, lit<}
+use Rattle.std.proofs.lemmas.Bool.{agree_below_at, cond-true, and_from, eqb-true, eqb-false, lt-ltb}
 use Rattle.std.proofs.lemmas.Bool.Decides.{nat_tests}
 use Rattle.std.proofs.lemmas.Fmt.{decimal_is_IsNumeral, digits_decimal, digits_value-decimal, length-decimal-le}
 use Rattle.std.proofs.lemmas.List.Elements.{All-append, All-cons, All-nil, All-weaker, All-from_recursion, recursion_from_All}
 use Rattle.std.proofs.lemmas.List.Sums.{AllPass-from_list_all}
 use Rattle.std.proofs.lemmas.Nat.{xor_lt}
-use Rattle.std.proofs.Math.Nat.{div-add-mod, div-lt_iff_lt-mul}
+use Rattle.std.proofs.Math.Nat.{div-add-mod}
 use Rattle.std.specs.Char.{is_ascii_uppercase, is_ascii_digit, is_ascii_alphanumeric, is_digit, digit_value}
 use Rattle.std.specs.Fmt.{decimal}
-use Rattle.std.specs.List.{AllByRecursion, join_with_byte, list_all}
+use Rattle.std.specs.List.{AllByRecursion}
 use Rattle.std.specs.Str.{all_ascii_digits}
-use Rattle.std.specs.Str.Parse.{digits_value}
 use Rattle.aivdm.specs.Checksums.{sum_of, hexadecimal}
 use Rattle.aivdm.specs.Inner.Armouring.{payload_of}
-use Rattle.aivdm.specs.LineReading.{SentenceText, summed, sentence_text, IsAddress, IsOptional, HasForm, HasSum, fields_of, IsSentenceLine, IsReading}
+use Rattle.aivdm.specs.LineReading.{SentenceText, summed, sentence_text, HasForm, HasSum, fields_of, IsSentenceLine}
 use Rattle.aivdm.specs.PayloadBits.{is_armour}
 use Rattle.aivdm.specs.SentenceWriting.{hexadecimal_digit, sum_text, tag_text, sentence_content, line_text, fill_of, IsWritten}
-use Rattle.aivdm.specs.Sentences.{SentenceFields, LineContent}
-use Rattle.aivdm.specs.TagBlocks.{is_field_byte, tells_time, AreTimeDigits, IsTagField, seconds_of, stamp_of, TagBlock, content_of, block_text, IsTagBlock, HasTagBlock, HasNoTagBlock, IsTagged}
+use Rattle.aivdm.specs.Sentences.{SentenceFields}
+use Rattle.aivdm.specs.TagBlocks.{is_field_byte, IsTagField, seconds_of, stamp_of, TagBlock, block_text, IsTagBlock, IsTagged}
 use Rattle.aivdm.proofs.Digits.{numerals, digits_tests}
 use Rattle.aivdm.proofs.Written.{payload_bits, payload_size, payload_unfilled, payload_armour}
 

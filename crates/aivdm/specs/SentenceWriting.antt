@@ -4,7 +4,6 @@ use Rattle.std.specs.Fmt.{decimal}
 use Rattle.aivdm.specs.Checksums.{sum_of}
 use Rattle.aivdm.specs.LineReading.{IsReading}
 use Rattle.aivdm.specs.PayloadBits.{bits_of}
-use Rattle.aivdm.specs.Sentences.{SentenceFields}
 
 -- a hexadecimal digit, in capitals
 abbrev pub hexadecimal_digit : ℕ → ℕ

@@ -1,5 +1,5 @@
 -- The tag block that may stand before a sentence (NMEA 0183 4.10, TAG block), in the form that is read.
-use Rattle.std.specs.Prelude.{ℕ, ◌≡◌, ◌≢◌, ◌/◌, ◌-◌, ◌≤◌, ◌==◌, Bool, not, ◌&&◌, List, [], ◌∷◌, ◌++◌, length, drop, codes, nat_eq, nat_lt, All, IsTrue, Option, Some, None, ◌⊎◌, slice_get, if◌then◌else◌}
+use Rattle.std.specs.Prelude.{ℕ, ◌≡◌, ◌≢◌, ◌/◌, ◌≤◌, ◌==◌, Bool, not, ◌&&◌, List, [], ◌∷◌, ◌++◌, length, drop, codes, nat_eq, nat_lt, All, IsTrue, Option, Some, None, ◌⊎◌, slice_get, if◌then◌else◌}
 use Rattle.std.specs.List.{find, join_with_byte, starts_with}
 use Rattle.std.specs.Option.{option_map}
 use Rattle.std.specs.Char.{is_ascii_digit}

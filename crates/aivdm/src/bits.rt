@@ -31,6 +31,7 @@ impl Model for Bits {
 
 impl Bits {
     /// The bits of a payload without the last `fill` ones. A payload of up to 72 bytes takes no memory.
+    #[inline(always)]
     pub(crate) fn from_payload(alloc: Global, payload: &[u8], fill: u8) -> Result<Bits, Memory>
         requires some { 1 ≤ length payload.now }
         requires short { length payload.now ≤ 1024 }
@@ -185,7 +186,11 @@ fn grown(len: usize, more: usize) -> Option<usize>
     ensures fits { IfSome result (λ grown. grown + 2048 ≤ 2 ^ 64) }
     ensures none { IfNone result (432 < len) }
 {
-    if len > usize::MAX - 8192 { None } else { Some(len + more) }
+    if len > usize::MAX - 8192 {
+        None
+    } else {
+        Some(len + more)
+    }
 }
 
 /// Appends the lowest bits of a number behind the first `len` bits.

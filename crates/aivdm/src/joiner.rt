@@ -76,6 +76,7 @@ impl Joiner {
     ///
     /// A sentence of total 1 is a message by itself; up to 72 bytes of its payload take no memory. Where there is no memory
     /// for a sentence, the joiner stays as it was.
+    #[inline]
     pub fn take(&mut self, sentence: &Sentence<'_>, time: u64) -> Result<Joined, Memory>
         requires sentence { IsSentence (fields_seen sentence.now) }
         ensures joined { IfOk result (λ joined. (taken : List Taken) → StandsFor self.old taken
@@ -96,6 +97,7 @@ impl Joiner {
 }
 
 /// The bits of a sentence.
+#[inline(always)]
 fn whole(alloc: Global, sentence: &Sentence<'_>) -> Result<Bits, Memory>
     requires sentence { IsSentence (fields_seen sentence.now) }
     ensures bits { IfOk result (λ bits. bits ≡ bits_of sentence.now.payload.now sentence.now.fill) }
@@ -141,12 +143,7 @@ impl Begun {
     }
 
     /// Takes a sentence of its key that is not a first part.
-    fn go_on(
-        &mut self,
-        alloc: Global,
-        sentence: &Sentence<'_>,
-        time: u64,
-    ) -> Result<Joined, Memory>
+    fn go_on(&mut self, alloc: Global, sentence: &Sentence<'_>, time: u64) -> Result<Joined, Memory>
         requires sentence { IsSentence (fields_seen sentence.now) }
         ensures joined { IfOk result (λ joined. joined ≡ joined_on self.old (record { sentence = fields_seen sentence.now; time = time })) }
         ensures run { OnOk result (self.new ≡ run_on self.old (record { sentence = fields_seen sentence.now; time = time })) }
@@ -174,6 +171,7 @@ impl Begun {
 }
 
 /// Takes the next sentence of a message of several.
+#[inline(never)]
 fn join(
     alloc: Global,
     begun: &mut Vec<Begun>,

@@ -125,7 +125,11 @@ fn armour(sextet: u8) -> u8
     requires { sextet < 64 }
     ensures { result ≡ armour_of sextet }
 {
-    if sextet < 40 { 48 + sextet } else { 56 + sextet }
+    if sextet < 40 {
+        48 + sextet
+    } else {
+        56 + sextet
+    }
 }
 
 /// Appends `*` and the sum of the content.
@@ -133,7 +137,14 @@ fn push_sum(line: &mut Vec<u8>, content: &[u8]) -> Result<(), Memory>
     ensures { OnOk result (line.new.items ≡ line.old.items ++ sum_text content.now) }
 {
     let sum = sum_of(content);
-    push(line, &[b'*', hexadecimal_digit(sum / 16), hexadecimal_digit(sum % 16)])
+    push(
+        line,
+        &[
+            b'*',
+            hexadecimal_digit(sum / 16),
+            hexadecimal_digit(sum % 16),
+        ],
+    )
 }
 
 /// A hexadecimal digit, in capitals.

@@ -1,15 +1,15 @@
 -- The cuts by which a line is read, on lists, in the order of the code.
-use Rattle.std.specs.Prelude.{ℕ, ◌-◌, ◌==◌, Bool, true, not, ◌&&◌, ◌||◌, List, [], ◌∷◌, length, take, drop, nat_lt, nat_le, Option, Some, None, Result, Ok, Err, codes, nat_eq, if◌then◌else◌}
-use Rattle.std.specs.List.{slice_split, before_first, after_first, list_all, starts_with}
+use Rattle.std.specs.Prelude.{ℕ, ◌-◌, ◌==◌, Bool, true, not, ◌&&◌, ◌||◌, List, [], ◌∷◌, length, take, drop, nat_le, Option, Some, None, Result, Ok, Err, if◌then◌else◌}
+use Rattle.std.specs.List.{slice_split, before_first, after_first, list_all}
 use Rattle.std.specs.Char.{is_ascii_uppercase, is_ascii_digit, is_ascii_alphanumeric}
 use Rattle.std.specs.Str.{all_ascii_digits}
 use Rattle.std.specs.Str.Parse.{digits_value}
 use Rattle.aivdm.specs.Checksums.{sum_of, hexadecimal}
 use Rattle.aivdm.specs.PayloadBits.{is_armour}
-use Rattle.aivdm.specs.Sentences.{SentenceFields, LineContent}
+use Rattle.aivdm.specs.Sentences.{SentenceFields}
 use Rattle.aivdm.specs.TagBlocks.{seconds_of}
 use Rattle.aivdm.specs.declared.sentence.LineCause.{LineCause}
-use Rattle.aivdm.specs.declared.sentence.LineCause.TheVariants.{Empty, Long, Tag, Other, Form, Sum, Armour}
+use Rattle.aivdm.specs.declared.sentence.LineCause.TheVariants.{Tag, Other, Form, Sum, Armour}
 
 -- one step after another, up to the first cause
 infixl 10 ◌>>=◌
@@ -69,7 +69,7 @@ unfoldable pub block_at : List ℕ → Result (Option ℕ × List ℕ) LineCause
 block_at bytes =
     block_end (after_byte 42 bytes) >>= λ end.
     (if end.0 == sum_of (before_byte 42 bytes)
-     then (stamp_in (before_byte 42 bytes) >>= λ stamp. Ok (stamp, end.1)) else Err Tag)
+    then (stamp_in (before_byte 42 bytes) >>= λ stamp. Ok (stamp, end.1)) else Err Tag)
 
 -- the stamp of a line's tag block, and what follows the block
 unfoldable pub tag_at : List ℕ → Result (Option ℕ × List ℕ) LineCause

@@ -1,5 +1,5 @@
 -- The joiner's step on its list of messages that have begun, in the order of the code.
-use Rattle.std.specs.Prelude.{ℕ, ◌+◌, ◌-◌, ◌==◌, Bool, ◌&&◌, List, [], ◌∷◌, ◌++◌, nat_eq, nat_lt, nat_le, Option, Some, None, if◌then◌else◌}
+use Rattle.std.specs.Prelude.{◌+◌, ◌-◌, ◌==◌, Bool, ◌&&◌, List, [], ◌∷◌, ◌++◌, nat_eq, nat_lt, nat_le, Option, Some, None, if◌then◌else◌}
 use Rattle.std.specs.List.{find}
 use Rattle.std.specs.Option.{option_eq}
 use Rattle.aivdm.specs.FragmentJoining.{Taken, part_bits, total_of, number_of_part}
@@ -38,8 +38,8 @@ abbrev pub run_on : Begun → Taken → Begun
 run_on run part =
     if awaits run part
     then (if nat_lt (number_of_part part) (total_of part)
-          then record run { count = number_of_part part; bits = run.bits ++ part_bits part }
-          else record run { count = 0; bits = [] })
+    then record run { count = number_of_part part; bits = run.bits ++ part_bits part }
+    else record run { count = 0; bits = [] })
     else record run { count = 0 }
 
 -- what a part comes to, by the message of its key, if there is one

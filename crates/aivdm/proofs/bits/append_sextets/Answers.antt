@@ -1,6 +1,6 @@
-use Rattle.std.proofs.Common.{rules, ◌+◌, ◌++◌, Bool, List, ℕ, take, length, sym, ap, ◌∙◌, arith, append_assoc, append-nil, take_all}
+use Rattle.std.proofs.Common.{rules, ◌++◌, Bool, List, ℕ, take, sym, ap, ◌∙◌, arith, append_assoc, append-nil}
 use Rattle.aivdm.specs.BitFields.{binary}
-use Rattle.aivdm.specs.PayloadBits.{bits_of, six_bits}
+use Rattle.aivdm.specs.PayloadBits.{bits_of}
 use Rattle.aivdm.specs.Inner.Sextets.{bits_in}
 use Rattle.aivdm.proofs.Payloads.{bits_of-none, bits_of-more}
 use Rattle.aivdm.proofs.bits.append_sextets.Goals as goal
@@ -35,8 +35,8 @@ loop-byte-preserved c =
           ∙ ap (λ (bits : List Bool). bits ++ binary 6 c.from.result) c.loop-byte.invariant.bits
           ∙ append_assoc front (bits_of (take i payload) 0) (binary 6 c.from.result)
           ∙ ap (λ (bits : List Bool). front ++ bits) (
-            ap (λ (n : ℕ). bits_of (take i payload) 0 ++ binary 6 n) (c.from.ensures ∙ c.sextet.ensures.value)
-            ∙ sym (bits_of-more payload i c.loop-byte-test.true)
+          ap (λ (n : ℕ). bits_of (take i payload) 0 ++ binary 6 n) (c.from.ensures ∙ c.sextet.ensures.value)
+          ∙ sym (bits_of-more payload i c.loop-byte-test.true)
           );
       sextets = then;
       room = omega (arith, now.enough, now.needed, then.enough, then.needed, c.loop-byte.invariant.room, c.append_bits.ensures.capacity);

@@ -1,4 +1,4 @@
-use Rattle.std.proofs.Common.{◌++◌, ◌∷◌, [], ◌-◌, List, ℕ, length, sym, ap, ◌∙◌, arith, append_assoc, append-nil, length-append}
+use Rattle.std.proofs.Common.{◌++◌, ◌-◌, List, ℕ, length, sym, ap, ◌∙◌, arith, append_assoc, length-append}
 use Rattle.aivdm.specs.Inner.Sextets.{sextets_of}
 use Rattle.aivdm.proofs.Appended.{sextets_of-pred, sextets_of-none}
 use Rattle.aivdm.proofs.bits.push_sextets.Goals as goal

@@ -1,6 +1,5 @@
 use Rattle.std.proofs.Common.{◌≡◌, ◌+◌, ◌≤◌, ◌++◌, length}
 use Rattle.aivdm.specs.Inner.Sextets.{sextets_of}
-use Rattle.aivdm.proofs.Appended.{same_bits}
 use Rattle.aivdm.proofs.bits.push_sextets.Given as goal
 
 -- the elements so far, and those that are left

@@ -1,11 +1,11 @@
-use Rattle.std.proofs.Common.{◌≡◌, List, Option, Some, None, Result, IfOk, OnOk, position, slice_set, sym, ap, ◌∙◌, subst}
+use Rattle.std.proofs.Common.{◌≡◌, Some, None, position, slice_set, sym, ap, ◌∙◌}
 use Rattle.std.specs.List.{find}
 use Rattle.aivdm.specs.FragmentJoining.{Taken}
 use Rattle.aivdm.specs.Inner.OpenRuns.{has_key, joined_next, joined_on, put, run_on, runs_next}
 use Rattle.aivdm.specs.Sentences.{fields_seen}
 use Rattle.aivdm.specs.declared.joiner.Begun.{Begun}
-use Rattle.aivdm.specs.declared.joiner.Joined.{Joined}
-use Rattle.aivdm.proofs.Standing.{at_first, at_found, at_none, place_found, place_none, put_place, then_ok, then_on}
+use Rattle.aivdm.proofs.Standing.{at_first, at_found, at_none, place_found, place_none, put_place}
+use Rattle.aivdm.proofs.Steps.{then_ok, then_on}
 use Rattle.aivdm.proofs.joiner.join.Goals as goal
 
 pub returns-then-sentence-eq1-clause-joined : goal.returns-then-sentence-eq1-clause-joined
@@ -40,9 +40,9 @@ returns-in-Some-clause-runs c =
     let found : find (has_key part.sentence) runs ≡ Some run = place_found part.sentence runs at run here ∙ ap Some (sym c.index_mut.ensures.value) in
     then_on c.go_on.result (c.go_on.new.self ≡ run_on run part) (slice_set runs at c.go_on.new.self ≡ runs_next runs part) c.go_on.ensures.run
     (λ is.
-      put_place part.sentence c.go_on.new.self runs at here
-      ∙ ap (λ (new : Begun). put part.sentence new runs) is
-      ∙ (at_found runs part run c.if-sentence-eq1.false found).1)
+    put_place part.sentence c.go_on.new.self runs at here
+    ∙ ap (λ (new : Begun). put part.sentence new runs) is
+    ∙ (at_found runs part run c.if-sentence-eq1.false found).1)
 
 pub returns-in-None-clause-joined : goal.returns-in-None-clause-joined
 returns-in-None-clause-joined c =

@@ -1,4 +1,4 @@
-use Rattle.std.proofs.Common.{◌++◌, ◌∷◌, [], List, Result, Option, Err, Ok, if◌then◌else◌, is_ok, is_err, not, sym, ap, ◌∙◌}
+use Rattle.std.proofs.Common.{◌++◌, ◌∷◌, [], is_ok, not, sym, ap, ◌∙◌}
 use Rattle.std.proofs.lemmas.Bool.{cond-true}
 use Rattle.aivdm.specs.Sentences.{fields_seen}
 use Rattle.aivdm.proofs.Standing.{append_put, place_none, put_place}

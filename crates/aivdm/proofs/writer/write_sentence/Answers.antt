@@ -1,7 +1,7 @@
-use Rattle.std.proofs.Common.{◌≡◌, Vec}
+use Rattle.std.proofs.Common.{◌≡◌}
 use Rattle.aivdm.specs.Inner.Armouring.{payload_of}
 use Rattle.aivdm.specs.SentenceWriting.{fill_of, line_text, IsWritten}
-use Rattle.aivdm.proofs.Standing.{then_ok}
+use Rattle.aivdm.proofs.Steps.{then_ok}
 use Rattle.aivdm.proofs.WrittenLines.{written}
 use Rattle.aivdm.proofs.writer.write_sentence.Goals as goal
 

@@ -20,8 +20,8 @@ count c = c.len.ensures.value ∙ ap length (written c) ∙ length-map c.args.pa
 room : (c : goal.After-len) → 72 ≤ c.in-Ok.sextets.capacity
 room c =
     elim (cases_lt 72 (length c.args.payload.now)) [
-      inl long ↦ let fits = c.len.ensures.fits in omega (arith, count c)
-    | inr short ↦ let here = c.in-Ok.ensures.inline short in omega arith
+      | inl long ↦ let fits = c.len.ensures.fits in omega (arith, count c)
+      | inr short ↦ let here = c.in-Ok.ensures.inline short in omega arith
     ]
 
 pub invariant_of-result : goal.invariant_of-result

@@ -5,7 +5,8 @@ use Rattle.aivdm.specs.OpenMessages.{StandsFor}
 use Rattle.aivdm.specs.Sentences.{fields_seen}
 use Rattle.aivdm.specs.declared.joiner.Begun.{Begun}
 use Rattle.aivdm.specs.declared.joiner.Joined.TheVariants.{Message}
-use Rattle.aivdm.proofs.Standing.{stands_alone, stands_more, then_ok, then_on}
+use Rattle.aivdm.proofs.Standing.{stands_alone, stands_more}
+use Rattle.aivdm.proofs.Steps.{then_ok, then_on}
 use Rattle.aivdm.proofs.joiner.Joiner.take.Goals as goal
 
 pub returns-then-sentence-eq1-clause-joined : goal.returns-then-sentence-eq1-clause-joined
@@ -28,9 +29,9 @@ returns-clause-joined c =
     (λ joined. (taken : List Taken) → StandsFor runs taken → joined ≡ joined_of taken part)
     c.join.ensures.joined
     (λ joined is taken stands.
-      is
-      ∙ ap (λ (begun : List Begun). joined_next begun part) c.self.view_is
-      ∙ (stands_more runs taken part stands sentence.counted sentence.within several).0)
+    is
+    ∙ ap (λ (begun : List Begun). joined_next begun part) c.self.view_is
+    ∙ (stands_more runs taken part stands sentence.counted sentence.within several).0)
 
 pub returns-clause-stands : goal.returns-clause-stands
 returns-clause-stands c =
@@ -43,6 +44,6 @@ returns-clause-stands c =
     ((taken : List Taken) → StandsFor runs taken → StandsFor c.join.new.begun.items (taken ++ part ∷ []))
     c.join.ensures.runs
     (λ is taken stands.
-      subst (λ (begun : List Begun). StandsFor begun (taken ++ part ∷ []))
-      (sym (is ∙ ap (λ (begun : List Begun). runs_next begun part) c.self.view_is))
-      (stands_more runs taken part stands sentence.counted sentence.within several).1)
+    subst (λ (begun : List Begun). StandsFor begun (taken ++ part ∷ []))
+    (sym (is ∙ ap (λ (begun : List Begun). runs_next begun part) c.self.view_is))
+    (stands_more runs taken part stands sentence.counted sentence.within several).1)
