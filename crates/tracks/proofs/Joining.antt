@@ -1,0 +1,172 @@
+-- One more accepted report, and the leg that it ends.
+use Rattle.std.proofs.Common.{length-append, ◌≡◌, ℕ, ◌+◌, ◌<◌, ◌≤◌, ◌⊎◌, inl, inr, List, [], ◌∷◌, ◌++◌, length, get_or, Some, None, refl, ap, sym, ◌∙◌, subst, arith}
+use Rattle.std.specs.Prelude.{Option, IfSome}
+use Rattle.std.specs.Option.{option_to_list}
+use Rattle.std.specs.List.{All, AllAdjacentBelow, cons_option, last_or}
+use Rattle.std.proofs.lemmas.Bool.Decides.{nat_tests}
+use Rattle.std.proofs.lemmas.List.{append-nil, get_or_append_left}
+use Rattle.std.proofs.lemmas.List.Elements.{All-push}
+use Rattle.std.proofs.Math.Seq.{get_or-append_seam}
+use Rattle.motion.specs.TickStates.{AreJoined, Meets}
+use Rattle.motion.specs.declared.leg.Leg.{Leg}
+use Rattle.motion.proofs.LastPassing.{last_or-at}
+use Rattle.tracks.specs.JoinedReports.{joined, leg_between, legs_between, legs_from}
+use Rattle.tracks.specs.Inner.Keeping.{EndsAt, IsKept, joined_after, vessel_with}
+use Rattle.tracks.specs.Standing.{IsAccepted, VesselValue}
+use Rattle.tracks.specs.declared.accepted.Accepted.{Accepted}
+use Rattle.tracks.proofs.Lasts.{last_or-push}
+
+-- ---- the legs
+
+cons-append : {A : Type 0} (o : Option A) (xs ys : List A) → cons_option o (xs ++ ys) ≡ cons_option o xs ++ ys
+cons-append None xs ys = refl
+cons-append (Some x) xs ys = refl
+
+cons-nil : {A : Type 0} (o : Option A) → cons_option o [] ≡ option_to_list o
+cons-nil None = refl
+cons-nil (Some x) = refl
+
+legs_from-push : (gap : ℕ) (from : Accepted) (xs : List Accepted) (now : Accepted)
+    → legs_from gap from (xs ++ now ∷ []) ≡ legs_from gap from xs ++ option_to_list (joined_after gap (last_or (Some from) xs) now)
+unfolding legs_from
+legs_from-push gap from [] now = cons-nil (joined gap from now)
+legs_from-push gap from (x ∷ xs) now =
+    ap (cons_option (joined gap from x)) (legs_from-push gap x xs now)
+    ∙ cons-append (joined gap from x) (legs_from gap x xs) (option_to_list (joined_after gap (last_or (Some x) xs) now))
+
+pub legs_between-push : (gap : ℕ) (xs : List Accepted) (now : Accepted)
+    → legs_between gap (xs ++ now ∷ []) ≡ legs_between gap xs ++ option_to_list (joined_after gap (last_or None xs) now)
+unfolding legs_from
+legs_between-push gap [] now = refl
+legs_between-push gap (x ∷ xs) now = legs_from-push gap x xs now
+
+-- ---- what holds of them
+
+cases : (k n : ℕ) → k + 1 < n + 1 → (k + 1 < n) ⊎ (k + 1 ≡ n)
+cases k n h = grind arith
+
+pub all_adjacent-push : {A : Type 0} (R : A → A → Type 0) (xs : List A) (y : A) → AllAdjacentBelow R xs (length xs)
+    → IfSome (last_or None xs) (λ x. R x y) → AllAdjacentBelow R (xs ++ y ∷ []) (length (xs ++ y ∷ []))
+all_adjacent-push R [] y all last k d lt = absurd (omega arith)
+all_adjacent-push {A} R (x ∷ xs) y all last k d lt =
+    elim (cases k (length (x ∷ xs)) (omega (arith, length-append (x ∷ xs) (y ∷ [])))) [
+      | inl before ↦ (let here : R (get_or (x ∷ xs) k d) (get_or (x ∷ xs) (k + 1) d) = all k d before in
+          let first = get_or_append_left (x ∷ xs) (y ∷ []) d k (omega arith) in
+          let second = get_or_append_left (x ∷ xs) (y ∷ []) d (k + 1) before in
+          rw (first, second) here)
+      | inr end ↦ (let here : R (get_or (x ∷ xs) (length xs) d) y = subst (λ (o : Option A). IfSome o (λ a. R a y)) (last_or-at None x xs d) last in
+          let same : k ≡ length xs = omega arith in
+          let first = get_or_append_left (x ∷ xs) (y ∷ []) d k (omega arith) in
+          let second = get_or-append_seam (x ∷ xs) y [] d in
+          rw (first, end, second, same) here)
+    ]
+
+-- Where two reports are joined, this is their leg; else they lie more than the gap apart.
+joined-some : (gap : ℕ) (latest now : Accepted) (leg : Leg) → joined gap latest now ≡ Some leg → leg ≡ leg_between latest now
+joined-some gap latest now leg e = grind arith
+
+joined-none : (gap : ℕ) (latest now : Accepted) → joined gap latest now ≡ None → latest.time + gap < now.time
+joined-none gap latest now e = grind (arith, nat_tests)
+
+-- ---- what is kept
+
+meets : (gap : ℕ) (latest now : Accepted) (o : Option Leg) (leg : Leg) → leg ≡ leg_between latest now → IfSome o (EndsAt gap latest)
+    → IfSome o (λ last. Meets last leg ⊎ (last.t2 + gap < leg.t1))
+meets gap latest now None leg e ends = tt
+meets gap latest now (Some last) leg e ends =
+    let time : leg.t1 ≡ latest.time = ap (λ (l : Leg). l.t1) e in
+    let point : leg.p1 ≡ latest.point = ap (λ (l : Leg). l.p1) e in
+    elim ends [
+      | inl here ↦ inl (record { time = here.0 ∙ sym time; point = here.1 ∙ sym point })
+      | inr before ↦ inr (omega arith)
+    ]
+
+pub with_leg : (gap : ℕ) (o : Option Accepted) (legs : List Leg) (now : Accepted) (leg : Leg) → IfSome o (λ latest. IfSome (last_or None legs) (EndsAt gap latest))
+    → joined_after gap o now ≡ Some leg → IfSome (last_or None legs) (λ last. Meets last leg ⊎ (last.t2 + gap < leg.t1))
+with_leg gap None legs now leg ends e = absurd (cc)
+with_leg gap (Some latest) legs now leg ends e = meets gap latest now (last_or None legs) leg (joined-some gap latest now leg e) ends
+
+-- a leg may be put after the others
+after_meets : (gap : ℕ) (o : Option Leg) (leg : Leg) → IfSome o (λ last. Meets last leg ⊎ (last.t2 + gap < leg.t1)) → IfSome o (λ last. last.t2 ≤ leg.t1)
+after_meets gap None leg h = tt
+after_meets gap (Some last) leg h = elim h [ inl m ↦ (let e = m.time in omega arith) | inr lt ↦ omega arith ]
+
+pub leg_after : (gap : ℕ) (vessel : VesselValue) (now : Accepted) (leg : Leg) → IsKept gap vessel → joined_after gap (last_or None vessel.points) now ≡ Some leg
+    → IfSome (last_or None vessel.legs) (λ last. last.t2 ≤ leg.t1)
+leg_after gap vessel now leg h e = after_meets gap (last_or None vessel.legs) leg (with_leg gap (last_or None vessel.points) vessel.legs now leg h.ends e)
+
+some_leg : (o : Option Accepted) (gap : ℕ) (now : Accepted) (leg : Leg) → joined_after gap o now ≡ Some leg → (leg.t2 ≡ now.time) × (leg.p2 ≡ now.point)
+some_leg None gap now leg e = absurd (cc)
+some_leg (Some latest) gap now leg e =
+    let is = joined-some gap latest now leg e in
+    (ap (λ (l : Leg). l.t2) is, ap (λ (l : Leg). l.p2) is)
+
+pub kept_joined : (gap : ℕ) (vessel new : VesselValue) (now : Accepted) (leg : Leg) → IsKept gap vessel → IsAccepted now
+    → joined_after gap (last_or None vessel.points) now ≡ Some leg → new.points ≡ vessel.points ++ now ∷ [] → new.legs ≡ vessel.legs ++ leg ∷ [] → IsKept gap new
+kept_joined gap vessel new now leg h is e points legs =
+    let ends : IfSome (Some now) (λ latest. IfSome (Some leg) (EndsAt gap latest)) = inl (some_leg (last_or None vessel.points) gap now leg e) in
+    record {
+      points = subst (λ (xs : List Accepted). All IsAccepted xs) (sym points) (All-push IsAccepted vessel.points now h.points is);
+      legs = legs ∙ ap (λ (xs : List Leg). xs ++ leg ∷ []) h.legs ∙ ap (λ (o : Option Leg). legs_between gap vessel.points ++ option_to_list o) (sym e)
+          ∙ sym (legs_between-push gap vessel.points now) ∙ ap (legs_between gap) (sym points);
+      ends = rw (points, legs, last_or-push, last_or-push) ends;
+      are_joined = subst (λ (xs : List Leg). AreJoined gap xs) (sym legs)
+          (all_adjacent-push (λ earlier later. Meets earlier later ⊎ (earlier.t2 + gap < later.t1)) vessel.legs leg h.are_joined
+          (with_leg gap (last_or None vessel.points) vessel.legs now leg h.ends e));
+    }
+
+-- ---- where no leg ends at the report
+
+later : (gap : ℕ) (latest now : Accepted) (o : Option Leg) → latest.time + gap < now.time → IfSome o (EndsAt gap latest) → IfSome o (EndsAt gap now)
+later gap latest now None lt ends = tt
+later gap latest now (Some leg) lt ends = elim ends [ inl here ↦ (let e = here.0 in inr (omega arith)) | inr before ↦ inr (omega arith) ]
+
+no_leg : (gap : ℕ) (points : List Accepted) (legs : List Leg) (now : Accepted) → legs ≡ legs_between gap points
+    → IfSome (last_or None points) (λ latest. IfSome (last_or None legs) (EndsAt gap latest)) → joined_after gap (last_or None points) now ≡ None
+    → IfSome (last_or None legs) (EndsAt gap now)
+no_leg gap [] legs now same ends e = rw same tt
+no_leg gap (x ∷ xs) legs now same ends e = past (last_or (Some x) xs) (last_or-at None x xs x) ends e
+  where
+    past : (o : Option Accepted) → o ≡ Some (get_or (x ∷ xs) (length xs) x) → IfSome o (λ latest. IfSome (last_or None legs) (EndsAt gap latest))
+        → joined_after gap o now ≡ None → IfSome (last_or None legs) (EndsAt gap now)
+    past None some ends e = absurd (cc)
+    past (Some latest) some ends e = later gap latest now (last_or None legs) (joined-none gap latest now e) ends
+
+pub kept_apart : (gap : ℕ) (vessel new : VesselValue) (now : Accepted) → IsKept gap vessel → IsAccepted now
+    → joined_after gap (last_or None vessel.points) now ≡ None → new.points ≡ vessel.points ++ now ∷ [] → new.legs ≡ vessel.legs → IsKept gap new
+kept_apart gap vessel new now h is e points legs =
+    let ends : IfSome (Some now) (λ latest. IfSome (last_or None vessel.legs) (EndsAt gap latest)) = no_leg gap vessel.points vessel.legs now h.legs h.ends e in
+    record {
+      points = subst (λ (xs : List Accepted). All IsAccepted xs) (sym points) (All-push IsAccepted vessel.points now h.points is);
+      legs = legs ∙ h.legs ∙ sym (append-nil (legs_between gap vessel.points)) ∙ ap (λ (o : Option Leg). legs_between gap vessel.points ++ option_to_list o) (sym e)
+          ∙ sym (legs_between-push gap vessel.points now) ∙ ap (legs_between gap) (sym points);
+      ends = rw (points, legs, last_or-push) ends;
+      are_joined = subst (λ (xs : List Leg). AreJoined gap xs) (sym legs) h.are_joined;
+    }
+
+-- ---- a vessel with one more accepted report
+
+pub record HasTaken (gap : ℕ) (old new : VesselValue) (now : Accepted) : Type 0 where
+  pub kept : IsKept gap new
+  pub is : new ≡ vessel_with gap old (Some now)
+
+has_taken : (gap : ℕ) (old new : VesselValue) (now : Accepted) → IsKept gap new → new.points ≡ old.points ++ now ∷ [] → new.statics ≡ old.statics → HasTaken gap old new now
+has_taken gap old new now kept points statics =
+    let legs : new.legs ≡ legs_between gap (old.points ++ now ∷ []) = kept.legs ∙ ap (legs_between gap) points in
+    record { kept = kept; is = λ i. record { points = points i; legs = legs i; statics = statics i } }
+
+pub takes_joined : (gap : ℕ) (old inside new : VesselValue) (now : Accepted) (leg : Leg) → inside ≡ old → IsKept gap old → IsAccepted now
+    → joined_after gap (last_or None inside.points) now ≡ Some leg → new.points ≡ inside.points ++ now ∷ [] → new.legs ≡ inside.legs ++ leg ∷ []
+    → new.statics ≡ inside.statics → HasTaken gap old new now
+takes_joined gap old inside new now leg same h is e points legs statics =
+    let kept : IsKept gap inside = subst (IsKept gap) (sym same) h in
+    let new-kept = kept_joined gap inside new now leg kept is e points legs in
+    subst (λ (v : VesselValue). HasTaken gap v new now) same (has_taken gap inside new now new-kept points statics)
+
+pub takes_apart : (gap : ℕ) (old inside new : VesselValue) (now : Accepted) → inside ≡ old → IsKept gap old → IsAccepted now
+    → joined_after gap (last_or None inside.points) now ≡ None → new.points ≡ inside.points ++ now ∷ [] → new.legs ≡ inside.legs
+    → new.statics ≡ inside.statics → HasTaken gap old new now
+takes_apart gap old inside new now same h is e points legs statics =
+    let kept : IsKept gap inside = subst (IsKept gap) (sym same) h in
+    let new-kept = kept_apart gap inside new now kept is e points legs in
+    subst (λ (v : VesselValue). HasTaken gap v new now) same (has_taken gap inside new now new-kept points statics)

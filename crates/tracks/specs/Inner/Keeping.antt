@@ -1,0 +1,86 @@
+-- What a message changes of what is kept of a vessel, and what holds of it.
+use Rattle.std.specs.Prelude.{ℕ, ◌≡◌, ◌+◌, ◌-◌, ◌*◌, ◌<◌, ◌≤◌, ◌⊎◌, Bool, ◌||◌, is_some, List, [], ◌∷◌, ◌++◌, length, All, Option, Some, None, IfSome, Result, Ok, Err}
+use Rattle.std.specs.List.{last_or}
+use Rattle.std.specs.Option.{option_or}
+use Rattle.motion.specs.TickStates.{AreJoined}
+use Rattle.motion.specs.declared.leg.Leg.{Leg}
+use Rattle.ais_messages.specs.declared.message.StaticReport.{StaticReport}
+use Rattle.tracks.specs.AcceptedReports.{Numbers, Reported, distance2, judged, square}
+use Rattle.tracks.specs.JoinedReports.{joined, legs_between}
+use Rattle.tracks.specs.Standing.{BookValue, IsAccepted, IsNumbers, VesselValue}
+use Rattle.tracks.specs.VesselsHeld.{Sent, reported_in, static_in}
+use Rattle.tracks.specs.Inner.AscendingNumbers.{Ascends}
+use Rattle.tracks.specs.declared.accepted.Accepted.{Accepted}
+use Rattle.tracks.specs.declared.entry.ReportCause.{ReportCause}
+use Rattle.tracks.specs.declared.statics.Statics.{Statics}
+
+-- ---- what a message changes
+
+abbrev pub accepted_by : Result Accepted ReportCause → Option Accepted
+accepted_by (Ok accepted) = Some accepted
+accepted_by (Err _) = None
+
+-- the accepted report of a message, after the latest accepted one
+abbrev pub accepted_in : Numbers → Option Accepted → Option Reported → Option Accepted
+accepted_in numbers latest None = None
+accepted_in numbers latest (Some now) = accepted_by (judged numbers latest now)
+
+abbrev pub points_with : List Accepted → Option Accepted → List Accepted
+points_with points None = points
+points_with points (Some accepted) = points ++ accepted ∷ []
+
+abbrev pub statics_with : Statics → Option StaticReport → Statics
+statics_with statics None = statics
+statics_with statics (Some report) = record { name = option_or report.name statics.name; ship = option_or report.ship statics.ship }
+
+abbrev pub vessel_with : ℕ → VesselValue → Option Accepted → VesselValue
+vessel_with gap vessel accepted = record {
+  points = points_with vessel.points accepted;
+  legs = legs_between gap (points_with vessel.points accepted);
+  statics = vessel.statics;
+}
+
+abbrev pub told : VesselValue → Option StaticReport → VesselValue
+told vessel report = record { points = vessel.points; legs = vessel.legs; statics = statics_with vessel.statics report }
+
+-- what is kept of a vessel after a message of hers
+unfoldable pub vessel_after : Numbers → VesselValue → Sent → VesselValue
+vessel_after numbers vessel one =
+    told (vessel_with numbers.gap vessel (accepted_in numbers (last_or None vessel.points) (reported_in one))) (static_in one.message)
+
+-- nothing was told yet
+abbrev pub untold : VesselValue
+untold = record { points = []; legs = []; statics = record { name = None; ship = None } }
+
+-- The message makes its vessel held, of whom nothing was told.
+abbrev pub makes_held : Numbers → Sent → Bool
+makes_held numbers one = is_some (static_in one.message) || is_some (accepted_in numbers None (reported_in one))
+
+-- ---- what holds of what is kept
+
+-- A report that is accepted after another is later, and where it is joined to it no faster than 102.2 knots.
+pub record Follows (gap : ℕ) (latest now : Accepted) : Type 0 where
+  pub after : latest.time < now.time
+  pub slow : now.time ≤ latest.time + gap → 81 * distance2 latest now ≤ square (4630 * 1022 * (now.time - latest.time))
+
+-- the leg to a report from the latest one, if they are joined
+abbrev pub joined_after : ℕ → Option Accepted → Accepted → Option Leg
+joined_after gap None now = None
+joined_after gap (Some latest) now = joined gap latest now
+
+-- The last leg ends at the latest report, or more than the gap before it.
+abbrev pub EndsAt : ℕ → Accepted → Leg → Type 0
+EndsAt gap latest leg = ((leg.t2 ≡ latest.time) × (leg.p2 ≡ latest.point)) ⊎ (leg.t2 + gap < latest.time)
+
+pub record IsKept (gap : ℕ) (vessel : VesselValue) : Type 0 where
+  pub points : All IsAccepted vessel.points
+  pub legs : vessel.legs ≡ legs_between gap vessel.points
+  pub ends : IfSome (last_or None vessel.points) (λ latest. IfSome (last_or None vessel.legs) (EndsAt gap latest))
+  pub are_joined : AreJoined gap vessel.legs
+
+pub record IsBook (book : BookValue) : Type 0 where
+  pub numbers : IsNumbers book.numbers
+  pub ascends : Ascends book.held
+  pub few : length book.held ≤ 4096
+  pub each : length book.vessels ≡ length book.held
+  pub kept : All (IsKept book.numbers.gap) book.vessels

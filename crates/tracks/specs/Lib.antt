@@ -1,0 +1,12 @@
+pub use Rattle.fixed_geometry.specs.Place
+pub use Rattle.fixed_geometry.specs.Plane
+pub use Rattle.fixed_geometry.specs.Projection
+pub use Rattle.fixed_geometry.specs.Sizes
+pub use Rattle.motion.specs.Displacement
+pub use Rattle.motion.specs.TickStates
+pub use Rattle.ais_messages.specs.MessageFields
+pub mod AcceptedReports
+pub mod JoinedReports
+pub mod VesselsHeld
+pub mod Standing
+pub mod Inner

@@ -1,0 +1,49 @@
+-- What a book of vessels stands for.
+use Rattle.std.specs.Prelude.{ℕ, ◌≡◌, ◌≤◌, List, map, Option, Some, None, if◌then◌else◌}
+use Rattle.fixed_geometry.specs.Sizes.{IsWithin}
+use Rattle.ais_messages.specs.MessageFields.{IsReport}
+use Rattle.motion.specs.declared.leg.Leg.{Leg}
+use Rattle.tracks.specs.AcceptedReports.{Numbers}
+use Rattle.tracks.specs.VesselsHeld.{Sent, accepted_of, held_of, is_held, legs_of, statics_of}
+use Rattle.tracks.specs.declared.accepted.Accepted.{Accepted}
+use Rattle.tracks.specs.declared.statics.Statics.{Statics}
+
+-- what is kept of a vessel
+pub record VesselValue : Type 0 where
+  pub points : List Accepted
+  pub legs : List Leg
+  pub statics : Statics
+
+-- what a book keeps: its numbers, and the vessels that are held, in the order of their identities
+pub record BookValue : Type 0 where
+  pub numbers : Numbers
+  pub held : List ℕ
+  pub vessels : List VesselValue
+
+-- what the messages tell of a vessel
+abbrev pub vessel_of : Numbers → List Sent → ℕ → VesselValue
+vessel_of numbers sent mmsi = record {
+  points = accepted_of numbers sent mmsi;
+  legs = legs_of numbers sent mmsi;
+  statics = statics_of sent mmsi;
+}
+
+abbrev pub vessel_held : Numbers → List Sent → ℕ → Option VesselValue
+vessel_held numbers sent mmsi = if is_held numbers sent mmsi then Some (vessel_of numbers sent mmsi) else None
+
+-- A book stands for its numbers and the list of the messages so far.
+pub record StandsFor (book : BookValue) (numbers : Numbers) (sent : List Sent) : Type 0 where
+  pub by : book.numbers ≡ numbers
+  pub holds : book.held ≡ held_of numbers sent
+  pub vessels : book.vessels ≡ map (vessel_of numbers sent) (held_of numbers sent)
+
+-- the numbers that a scenario may have
+pub record IsNumbers (numbers : Numbers) : Type 0 where
+  pub gap : numbers.gap ≤ 3600
+  pub some_speed : 1 ≤ numbers.max_speed
+  pub max_speed : numbers.max_speed ≤ 1022
+
+-- An accepted report is in its ranges and lies in the region.
+pub record IsAccepted (accepted : Accepted) : Type 0 where
+  pub report : IsReport accepted.report
+  pub point : IsWithin 2222400000 accepted.point

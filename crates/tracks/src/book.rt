@@ -1,0 +1,263 @@
+//! The book of vessels.
+ghost use Rattle.std.specs.Prelude.{ℕ, true, ◌≡◌, ◌<◌, ◌≤◌, ◌++◌, ◌∷◌, [], ◌↔◌, All, Contains, Err, IfOk, IfSome, List, None, OnErr, OnOk, Some, length, slice_get, vec_len, if◌then◌else◌};
+ghost use Rattle.std.specs.List.{insert};
+ghost use Rattle.std.specs.Option.{option_copied};
+ghost use Rattle.ais_messages.specs.MessageFields.{IsMessage};
+ghost use Rattle.motion.specs.TickStates.{MovesLittle};
+ghost use Rattle.tracks.specs.AcceptedReports.{Numbers};
+ghost use Rattle.tracks.specs.Inner.Keeping.{IsKept, makes_held};
+ghost use Rattle.tracks.specs.Standing.{IsAccepted, IsNumbers, StandsFor, vessel_held};
+ghost use Rattle.tracks.specs.VesselsHeld.{Sent, accepted_of, entry_at, entry_of, held_of, is_held, legs_of, reported_in, sender_of, statics_of, with_number};
+ghost use Rattle.tracks.specs.declared.entry.BookFault.TheVariants.{TooManyVessels};
+
+use crate::accepted::Accepted;
+use crate::entry::{BookFault, Entry};
+use crate::judging::judge;
+use crate::numbers::Numbers as TheNumbers;
+use crate::parts::{position_report, sender, static_report};
+use crate::places::index_of;
+use crate::statics::Statics;
+use crate::vessel::Vessel;
+use ais_messages::Message;
+use fixed_geometry::Reference;
+use motion::Legs;
+use outside::Memory;
+use std::alloc::Global;
+use std::marker::Model;
+
+/// So many vessels a book holds.
+const MOST_VESSELS: usize = 4096;
+
+/// What a message of a vessel that is not held comes to.
+fn first_entry(numbers: &TheNumbers, message: &Message, time: u64) -> Entry
+    requires numbers { IsNumbers numbers.now }
+    requires message { IsMessage message.now }
+    ensures { result ≡ entry_at numbers.now None (reported_in (record { message = message.now; time = time })) }
+{
+    let Some(report) = position_report(message) else {
+        return Entry::Static;
+    };
+    match judge(numbers, None, report, time) {
+        Ok(accepted) => Entry::Point(accepted.point),
+        Err(cause) => Entry::Dropped(cause),
+    }
+}
+
+/// Whether a message that comes to this makes its vessel held.
+fn is_holding(message: &Message, entry: Entry) -> bool
+    ensures { (numbers : Numbers) (time : ℕ) → entry ≡ entry_at numbers None (reported_in (record { message = message.now; time = time }))
+        → result ≡ makes_held numbers (record { message = message.now; time = time }) }
+{
+    static_report(message).is_some() || matches!(entry, Entry::Point(_))
+}
+
+/// Puts a vessel at its place, or leaves all as it was.
+fn put(
+    held: &mut Vec<u32>,
+    vessels: &mut Vec<Vessel>,
+    at: usize,
+    mmsi: u32,
+    vessel: Vessel,
+) -> Result<(), Memory>
+    requires each { vec_len vessels.old ≡ vec_len held.old }
+    requires place { at ≤ vec_len held.old }
+    ensures held { OnOk result (held.new.items ≡ insert held.old.items at mmsi) }
+    ensures vessels { OnOk result (vessels.new.items ≡ insert vessels.old.items at vessel) }
+    ensures held_same { OnErr result (held.new.items ≡ held.old.items) }
+    ensures vessels_same { OnErr result (vessels.new.items ≡ vessels.old.items) }
+{
+    vessels.reserve(1)?;
+    held.insert(at, mmsi)?;
+    vessels.insert(at, vessel)?;
+    Ok(())
+}
+
+/// The vessels that were heard of, with their accepted reports, the legs between them and their static data. It is seen as what it
+/// keeps, which stands for its numbers and the list of the messages so far.
+#[derive(Drop)]
+pub struct Book {
+    alloc: Global,
+    numbers: TheNumbers,
+    held: Vec<u32>,
+    vessels: Vec<Vessel>,
+}
+
+impl Model for Book {
+    ghost use Rattle.tracks.specs.Standing.{BookValue};
+    ghost use Rattle.tracks.specs.Inner.Keeping.{IsBook};
+
+    ghost Value = { BookValue };
+
+    ghost view = { λ b. record { numbers = b.numbers; held = b.held.items; vessels = b.vessels.items } };
+
+    ghost invariant = { λ b. IsBook (record { numbers = b.numbers; held = b.held.items; vessels = b.vessels.items }) };
+}
+
+impl Book {
+    /// A book that holds no vessel, about a reference. Reports at most `gap` seconds apart are joined, and a vessel moves at most at
+    /// `max_speed` tenths of a knot. This takes no memory.
+    pub fn new(alloc: Global, reference: Reference, gap: u32, max_speed: u16) -> Book
+        requires gap { gap ≤ 3600 }
+        requires some_speed { 1 ≤ max_speed }
+        requires max_speed { max_speed ≤ 1022 }
+        ensures { StandsFor result (record { reference = reference; gap = gap; max_speed = max_speed }) [] }
+    {
+        Book {
+            alloc,
+            numbers: TheNumbers {
+                reference,
+                gap,
+                max_speed,
+            },
+            held: Vec::new(alloc),
+            vessels: Vec::new(alloc),
+        }
+    }
+
+    /// Takes the next message, which came at `time`, and gives what it comes to: the position report of a message is accepted, or
+    /// dropped for the first cause that applies, and its static report is kept in any case. `TooManyVessels` comes exactly where
+    /// more than 4096 vessels would be held with this message, and `Memory` where there was none; the book is then as before.
+    pub fn take(&mut self, message: &Message, time: u64) -> Result<Entry, BookFault>
+        requires { IsMessage message.now }
+        ensures entry { IfOk result (λ entry. (numbers : Numbers) (sent : List Sent) → StandsFor self.old numbers sent
+            → entry ≡ entry_of numbers sent (record { message = message.now; time = time })) }
+        ensures stands { OnOk result ((numbers : Numbers) (sent : List Sent) → StandsFor self.old numbers sent
+            → StandsFor self.new numbers (sent ++ record { message = message.now; time = time } ∷ [])) }
+        ensures same { OnErr result (self.new ≡ self.old) }
+        ensures too_many { (numbers : Numbers) (sent : List Sent) → StandsFor self.old numbers sent
+            → (result ≡ Err TooManyVessels) ↔ (4096 < length (held_of numbers (sent ++ record { message = message.now; time = time } ∷ []))) }
+    {
+        let mmsi = sender(message);
+        match index_of(&self.held, mmsi) {
+            Ok(at) => Ok(self.take_further(at, message, time)?),
+            Err(at) => self.take_first(at, mmsi, message, time),
+        }
+    }
+
+    /// Takes a message of the vessel that is held at this index.
+    fn take_further(&mut self, at: usize, message: &Message, time: u64) -> Result<Entry, Memory>
+        requires message { IsMessage message.now }
+        requires sender { slice_get self.old.held at ≡ Some (sender_of message.now) }
+        ensures entry { IfOk result (λ entry. (numbers : Numbers) (sent : List Sent) → StandsFor self.old numbers sent
+            → entry ≡ entry_of numbers sent (record { message = message.now; time = time })) }
+        ensures stands { OnOk result ((numbers : Numbers) (sent : List Sent) → StandsFor self.old numbers sent
+            → StandsFor self.new numbers (sent ++ record { message = message.now; time = time } ∷ [])) }
+        ensures same { OnErr result (self.new ≡ self.old) }
+        ensures few { (numbers : Numbers) (sent : List Sent) → StandsFor self.old numbers sent
+            → length (held_of numbers (sent ++ record { message = message.now; time = time } ∷ [])) ≤ 4096 }
+    {
+        let vessel = &mut self.vessels[at];
+        vessel.take(&self.numbers, message, time)
+    }
+
+    /// Takes a message of a vessel that is not held.
+    fn take_first(
+        &mut self,
+        at: usize,
+        mmsi: u32,
+        message: &Message,
+        time: u64,
+    ) -> Result<Entry, BookFault>
+        requires message { IsMessage message.now }
+        requires sender { mmsi ≡ sender_of message.now }
+        requires place { at ≤ length self.old.held }
+        requires absent { ¬ Contains self.old.held mmsi }
+        requires more { with_number mmsi self.old.held ≡ insert self.old.held at mmsi }
+        ensures entry { IfOk result (λ entry. (numbers : Numbers) (sent : List Sent) → StandsFor self.old numbers sent
+            → entry ≡ entry_of numbers sent (record { message = message.now; time = time })) }
+        ensures stands { OnOk result ((numbers : Numbers) (sent : List Sent) → StandsFor self.old numbers sent
+            → StandsFor self.new numbers (sent ++ record { message = message.now; time = time } ∷ [])) }
+        ensures same { OnErr result (self.new ≡ self.old) }
+        ensures too_many { (numbers : Numbers) (sent : List Sent) → StandsFor self.old numbers sent
+            → (result ≡ Err TooManyVessels) ↔ (4096 < length (held_of numbers (sent ++ record { message = message.now; time = time } ∷ []))) }
+    {
+        let entry = first_entry(&self.numbers, message, time);
+        if !is_holding(message, entry) {
+            return Ok(entry);
+        }
+        if self.held.len() >= MOST_VESSELS {
+            return Err(BookFault::TooManyVessels);
+        }
+        match self.hold(at, mmsi, message, time) {
+            Ok(()) => Ok(entry),
+            Err(_) => Err(BookFault::Memory),
+        }
+    }
+
+    /// Takes a message that makes its vessel held.
+    fn hold(&mut self, at: usize, mmsi: u32, message: &Message, time: u64) -> Result<(), Memory>
+        requires message { IsMessage message.now }
+        requires sender { mmsi ≡ sender_of message.now }
+        requires place { at ≤ length self.old.held }
+        requires absent { ¬ Contains self.old.held mmsi }
+        requires more { with_number mmsi self.old.held ≡ insert self.old.held at mmsi }
+        requires room { length self.old.held < 4096 }
+        requires holding { makes_held self.old.numbers (record { message = message.now; time = time }) ≡ true }
+        ensures stands { OnOk result ((numbers : Numbers) (sent : List Sent) → StandsFor self.old numbers sent
+            → StandsFor self.new numbers (sent ++ record { message = message.now; time = time } ∷ [])) }
+        ensures same { OnErr result (self.new ≡ self.old) }
+    {
+        let mut vessel = Vessel::new(self.alloc);
+        vessel.take(&self.numbers, message, time)?;
+        put(&mut self.held, &mut self.vessels, at, mmsi, vessel)
+    }
+
+    /// The vessel of this identity, if she is held.
+    fn vessel_of(&self, mmsi: u32) -> Option<&Vessel>
+        ensures value { (numbers : Numbers) (sent : List Sent) → StandsFor self.now numbers sent
+            → option_copied result ≡ vessel_held numbers sent mmsi }
+        ensures kept { IfSome (option_copied result) (IsKept self.now.numbers.gap) }
+    {
+        match index_of(&self.held, mmsi) {
+            Ok(at) => Some(&self.vessels[at]),
+            Err(_) => None,
+        }
+    }
+
+    /// The accepted reports of a vessel, in the order in which they came.
+    pub fn points(&self, mmsi: u32) -> &[Accepted]
+        ensures value { (numbers : Numbers) (sent : List Sent) → StandsFor self.now numbers sent → result.now ≡ accepted_of numbers sent mmsi }
+        ensures ranges { All IsAccepted result.now }
+    {
+        match self.vessel_of(mmsi) {
+            Some(vessel) => vessel.points(),
+            None => &[],
+        }
+    }
+
+    /// The legs between the accepted reports of a vessel, or `None` where she is not held.
+    pub fn legs(&self, mmsi: u32) -> Option<&Legs>
+        ensures value { (numbers : Numbers) (sent : List Sent) → StandsFor self.now numbers sent
+            → option_copied result ≡ (if is_held numbers sent mmsi then Some (legs_of numbers sent mmsi) else None) }
+        ensures moves { IfSome (option_copied result) (MovesLittle self.now.numbers.gap) }
+    {
+        let legs = self.vessel_of(mmsi)?.legs();
+        legs.moves_little(u64::from(self.numbers.gap));
+        Some(legs)
+    }
+
+    /// What a vessel told of herself, or `None` where she is not held.
+    pub fn statics(&self, mmsi: u32) -> Option<&Statics>
+        ensures { (numbers : Numbers) (sent : List Sent) → StandsFor self.now numbers sent
+            → option_copied result ≡ (if is_held numbers sent mmsi then Some (statics_of sent mmsi) else None) }
+    {
+        Some(self.vessel_of(mmsi)?.statics())
+    }
+
+    /// How many vessels are held.
+    pub fn vessels(&self) -> usize
+        ensures value { (numbers : Numbers) (sent : List Sent) → StandsFor self.now numbers sent → result ≡ length (held_of numbers sent) }
+        ensures count { result ≡ length self.now.held }
+        ensures few { result ≤ 4096 }
+    {
+        self.held.len()
+    }
+
+    /// The identity of the `k`-th vessel that is held, in ascending order from 0.
+    pub fn vessel(&self, k: usize) -> u32
+        requires { k < length self.now.held }
+        ensures { (numbers : Numbers) (sent : List Sent) → StandsFor self.now numbers sent → slice_get (held_of numbers sent) k ≡ Some result }
+    {
+        self.held[k]
+    }
+}

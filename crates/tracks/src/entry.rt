@@ -1,0 +1,49 @@
+//! What a message comes to.
+use fixed_geometry::Point;
+use outside::Memory;
+
+/// Why a position report is not accepted; the first that applies is the cause.
+#[derive(Clone, Copy, Debug, PartialEq, Eq)]
+pub enum ReportCause {
+    /// It has no place.
+    NoPos,
+    /// Its place is not in the region.
+    Far,
+    /// Its time is not after that of the vessel's latest accepted report.
+    Back,
+    /// It equals the latest accepted one in every field, and comes at most 30 seconds after it.
+    Repeat,
+    /// The vessel would have moved faster than the greatest speed since the latest accepted one, at most the gap before.
+    Jump,
+}
+
+/// What a message comes to.
+#[derive(Clone, Copy, Debug, PartialEq, Eq)]
+pub enum Entry {
+    /// Its position report is accepted, at this point of the plane.
+    Point(Point),
+    /// It is a static report alone.
+    Static,
+    /// Its position report is dropped. A static part of it is kept all the same.
+    Dropped(ReportCause),
+}
+
+/// Why a message could not be taken.
+#[derive(Clone, Copy, Debug, PartialEq, Eq)]
+pub enum BookFault {
+    /// There are 4096 vessels in the book, and the message would make it hold another.
+    TooManyVessels,
+    /// There was no memory.
+    Memory,
+}
+
+impl From<Memory> for BookFault {
+    ghost use Rattle.std.specs.Prelude.{◌≡◌};
+    ghost use Rattle.tracks.specs.declared.entry.BookFault.TheVariants as fault;
+
+    ghost from_gives = { λ _ f. f ≡ fault.Memory };
+
+    fn from(_: Memory) -> BookFault {
+        BookFault::Memory
+    }
+}

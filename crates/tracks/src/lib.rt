@@ -1,0 +1,28 @@
+//! The tracks of vessels: which of their position reports are accepted, the legs between these, and what is told of each ship.
+//!
+//! A `Book` takes the messages one after the other. A position report is dropped where it has no place (`NoPos`), lies outside the
+//! region (`Far`), is no later than the latest accepted report of its vessel (`Back`), repeats it (`Repeat`), or would have the
+//! vessel move faster than she can (`Jump`); else it is accepted. Accepted reports that follow each other within the gap are
+//! joined by a leg. Times are whole seconds since the Unix epoch, lengths tenths of a millimetre.
+//!
+//! Of three reports of one vessel, the first at second 1700000000, the same again 5 seconds later and one from another place 10
+//! seconds later, 20,000,000 away, the first is accepted, the second is a `Repeat` and the third a `Jump`.
+#![tactic(auto)]
+
+mod accepted;
+mod book;
+mod entry;
+mod judging;
+mod numbers;
+mod parts;
+mod places;
+mod statics;
+mod vessel;
+
+pub use accepted::Accepted;
+pub use book::Book;
+pub use entry::{BookFault, Entry, ReportCause};
+pub use statics::Statics;
+
+#[cfg(test)]
+mod tests;

@@ -1,0 +1,39 @@
+//! The parts of a message.
+ghost use Rattle.std.specs.Prelude.{◌≡◌};
+ghost use Rattle.std.specs.Option.{option_copied};
+ghost use Rattle.tracks.specs.VesselsHeld.{report_in, sender_of, static_in};
+
+use ais_messages::{Message, PositionReport, StaticReport};
+
+/// Who sent the message.
+pub(crate) fn sender(message: &Message) -> u32
+    ensures { result ≡ sender_of message.now }
+{
+    match message {
+        Message::Position(report) => report.mmsi,
+        Message::Static(report) => report.mmsi,
+        Message::Both(report, _) => report.mmsi,
+    }
+}
+
+/// Its position report.
+pub(crate) fn position_report(message: &Message) -> Option<&PositionReport>
+    ensures { option_copied result ≡ report_in message.now }
+{
+    match message {
+        Message::Position(report) => Some(report),
+        Message::Static(_) => None,
+        Message::Both(report, _) => Some(report),
+    }
+}
+
+/// Its static report.
+pub(crate) fn static_report(message: &Message) -> Option<&StaticReport>
+    ensures { option_copied result ≡ static_in message.now }
+{
+    match message {
+        Message::Position(_) => None,
+        Message::Static(report) => Some(report),
+        Message::Both(_, report) => Some(report),
+    }
+}

@@ -1,0 +1,227 @@
+ghost use Rattle.std.specs.Prelude.{◌≤◌, ◌≡◌, ◌+◌, ◌<◌, Some, None, pos, unsigned_abs};
+ghost use Rattle.ais_messages.specs.MessageFields.{IsMessage, IsReport, IsStatic};
+
+use super::*;
+use ais_messages::{Message, PositionReport, ShipData, StaticReport};
+use fixed_geometry::{Point, Reference};
+use std::alloc::Global;
+use std::process::Abort;
+use std::test::Fail;
+
+/// A report of a vessel from a latitude on the meridian of Greenwich, in 1/10000 minute.
+fn report(mmsi: u32, latitude: i32) -> PositionReport
+    requires low { 200000000 ≤ mmsi }
+    requires high { mmsi ≤ 799999999 }
+    requires latitude { unsigned_abs latitude ≤ 54000000 }
+    ensures { IsReport result }
+{
+    PositionReport {
+        kind: 1,
+        mmsi,
+        status: 0,
+        place: Some((latitude, 0)),
+        sog: Some(180),
+        cog: Some(0),
+        heading: None,
+        second: 0,
+    }
+}
+
+/// The ship's data of a report of a vessel.
+fn hull(mmsi: u32, bow: u16) -> StaticReport
+    requires low { 200000000 ≤ mmsi }
+    requires high { mmsi ≤ 799999999 }
+    requires bow { bow < 512 }
+    ensures { IsStatic result }
+{
+    StaticReport {
+        mmsi,
+        name: None,
+        ship: Some(ShipData {
+            kind: 70,
+            bow,
+            stern: 90,
+            port: 10,
+            starboard: 10,
+        }),
+    }
+}
+
+/// A book about the place at 0 north and 0 east, with a gap of 900 seconds.
+fn book(alloc: Global, max_speed: u16) -> Result<Book, Fail>
+    requires some_speed { 1 ≤ max_speed }
+    requires max_speed { max_speed ≤ 1022 }
+{
+    let reference = Reference::new(0, 0).ok_or("a reference")?;
+    Ok(Book::new(alloc, reference, 900, max_speed))
+}
+
+const OWN: u32 = 369190000;
+
+const OTHER: u32 = 477553000;
+
+#[test]
+fn repeats_and_jumps(rt: HostRuntime) -> Result<(), Fail> {
+    let mut book = book(rt.alloc(), 500)?;
+    let first = Message::Position(report(OWN, 0));
+    let away = Message::Position(report(OWN, 10800));
+    assert_eq!(rt;
+        book.take(&first, 1700000000),
+        Ok(Entry::Point(Point { x: 0, y: 0 }))
+    );
+    assert_eq!(rt;
+        book.take(&first, 1700000005),
+        Ok(Entry::Dropped(ReportCause::Repeat))
+    );
+    assert_eq!(rt;
+        book.take(&away, 1700000010),
+        Ok(Entry::Dropped(ReportCause::Jump))
+    );
+    assert_eq!(rt; book.points(OWN).len(), 1);
+    assert_eq!(rt; book.vessels(), 1);
+    Ok(())
+}
+
+#[test]
+fn equal_reports_30_and_31_seconds_apart(rt: HostRuntime) -> Result<(), Fail> {
+    let mut book = book(rt.alloc(), 500)?;
+    let still = Message::Position(report(OWN, 0));
+    assert!(rt; book.take(&still, 1000).is_ok());
+    assert_eq!(rt;
+        book.take(&still, 1000),
+        Ok(Entry::Dropped(ReportCause::Back))
+    );
+    assert_eq!(rt;
+        book.take(&still, 1030),
+        Ok(Entry::Dropped(ReportCause::Repeat))
+    );
+    assert_eq!(rt;
+        book.take(&still, 1031),
+        Ok(Entry::Point(Point { x: 0, y: 0 }))
+    );
+    let legs = book.legs(OWN).ok_or("the vessel is held")?;
+    assert_eq!(rt; legs.len(), 1);
+    Ok(())
+}
+
+#[test]
+fn the_greatest_speed_exactly(rt: HostRuntime) -> Result<(), Fail> {
+    let mut book = book(rt.alloc(), 18)?;
+    assert!(rt; book.take(&Message::Position(report(OWN, 0)), 1000).is_ok());
+    assert!(rt;
+        book.take(&Message::Position(report(OTHER, 0)), 1000)
+            .is_ok()
+    );
+    assert_eq!(rt;
+        book.take(&Message::Position(report(OWN, 5)), 1001),
+        Ok(Entry::Point(Point { x: 0, y: 9260 }))
+    );
+    assert_eq!(rt;
+        book.take(&Message::Position(report(OTHER, 6)), 1001),
+        Ok(Entry::Dropped(ReportCause::Jump))
+    );
+    Ok(())
+}
+
+#[test]
+fn more_than_the_gap_later_is_no_jump(rt: HostRuntime) -> Result<(), Fail> {
+    let mut book = book(rt.alloc(), 18)?;
+    let away = Message::Position(report(OWN, 1000000));
+    assert!(rt; book.take(&Message::Position(report(OWN, 0)), 1000).is_ok());
+    assert_eq!(rt;
+        book.take(&away, 1900),
+        Ok(Entry::Dropped(ReportCause::Jump))
+    );
+    assert_eq!(rt;
+        book.take(&away, 1901),
+        Ok(Entry::Point(Point {
+            x: 0,
+            y: 1852000000
+        }))
+    );
+    assert_eq!(rt; book.points(OWN).len(), 2);
+    let legs = book.legs(OWN).ok_or("the vessel is held")?;
+    assert!(rt; legs.is_empty());
+    Ok(())
+}
+
+#[test]
+fn a_dropped_position_leaves_its_static_part(rt: HostRuntime) -> Result<(), Fail> {
+    let mut book = book(rt.alloc(), 500)?;
+    let lost = PositionReport {
+        place: None,
+        ..report(OWN, 0)
+    };
+    let far = Message::Position(report(OTHER, 1200001));
+    assert_eq!(rt; book.take(&far, 1000), Ok(Entry::Dropped(ReportCause::Far)));
+    assert_eq!(rt; book.vessels(), 0);
+    let both = Message::Both(lost, hull(OWN, 90));
+    assert_eq!(rt;
+        book.take(&both, 1000),
+        Ok(Entry::Dropped(ReportCause::NoPos))
+    );
+    assert_eq!(rt; book.vessels(), 1);
+    assert!(rt; book.points(OWN).is_empty());
+    let statics = book.statics(OWN).ok_or("the vessel is held")?;
+    assert!(rt; statics.name.is_none());
+    let ship = statics.ship.ok_or("she told her size")?;
+    assert_eq!(rt; ship.bow, 90);
+    assert!(rt; book.statics(OTHER).is_none());
+    Ok(())
+}
+
+#[test]
+fn vessels_in_ascending_order(rt: HostRuntime) -> Result<(), Fail> {
+    let mut book = book(rt.alloc(), 500)?;
+    assert_eq!(rt;
+        book.take(&Message::Static(hull(OTHER, 20)), 1000),
+        Ok(Entry::Static)
+    );
+    assert_eq!(rt;
+        book.take(&Message::Static(hull(OWN, 90)), 1000),
+        Ok(Entry::Static)
+    );
+    assert_eq!(rt;
+        book.take(&Message::Static(hull(OTHER, 30)), 1000),
+        Ok(Entry::Static)
+    );
+    assert_eq!(rt; book.vessels(), 2);
+    let first = if book.vessels() == 2 {
+        book.vessel(0)
+    } else {
+        0
+    };
+    let second = if book.vessels() == 2 {
+        book.vessel(1)
+    } else {
+        0
+    };
+    assert_eq!(rt; first, OWN);
+    assert_eq!(rt; second, OTHER);
+    Ok(())
+}
+
+/// Takes a report of so many vessels, and counts the refusals.
+fn take_many(rt: &impl Abort, book: &mut Book, count: u32) -> u32
+    requires { count ≤ 10000 }
+{
+    let mut refused = 0u32;
+    for k in 0..count {
+        let entry = book.take(&Message::Position(report(200000000 + k, 0)), 1000);
+        if entry == Err(BookFault::TooManyVessels) {
+            refused = refused.saturating_add(1);
+        } else {
+            assert!(rt; entry.is_ok());
+        }
+    }
+    refused
+}
+
+#[test]
+fn vessel_4097_is_refused(rt: HostRuntime) -> Result<(), Fail> {
+    let mut book = book(rt.alloc(), 500)?;
+    assert_eq!(rt; take_many(&rt, &mut book, 4096), 0);
+    assert_eq!(rt; take_many(&rt, &mut book, 4097), 1);
+    assert_eq!(rt; book.vessels(), 4096);
+    Ok(())
+}

@@ -1,0 +1,245 @@
+//! What is kept of one vessel.
+ghost use Rattle.std.specs.Prelude.{◌≡◌, ◌≤◌, ◌<◌, All, None, IfOk, IfSome, OnOk, OnErr, Some};
+ghost use Rattle.std.specs.List.{last_or};
+ghost use Rattle.std.specs.Option.{option_copied};
+ghost use Rattle.ais_messages.specs.MessageFields.{IsMessage, IsReport};
+ghost use Rattle.motion.specs.TickStates.{IsLeg};
+ghost use Rattle.tracks.specs.AcceptedReports.{judged};
+ghost use Rattle.tracks.specs.JoinedReports.{direction_of, joined};
+ghost use Rattle.tracks.specs.Inner.Keeping.{Follows, IsKept, accepted_by, accepted_in, joined_after, told, untold, vessel_after, vessel_with};
+ghost use Rattle.tracks.specs.Standing.{IsAccepted, IsNumbers};
+ghost use Rattle.tracks.specs.VesselsHeld.{entry_at, entry_by, reported_in, static_in};
+
+use crate::accepted::Accepted;
+use crate::entry::Entry;
+use crate::judging::judge;
+use crate::numbers::Numbers;
+use crate::parts::{position_report, static_report};
+use crate::statics::Statics;
+use ais_messages::{Message, PositionReport, StaticReport, Text20};
+use motion::{Leg, Legs};
+use outside::Memory;
+use std::alloc::Global;
+use std::marker::Model;
+
+/// The direction of a vessel by her report, in tenths of a degree: her heading, or else her course.
+fn direction(report: &PositionReport) -> Option<u16>
+    requires { IsReport report.now }
+    ensures value { result ≡ direction_of report.now }
+    ensures small { IfSome result (λ d. d < 3600) }
+{
+    match report.heading {
+        Some(degrees) => Some(degrees * 10),
+        None => report.cog,
+    }
+}
+
+/// The leg from one report to the next, if they lie at most the gap apart.
+fn leg_between(gap: u32, from: &Accepted, to: &Accepted) -> Option<Leg>
+    requires gap { gap ≤ 3600 }
+    requires from { IsAccepted from.now }
+    requires to { IsAccepted to.now }
+    requires follows { Follows gap from.now to.now }
+    ensures value { result ≡ joined gap from.now to.now }
+    ensures leg { IfSome result IsLeg }
+{
+    if to.time - from.time > u64::from(gap) {
+        return None;
+    }
+    Some(Leg {
+        t1: from.time,
+        p1: from.point,
+        t2: to.time,
+        p2: to.point,
+        direction: direction(&from.report),
+        speed: from.report.sog,
+    })
+}
+
+/// The latest of her accepted reports.
+fn latest(points: &[Accepted]) -> Option<&Accepted>
+    requires { All IsAccepted points.now }
+    ensures value { option_copied result ≡ last_or None points.now }
+    ensures accepted { IfSome (option_copied result) IsAccepted }
+{
+    points.last()
+}
+
+/// The leg to a report that is accepted after these, if it is joined to the latest of them.
+fn leg_to(gap: u32, points: &[Accepted], accepted: &Accepted) -> Option<Leg>
+    requires gap { gap ≤ 3600 }
+    requires points { All IsAccepted points.now }
+    requires accepted { IsAccepted accepted.now }
+    requires follows { IfSome (last_or None points.now) (λ latest. Follows gap latest accepted.now) }
+    ensures value { result ≡ joined_after gap (last_or None points.now) accepted.now }
+    ensures leg { IfSome result IsLeg }
+{
+    match latest(points) {
+        None => None,
+        Some(latest) => leg_between(gap, latest, accepted),
+    }
+}
+
+/// Her accepted reports, the legs between them, and what she told of herself.
+#[derive(Debug, Drop)]
+pub(crate) struct Vessel {
+    points: Vec<Accepted>,
+    legs: Legs,
+    statics: Statics,
+}
+
+impl Model for Vessel {
+    ghost use Rattle.tracks.specs.Standing.{VesselValue};
+
+    ghost Value = { VesselValue };
+
+    ghost view = { λ v. record { points = v.points.items; legs = v.legs; statics = v.statics } };
+}
+
+impl Vessel {
+    /// A vessel of which nothing was told yet. This takes no memory.
+    pub(crate) fn new(alloc: Global) -> Vessel
+        ensures { result ≡ untold }
+    {
+        Vessel {
+            points: Vec::new(alloc),
+            legs: Legs::new(alloc),
+            statics: Statics {
+                name: None,
+                ship: None,
+            },
+        }
+    }
+
+    /// Puts an accepted report after the others, with the leg that it ends.
+    fn accept(&mut self, gap: u32, accepted: Accepted) -> Result<(), Memory>
+        requires gap { gap ≤ 3600 }
+        requires kept { IsKept gap self.old }
+        requires accepted { IsAccepted accepted }
+        requires follows { IfSome (last_or None self.old.points) (λ latest. Follows gap latest accepted) }
+        ensures ok { OnOk result (self.new ≡ vessel_with gap self.old (Some accepted)) }
+        ensures err { OnErr result (self.new ≡ self.old) }
+        ensures kept { IsKept gap self.new }
+    {
+        let leg = leg_to(gap, &self.points, &accepted);
+        self.points.push(accepted)?;
+        let Some(leg) = leg else {
+            return Ok(());
+        };
+        if self.legs.push(leg).is_err() {
+            let _ = self.points.pop();
+            return Err(Memory);
+        }
+        Ok(())
+    }
+
+    /// Takes a position report of hers.
+    fn take_report(
+        &mut self,
+        numbers: &Numbers,
+        report: &PositionReport,
+        time: u64,
+    ) -> Result<Entry, Memory>
+        requires numbers { IsNumbers numbers.now }
+        requires kept { IsKept numbers.now.gap self.old }
+        requires report { IsReport report.now }
+        ensures entry { IfOk result (λ entry. entry
+            ≡ entry_by (judged numbers.now (last_or None self.old.points) (record { report = report.now; time = time }))) }
+        ensures ok { OnOk result (self.new ≡ vessel_with numbers.now.gap self.old
+            (accepted_by (judged numbers.now (last_or None self.old.points) (record { report = report.now; time = time })))) }
+        ensures err { OnErr result (self.new ≡ self.old) }
+        ensures kept { IsKept numbers.now.gap self.new }
+    {
+        match judge(numbers, latest(&self.points), report, time) {
+            Err(cause) => Ok(Entry::Dropped(cause)),
+            Ok(accepted) => {
+                self.accept(numbers.gap, accepted)?;
+                Ok(Entry::Point(accepted.point))
+            }
+        }
+    }
+
+    /// Keeps what she tells of herself, over what she told before.
+    fn keep(&mut self, report: &StaticReport)
+        ensures { self.new ≡ told self.old (Some report.now) }
+    {
+        if let Some(name) = &report.name {
+            self.statics.name = Some(name.same());
+        }
+        if let Some(ship) = report.ship {
+            self.statics.ship = Some(ship);
+        }
+    }
+
+    /// Takes the position report of a message of hers, if it has one.
+    fn take_position(
+        &mut self,
+        numbers: &Numbers,
+        message: &Message,
+        time: u64,
+    ) -> Result<Entry, Memory>
+        requires numbers { IsNumbers numbers.now }
+        requires kept { IsKept numbers.now.gap self.old }
+        requires message { IsMessage message.now }
+        ensures entry { IfOk result (λ entry. entry ≡ entry_at numbers.now (last_or None self.old.points)
+            (reported_in (record { message = message.now; time = time }))) }
+        ensures ok { OnOk result (self.new ≡ vessel_with numbers.now.gap self.old (accepted_in numbers.now (last_or None self.old.points)
+            (reported_in (record { message = message.now; time = time })))) }
+        ensures err { OnErr result (self.new ≡ self.old) }
+        ensures kept { IsKept numbers.now.gap self.new }
+    {
+        match position_report(message) {
+            None => Ok(Entry::Static),
+            Some(report) => self.take_report(numbers, report, time),
+        }
+    }
+
+    /// Keeps the static report of a message of hers, if it has one.
+    fn keep_static(&mut self, message: &Message)
+        ensures { self.new ≡ told self.old (static_in message.now) }
+    {
+        if let Some(report) = static_report(message) {
+            self.keep(report);
+        }
+    }
+
+    /// Takes a message of hers. Where there is no memory, the vessel is as before.
+    #[tactic(auto, unfolding(crate::specs::Inner::Keeping::vessel_after))]
+    pub(crate) fn take(
+        &mut self,
+        numbers: &Numbers,
+        message: &Message,
+        time: u64,
+    ) -> Result<Entry, Memory>
+        requires numbers { IsNumbers numbers.now }
+        requires kept { IsKept numbers.now.gap self.old }
+        requires message { IsMessage message.now }
+        ensures entry { IfOk result (λ entry. entry ≡ entry_at numbers.now (last_or None self.old.points)
+            (reported_in (record { message = message.now; time = time }))) }
+        ensures ok { OnOk result (self.new ≡ vessel_after numbers.now self.old (record { message = message.now; time = time })) }
+        ensures err { OnErr result (self.new ≡ self.old) }
+        ensures kept { IsKept numbers.now.gap self.new }
+    {
+        let entry = self.take_position(numbers, message, time)?;
+        self.keep_static(message);
+        Ok(entry)
+    }
+
+    pub(crate) fn points(&self) -> &[Accepted]
+        ensures { result.now ≡ self.now.points }
+    {
+        &self.points
+    }
+
+    pub(crate) fn legs(&self) -> &Legs
+        ensures { result.now ≡ self.now.legs }
+    {
+        &self.legs
+    }
+
+    pub(crate) fn statics(&self) -> &Statics
+        ensures { result.now ≡ self.now.statics }
+    {
+        &self.statics
+    }
+}
