@@ -1,5 +1,5 @@
 -- Ascending lists of numbers.
-use Rattle.std.proofs.Common.{◌≡◌, ◌≢◌, ℕ, zero, suc, ◌+◌, ◌<◌, ◌≤◌, ◌⊎◌, inl, inr, List, [], ◌∷◌, ◌++◌, ◌∙◌, length, get_or, Bool, true, false, nat_lt, nat_eq, refl, ap, sym, subst, arith, take, drop}
+use Rattle.std.proofs.Common.{◌≡◌, ◌≢◌, ℕ, zero, suc, ◌<◌, ◌≤◌, ◌⊎◌, inl, inr, List, [], ◌∷◌, ◌∙◌, length, get_or, Bool, true, false, nat_lt, nat_eq, refl, ap, sym, subst, arith}
 use Rattle.std.proofs.lemmas.Bool.Decides.{nat_tests}
 use Rattle.std.proofs.lemmas.List.{get_or_default}
 use Rattle.std.proofs.lemmas.List.Elements.{All-cons, All-filter, All-head, All-nil, All-tail, All-weaker, filter_agree}
@@ -37,14 +37,14 @@ pub stands_at : (m : ℕ) (ns : List ℕ) (at : ℕ) → Ascends ns → ((k d : 
 stands_at m ns at h below above other = record {
   below = λ k d lt. below k d (omega arith) lt;
   above = λ k d le within. elim (same_or_before at k le) [
-      | inl same ↦ (let e : get_or ns at d ≡ get_or ns k d = ap (λ (j : ℕ). get_or ns j d) same in
-          let ge : m ≤ get_or ns k d = above k d le within in
-          let ne : get_or ns at 0 ≢ m = other (omega arith) in
-          let same-default = get_or_default ns at d 0 (omega arith) in
-          omega arith)
-      | inr before ↦ (let lt : get_or ns at d < get_or ns k d = ascends_lt ns h at k d before within in
-          let ge : m ≤ get_or ns at d = above at d (omega arith) (omega arith) in omega arith)
-    ];
+    | inl same ↦ (let e : get_or ns at d ≡ get_or ns k d = ap (λ (j : ℕ). get_or ns j d) same in
+        let ge : m ≤ get_or ns k d = above k d le within in
+        let ne : get_or ns at 0 ≢ m = other (omega arith) in
+        let same-default = get_or_default ns at d 0 (omega arith) in
+        omega arith)
+    | inr before ↦ (let lt : get_or ns at d < get_or ns k d = ascends_lt ns h at k d before within in
+        let ge : m ≤ get_or ns at d = above at d (omega arith) (omega arith) in omega arith)
+  ];
 }
 
 one_less : (m n : ℕ) (ns : List ℕ) (at : ℕ) → StandsAt m (n ∷ ns) (suc at) → StandsAt m ns at

@@ -1,12 +1,11 @@
 -- A book with one more vessel is a book.
-use Rattle.std.proofs.Common.{◌≡◌, ◌∙◌, ℕ, ◌+◌, ◌<◌, ◌≤◌, List, [], ◌∷◌, ◌++◌, length, take, drop, Ok, Err, refl, ap, sym, subst, arith}
+use Rattle.std.proofs.Common.{◌≡◌, ◌∙◌, ℕ, ◌+◌, ◌<◌, ◌≤◌, List, ◌∷◌, length, take, drop, Ok, Err, ap, sym, subst, arith}
 use Rattle.std.specs.Prelude.{Result, OnErr, OnOk}
 use Rattle.std.specs.List.{All, insert}
 use Rattle.std.proofs.lemmas.List.Edits.{length-insert}
 use Rattle.std.proofs.lemmas.List.Elements.{All-append, All-cons, All-drop, All-take}
 use Rattle.tracks.specs.Standing.{BookValue, VesselValue}
 use Rattle.tracks.specs.VesselsHeld.{with_number}
-use Rattle.tracks.specs.Inner.AscendingNumbers.{Ascends}
 use Rattle.tracks.specs.Inner.Keeping.{IsBook, IsKept}
 use Rattle.tracks.proofs.Ascending.{with_number-ascends}
 

@@ -1,15 +1,15 @@
 -- Which vessels are held, after one more message.
-use Rattle.std.proofs.Common.{◌≡◌, ◌≢◌, ◌∙◌, ℕ, zero, suc, ◌+◌, ◌<◌, ◌≤◌, ◌⊎◌, inl, inr, Bool, true, false, ◌==◌, ◌||◌, nat_eq, nat_lt, List, [], ◌∷◌, ◌++◌, length, length-append, Some, None, Ok, Err, refl, ap, sym, subst, arith}
-use Rattle.std.specs.Prelude.{Option, Result, is_some, fold, IsTrue}
-use Rattle.std.specs.List.{filter, filter_map, last_or}
+use Rattle.std.proofs.Common.{◌≡◌, ◌≢◌, ◌∙◌, ℕ, ◌≤◌, ◌⊎◌, inl, inr, Bool, true, false, ◌==◌, ◌||◌, nat_lt, List, [], ◌∷◌, ◌++◌, length, length-append, Some, None, refl, ap, sym, subst, arith}
+use Rattle.std.specs.Prelude.{Option, is_some, fold}
+use Rattle.std.specs.List.{filter, last_or}
 use Rattle.std.specs.Option.{option_to_list}
 use Rattle.std.proofs.lemmas.Bool.Decides.{nat_tests}
 use Rattle.ais_messages.specs.declared.message.StaticReport.{StaticReport}
 use Rattle.tracks.specs.AcceptedReports.{Numbers, accepted_after}
-use Rattle.tracks.specs.Standing.{VesselValue, vessel_of}
-use Rattle.tracks.specs.VesselsHeld.{Sent, accepted_of, held_of, is_held, last_told, legs_of, messages_of, reported_in, sender_of, senders_of, static_in, static_reports_of, statics_of, with_number}
+use Rattle.tracks.specs.Standing.{vessel_of}
+use Rattle.tracks.specs.VesselsHeld.{Sent, accepted_of, held_of, is_held, legs_of, messages_of, reported_in, sender_of, senders_of, static_in, static_reports_of, statics_of, with_number}
 use Rattle.tracks.specs.Inner.AscendingNumbers.{Ascends}
-use Rattle.tracks.specs.Inner.Keeping.{accepted_by, accepted_in, makes_held, points_with, untold}
+use Rattle.tracks.specs.Inner.Keeping.{accepted_in, makes_held, points_with, untold}
 use Rattle.tracks.specs.declared.accepted.Accepted.{Accepted}
 use Rattle.tracks.proofs.Ascending.{IsAmong, among-with_number, filter-ascends, filter_none_more, filter_one_more, itself_among, passes_among, with_number-ascends}
 use Rattle.tracks.proofs.Messages.{accepted_of-other, accepted_of-own, static_reports_of-other, static_reports_of-own}
@@ -155,12 +155,12 @@ not_held numbers sent n none = rw none refl
 among_or_not : (n : ℕ) (ms : List ℕ) → IsAmong n ms ⊎ (¬ IsAmong n ms)
 among_or_not n [] = inr (λ h. h)
 among_or_not n (m ∷ ms) = elim (same_or_other n m) [
-      | inl same ↦ inl (inl same)
-      | inr other ↦ elim (among_or_not n ms) [
-          | inl later ↦ inl (inr later)
-          | inr never ↦ inr (λ h. elim h [ inl same ↦ other same | inr later ↦ never later ])
-        ]
-    ]
+  | inl same ↦ inl (inl same)
+  | inr other ↦ elim (among_or_not n ms) [
+    | inl later ↦ inl (inr later)
+    | inr never ↦ inr (λ h. elim h [ inl same ↦ other same | inr later ↦ never later ])
+  ]
+]
 
 pub held_among : (numbers : Numbers) (sent : List Sent) (n : ℕ) → is_held numbers sent n ≡ true → IsAmong n (held_of numbers sent)
 unfolding held_of

@@ -1,5 +1,5 @@
 -- The last element of a list.
-use Rattle.std.proofs.Common.{◌≡◌, ℕ, zero, suc, ◌-◌, ◌<◌, List, [], ◌∷◌, ◌++◌, length, Some, None, refl, arith}
+use Rattle.std.proofs.Common.{◌≡◌, ◌-◌, List, [], ◌∷◌, ◌++◌, length, Some, None, refl}
 use native.Mathlib.Numerals.{unary_clauses}
 use Rattle.std.specs.Prelude.{Option, IfSome, slice_get}
 use Rattle.std.specs.List.{All, last_or}

@@ -1,18 +1,17 @@
 -- What one more message tells of the vessels.
-use Rattle.std.proofs.Common.{◌≡◌, ◌≢◌, ◌∙◌, ℕ, zero, suc, ◌+◌, ◌<◌, ◌⊎◌, inl, inr, Bool, true, false, ◌==◌, ◌||◌, nat_eq, nat_lt, List, [], ◌∷◌, ◌++◌, length, Some, None, Ok, Err, refl, ap, sym, subst, arith}
+use Rattle.std.proofs.Common.{◌≡◌, ◌≢◌, ◌∙◌, ℕ, Bool, true, false, ◌==◌, List, [], ◌∷◌, ◌++◌, Some, None, Ok, Err, refl, ap, sym, arith}
 use Rattle.std.specs.Prelude.{Option, Result}
 use Rattle.std.specs.List.{cons_option, filter, filter_map, last_or}
 use Rattle.std.specs.Option.{option_or, option_to_list}
 use Rattle.std.proofs.lemmas.Bool.Decides.{nat_tests}
 use Rattle.std.proofs.lemmas.List.{append-nil}
 use Rattle.std.proofs.lemmas.List.Elements.{filter-append, filter_map-append}
-use Rattle.ais_messages.specs.declared.message.ShipData.{ShipData}
 use Rattle.ais_messages.specs.declared.message.StaticReport.{StaticReport}
 use Rattle.tracks.specs.AcceptedReports.{Numbers, Reported, accepted_after, accepted_list, accepted_with, judged}
 use Rattle.tracks.specs.JoinedReports.{legs_between}
-use Rattle.tracks.specs.Standing.{VesselValue, vessel_of}
+use Rattle.tracks.specs.Standing.{vessel_of}
 use Rattle.tracks.specs.VesselsHeld.{Sent, accepted_of, last_told, legs_of, messages_of, reported_in, sender_of, static_in, static_reports_of, statics_of}
-use Rattle.tracks.specs.Inner.Keeping.{accepted_by, accepted_in, points_with, statics_with, told, vessel_after, vessel_with}
+use Rattle.tracks.specs.Inner.Keeping.{accepted_by, accepted_in, points_with, statics_with, vessel_after}
 use Rattle.tracks.specs.declared.accepted.Accepted.{Accepted}
 use Rattle.tracks.specs.declared.entry.ReportCause.{ReportCause}
 use Rattle.tracks.proofs.Lasts.{last_or-push}
@@ -38,8 +37,8 @@ adds_first numbers latest (Err cause) = refl
 adds_further : (numbers : Numbers) (reports : List Reported) (now : Reported) (latest : Option Accepted) (came : Result Accepted ReportCause)
     → ((o : Option Accepted) → Adds numbers reports now o)
     → accepted_with (accepted_after numbers (reports ++ now ∷ [])) latest came
-        ≡ points_with (accepted_with (accepted_after numbers reports) latest came)
-            (accepted_by (judged numbers (last_or latest (accepted_with (accepted_after numbers reports) latest came)) now))
+    ≡ points_with (accepted_with (accepted_after numbers reports) latest came)
+    (accepted_by (judged numbers (last_or latest (accepted_with (accepted_after numbers reports) latest came)) now))
 adds_further numbers reports now latest (Ok accepted) step =
     ap (λ (xs : List Accepted). accepted ∷ xs) (step (Some accepted))
     ∙ sym (points_with-cons accepted (accepted_after numbers reports (Some accepted)) (accepted_by (judged numbers (last_or (Some accepted) (accepted_after numbers reports (Some accepted))) now)))

@@ -1,10 +1,10 @@
 -- A book stands for one more message.
-use Rattle.std.proofs.Common.{◌≡◌, ◌≢◌, ◌∙◌, ℕ, zero, suc, ◌+◌, ◌<◌, ◌≤◌, ◌⊎◌, inl, inr, Bool, true, false, List, [], ◌∷◌, ◌++◌, length, map, get_or, set, take, drop, Some, None, refl, ap, sym, subst, arith}
-use Rattle.std.specs.Prelude.{Option, slice_get}
+use Rattle.std.proofs.Common.{◌≡◌, ◌≢◌, ◌∙◌, ℕ, zero, suc, ◌+◌, ◌<◌, ◌≤◌, inl, inr, Bool, true, false, List, [], ◌∷◌, ◌++◌, length, map, get_or, set, Some, None, refl, ap, sym, subst, arith}
+use Rattle.std.specs.Prelude.{slice_get}
 use Rattle.std.specs.List.{All, Contains, insert, last_or}
 use Rattle.std.proofs.lemmas.List.Edits.{length-insert}
 use Rattle.tracks.specs.AcceptedReports.{Numbers}
-use Rattle.tracks.specs.Standing.{BookValue, StandsFor, VesselValue, vessel_of}
+use Rattle.tracks.specs.Standing.{BookValue, StandsFor, VesselValue, vessel_held, vessel_of}
 use Rattle.tracks.specs.VesselsHeld.{Sent, accepted_of, entry_at, entry_of, held_of, is_held, reported_in, sender_of, with_number}
 use Rattle.tracks.specs.Inner.AscendingNumbers.{Ascends}
 use Rattle.tracks.specs.Inner.Keeping.{makes_held, untold, vessel_after}
@@ -223,3 +223,21 @@ pub first_count_more : (book : BookValue) (one : Sent) (at m : ℕ) → IsFirst 
     → (numbers : Numbers) (sent : List Sent) → StandsFor book numbers sent → length (held_of numbers (sent ++ one ∷ [])) ≡ length book.held + 1
 first_count_more book one at m first holding numbers sent h =
     count_as book numbers sent one at m first.sender h first.absent holding first.place first.more
+
+-- ---- look-ups
+
+pub found_vessel : (book : BookValue) (numbers : Numbers) (sent : List Sent) (at m : ℕ) (vessel : VesselValue) → StandsFor book numbers sent
+    → slice_get book.held at ≡ Some m → vessel ≡ get_or book.vessels at vessel → Some vessel ≡ vessel_held numbers sent m
+found_vessel book numbers sent at m vessel h e is =
+    rw (held_at book numbers sent at m h e) (ap (λ (v : VesselValue). Some v) (vessel_at book numbers sent at m vessel h e is))
+
+pub no_vessel : (book : BookValue) (numbers : Numbers) (sent : List Sent) (m : ℕ) → StandsFor book numbers sent → ¬ Contains book.held m
+    → None ≡ vessel_held numbers sent m
+no_vessel book numbers sent m h not = rw (not_held book numbers sent m h (λ among. not (Contains_from_among m book.held among))) refl
+
+pub no_points_held : (numbers : Numbers) (sent : List Sent) (m : ℕ) → None ≡ vessel_held numbers sent m → [] ≡ accepted_of numbers sent m
+no_points_held numbers sent m none = decide (is_held numbers sent m) refl
+  where
+    decide : (b : Bool) → is_held numbers sent m ≡ b → [] ≡ accepted_of numbers sent m
+    decide true e = absurd (let some : vessel_held numbers sent m ≡ Some (vessel_of numbers sent m) = rw e refl in cc)
+    decide false e = sym (no_points numbers sent m e)

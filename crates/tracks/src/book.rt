@@ -231,7 +231,9 @@ impl Book {
             → option_copied result ≡ (if is_held numbers sent mmsi then Some (legs_of numbers sent mmsi) else None) }
         ensures moves { IfSome (option_copied result) (MovesLittle self.now.numbers.gap) }
     {
-        Some(self.vessel_of(mmsi)?.legs())
+        let legs = self.vessel_of(mmsi)?.legs();
+        legs.moves_little(u64::from(self.numbers.gap));
+        Some(legs)
     }
 
     /// What a vessel told of herself, or `None` where she is not held.

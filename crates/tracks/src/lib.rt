@@ -13,7 +13,6 @@ mod accepted;
 mod book;
 mod entry;
 mod judging;
-pub mod laws;
 mod numbers;
 mod parts;
 mod places;

@@ -1,5 +1,5 @@
-use Rattle.std.proofs.Common.{ℕ, ◌≢◌, length, get_or, arith}
-use Rattle.tracks.proofs.Ascending.{StandsAt, not_among, stands_at, with_number-insert}
+use Rattle.std.proofs.Common.{arith}
+use Rattle.tracks.proofs.Ascending.{not_among, stands_at, with_number-insert}
 use Rattle.tracks.proofs.places.index_of.Goals as goal
 
 pub returns-then-at-numbers-clause-more : goal.returns-then-at-numbers-clause-more

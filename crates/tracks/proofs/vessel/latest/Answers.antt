@@ -1,6 +1,5 @@
-use Rattle.std.proofs.Common.{◌∙◌, ap, subst, sym}
+use Rattle.std.proofs.Common.{◌∙◌, subst, sym}
 use Rattle.std.specs.Prelude.{IfSome, None, Option}
-use Rattle.std.specs.Option.{option_copied}
 use Rattle.tracks.specs.Standing.{IsAccepted}
 use Rattle.tracks.specs.declared.accepted.Accepted.{Accepted}
 use Rattle.tracks.proofs.Lasts.{All-last, slice_get-last}

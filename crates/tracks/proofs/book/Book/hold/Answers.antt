@@ -1,9 +1,8 @@
-use Rattle.std.proofs.Common.{◌≡◌, ◌∙◌, ◌<◌, ◌≤◌, ℕ, List, [], ◌∷◌, ◌++◌, length, Ok, Err, true, refl, ap, sym, subst}
+use Rattle.std.proofs.Common.{◌≡◌, ◌∙◌, ◌<◌, ◌≤◌, length, Ok, Err, true, refl, ap, sym, subst}
 use Rattle.std.specs.Prelude.{OnOk, Result}
 use Rattle.std.specs.List.{Contains, insert}
-use Rattle.tracks.specs.AcceptedReports.{Numbers}
 use Rattle.tracks.specs.Standing.{BookValue, StandsFor, VesselValue}
-use Rattle.tracks.specs.VesselsHeld.{Sent, sender_of, with_number}
+use Rattle.tracks.specs.VesselsHeld.{Sent, with_number}
 use Rattle.tracks.specs.Inner.Keeping.{makes_held, untold, vessel_after}
 use Rattle.tracks.proofs.Books.{is_book_after}
 use Rattle.tracks.proofs.Stands.{stands_as}
@@ -31,10 +30,10 @@ returns-clause-stands c =
     c.in_ok-take.ensures.ok ∙ ap (λ (v : VesselValue). vessel_after c.self.inside.numbers v one) c.new-vessel.ensures in
     both c.put.result
     (λ held vessels numbers sent h.
-      stands_as old _ numbers sent one c.args.at c.args.mmsi c.requires.sender
-      (subst (λ (b : BookValue). StandsFor b numbers sent) (sym c.self.view_is) h)
-      (subst (λ (b : BookValue). ¬ Contains b.held c.args.mmsi) (sym c.self.view_is) c.requires.absent)
-      (subst (λ (b : BookValue). makes_held b.numbers one ≡ true) (sym c.self.view_is) c.requires.holding)
-      (subst (λ (b : BookValue). with_number c.args.mmsi b.held ≡ insert b.held c.args.at c.args.mmsi) (sym c.self.view_is) c.requires.more)
-      refl held (vessels ∙ ap (insert c.self.inside.vessels.items c.args.at) taken))
+    stands_as old _ numbers sent one c.args.at c.args.mmsi c.requires.sender
+    (subst (λ (b : BookValue). StandsFor b numbers sent) (sym c.self.view_is) h)
+    (subst (λ (b : BookValue). ¬ Contains b.held c.args.mmsi) (sym c.self.view_is) c.requires.absent)
+    (subst (λ (b : BookValue). makes_held b.numbers one ≡ true) (sym c.self.view_is) c.requires.holding)
+    (subst (λ (b : BookValue). with_number c.args.mmsi b.held ≡ insert b.held c.args.at c.args.mmsi) (sym c.self.view_is) c.requires.more)
+    refl held (vessels ∙ ap (insert c.self.inside.vessels.items c.args.at) taken))
     c.put.ensures.held c.put.ensures.vessels

@@ -1,6 +1,6 @@
-use Rattle.std.proofs.Common.{◌≡◌, ◌∙◌, ◌<◌, ◌≤◌, ℕ, List, [], ◌∷◌, ◌++◌, length, true, false, None, refl, ap, sym, subst, arith}
+use Rattle.std.proofs.Common.{◌≡◌, ◌∙◌, length, true, false, None, refl, ap, sym, arith}
 use Rattle.tracks.specs.AcceptedReports.{Numbers}
-use Rattle.tracks.specs.Standing.{BookValue, StandsFor}
+use Rattle.tracks.specs.Standing.{BookValue}
 use Rattle.tracks.specs.VesselsHeld.{Sent, entry_at, reported_in}
 use Rattle.tracks.specs.Inner.Keeping.{makes_held}
 use Rattle.tracks.proofs.Stands.{IsFirst, first_count, first_count_more, first_entry, first_stands}
@@ -35,8 +35,8 @@ returns-then-not-is_holding-clause-too_many c =
     ap (λ (n : Numbers). makes_held n one) (sym same) ∙ sym (c.is_holding.ensures c.self.inside.numbers c.args.time c.first_entry-entry.ensures) ∙ c.if-not-is_holding.true in
     let held : length c.self.inside.held.items ≡ length c.args.self.now.held = ap (λ (b : BookValue). length b.held) c.self.view_is in
     λ numbers sent h.
-      let count = first_count c.args.self.now one c.args.at c.args.mmsi first holding numbers sent h in
-      (λ e. absurd (cc), λ lt. absurd (omega (arith, c.self.invariant.few)))
+    let count = first_count c.args.self.now one c.args.at c.args.mmsi first holding numbers sent h in
+    (λ e. absurd (cc), λ lt. absurd (omega (arith, c.self.invariant.few)))
 
 pub returns-then-len-ge-MOST_VESSELS-clause-too_many : goal.returns-then-len-ge-MOST_VESSELS-clause-too_many
 returns-then-len-ge-MOST_VESSELS-clause-too_many c =
@@ -48,8 +48,8 @@ returns-then-len-ge-MOST_VESSELS-clause-too_many c =
     ap (λ (n : Numbers). makes_held n one) (sym same) ∙ sym (c.is_holding.ensures c.self.inside.numbers c.args.time c.first_entry-entry.ensures) ∙ c.if-not-is_holding.false in
     let held : length c.self.inside.held.items ≡ length c.args.self.now.held = ap (λ (b : BookValue). length b.held) c.self.view_is in
     λ numbers sent h.
-      let count = first_count_more c.args.self.now one c.args.at c.args.mmsi first holding numbers sent h in
-      (λ _. omega (arith, c.len.ensures), λ _. refl)
+    let count = first_count_more c.args.self.now one c.args.at c.args.mmsi first holding numbers sent h in
+    (λ _. omega (arith, c.len.ensures), λ _. refl)
 
 pub returns-in-Ok-clause-entry : goal.returns-in-Ok-clause-entry
 returns-in-Ok-clause-entry c =
@@ -70,9 +70,8 @@ returns-in-Ok-clause-too_many c =
     ap (λ (n : Numbers). makes_held n one) (sym same) ∙ sym (c.is_holding.ensures c.self.inside.numbers c.args.time c.first_entry-entry.ensures) ∙ c.if-not-is_holding.false in
     let held : length c.self.inside.held.items ≡ length c.args.self.now.held = ap (λ (b : BookValue). length b.held) c.self.view_is in
     λ numbers sent h.
-      let count = first_count_more c.args.self.now one c.args.at c.args.mmsi first holding numbers sent h in
-      (λ e. absurd (cc), λ lt. absurd (omega (arith, c.len.ensures)))
-
+    let count = first_count_more c.args.self.now one c.args.at c.args.mmsi first holding numbers sent h in
+    (λ e. absurd (cc), λ lt. absurd (omega (arith, c.len.ensures)))
 
 pub returns-in-Err-clause-too_many : goal.returns-in-Err-clause-too_many
 returns-in-Err-clause-too_many c =
@@ -84,6 +83,5 @@ returns-in-Err-clause-too_many c =
     ap (λ (n : Numbers). makes_held n one) (sym same) ∙ sym (c.is_holding.ensures c.self.inside.numbers c.args.time c.first_entry-entry.ensures) ∙ c.if-not-is_holding.false in
     let held : length c.self.inside.held.items ≡ length c.args.self.now.held = ap (λ (b : BookValue). length b.held) c.self.view_is in
     λ numbers sent h.
-      let count = first_count_more c.args.self.now one c.args.at c.args.mmsi first holding numbers sent h in
-      (λ e. absurd (cc), λ lt. absurd (omega (arith, c.len.ensures)))
-
+    let count = first_count_more c.args.self.now one c.args.at c.args.mmsi first holding numbers sent h in
+    (λ e. absurd (cc), λ lt. absurd (omega (arith, c.len.ensures)))

@@ -1,4 +1,4 @@
-use Rattle.std.proofs.Common.{◌≡◌, ◌∙◌, ℕ, List, [], ◌∷◌, ◌++◌, length, set, None, Some, refl, ap, sym, subst, arith}
+use Rattle.std.proofs.Common.{◌≡◌, ◌∙◌, ℕ, List, length, set, None, Some, refl, ap, sym, subst, arith}
 use Rattle.std.specs.Prelude.{slice_get}
 use Rattle.std.specs.List.{last_or}
 use Rattle.std.proofs.lemmas.Result.{IfOk-weaker, on_ok_weaker}
@@ -28,10 +28,10 @@ unfolding book one
 returns-clause-entry c =
     IfOk-weaker c.take.result _ _
     (λ entry e numbers sent h.
-      let s = stood c numbers sent h in
-      let at = vessel_at (book c) numbers sent c.args.at _ c.index_mut-vessel.result.now s (here c) c.index_mut-vessel.ensures.value in
-      e ∙ ap (λ (n : Numbers). entry_at n (last_or None c.index_mut-vessel.result.now.points) (reported_in (one c))) s.by
-      ∙ entry_after numbers sent (one c) c.index_mut-vessel.result.now.points (ap (λ (v : VesselValue). v.points) at))
+    let s = stood c numbers sent h in
+    let at = vessel_at (book c) numbers sent c.args.at _ c.index_mut-vessel.result.now s (here c) c.index_mut-vessel.ensures.value in
+    e ∙ ap (λ (n : Numbers). entry_at n (last_or None c.index_mut-vessel.result.now.points) (reported_in (one c))) s.by
+    ∙ entry_after numbers sent (one c) c.index_mut-vessel.result.now.points (ap (λ (v : VesselValue). v.points) at))
     c.take.ensures.entry
 
 pub returns-clause-stands : goal.returns-clause-stands
@@ -39,7 +39,7 @@ unfolding book one
 returns-clause-stands c =
     on_ok_weaker c.take.result
     (λ e numbers sent h. stands_further (book c) _ numbers sent (one c) c.args.at c.index_mut-vessel.result.now (stood c numbers sent h) (here c) c.index_mut-vessel.ensures.value
-      refl refl (ap (set c.self.inside.vessels.items c.args.at) e))
+    refl refl (ap (set c.self.inside.vessels.items c.args.at) e))
     c.take.ensures.ok
 
 pub returns-clause-few : goal.returns-clause-few

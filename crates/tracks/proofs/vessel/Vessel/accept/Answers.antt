@@ -1,4 +1,4 @@
-use Rattle.std.proofs.Common.{arith, rules, ◌≡◌, ◌∙◌, refl, sym, subst}
+use Rattle.std.proofs.Common.{arith, rules, ◌≡◌, refl, sym, subst}
 use Rattle.std.proofs.lemmas.Grind.{common_steps}
 use Rattle.tracks.specs.Standing.{VesselValue}
 use Rattle.tracks.specs.Inner.Keeping.{IsKept}
