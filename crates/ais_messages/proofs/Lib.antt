@@ -1,1 +1,3 @@
+pub mod ReadAgain
 pub mod Texts
+pub mod Writing

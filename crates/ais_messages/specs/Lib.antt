@@ -1,3 +1,4 @@
 pub mod MessageFields
 pub mod SixBitText
 pub use Rattle.aivdm.specs.BitFields
+pub mod PositionWriting

@@ -6,10 +6,12 @@
 #![tactic(auto)]
 
 mod decoding;
+mod encoding;
 mod message;
 mod text;
 
 pub use decoding::decode;
+pub use encoding::encode_position;
 pub use message::{Decoded, Message, MessageCause, PositionReport, ShipData, StaticReport};
 pub use text::{Text20, text6};
 

@@ -1,5 +1,5 @@
 use super::*;
-use aivdm::{Body, Joined, Joiner, read_line};
+use aivdm::{Body, Joined, Joiner, read_line, write_sentence};
 use std::alloc::Global;
 use std::test::Fail;
 
@@ -51,5 +51,120 @@ fn ship_under_way(rt: HostRuntime) -> Result<(), Fail> {
         message(rt.alloc(), line)?,
         Decoded::Message(Message::Position(report))
     );
+    Ok(())
+}
+
+// The sentences of a report and of the same with a time, as the worked rows of the documents give them.
+#[test]
+fn report_written_as_a_sentence(rt: HostRuntime) -> Result<(), Fail> {
+    let report = PositionReport {
+        kind: 1,
+        mmsi: 369190000,
+        status: 0,
+        place: Some((-10000, 0)),
+        sog: Some(180),
+        cog: Some(0),
+        heading: Some(0),
+        second: 0,
+    };
+    let Ok(bits) = encode_position(rt.alloc(), &report) else {
+        return Err("there is memory".into());
+    };
+    assert_eq!(rt; decode(&bits), Decoded::Message(Message::Position(report)));
+    let Ok(line) = write_sentence(rt.alloc(), None, &bits, b'A') else {
+        return Err("there is memory".into());
+    };
+    assert_eq!(rt;
+        line.as_slice(),
+        b"!AIVDM,1,1,,A,15P5TL0P2l00001wwHt000000000,0*5C".as_slice()
+    );
+    let Ok(line) = write_sentence(rt.alloc(), Some(1700000000), &bits, b'A') else {
+        return Err("there is memory".into());
+    };
+    assert_eq!(rt;
+        line.as_slice(),
+        b"\\c:1700000000*5F\\!AIVDM,1,1,,A,15P5TL0P2l00001wwHt000000000,0*5C".as_slice()
+    );
+    Ok(())
+}
+
+// A report without a place, speed, course and heading is written and read again.
+#[test]
+fn absent_fields_are_read_as_absent(rt: HostRuntime) -> Result<(), Fail> {
+    let report = PositionReport {
+        kind: 18,
+        mmsi: 799999999,
+        status: 15,
+        place: None,
+        sog: None,
+        cog: None,
+        heading: None,
+        second: 63,
+    };
+    let Ok(bits) = encode_position(rt.alloc(), &report) else {
+        return Err("there is memory".into());
+    };
+    assert_eq!(rt; bits.len(), 168);
+    assert_eq!(rt; decode(&bits), Decoded::Message(Message::Position(report)));
+    Ok(())
+}
+
+/// The message of two sentences.
+fn message_of_two(alloc: Global, first: &[u8], second: &[u8]) -> Result<Decoded, Fail> {
+    let mut joiner = Joiner::new(alloc);
+    let Body::Sentence(sentence) = read_line(first).body else {
+        return Err("it is a sentence".into());
+    };
+    let Ok(Joined::Waiting) = joiner.take(&sentence, 0) else {
+        return Err("it is a part".into());
+    };
+    let Body::Sentence(sentence) = read_line(second).body else {
+        return Err("it is a sentence".into());
+    };
+    let Ok(Joined::Message(bits)) = joiner.take(&sentence, 0) else {
+        return Err("it is a message".into());
+    };
+    Ok(decode(&bits))
+}
+
+// A message 5 off the air: MT.MITCHELL, a vessel of type 99, 180 metres long and 20 wide.
+#[test]
+fn ship_by_her_name_and_size(rt: HostRuntime) -> Result<(), Fail> {
+    let first = b"!AIVDM,2,1,3,B,55P5TL01VIaAL@7WKO@mBplU@<PDhh000000001S;AJ::4A80?4i@E53,0*3E";
+    let second = b"!AIVDM,2,2,3,B,1@0000000000000,2*55";
+    let Decoded::Message(Message::Static(report)) = message_of_two(rt.alloc(), first, second)?
+    else {
+        return Err("it is a static report".into());
+    };
+    assert_eq!(rt; report.mmsi, 369190000);
+    assert_eq!(rt;
+        report.name.ok_or("it has a name")?.bytes(),
+        b"MT.MITCHELL".as_slice()
+    );
+    let ship = ShipData {
+        kind: 99,
+        bow: 90,
+        stern: 90,
+        port: 10,
+        starboard: 10,
+    };
+    assert_eq!(rt; report.ship, Some(ship));
+    Ok(())
+}
+
+// One minute south of the equator, 18 knots on course 0, in 96 bits.
+#[test]
+fn long_range_report(rt: HostRuntime) -> Result<(), Fail> {
+    let decoded = message(rt.alloc(), b"!AIVDM,1,1,,A,K5P5TL0000?ws900,0*27")?;
+    let Decoded::Message(Message::Position(report)) = decoded else {
+        return Err("it is a position report".into());
+    };
+    assert_eq!(rt; report.kind, 27);
+    assert_eq!(rt; report.place, Some((-10000, 0)));
+    assert_eq!(rt;
+        (report.sog, report.cog, report.heading),
+        (Some(180), Some(0), None)
+    );
+    assert_eq!(rt; report.second, 60);
     Ok(())
 }

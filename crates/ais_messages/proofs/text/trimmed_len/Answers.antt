@@ -16,15 +16,15 @@ loop-k-preserved c =
     let more = take_more text k 0 c.loop-k-test.true in
     elim c.if-byte-ne32.branch [
       | then-byte-ne32 w ↦
-        let other : (get_or text k 0 == 32) ≡ false = grind (arith, nat_tests, w.if-byte-ne32) in
-        rw w.len-is (record {
-          within = omega arith;
-          trimmed = more ∙ sym (ap trimmed more ∙ trimmed-byte (take k text) (get_or text k 0) other);
-        })
+          let other : (get_or text k 0 == 32) ≡ false = grind (arith, nat_tests, w.if-byte-ne32) in
+          rw w.len-is (record {
+            within = omega arith;
+            trimmed = more ∙ sym (ap trimmed more ∙ trimmed-byte (take k text) (get_or text k 0) other);
+          })
       | else-byte-ne32 w ↦
-        let space : (get_or text k 0 == 32) ≡ true = grind (arith, nat_tests, w.if-byte-ne32) in
-        rw w.len-is (record {
-          within = omega (arith, c.loop-k.invariant.within);
-          trimmed = c.loop-k.invariant.trimmed ∙ sym (ap trimmed more ∙ trimmed-space (take k text) (get_or text k 0) space);
-        })
+          let space : (get_or text k 0 == 32) ≡ true = grind (arith, nat_tests, w.if-byte-ne32) in
+          rw w.len-is (record {
+            within = omega (arith, c.loop-k.invariant.within);
+            trimmed = c.loop-k.invariant.trimmed ∙ sym (ap trimmed more ∙ trimmed-space (take k text) (get_or text k 0) space);
+          })
     ]
