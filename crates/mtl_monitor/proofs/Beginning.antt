@@ -26,21 +26,21 @@ pub Keeps-fresh : (trace : Trace) (nodes : List ProgramNode) (trees : List Formu
 Keeps-fresh trace nodes trees (op.Atom a) late t s computes is = tt
 Keeps-fresh trace nodes trees (op.Not a) late t s computes is = tt
 Keeps-fresh trace nodes trees (op.Pair kind a b) late t s computes is = tt
-Keeps-fresh trace nodes trees (op.Late cells from a) late t (kinds.Ring b) computes is =
-    let none : 0 - from ≡ 0 = omega arith in rw (is, none) (Holds-none (value_in trace (tree_at trees a)) cells)
+Keeps-fresh trace nodes trees (op.Late cells from a) late t (kinds.Ring b r) computes is =
+    let none : 0 - from ≡ 0 = omega arith in rw (is.0, none) (Holds-none (value_in trace (tree_at trees a)) cells)
 Keeps-fresh trace nodes trees (op.Late cells from a) late t kinds.Plain computes is = absurd is
 Keeps-fresh trace nodes trees (op.Late cells from a) late t (kinds.Window w) computes is = absurd is
 Keeps-fresh trace nodes trees (op.Late cells from a) late t (kinds.Since w x) computes is = absurd is
 Keeps-fresh trace nodes trees (op.Late cells from a) late t (kinds.Until w x) computes is = absurd is
 Keeps-fresh trace nodes trees (op.Window kind width from a) late t (kinds.Window s) computes is = Lasts-fresh (λ k. sensed kind (value_in trace (tree_at trees a) k)) s width from is
 Keeps-fresh trace nodes trees (op.Window kind width from a) late t kinds.Plain computes is = absurd is
-Keeps-fresh trace nodes trees (op.Window kind width from a) late t (kinds.Ring b) computes is = absurd is
+Keeps-fresh trace nodes trees (op.Window kind width from a) late t (kinds.Ring b r) computes is = absurd is
 Keeps-fresh trace nodes trees (op.Window kind width from a) late t (kinds.Since w x) computes is = absurd is
 Keeps-fresh trace nodes trees (op.Window kind width from a) late t (kinds.Until w x) computes is = absurd is
 Keeps-fresh trace nodes trees (op.Since width lower from a b) late t (kinds.Since hits bars) computes is =
     (Lasts-fresh _ hits width from is.0, Lasts-fresh (λ k. turned_round (value_in trace (tree_at trees a) k)) bars lower late is.1)
 Keeps-fresh trace nodes trees (op.Since width lower from a b) late t kinds.Plain computes is = absurd is
-Keeps-fresh trace nodes trees (op.Since width lower from a b) late t (kinds.Ring r) computes is = absurd is
+Keeps-fresh trace nodes trees (op.Since width lower from a b) late t (kinds.Ring d q) computes is = absurd is
 Keeps-fresh trace nodes trees (op.Since width lower from a b) late t (kinds.Window w) computes is = absurd is
 Keeps-fresh trace nodes trees (op.Since width lower from a b) late t (kinds.Until w x) computes is = absurd is
 Keeps-fresh trace nodes trees (op.Until from full lower a behind b) late t (kinds.Until s bars) computes is =
@@ -50,6 +50,6 @@ Keeps-fresh trace nodes trees (op.Until from full lower a behind b) late t (kind
       Lasts-fresh (λ k. turned_round (value_in trace (tree_at trees a) k)) bars lower full is.1,
     )
 Keeps-fresh trace nodes trees (op.Until from full lower a behind b) late t kinds.Plain computes is = absurd is
-Keeps-fresh trace nodes trees (op.Until from full lower a behind b) late t (kinds.Ring r) computes is = absurd is
+Keeps-fresh trace nodes trees (op.Until from full lower a behind b) late t (kinds.Ring d q) computes is = absurd is
 Keeps-fresh trace nodes trees (op.Until from full lower a behind b) late t (kinds.Window w) computes is = absurd is
 Keeps-fresh trace nodes trees (op.Until from full lower a behind b) late t (kinds.Since w x) computes is = absurd is

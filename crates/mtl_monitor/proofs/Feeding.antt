@@ -1,6 +1,6 @@
 -- A state that follows some rows follows them with the next, and can be closed; and its answers are right.
-use Rattle.std.proofs.Common.{◌≡◌, ℕ, ◌+◌, ◌-◌, ◌<◌, ◌≤◌, refl, ap, sym, ◌∙◌, arith, true, inl, inr, List, [], ◌∷◌, ◌++◌, length, Option, Some, None, append_assoc, length-append}
-use Rattle.std.specs.Prelude.{nat_lt, slice_get}
+use Rattle.std.proofs.Common.{◌≡◌, ℕ, ◌+◌, ◌-◌, ◌<◌, ◌≤◌, refl, ap, sym, ◌∙◌, arith, zero, suc, Bool, true, false, inl, inr, List, [], ◌∷◌, ◌++◌, length, Option, Some, None, append_assoc, length-append}
+use Rattle.std.specs.Prelude.{not, nat_lt, slice_get}
 use Rattle.std.proofs.lemmas.Bool.Decides.{nat_tests}
 use Rattle.std.proofs.lemmas.List.{length_push, append-nil}
 use Rattle.std.proofs.lemmas.Option.{slice_get_past}
@@ -15,7 +15,15 @@ use Rattle.mtl_monitor.specs.declared.program.Program.{Program}
 use Rattle.mtl_monitor.specs.declared.trace_state.TraceState.{TraceState}
 use Rattle.mtl_monitor.specs.Traces.{Trace, value_in}
 use Rattle.mtl_monitor.specs.Inner.Steps.{value_at}
-use Rattle.mtl_monitor.specs.Inner.Standing.{root_at, IsRow, EndsAt, KeepAll, GiveAll, Passes}
+use Rattle.mtl_monitor.specs.Inner.Quiet.{HaveRuns, Answers, AreAnswered, AreQuiet, flag_at, MayRest, Walk, Walked}
+use Rattle.mtl_monitor.specs.Inner.Reading.{atom_at, IsListed, AreRead}
+use Rattle.mtl_monitor.specs.declared.node.AtomNode.{AtomNode}
+use Rattle.mtl_monitor.specs.declared.node.Kept.{Kept}
+use Rattle.mtl_monitor.specs.declared.node.ProgramNode.{ProgramNode}
+use Rattle.mtl_monitor.specs.declared.node.Operator.{Operator}
+use Rattle.mtl_monitor.specs.declared.node.Operator.TheVariants as op
+use Rattle.mtl_monitor.proofs.Walks.{Walk-begins, Walk-stays}
+use Rattle.mtl_monitor.specs.Inner.Standing.{root_at, AllBelow, IsRow, EndsAt, KeepAll, GiveAll, Passes}
 use Rattle.mtl_monitor.specs.Following.{Follows, Closes, IsEnded, formula_at}
 use Rattle.mtl_monitor.specs.Monitoring.{IsNext}
 
@@ -58,7 +66,9 @@ Closes-Follows p s formulas rows h =
 
 module _ (p : Program) (s s' : TraceState) (formulas : List FormulaTree) (rows : Trace) where
   module _ (r : Atom → Verdict) (h : Follows p s formulas rows) (fed : s'.fed ≡ s.passed + 1) (passed : s'.passed ≡ s.passed + 1)
-      (q : Passes p.nodes.items s.states.items s'.states.items s'.values.items r s.passed (s.passed + 1)) where
+      (q : Passes p.nodes.items s.states.items s'.states.items s'.values.items r s.passed (s.passed + 1))
+      (quiet : AreQuiet p.nodes.items s'.states.items s'.values.items s'.moving.items (s.passed + 1)) (runs : HaveRuns s'.states.items)
+      (still : s'.still ≡ true → (k : ℕ) → k < length p.nodes.items → flag_at s'.moving.items k ≡ false) where
     row_is : (more : Trace) → IsRow (rows ++ r ∷ more) r s.passed
     row_is more = rw h.all_passed (IsRow-next rows more r)
 
@@ -86,6 +96,9 @@ module _ (p : Program) (s s' : TraceState) (formulas : List FormulaTree) (rows :
           all_passed = passed ∙ sym count;
           keeps = λ more. rw count (kept_after more);
           gives = λ some more. rw (count, last) (gave_after more);
+          quiet = rw passed quiet;
+          runs = runs;
+          still = still;
         }
 
   -- a row beyond the end
@@ -103,6 +116,68 @@ module _ (p : Program) (s s' : TraceState) (formulas : List FormulaTree) (rows :
         keeps = rw passed (q.kept rows h.trees h.of.sound.program row end h.keeps);
         gives = λ some. rw (passed, last) (q.given rows h.trees h.of.sound.program row end h.keeps);
       }
+
+pub not_false : (b : Bool) → not b ≡ false → b ≡ true
+not_false true h = refl
+not_false false h = cc
+
+-- the answers to a row's atoms, as they were listed
+answered_one : (atoms : List AtomNode) (values : List Verdict) (r : Atom → Verdict) (o : Operator) (k : ℕ) → AreRead atoms values r → IsListed atoms o k → Answers o r (value_at values k)
+answered_one atoms values r (op.Atom a) k read (j, at) =
+    let index : (atom_at atoms j).index ≡ k = ap (λ (n : AtomNode). n.index) at.1 in
+    let atom : (atom_at atoms j).atom ≡ a = ap (λ (n : AtomNode). n.atom) at.1 in
+    rw (index, atom) at (read j at.0)
+answered_one atoms values r (op.Not a) k read at = tt
+answered_one atoms values r (op.Pair kind a b) k read at = tt
+answered_one atoms values r (op.Late cells from a) k read at = tt
+answered_one atoms values r (op.Window kind width from a) k read at = tt
+answered_one atoms values r (op.Since width lower from a b) k read at = tt
+answered_one atoms values r (op.Until from full lower a behind b) k read at = tt
+
+module _ (nodes : List ProgramNode) (states : List Kept) (values : List Verdict) (moving : List Bool) (r : Atom → Verdict) (i : ℕ)
+    (all_rest : (k : ℕ) → k < length nodes → flag_at moving k ≡ false) (s : length states ≡ length nodes) (v : length values ≡ length nodes) (m : length moving ≡ length nodes) where
+  stay : (k : ℕ) → k ≤ length nodes → Walk nodes states values moving r i (i + 1) false false states values moving false true k
+  stay zero inside = Walk-begins nodes states values moving r i (i + 1) false false s v m
+  stay (suc k) inside =
+      let next : suc k ≡ k + 1 = omega arith in
+      let before : Walk nodes states values moving r i (i + 1) false false states values moving false true k = stay k (omega arith) in
+      rw next (Walk-stays nodes states values moving r i (i + 1) false false states values moving false true k (omega arith) before refl (all_rest k (omega arith)) true (λ h. h))
+
+  -- All nodes rest.
+  pub Walked-still : Walked nodes states states values values moving moving r i (i + 1) false true
+  Walked-still = record { warm = false; spread' = false; warmth = λ h. cc; walk = stay (length nodes) (omega arith) }
+
+module _ (p : Program) (s s' : TraceState) (formulas : List FormulaTree) (rows : Trace) (below : AllBelow p.nodes.items) where
+  pub Follows-walked : (r : Atom → Verdict) (changed : Bool) → Follows p s formulas rows → s'.fed ≡ s.passed + 1 → s'.passed ≡ s.passed + 1
+      → (changed ≡ false → AreRead p.atoms.items s.values.items r)
+      → Walked p.nodes.items s.states.items s'.states.items s.values.items s'.values.items s.moving.items s'.moving.items r s.passed (s.passed + 1) changed s'.still
+      → Follows p s' formulas (rows ++ r ∷ [])
+  Follows-walked r changed h fed passed read w =
+      Follows-next p s s' formulas rows r h fed passed
+      (record {
+        kept = λ trace trees program answers ends keeps. record { each = (w.walk.midway trace trees program answers ends rest keeps).passed };
+        given = λ trace trees program answers ends keeps. record { each = (w.walk.midway trace trees program answers ends rest keeps).gave };
+      })
+      (λ k inside flag. w.walk.quiet w.warmth refl h.runs rest below k inside flag) (w.walk.runs h.runs) w.walk.all_still
+    where
+      answered : changed ≡ false → AreAnswered p.nodes.items s.values.items r
+      answered none k inside = answered_one p.atoms.items s.values.items r _ k (read none) (h.of.listed k inside)
+
+      rest : MayRest p.nodes.items s.states.items s.values.items s.moving.items r s.passed (s.passed + 1) w.warm changed
+      rest none = (refl, h.quiet, answered none)
+
+  pub Closes-walked : Closes p s formulas rows → s'.fed ≡ s.fed → s'.passed ≡ s.passed + 1
+      → Walked p.nodes.items s.states.items s'.states.items s.values.items s'.values.items s.moving.items s'.moving.items beyond s.passed s.fed true s'.still
+      → Closes p s' formulas rows
+  Closes-walked h fed passed w =
+      Closes-next p s s' formulas rows h fed passed
+      (record {
+        kept = λ trace trees program answers ends keeps. record { each = (w.walk.midway trace trees program answers ends all keeps).passed };
+        given = λ trace trees program answers ends keeps. record { each = (w.walk.midway trace trees program answers ends all keeps).gave };
+      })
+    where
+      all : MayRest p.nodes.items s.states.items s.values.items s.moving.items beyond s.passed s.fed w.warm true
+      all none = cc
 
 -- the answers to the last row that passed
 module _ (p : Program) (s : TraceState) (formulas : List FormulaTree) (rows : Trace) (k : ℕ) (root : Operand) (v : Verdict)

@@ -85,5 +85,6 @@ module _ (old : Program) (formulas : List FormulaTree) (t : FormulaTree) (valid 
               count = rw grows.roots (length_push old.roots.items built.operand ∙ (ap (λ n. n + 1) h.of.count ∙ sym (length_push formulas t)));
               each = rw (grows.nodes, grows.roots) (λ k inside. each_of k (omega (arith, length_push formulas t)));
               farthest = grows.reach ∙ (ap (λ n. max n (reach_of t)) h.of.farthest ∙ sym (greatest_reach-push formulas t));
+              listed = grows.listed;
             };
       }

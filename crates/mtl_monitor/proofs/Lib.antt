@@ -14,7 +14,11 @@ pub mod Joining
 pub mod Adding
 pub mod Beginning
 pub mod Compiled
+pub mod Runs
 pub mod Shapes
+pub mod QuietNodes
+pub mod Walks
+pub mod Listing
 pub mod Programs
 pub mod Feeding
 pub mod GrowingProgram

@@ -1,18 +1,44 @@
 -- Programs and the states of traces.
-use Rattle.std.proofs.Common.{◌≡◌, sym, ◌∙◌, arith, List, [], ◌++◌}
+use Rattle.std.proofs.Common.{◌≡◌, ℕ, ◌≤◌, sym, ◌∙◌, arith, true, false, inl, inr, List, [], ◌++◌, length}
+use Rattle.std.proofs.Math.ListN.{get_or-eq_default}
+use Rattle.std.proofs.lemmas.Bool.{cases_lt}
+use Rattle.mtl_monitor.specs.Inner.Standing.{state_at}
 use Rattle.mtl_formulas.specs.FormulaTree.{FormulaTree}
 use Rattle.mtl_monitor.specs.declared.program.Program.{Program}
 use Rattle.mtl_monitor.specs.declared.trace_state.TraceState.{TraceState}
+use Rattle.mtl_monitor.specs.declared.node.Kept.{Kept}
+use Rattle.mtl_monitor.specs.declared.node.Kept.TheVariants as kinds
+use Rattle.mtl_monitor.specs.declared.node.Operator.{Operator}
+use Rattle.mtl_monitor.specs.declared.node.Operator.TheVariants as op
 use Rattle.mtl_monitor.specs.Traces.{Trace}
-use Rattle.mtl_monitor.specs.Inner.Starting.{AreFresh}
+use Rattle.mtl_monitor.specs.Inner.Quiet.{IsCounted, HaveRuns}
+use Rattle.mtl_monitor.specs.Inner.Reading.{AreListed}
+use Rattle.mtl_monitor.specs.Inner.Starting.{IsFresh, AreFresh}
 use Rattle.mtl_monitor.specs.Following.{IsProgramWith, IsProgramOf, Fits, HasRoom, Follows, Closes}
 use Rattle.mtl_monitor.specs.Growing.{IsProgramFor}
 use Rattle.mtl_monitor.proofs.Beginning.{Keeps-fresh}
 
+true_false : true ≡ false → ⊥
+true_false h = cc
+
+counted_fresh : (o : Operator) (s : Kept) → IsFresh o s → IsCounted s
+counted_fresh (op.Late cells from a) (kinds.Ring b r) is =
+    rw (is.0, is.1) (record { fits = omega arith; within = omega arith; equal = λ j from inside. absurd (omega arith) })
+counted_fresh (op.Atom a) (kinds.Ring b r) is = absurd is
+counted_fresh (op.Not a) (kinds.Ring b r) is = absurd is
+counted_fresh (op.Pair kind a c) (kinds.Ring b r) is = absurd is
+counted_fresh (op.Window kind width from a) (kinds.Ring b r) is = absurd is
+counted_fresh (op.Since width lower from a c) (kinds.Ring b r) is = absurd is
+counted_fresh (op.Until from full lower a behind c) (kinds.Ring b r) is = absurd is
+counted_fresh o kinds.Plain is = tt
+counted_fresh o (kinds.Window w) is = tt
+counted_fresh o (kinds.Since w x) is = tt
+counted_fresh o (kinds.Until w x) is = tt
+
 -- A new state follows no rows.
-pub Follows-new : (p : Program) (s : TraceState) (formulas : List FormulaTree) → AreFresh p.nodes.items s.states.items s.values.items
+pub Follows-new : (p : Program) (s : TraceState) (formulas : List FormulaTree) → AreFresh p.nodes.items s.states.items s.values.items s.moving.items → s.still ≡ false
     → s.fed ≡ 0 → s.passed ≡ 0 → IsProgramOf p formulas → Follows p s formulas []
-Follows-new p s formulas fresh fed passed is =
+Follows-new p s formulas fresh still fed passed is =
     record {
       trees = is.trees;
       of = is.of;
@@ -20,22 +46,35 @@ Follows-new p s formulas fresh fed passed is =
       all_passed = passed;
       keeps = λ more. record { each = λ k h. Keeps-fresh ([] ++ more) p.nodes.items is.trees _ _ _ _ (is.of.sound.program.computes k h) (fresh.each k h) };
       gives = λ some more. absurd (omega arith);
+      quiet = λ k h flag. absurd (true_false (sym (fresh.move k) ∙ flag));
+      runs = counted_all;
+      still = λ h. absurd (true_false (sym h ∙ still));
     }
+  where
+    beyond_all : (k : ℕ) → length p.nodes.items ≤ k → state_at s.states.items k ≡ kinds.Plain
+    beyond_all k h = get_or-eq_default s.states.items kinds.Plain (omega (arith, fresh.states_fit))
+
+    counted_all : HaveRuns s.states.items
+    counted_all k = elim (cases_lt k (length p.nodes.items)) [
+      | inl inside ↦ counted_fresh _ _ (fresh.each k inside)
+      | inr past ↦ rw (beyond_all k past) tt
+    ]
 
 -- Programs of one formula are equal in all that counts.
 pub record AreEqual (p q : Program) : Type 0 where
   pub nodes : p.nodes.items ≡ q.nodes.items
   pub roots : p.roots.items ≡ q.roots.items
   pub reach : p.reach ≡ q.reach
+  pub listed : AreListed p.nodes.items p.atoms.items
 
 pub equal_programs : (p q : Program) (t : FormulaTree) → IsProgramFor p t → IsProgramFor q t → AreEqual p q
 equal_programs p q t is was =
-    record { nodes = is.nodes ∙ sym was.nodes; roots = is.roots ∙ sym was.roots; reach = is.reach ∙ sym was.reach }
+    record { nodes = is.nodes ∙ sym was.nodes; roots = is.roots ∙ sym was.roots; reach = is.reach ∙ sym was.reach; listed = is.listed }
 
 module _ (p q : Program) (e : AreEqual p q) where
   with_equal : (formulas trees : List FormulaTree) → IsProgramWith q formulas trees → IsProgramWith p formulas trees
   with_equal formulas trees is =
-      record { sound = rw e.nodes is.sound; count = rw e.roots is.count; each = rw (e.nodes, e.roots) is.each; farthest = rw e.reach is.farthest }
+      record { sound = rw e.nodes is.sound; count = rw e.roots is.count; each = rw (e.nodes, e.roots) is.each; farthest = rw e.reach is.farthest; listed = e.listed }
 
   pub Follows-equal : (s : TraceState) (formulas : List FormulaTree) (rows : Trace) → Follows q s formulas rows → Follows p s formulas rows
   Follows-equal s formulas rows h =
@@ -46,6 +85,9 @@ module _ (p q : Program) (e : AreEqual p q) where
         all_passed = h.all_passed;
         keeps = rw e.nodes h.keeps;
         gives = rw e.nodes h.gives;
+        quiet = rw e.nodes h.quiet;
+        runs = h.runs;
+        still = rw e.nodes h.still;
       }
 
   pub Closes-equal : (s : TraceState) (formulas : List FormulaTree) (rows : Trace) → Closes q s formulas rows → Closes p s formulas rows
@@ -60,7 +102,7 @@ module _ (p q : Program) (e : AreEqual p q) where
       }
 
   pub Fits-equal : (s : TraceState) → Fits q s → Fits p s
-  Fits-equal s h = record { states = rw e.nodes h.states; values = rw e.nodes h.values }
+  Fits-equal s h = record { states = rw e.nodes h.states; values = rw e.nodes h.values; moving = rw e.nodes h.moving }
 
   pub HasRoom-equal : (s : TraceState) → HasRoom q s → HasRoom p s
   HasRoom-equal s h = rw e.nodes h

@@ -1,6 +1,6 @@
 -- What a program and the state of a trace stand for. A reader has only to know that a new state follows no rows, how each call
 -- takes this on, and what the answers are: what the nodes keep for it is of no matter here.
-use Rattle.std.specs.Prelude.{◌≡◌, ℕ, ◌+◌, ◌-◌, ◌<◌, ◌≤◌, max, List, [], ◌∷◌, ◌++◌, length, get_or, ◌⊎◌, Option, Some, None}
+use Rattle.std.specs.Prelude.{◌≡◌, ℕ, ◌+◌, ◌-◌, ◌<◌, ◌≤◌, max, List, [], ◌∷◌, ◌++◌, length, get_or, ◌⊎◌, Option, Some, None, true, false}
 use Rattle.mtl_formulas.specs.declared.atom.Atom.TheVariants.{Always}
 use Rattle.mtl_formulas.specs.declared.verdict.Verdict.{Verdict}
 use Rattle.mtl_formulas.specs.FormulaTree.{FormulaTree, leaf}
@@ -10,8 +10,11 @@ use Rattle.mtl_monitor.specs.declared.node.ProgramNode.{ProgramNode}
 use Rattle.mtl_monitor.specs.declared.program.Program.{Program}
 use Rattle.mtl_monitor.specs.declared.trace_state.TraceState.{TraceState}
 use Rattle.mtl_monitor.specs.Traces.{Trace, value_in}
+use Rattle.mtl_monitor.specs.Inner.Steps.{value_at}
 use Rattle.mtl_monitor.specs.Inner.Standing.{tree_at, late_at, root_at, Sound, KeepAll, GiveAll}
 use Rattle.mtl_monitor.specs.Inner.Copying.{HaveShapes}
+use Rattle.mtl_monitor.specs.Inner.Quiet.{HaveRuns, AreQuiet, flag_at}
+use Rattle.mtl_monitor.specs.Inner.Reading.{AreListed}
 
 -- the formula with this index
 abbrev pub formula_at : List FormulaTree → ℕ → FormulaTree
@@ -35,6 +38,7 @@ pub record IsProgramWith (p : Program) (formulas trees : List FormulaTree) : Typ
   pub count : length p.roots.items ≡ length formulas
   pub each : (k : ℕ) → k < length formulas → IsRoot p.nodes.items trees (root_at p.roots.items k) (formula_at formulas k)
   pub farthest : p.reach ≡ greatest_reach formulas
+  pub listed : AreListed p.nodes.items p.atoms.items
 
 -- The program is one of these formulas, in this order.
 pub record IsProgramOf (p : Program) (formulas : List FormulaTree) : Type 0 where
@@ -49,6 +53,7 @@ count_of p = length p.roots.items
 pub record Fits (p : Program) (s : TraceState) : Type 0 where
   pub states : length s.states.items ≡ length p.nodes.items
   pub values : length s.values.items ≡ length p.nodes.items
+  pub moving : length s.moving.items ≡ length p.nodes.items
 
 -- It has the room that the program takes, so it can take over any other state of which the same is true.
 abbrev pub HasRoom : Program → TraceState → Type 0
@@ -65,6 +70,14 @@ fed_of s = s.fed
 abbrev pub past_of : TraceState → ℕ
 past_of s = s.passed - s.fed
 
+-- the value of a formula at the position that the last row has decided
+abbrev pub last_value : Program → TraceState → ℕ → Verdict
+last_value p s k = value_at s.values.items (root_at p.roots.items k).index
+
+-- Each formula has the value that it had before.
+abbrev pub GivesTheSame : Program → TraceState → TraceState → Type 0
+GivesTheSame p old new = (k : ℕ) → k < count_of p → last_value p new k ≡ last_value p old k
+
 -- The state of the program of these formulas was fed these rows, and may be fed more.
 pub record Follows (p : Program) (s : TraceState) (formulas : List FormulaTree) (rows : Trace) : Type 0 where
   pub trees : List FormulaTree
@@ -73,6 +86,9 @@ pub record Follows (p : Program) (s : TraceState) (formulas : List FormulaTree) 
   pub all_passed : s.passed ≡ length rows
   pub keeps : (more : Trace) → KeepAll (rows ++ more) trees p.nodes.items s.states.items (length rows)
   pub gives : 0 < length rows → (more : Trace) → GiveAll (rows ++ more) trees p.nodes.items s.values.items (length rows - 1)
+  pub quiet : AreQuiet p.nodes.items s.states.items s.values.items s.moving.items s.passed
+  pub runs : HaveRuns s.states.items
+  pub still : s.still ≡ true → (k : ℕ) → k < length p.nodes.items → flag_at s.moving.items k ≡ false
 
 -- The state of the program of these formulas was fed these rows, and no more come.
 pub record Closes (p : Program) (s : TraceState) (formulas : List FormulaTree) (rows : Trace) : Type 0 where

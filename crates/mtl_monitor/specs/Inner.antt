@@ -5,3 +5,5 @@ pub mod Standing
 pub mod Compiling
 pub mod Starting
 pub mod Copying
+pub mod Quiet
+pub mod Reading

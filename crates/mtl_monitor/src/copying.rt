@@ -31,7 +31,10 @@ fn copy_kept(keeps: &mut Kept, other: &Kept)
     ensures { keeps.new ≡ other.now }
 {
     match (keeps, other) {
-        (Kept::Ring(ring), Kept::Ring(other)) => copy_ring(ring, other),
+        (Kept::Ring(ring, run), Kept::Ring(other, other_run)) => {
+            copy_ring(ring, other);
+            *run = *other_run;
+        }
         (Kept::Window(seen), Kept::Window(other)) => *seen = *other,
         (Kept::Since(hits, bars), Kept::Since(other_hits, other_bars)) => {
             *hits = *other_hits;

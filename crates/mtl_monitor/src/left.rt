@@ -1,18 +1,24 @@
 //! Counts of what a window still holds.
 ghost use Rattle.std.specs.Prelude.{◌≡◌};
-ghost use Rattle.mtl_monitor.specs.Inner.Countdown.{left_after, left_under, left_value};
+ghost use Rattle.mtl_monitor.specs.Inner.Countdown.{same_left, left_after, left_under, left_value};
 
 use mtl_formulas::Verdict;
 
 /// For how many values more a Yes, and a value that is not No, stay in a window: 0 where it has none. No position is named,
 /// so that equal values soon leave the counts as they are.
-#[derive(Clone, Copy, Debug, PartialEq, Eq)]
+#[derive(Clone, Copy)]
 pub(crate) struct Left {
     pub yes: u32,
     pub some: u32,
 }
 
 impl Left {
+    pub(crate) fn is_same(self, other: Left) -> bool
+        ensures { result ≡ same_left self other }
+    {
+        self.yes == other.yes && self.some == other.some
+    }
+
     /// Reads one value more into a window of so many.
     pub(crate) fn read(&mut self, value: Verdict, width: u32)
         ensures { self.new ≡ left_after self.old width value }

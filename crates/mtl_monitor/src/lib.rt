@@ -15,6 +15,7 @@ mod monitor;
 mod node;
 mod passing;
 mod program;
+mod reading;
 mod sameness;
 mod starting;
 mod trace_state;
@@ -23,3 +24,6 @@ mod verdicts;
 pub use monitor::Monitor;
 pub use program::Program;
 pub use trace_state::TraceState;
+
+#[cfg(test)]
+mod tests;

@@ -55,7 +55,7 @@ impl Monitor {
         ensures fed { fed_rows self.new ≡ fed_rows self.old + 1 }
         ensures past { past_rows self.new ≡ 0 }
     {
-        self.state.feed(&self.program, row);
+        let _changed = self.state.feed(&self.program, row);
         self.state.answer(&self.program, 0)
     }
 

@@ -30,11 +30,26 @@ pub(crate) struct ProgramNode {
     pub late: u32,
 }
 
+/// A node of an atom, by its index.
+#[derive(Clone, Copy)]
+pub(crate) struct AtomNode {
+    pub index: usize,
+    pub atom: Atom,
+}
+
+/// The value that was read last, and how often without another, counted up to the cells of its ring.
+#[derive(Clone, Copy)]
+pub(crate) struct Run {
+    pub value: Verdict,
+    pub count: usize,
+}
+
 /// What a node keeps between rows.
 #[derive(Drop)]
 pub(crate) enum Kept {
     Plain,
-    Ring(HeapCircularBuffer<Verdict>),
+    /// The values on their way, and how often the last one was read.
+    Ring(HeapCircularBuffer<Verdict>, Run),
     Window(Left),
     /// What held, and what the first operand bars.
     Since(Left, Left),

@@ -1,16 +1,15 @@
 //! One row through the nodes.
-ghost use Rattle.std.specs.Prelude.{◌≡◌, ◌<◌, ◌≤◌, ◌+◌, List, length};
-ghost use Rattle.mtl_formulas.specs.FormulaTree.{FormulaTree};
-ghost use Rattle.mtl_monitor.specs.Traces.{Trace};
+ghost use Rattle.std.specs.Prelude.{◌≡◌, ◌<◌, ◌≤◌, ◌+◌, Bool, true, false, nat_lt, if◌then◌else◌, length, min};
+ghost use Rattle.mtl_formulas.specs.declared.verdict.Verdict.TheVariants.{Open};
 ghost use Rattle.mtl_monitor.specs.Inner.Countdown.{left_value};
-ghost use Rattle.mtl_monitor.specs.Inner.Steps.{value_at, sensed, ring_value, ring_after, window_after, hits_under, bars_after, hits_after, before_after, window_read, HasValidAtom, given, kept};
-ghost use Rattle.mtl_monitor.specs.Inner.Copying.{HaveShapes};
-ghost use Rattle.mtl_monitor.specs.Inner.Standing.{IsProgram, IsRow, EndsAt, Midway, Passes, AllValid, AllBelow, OperandsBelow};
+ghost use Rattle.mtl_monitor.specs.Inner.Steps.{value_at, same_verdict, sensed, ring_value, ring_after, run_after, window_after, hits_under, bars_after, hits_after, before_after, window_read, HasValidAtom, given, kept};
+ghost use Rattle.mtl_monitor.specs.Inner.Standing.{AllValid, AllBelow, OperandsBelow};
+ghost use Rattle.mtl_monitor.specs.Inner.Quiet.{IsRun, IsCounted, CanRest, flag_at, Moves, Steps, Walk};
 
 use crate::left::Left;
 use crate::lookahead::Lookahead;
-use crate::node::{Kept, Operator, ProgramNode};
-use crate::verdicts::{joined, lesser, negated, sensed};
+use crate::node::{Kept, Operator, ProgramNode, Run};
+use crate::verdicts::{is_same, joined, lesser, negated, sensed};
 use circular_buffer::HeapCircularBuffer;
 use mtl_formulas::{Atoms, SpanKind, Verdict};
 
@@ -21,13 +20,71 @@ fn value_at(values: &[Verdict], index: usize) -> Verdict
     values[index]
 }
 
-fn push(ring: &mut HeapCircularBuffer<Verdict>, value: Verdict) -> Verdict
-    ensures value { result ≡ ring_value ring.old value }
-    ensures ring { ring.new ≡ ring_after ring.old value }
+/// What a node gives at a row, and whether what it keeps has moved.
+#[derive(Clone, Copy)]
+struct Passed {
+    pub value: Verdict,
+    moved: bool,
+}
+
+/// How often a value was read, up to so many cells.
+fn counted(count: usize, same: bool, cells: usize) -> usize
+    ensures { result ≡ (if same then min (count + 1) cells else min 1 cells) }
 {
+    if same {
+        count.saturating_add(1).min(cells)
+    } else {
+        cells.min(1)
+    }
+}
+
+impl Run {
+    /// Counts a value, up to so many cells.
+    fn read(&mut self, cells: usize, value: Verdict)
+        ensures { self.new ≡ run_after self.old cells value }
+    {
+        self.count = counted(self.count, is_same(value, self.value), cells);
+        self.value = value;
+    }
+}
+
+fn push(ring: &mut HeapCircularBuffer<Verdict>, run: &mut Run, value: Verdict) -> Passed
+    ensures value { result.value ≡ ring_value ring.old value }
+    ensures ring { ring.new ≡ ring_after ring.old value }
+    ensures run { run.new ≡ run_after run.old ring.old.capacity value }
+    ensures still { result.moved ≡ false → (same_verdict value run.old.value ≡ true) × (run.old.count ≡ ring.old.capacity) }
+{
+    let cells = ring.capacity();
+    let moved = !(is_same(value, run.value) && run.count == cells);
+    run.read(cells, value);
     match ring.push_back(value) {
-        Some(value) => value,
-        None => Verdict::Open,
+        Some(value) => Passed { value, moved },
+        None => Passed {
+            value: Verdict::Open,
+            moved,
+        },
+    }
+}
+
+fn delay(
+    ring: &mut HeapCircularBuffer<Verdict>,
+    run: &mut Run,
+    from: u32,
+    value: Verdict,
+    i: u32,
+) -> Passed
+    ensures value { result.value ≡ (if nat_lt i from then Open else ring_value ring.old value) }
+    ensures ring { ring.new ≡ (if nat_lt i from then ring.old else ring_after ring.old value) }
+    ensures run { run.new ≡ (if nat_lt i from then run.old else run_after run.old ring.old.capacity value) }
+    ensures still { result.moved ≡ false → IsRun ring.old run.old → (ring.new ≡ ring.old) × (run.new ≡ run.old) }
+{
+    if i >= from {
+        push(ring, run, value)
+    } else {
+        Passed {
+            value: Verdict::Open,
+            moved: false,
+        }
     }
 }
 
@@ -79,103 +136,170 @@ fn look_ahead(ahead: &mut Lookahead, from: u32, a: Verdict, b: Verdict, i: u32)
     }
 }
 
+/// A value at a position, as far as the trace is known to reach.
+fn before_end(value: Verdict, position: u32, end: u32) -> Verdict
+    ensures { result ≡ (if nat_lt position end then value else Open) }
+{
+    if position < end { value } else { Verdict::Open }
+}
+
 /// Passes row `i` through a node, whose operands have passed it. The trace is known to end at `end`, or not before.
-pub(crate) fn pass<A: Atoms>(
+fn pass<A: Atoms>(
     node: &ProgramNode,
     keeps: &mut Kept,
     values: &[Verdict],
     row: &A,
     i: u32,
     end: u32,
-) -> Verdict
+) -> Passed
     requires valid { HasValidAtom node.now.operator }
     requires below { OperandsBelow (length values.now) node.now.operator }
-    ensures value { result ≡ given node.now.operator keeps.old node.now.late values.now (A.answer row.now) i end }
+    ensures value { result.value ≡ given node.now.operator keeps.old node.now.late values.now (A.answer row.now) i end }
     ensures after { keeps.new ≡ kept node.now.operator keeps.old node.now.late values.now i }
+    ensures rests { result.moved ≡ false → CanRest node.now.operator }
+    ensures still { result.moved ≡ false → IsCounted keeps.old → keeps.new ≡ keeps.old }
 {
+    let position = i.saturating_sub(node.late);
     match (node.operator, keeps) {
-        (Operator::Atom(atom), _) => row.value(atom),
-        (Operator::Not(a), _) => negated(value_at(values, a)),
-        (Operator::Pair(kind, a, b), _) => joined(kind, value_at(values, a), value_at(values, b)),
-        (Operator::Late(_, from, a), Kept::Ring(ring)) => {
-            if i >= from {
-                push(ring, value_at(values, a))
-            } else {
-                Verdict::Open
-            }
+        (Operator::Atom(atom), _) => Passed {
+            value: row.value(atom),
+            moved: false,
+        },
+        (Operator::Not(a), _) => Passed {
+            value: negated(value_at(values, a)),
+            moved: false,
+        },
+        (Operator::Pair(kind, a, b), _) => Passed {
+            value: joined(kind, value_at(values, a), value_at(values, b)),
+            moved: false,
+        },
+        (Operator::Late(_, from, a), Kept::Ring(ring, run)) => {
+            delay(ring, run, from, value_at(values, a), i)
         }
         (Operator::Window(kind, width, from, a), Kept::Window(left)) => {
+            let before = *left;
             let value = slide(left, kind, width, from, value_at(values, a), i);
-            if i.saturating_sub(node.late) < end {
-                value
-            } else {
-                Verdict::Open
+            Passed {
+                value: before_end(value, position, end),
+                moved: !before.is_same(*left),
             }
         }
         (Operator::Since(width, lower, from, a, b), Kept::Since(hits, bars)) => {
+            let before = *hits;
+            let barred = *bars;
             bar(hits, bars, node.late, lower, value_at(values, a), i);
             hold(hits, *bars, width, from, value_at(values, b), i);
-            if i.saturating_sub(node.late) < end {
-                hits.value()
-            } else {
-                Verdict::Open
+            Passed {
+                value: before_end(hits.value(), position, end),
+                moved: !(before.is_same(*hits) && barred.is_same(*bars)),
             }
         }
         (Operator::Until(from, full, lower, a, behind, b), Kept::Until(ahead, bars)) => {
             look_ahead(ahead, from, value_at(values, a), value_at(values, b), i);
             bar_before(bars, lower, full, value_at(values, behind), i);
-            if i.saturating_sub(node.late) < end {
-                lesser(negated(bars.value()), ahead.value())
-            } else {
-                Verdict::Open
+            Passed {
+                value: before_end(lesser(negated(bars.value()), ahead.value()), position, end),
+                moved: true,
             }
         }
-        _ => Verdict::Open,
+        _ => Passed {
+            value: Verdict::Open,
+            moved: true,
+        },
     }
 }
 
-/// Passes row `i` through the node at index `k`, once it has passed all before it.
+/// Passes row `i` through the node at index `k`, once it has passed all before it. Says whether its value has changed.
 fn pass_at<A: Atoms>(
     nodes: &[ProgramNode],
     k: usize,
     states: &mut [Kept],
     values: &mut [Verdict],
+    moving: &mut [bool],
     row: &A,
     i: u32,
     end: u32,
-)
+    warm: bool,
+) -> bool
     requires valid { AllValid nodes.now }
     requires below { AllBelow nodes.now }
     requires inside { k < length nodes.now }
     requires states { length states.old ≡ length nodes.now }
     requires values { length values.old ≡ length nodes.now }
-    ensures midway { (trace : Trace) (trees : List FormulaTree) → IsProgram nodes.now trees →
-        IsRow trace (A.answer row.now) i → EndsAt trace i end →
-        Midway trace trees nodes.now states.old values.old i k →
-        Midway trace trees nodes.now states.new values.new i (k + 1) }
-    ensures shapes { HaveShapes nodes.now states.old → HaveShapes nodes.now states.new }
+    requires moving { length moving.old ≡ length nodes.now }
+    ensures { Moves nodes.now states.old states.new values.old values.new moving.old moving.new
+        (A.answer row.now) i end k warm result }
 {
-    let value = pass(&nodes[k], &mut states[k], values, row, i, end);
-    values[k] = value;
+    let passed = pass(&nodes[k], &mut states[k], values, row, i, end);
+    let changed = !is_same(passed.value, values[k]);
+    values[k] = passed.value;
+    moving[k] = passed.moved || !warm;
+    changed
 }
 
-/// Passes row `i` through all nodes.
+/// Passes row `i` through the node at index `k`, if that can change anything. Says whether any value has changed so far.
+fn advance<A: Atoms>(
+    nodes: &[ProgramNode],
+    k: usize,
+    states: &mut [Kept],
+    values: &mut [Verdict],
+    moving: &mut [bool],
+    row: &A,
+    i: u32,
+    end: u32,
+    warm: bool,
+    spread: bool,
+) -> bool
+    requires valid { AllValid nodes.now }
+    requires below { AllBelow nodes.now }
+    requires inside { k < length nodes.now }
+    requires states { length states.old ≡ length nodes.now }
+    requires values { length values.old ≡ length nodes.now }
+    requires moving { length moving.old ≡ length nodes.now }
+    ensures { Steps nodes.now states.old states.new values.old values.new moving.old moving.new
+        (A.answer row.now) i end k warm spread result }
+{
+    if !spread && !moving[k] {
+        return false;
+    }
+    let changed = pass_at(nodes, k, states, values, moving, row, i, end, warm);
+    spread || changed
+}
+
+/// Whether this node too is not said to move.
+fn rests(still: bool, moving: &[bool], k: usize) -> bool
+    requires { k < length moving.now }
+    ensures { result ≡ true → (still ≡ true) × (flag_at moving.now k ≡ false) }
+{
+    still && !moving[k]
+}
+
+/// Passes row `i` through all nodes, if `spread`, and else through those that are said to move and all that follow a changed
+/// value. Says whether none is said to move after it.
 pub(crate) fn pass_all<A: Atoms>(
     nodes: &[ProgramNode],
     states: &mut [Kept],
     values: &mut [Verdict],
+    moving: &mut [bool],
     row: &A,
     i: u32,
     end: u32,
-)
+    warm: bool,
+    spread: bool,
+) -> bool
     requires valid { AllValid nodes.now }
     requires below { AllBelow nodes.now }
     requires states { length states.old ≡ length nodes.now }
     requires values { length values.old ≡ length nodes.now }
-    ensures passes { Passes nodes.now states.old states.new values.new (A.answer row.now) i end }
-    ensures shapes { HaveShapes nodes.now states.old → HaveShapes nodes.now states.new }
+    requires moving { length moving.old ≡ length nodes.now }
+    ensures { (spread' : Bool) × Walk nodes.now states.old values.old moving.old (A.answer row.now) i end warm spread
+        states.new values.new moving.new spread' result (length nodes.now) }
 {
+    let mut so_far = spread;
+    let mut still = true;
     for k in 0..nodes.len() {
-        pass_at(nodes, k, states, values, row, i, end);
+        so_far = advance(nodes, k, states, values, moving, row, i, end, warm, so_far);
+        still = rests(still, moving, k);
     }
+    still
 }

@@ -4,7 +4,7 @@ ghost use Rattle.mtl_monitor.specs.Inner.Starting.{IsFresh, AreFresh};
 
 use crate::left::Left;
 use crate::lookahead::Lookahead;
-use crate::node::{Kept, Operator, ProgramNode};
+use crate::node::{Kept, Operator, ProgramNode, Run};
 use circular_buffer::HeapCircularBuffer;
 use mtl_formulas::Verdict;
 use outside::Memory;
@@ -12,13 +12,18 @@ use std::alloc::Global;
 
 const NOTHING: Left = Left { yes: 0, some: 0 };
 
+const NO_RUN: Run = Run {
+    value: Verdict::Open,
+    count: 0,
+};
+
 fn fresh(alloc: Global, operator: Operator) -> Result<Kept, Memory>
     ensures { IfOk result (IsFresh operator) }
 {
     match operator {
         Operator::Late(cells, _, _) => {
             match HeapCircularBuffer::with_capacity(alloc, cells as usize) {
-                Ok(ring) => Ok(Kept::Ring(ring)),
+                Ok(ring) => Ok(Kept::Ring(ring, NO_RUN)),
                 Err(_) => Err(Memory),
             }
         }
@@ -32,6 +37,14 @@ fn fresh(alloc: Global, operator: Operator) -> Result<Kept, Memory>
     }
 }
 
+/// What a state begins with, for each node.
+#[derive(Drop)]
+pub(crate) struct Begun {
+    pub states: Vec<Kept>,
+    pub values: Vec<Verdict>,
+    pub moving: Vec<bool>,
+}
+
 fn pushed<T: Drop>(list: &mut Vec<T>, item: T) -> Result<(), Memory>
     ensures { IfOk result (λ u. list.new.items ≡ list.old.items ++ item ∷ []) }
 {
@@ -41,19 +54,22 @@ fn pushed<T: Drop>(list: &mut Vec<T>, item: T) -> Result<(), Memory>
     }
 }
 
-/// What each node keeps, and the values of all nodes.
-pub(crate) fn start(
-    alloc: Global,
-    nodes: &[ProgramNode],
-) -> Result<(Vec<Kept>, Vec<Verdict>), Memory>
-    ensures { IfOk result (λ p. AreFresh nodes.now p.0.items p.1.items) }
+/// What each node keeps, the values of all nodes, and that each may move.
+pub(crate) fn start(alloc: Global, nodes: &[ProgramNode]) -> Result<Begun, Memory>
+    ensures { IfOk result (λ p. AreFresh nodes.now p.states.items p.values.items p.moving.items) }
 {
     let mut states = Vec::new(alloc);
     let mut values = Vec::new(alloc);
+    let mut moving = Vec::new(alloc);
     for node in nodes {
         let state = fresh(alloc, node.operator)?;
         pushed(&mut states, state)?;
         pushed(&mut values, Verdict::Open)?;
+        pushed(&mut moving, true)?;
     }
-    Ok((states, values))
+    Ok(Begun {
+        states,
+        values,
+        moving,
+    })
 }

@@ -5,6 +5,7 @@ use crate::copying::copy_all;
 use crate::node::Kept;
 use crate::passing::pass_all;
 use crate::program::Program;
+use crate::reading::are_answered;
 use crate::starting::start;
 use mtl_formulas::{Atom, Atoms, Verdict};
 use outside::Memory;
@@ -24,22 +25,28 @@ impl Atoms for Beyond {
 }
 
 /// The state of a program over one trace, whose rows come one by one.
+///
+/// A node that a further equal row would leave as it is rests until an operand's value changes; where all nodes rest, a row
+/// that answers the atoms as the row before is only counted.
 #[derive(Drop)]
 pub struct TraceState {
     pub(crate) states: Vec<Kept>,
     pub(crate) values: Vec<Verdict>,
+    pub(crate) moving: Vec<bool>,
+    pub(crate) still: bool,
     pub(crate) fed: u32,
     pub(crate) passed: u32,
     ghost in_order: { fed ≤ passed },
 }
 
 impl TraceState {
-    ghost use Rattle.std.specs.Prelude.{IfOk, max, List, [], ◌∷◌, ◌++◌};
+    ghost use Rattle.std.specs.Prelude.{IfOk, IfSome, max, true, false, List, [], ◌∷◌, ◌++◌};
     ghost use Rattle.mtl_formulas.specs.FormulaTree.{FormulaTree};
     ghost use Rattle.mtl_monitor.specs.Traces.{Trace};
     ghost use Rattle.mtl_monitor.specs.declared.program.Program.{Program};
-    ghost use Rattle.mtl_monitor.specs.Inner.Standing.{Passes};
-    ghost use Rattle.mtl_monitor.specs.Following.{IsProgramOf, Fits, HasRoom, AreOfOneProgram, Follows, Closes, IsFed, IsEnded, formula_at, count_of, fed_of, past_of};
+    ghost use Rattle.mtl_monitor.specs.Inner.Quiet.{Walked};
+    ghost use Rattle.mtl_monitor.specs.Inner.Reading.{AreRead};
+    ghost use Rattle.mtl_monitor.specs.Following.{GivesTheSame, last_value, IsProgramOf, Fits, HasRoom, AreOfOneProgram, Follows, Closes, IsFed, IsEnded, formula_at, count_of, fed_of, past_of};
 
     /// The state of a program over a trace of which no row was fed. It takes all its memory here.
     pub fn new(alloc: Global, program: &Program) -> Result<TraceState, Memory>
@@ -50,37 +57,51 @@ impl TraceState {
         ensures follows { IfOk result (λ s. (formulas : List FormulaTree) →
             IsProgramOf program.now formulas → Follows program.now s formulas []) }
     {
-        let (states, values) = start(alloc, &program.nodes)?;
+        let begun = start(alloc, &program.nodes)?;
         Ok(TraceState {
-            states,
-            values,
+            states: begun.states,
+            values: begun.values,
+            moving: begun.moving,
+            still: false,
             fed: 0,
             passed: 0,
         })
     }
 
-    /// Passes row `i` through all nodes. The trace is known to end at `end`, or not before.
-    fn pass<A: Atoms>(&mut self, program: &Program, row: &A, i: u32, end: u32)
+    /// Passes row `i` through the nodes: through all if `spread`, and else through those that may change. The trace is known
+    /// to end at `end`, or not before.
+    fn pass<A: Atoms>(&mut self, program: &Program, row: &A, i: u32, end: u32, spread: bool)
         requires { Fits program.now self.old }
         ensures fits { Fits program.now self.new }
-        ensures room { HasRoom program.now self.old → HasRoom program.now self.new }
         ensures fed { self.new.fed ≡ self.old.fed }
         ensures passed { self.new.passed ≡ self.old.passed }
-        ensures passes { Passes program.now.nodes.items self.old.states.items self.new.states.items
-            self.new.values.items (A.answer row.now) i end }
+        ensures walked { Walked program.now.nodes.items self.old.states.items self.new.states.items
+            self.old.values.items self.new.values.items self.old.moving.items self.new.moving.items
+            (A.answer row.now) i end spread self.new.still }
     {
-        pass_all(
+        self.still = pass_all(
             &program.nodes,
             &mut self.states,
             &mut self.values,
+            &mut self.moving,
             row,
             i,
             end,
+            i >= program.warm,
+            spread,
         );
     }
 
-    /// Feeds the next row.
-    pub fn feed<A: Atoms>(&mut self, program: &Program, row: &A)
+    /// Whether a row answers all atoms as the row before.
+    fn is_answered<A: Atoms>(&self, program: &Program, row: &A) -> bool
+        requires { Fits program.now self.now }
+        ensures { result ≡ true → AreRead program.now.atoms.items self.now.values.items (A.answer row.now) }
+    {
+        are_answered(&program.atoms, &self.values, row)
+    }
+
+    /// Feeds the next row. False where the row was only counted: then each formula's answer has the value of its last one.
+    pub fn feed<A: Atoms>(&mut self, program: &Program, row: &A) -> bool
         requires fits { Fits program.now self.old }
         requires unclosed { past_of self.old ≡ 0 }
         requires small { fed_of self.old < 2 ^ 31 }
@@ -91,11 +112,17 @@ impl TraceState {
         ensures follows { (formulas : List FormulaTree) (rows : Trace) →
             Follows program.now self.old formulas rows →
             Follows program.now self.new formulas (rows ++ A.answer row.now ∷ []) }
+        ensures same { result ≡ false → GivesTheSame program.now self.old self.new }
     {
         let i = self.passed;
+        let same = self.is_answered(program, row);
         self.passed = i + 1;
         self.fed = i + 1;
-        self.pass(program, row, i, i + 1);
+        if same && self.still {
+            return false;
+        }
+        self.pass(program, row, i, i + 1, !same);
+        true
     }
 
     /// Passes one row beyond the trace's end: none is fed any more.
@@ -114,7 +141,7 @@ impl TraceState {
     {
         let i = self.passed;
         self.passed = i + 1;
-        self.pass(program, &Beyond, i, self.fed);
+        self.pass(program, &Beyond, i, self.fed, true);
     }
 
     /// Passes rows beyond the trace's end until so many rows have passed, those of the trace among them.
@@ -140,6 +167,7 @@ impl TraceState {
     pub fn answer(&self, program: &Program, formula: usize) -> Option<(u32, Verdict)>
         requires fits { Fits program.now self.now }
         requires inside { formula < count_of program.now }
+        ensures value { IfSome result (λ a. a.1 ≡ last_value program.now self.now formula) }
         ensures fed { (formulas : List FormulaTree) (rows : Trace) → Follows program.now self.now formulas rows →
             IsFed result (formula_at formulas formula) rows }
         ensures ended { (formulas : List FormulaTree) (rows : Trace) → Closes program.now self.now formulas rows →
@@ -170,6 +198,8 @@ impl TraceState {
     {
         copy_all(&mut self.states, &other.states);
         self.values.copy_from_slice(&other.values);
+        self.moving.copy_from_slice(&other.moving);
+        self.still = other.still;
         self.fed = other.fed;
         self.passed = other.passed;
     }

@@ -2,7 +2,7 @@
 ghost use Rattle.std.specs.Prelude.{◌≡◌};
 ghost use Rattle.mtl_formulas.specs.VerdictOrder.{turned_round, least, greatest};
 ghost use Rattle.mtl_formulas.specs.FormulaValue.{pair_value};
-ghost use Rattle.mtl_monitor.specs.Inner.Steps.{sensed};
+ghost use Rattle.mtl_monitor.specs.Inner.Steps.{sensed, same_verdict};
 
 use mtl_formulas::{PairKind, SpanKind, Verdict};
 
@@ -15,6 +15,12 @@ pub(crate) fn negated(value: Verdict) -> Verdict
         Verdict::Open => Verdict::Open,
         Verdict::Yes => Verdict::No,
     }
+}
+
+pub(crate) fn is_same(a: Verdict, b: Verdict) -> bool
+    ensures { result ≡ same_verdict a b }
+{
+    a as u8 == b as u8
 }
 
 pub(crate) fn lesser(a: Verdict, b: Verdict) -> Verdict

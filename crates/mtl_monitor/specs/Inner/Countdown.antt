@@ -1,11 +1,14 @@
 -- The form with counts that run down: for how many values more a Yes, and a value that is not No, stay in a window. What is kept
 -- names no position, so equal rows soon leave it as it was.
-use Rattle.std.specs.Prelude.{◌≡◌, ℕ, ◌+◌, ◌-◌, ◌≤◌, nat_lt, if◌then◌else◌}
+use Rattle.std.specs.Prelude.{◌≡◌, ℕ, ◌+◌, ◌-◌, ◌≤◌, nat_lt, ◌==◌, ◌&&◌, Bool, if◌then◌else◌}
 use Rattle.mtl_formulas.specs.declared.verdict.Verdict.{Verdict}
 use Rattle.mtl_formulas.specs.declared.verdict.Verdict.TheVariants.{No, Open, Yes}
 use Rattle.mtl_monitor.specs.declared.left.Left.{Left}
 use Rattle.mtl_formulas.specs.VerdictOrder.{least}
 use Rattle.mtl_formulas.specs.FormulaValue.{greatest_over, least_over}
+
+abbrev pub same_left : Left → Left → Bool
+same_left s r = (s.yes == r.yes) && (s.some == r.some)
 
 -- after one value more, in a window of so many
 abbrev pub left_after : Left → ℕ → Verdict → Left

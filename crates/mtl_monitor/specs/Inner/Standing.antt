@@ -107,7 +107,7 @@ OperandsBelow k (op.Until from full lower a behind b) = (a < k) × (behind < k) 
 
 -- what an operator keeps once n rows of the trace have passed
 abbrev pub Keeps : Trace → List FormulaTree → Operator → ℕ → Kept → ℕ → Type 0
-Keeps trace trees (op.Late cells from a) late (kinds.Ring b) n = Holds (value_in trace (tree_at trees a)) b cells (n - from)
+Keeps trace trees (op.Late cells from a) late (kinds.Ring b r) n = Holds (value_in trace (tree_at trees a)) b cells (n - from)
 Keeps trace trees (op.Late cells from a) late _ n = ⊥
 Keeps trace trees (op.Window kind width from a) late (kinds.Window s) n =
     Lasts (λ k. sensed kind (value_in trace (tree_at trees a) k)) s width (n - from)
@@ -199,7 +199,7 @@ OperandsBelow-prop k (op.Until from full lower a behind b) = hlevel le_prop
 pub AllBelow-prop : (nodes : List ProgramNode) → IsProp (AllBelow nodes)
 AllBelow-prop nodes = hlevel OperandsBelow-prop
 
-IsValidAtom-prop : (a : Atom) → IsProp (IsValidAtom a)
+pub IsValidAtom-prop : (a : Atom) → IsProp (IsValidAtom a)
 IsValidAtom-prop (Age seconds) = le_prop
 IsValidAtom-prop (Clear metres) = le_prop
 IsValidAtom-prop (Close metres) = le_prop

@@ -1,15 +1,16 @@
 -- How a row passes through a node: what the node gives, and what it keeps.
-use Rattle.std.specs.Prelude.{ℕ, ◌-◌, nat_lt, if◌then◌else◌, List, [], ◌∷◌, ◌++◌, length, get_or}
+use Rattle.std.specs.Prelude.{ℕ, ◌+◌, ◌-◌, nat_lt, if◌then◌else◌, min, Bool, true, false, List, [], ◌∷◌, ◌++◌, length, get_or}
 use Rattle.circular_buffer.specs.Buffer.{Buffer, buffer, keep_last}
 use Rattle.mtl_formulas.specs.declared.atom.Atom.{Atom}
 use Rattle.mtl_formulas.specs.declared.verdict.Verdict.{Verdict}
-use Rattle.mtl_formulas.specs.declared.verdict.Verdict.TheVariants.{Open}
+use Rattle.mtl_formulas.specs.declared.verdict.Verdict.TheVariants.{No, Open, Yes}
 use Rattle.mtl_formulas.specs.declared.formula.SpanKind.{SpanKind}
 use Rattle.mtl_formulas.specs.declared.formula.SpanKind.TheVariants.{F, G, O, H}
 use Rattle.mtl_formulas.specs.VerdictOrder.{turned_round, least}
 use Rattle.mtl_formulas.specs.FormulaValue.{pair_value}
 use Rattle.mtl_formulas.specs.FormulaMeasures.{IsValidAtom}
 use Rattle.mtl_monitor.specs.declared.left.Left.{Left}
+use Rattle.mtl_monitor.specs.declared.node.Run.{Run}
 use Rattle.mtl_monitor.specs.declared.node.Operator.{Operator}
 use Rattle.mtl_monitor.specs.declared.node.Operator.TheVariants as op
 use Rattle.mtl_monitor.specs.declared.node.Kept.{Kept}
@@ -34,6 +35,16 @@ ring_value b v = if nat_lt (length b.items) b.capacity then Open else get_or (b.
 
 abbrev pub ring_after : Buffer Verdict → Verdict → Buffer Verdict
 ring_after b v = buffer (keep_last b.capacity (b.items ++ v ∷ [])) b.capacity
+
+abbrev pub same_verdict : Verdict → Verdict → Bool
+same_verdict No No = true
+same_verdict Open Open = true
+same_verdict Yes Yes = true
+same_verdict _ _ = false
+
+-- how often the last value was read, up to a number
+abbrev pub run_after : Run → ℕ → Verdict → Run
+run_after r cells v = record { value = v; count = if same_verdict v r.value then min (r.count + 1) cells else min 1 cells }
 
 abbrev pub window_after : Left → SpanKind → ℕ → ℕ → Verdict → ℕ → Left
 window_after s kind width from v i = if nat_lt i from then s else left_after s width (sensed kind v)
@@ -66,7 +77,7 @@ abbrev pub given : Operator → Kept → ℕ → List Verdict → (Atom → Verd
 given (op.Atom a) _ late values row i end = row a
 given (op.Not a) _ late values row i end = turned_round (value_at values a)
 given (op.Pair kind a b) _ late values row i end = pair_value kind (value_at values a) (value_at values b)
-given (op.Late cells from a) (kinds.Ring b) late values row i end = if nat_lt i from then Open else ring_value b (value_at values a)
+given (op.Late cells from a) (kinds.Ring b r) late values row i end = if nat_lt i from then Open else ring_value b (value_at values a)
 given (op.Window kind width from a) (kinds.Window s) late values row i end =
     if nat_lt (i - late) end then sensed kind (left_value (window_after s kind width from (value_at values a) i)) else Open
 given (op.Since width lower from a b) (kinds.Since hits bars) late values row i end =
@@ -82,7 +93,7 @@ given _ _ late values row i end = Open
 
 -- what an operator keeps after row i
 abbrev pub kept : Operator → Kept → ℕ → List Verdict → ℕ → Kept
-kept (op.Late cells from a) (kinds.Ring b) late values i = if nat_lt i from then kinds.Ring b else kinds.Ring (ring_after b (value_at values a))
+kept (op.Late cells from a) (kinds.Ring b r) late values i = if nat_lt i from then kinds.Ring b r else kinds.Ring (ring_after b (value_at values a)) (run_after r b.capacity (value_at values a))
 kept (op.Window kind width from a) (kinds.Window s) late values i = kinds.Window (window_after s kind width from (value_at values a) i)
 kept (op.Since width lower from a b) (kinds.Since hits bars) late values i =
     kinds.Since (hits_after (hits_under hits late (value_at values a) i) (bars_after bars late lower (value_at values a) i) width from (value_at values b) i)

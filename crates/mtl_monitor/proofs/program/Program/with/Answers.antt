@@ -16,6 +16,8 @@ invariant_of-result c =
       below = rw made.0 (below_after old.nodes.items old.roots.items t c.requires old.below);
       inside = rw (made.0, roots) (inside_after old.nodes.items old.roots.items t c.requires old.inside);
       reach_small = omega (arith, c.max.ensures, old.reach_small, c.in_ok-root.ensures.late, c.requires.reach);
+      readable = rw c.deref.ensures.value at c.in_ok-list_atoms.ensures.readable;
+      warmth = rw c.deref-2.ensures.value at c.warm_row-warm.ensures;
     }
 
 pub returns-in-Ok-clause-formulas : goal.returns-in-Ok-clause-formulas
@@ -25,4 +27,10 @@ returns-in-Ok-clause-formulas c = λ formulas h.
     let made = c.in_ok-root.ensures.made in
     let roots : c.push.new.self.items ≡ old.roots.items ++ (compiled old.nodes.items t).operand ∷ [] = rw (← made.1) c.in-Ok.ensures.items in
     let reach : c.max.result ≡ max old.reach (reach_of t) = omega (arith, c.max.ensures, c.in_ok-root.ensures.late) in
-    IsProgramOf-grown old formulas t c.requires h _ (record { nodes = made.0; roots = roots; reach = reach })
+    IsProgramOf-grown old formulas t c.requires h _ (record { nodes = made.0; roots = roots; reach = reach; listed = rw c.deref.ensures.value at c.in_ok-list_atoms.ensures.listed })
+
+pub list_atoms-requires : goal.list_atoms-requires
+list_atoms-requires c =
+    let old = c.args.self in
+    let made = c.in_ok-root.ensures.made in
+    rw (c.deref.ensures.value, made.0) (valid_after old.nodes.items old.roots.items (tree_of c.args.formula.now) c.requires old.valid)

@@ -1,0 +1,86 @@
+-- A ring whose last values are counted; where they fill it, the same value again leaves it as it was.
+use Rattle.std.proofs.Common.{◌≡◌, ℕ, ◌+◌, ◌-◌, ◌<◌, ◌≤◌, refl, ap, ap₂, sym, ◌∙◌, arith, Bool, true, false, inl, inr, List, [], ◌∷◌, ◌++◌, length, get_or}
+use Rattle.std.specs.Prelude.{min, if◌then◌else◌}
+use Rattle.std.proofs.lemmas.Bool.{cases_lt}
+use Rattle.std.proofs.lemmas.List.{length_push, get_or_push, get_or_append_left, get_or-drop, length-drop, ext_get_or}
+use Rattle.circular_buffer.specs.Buffer.{Buffer, buffer}
+use Rattle.mtl_formulas.specs.declared.verdict.Verdict.{Verdict}
+use Rattle.mtl_formulas.specs.declared.verdict.Verdict.TheVariants.{No, Open, Yes}
+use Rattle.mtl_monitor.specs.declared.node.Run.{Run}
+use Rattle.mtl_monitor.specs.Inner.Steps.{ring_after, same_verdict, run_after}
+use Rattle.mtl_monitor.specs.Inner.Quiet.{IsRun}
+
+pub same_verdict-equal : (v w : Verdict) → same_verdict v w ≡ true → v ≡ w
+same_verdict-equal No No h = refl
+same_verdict-equal Open Open h = refl
+same_verdict-equal Yes Yes h = refl
+same_verdict-equal _ _ h = cc
+
+module _ (b : Buffer Verdict) (r : Run) (v : Verdict) (h : IsRun b r) where
+  abbrev longer : List Verdict
+  longer = b.items ++ v ∷ []
+
+  abbrev gone : ℕ
+  gone = length longer - b.capacity
+
+  one_more : length longer ≡ length b.items + 1
+  one_more = length_push b.items v
+
+  size : length (ring_after b v).items ≡ length longer - gone
+  size = length-drop gone longer
+
+  here : (j : ℕ) → get_or (ring_after b v).items j v ≡ get_or longer (gone + j) v
+  here j = get_or-drop gone longer j v
+
+  last : get_or longer (length b.items) v ≡ v
+  last = get_or_push b.items v v (length b.items) refl
+
+  count_most : (same : Bool) → (if same then min (r.count + 1) b.capacity else min 1 b.capacity) ≤ length longer - gone
+  count_most true = omega (arith, h.within, one_more)
+  count_most false = omega (arith, one_more)
+
+  -- an older value of the run
+  older : v ≡ r.value → (j : ℕ) → length b.items - r.count ≤ j → j < length b.items → get_or longer j v ≡ v
+  older is j from inside = rw (get_or_append_left b.items (v ∷ []) v j inside) (rw (← is) at (h.equal j from inside))
+
+  equal_after : (same : Bool) → (same ≡ true → v ≡ r.value) → (j : ℕ)
+      → length (ring_after b v).items - (if same then min (r.count + 1) b.capacity else min 1 b.capacity) ≤ j → j < length (ring_after b v).items
+      → get_or (ring_after b v).items j v ≡ v
+  equal_after true is j from inside = here j ∙ (elim (cases_lt (gone + j) (length b.items)) [
+    | inl before ↦ older (is refl) (gone + j) (omega (arith, from, size, one_more, h.within)) before
+    | inr beyond ↦ let at : gone + j ≡ length b.items = omega (arith, inside, size, one_more) in rw at last
+  ])
+  equal_after false is j from inside =
+      let at : gone + j ≡ length b.items = omega (arith, from, inside, size, one_more) in
+      here j ∙ rw at last
+
+  pub IsRun-after : IsRun (ring_after b v) (run_after r b.capacity v)
+  IsRun-after =
+      record {
+        fits = omega (arith, size);
+        within = rw size (count_most (same_verdict v r.value));
+        equal = equal_after (same_verdict v r.value) (λ h. same_verdict-equal v r.value h);
+      }
+
+  -- the ring is full of the value
+  module _ (same : same_verdict v r.value ≡ true) (full : r.count ≡ b.capacity) where
+    is_value : v ≡ r.value
+    is_value = same_verdict-equal v r.value same
+
+    items_still : (ring_after b v).items ≡ b.items
+    items_still =
+        let long : length (ring_after b v).items ≡ length b.items = omega (arith, size, one_more, h.within, h.fits, full) in
+        ext_get_or v (ring_after b v).items b.items long (λ j inside.
+        here j ∙ (elim (cases_lt (gone + j) (length b.items)) [
+          | inl before ↦ older is_value (gone + j) (omega (arith, h.fits, full)) before
+          | inr beyond ↦ let at : gone + j ≡ length b.items = omega (arith, inside, size, one_more) in rw at last
+        ])
+        ∙ sym (rw (← is_value) at (h.equal j (omega (arith, h.fits, full)) (omega (arith, inside, long)))))
+
+    pub ring_still : ring_after b v ≡ b
+    ring_still = ap (λ (l : List Verdict). buffer l b.capacity) items_still
+
+    pub run_still : run_after r b.capacity v ≡ r
+    run_still =
+        let count : min (r.count + 1) b.capacity ≡ r.count = omega (arith, full) in
+        rw same (ap₂ (λ (w : Verdict) (n : ℕ). let q : Run = record { value = w; count = n } in q) is_value count)

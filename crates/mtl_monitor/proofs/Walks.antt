@@ -1,0 +1,184 @@
+-- A walk through the nodes, of which those that are quiet may be left as they are.
+use Rattle.std.proofs.Common.{◌≡◌, ◌≢◌, ℕ, ◌+◌, ◌<◌, refl, sym, ◌∙◌, arith, Bool, true, false, inl, inr, List, length, get_or-set_other, get_or-set_same, below_more}
+use Rattle.std.proofs.lemmas.Bool.Decides.{eqb_tells}
+use Rattle.std.proofs.lemmas.List.{length-set, set-get_or}
+use Rattle.mtl_formulas.specs.declared.atom.Atom.{Atom}
+use Rattle.mtl_formulas.specs.declared.verdict.Verdict.{Verdict}
+use Rattle.mtl_formulas.specs.declared.verdict.Verdict.TheVariants.{Open}
+use Rattle.mtl_formulas.specs.FormulaTree.{FormulaTree}
+use Rattle.mtl_monitor.specs.declared.node.ProgramNode.{ProgramNode}
+use Rattle.mtl_monitor.specs.declared.node.Kept.{Kept}
+use Rattle.mtl_monitor.specs.declared.node.Kept.TheVariants as kinds
+use Rattle.mtl_monitor.specs.Traces.{Trace}
+use Rattle.mtl_monitor.specs.Inner.Steps.{value_at, given, kept}
+use Rattle.mtl_monitor.specs.Inner.Standing.{tree_at, node_at, late_at, state_at, IsRow, EndsAt, IsProgram, Midway, OperandsBelow, AllBelow}
+use Rattle.mtl_monitor.specs.Inner.Quiet.{HaveRuns, IsWarm, IsQuiet, flag_at, Moves, Steps, MayRest, Walk}
+use Rattle.mtl_monitor.proofs.NodeRows.{Keeps-row, IsGiven-row}
+use Rattle.mtl_monitor.proofs.Rows.{Midway-next}
+use Rattle.mtl_monitor.proofs.Shapes.{HaveShapes-next, IsCounted-kept}
+use Rattle.mtl_monitor.proofs.QuietNodes.{IsQuiet-later, IsQuiet-passed, IsQuiet-same}
+
+-- A node whose value and state a row would not change has passed it.
+Midway-stays : (trace : Trace) (trees : List FormulaTree) (nodes : List ProgramNode) (states : List Kept) (values : List Verdict) (i k : ℕ) (row : Atom → Verdict) (end : ℕ)
+    → IsProgram nodes trees → k < length nodes → IsRow trace row i → EndsAt trace i end
+    → given (node_at nodes k).operator (state_at states k) (late_at nodes k) values row i end ≡ value_at values k
+    → kept (node_at nodes k).operator (state_at states k) (late_at nodes k) values i ≡ state_at states k
+    → Midway trace trees nodes states values i k → Midway trace trees nodes states values i (k + 1)
+Midway-stays trace trees nodes states values i k row end program inside answers ends gives still m =
+    record {
+      passed = below_more _ _ m.passed
+          (rw (← still)
+          (Keeps-row trace trees nodes values row i end k (node_at nodes k).operator (state_at states k) (late_at nodes k) (tree_at trees k) (program.computes k inside) (program.below k inside) m.gave (m.waiting k (omega arith) inside)));
+      gave = below_more _ _ m.gave
+          (rw (← gives)
+          (IsGiven-row trace trees nodes values row i end k (node_at nodes k).operator (state_at states k) (late_at nodes k) (tree_at trees k) (program.computes k inside) (program.below k inside) m.gave (m.waiting k (omega arith) inside) answers ends));
+      waiting = λ j after h. m.waiting j (omega arith) h;
+    }
+
+module _ (nodes : List ProgramNode) (states : List Kept) (values : List Verdict) (moving : List Bool) (row : Atom → Verdict) (i end : ℕ) (warm spread : Bool) where
+  -- before the first node
+  pub Walk-begins : length states ≡ length nodes → length values ≡ length nodes → length moving ≡ length nodes
+      → Walk nodes states values moving row i end warm spread states values moving spread true 0
+  Walk-begins s v m =
+      record {
+        states_fit = s;
+        values_fit = v;
+        moving_fit = m;
+        states_ahead = λ j h. refl;
+        moving_ahead = λ j h. refl;
+        unspread = λ h. (h, refl);
+        midway = λ trace trees program answers ends rest keeps.
+            record { passed = λ j h. absurd (omega arith); gave = λ j h. absurd (omega arith); waiting = λ j after h. keeps.each j h };
+        quiet = λ warmth ends runs rest below j h flag. absurd (omega arith);
+        runs = λ h. h;
+        shapes = λ h. h;
+        all_still = λ h j before. absurd (omega arith);
+      }
+
+  module _ (states' : List Kept) (values' : List Verdict) (moving' : List Bool) (spread' still : Bool) (k : ℕ) (inside : k < length nodes)
+      (w : Walk nodes states values moving row i end warm spread states' values' moving' spread' still k) where
+    -- a quiet node is left
+    pub Walk-stays : spread' ≡ false → flag_at moving' k ≡ false → (still' : Bool) → (still' ≡ true → still ≡ true)
+        → Walk nodes states values moving row i end warm spread states' values' moving' spread' still' (k + 1)
+    Walk-stays none rests still' stiller =
+        record {
+          states_fit = w.states_fit;
+          values_fit = w.values_fit;
+          moving_fit = w.moving_fit;
+          states_ahead = λ j h. w.states_ahead j (omega arith);
+          moving_ahead = λ j h. w.moving_ahead j (omega arith);
+          unspread = w.unspread;
+          midway = λ trace trees program answers ends rest keeps.
+              let allowed = rest (w.unspread none).0 in
+              let was : IsQuiet (node_at nodes k).operator (state_at states' k) (late_at nodes k) values' (value_at values' k) i = was_quiet rest in
+              let found : given (node_at nodes k).operator (state_at states' k) (late_at nodes k) values' row i end ≡ value_at values' k =
+              rw allowed.0 (was.gives row (rw (w.unspread none).1 (allowed.2 k inside))) in
+              Midway-stays trace trees nodes states' values' i k row end program inside answers ends found was.keeps (w.midway trace trees program answers ends rest keeps);
+          quiet = λ warmth ends runs rest below.
+              below_more _ _ (w.quiet warmth ends runs rest below)
+              (λ flag. IsQuiet-later values' i (node_at nodes k).operator (state_at states' k) (late_at nodes k) (value_at values' k) (was_quiet rest));
+          runs = w.runs;
+          shapes = w.shapes;
+          all_still = λ h. below_more _ _ (w.all_still (stiller h)) rests;
+        }
+      where
+        was_quiet : MayRest nodes states values moving row i end warm spread → IsQuiet (node_at nodes k).operator (state_at states' k) (late_at nodes k) values' (value_at values' k) i
+        was_quiet rest =
+            let start = w.unspread none in
+            rw (start.1, w.states_ahead k (omega arith)) ((rest start.0).1 k inside (sym (w.moving_ahead k (omega arith)) ∙ rests))
+
+    -- a node is passed
+    module _ (states'' : List Kept) (values'' : List Verdict) (moving'' : List Bool) (changed : Bool)
+        (m : Moves nodes states' states'' values' values'' moving' moving'' row i end k warm changed) where
+      abbrev in_states : k < length states'
+      in_states = omega (arith, w.states_fit)
+
+      other_state : (j : ℕ) → j ≢ k → state_at states'' j ≡ state_at states' j
+      other_state j ne = rw m.states_are (get_or-set_other states' k j m.keeps kinds.Plain ne)
+
+      this_state : state_at states'' k ≡ m.keeps
+      this_state = let fits : k < length states' = omega (arith, w.states_fit) in rw m.states_are (get_or-set_same states' k m.keeps kinds.Plain fits)
+
+      other_value : (j : ℕ) → j ≢ k → value_at values'' j ≡ value_at values' j
+      other_value j ne = rw m.values_are (get_or-set_other values' k j m.value Open ne)
+
+      this_value : value_at values'' k ≡ m.value
+      this_value = let fits : k < length values' = omega (arith, w.values_fit) in rw m.values_are (get_or-set_same values' k m.value Open fits)
+
+      other_flag : (j : ℕ) → j ≢ k → flag_at moving'' j ≡ flag_at moving' j
+      other_flag j ne = rw m.moving_are (get_or-set_other moving' k j m.flag true ne)
+
+      this_flag : flag_at moving'' k ≡ m.flag
+      this_flag = let fits : k < length moving' = omega (arith, w.moving_fit) in rw m.moving_are (get_or-set_same moving' k m.flag true fits)
+
+      same_below : (j : ℕ) → j < k → value_at values'' j ≡ value_at values' j
+      same_below j h = other_value j (omega arith)
+
+      passed_quiet : (warm ≡ true → IsWarm nodes i) → end ≡ i + 1 → HaveRuns states → AllBelow nodes → flag_at moving'' k ≡ false
+          → IsQuiet (node_at nodes k).operator (state_at states'' k) (late_at nodes k) values'' (value_at values'' k) (i + 1)
+      passed_quiet warmth ends runs below flag =
+          let rests = m.rests (sym this_flag ∙ flag) in
+          let is_warm = warmth rests.0 k inside in
+          let still : m.keeps ≡ state_at states' k = rests.2 (w.runs runs k) in
+          let value : value_at values'' k ≡ given (node_at nodes k).operator (state_at states' k) (late_at nodes k) values' row i (i + 1) = rw (← ends) (this_value ∙ m.value_is) in
+          rw (this_state, still, value)
+          (IsQuiet-same values' values'' (i + 1) (node_at nodes k).operator (state_at states' k) k (late_at nodes k) _ (below k inside) same_below
+          (IsQuiet-passed values' i (node_at nodes k).operator (state_at states' k) (late_at nodes k) row (is_warm.0 rests.1) is_warm.1 (sym m.kept_is ∙ still)))
+
+      pub Walk-moves : (spread'' : Bool) → (spread'' ≡ false → (spread' ≡ false) × (changed ≡ false)) → (still' : Bool) → (still' ≡ true → (still ≡ true) × (flag_at moving'' k ≡ false))
+          → Walk nodes states values moving row i end warm spread states'' values'' moving'' spread'' still' (k + 1)
+      Walk-moves spread'' before still' stiller =
+          record {
+            states_fit = rw m.states_are (length-set states' k m.keeps ∙ w.states_fit);
+            values_fit = rw m.values_are (length-set values' k m.value ∙ w.values_fit);
+            moving_fit = rw m.moving_are (length-set moving' k m.flag ∙ w.moving_fit);
+            states_ahead = λ j h. other_state j (omega arith) ∙ w.states_ahead j (omega arith);
+            moving_ahead = λ j h. other_flag j (omega arith) ∙ w.moving_ahead j (omega arith);
+            unspread = λ h. ((w.unspread (before h).0).0, same_values (before h).1 ∙ (w.unspread (before h).0).1);
+            midway = λ trace trees program answers ends rest keeps.
+                rw (m.states_are, m.values_are)
+                (Midway-next trace trees nodes states' values' i k row end kinds.Plain m.keeps m.value program inside w.states_fit w.values_fit answers ends m.value_is m.kept_is
+                (w.midway trace trees program answers ends rest keeps));
+            quiet = λ warmth ends runs rest below.
+                below_more _ _ (λ j h flag. quiet_before j h (w.quiet warmth ends runs rest below j h (sym (other_flag j (omega arith)) ∙ flag)) (below j (omega arith)))
+                (passed_quiet warmth ends runs below);
+            runs = λ h. runs_after (w.runs h);
+            shapes = λ h. rw m.states_are (HaveShapes-next nodes states' k (late_at nodes k) values' i kinds.Plain m.keeps inside m.kept_is (w.shapes h));
+            all_still = λ h. below_more _ _ (λ j b. other_flag j (omega arith) ∙ w.all_still (stiller h).0 j b) (stiller h).1;
+          }
+        where
+          same_values : changed ≡ false → values'' ≡ values'
+          same_values h = rw (m.values_are, m.same h) (set-get_or values' k Open)
+
+          quiet_before : (j : ℕ) → j < k
+              → IsQuiet (node_at nodes j).operator (state_at states' j) (late_at nodes j) values' (value_at values' j) (i + 1)
+              → OperandsBelow j (node_at nodes j).operator
+              → IsQuiet (node_at nodes j).operator (state_at states'' j) (late_at nodes j) values'' (value_at values'' j) (i + 1)
+          quiet_before j h was below =
+              let other : j ≢ k = omega arith in
+              rw (other_state j other, other_value j other)
+              (IsQuiet-same values' values'' (i + 1) (node_at nodes j).operator (state_at states' j) j (late_at nodes j) (value_at values' j) below (λ l lower. other_value l (omega arith)) was)
+
+          runs_after : HaveRuns states' → HaveRuns states''
+          runs_after h j = elim (eqb_tells j k) [
+            | inl equal ↦
+                let same : j ≡ k = equal.1 in
+                rw (same, this_state, m.kept_is) (IsCounted-kept (node_at nodes k).operator (state_at states' k) (late_at nodes k) values' i (h k))
+            | inr other ↦ rw (other_state j other.1) (h j)
+          ]
+
+  -- one step of the walk
+  pub Walk-next : (states' states'' : List Kept) (values' values'' : List Verdict) (moving' moving'' : List Bool) (spread' spread'' still still' : Bool) (k : ℕ) → k < length nodes
+      → Steps nodes states' states'' values' values'' moving' moving'' row i end k warm spread' spread'' → (still' ≡ true → (still ≡ true) × (flag_at moving'' k ≡ false))
+      → Walk nodes states values moving row i end warm spread states' values' moving' spread' still k
+      → Walk nodes states values moving row i end warm spread states'' values'' moving'' spread'' still' (k + 1)
+  Walk-next states' states'' values' values'' moving' moving'' spread' spread'' still still' k inside step stiller w = by_step step
+    where
+      by_step : Steps nodes states' states'' values' values'' moving' moving'' row i end k warm spread' spread''
+          → Walk nodes states values moving row i end warm spread states'' values'' moving'' spread'' still' (k + 1)
+      by_step (inl s) =
+          let none : spread'' ≡ spread' = s.after ∙ sym s.unspread in
+          rw (s.states_are, s.values_are, s.moving_are, none)
+          (Walk-stays states' values' moving' spread' still k inside w s.unspread s.rests still' (λ h. (stiller h).0))
+      by_step (inr (changed, m)) =
+          Walk-moves states' values' moving' spread' still k inside w states'' values'' moving'' changed m.0 spread'' m.1 still' stiller
