@@ -11,7 +11,7 @@ use Rattle.tracks.specs.VesselsHeld.{Sent, accepted_of, held_of, is_held, legs_o
 use Rattle.tracks.specs.Inner.AscendingNumbers.{Ascends}
 use Rattle.tracks.specs.Inner.Keeping.{accepted_in, makes_held, points_with, untold}
 use Rattle.tracks.specs.declared.accepted.Accepted.{Accepted}
-use Rattle.tracks.proofs.Ascending.{IsAmong, among-with_number, filter-ascends, filter_none_more, filter_one_more, itself_among, passes_among, with_number-ascends}
+use Rattle.tracks.proofs.Ascending.{IsAmong, among-with_number, among_passes, filter-ascends, filter_none_more, filter_one_more, itself_among, passes_among, with_number-ascends}
 use Rattle.tracks.proofs.Messages.{accepted_of-other, accepted_of-own, static_reports_of-other, static_reports_of-own}
 
 -- ---- a vessel
@@ -169,3 +169,7 @@ held_among numbers sent n h =
       | inl in' ↦ passes_among (is_held numbers sent) n (senders_of sent) h in'
       | inr not ↦ absurd (let e = not_held numbers sent n (no_messages n sent [] not) in cc)
     ]
+
+pub held_passes : (numbers : Numbers) (sent : List Sent) (n : ℕ) → IsAmong n (held_of numbers sent) → is_held numbers sent n ≡ true
+unfolding held_of
+held_passes numbers sent n h = among_passes (is_held numbers sent) n (senders_of sent) h

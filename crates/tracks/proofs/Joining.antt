@@ -62,7 +62,7 @@ all_adjacent-push {A} R (x ∷ xs) y all last k d lt =
     ]
 
 -- Where two reports are joined, this is their leg; else they lie more than the gap apart.
-joined-some : (gap : ℕ) (latest now : Accepted) (leg : Leg) → joined gap latest now ≡ Some leg → leg ≡ leg_between latest now
+pub joined-some : (gap : ℕ) (latest now : Accepted) (leg : Leg) → joined gap latest now ≡ Some leg → leg ≡ leg_between latest now
 joined-some gap latest now leg e = grind arith
 
 joined-none : (gap : ℕ) (latest now : Accepted) → joined gap latest now ≡ None → latest.time + gap < now.time
@@ -170,3 +170,6 @@ takes_apart gap old inside new now same h is e points legs statics =
     let kept : IsKept gap inside = subst (IsKept gap) (sym same) h in
     let new-kept = kept_apart gap inside new now kept is e points legs in
     subst (λ (v : VesselValue). HasTaken gap v new now) same (has_taken gap inside new now new-kept points statics)
+
+pub joined-within : (gap : ℕ) (latest now : Accepted) (leg : Leg) → joined gap latest now ≡ Some leg → now.time ≤ latest.time + gap
+joined-within gap latest now leg e = grind (arith, nat_tests)

@@ -5,3 +5,6 @@ pub mod Messages
 pub mod Holding
 pub mod Stands
 pub mod Books
+pub mod OneList
+pub mod Settled
+pub mod EqualReports

@@ -1,9 +1,9 @@
 //! The book of vessels.
-ghost use Rattle.std.specs.Prelude.{ℕ, true, ◌≡◌, ◌<◌, ◌≤◌, ◌++◌, ◌∷◌, [], ◌↔◌, All, Contains, Err, IfOk, IfSome, List, None, OnErr, OnOk, Some, length, slice_get, vec_len, if◌then◌else◌};
+ghost use Rattle.std.specs.Prelude.{ℕ, true, ◌≡◌, ◌+◌, ◌<◌, ◌≤◌, ◌++◌, ◌∷◌, [], ◌↔◌, All, Contains, Err, IfOk, IfSome, List, None, OnErr, OnOk, Some, length, slice_get, vec_len, if◌then◌else◌};
 ghost use Rattle.std.specs.List.{insert};
 ghost use Rattle.std.specs.Option.{option_copied};
 ghost use Rattle.ais_messages.specs.MessageFields.{IsMessage};
-ghost use Rattle.motion.specs.TickStates.{MovesLittle};
+ghost use Rattle.motion.specs.TickStates.{MovesLittle, state_at};
 ghost use Rattle.tracks.specs.AcceptedReports.{Numbers};
 ghost use Rattle.tracks.specs.Inner.Keeping.{IsKept, makes_held};
 ghost use Rattle.tracks.specs.Standing.{IsAccepted, IsNumbers, StandsFor, vessel_held};
@@ -126,6 +126,9 @@ impl Book {
         ensures same { OnErr result (self.new ≡ self.old) }
         ensures too_many { (numbers : Numbers) (sent : List Sent) → StandsFor self.old numbers sent
             → (result ≡ Err TooManyVessels) ↔ (4096 < length (held_of numbers (sent ++ record { message = message.now; time = time } ∷ []))) }
+        ensures settled { (numbers : Numbers) (sent : List Sent) → StandsFor self.old numbers sent
+            → (mmsi t : ℕ) → t + numbers.gap < time
+            → state_at t (legs_of numbers (sent ++ record { message = message.now; time = time } ∷ []) mmsi) ≡ state_at t (legs_of numbers sent mmsi) }
     {
         let mmsi = sender(message);
         match index_of(&self.held, mmsi) {

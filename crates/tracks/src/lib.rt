@@ -13,6 +13,7 @@ mod accepted;
 mod book;
 mod entry;
 mod judging;
+pub mod laws;
 mod numbers;
 mod parts;
 mod places;
