@@ -8,6 +8,7 @@ pub returns-clause-ascending : goal.returns-clause-ascending
 returns-clause-ascending c = λ numbers sent k lt. ascends_lt (held_of numbers sent) (held_of-ascends numbers sent) k (k + 1) 0 (omega arith) lt
 
 pub returns-clause-all : goal.returns-clause-all
-returns-clause-all c = λ numbers sent mmsi.
-    (λ found. held_passes numbers sent mmsi (among_from_Contains mmsi (held_of numbers sent) found),
-     λ held. Contains_from_among mmsi (held_of numbers sent) (held_among numbers sent mmsi held))
+returns-clause-all c = λ numbers sent mmsi. (
+  λ found. held_passes numbers sent mmsi (among_from_Contains mmsi (held_of numbers sent) found),
+  λ held. Contains_from_among mmsi (held_of numbers sent) (held_among numbers sent mmsi held),
+)
