@@ -4,32 +4,24 @@
     bench/points.py [--reports N] [--vessels N] [--rounds N] [PROGRAM ...]
 
 It writes a log of N position reports of ITU-R M.1371 message 1 (two million by default), each a line of its own with a
-right sum, and a scenario. Then it times each program in turn, some rounds long, with the log as standard input and its
-output thrown away, and prints the least time of each and its ratio to `wc -l`. A PROGRAM is a shell command; `{log}` in
+right sum and a tag block that tells its time, and a scenario. The vessels report in turn, once a second, and go on at 11
+knots, so every report is accepted. Each program first runs once and its `point` rows are counted: all must write as many.
+Then it times each program in turn, some rounds long, with the log as standard input and its output thrown away, and prints
+the least time of each and its ratio to `wc -l`. A PROGRAM is a shell command that runs where scenario.toml lies; `{log}` in
 it stands for the log's path. The numbers are of this machine and this run: compare the ratios.
 """
 import argparse
 import os
 import random
+import shutil
 import subprocess
 import sys
 import tempfile
 import time
 
 HERE = os.path.dirname(os.path.abspath(__file__))
-SCENARIO = """version = 1
-[window]
-start = 1700000000
-tick = 10
-ticks = 40
-[reference]
-lat = 28549600
-lon = -73407500
-[log]
-gap = 600
-slack = 60
-max_speed = 500
-"""
+SCENARIO = os.path.join(HERE, "..", "examples", "harbour.toml")
+START = 1700000000
 
 
 def bits(value, width):
@@ -51,22 +43,34 @@ def position_report(mmsi, latitude, longitude, sog, cog, heading, second):
     return armour("".join(bits(value, width) for value, width in fields))
 
 
-def sentence(payload, channel):
-    body = "AIVDM,1,1,,%s,%s,0" % (channel, payload)
+def with_sum(text):
     total = 0
-    for byte in body.encode():
+    for byte in text.encode():
         total ^= byte
-    return "!%s*%02X\n" % (body, total)
+    return "%s*%02X" % (text, total)
+
+
+def line(time, payload, channel):
+    return "\\%s\\!%s\n" % (with_sum("c:%d" % time), with_sum("AIVDM,1,1,,%s,%s,0" % (channel, payload)))
 
 
 def write_log(path, reports, vessels):
     draw = random.Random(1)
+    places = [(28549600 + draw.randrange(-500000, 500000), -73407500 + draw.randrange(-500000, 500000)) for _ in range(vessels)]
     with open(path, "w") as out:
         for k in range(reports):
-            out.write(sentence(position_report(
-                200000001 + draw.randrange(vessels), 28549600 + draw.randrange(-500000, 500000),
-                -73407500 + draw.randrange(-500000, 500000), draw.randrange(0, 300), draw.randrange(0, 3600),
-                draw.randrange(0, 360), k % 60), "AB"[k % 2]))
+            vessel, second = k % vessels, k // vessels
+            latitude, longitude = places[vessel]
+            out.write(line(START + second, position_report(
+                200000001 + vessel, latitude + 30 * second, longitude, draw.randrange(0, 300), draw.randrange(0, 3600),
+                draw.randrange(0, 360), second % 60), "AB"[k % 2]))
+
+
+def rows(command, log, cwd):
+    """How many `point` rows the program writes."""
+    with open(log, "rb") as source:
+        done = subprocess.run(command, shell=True, stdin=source, stdout=subprocess.PIPE, cwd=cwd)
+    return sum(row.startswith(b"point,") for row in done.stdout.splitlines())
 
 
 def seconds(command, log, cwd):
@@ -89,16 +93,18 @@ def main():
     colregs = os.path.join(HERE, "..", "crates", "colregs", "out", "colregs")
     with tempfile.TemporaryDirectory() as place:
         log = os.path.join(place, "log")
-        with open(os.path.join(place, "scenario.toml"), "w") as out:
-            out.write(SCENARIO)
+        shutil.copy(SCENARIO, os.path.join(place, "scenario.toml"))
         write_log(log, given.reports, given.vessels)
         commands = ["wc -l", "%s points scenario.toml" % os.path.abspath(colregs)]
         commands += [program.replace("{log}", log) for program in given.programs]
+        counted = {command: rows(command, log, place) for command in commands[1:]}
+        if set(counted.values()) != {given.reports}:
+            sys.exit("%d reports, but rows: %s" % (given.reports, counted))
         least = [float("inf")] * len(commands)
         for _ in range(given.rounds):
             for k, command in enumerate(commands):
                 least[k] = min(least[k], seconds(command, log, place))
-        print("%d reports of %d vessels, %d bytes" % (given.reports, given.vessels, os.path.getsize(log)))
+        print("%d reports of %d vessels, as many rows, %d bytes" % (given.reports, given.vessels, os.path.getsize(log)))
         for command, best in zip(commands, least):
             print("%8.3f s  %6.1f x wc -l  %s" % (best, best / least[0], command))
 

@@ -168,3 +168,117 @@ fn long_range_report(rt: HostRuntime) -> Result<(), Fail> {
     assert_eq!(rt; report.second, 60);
     Ok(())
 }
+
+// The same message with as many bits as a message 5 needs, and with one fewer.
+#[test]
+fn ship_data_needs_422_bits(rt: HostRuntime) -> Result<(), Fail> {
+    let first = b"!AIVDM,2,1,3,B,55P5TL01VIaAL@7WKO@mBplU@<PDhh000000001S;AJ::4A80?4i@E53,0*3E";
+    let enough = b"!AIVDM,2,2,3,B,1@0000000000000,4*53";
+    let fewer = b"!AIVDM,2,2,3,B,1@0000000000000,5*52";
+    assert!(rt;
+        matches!(
+            message_of_two(rt.alloc(), first, enough)?,
+            Decoded::Message(_)
+        )
+    );
+    assert_eq!(rt;
+        message_of_two(rt.alloc(), first, fewer)?,
+        Decoded::Dropped(MessageCause::Short)
+    );
+    Ok(())
+}
+
+// A message 19 off the air, from the samples of GPSD: CAPT.J.RIMES.
+#[test]
+fn place_and_name_in_one_message(rt: HostRuntime) -> Result<(), Fail> {
+    let line = b"!AIVDM,1,1,,B,C5N3SRgPEnJGEBT>NhWAwwo862PaLELTBJ:V00000000S0D:R220,0*0B";
+    let Decoded::Message(Message::Both(report, ship)) = message(rt.alloc(), line)? else {
+        return Err("it has a position and a static report".into());
+    };
+    let expected = PositionReport {
+        kind: 19,
+        mmsi: 367059850,
+        status: 15,
+        place: Some((17726217, -53286235)),
+        sog: Some(87),
+        cog: Some(3359),
+        heading: None,
+        second: 46,
+    };
+    assert_eq!(rt; report, expected);
+    assert_eq!(rt; ship.mmsi, 367059850);
+    assert_eq!(rt;
+        ship.name.ok_or("it has a name")?.bytes(),
+        b"CAPT.J.RIMES".as_slice()
+    );
+    let size = ship.ship.ok_or("it has a size")?;
+    assert_eq!(rt; (size.kind, size.bow, size.stern), (70, 5, 21));
+    assert_eq!(rt; (size.port, size.starboard), (4, 4));
+    Ok(())
+}
+
+// The two parts of a message 24 off the air, from the samples of GPSD: PROGUY.
+#[test]
+fn name_and_size_in_two_messages(rt: HostRuntime) -> Result<(), Fail> {
+    let line = b"!AIVDM,1,1,,A,H42O55i18tMET000000000000000,0*5F";
+    let Decoded::Message(Message::Static(name)) = message(rt.alloc(), line)? else {
+        return Err("it is a static report".into());
+    };
+    assert_eq!(rt; name.mmsi, 271041815);
+    assert_eq!(rt;
+        name.name.ok_or("it has a name")?.bytes(),
+        b"PROGUY".as_slice()
+    );
+    assert_eq!(rt; name.ship, None);
+    let line = b"!AIVDM,1,1,,A,H42O55lti4hhhilD3nink000?050,0*40";
+    let Decoded::Message(Message::Static(size)) = message(rt.alloc(), line)? else {
+        return Err("it is a static report".into());
+    };
+    assert!(rt; size.name.is_none());
+    let size = size.ship.ok_or("it has a size")?;
+    assert_eq!(rt; (size.kind, size.bow, size.stern), (60, 0, 15));
+    assert_eq!(rt; (size.port, size.starboard), (0, 5));
+    Ok(())
+}
+
+/// The position report of a line that has one.
+fn position(alloc: Global, line: &[u8]) -> Result<PositionReport, Fail> {
+    let Decoded::Message(Message::Position(report)) = message(alloc, line)? else {
+        return Err("it is a position report".into());
+    };
+    Ok(report)
+}
+
+// The greatest values that say something, the least, and the first behind the greatest. The payloads are those of an encoder in Python.
+#[test]
+fn ends_of_the_fields(rt: HostRuntime) -> Result<(), Fail> {
+    let report = position(
+        rt.alloc(),
+        b"!AIVDM,1,1,,A,12vg200P?v<ovH0kOqP>3s?n0000,0*68",
+    )?;
+    assert_eq!(rt; report.place, Some((54000000, 108000000)));
+    assert_eq!(rt;
+        (report.sog, report.cog, report.heading),
+        (Some(1022), Some(3599), Some(359))
+    );
+    let report = position(
+        rt.alloc(),
+        b"!AIVDM,1,1,,A,12vg200P00C81`1<P6P0001n0000,0*28",
+    )?;
+    assert_eq!(rt; report.place, Some((-54000000, -108000000)));
+    assert_eq!(rt;
+        (report.sog, report.cog, report.heading),
+        (Some(0), Some(0), Some(0))
+    );
+    let north = position(
+        rt.alloc(),
+        b"!AIVDM,1,1,,A,12vg200P?w<ovH0kOqPN4;An0000,0*28",
+    )?;
+    let west = position(
+        rt.alloc(),
+        b"!AIVDM,1,1,,A,12vg200P?wC81Ww<P6P>4;An0000,0*60",
+    )?;
+    assert_eq!(rt; (north.place, west.place), (None, None));
+    assert_eq!(rt; (north.sog, north.cog, north.heading), (None, None, None));
+    Ok(())
+}
