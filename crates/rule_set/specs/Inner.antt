@@ -1,0 +1,4 @@
+pub mod Valid
+pub mod Drafts
+pub mod Codes
+pub mod Rules

@@ -1,0 +1,50 @@
+-- The rules in order, each a name and a tree.
+use Rattle.std.specs.Prelude.{ℕ, ◌≡◌, ◌≤◌, Bool, false, bytes_eq, List, [], ◌∷◌, length, All, slice_index_or, codes}
+use Rattle.std.specs.List.{list_any}
+use Rattle.mtl_formulas.specs.declared.atom.Atom.TheVariants.{Never}
+use Rattle.mtl_formulas.specs.FormulaTree.{FormulaTree, leaf}
+use Rattle.mtl_formulas.specs.FormulaMeasures.{IsValid}
+use Rattle.rule_set.specs.declared.numbers.RuleNumbers.{RuleNumbers}
+use Rattle.rule_set.specs.RuleTrees as tree
+
+pub record NamedTree : Type 0 where
+  pub name : List ℕ
+  pub tree : FormulaTree
+
+abbrev pub named : List ℕ → FormulaTree → NamedTree
+named name tree = record { name = name; tree = tree }
+
+-- the eleven rules at a tick of so many seconds
+abbrev pub rules_of : ℕ → RuleNumbers → List NamedTree
+rules_of tick numbers =
+    named (codes "r8b") (tree.r8b tick numbers)
+    ∷ named (codes "r8d") (tree.r8d numbers)
+    ∷ named (codes "r13") (tree.r13 numbers)
+    ∷ named (codes "r14a") (tree.r14a tick numbers)
+    ∷ named (codes "r14b") tree.r14b
+    ∷ named (codes "r14p") tree.r14p
+    ∷ named (codes "r15") tree.r15
+    ∷ named (codes "r16") (tree.r16 tick numbers)
+    ∷ named (codes "r17a") (tree.r17a tick numbers)
+    ∷ named (codes "r17b") (tree.r17b tick numbers)
+    ∷ named (codes "r17c") (tree.r17c tick numbers)
+    ∷ []
+
+-- the rule at an index below their number
+abbrev pub rule_at : List NamedTree → ℕ → NamedTree
+rule_at rules k = slice_index_or rules k (named [] (leaf Never))
+
+-- whether some rule has the name
+abbrev pub holds : List NamedTree → List ℕ → Bool
+holds rules name = list_any (λ (rule : NamedTree). bytes_eq rule.name name) rules
+
+-- No rule has the name of one before it.
+abbrev pub HaveDifferentNames : List NamedTree → Type 0
+HaveDifferentNames [] = Unit {0}
+HaveDifferentNames (rule ∷ rules) = (holds rules rule.name ≡ false) × HaveDifferentNames rules
+
+-- at most 17 rules with different names, each a valid formula
+pub record AreRules (rules : List NamedTree) : Type 0 where
+  pub few : length rules ≤ 17
+  pub different : HaveDifferentNames rules
+  pub valid : All (λ (rule : NamedTree). IsValid rule.tree) rules

@@ -1,0 +1,144 @@
+-- The formulas of the rules, as trees: the duties of the COLREGs 1972, with the numbers of a scenario. The bounds of their
+-- operators are in positions, each a tick of so many seconds.
+use Rattle.std.specs.Prelude.{ℕ, ◌≡◌, ◌≤◌, ◌/◌, ◌%◌}
+use Rattle.mtl_formulas.specs.declared.atom.Atom.TheVariants.{Risk, Engaged, Begin, Overtaking, Overtaken, HeadOn, CrossingGives, CrossingStands, Passing, Unclassified, Age, Opening, Clear, Close, OtherOnPort, Ahead, Alters, Apparent, ToStarboard, ToPort, OtherApparent}
+use Rattle.mtl_formulas.specs.declared.formula.PairKind.TheVariants.{And, Or, Implies}
+use Rattle.mtl_formulas.specs.declared.formula.SpanKind.TheVariants.{F, H}
+use Rattle.mtl_formulas.specs.declared.formula.LinkKind.TheVariants.{S}
+use Rattle.mtl_formulas.specs.FormulaTree.{FormulaTree, leaf, negation, pair, span, link}
+use Rattle.mtl_formulas.specs.FormulaText.{IsTick}
+use Rattle.rule_set.specs.declared.numbers.Safe.{Safe}
+use Rattle.rule_set.specs.declared.numbers.Safe.TheVariants.{One, PerKind}
+use Rattle.rule_set.specs.declared.numbers.RuleNumbers.{RuleNumbers}
+
+infixl 30 ◌and◌
+infixl 25 ◌or◌
+infixr 20 ◌implies◌
+-- Metres are at most 100,000; seconds are at most 7200 and a multiple of the tick.
+abbrev pub AreMetres : ℕ → Type 0
+AreMetres metres = metres ≤ 100000
+
+abbrev pub AreSafeMetres : Safe → Type 0
+AreSafeMetres (One metres) = AreMetres metres
+AreSafeMetres (PerKind head_on overtaking crossing other) = AreMetres head_on × AreMetres overtaking × AreMetres crossing × AreMetres other
+
+pub record AreSeconds (tick seconds : ℕ) : Type 0 where
+  pub few : seconds ≤ 7200
+  pub whole : seconds % tick ≡ 0
+
+pub record AreRuleNumbers (tick : ℕ) (n : RuleNumbers) : Type 0 where
+  pub is_tick : IsTick tick
+  pub safe : AreSafeMetres n.safe
+  pub overtake : AreMetres n.overtake
+  pub close : AreMetres n.close
+  pub t8 : AreSeconds tick n.t8
+  pub ta : AreSeconds tick n.ta
+  pub tl : AreSeconds tick n.tl
+  pub tw : AreSeconds tick n.tw
+  pub te : AreSeconds tick n.te
+
+-- a & b
+abbrev pub ◌and◌ : FormulaTree → FormulaTree → FormulaTree
+a and b = pair And a b
+
+-- a | b
+abbrev pub ◌or◌ : FormulaTree → FormulaTree → FormulaTree
+a or b = pair Or a b
+
+-- a -> b
+abbrev pub ◌implies◌ : FormulaTree → FormulaTree → FormulaTree
+a implies b = pair Implies a b
+
+-- The duty to act within so many seconds, unless the engagement ends: F[0,seconds] (act | !engaged)
+abbrev pub soon : ℕ → ℕ → FormulaTree → FormulaTree
+soon tick seconds act = span F 0 (seconds / tick) (act or negation (leaf Engaged))
+
+-- The vessel is to keep out of the way: (overtaking | crossing_gives)
+abbrev pub keeps_out : FormulaTree
+keeps_out = leaf Overtaking or leaf CrossingGives
+
+-- The vessel is to stand on: (overtaken | crossing_stands)
+abbrev pub stands_on : FormulaTree
+stands_on = leaf Overtaken or leaf CrossingStands
+
+-- In risk, and so near that the other vessel may be unable to avoid collision alone: (engaged & risk & close(close))
+abbrev pub extremis : RuleNumbers → FormulaTree
+extremis n = leaf Engaged and leaf Risk and leaf (Close n.close)
+
+-- In risk for so long, in which the other vessel did not act: (age(tw) & H[0,tw] (engaged & risk & !other_apparent))
+abbrev pub waits : ℕ → RuleNumbers → FormulaTree
+waits tick n =
+    leaf (Age n.tw) and span H 0 (n.tw / tick) (leaf Engaged and leaf Risk and negation (leaf OtherApparent))
+
+-- The vessel that stands on is free to act: since she waited or was in extremis, at most so long ago, she stayed engaged.
+-- (engaged S[0,te] (waits | extremis))
+abbrev pub free : ℕ → RuleNumbers → FormulaTree
+free tick n = link S 0 (n.te / tick) (leaf Engaged) (waits tick n or extremis n)
+
+-- Engaged in an encounter of this kind, the vessels pass at so many metres: engaged & kind -> clear(metres)
+abbrev pub passes_clear : FormulaTree → ℕ → FormulaTree
+passes_clear kind metres = leaf Engaged and kind implies leaf (Clear metres)
+
+-- engaged -> clear(metres), or, for a distance per kind of encounter, four such parts
+abbrev pub passes_safely : Safe → FormulaTree
+passes_safely (One metres) = leaf Engaged implies leaf (Clear metres)
+passes_safely (PerKind head_on overtaking crossing other) =
+    passes_clear (leaf HeadOn) head_on
+    and passes_clear (leaf Overtaking or leaf Overtaken) overtaking
+    and passes_clear (leaf CrossingGives or leaf CrossingStands) crossing
+    and passes_clear (leaf Passing or leaf Unclassified) other
+
+-- Rule 8(b). An alteration of course or speed is large enough to be readily apparent to the other vessel.
+-- alters -> F[0,t8] (apparent | !engaged)
+abbrev pub r8b : ℕ → RuleNumbers → FormulaTree
+r8b tick n = leaf Alters implies soon tick n.t8 (leaf Apparent)
+
+-- Rule 8(d). Action to avoid collision results in passing at a safe distance.
+-- engaged -> clear(safe)
+abbrev pub r8d : RuleNumbers → FormulaTree
+r8d n = passes_safely n.safe
+
+-- Rule 13. An overtaking vessel keeps out of the way of the vessel being overtaken.
+-- engaged & overtaking -> clear(overtake)
+abbrev pub r13 : RuleNumbers → FormulaTree
+r13 n = passes_clear (leaf Overtaking) n.overtake
+
+-- Rule 14(a). Vessels meeting head-on each alter course to starboard.
+-- begin & head_on -> F[0,ta] (to_starboard | !engaged)
+abbrev pub r14a : ℕ → RuleNumbers → FormulaTree
+r14a tick n = leaf Begin and leaf HeadOn implies soon tick n.ta (leaf ToStarboard)
+
+-- Rule 14(a). No vessel that meets another head-on alters course to port.
+-- engaged & head_on -> !to_port
+abbrev pub r14b : FormulaTree
+r14b = leaf Engaged and leaf HeadOn implies negation (leaf ToPort)
+
+-- Rule 14(a). Vessels meeting head-on each pass on the port side of the other.
+-- engaged & head_on & opening -> other_on_port
+abbrev pub r14p : FormulaTree
+r14p = leaf Engaged and leaf HeadOn and leaf Opening implies leaf OtherOnPort
+
+-- Rule 15. In a crossing, the vessel which has the other on her own starboard side avoids crossing ahead of her.
+-- engaged & crossing_gives -> !ahead
+abbrev pub r15 : FormulaTree
+r15 = leaf Engaged and leaf CrossingGives implies negation (leaf Ahead)
+
+-- Rule 16. A vessel that is to keep out of the way takes early and substantial action.
+-- begin & keeps_out -> F[0,ta] (apparent | !engaged)
+abbrev pub r16 : ℕ → RuleNumbers → FormulaTree
+r16 tick n = leaf Begin and keeps_out implies soon tick n.ta (leaf Apparent)
+
+-- Rule 17(a). The vessel that is to stand on keeps her course and speed until she is free to act.
+-- engaged & stands_on & !free -> !alters
+abbrev pub r17a : ℕ → RuleNumbers → FormulaTree
+r17a tick n = leaf Engaged and stands_on and negation (free tick n) implies negation (leaf Alters)
+
+-- Rule 17(b). In extremis the vessel that is to stand on takes such action as will best aid to avoid collision.
+-- stands_on & extremis -> F[0,tl] (apparent | !engaged)
+abbrev pub r17b : ℕ → RuleNumbers → FormulaTree
+r17b tick n = stands_on and extremis n implies soon tick n.tl (leaf Apparent)
+
+-- Rule 17(c). In a crossing, the vessel that is to stand on, free to act and not in extremis, does not alter course to port.
+-- engaged & crossing_stands & free & !extremis -> !to_port
+abbrev pub r17c : ℕ → RuleNumbers → FormulaTree
+r17c tick n = leaf Engaged and leaf CrossingStands and free tick n and negation (extremis n) implies negation (leaf ToPort)

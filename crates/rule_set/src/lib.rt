@@ -1,0 +1,17 @@
+//! The rules of an audit: the formulas of the duties in the COLREGs 1972 (Rules 8 and 13 to 17) with the numbers of a
+//! scenario, and then the formulas that the scenario adds.
+#![tactic(auto)]
+
+mod draft;
+mod duties;
+mod name;
+mod numbers;
+mod rule;
+mod rule_set;
+#[cfg(test)]
+mod tests;
+mod words;
+
+pub use name::Name;
+pub use numbers::{RuleNumbers, Safe};
+pub use rule_set::RuleSet;

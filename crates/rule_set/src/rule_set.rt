@@ -1,0 +1,110 @@
+//! The rules of an audit.
+ghost use Rattle.std.specs.Prelude.{◌≡◌, ◌<◌, ◌∷◌, [], ◌++◌, false, length, IfOk, IfErr, OnErr, OnOk};
+ghost use Rattle.mtl_formulas.specs.FormulaTree.{tree_of};
+ghost use Rattle.mtl_formulas.specs.FormulaMeasures.{IsValid};
+ghost use Rattle.rule_set.specs.NamedTrees.{named, rules_of, rule_at, holds, AreRules};
+ghost use Rattle.rule_set.specs.RuleTrees.{AreRuleNumbers};
+
+use crate::duties::{r8b, r8d, r13, r14a, r14b, r14p, r15, r16, r17a, r17b, r17c};
+use crate::name::Name;
+use crate::numbers::RuleNumbers;
+use crate::rule::{Rule, has_name};
+use mtl_formulas::Formula;
+use outside::Memory;
+use std::alloc::{AllocFailed, Global};
+use std::marker::Model;
+
+/// The rules of an audit in order: the eleven of the COLREGs 1972, and then at most six that were added. It is seen as the
+/// list of their names and trees. All names are different, and all formulas valid.
+#[derive(Drop)]
+pub struct RuleSet {
+    rules: Vec<Rule>,
+}
+
+impl Model for RuleSet {
+    ghost use Rattle.std.specs.Prelude.{List, length, ◌≤◌};
+    ghost use Rattle.rule_set.specs.NamedTrees.{NamedTree, HaveDifferentNames};
+    ghost use Rattle.rule_set.specs.Inner.Codes.{coded_named_trees};
+
+    ghost Value = { List NamedTree };
+
+    ghost coded = { coded_named_trees };
+
+    ghost use Rattle.rule_set.specs.Inner.Rules.{named_trees};
+
+    ghost view = { λ s. named_trees s.rules.items };
+
+    ghost invariant = { λ s. (length s.rules.items ≤ 17) × HaveDifferentNames (named_trees s.rules.items) };
+}
+
+impl RuleSet {
+    /// The eleven rules with these numbers, at a tick of 1 to 60 seconds: `r8b`, `r8d`, `r13`, `r14a`, `r14b`, `r14p`, `r15`,
+    /// `r16`, `r17a`, `r17b` and `r17c`, each the duty of the Rule of the COLREGs 1972 with its number (8, and 13 to 17).
+    pub fn new(alloc: Global, numbers: &RuleNumbers, tick: u32) -> Result<RuleSet, Memory>
+        requires { AreRuleNumbers tick numbers.now }
+        ensures rules { IfOk result (λ set. set ≡ rules_of tick numbers.now) }
+    {
+        let rules = vec![in alloc;
+            Rule::of(b"r8b", r8b(alloc, tick, numbers)?),
+            Rule::of(b"r8d", r8d(alloc, numbers)?),
+            Rule::of(b"r13", r13(alloc, numbers)?),
+            Rule::of(b"r14a", r14a(alloc, tick, numbers)?),
+            Rule::of(b"r14b", r14b(alloc)?),
+            Rule::of(b"r14p", r14p(alloc)?),
+            Rule::of(b"r15", r15(alloc)?),
+            Rule::of(b"r16", r16(alloc, tick, numbers)?),
+            Rule::of(b"r17a", r17a(alloc, tick, numbers)?),
+            Rule::of(b"r17b", r17b(alloc, tick, numbers)?),
+            Rule::of(b"r17c", r17c(alloc, tick, numbers)?),
+        ]?;
+        Ok(RuleSet { rules })
+    }
+
+    /// Adds a valid formula under a name that the set does not hold, behind the others. The set holds fewer than 17 rules.
+    /// At want of memory, the one cause of an `Err`, the formula comes back and the set is as it was.
+    pub fn add(&mut self, name: Name, formula: Formula) -> Result<(), Formula>
+        requires few { length self.old < 17 }
+        requires new { holds self.old name ≡ false }
+        requires valid { IsValid (tree_of formula) }
+        ensures added { OnOk result (self.new ≡ self.old ++ named name (tree_of formula) ∷ []) }
+        ensures left { OnErr result (self.new ≡ self.old) }
+        ensures back { IfErr result (λ f. f ≡ formula) }
+    {
+        match self.rules.push(Rule { name, formula }) {
+            Ok(()) => Ok(()),
+            Err(AllocFailed { value }) => Err(value.formula),
+        }
+    }
+
+    /// How many rules there are, at most 17.
+    pub fn len(&self) -> usize
+        ensures count { result ≡ length self.now }
+        ensures rules { AreRules self.now }
+    {
+        self.rules.len()
+    }
+
+    /// The bytes of the name of the rule at an index, 1 to 16.
+    pub fn name(&self, k: usize) -> &[u8]
+        requires { k < length self.now }
+        ensures name { result.now ≡ (rule_at self.now k).name }
+    {
+        self.rules[k].name.bytes()
+    }
+
+    /// The formula of the rule at an index.
+    pub fn formula(&self, k: usize) -> &Formula
+        requires { k < length self.now }
+        ensures tree { tree_of result.now ≡ (rule_at self.now k).tree }
+        ensures valid { IsValid (tree_of result.now) }
+    {
+        &self.rules[k].formula
+    }
+
+    /// Whether some rule has the name.
+    pub fn holds(&self, name: &[u8]) -> bool
+        ensures { result ≡ holds self.now name.now }
+    {
+        has_name(&self.rules, name)
+    }
+}
