@@ -1,9 +1,8 @@
 -- There is exactly one accepted list.
-use Rattle.std.proofs.Common.{◌≡◌, ◌∙◌, ℕ, zero, suc, ◌<◌, Bool, true, false, List, [], ◌∷◌, length, take, Some, None, Ok, Err, refl, ap, sym, subst, arith}
+use Rattle.std.proofs.Common.{◌≡◌, ◌∙◌, ℕ, zero, suc, Bool, true, false, List, [], ◌∷◌, length, take, Some, None, Ok, Err, refl, ap, sym, subst, arith}
 use Rattle.std.specs.Prelude.{Option, Result, IsOk, ◌↔◌, slice_get}
 use Rattle.std.specs.List.{find, last_or}
 use Rattle.std.proofs.lemmas.Bool.{false≢true}
-use Rattle.fixed_geometry.specs.Place.{Place}
 use Rattle.tracks.specs.AcceptedReports.{AreAccepted, IsFree, Numbers, Reported, accepted_after, accepted_list, accepted_with, applies, judged, judged_after, judged_at, marked, placed, unless, with_placed}
 use Rattle.tracks.specs.declared.accepted.Accepted.{Accepted}
 use Rattle.tracks.specs.declared.entry.ReportCause.{ReportCause}

@@ -1,5 +1,5 @@
 -- What is settled before a message came does not change by it.
-use Rattle.std.proofs.Common.{◌≡◌, ◌≢◌, ◌∙◌, ℕ, ◌+◌, ◌<◌, ◌≤◌, ◌⊎◌, inl, inr, Bool, true, false, nat_le, List, [], ◌∷◌, ◌++◌, Some, None, Ok, Err, ℤ, refl, ap, sym, subst, arith}
+use Rattle.std.proofs.Common.{◌≡◌, ◌≢◌, ◌∙◌, ℕ, ◌+◌, ◌<◌, ◌≤◌, ◌⊎◌, inl, inr, Bool, true, false, map, nat_eq, List, [], ◌∷◌, ◌++◌, Some, None, Ok, Err, ℤ, refl, ap, sym, arith}
 use Rattle.std.specs.Prelude.{Option, Result}
 use Rattle.std.specs.List.{filter, last_or}
 use Rattle.std.specs.Option.{option_map, option_to_list}
@@ -13,8 +13,11 @@ use Rattle.fixed_geometry.specs.Projection.{projection_of}
 use Rattle.fixed_geometry.specs.declared.point.Point.{Point}
 use Rattle.ais_messages.specs.declared.message.PositionReport.{PositionReport}
 use Rattle.tracks.specs.AcceptedReports.{Numbers, Reported, at_place, at_point, judged, placed}
-use Rattle.tracks.specs.JoinedReports.{joined, legs_between}
-use Rattle.tracks.specs.VesselsHeld.{Sent, accepted_of, legs_of, report_in, reported_in, sender_of}
+use Rattle.tracks.specs.JoinedReports.{legs_between}
+use Rattle.tracks.specs.Standing.{BookValue, StandsFor, VesselValue, legs_among, legs_in, vessel_of}
+use Rattle.tracks.specs.VesselsHeld.{Sent, accepted_of, held_of, is_held, legs_of, report_in, reported_in, sender_of}
+use Rattle.tracks.proofs.Ascending.{IsAmong}
+use Rattle.tracks.proofs.Holding.{held_among, held_passes, no_points}
 use Rattle.tracks.specs.Inner.Keeping.{accepted_by, accepted_in, joined_after, points_with}
 use Rattle.tracks.specs.declared.accepted.Accepted.{Accepted}
 use Rattle.tracks.specs.declared.entry.ReportCause.{ReportCause}
@@ -102,3 +105,47 @@ past_stays numbers sent one mmsi t lt =
           ∙ with_points numbers.gap t points now one.time (λ a e. reported_time numbers (last_or None points) (report_in one.message) one.time a e) lt)
       | inr other ↦ ap (λ (xs : List Accepted). state_at t (legs_between numbers.gap xs)) (accepted_of-other numbers sent one mmsi other)
     ]
+
+-- ---- in the book
+
+legs_among-own : (f : ℕ → VesselValue) (ms : List ℕ) (m : ℕ) → IsAmong m ms → legs_among ms (map f ms) m ≡ (f m).legs
+legs_among-own f [] m h = absurd h
+legs_among-own f (n ∷ ms) m h =
+    elim (same_or_other n m) [
+      | inl same ↦ (let test : nat_eq n m ≡ true = grind (arith, nat_tests) in rw test (ap (λ (k : ℕ). (f k).legs) same))
+      | inr other ↦ (let test : nat_eq n m ≡ false = grind (arith, nat_tests) in rw test (legs_among-own f ms m (later n m ms h other)))
+    ]
+  where
+    later : (n m : ℕ) (ms : List ℕ) → IsAmong m (n ∷ ms) → n ≢ m → IsAmong m ms
+    later n m ms (inl same) other = absurd (other (sym same))
+    later n m ms (inr h) other = h
+
+legs_among-none : (f : ℕ → VesselValue) (ms : List ℕ) (m : ℕ) → ¬ IsAmong m ms → legs_among ms (map f ms) m ≡ []
+legs_among-none f [] m not = refl
+legs_among-none f (n ∷ ms) m not =
+    let test : nat_eq n m ≡ false = differs (same_or_other n m) in
+    rw test (legs_among-none f ms m (λ h. not (inr h)))
+  where
+    differs : (n ≡ m) ⊎ (n ≢ m) → nat_eq n m ≡ false
+    differs (inl same) = absurd (not (inl (sym same)))
+    differs (inr other) = grind (arith, nat_tests)
+
+no_legs : (numbers : Numbers) (sent : List Sent) (m : ℕ) → is_held numbers sent m ≡ false → [] ≡ legs_of numbers sent m
+unfolding legs_of
+no_legs numbers sent m h = ap (legs_between numbers.gap) (sym (no_points numbers sent m h))
+
+legs_in-is : (book : BookValue) (numbers : Numbers) (sent : List Sent) (m : ℕ) → StandsFor book numbers sent → legs_in book m ≡ legs_of numbers sent m
+legs_in-is book numbers sent m h =
+    (λ i. legs_among (h.holds i) (h.vessels i) m) ∙ decide (is_held numbers sent m) refl
+  where
+    decide : (b : Bool) → is_held numbers sent m ≡ b → legs_among (held_of numbers sent) (map (vessel_of numbers sent) (held_of numbers sent)) m ≡ legs_of numbers sent m
+    decide true e = legs_among-own (vessel_of numbers sent) (held_of numbers sent) m (held_among numbers sent m e)
+    decide false e =
+        legs_among-none (vessel_of numbers sent) (held_of numbers sent) m (λ h. let held : is_held numbers sent m ≡ true = held_passes numbers sent m h in absurd (cc))
+        ∙ no_legs numbers sent m e
+
+pub past_stays_in : (old new : BookValue) (numbers : Numbers) (sent : List Sent) (one : Sent) (mmsi t : ℕ) → StandsFor old numbers sent
+    → StandsFor new numbers (sent ++ one ∷ []) → t + numbers.gap < one.time → state_at t (legs_in new mmsi) ≡ state_at t (legs_in old mmsi)
+past_stays_in old new numbers sent one mmsi t before after lt =
+    ap (state_at t) (legs_in-is new numbers (sent ++ one ∷ []) mmsi after) ∙ past_stays numbers sent one mmsi t lt
+    ∙ ap (state_at t) (sym (legs_in-is old numbers sent mmsi before))

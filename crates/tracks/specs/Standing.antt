@@ -1,5 +1,5 @@
 -- What a book of vessels stands for.
-use Rattle.std.specs.Prelude.{ℕ, ◌≡◌, ◌≤◌, List, map, Option, Some, None, if◌then◌else◌}
+use Rattle.std.specs.Prelude.{ℕ, ◌≡◌, ◌==◌, ◌≤◌, List, [], ◌∷◌, map, Option, Some, None, if◌then◌else◌}
 use Rattle.fixed_geometry.specs.Sizes.{IsWithin}
 use Rattle.ais_messages.specs.MessageFields.{IsReport}
 use Rattle.motion.specs.declared.leg.Leg.{Leg}
@@ -19,6 +19,15 @@ pub record BookValue : Type 0 where
   pub numbers : Numbers
   pub held : List ℕ
   pub vessels : List VesselValue
+
+-- the legs that a book keeps of a vessel, none where she is not held
+abbrev pub legs_among : List ℕ → List VesselValue → ℕ → List Leg
+legs_among [] vessels mmsi = []
+legs_among (held ∷ others) [] mmsi = []
+legs_among (held ∷ others) (vessel ∷ vessels) mmsi = if held == mmsi then vessel.legs else legs_among others vessels mmsi
+
+abbrev pub legs_in : BookValue → ℕ → List Leg
+legs_in book mmsi = legs_among book.held book.vessels mmsi
 
 -- what the messages tell of a vessel
 abbrev pub vessel_of : Numbers → List Sent → ℕ → VesselValue

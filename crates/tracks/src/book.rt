@@ -6,14 +6,14 @@ ghost use Rattle.ais_messages.specs.MessageFields.{IsMessage};
 ghost use Rattle.motion.specs.TickStates.{MovesLittle, state_at};
 ghost use Rattle.tracks.specs.AcceptedReports.{Numbers};
 ghost use Rattle.tracks.specs.Inner.Keeping.{IsKept, makes_held};
-ghost use Rattle.tracks.specs.Standing.{IsAccepted, IsNumbers, StandsFor, vessel_held};
+ghost use Rattle.tracks.specs.Standing.{IsAccepted, IsNumbers, StandsFor, legs_in, vessel_held};
 ghost use Rattle.tracks.specs.VesselsHeld.{Sent, accepted_of, entry_at, entry_of, held_of, is_held, legs_of, reported_in, sender_of, statics_of, with_number};
 ghost use Rattle.tracks.specs.declared.entry.BookFault.TheVariants.{TooManyVessels};
 
 use crate::accepted::Accepted;
 use crate::entry::{BookFault, Entry};
+use crate::given::GivenNumbers;
 use crate::judging::judge;
-use crate::numbers::Numbers as TheNumbers;
 use crate::parts::{position_report, sender, static_report};
 use crate::places::index_of;
 use crate::statics::Statics;
@@ -29,7 +29,7 @@ use std::marker::Model;
 const MOST_VESSELS: usize = 4096;
 
 /// What a message of a vessel that is not held comes to.
-fn first_entry(numbers: &TheNumbers, message: &Message, time: u64) -> Entry
+fn first_entry(numbers: &GivenNumbers, message: &Message, time: u64) -> Entry
     requires numbers { IsNumbers numbers.now }
     requires message { IsMessage message.now }
     ensures { result ≡ entry_at numbers.now None (reported_in (record { message = message.now; time = time })) }
@@ -45,7 +45,8 @@ fn first_entry(numbers: &TheNumbers, message: &Message, time: u64) -> Entry
 
 /// Whether a message that comes to this makes its vessel held.
 fn is_holding(message: &Message, entry: Entry) -> bool
-    ensures { (numbers : Numbers) (time : ℕ) → entry ≡ entry_at numbers None (reported_in (record { message = message.now; time = time }))
+    ensures { (numbers : Numbers) (time : ℕ)
+        → entry ≡ entry_at numbers None (reported_in (record { message = message.now; time = time }))
         → result ≡ makes_held numbers (record { message = message.now; time = time }) }
 {
     static_report(message).is_some() || matches!(entry, Entry::Point(_))
@@ -77,7 +78,7 @@ fn put(
 #[derive(Drop)]
 pub struct Book {
     alloc: Global,
-    numbers: TheNumbers,
+    numbers: GivenNumbers,
     held: Vec<u32>,
     vessels: Vec<Vessel>,
 }
@@ -104,7 +105,7 @@ impl Book {
     {
         Book {
             alloc,
-            numbers: TheNumbers {
+            numbers: GivenNumbers {
                 reference,
                 gap,
                 max_speed,
@@ -116,7 +117,8 @@ impl Book {
 
     /// Takes the next message, which came at `time`, and gives what it comes to: the position report of a message is accepted, or
     /// dropped for the first cause that applies, and its static report is kept in any case. `TooManyVessels` comes exactly where
-    /// more than 4096 vessels would be held with this message, and `Memory` where there was none; the book is then as before.
+    /// more than 4096 vessels would be held with this message, and `Memory` where there was none; the book is then as before. Where a
+    /// vessel was more than the gap before `time` stays as it was.
     pub fn take(&mut self, message: &Message, time: u64) -> Result<Entry, BookFault>
         requires { IsMessage message.now }
         ensures entry { IfOk result (λ entry. (numbers : Numbers) (sent : List Sent) → StandsFor self.old numbers sent
@@ -125,10 +127,10 @@ impl Book {
             → StandsFor self.new numbers (sent ++ record { message = message.now; time = time } ∷ [])) }
         ensures same { OnErr result (self.new ≡ self.old) }
         ensures too_many { (numbers : Numbers) (sent : List Sent) → StandsFor self.old numbers sent
-            → (result ≡ Err TooManyVessels) ↔ (4096 < length (held_of numbers (sent ++ record { message = message.now; time = time } ∷ []))) }
-        ensures settled { (numbers : Numbers) (sent : List Sent) → StandsFor self.old numbers sent
-            → (mmsi t : ℕ) → t + numbers.gap < time
-            → state_at t (legs_of numbers (sent ++ record { message = message.now; time = time } ∷ []) mmsi) ≡ state_at t (legs_of numbers sent mmsi) }
+            → (result ≡ Err TooManyVessels)
+            ↔ (4096 < length (held_of numbers (sent ++ record { message = message.now; time = time } ∷ []))) }
+        ensures settled { OnOk result ((numbers : Numbers) (sent : List Sent) → StandsFor self.old numbers sent
+            → (mmsi t : ℕ) → t + numbers.gap < time → state_at t (legs_in self.new mmsi) ≡ state_at t (legs_in self.old mmsi)) }
     {
         let mmsi = sender(message);
         match index_of(&self.held, mmsi) {
@@ -172,7 +174,8 @@ impl Book {
             → StandsFor self.new numbers (sent ++ record { message = message.now; time = time } ∷ [])) }
         ensures same { OnErr result (self.new ≡ self.old) }
         ensures too_many { (numbers : Numbers) (sent : List Sent) → StandsFor self.old numbers sent
-            → (result ≡ Err TooManyVessels) ↔ (4096 < length (held_of numbers (sent ++ record { message = message.now; time = time } ∷ []))) }
+            → (result ≡ Err TooManyVessels)
+            ↔ (4096 < length (held_of numbers (sent ++ record { message = message.now; time = time } ∷ []))) }
     {
         let entry = first_entry(&self.numbers, message, time);
         if !is_holding(message, entry) {
@@ -219,7 +222,8 @@ impl Book {
 
     /// The accepted reports of a vessel, in the order in which they came.
     pub fn points(&self, mmsi: u32) -> &[Accepted]
-        ensures value { (numbers : Numbers) (sent : List Sent) → StandsFor self.now numbers sent → result.now ≡ accepted_of numbers sent mmsi }
+        ensures value { (numbers : Numbers) (sent : List Sent) → StandsFor self.now numbers sent
+            → result.now ≡ accepted_of numbers sent mmsi }
         ensures ranges { All IsAccepted result.now }
     {
         match self.vessel_of(mmsi) {
@@ -249,7 +253,8 @@ impl Book {
 
     /// How many vessels are held.
     pub fn vessels(&self) -> usize
-        ensures value { (numbers : Numbers) (sent : List Sent) → StandsFor self.now numbers sent → result ≡ length (held_of numbers sent) }
+        ensures value { (numbers : Numbers) (sent : List Sent) → StandsFor self.now numbers sent
+            → result ≡ length (held_of numbers sent) }
         ensures count { result ≡ length self.now.held }
         ensures few { result ≤ 4096 }
     {
@@ -259,7 +264,8 @@ impl Book {
     /// The identity of the `k`-th vessel that is held, in ascending order from 0.
     pub fn vessel(&self, k: usize) -> u32
         requires { k < length self.now.held }
-        ensures { (numbers : Numbers) (sent : List Sent) → StandsFor self.now numbers sent → slice_get (held_of numbers sent) k ≡ Some result }
+        ensures { (numbers : Numbers) (sent : List Sent) → StandsFor self.now numbers sent
+            → slice_get (held_of numbers sent) k ≡ Some result }
     {
         self.held[k]
     }

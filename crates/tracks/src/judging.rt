@@ -11,7 +11,7 @@ ghost use Rattle.tracks.specs.Standing.{IsAccepted, IsNumbers};
 
 use crate::accepted::Accepted;
 use crate::entry::ReportCause;
-use crate::numbers::Numbers;
+use crate::given::GivenNumbers;
 use ais_messages::PositionReport;
 use fixed_geometry::{Point, Reference, norm2, project};
 
@@ -78,7 +78,7 @@ fn outruns(max_speed: u16, seconds: u64, by: Point) -> bool
 
 /// Whether a vessel would have moved too fast from the latest accepted report to another, if they are close enough in time to be
 /// joined.
-fn is_jump(numbers: &Numbers, latest: &Accepted, now: &Accepted) -> bool
+fn is_jump(numbers: &GivenNumbers, latest: &Accepted, now: &Accepted) -> bool
     requires numbers { IsNumbers numbers.now }
     requires latest { IsAccepted latest.now }
     requires now { IsAccepted now.now }
@@ -97,7 +97,7 @@ fn is_jump(numbers: &Numbers, latest: &Accepted, now: &Accepted) -> bool
 
 /// Judges a report at its point of the plane, after the vessel's latest accepted one.
 fn judge_after(
-    numbers: &Numbers,
+    numbers: &GivenNumbers,
     latest: Option<&Accepted>,
     now: Accepted,
 ) -> Result<Accepted, ReportCause>
@@ -126,7 +126,7 @@ fn judge_after(
 /// Judges a report of this time, after the vessel's latest accepted one.
 #[tactic(auto, unfolding(crate::specs::AcceptedReports::judged))]
 pub(crate) fn judge(
-    numbers: &Numbers,
+    numbers: &GivenNumbers,
     latest: Option<&Accepted>,
     report: &PositionReport,
     time: u64,

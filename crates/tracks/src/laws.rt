@@ -22,7 +22,8 @@ pub fn equal_reports()
 /// The vessels held are listed in ascending order, each once.
 pub fn vessels_are_listed()
     ensures ascending { (numbers : Numbers) (sent : List Sent) → IsStrictlyIncreasing (held_of numbers sent) }
-    ensures all { (numbers : Numbers) (sent : List Sent) (mmsi : ℕ) → Contains (held_of numbers sent) mmsi ↔ (is_held numbers sent mmsi ≡ true) }
+    ensures all { (numbers : Numbers) (sent : List Sent) (mmsi : ℕ)
+        → Contains (held_of numbers sent) mmsi ↔ (is_held numbers sent mmsi ≡ true) }
 {}
 
 /// Where a vessel was more than the gap before a message came, that message does not change.

@@ -12,9 +12,9 @@
 mod accepted;
 mod book;
 mod entry;
+mod given;
 mod judging;
 pub mod laws;
-mod numbers;
 mod parts;
 mod places;
 mod statics;

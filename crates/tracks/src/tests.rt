@@ -1,8 +1,9 @@
-ghost use Rattle.std.specs.Prelude.{◌≤◌, ◌≡◌, ◌+◌, ◌<◌, Some, None, pos, unsigned_abs};
+ghost use Rattle.std.specs.Prelude.{◌≤◌, ◌<◌, IfOk, unsigned_abs};
 ghost use Rattle.ais_messages.specs.MessageFields.{IsMessage, IsReport, IsStatic};
 
 use super::*;
-use ais_messages::{Message, PositionReport, ShipData, StaticReport};
+use ais_messages::{Decoded, Message, PositionReport, ShipData, StaticReport, decode};
+use aivdm::{Body, Joined, Joiner, read_line};
 use fixed_geometry::{Point, Reference};
 use std::alloc::Global;
 use std::process::Abort;
@@ -170,6 +171,45 @@ fn a_dropped_position_leaves_its_static_part(rt: HostRuntime) -> Result<(), Fail
     Ok(())
 }
 
+/// The message of a line that has a sentence.
+fn message_of(alloc: Global, line: &[u8]) -> Result<Message, Fail>
+    ensures { IfOk result IsMessage }
+{
+    let Body::Sentence(sentence) = read_line(line).body else {
+        return Err("it is a sentence".into());
+    };
+    let Ok(Joined::Message(bits)) = Joiner::new(alloc).take(&sentence, 0) else {
+        return Err("it is whole".into());
+    };
+    let Decoded::Message(message) = decode(&bits) else {
+        return Err("it is a message".into());
+    };
+    Ok(message)
+}
+
+#[test]
+fn a_name_stays_when_ship_data_comes(rt: HostRuntime) -> Result<(), Fail> {
+    let mut book = book(rt.alloc(), 500)?;
+    let name = message_of(
+        rt.alloc(),
+        b"!AIVDM,1,1,,A,H42O55i18tMET000000000000000,0*5F",
+    )?;
+    let ship = message_of(
+        rt.alloc(),
+        b"!AIVDM,1,1,,A,H42O55lti4hhhilD3nink000?050,0*40",
+    )?;
+    assert_eq!(rt; book.take(&name, 1000), Ok(Entry::Static));
+    assert_eq!(rt; book.take(&ship, 1000), Ok(Entry::Static));
+    assert_eq!(rt; book.vessels(), 1);
+    let statics = book.statics(271041815).ok_or("the vessel is held")?;
+    let name = statics.name.as_ref().ok_or("she told her name")?;
+    assert_eq!(rt; name.bytes(), b"PROGUY".as_slice());
+    let ship = statics.ship.ok_or("she told her size")?;
+    assert_eq!(rt; ship.kind, 60);
+    assert_eq!(rt; ship.stern, 15);
+    Ok(())
+}
+
 #[test]
 fn vessels_in_ascending_order(rt: HostRuntime) -> Result<(), Fail> {
     let mut book = book(rt.alloc(), 500)?;
@@ -215,6 +255,14 @@ fn take_many(rt: &impl Abort, book: &mut Book, count: u32) -> u32
         }
     }
     refused
+}
+
+#[test]
+fn laws_do_nothing() {
+    laws::one_accepted_list();
+    laws::equal_reports();
+    laws::vessels_are_listed();
+    laws::the_past_stays();
 }
 
 #[test]

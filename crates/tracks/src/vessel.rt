@@ -12,8 +12,8 @@ ghost use Rattle.tracks.specs.VesselsHeld.{entry_at, entry_by, reported_in, stat
 
 use crate::accepted::Accepted;
 use crate::entry::Entry;
+use crate::given::GivenNumbers;
 use crate::judging::judge;
-use crate::numbers::Numbers;
 use crate::parts::{position_report, static_report};
 use crate::statics::Statics;
 use ais_messages::{Message, PositionReport, StaticReport, Text20};
@@ -136,7 +136,7 @@ impl Vessel {
     /// Takes a position report of hers.
     fn take_report(
         &mut self,
-        numbers: &Numbers,
+        numbers: &GivenNumbers,
         report: &PositionReport,
         time: u64,
     ) -> Result<Entry, Memory>
@@ -174,7 +174,7 @@ impl Vessel {
     /// Takes the position report of a message of hers, if it has one.
     fn take_position(
         &mut self,
-        numbers: &Numbers,
+        numbers: &GivenNumbers,
         message: &Message,
         time: u64,
     ) -> Result<Entry, Memory>
@@ -183,8 +183,8 @@ impl Vessel {
         requires message { IsMessage message.now }
         ensures entry { IfOk result (λ entry. entry ≡ entry_at numbers.now (last_or None self.old.points)
             (reported_in (record { message = message.now; time = time }))) }
-        ensures ok { OnOk result (self.new ≡ vessel_with numbers.now.gap self.old (accepted_in numbers.now (last_or None self.old.points)
-            (reported_in (record { message = message.now; time = time })))) }
+        ensures ok { OnOk result (self.new ≡ vessel_with numbers.now.gap self.old
+            (accepted_in numbers.now (last_or None self.old.points) (reported_in (record { message = message.now; time = time })))) }
         ensures err { OnErr result (self.new ≡ self.old) }
         ensures kept { IsKept numbers.now.gap self.new }
     {
@@ -207,7 +207,7 @@ impl Vessel {
     #[tactic(auto, unfolding(crate::specs::Inner::Keeping::vessel_after))]
     pub(crate) fn take(
         &mut self,
-        numbers: &Numbers,
+        numbers: &GivenNumbers,
         message: &Message,
         time: u64,
     ) -> Result<Entry, Memory>

@@ -1,6 +1,6 @@
 use Rattle.std.proofs.Common.{◌+◌, arith}
-use Rattle.tracks.specs.VesselsHeld.{held_of, is_held, senders_of}
-use Rattle.tracks.proofs.Ascending.{Contains_from_among, among_from_Contains, among_passes, ascends_lt}
+use Rattle.tracks.specs.VesselsHeld.{held_of}
+use Rattle.tracks.proofs.Ascending.{Contains_from_among, among_from_Contains, ascends_lt}
 use Rattle.tracks.proofs.Holding.{held_among, held_of-ascends, held_passes}
 use Rattle.tracks.proofs.laws.vessels_are_listed.Goals as goal
 

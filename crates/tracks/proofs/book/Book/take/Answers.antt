@@ -1,14 +1,15 @@
-use Rattle.tracks.proofs.Settled.{past_stays}
+use Rattle.std.proofs.lemmas.Result.{on_ok_weaker}
+use Rattle.tracks.proofs.Settled.{past_stays_in}
 use Rattle.tracks.proofs.book.Book.take.Goals as goal
-
-pub returns-in_err-take_further-in-Ok-clause-settled : goal.returns-in_err-take_further-in-Ok-clause-settled
-returns-in_err-take_further-in-Ok-clause-settled c = λ numbers sent h mmsi t lt.
-    past_stays numbers sent (record { message = c.args.message.now; time = c.args.time }) mmsi t lt
 
 pub returns-in_ok-take_further-in-Ok-clause-settled : goal.returns-in_ok-take_further-in-Ok-clause-settled
 returns-in_ok-take_further-in-Ok-clause-settled c = λ numbers sent h mmsi t lt.
-    past_stays numbers sent (record { message = c.args.message.now; time = c.args.time }) mmsi t lt
+    past_stays_in c.args.self.now _ numbers sent (record { message = c.args.message.now; time = c.args.time }) mmsi t h
+    (c.in_ok-take_further-in-Ok.ensures.stands numbers sent h) lt
 
 pub returns-in-Err-clause-settled : goal.returns-in-Err-clause-settled
-returns-in-Err-clause-settled c = λ numbers sent h mmsi t lt.
-    past_stays numbers sent (record { message = c.args.message.now; time = c.args.time }) mmsi t lt
+returns-in-Err-clause-settled c =
+    on_ok_weaker c.take_first.result
+    (λ stands numbers sent h mmsi t lt.
+    past_stays_in c.args.self.now _ numbers sent (record { message = c.args.message.now; time = c.args.time }) mmsi t h (stands numbers sent h) lt)
+    c.take_first.ensures.stands
