@@ -220,7 +220,7 @@ fn place_and_name_in_one_message(rt: HostRuntime) -> Result<(), Fail> {
 // The two parts of a message 24 off the air, from the samples of GPSD: PROGUY.
 #[test]
 fn name_and_size_in_two_messages(rt: HostRuntime) -> Result<(), Fail> {
-    let line = b"!AIVDM,1,1,,A,H42O55i18tMET000000000000000,0*5F";
+    let line = b"!AIVDM,1,1,,A,H42O55i18tMET00000000000000,2*6D";
     let Decoded::Message(Message::Static(name)) = message(rt.alloc(), line)? else {
         return Err("it is a static report".into());
     };
