@@ -1,5 +1,5 @@
 -- What the bytes under a name call for is what setting up gives.
-use Rattle.std.proofs.Common.{ℕ, ◌≡◌, ◌≤◌, ◌<◌, ◌⊎◌, inl, inr, List, length, Option, None, Some, Result, Ok, Err, Vec, refl, ap, sym, subst, arith}
+use Rattle.std.proofs.Common.{ℕ, ◌≡◌, ◌≤◌, ◌<◌, ◌⊎◌, inl, inr, List, length, Option, None, Some, Result, Ok, Err, Vec, false, refl, ap, sym, subst, arith}
 use Rattle.std.specs.declared.alloc.Global.{Global}
 use Rattle.outside.specs.Shelves.{Files, Fetches, content_of}
 use Rattle.outside.specs.declared.shelf.Fetched.TheVariants as fetched
@@ -33,8 +33,8 @@ made_or got due (inr memory) = inr (ap made memory)
 
 pub due-from_read : (files : Option Files) (name : List ℕ) (v : Vec ℕ Global) (got : Result Scenario ScenarioFault)
     → Fetches files name greatest_scenario (fetched.Bytes v)
-    → ((scenario : Scenario) → Means v.items scenario → (got ≡ Ok scenario) ⊎ (got ≡ Err refusal.Memory))
-    → ((key : Key) (why : Cause) → IsRefused v.items key why → (got ≡ Err (refusal.Fault key why)) ⊎ (got ≡ Err refusal.Memory))
+    → ((scenario : Scenario) → Means false v.items scenario → (got ≡ Ok scenario) ⊎ (got ≡ Err refusal.Memory))
+    → ((key : Key) (why : Cause) → IsRefused false v.items key why → (got ≡ Err (refusal.Fault key why)) ⊎ (got ≡ Err refusal.Memory))
     → (due : Result Scenario SetUpFault) → IsSetUpDue files name due → (made got ≡ due) ⊎ (made got ≡ Err fault.Memory)
 due-from_read None name v got fetch meant told (Ok scenario) due = cc due.2
 due-from_read None name v got fetch meant told (Err fault.NotHad) due = absurd due
@@ -49,6 +49,6 @@ due-from_read (Some held) name v got fetch meant told (Err fault.TooLong) due =
     let long : greatest_scenario < length v.items = of_found held name v.items (λ text. greatest_scenario < length text) fetch.0 due in
     absurd (omega (arith, long, fetch.1))
 due-from_read (Some held) name v got fetch meant told (Err (fault.Refused key why)) due =
-    let is = of_found held name v.items (λ text. (length text ≤ greatest_scenario) × IsRefused text key why) fetch.0 due in
+    let is = of_found held name v.items (λ text. (length text ≤ greatest_scenario) × IsRefused false text key why) fetch.0 due in
     made_or got (Err (refusal.Fault key why)) (told key why is.1)
 due-from_read (Some held) name v got fetch meant told (Err fault.Memory) due = absurd due

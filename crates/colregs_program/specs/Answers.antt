@@ -29,7 +29,7 @@ Holds (Some held) name P = (text : List ℕ) × (content_of name held ≡ Some t
 -- The bytes are those of a scenario with these values.
 pub record IsScenario (text : List ℕ) (scenario : Scenario) : Type 0 where
   pub short : length text ≤ greatest_scenario
-  pub means : Means text scenario
+  pub means : Means false text scenario
 
 -- The words are accepted, the bytes under the name are those of a scenario, where the shelf tells them, and P holds of
 -- what is asked for and of the scenario's values.
@@ -58,7 +58,7 @@ IsDue words files log status.ShelfFault = Requested words (λ request. IsMissing
 IsDue words files log (status.Limit which.Scenario most) =
     (most ≡ greatest_scenario) × Requested words (λ request. LiesUnder files request.name (λ text. greatest_scenario < length text))
 IsDue words files log (status.Scenario key cause) =
-    Requested words (λ request. LiesUnder files request.name (λ text. (length text ≤ greatest_scenario) × IsRefused text key cause))
+    Requested words (λ request. LiesUnder files request.name (λ text. (length text ≤ greatest_scenario) × IsRefused false text key cause))
 IsDue words files log (status.Limit which.Log most) = Meets words files log (Some (status.Limit which.Log most))
 IsDue words files log (status.Limit which.Vessels most) = Meets words files log (Some (status.Limit which.Vessels most))
 IsDue words files log status.Done = Meets words files log None

@@ -1,5 +1,5 @@
 //! The top call.
-ghost use Rattle.std.specs.Prelude.{⊤, ◌≡◌, ◌≢◌, ◌↔◌, ◌<◌, ◌≤◌, ◌⊎◌, ℕ, List, length, IfSome, IsTrue, None, Some, is_some, if◌then◌else◌};
+ghost use Rattle.std.specs.Prelude.{⊤, ◌≡◌, ◌≢◌, ◌↔◌, ◌<◌, ◌≤◌, ◌⊎◌, ℕ, List, length, IfSome, IsTrue, None, Some, is_some, false, if◌then◌else◌};
 ghost use Rattle.std.specs.Io.KnownBytes.{Appends, Consumes, IsAtEnd, Keeps};
 ghost use Rattle.outside.specs.Causes.{one_more, Rose};
 ghost use Rattle.outside.specs.Shelves.{IsMissing};
@@ -85,7 +85,7 @@ pub fn run<H: Shelf, S: Source, K: Sink, E: Sink>(
         × Requested words.now (λ request. Holds (H.files shelf.old) request.name (λ text. most < length text)) }
     ensures refused { (key : Key) (cause : Cause) → result ≡ Status.Scenario key cause
         → Requested words.now (λ request. Holds (H.files shelf.old) request.name (λ text.
-        (length text ≤ greatest_scenario) × IsRefused text key cause)) }
+        (length text ≤ greatest_scenario) × IsRefused false text key cause)) }
     ensures read_fault { result ≡ Status.ReadFault → (S.faults log.new ≡ one_more (S.faults log.old))
         × Runs words.now (H.files shelf.old) (λ _ scenario.
         StopsAt scenario.log.max_bytes 0 (S.left log.old) (S.left log.new) read.Failed) }
@@ -118,7 +118,7 @@ pub fn run<H: Shelf, S: Source, K: Sink, E: Sink>(
         Ok(scenario) => scenario,
         Err(fault) => return tell(alloc, fault.into(), err),
     };
-    let report = match report_on(alloc, request.mode, &scenario, log) {
+    let report = match report_on(alloc, request.mode, scenario, log) {
         Ok(report) => report,
         Err(fault) => return tell(alloc, fault.into(), err),
     };

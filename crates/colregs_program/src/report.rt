@@ -147,7 +147,7 @@ fn log_bytes<S: Source>(
 }
 
 /// Reads the log to its end, and gives what the request comes to on it.
-pub(crate) fn report_on<S: Source>(
+fn report_of<S: Source>(
     alloc: Global,
     mode: Mode,
     scenario: &Scenario,
@@ -166,4 +166,22 @@ pub(crate) fn report_on<S: Source>(
         Ok(report) => Ok(report),
         Err(fault) => Err(fault.into()),
     }
+}
+
+/// The same for a scenario that nobody needs any more, so that it is put away here.
+pub(crate) fn report_on<S: Source>(
+    alloc: Global,
+    mode: Mode,
+    scenario: Scenario,
+    log: &mut S,
+) -> Result<Vec<u8>, LogFault>
+    requires { IsInRange scenario }
+    ensures report { IfOk result (λ report. IfSome (S.left log.old) (λ bytes. (length bytes ≤ scenario.log.max_bytes)
+        × (is_crowded scenario (lines_of bytes) ≡ false) × (report.items ≡ ending_of mode scenario bytes))) }
+    ensures end { OnOk result (IsAtEnd (S.left log.new)) }
+    ensures calm { OnOk result (S.faults log.new ≡ S.faults log.old) }
+    ensures cause { IfErr result (LogCause scenario
+        (S.left log.old) (S.left log.new) (S.faults log.old) (S.faults log.new)) }
+{
+    report_of(alloc, mode, &scenario, log)
 }

@@ -14,6 +14,28 @@ ticks = 40
 [reference]
 lat = 28549600
 lon = -73407500
+[detect]
+watch = 5000
+risk = 500
+clear = 1000
+horizon = 600
+doubt = 0
+ahead = 100
+reciprocal = 100
+[act]
+steady_turn = 50
+apparent_turn = 200
+steady_speed = 10
+apparent_speed = 50
+[rules]
+safe = 200
+overtake = 200
+close = 300
+t8 = 60
+ta = 60
+tl = 20
+tw = 100
+te = 600
 [log]
 gap = 600
 slack = 60

@@ -3,7 +3,7 @@ use Rattle.std.proofs.Common.{◌≡◌, ℕ, suc, List, [], ◌∷◌, ◌++◌
 use Rattle.std.proofs.lemmas.List.Elements.{All-cons}
 use Rattle.scenario.specs.ScenarioKeys.{Row}
 use Rattle.scenario.specs.KeyFaults.{IsFirst}
-use Rattle.scenario.specs.Inner.FirstOf.{first_of}
+use Rattle.scenario.specs.FirstOf.{first_of}
 use Rattle.scenario.specs.Inner.SeenRows.{seen}
 use Rattle.scenario.specs.declared.rows.KeyRow.{KeyRow}
 use Rattle.scenario.specs.declared.key.Key.{Key}

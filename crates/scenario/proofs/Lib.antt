@@ -1,3 +1,6 @@
+pub mod Elements
 pub mod Firsts
 pub mod Held
 pub mod Single
+pub mod ListsHeld
+pub mod PlansHeld

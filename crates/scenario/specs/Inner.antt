@@ -1,5 +1,5 @@
 -- Definitions that no public clause cites.
 pub mod SeenRows
 pub mod KnownKeys
-pub mod FirstOf
 pub mod ViewedResults
+pub mod WithinBounds

@@ -1,41 +1,21 @@
 -- The faults of a document's keys, and the first of them: the keys are tested in the order of their table.
-use Rattle.std.specs.Prelude.{◌≡◌, ℕ, Bool, ◌==◌, ◌&&◌, nat_le, ℤ, pos, negsuc, int_le, List, ◌∷◌, ◌++◌, All, codes, length, if◌then◌else◌, Option, Some, None, Result, Ok, Err}
-use Rattle.toml.specs.Data.{Data, Members, as_integer, as_table, get_member}
+use Rattle.std.specs.Prelude.{◌≡◌, ℕ, Bool, true, false, not, ◌==◌, ◌&&◌, ◌%◌, nat_le, ℤ, pos, negsuc, int_le, unsigned_abs, List, ◌∷◌, ◌++◌, All, codes, if◌then◌else◌, Option, Some, None, Result, Ok, Err}
+use Rattle.toml.specs.Data.{Data, Members, as_integer, get_member}
+use Rattle.scenario.specs.KeyValues.{integer_at, table_at}
+use Rattle.scenario.specs.ListFaults.{list_fault}
+use Rattle.scenario.specs.PlanFaults.{plans_cause, sizes_of}
 use Rattle.scenario.specs.ScenarioKeys.{Row, rows}
 use Rattle.scenario.specs.declared.rows.Range.{Range}
 use Rattle.scenario.specs.declared.rows.Range.TheVariants as range
 use Rattle.scenario.specs.declared.rows.Kind.{Kind}
 use Rattle.scenario.specs.declared.rows.Kind.TheVariants as kind
-use Rattle.scenario.specs.declared.first.Bounds.{Bounds}
+use Rattle.scenario.specs.declared.rows.When.{When}
+use Rattle.scenario.specs.declared.rows.When.TheVariants as when
+use Rattle.scenario.specs.declared.basis.Basis.{Basis}
+use Rattle.scenario.specs.declared.numbers.Bounds.{Bounds}
 use Rattle.scenario.specs.declared.key.Key.{Key}
 use Rattle.scenario.specs.declared.cause.Cause.{Cause}
 use Rattle.scenario.specs.declared.cause.Cause.TheVariants as cause
-
--- the table of a name, and the document itself where the name is empty
-
-abbrev pub as_table_found : Option Members → Result Members Cause
-as_table_found None = Err cause.Type_
-as_table_found (Some table) = Ok table
-
-abbrev pub found_table : Option Data → Result Members Cause
-found_table None = Err cause.Missing
-found_table (Some found) = as_table_found (as_table found)
-
-abbrev pub table_at : List ℕ → Members → Result Members Cause
-table_at name document = if length name == 0 then Ok document else found_table (get_member name document)
-
--- what stands at a key, and its integer
-
-abbrev pub found_in : List ℕ → Result Members Cause → Option Data
-found_in name (Err cause) = None
-found_in name (Ok table) = get_member name table
-
-abbrev pub integer_found : Option Data → Option ℤ
-integer_found None = None
-integer_found (Some found) = as_integer found
-
-unfoldable pub integer_at : List ℕ → List ℕ → Members → Option ℤ
-integer_at table name document = integer_found (found_in name (table_at table document))
 
 -- the seconds of a tick; 1 where there are none, since a key no later than the tick's then has a fault
 
@@ -47,15 +27,41 @@ tick_or_one (Some (negsuc n)) = 1
 unfoldable pub tick_of : Members → ℕ
 tick_of document = tick_or_one (integer_at (codes "window") (codes "tick") document)
 
--- the fault of an integer at a key: Missing, then Type, then Range
+-- whether the keys are those of version 2; where there is no version, no later key's fault is the first
+
+abbrev pub is_two : Option ℤ → Bool
+is_two None = false
+is_two (Some (pos n)) = n == 2
+is_two (Some (negsuc n)) = false
+
+unfoldable pub is_version_two : Members → Bool
+is_version_two document = is_two (integer_at (codes "") (codes "version") document)
+
+-- what the tests of all keys stand on, and whether a key is looked at
+
+abbrev pub basis_of : Bool → Members → Basis
+basis_of need_own document = record { tick = tick_of document; is_version_two = is_version_two document; need_own = need_own }
+
+abbrev pub counts : Basis → When → Bool
+counts basis when.Always = true
+counts basis when.InVersionOne = not basis.is_version_two
+counts basis when.InVersionTwo = basis.is_version_two
+counts basis when.ForOwnShip = basis.need_own
+
+-- the fault of an integer at a key: Missing, then Type, then Range, then Multiple
 
 abbrev pub bounds_of : ℕ → Range → Bounds
-bounds_of tick (range.FromTo low high) = record { low = low; high = high; otherwise = None }
-bounds_of tick (range.FromTheTickTo high) = record { low = pos tick; high = high; otherwise = None }
-bounds_of tick (range.Optional low high otherwise) = record { low = low; high = high; otherwise = Some otherwise }
+bounds_of tick (range.FromTo low high) = record { low = low; high = high; step = 1; otherwise = None }
+bounds_of tick (range.FromTheTickTo high) = record { low = pos tick; high = high; step = 1; otherwise = None }
+bounds_of tick (range.TicksFromOneTo high) = record { low = pos tick; high = high; step = tick; otherwise = None }
+bounds_of tick (range.TicksTo high) = record { low = pos 0; high = high; step = tick; otherwise = None }
+bounds_of tick (range.Optional low high otherwise) = record { low = low; high = high; step = 1; otherwise = Some otherwise }
 
 abbrev pub is_within : Bounds → ℤ → Bool
 is_within bounds z = int_le bounds.low z && int_le z bounds.high
+
+abbrev pub is_multiple : ℕ → ℤ → Bool
+is_multiple step z = unsigned_abs z % step == 0
 
 abbrev pub missing_cause : Option ℤ → Option Cause
 missing_cause None = Some cause.Missing
@@ -63,13 +69,14 @@ missing_cause (Some otherwise) = None
 
 abbrev pub integer_cause : Bounds → Option ℤ → Option Cause
 integer_cause bounds None = Some cause.Type_
-integer_cause bounds (Some z) = if is_within bounds z then None else Some cause.Range
+integer_cause bounds (Some z) =
+    if is_within bounds z then (if is_multiple bounds.step z then None else Some cause.Multiple) else Some cause.Range
 
 abbrev pub number_cause : Bounds → Option Data → Option Cause
 number_cause bounds None = missing_cause bounds.otherwise
 number_cause bounds (Some found) = integer_cause bounds (as_integer found)
 
--- the fault of a key, which names the key by its row and says why
+-- the fault of a key that counts, which names the key by its row and says why
 
 abbrev pub fault_at : ℕ → ℕ → Cause → Option (Key × Cause)
 fault_at row item cause = Some (record { row = row; item = item }, cause)
@@ -78,13 +85,24 @@ abbrev pub fault_by : ℕ → Option Cause → Option (Key × Cause)
 fault_by row None = None
 fault_by row (Some cause) = fault_at row 0 cause
 
-abbrev pub fault_in : ℕ → Row → Kind → Result Members Cause → Option (Key × Cause)
-fault_in tick row kind (Err cause) = fault_at row.number 0 cause
-fault_in tick row (kind.Number range) (Ok table) = fault_by row.number (number_cause (bounds_of tick range) (get_member row.name table))
-fault_in tick row kind.Document (Ok table) = None
+-- an item further behind than this is told as this one
+abbrev pub item_of : ℕ → ℕ
+item_of n = if nat_le n 65535 then n else 65535
 
-unfoldable pub fault_of : ℕ → Members → Row → Option (Key × Cause)
-fault_of tick document row = fault_in tick row row.kind (table_at row.table document)
+abbrev pub fault_listed : ℕ → Option (ℕ × Cause) → Option (Key × Cause)
+fault_listed row None = None
+fault_listed row (Some (item, cause)) = fault_at row (item_of item) cause
+
+abbrev pub fault_in : Basis → ℕ → List ℕ → Kind → Result Members Cause → Option (Key × Cause)
+fault_in basis row name kind (Err cause) = fault_at row 0 cause
+fault_in basis row name (kind.Number range) (Ok table) = fault_by row (number_cause (bounds_of basis.tick range) (get_member name table))
+fault_in basis row name (kind.Numbers range) (Ok table) = fault_listed row (list_fault range (get_member name table))
+fault_in basis row name kind.Plans (Ok document) = fault_by row (plans_cause basis.tick (sizes_of document))
+fault_in basis row name kind.Document (Ok table) = None
+
+unfoldable pub fault_of : Basis → Members → Row → Option (Key × Cause)
+fault_of basis document row =
+    if counts basis row.when then fault_in basis row.number row.name row.kind (table_at row.table document) else None
 
 -- The fault is that of some row of a list, and no row before it has one.
 pub record IsFirst (test : Row → Option (Key × Cause)) (list : List Row) (found : Key × Cause) : Type 0 where
@@ -96,9 +114,9 @@ pub record IsFirst (test : Row → Option (Key × Cause)) (list : List Row) (fou
   pub faulty : test here ≡ Some found
 
 -- The first fault in the order of the keys.
-unfoldable pub IsFirstFault : Members → Key × Cause → Type 0
-IsFirstFault document = IsFirst (fault_of (tick_of document) document) rows
+unfoldable pub IsFirstFault : Bool → Members → Key × Cause → Type 0
+IsFirstFault need_own document = IsFirst (fault_of (basis_of need_own document) document) rows
 
 -- No key has a fault.
-abbrev pub IsFaultless : Members → Type 0
-IsFaultless document = All (λ here. fault_of (tick_of document) document here ≡ None) rows
+abbrev pub IsFaultless : Bool → Members → Type 0
+IsFaultless need_own document = All (λ here. fault_of (basis_of need_own document) document here ≡ None) rows

@@ -1,7 +1,13 @@
 pub mod ScenarioKeys
 pub mod ScenarioTexts
+pub mod FirstOf
+pub mod ListFaults
+pub mod KeyValues
+pub mod PlanFaults
 pub mod KeyFaults
 pub mod ScenarioValues
 pub mod ScenarioReading
 pub mod Inner
 pub use Rattle.fixed_geometry.specs.Place
+pub use Rattle.encounters.specs.Risk
+pub use Rattle.lattice.specs.Grids

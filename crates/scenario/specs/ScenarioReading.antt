@@ -1,5 +1,5 @@
 -- What the bytes of a scenario say: its values, or its first fault.
-use Rattle.std.specs.Prelude.{◌≡◌, ◌⊎◌, ℕ, List, Some, IsUtf8}
+use Rattle.std.specs.Prelude.{◌≡◌, ◌⊎◌, ℕ, Bool, List, Some, IsUtf8}
 use Rattle.toml.specs.Data.{Members}
 use Rattle.toml.specs.Parse.{parse_document}
 use Rattle.scenario.specs.KeyFaults.{IsFaultless, IsFirstFault}
@@ -14,12 +14,12 @@ pub record Reads (bytes : List ℕ) (document : Members) : Type 0 where
   pub text : IsUtf8 bytes
   pub tree : parse_document bytes ≡ Some document
 
--- The bytes mean a scenario: no key has a fault, and the values are the numbers at the keys.
-pub record Means (bytes : List ℕ) (scenario : Scenario) : Type 0 where
+-- The bytes mean a scenario, with own ship where she is needed: no key that counts has a fault, and the values are the numbers at the keys.
+pub record Means (need_own : Bool) (bytes : List ℕ) (scenario : Scenario) : Type 0 where
   pub document : Members
   pub reads : Reads bytes document
-  pub faultless : IsFaultless document
-  pub values : scenario ≡ scenario_of document
+  pub faultless : IsFaultless need_own document
+  pub values : scenario ≡ scenario_of need_own document
 
 -- The bytes are no TOML document: that is the fault of the first row, `document`.
 pub record IsNoToml (bytes : List ℕ) (key : Key) (why : Cause) : Type 0 where
@@ -28,11 +28,11 @@ pub record IsNoToml (bytes : List ℕ) (key : Key) (why : Cause) : Type 0 where
   pub unread : (document : Members) → ¬ Reads bytes document
 
 -- The first fault of the document that the bytes are.
-pub record IsFaultOfKey (bytes : List ℕ) (key : Key) (why : Cause) : Type 0 where
+pub record IsFaultOfKey (need_own : Bool) (bytes : List ℕ) (key : Key) (why : Cause) : Type 0 where
   pub document : Members
   pub reads : Reads bytes document
-  pub first : IsFirstFault document (key, why)
+  pub first : IsFirstFault need_own document (key, why)
 
 -- The bytes are refused at a key, for a cause: the first fault in the order of the keys.
-abbrev pub IsRefused : List ℕ → Key → Cause → Type 0
-IsRefused bytes key why = IsNoToml bytes key why ⊎ IsFaultOfKey bytes key why
+abbrev pub IsRefused : Bool → List ℕ → Key → Cause → Type 0
+IsRefused need_own bytes key why = IsNoToml bytes key why ⊎ IsFaultOfKey need_own bytes key why

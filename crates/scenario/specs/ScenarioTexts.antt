@@ -1,7 +1,9 @@
 -- How a fault of a scenario is printed, as in `log.gap: range`.
-use Rattle.std.specs.Prelude.{ℕ, codes, List, [], ◌++◌, ◌==◌, length, find, if◌then◌else◌, Option, Some, None}
+use Rattle.std.specs.Prelude.{ℕ, codes, List, [], ◌++◌, ◌==◌, length, find, Bool, true, false, if◌then◌else◌, Option, Some, None}
 use Rattle.std.specs.Fmt.{decimal}
 use Rattle.scenario.specs.ScenarioKeys.{Row, rows}
+use Rattle.scenario.specs.declared.rows.Kind.{Kind}
+use Rattle.scenario.specs.declared.rows.Kind.TheVariants as kind
 use Rattle.scenario.specs.declared.key.Key.{Key}
 use Rattle.scenario.specs.declared.cause.Cause.{Cause}
 use Rattle.scenario.specs.declared.cause.Cause.TheVariants as cause
@@ -12,13 +14,19 @@ use Rattle.scenario.specs.declared.fault.ScenarioFault.TheVariants as refusal
 abbrev pub name_text : Row → List ℕ
 name_text row = if length row.table == 0 then row.name else row.table ++ codes "." ++ row.name
 
-abbrev pub text_of : Option Row → List ℕ
-text_of None = []
-text_of (Some row) = name_text row
+-- a list's faults name an item
+abbrev pub has_items : Kind → Bool
+has_items (kind.Numbers range) = true
+has_items _ = false
 
--- A key is printed as its row in the table of keys is named, and as nothing where the table has no such row.
+abbrev pub text_of : ℕ → Option Row → List ℕ
+text_of item None = []
+text_of item (Some row) = if has_items row.kind then name_text row ++ codes "[" ++ decimal item ++ codes "]" else name_text row
+
+-- A key is printed as its row in the table of keys is named, with the item in brackets where it is a list, and as nothing
+-- where the table has no such row.
 abbrev pub key_text : Key → List ℕ
-key_text key = text_of (find (λ row. row.number == key.row) rows)
+key_text key = text_of key.item (find (λ row. row.number == key.row) rows)
 
 abbrev pub cause_text : Cause → List ℕ
 cause_text cause.NotToml = codes "not toml"

@@ -1,37 +1,20 @@
 -- The values of a scenario: the numbers at its keys, and their ranges.
-use Rattle.std.specs.Prelude.{ℕ, ◌≤◌, ◌^◌, ℤ, pos, negsuc, codes, List, Option, Some, None}
-use Rattle.toml.specs.Data.{Data, Members, as_integer}
+use Rattle.std.specs.Prelude.{◌≡◌, ℕ, ◌≤◌, ◌*◌, ◌/◌, ◌%◌, ◌^◌, if◌then◌else◌, codes, List, length, All, IfSome, Bool, true, false, Option, Some, None}
+use Rattle.toml.specs.Data.{Members}
 use Rattle.fixed_geometry.specs.Place.{Place}
-use Rattle.scenario.specs.KeyFaults.{found_in, integer_at, table_at}
+use Rattle.scenario.specs.KeyValues.{integers_at, natural_at, naturals_at, optional_at, signed_at}
+use Rattle.scenario.specs.KeyFaults.{is_version_two, tick_of}
+use Rattle.lattice.specs.Grids.{Grid, grid, positions_of}
+use Rattle.scenario.specs.declared.own_part.OwnPart.{OwnPart}
+use Rattle.encounters.specs.Risk.{IsDetect}
+use Rattle.encounters.specs.declared.act.Act.{Act}
+use Rattle.encounters.specs.declared.detect.Detect.{Detect}
+use Rattle.scenario.specs.declared.rule_numbers.RuleNumbers.{RuleNumbers}
+use Rattle.scenario.specs.declared.rule_numbers.Safe.{Safe}
+use Rattle.scenario.specs.declared.rule_numbers.Safe.TheVariants as safe
 use Rattle.scenario.specs.declared.values.Window.{Window}
 use Rattle.scenario.specs.declared.values.LogNumbers.{LogNumbers}
 use Rattle.scenario.specs.declared.values.Scenario.{Scenario}
-
--- the integer at a key; 0 where there is none, which is so in no document without a fault
-
-abbrev pub integer_of : Option ℤ → ℤ
-integer_of None = pos 0
-integer_of (Some z) = z
-
-abbrev pub natural_of : Option ℤ → ℕ
-natural_of None = 0
-natural_of (Some (pos n)) = n
-natural_of (Some (negsuc n)) = 0
-
-abbrev pub signed_at : List ℕ → List ℕ → Members → ℤ
-signed_at table name document = integer_of (integer_at table name document)
-
-abbrev pub natural_at : List ℕ → List ℕ → Members → ℕ
-natural_at table name document = natural_of (integer_at table name document)
-
--- the integer at a key that may be left out for another number
-
-abbrev pub integer_or : ℤ → Option Data → Option ℤ
-integer_or otherwise None = Some otherwise
-integer_or otherwise (Some found) = as_integer found
-
-unfoldable pub optional_at : List ℕ → List ℕ → ℕ → Members → ℕ
-optional_at table name otherwise document = natural_of (integer_or (pos otherwise) (found_in name (table_at table document)))
 
 -- the window of ticks: `start` in seconds since 1970, `tick` in seconds, and how many ticks
 unfoldable pub window_of : Members → Window
@@ -61,15 +44,100 @@ log_numbers_of document = record {
   max_bytes = optional_at (codes "log") (codes "max_bytes") greatest_log document;
 }
 
--- the values of a document without a fault
-unfoldable pub scenario_of : Members → Scenario
-scenario_of document = record {
+-- a distance in metres, in tenths of a millimetre
+unfoldable pub units_at : List ℕ → List ℕ → Members → ℕ
+units_at table name document = 10000 * natural_at table name document
+
+-- when two vessels are in risk of collision, and when past and clear; the horizon in ticks
+unfoldable pub detect_of : Members → Detect
+detect_of document = record {
+  watch = units_at (codes "detect") (codes "watch") document;
+  risk = units_at (codes "detect") (codes "risk") document;
+  clear = units_at (codes "detect") (codes "clear") document;
+  horizon = natural_at (codes "detect") (codes "horizon") document / tick_of document;
+  angles = record {
+    doubt = natural_at (codes "detect") (codes "doubt") document;
+    ahead = natural_at (codes "detect") (codes "ahead") document;
+    reciprocal = natural_at (codes "detect") (codes "reciprocal") document;
+  };
+}
+
+-- what counts as keeping course and speed, and what as a readily apparent alteration
+unfoldable pub act_of : Members → Act
+act_of document = record {
+  steady_turn = natural_at (codes "act") (codes "steady_turn") document;
+  apparent_turn = natural_at (codes "act") (codes "apparent_turn") document;
+  steady_speed = natural_at (codes "act") (codes "steady_speed") document;
+  apparent_speed = natural_at (codes "act") (codes "apparent_speed") document;
+}
+
+-- the numbers of the rules' formulas, in metres and seconds; the safe distance is one in version 1, and one for each kind of
+-- encounter in version 2
+unfoldable pub safe_of : Members → Safe
+safe_of document =
+    if is_version_two document
+    then safe.PerKind
+    (natural_at (codes "rules") (codes "safe_head_on") document)
+    (natural_at (codes "rules") (codes "safe_overtaking") document)
+    (natural_at (codes "rules") (codes "safe_crossing") document)
+    (natural_at (codes "rules") (codes "safe_other") document)
+    else safe.One (natural_at (codes "rules") (codes "safe") document)
+
+unfoldable pub rules_of : Members → RuleNumbers
+rules_of document = record {
+  safe = safe_of document;
+  overtake = natural_at (codes "rules") (codes "overtake") document;
+  close = natural_at (codes "rules") (codes "close") document;
+  t8 = natural_at (codes "rules") (codes "t8") document;
+  ta = natural_at (codes "rules") (codes "ta") document;
+  tl = natural_at (codes "rules") (codes "tl") document;
+  tw = natural_at (codes "rules") (codes "tw") document;
+  te = natural_at (codes "rules") (codes "te") document;
+}
+
+-- own ship's lattice of plans
+unfoldable pub grid_of : Members → Grid
+grid_of document =
+    grid
+    (integers_at (codes "own") (codes "courses") document)
+    (integers_at (codes "own") (codes "speeds") document)
+    (natural_at (codes "own") (codes "legs") document)
+    (natural_at (codes "own") (codes "leg_ticks") document)
+    (natural_at (codes "own") (codes "tail") document)
+    (optional_at (codes "own") (codes "turn_rate") 1800 document)
+    (optional_at (codes "own") (codes "speed_rate") 1022 document)
+
+unfoldable pub own_of : Members → OwnPart
+own_of document = record {
+  mmsi = natural_at (codes "own") (codes "mmsi") document;
+  lattice = grid_of document;
+  base = natural_at (codes "own") (codes "base") document;
+  lengths = natural_at (codes "own") (codes "lengths") document;
+  range = natural_at (codes "own") (codes "range") document;
+}
+
+-- own ship, where she is needed
+abbrev pub own_where : Bool → Members → Option OwnPart
+own_where false document = None
+own_where true document = Some (own_of document)
+
+unfoldable pub scenario_with : Option OwnPart → Members → Scenario
+scenario_with own document = record {
   window = window_of document;
   reference = reference_of document;
   log = log_numbers_of document;
+  detect = detect_of document;
+  act = act_of document;
+  rules = rules_of document;
+  subjects = naturals_at (codes "") (codes "subjects") document;
+  own = own;
 }
 
--- Each value is in its key's range. A reference is so by its type.
+-- the values of a document without a fault, with own ship where she is needed
+abbrev pub scenario_of : Bool → Members → Scenario
+scenario_of need_own document = scenario_with (own_where need_own document) document
+
+-- Each value is in its key's range. A reference and a lattice are so by their types.
 
 pub record IsWindow (window : Window) : Type 0 where
   pub start : window.start ≤ 9999999999
@@ -87,6 +155,65 @@ pub record AreLogNumbers (tick : ℕ) (log : LogNumbers) : Type 0 where
   pub max_bytes_from : 1 ≤ log.max_bytes
   pub max_bytes_to : log.max_bytes ≤ greatest_log
 
+pub record AreDetectNumbers (tick : ℕ) (detect : Detect) : Type 0 where
+  pub numbers : IsDetect detect
+  pub watch : 10000 ≤ detect.watch
+  pub risk : 10000 ≤ detect.risk
+  pub clear : 10000 ≤ detect.clear
+  pub horizon_from : 1 ≤ detect.horizon
+  -- in seconds
+  pub horizon_to : detect.horizon * tick ≤ 7200
+  pub ahead : detect.angles.ahead ≤ 900
+  pub reciprocal : detect.angles.reciprocal ≤ 900
+
+pub record AreActNumbers (act : Act) : Type 0 where
+  pub steady_turn : act.steady_turn ≤ 1800
+  pub apparent_turn_from : 1 ≤ act.apparent_turn
+  pub apparent_turn_to : act.apparent_turn ≤ 1800
+  pub steady_speed : act.steady_speed ≤ 1022
+  pub apparent_speed_from : 1 ≤ act.apparent_speed
+  pub apparent_speed_to : act.apparent_speed ≤ 1022
+
+abbrev pub IsDistance : ℕ → Type 0
+IsDistance metres = (1 ≤ metres) × (metres ≤ 100000)
+
+-- some ticks, in seconds
+abbrev pub IsTime : ℕ → ℕ → Type 0
+IsTime tick seconds = (seconds ≤ 7200) × (seconds % tick ≡ 0)
+
+abbrev pub IsSafe : Safe → Type 0
+IsSafe (safe.One metres) = IsDistance metres
+IsSafe (safe.PerKind head_on overtaking crossing other) =
+    IsDistance head_on × IsDistance overtaking × IsDistance crossing × IsDistance other
+
+pub record AreRuleNumbers (tick : ℕ) (rules : RuleNumbers) : Type 0 where
+  pub safe : IsSafe rules.safe
+  pub overtake : IsDistance rules.overtake
+  pub close : IsDistance rules.close
+  pub t8 : IsTime tick rules.t8
+  pub ta : IsTime tick rules.ta
+  pub tl : IsTime tick rules.tl
+  pub tw : IsTime tick rules.tw
+  pub te : IsTime tick rules.te
+
+-- the MMSI of a ship (ITU-R M.585)
+abbrev pub IsShip : ℕ → Type 0
+IsShip mmsi = (200000000 ≤ mmsi) × (mmsi ≤ 799999999)
+
+pub record IsOwnPart (tick : ℕ) (own : OwnPart) : Type 0 where
+  pub mmsi : IsShip own.mmsi
+  -- in seconds
+  pub plan_time : positions_of own.lattice * tick ≤ 7200
+  pub base : own.base ≤ 100000
+  pub lengths : own.lengths ≤ 100
+  pub range : IsDistance own.range
+
 pub record IsInRange (scenario : Scenario) : Type 0 where
   pub window : IsWindow scenario.window
   pub log : AreLogNumbers scenario.window.tick scenario.log
+  pub detect : AreDetectNumbers scenario.window.tick scenario.detect
+  pub act : AreActNumbers scenario.act
+  pub rules : AreRuleNumbers scenario.window.tick scenario.rules
+  pub subjects : All IsShip scenario.subjects
+  pub few_subjects : length scenario.subjects ≤ 64
+  pub own : IfSome scenario.own (IsOwnPart scenario.window.tick)

@@ -2,16 +2,17 @@
 ghost use Rattle.std.specs.Prelude.{Some};
 ghost use Rattle.scenario.specs.ScenarioTexts.{key_text};
 
-use crate::rows::row_of;
+use crate::rows::{has_items, row_of};
 use std::fmt;
 
 /// A key of a scenario, by its row in the table of keys.
 ///
-/// It is printed as the name that the table gives it, as `log.gap`, and as nothing where the table has no such row.
+/// It is printed as the name that the table gives it, as `log.gap`, with the item where it is a list, as `subjects[3]`, and as nothing where the table has no such row.
 #[derive(Clone, Copy, Debug, PartialEq, Eq)]
 pub struct Key {
     pub row: u8,
-    /// An item of the key's list, counted from 0; 0 where the key has none.
+    /// An item of the key's list, counted from 0; 0 where the key has none, and
+    /// 65,535 for an item further behind.
     pub item: u16,
 }
 
@@ -25,7 +26,11 @@ impl fmt::Display for Key {
                     f.write_str(row.table)?;
                     f.write_str(".")?;
                 }
-                f.write_str(row.name)
+                f.write_str(row.name)?;
+                if has_items(row.kind) {
+                    write!(f, "[{}]", self.item)?;
+                }
+                Ok(())
             }
             None => Ok(()),
         }

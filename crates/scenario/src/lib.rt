@@ -4,12 +4,24 @@
 //! first row with a fault is the answer. The values are read after that and cannot fail.
 #![tactic(auto)]
 
+mod basis;
 mod cause;
 mod fault;
 mod first;
+mod found;
+mod integers;
 mod key;
+mod listed;
+mod lists;
+mod numbers;
+mod own_part;
+mod plan_sizes;
 mod reading;
+#[cfg(test)]
+mod refusal_tests;
 mod rows;
+mod rule_numbers;
+mod subjects;
 #[cfg(test)]
 mod tests;
 mod values;
@@ -17,5 +29,8 @@ mod values;
 pub use cause::Cause;
 pub use fault::ScenarioFault;
 pub use key::Key;
+pub use own_part::OwnPart;
 pub use reading::read;
+pub use rule_numbers::{RuleNumbers, Safe};
+pub use subjects::Subjects;
 pub use values::{LogNumbers, Scenario, Window};

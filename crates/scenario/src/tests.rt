@@ -1,10 +1,81 @@
 //! Scenarios with known values, known first faults and known texts.
-use crate::{Cause, Key, ScenarioFault, read};
+use crate::refusal_tests::told;
+use crate::{Cause, Key, RuleNumbers, Safe, ScenarioFault, Subjects, read};
+use encounters::{Act, Detect};
 use outside::Memory;
+use sectors::Angles;
 use std::alloc::{AllocError, Global};
 
-const GOOD: &str =
-    "version = 1\n[window]\nstart = 1700000000\ntick = 10\nticks = 40\n[reference]\nlat = 0\nlon = -7\n[log]\ngap = 600\nslack = 60\nmax_speed = 500\n";
+pub(crate) const GOOD: &str =
+    "version = 1\n[window]\nstart = 1700000000\ntick = 10\nticks = 40\n[reference]\nlat = 0\nlon = -7\n[log]\ngap = 600\nslack = 60\nmax_speed = 500\n[detect]\nwatch = 5000\nrisk = 501\nclear = 1000\nhorizon = 610\ndoubt = 0\nahead = 100\nreciprocal = 101\n[act]\nsteady_turn = 50\napparent_turn = 200\nsteady_speed = 11\napparent_speed = 51\n[rules]\nsafe = 201\novertake = 202\nclose = 300\nt8 = 60\nta = 70\ntl = 20\ntw = 110\nte = 620\n";
+
+const DETECT: Detect = Detect {
+    watch: 50_000_000,
+    risk: 5_010_000,
+    clear: 10_000_000,
+    horizon: 61,
+    angles: Angles {
+        doubt: 0,
+        ahead: 100,
+        reciprocal: 101,
+    },
+};
+
+const ACT: Act = Act {
+    steady_turn: 50,
+    apparent_turn: 200,
+    steady_speed: 11,
+    apparent_speed: 51,
+};
+
+const RULES: RuleNumbers = RuleNumbers {
+    safe: Safe::One(201),
+    overtake: 202,
+    close: 300,
+    t8: 60,
+    ta: 70,
+    tl: 20,
+    tw: 110,
+    te: 620,
+};
+
+/// The good scenario in version 2.
+pub(crate) fn second_version(alloc: Global) -> Result<String, AllocError> {
+    let text = GOOD.replace(alloc, "version = 1", "version = 2")?;
+    text.as_str().replace(
+        alloc,
+        "safe = 201\n",
+        "safe_head_on = 1\nsafe_overtaking = 2\nsafe_crossing = 3\nsafe_other = 100000\n",
+    )
+}
+
+/// The good scenario with own ship.
+pub(crate) fn with_own(alloc: Global) -> Result<String, AllocError> {
+    let mut text = GOOD.to_owned(alloc)?;
+    text.push_str(
+        "[own]\nmmsi = 369190000\ncourses = [0, 300, -600]\nspeeds = [0, -5]\nlegs = 3\nleg_ticks = 30\ntail = 10\nbase = 301\nlengths = 2\nrange = 50000\nturn_rate = 100\n",
+    )?;
+    Ok(text)
+}
+
+#[test]
+fn own_ship_has_her_plans(rt: HostRuntime) -> Result<(), AllocError> {
+    let text = with_own(rt.alloc())?;
+    match read(rt.alloc(), text.as_bytes(), true) {
+        Ok(scenario) => match &scenario.own {
+            Some(own) => {
+                assert_eq!(rt; own.mmsi, 369_190_000);
+                assert_eq!(rt; own.lattice.choices(), 6);
+                assert_eq!(rt; own.lattice.plans(), 216);
+                assert_eq!(rt; own.lattice.positions(), 100);
+                assert_eq!(rt; (own.base, own.lengths, own.range), (301, 2, 50_000));
+            }
+            None => assert!(rt; false, "no own ship"),
+        },
+        Err(fault) => assert!(rt; false, "{fault}"),
+    }
+    Ok(())
+}
 
 #[test]
 fn values_of_a_good_scenario(rt: HostRuntime) {
@@ -17,121 +88,94 @@ fn values_of_a_good_scenario(rt: HostRuntime) {
             assert_eq!(rt; scenario.log.slack, 60);
             assert_eq!(rt; scenario.log.max_speed, 500);
             assert_eq!(rt; scenario.log.max_bytes, 1 << 30);
+            assert_eq!(rt; scenario.detect, DETECT);
+            assert_eq!(rt; scenario.act, ACT);
+            assert_eq!(rt; scenario.rules, RULES);
+            assert_eq!(rt; scenario.subjects.as_slice().len(), 0);
+            assert!(rt; scenario.own.is_none());
         }
         Err(fault) => assert!(rt; false, "{fault}"),
     }
+}
+
+#[test]
+fn version_two_has_a_safe_distance_for_each_kind(rt: HostRuntime) -> Result<(), AllocError> {
+    let text = second_version(rt.alloc())?;
+    match read(rt.alloc(), text.as_bytes(), false) {
+        Ok(scenario) => {
+            let safe = Safe::PerKind {
+                head_on: 1,
+                overtaking: 2,
+                crossing: 3,
+                other: 100_000,
+            };
+            assert_eq!(rt; scenario.rules.safe, safe);
+        }
+        Err(fault) => assert!(rt; false, "{fault}"),
+    }
+    Ok(())
 }
 
 #[test]
 fn the_greatest_values_are_read(rt: HostRuntime) {
     let text =
-        "version = 1\n[window]\nstart = 9999999999\ntick = 60\nticks = 20000\n[reference]\nlat = 45000000\nlon = -108000000\n[log]\ngap = 3600\nslack = 3600\nmax_speed = 1022\nmax_bytes = 1073741824\nunknown = 1.5\n";
+        "version = 1\n[window]\nstart = 9999999999\ntick = 60\nticks = 20000\n[reference]\nlat = 45000000\nlon = -108000000\n[log]\ngap = 3600\nslack = 3600\nmax_speed = 1022\nmax_bytes = 1073741824\nunknown = 1.5\n[detect]\nwatch = 100000\nrisk = 100000\nclear = 100000\nhorizon = 7200\ndoubt = 1124\nahead = 900\nreciprocal = 900\n[act]\nsteady_turn = 1800\napparent_turn = 1800\nsteady_speed = 1022\napparent_speed = 1022\n[rules]\nsafe = 100000\novertake = 100000\nclose = 100000\nt8 = 7200\nta = 7200\ntl = 7200\ntw = 7200\nte = 7200\n";
     match read(rt.alloc(), text.as_bytes(), false) {
         Ok(scenario) => {
             assert_eq!(rt; scenario.window.start, 9_999_999_999);
             assert_eq!(rt; scenario.log.gap, 3600);
             assert_eq!(rt; scenario.log.max_bytes, 1 << 30);
+            assert_eq!(rt; scenario.detect.watch, 1_000_000_000);
+            assert_eq!(rt; scenario.detect.horizon, 120);
+            assert_eq!(rt; scenario.rules.te, 7200);
         }
         Err(fault) => assert!(rt; false, "{fault}"),
     }
 }
 
-/// What is put for a part of the good scenario, and the fault of what this gives.
-const REFUSED: [(&str, &str, &str); 52] = [
-    ("version = 1", "version = = 1", "document: not toml"),
-    ("600", "9223372036854775808", "document: not toml"),
-    ("version = 1\n", "", "version: missing"),
-    ("version = 1", "version = '1'", "version: type"),
-    ("version = 1", "version = 0", "version: range"),
-    ("version = 1", "version = 2", "version: range"),
-    ("[window]", "[other]", "window.start: missing"),
-    ("[window]", "window = 3\n[other]", "window.start: type"),
-    ("[window]", "[[window]]", "window.start: type"),
-    ("start = 1700000000\n", "", "window.start: missing"),
-    ("1700000000", "1.0", "window.start: type"),
-    ("1700000000", "-1", "window.start: range"),
-    ("1700000000", "10000000000", "window.start: range"),
-    ("tick = 10\n", "", "window.tick: missing"),
-    ("tick = 10", "tick = true", "window.tick: type"),
-    ("tick = 10", "tick = 0", "window.tick: range"),
-    ("tick = 10", "tick = 61", "window.tick: range"),
-    ("ticks = 40\n", "", "window.ticks: missing"),
-    ("ticks = 40", "ticks = 1979-05-27", "window.ticks: type"),
-    ("ticks = 40", "ticks = 0", "window.ticks: range"),
-    ("ticks = 40", "ticks = 20001", "window.ticks: range"),
-    ("[reference]", "[other]", "reference.lat: missing"),
-    ("[reference]", "[[reference]]", "reference.lat: type"),
-    ("lat = 0\n", "", "reference.lat: missing"),
-    ("lat = 0", "lat = [0]", "reference.lat: type"),
-    ("lat = 0", "lat = 45000001", "reference.lat: range"),
-    ("lat = 0", "lat = -45000001", "reference.lat: range"),
-    ("lon = -7\n", "", "reference.lon: missing"),
-    ("lon = -7", "lon = -7.0", "reference.lon: type"),
-    ("lon = -7", "lon = 108000001", "reference.lon: range"),
-    ("lon = -7", "lon = -108000001", "reference.lon: range"),
-    ("[log]", "[other]", "log.gap: missing"),
-    ("[log]", "[[log]]", "log.gap: type"),
-    ("gap = 600\n", "", "log.gap: missing"),
-    ("gap = 600", "gap = {}", "log.gap: type"),
-    ("gap = 600", "gap = 9", "log.gap: range"),
-    ("gap = 600", "gap = 3601", "log.gap: range"),
-    ("slack = 60\n", "", "log.slack: missing"),
-    ("slack = 60", "slack = inf", "log.slack: type"),
-    ("slack = 60", "slack = -1", "log.slack: range"),
-    ("slack = 60", "slack = 3601", "log.slack: range"),
-    ("max_speed = 500\n", "", "log.max_speed: missing"),
-    (
-        "max_speed = 500",
-        "max_speed = 500.0",
-        "log.max_speed: type",
-    ),
-    ("max_speed = 500", "max_speed = 0", "log.max_speed: range"),
-    (
-        "max_speed = 500",
-        "max_speed = 1023",
-        "log.max_speed: range",
-    ),
-    (
-        "max_speed",
-        "max_bytes = ''\nmax_speed",
-        "log.max_bytes: type",
-    ),
-    (
-        "max_speed",
-        "max_bytes = 0\nmax_speed",
-        "log.max_bytes: range",
-    ),
-    (
-        "max_speed",
-        "max_bytes = 1073741825\nmax_speed",
-        "log.max_bytes: range",
-    ),
-    // Of two faults the first in the order of the keys, wherever they stand.
-    ("tick = 10", "tick = 61", "window.tick: range"),
-    ("version = 1\n[window]", "[other]", "version: missing"),
-    ("tick = 10\nticks = 40", "ticks = 0", "window.tick: missing"),
-    (
-        "gap = 600\nslack = 60\n",
-        "slack = -1\n",
-        "log.gap: missing",
-    ),
-];
-
-/// The text of the fault of a scenario, and an empty one where it has none.
-fn told(alloc: Global, text: &str) -> Result<String, AllocError> {
-    match read(alloc, text.as_bytes(), false) {
-        Ok(_) => Ok(String::new(alloc)),
-        Err(fault) => format!(in alloc; "{fault}"),
+/// The good scenario with a list of so many subjects, of which the last is this text.
+fn with_subjects(alloc: Global, many: usize, last: &str) -> Result<String, AllocError> {
+    let mut text = String::new(alloc);
+    text.push_str("subjects = [")?;
+    for _ in 1..many {
+        text.push_str("200000000, ")?;
     }
+    text.push_str(last)?;
+    text.push_str("]\n")?;
+    text.push_str(GOOD)?;
+    Ok(text)
 }
 
 #[test]
-fn first_faults(rt: HostRuntime) -> Result<(), AllocError> {
-    for (old, new, expected) in REFUSED {
-        let text = GOOD.replace(rt.alloc(), old, new)?;
-        let told = told(rt.alloc(), text.as_str())?;
-        assert_eq!(rt; told.as_str(), expected, "with {new}");
+fn a_list_has_at_most_its_length(rt: HostRuntime) -> Result<(), AllocError> {
+    let most = with_subjects(rt.alloc(), 64, "799999999")?;
+    match read(rt.alloc(), most.as_bytes(), false) {
+        Ok(scenario) => {
+            let subjects = scenario.subjects.as_slice();
+            assert_eq!(rt; subjects.len(), 64);
+            assert_eq!(rt; subjects.first(), Some(&200_000_000));
+            assert_eq!(rt; subjects.last(), Some(&799_999_999));
+        }
+        Err(fault) => assert!(rt; false, "{fault}"),
     }
+    for (many, last, expected) in [
+        (65, "1", "subjects[0]: range"),
+        (65, "true", "subjects[64]: type"),
+        (64, "1", "subjects[63]: range"),
+    ] {
+        let text = with_subjects(rt.alloc(), many, last)?;
+        let told = told(rt.alloc(), text.as_str(), false)?;
+        assert_eq!(rt; told.as_str(), expected);
+    }
+    Ok(())
+}
+
+#[test]
+fn subjects_give_their_list_back(rt: HostRuntime) -> Result<(), AllocError> {
+    let list = vec![in rt.alloc(); 200_000_000, 200_000_001]?;
+    let back = Subjects::new(list).into_list();
+    assert_eq!(rt; back.len(), 2);
+    assert_eq!(rt; back.last(), Some(&200_000_001));
     Ok(())
 }
 
@@ -143,6 +187,8 @@ fn texts_of_faults(rt: HostRuntime) -> Result<(), AllocError> {
     let fault = ScenarioFault::Fault(key, Cause::Multiple);
     let text = format!(in rt.alloc(); "{fault}")?;
     assert_eq!(rt; text.as_str(), "log.max_speed: multiple");
+    let item = format!(in rt.alloc(); "{}", Key { row: 30, item: 7 })?;
+    assert_eq!(rt; item.as_str(), "subjects[7]");
     let product = format!(in rt.alloc(); "{}", Cause::Product)?;
     assert_eq!(rt; product.as_str(), "product");
     let memory = format!(in rt.alloc(); "{}", ScenarioFault::from(Memory))?;

@@ -1,12 +1,21 @@
 //! The values of a scenario.
-ghost use Rattle.std.specs.Prelude.{◌≡◌, ◌≤◌, ◌≤ℤ◌, pos, codes, unsigned_abs, MatchOption, Some, true};
+ghost use Rattle.std.specs.Prelude.{◌≡◌, ◌≤◌, ◌*◌, ◌/◌, codes, pos, length, unsigned_abs, All, IfOk, IfSome, false, true};
 ghost use Rattle.toml.specs.View.{table_view};
-ghost use Rattle.scenario.specs.Inner.KnownKeys.{begins_with_the_tick, lies_in, may_lie_in, range_at};
-ghost use Rattle.scenario.specs.KeyFaults.{found_in, integer_at, table_at, tick_of, IsFaultless};
-ghost use Rattle.scenario.specs.ScenarioValues.{integer_or, log_numbers_of, natural_at, optional_at, reference_of, scenario_of, signed_at, window_of, AreLogNumbers, IsInRange, IsWindow};
+ghost use Rattle.scenario.specs.Inner.KnownKeys.{is_own, lies_in, range_at};
+ghost use Rattle.scenario.specs.KeyValues.{natural_at, naturals_at, signed_at};
+ghost use Rattle.scenario.specs.KeyFaults.{basis_of, tick_of, IsFaultless};
+ghost use Rattle.scenario.specs.ScenarioValues.{act_of, detect_of, log_numbers_of, reference_of, rules_of, safe_of, scenario_of, scenario_with, units_at, window_of, AreActNumbers, AreDetectNumbers, AreLogNumbers, AreRuleNumbers, IsInRange, IsOwnPart, IsSafe, IsShip, IsWindow};
 
-use crate::first::{found, integer_found};
+use crate::basis::{is_version_two, tick_of};
+use crate::integers::{integer, long_natural, natural, optional, short_natural};
+use crate::listed::{ListBounds, naturals};
+use crate::own_part::{OwnPart, own_where};
+use crate::rule_numbers::{RuleNumbers, Safe};
+use crate::subjects::Subjects;
+use encounters::{Act, Detect};
 use fixed_geometry::Reference;
+use sectors::Angles;
+use std::alloc::{AllocError, Global};
 use toml::Table;
 
 /// The window of ticks.
@@ -34,117 +43,27 @@ pub struct LogNumbers {
 }
 
 /// What a scenario sets.
-#[derive(Clone, Copy)]
+#[derive(Drop)]
 pub struct Scenario {
     pub window: Window,
     /// The origin of the plane.
     pub reference: Reference,
     pub log: LogNumbers,
+    /// When two vessels are in risk of collision, and when they are past and clear.
+    pub detect: Detect,
+    /// What counts as keeping course and speed, and what as a readily apparent alteration.
+    pub act: Act,
+    /// The numbers of the rules' formulas.
+    pub rules: RuleNumbers,
+    /// The vessels whose encounters are audited.
+    pub subjects: Subjects,
+    /// Own ship, where she is needed.
+    pub own: Option<OwnPart>,
 }
 
-/// The integer at a key that has no fault, if the key has one.
-fn known(document: &Table, table: &str, name: &str, low: i64, high: i64) -> Option<i64>
-    requires faultless { IsFaultless (table_view document.now) }
-    requires known { lies_in low high (range_at table.now name.now) ≡ true }
-    ensures value { result ≡ integer_at table.now name.now (table_view document.now) }
-    ensures held { MatchOption result ⊥ (λ n. (low ≤ℤ n) × (n ≤ℤ high)) }
-    ensures tick { begins_with_the_tick (range_at table.now name.now) ≡ true
-        → MatchOption result ⊥ (λ n. pos (tick_of (table_view document.now)) ≤ℤ n) }
-{
-    integer_found(document, table, name)
-}
-
-/// The integer at a key whose range lies within the two numbers, in a document without a fault.
-fn integer(document: &Table, table: &str, name: &str, low: i64, high: i64) -> i64
-    requires faultless { IsFaultless (table_view document.now) }
-    requires known { lies_in low high (range_at table.now name.now) ≡ true }
-    ensures value { integer_at table.now name.now (table_view document.now) ≡ Some result }
-    ensures low { low ≤ℤ result }
-    ensures high { result ≤ℤ high }
-    ensures tick { begins_with_the_tick (range_at table.now name.now) ≡ true
-        → pos (tick_of (table_view document.now)) ≤ℤ result }
-{
-    match known(document, table, name, low, high) {
-        Some(number) => number,
-        None => low,
-    }
-}
-
-/// The same of a key that holds no integer below 0.
-fn natural(document: &Table, table: &str, name: &str, least: u32, most: u32) -> u32
-    requires faultless { IsFaultless (table_view document.now) }
-    requires known { lies_in (pos least) (pos most) (range_at table.now name.now) ≡ true }
-    ensures there { integer_at table.now name.now (table_view document.now) ≡ Some (pos result) }
-    ensures value { result ≡ natural_at table.now name.now (table_view document.now) }
-    ensures least { least ≤ result }
-    ensures most { result ≤ most }
-    ensures tick { begins_with_the_tick (range_at table.now name.now) ≡ true
-        → tick_of (table_view document.now) ≤ result }
-{
-    integer(document, table, name, i64::from(least), i64::from(most)) as u32
-}
-
-/// The same of a key whose integers do not fit 32 bits.
-fn long_natural(document: &Table, table: &str, name: &str, most: i64) -> u64
-    requires faultless { IsFaultless (table_view document.now) }
-    requires known { lies_in (pos 0) most (range_at table.now name.now) ≡ true }
-    ensures value { result ≡ natural_at table.now name.now (table_view document.now) }
-    ensures most { pos result ≤ℤ most }
-{
-    integer(document, table, name, 0, most) as u64
-}
-
-fn integer_or(document: &Table, table: &str, name: &str, otherwise: i64) -> Option<i64>
-    ensures { result ≡ integer_or otherwise (found_in name.now (table_at table.now (table_view document.now))) }
-{
-    match found(document, table, name) {
-        Some(found) => found.as_integer(),
-        None => Some(otherwise),
-    }
-}
-
-/// The integer at a key that has no fault, or the other number where the key is left out.
-fn known_or(
-    document: &Table,
-    table: &str,
-    name: &str,
-    low: i64,
-    high: i64,
-    otherwise: i64,
-) -> Option<i64>
-    requires faultless { IsFaultless (table_view document.now) }
-    requires known { may_lie_in low high otherwise (range_at table.now name.now) ≡ true }
-    ensures value { result ≡ integer_or otherwise (found_in name.now (table_at table.now (table_view document.now))) }
-    ensures held { MatchOption result ⊥ (λ n. (low ≤ℤ n) × (n ≤ℤ high)) }
-{
-    integer_or(document, table, name, otherwise)
-}
-
-/// The integer at a key that may be left out for another number, in a document without a fault.
-#[tactic(auto, unfolding(crate::specs::ScenarioValues::optional_at))]
-fn optional(document: &Table, table: &str, name: &str, least: u32, most: u32, otherwise: u32) -> u32
-    requires faultless { IsFaultless (table_view document.now) }
-    requires known { may_lie_in (pos least) (pos most) (pos otherwise) (range_at table.now name.now) ≡ true }
-    ensures value { result ≡ optional_at table.now name.now otherwise (table_view document.now) }
-    ensures least { least ≤ result }
-    ensures most { result ≤ most }
-{
-    match known_or(
-        document,
-        table,
-        name,
-        i64::from(least),
-        i64::from(most),
-        i64::from(otherwise),
-    ) {
-        Some(number) => number as u32,
-        None => least,
-    }
-}
-
-#[tactic(auto, unfolding(crate::specs::ScenarioValues::window_of, crate::specs::Inner::KnownKeys::range_at, crate::specs::ScenarioKeys::rows))]
+#[tactic(auto, unfolding(crate::specs::ScenarioValues::window_of, crate::specs::Inner::KnownKeys::kind_at, crate::specs::ScenarioKeys::rows))]
 fn window_in(document: &Table) -> Window
-    requires { IsFaultless (table_view document.now) }
+    requires { IsFaultless false (table_view document.now) }
     ensures values { result ≡ window_of (table_view document.now) }
     ensures in_range { IsWindow result }
     ensures tick { tick_of (table_view document.now) ≡ result.tick }
@@ -156,18 +75,18 @@ fn window_in(document: &Table) -> Window
     }
 }
 
-#[tactic(auto, unfolding(crate::specs::Inner::KnownKeys::range_at, crate::specs::ScenarioKeys::rows))]
+#[tactic(auto, unfolding(crate::specs::Inner::KnownKeys::kind_at, crate::specs::ScenarioKeys::rows))]
 fn latitude_in(document: &Table) -> i32
-    requires { IsFaultless (table_view document.now) }
+    requires { IsFaultless false (table_view document.now) }
     ensures value { result ≡ signed_at (codes "reference") (codes "lat") (table_view document.now) }
     ensures in_range { unsigned_abs result ≤ 45000000 }
 {
     integer(document, "reference", "lat", -45_000_000, 45_000_000) as i32
 }
 
-#[tactic(auto, unfolding(crate::specs::Inner::KnownKeys::range_at, crate::specs::ScenarioKeys::rows))]
+#[tactic(auto, unfolding(crate::specs::Inner::KnownKeys::kind_at, crate::specs::ScenarioKeys::rows))]
 fn longitude_in(document: &Table) -> i32
-    requires { IsFaultless (table_view document.now) }
+    requires { IsFaultless false (table_view document.now) }
     ensures value { result ≡ signed_at (codes "reference") (codes "lon") (table_view document.now) }
     ensures in_range { unsigned_abs result ≤ 108000000 }
 {
@@ -176,36 +95,184 @@ fn longitude_in(document: &Table) -> i32
 
 #[tactic(auto, unfolding(crate::specs::ScenarioValues::reference_of))]
 fn reference_in(document: &Table) -> Reference
-    requires { IsFaultless (table_view document.now) }
+    requires { IsFaultless false (table_view document.now) }
     ensures { result ≡ reference_of (table_view document.now) }
 {
     Reference::new(latitude_in(document), longitude_in(document)).unwrap()
 }
 
-#[tactic(auto, unfolding(crate::specs::ScenarioValues::log_numbers_of, crate::specs::Inner::KnownKeys::range_at, crate::specs::ScenarioKeys::rows))]
+#[tactic(auto, unfolding(crate::specs::ScenarioValues::log_numbers_of, crate::specs::Inner::KnownKeys::kind_at, crate::specs::ScenarioKeys::rows))]
 fn log_numbers_in(document: &Table) -> LogNumbers
-    requires { IsFaultless (table_view document.now) }
+    requires { IsFaultless false (table_view document.now) }
     ensures values { result ≡ log_numbers_of (table_view document.now) }
     ensures in_range { AreLogNumbers (tick_of (table_view document.now)) result }
 {
     LogNumbers {
         gap: natural(document, "log", "gap", 1, 3600),
         slack: natural(document, "log", "slack", 0, 3600),
-        max_speed: natural(document, "log", "max_speed", 1, 1022) as u16,
+        max_speed: short_natural(document, "log", "max_speed", 1, 1022),
         max_bytes: u64::from(optional(document, "log", "max_bytes", 1, 1 << 30, 1 << 30)),
     }
 }
 
-/// The values of a document without a fault.
-#[tactic(auto, unfolding(crate::specs::ScenarioValues::scenario_of))]
-pub(crate) fn scenario_in(document: &Table) -> Scenario
-    requires { IsFaultless (table_view document.now) }
-    ensures values { result ≡ scenario_of (table_view document.now) }
+/// A distance in metres, in tenths of a millimetre.
+#[tactic(auto, unfolding(crate::specs::ScenarioValues::units_at))]
+fn units(document: &Table, table: &str, name: &str) -> u64
+    requires faultless { IsFaultless (is_own table.now) (table_view document.now) }
+    requires known { lies_in (pos 1) (pos 100000) (range_at (basis_of (is_own table.now) (table_view document.now)) table.now name.now) ≡ true }
+    ensures value { result ≡ units_at table.now name.now (table_view document.now) }
+    ensures least { 10000 ≤ result }
+    ensures most { result ≤ 1000000000 }
+{
+    u64::from(natural(document, table, name, 1, 100_000)) * 10_000
+}
+
+/// The number of ticks in some seconds, at least one.
+fn ticks_in(seconds: u32, tick: u32) -> u32
+    requires some { 1 ≤ tick }
+    requires least { tick ≤ seconds }
+    ensures value { result ≡ seconds / tick }
+    ensures some { 1 ≤ result }
+    ensures time { result * tick ≤ seconds }
+    ensures most { result ≤ seconds }
+{
+    seconds / tick
+}
+
+#[tactic(auto, unfolding(crate::specs::Inner::KnownKeys::kind_at, crate::specs::ScenarioKeys::rows))]
+fn horizon_in(document: &Table) -> u32
+    requires { IsFaultless false (table_view document.now) }
+    ensures value { result ≡ natural_at (codes "detect") (codes "horizon") (table_view document.now) / tick_of (table_view document.now) }
+    ensures some { 1 ≤ result }
+    ensures time { result * tick_of (table_view document.now) ≤ 7200 }
+    ensures most { result ≤ 7200 }
+{
+    ticks_in(
+        natural(document, "detect", "horizon", 1, 7200),
+        tick_of(document),
+    )
+}
+
+#[tactic(auto, unfolding(crate::specs::ScenarioValues::detect_of, crate::specs::Inner::KnownKeys::kind_at, crate::specs::ScenarioKeys::rows))]
+fn detect_in(document: &Table) -> Detect
+    requires { IsFaultless false (table_view document.now) }
+    ensures values { result ≡ detect_of (table_view document.now) }
+    ensures in_range { AreDetectNumbers (tick_of (table_view document.now)) result }
+{
+    Detect {
+        watch: units(document, "detect", "watch"),
+        risk: units(document, "detect", "risk"),
+        clear: units(document, "detect", "clear"),
+        horizon: horizon_in(document),
+        angles: Angles {
+            doubt: short_natural(document, "detect", "doubt", 0, 1124),
+            ahead: short_natural(document, "detect", "ahead", 0, 900),
+            reciprocal: short_natural(document, "detect", "reciprocal", 0, 900),
+        },
+    }
+}
+
+#[tactic(auto, unfolding(crate::specs::ScenarioValues::act_of, crate::specs::Inner::KnownKeys::kind_at, crate::specs::ScenarioKeys::rows))]
+fn act_in(document: &Table) -> Act
+    requires { IsFaultless false (table_view document.now) }
+    ensures values { result ≡ act_of (table_view document.now) }
+    ensures in_range { AreActNumbers result }
+{
+    Act {
+        steady_turn: short_natural(document, "act", "steady_turn", 0, 1800),
+        apparent_turn: short_natural(document, "act", "apparent_turn", 1, 1800),
+        steady_speed: short_natural(document, "act", "steady_speed", 0, 1022),
+        apparent_speed: short_natural(document, "act", "apparent_speed", 1, 1022),
+    }
+}
+
+#[tactic(auto, unfolding(crate::specs::ScenarioValues::safe_of, crate::specs::Inner::KnownKeys::kind_at, crate::specs::ScenarioKeys::rows))]
+fn safe_in(document: &Table) -> Safe
+    requires { IsFaultless false (table_view document.now) }
+    ensures values { result ≡ safe_of (table_view document.now) }
+    ensures in_range { IsSafe result }
+{
+    if is_version_two(document) {
+        Safe::PerKind {
+            head_on: natural(document, "rules", "safe_head_on", 1, 100_000),
+            overtaking: natural(document, "rules", "safe_overtaking", 1, 100_000),
+            crossing: natural(document, "rules", "safe_crossing", 1, 100_000),
+            other: natural(document, "rules", "safe_other", 1, 100_000),
+        }
+    } else {
+        Safe::One(natural(document, "rules", "safe", 1, 100_000))
+    }
+}
+
+#[tactic(auto, unfolding(crate::specs::ScenarioValues::rules_of, crate::specs::Inner::KnownKeys::kind_at, crate::specs::ScenarioKeys::rows))]
+fn rules_in(document: &Table) -> RuleNumbers
+    requires { IsFaultless false (table_view document.now) }
+    ensures values { result ≡ rules_of (table_view document.now) }
+    ensures in_range { AreRuleNumbers (tick_of (table_view document.now)) result }
+{
+    RuleNumbers {
+        safe: safe_in(document),
+        overtake: natural(document, "rules", "overtake", 1, 100_000),
+        close: natural(document, "rules", "close", 1, 100_000),
+        t8: natural(document, "rules", "t8", 0, 7200),
+        ta: natural(document, "rules", "ta", 0, 7200),
+        tl: natural(document, "rules", "tl", 0, 7200),
+        tw: natural(document, "rules", "tw", 0, 7200),
+        te: natural(document, "rules", "te", 0, 7200),
+    }
+}
+
+#[tactic(auto, unfolding(crate::specs::Inner::KnownKeys::kind_at, crate::specs::ScenarioKeys::rows))]
+fn subjects_in(alloc: Global, document: &Table) -> Result<Subjects, AllocError>
+    requires { IsFaultless false (table_view document.now) }
+    ensures values { IfOk result (λ s. s ≡ naturals_at (codes "") (codes "subjects") (table_view document.now)) }
+    ensures in_range { IfOk result (All IsShip) }
+    ensures few { IfOk result (λ s. length s ≤ 64) }
+{
+    let ships = ListBounds {
+        fewest: 0,
+        most: 64,
+        low: 200_000_000,
+        high: 799_999_999,
+    };
+    let list = naturals(alloc, document, "", "subjects", ships)?;
+    Ok(Subjects::new(list))
+}
+
+/// The values of a document without a fault, with those that take memory.
+#[tactic(auto, unfolding(crate::specs::ScenarioValues::scenario_with))]
+fn with_lists(document: &Table, subjects: Subjects, own: Option<OwnPart>) -> Scenario
+    requires faultless { IsFaultless false (table_view document.now) }
+    requires subjects { subjects ≡ naturals_at (codes "") (codes "subjects") (table_view document.now) }
+    requires ships { All IsShip subjects }
+    requires few { length subjects ≤ 64 }
+    requires own { IfSome own (IsOwnPart (tick_of (table_view document.now))) }
+    ensures values { result ≡ scenario_with own (table_view document.now) }
     ensures in_range { IsInRange result }
 {
     Scenario {
         window: window_in(document),
         reference: reference_in(document),
         log: log_numbers_in(document),
+        detect: detect_in(document),
+        act: act_in(document),
+        rules: rules_in(document),
+        subjects,
+        own,
     }
+}
+
+/// The values of a document without a fault, with own ship where she is needed.
+pub(crate) fn scenario_in(
+    alloc: Global,
+    document: &Table,
+    need_own: bool,
+) -> Result<Scenario, AllocError>
+    requires { IsFaultless need_own (table_view document.now) }
+    ensures values { IfOk result (λ s. s ≡ scenario_of need_own (table_view document.now)) }
+    ensures in_range { IfOk result IsInRange }
+{
+    let subjects = subjects_in(alloc, document)?;
+    let own = own_where(alloc, document, need_own)?;
+    Ok(with_lists(document, subjects, own))
 }

@@ -1,5 +1,5 @@
 -- Why a scenario is not had from a shelf.
-use Rattle.std.specs.Prelude.{ℕ, ◌≡◌, ◌≤◌, ◌<◌, ◌⊎◌, List, length, Option, Result, Ok, Err}
+use Rattle.std.specs.Prelude.{ℕ, ◌≡◌, ◌≤◌, ◌<◌, ◌⊎◌, List, length, Option, Result, Ok, Err, false}
 use Rattle.outside.specs.Causes.{one_more}
 use Rattle.outside.specs.Shelves.{Files, IsMissing}
 use Rattle.scenario.specs.ScenarioReading.{IsRefused}
@@ -30,7 +30,7 @@ abbrev pub SetUpCause : Option Files → List ℕ → ℕ → ℕ → SetUpFault
 SetUpCause files name before now fault.NotHad = (now ≡ one_more before) ⊎ IsMissing files name
 SetUpCause files name before now fault.TooLong = Holds files name (λ text. greatest_scenario < length text)
 SetUpCause files name before now (fault.Refused key cause) =
-    Holds files name (λ text. (length text ≤ greatest_scenario) × IsRefused text key cause)
+    Holds files name (λ text. (length text ≤ greatest_scenario) × IsRefused false text key cause)
 SetUpCause files name before now fault.Memory = Unit {0}
 
 -- what the bytes under the name call for, where the shelf tells them
@@ -39,5 +39,5 @@ IsSetUpDue files name (Ok scenario) = LiesUnder files name (λ text. IsScenario 
 IsSetUpDue files name (Err fault.NotHad) = IsMissing files name
 IsSetUpDue files name (Err fault.TooLong) = LiesUnder files name (λ text. greatest_scenario < length text)
 IsSetUpDue files name (Err (fault.Refused key cause)) =
-    LiesUnder files name (λ text. (length text ≤ greatest_scenario) × IsRefused text key cause)
+    LiesUnder files name (λ text. (length text ≤ greatest_scenario) × IsRefused false text key cause)
 IsSetUpDue files name (Err fault.Memory) = ⊥

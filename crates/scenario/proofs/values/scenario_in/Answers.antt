@@ -1,9 +1,9 @@
-use Rattle.std.proofs.Common.{ℕ, subst}
-use Rattle.scenario.specs.ScenarioValues.{AreLogNumbers}
+use Rattle.toml.specs.View.{table_view}
+use Rattle.scenario.proofs.Held.{without_own}
 use Rattle.scenario.proofs.values.scenario_in.Goals as goal
 
-pub returns-clause-in_range : goal.returns-clause-in_range
-returns-clause-in_range c = record {
-  window = c.window_in.ensures.in_range;
-  log = subst (λ (tick : ℕ). AreLogNumbers tick c.log_numbers_in.result) c.window_in.ensures.tick c.log_numbers_in.ensures.in_range;
-}
+pub subjects_in-requires : goal.subjects_in-requires
+subjects_in-requires c = without_own c.args.need_own (table_view c.args.document.now) c.requires
+
+pub with_lists-requires-clause-faultless : goal.with_lists-requires-clause-faultless
+with_lists-requires-clause-faultless c = without_own c.args.need_own (table_view c.args.document.now) c.requires

@@ -1,0 +1,264 @@
+-- The elements of a list without a fault.
+use Rattle.std.proofs.Common.{Vec, Global, IfOk, ◌≡◌, ℕ, ◌≤◌, suc, nat_le, not, ℤ, pos, negsuc, ◌≤ℤ◌, int_le, ◌&&◌, List, [], ◌∷◌, map, length, All, MatchOption, Bool, true, false, if◌then◌else◌, Option, Some, None, Result, Ok, Err, refl, ap, sym, ◌∙◌, subst, arith}
+use Rattle.std.specs.Prelude.{slice_index_or, unsigned_abs, neg_ℤ}
+use Rattle.std.specs.Option.{option_map_or, is_none}
+use Rattle.std.specs.List.{position, position_or_len}
+use Rattle.std.proofs.lemmas.Int.{ints}
+use Rattle.std.proofs.lemmas.Bool.{and_parts}
+use Rattle.std.proofs.lemmas.Bool.Decides.{nat_tests}
+use Rattle.std.proofs.lemmas.List.{length-map}
+use Rattle.std.proofs.lemmas.List.Elements.{All-cons, All-map}
+use Rattle.toml.specs.Data.{Data, Items, Members, as_array, as_integer, get_member}
+use Rattle.toml.specs.View.{view, items_view}
+use Rattle.toml.specs.declared.value.Value.{Value}
+use Rattle.scenario.specs.FirstOf.{first_of}
+use Rattle.scenario.specs.ListFaults.{array_fault, at_item, elements, elements_fault, is_in_range, is_no_integer, is_out_of_range, length_fault, list_fault}
+use Rattle.scenario.specs.KeyValues.{array_in, found_in, integer_of, list_at, list_in, natural_of, table_at}
+use Rattle.scenario.specs.KeyFaults.{basis_of, fault_in, fault_listed, IsFaultless}
+use Rattle.scenario.specs.Inner.KnownKeys.{fewest_of, kind_at, list_range_at, list_range_in, lists_lie_in}
+use Rattle.scenario.specs.Inner.WithinBounds.{IsWithin}
+use Rattle.scenario.specs.declared.basis.Basis.{Basis}
+use Rattle.scenario.specs.declared.cause.Cause.{Cause}
+use Rattle.scenario.specs.declared.cause.Cause.TheVariants as cause
+use Rattle.scenario.specs.declared.rows.ListRange.{ListRange}
+use Rattle.scenario.specs.declared.rows.Kind.{Kind}
+use Rattle.scenario.specs.declared.rows.Kind.TheVariants as kind
+use Rattle.scenario.proofs.Elements.{mapped_seen, seen_elements}
+use Rattle.scenario.proofs.Held.{faultless_at}
+
+-- no element passes where none is first
+
+no_position : {A : Type 0} (p : A → Bool) (l : List A) → position p l ≡ None → length l ≤ position_or_len p l
+no_position p l h = grind (arith, nat_tests)
+
+ahead_true : (p : Data → Bool) (d : Data) (l : List Data) → p d ≡ true → length (d ∷ l) ≤ position_or_len p (d ∷ l) → ⊥
+ahead_true p d l e h = let z : position_or_len p (d ∷ l) ≡ 0 = rw e in omega arith
+
+ahead_false : (p : Data → Bool) (d : Data) (l : List Data) → p d ≡ false → length (d ∷ l) ≤ position_or_len p (d ∷ l) → length l ≤ position_or_len p l
+ahead_false p d l e h = let z : position_or_len p (d ∷ l) ≡ suc (position_or_len p l) = rw e (omega arith) in omega arith
+
+cases_of : (b : Bool) (P : Type 0) → (b ≡ true → P) → (b ≡ false → P) → P
+cases_of true P f g = f refl
+cases_of false P f g = g refl
+
+all_by : (p q : Data → Bool) (P : Data → Type 0) → ((d : Data) → p d ≡ false → q d ≡ false → P d) →
+    (l : List Data) → length l ≤ position_or_len p l → length l ≤ position_or_len q l → All P l
+all_by p q P h [] m n = λ k d lt. absurd (omega arith)
+all_by p q P h (d ∷ l) m n =
+    cases_of (p d) (All P (d ∷ l))
+    (λ e. absurd (ahead_true p d l e m))
+    (λ e. cases_of (q d) (All P (d ∷ l))
+    (λ f. absurd (ahead_true q d l f n))
+    (λ f. All-cons P d l (h d e f) (all_by p q P h l (ahead_false p d l e m) (ahead_false q d l f n))))
+
+-- the parts of a list's test
+
+first_two : {A : Type 0} (a b : Option A) (rest : List (Option A)) → first_of (a ∷ b ∷ rest) ≡ None → (a ≡ None) × (first_of (b ∷ rest) ≡ None)
+first_two None b rest h = (refl, h)
+first_two (Some a) b rest h = cc
+
+first_one : {A : Type 0} (a : Option A) → first_of (a ∷ []) ≡ None → a ≡ None
+first_one None h = refl
+first_one (Some a) h = cc
+
+no_item : (c : Cause) (p : Option ℕ) → at_item c p ≡ None → p ≡ None
+no_item c None h = refl
+no_item c (Some p) h = cc
+
+not_false : (b : Bool) → not b ≡ false → b ≡ true
+not_false true h = refl
+not_false false h = cc
+
+int_le-true : (x y : ℤ) → int_le x y ≡ true → x ≤ℤ y
+int_le-true x y h = grind (arith, ints)
+
+within : (range : ListRange) (n : Option ℤ) → is_none n ≡ false → option_map_or (λ z. not (is_in_range range z)) n false ≡ false →
+    MatchOption n ⊥ (λ n. (range.low ≤ℤ n) × (n ≤ℤ range.high))
+within range None h k = cc
+within range (Some z) h k =
+    let (a, b) = and_parts (int_le range.low z) (int_le z range.high) (not_false (is_in_range range z) k) in
+    (int_le-true range.low z a, int_le-true z range.high b)
+
+pub record ListHolds (fewest most : ℕ) (low high : ℤ) (list : List Data) : Type 0 where
+  pub from : fewest ≤ length list
+  pub to : length list ≤ most
+  pub all : All (IsWithin low high) list
+
+length_held : (fewest most n : ℕ) → length_fault fewest most n ≡ None → (fewest ≤ n) × (n ≤ most)
+length_held fewest most n h =
+    cases_of (nat_le fewest n && nat_le n most) ((fewest ≤ n) × (n ≤ most))
+    (λ e. (let (a, b) = and_parts (nat_le fewest n) (nat_le n most) e in (grind (arith, nat_tests), grind (arith, nat_tests))))
+    (λ e. (let f : length_fault fewest most n ≡ Some (0, cause.Range) = rw e in cc))
+
+elements_held : (range : ListRange) (list : List Data) → elements_fault range list ≡ None → ListHolds range.fewest range.most range.low range.high list
+unfolding elements_fault
+elements_held range list h =
+    let (a, b) = first_two (at_item cause.Type_ (position is_no_integer list)) (length_fault range.fewest range.most (length list)) (at_item cause.Range (position (is_out_of_range range) list) ∷ []) h in
+    let (c, d) = first_two (length_fault range.fewest range.most (length list)) (at_item cause.Range (position (is_out_of_range range) list)) [] b in
+    let e = first_one (at_item cause.Range (position (is_out_of_range range) list)) d in
+    let (f, g) = length_held range.fewest range.most (length list) c in
+    record {
+      from = f;
+      to = g;
+      all = all_by is_no_integer (is_out_of_range range) (IsWithin range.low range.high) (λ d e f. within range (as_integer d) e f) list
+          (no_position is_no_integer list (no_item cause.Type_ (position is_no_integer list) a))
+          (no_position (is_out_of_range range) list (no_item cause.Range (position (is_out_of_range range) list) e));
+    }
+
+-- what stands at a key whose list has no fault
+
+unlisted : (row : ℕ) (fault : Option (ℕ × Cause)) → fault_listed row fault ≡ None → fault ≡ None
+unlisted row None h = refl
+unlisted row (Some (n, c)) h = cc
+
+left_out : (range : ListRange) → list_fault range None ≡ None → range.is_optional ≡ true
+left_out range h =
+    cases_of range.is_optional (range.is_optional ≡ true)
+    (λ e. e)
+    (λ e. (let f : list_fault range None ≡ Some (0, cause.Missing) = rw e in cc))
+
+fewest_below : (range : ListRange) → fewest_of range ≤ range.fewest
+fewest_below range =
+    elim range.is_optional as (λ b. (if b then 0 else range.fewest) ≤ range.fewest) [
+      | true ↦ omega arith
+      | false ↦ omega arith
+    ]
+
+array_held : (range : ListRange) (found : Option Data) → list_fault range found ≡ None → ListHolds (fewest_of range) range.most range.low range.high (list_in (array_in found))
+array_held range None h =
+    let e = left_out range h in
+    let f : fewest_of range ≡ 0 = rw e in
+    record { from = omega arith; to = omega arith; all = λ k d lt. absurd (omega arith) }
+array_held range (Some found) h =
+    elim (as_array found) as (λ a. array_fault range a ≡ None → ListHolds (fewest_of range) range.most range.low range.high (list_in a)) [
+      | None ↦ λ e. cc
+      | Some items ↦ λ e. (
+          let held = elements_held range (elements items) e in
+          let below = fewest_below range in
+          let long = held.from in
+          record { from = omega arith; to = held.to; all = held.all })
+    ] h
+
+list_uncaused : (basis : Basis) (row : ℕ) (name : List ℕ) (range : ListRange) (table : Result Members Cause) → fault_in basis row name (kind.Numbers range) table ≡ None →
+    list_fault range (found_in name table) ≡ None
+list_uncaused basis row name range (Err cause) h = cc
+list_uncaused basis row name range (Ok table) h = unlisted row (list_fault range (get_member name table)) h
+
+list_kind_is : (here : Option Kind) (range : ListRange) → list_range_in here ≡ Some range → here ≡ Some (kind.Numbers range)
+list_kind_is None range h = cc
+list_kind_is (Some (kind.Numbers this)) range h = let same : this ≡ range = cc in ap (λ (r : ListRange). Some (kind.Numbers r)) same
+list_kind_is (Some (kind.Number of)) range h = cc
+list_kind_is (Some kind.Plans) range h = cc
+list_kind_is (Some kind.Document) range h = cc
+
+list_held_by : (need_own : Bool) (document : Members) (table name : List ℕ) (range : ListRange) → list_range_at (basis_of need_own document) table name ≡ Some range → IsFaultless need_own document →
+    ListHolds (fewest_of range) range.most range.low range.high (list_at table name document)
+unfolding list_at
+list_held_by need_own document table name range is faultless =
+    let h = faultless_at need_own document table name (kind.Numbers range) (list_kind_is (kind_at (basis_of need_own document) table name) range is) faultless in
+    array_held range (found_in name (table_at table document)) (list_uncaused (basis_of need_own document) h.number name range (table_at table document) h.faultless)
+
+≤ℤ_trans : (x y z : ℤ) → x ≤ℤ y → y ≤ℤ z → x ≤ℤ z
+≤ℤ_trans x y z h k = omega (arith, ints)
+
+nat_le-true : (m n : ℕ) → nat_le m n ≡ true → m ≤ n
+nat_le-true m n h = grind (arith, nat_tests)
+
+wider_element : (low high least most : ℤ) (n : Option ℤ) → low ≤ℤ least → most ≤ℤ high → MatchOption n ⊥ (λ n. (least ≤ℤ n) × (n ≤ℤ most)) →
+    MatchOption n ⊥ (λ n. (low ≤ℤ n) × (n ≤ℤ high))
+wider_element low high least most None a b h = h
+wider_element low high least most (Some n) a b h = (≤ℤ_trans low least n a h.0, ≤ℤ_trans n most high h.1 b)
+
+pub list_held : (need_own : Bool) (document : Members) (table name : List ℕ) (fewest most : ℕ) (low high : ℤ) → lists_lie_in fewest most low high (list_range_at (basis_of need_own document) table name) ≡ true →
+    IsFaultless need_own document → ListHolds fewest most low high (list_at table name document)
+list_held need_own document table name fewest most low high within faultless =
+    elim (list_range_at (basis_of need_own document) table name) as (λ r. list_range_at (basis_of need_own document) table name ≡ r → lists_lie_in fewest most low high r ≡ true →
+    ListHolds fewest most low high (list_at table name document)) [
+      | None ↦ λ e h. cc
+      | Some range ↦ λ e h. (
+          let (a, b) = and_parts (nat_le fewest (fewest_of range) && nat_le range.most most) (int_le low range.low && int_le range.high high) h in
+          let (c, d) = and_parts (nat_le fewest (fewest_of range)) (nat_le range.most most) a in
+          let (f, g) = and_parts (int_le low range.low) (int_le range.high high) b in
+          let held = list_held_by need_own document table name range e faultless in
+          let first = held.from in
+          let last = held.to in
+          let c2 = nat_le-true fewest (fewest_of range) c in
+          let d2 = nat_le-true range.most most d in
+          record {
+            from = omega arith;
+            to = omega arith;
+            all = λ k x lt. wider_element low high range.low range.high (as_integer (slice_index_or (list_at table name document) k x)) (int_le-true low range.low f) (int_le-true range.high high g)
+                (held.all k x lt);
+          })
+    ] refl within
+
+-- the same of the values of an array
+
+from_map : {A B : Type 0} (P : B → Type 0) (f : A → B) (l : List A) → All P (map f l) → All (λ a. P (f a)) l
+from_map P f [] h = λ k d lt. absurd (omega arith)
+from_map P f (a ∷ l) h =
+    All-cons (λ a. P (f a)) a l (h 0 (f a) (omega arith)) (from_map P f l (λ k d lt. h (suc k) d (omega arith)))
+
+pub values_held : (document : Members) (table name : List ℕ) (low high : ℤ) (values : List Value) →
+    Some (items_view values) ≡ array_in (found_in name (table_at table document)) →
+    All (IsWithin low high) (list_at table name document) → All (λ v. IsWithin low high (view v)) values
+unfolding list_at
+values_held document table name low high values e held =
+    let f : map view values ≡ list_in (array_in (found_in name (table_at table document))) = sym (seen_elements values) ∙ ap list_in e in
+    from_map (IsWithin low high) view values (subst (λ (l : List Data). All (IsWithin low high) l) (sym f) held)
+
+pub mapped : {A : Type 0} (f : Data → A) (document : Members) (table name : List ℕ) (values : List Value) →
+    Some (items_view values) ≡ array_in (found_in name (table_at table document)) →
+    map (λ v. f (view v)) values ≡ map f (list_at table name document)
+unfolding list_at
+mapped f document table name values e = sym (mapped_seen f values) ∙ ap (λ (i : Option Items). map f (list_in i)) e
+
+pub nothing_mapped : {A : Type 0} (f : Data → A) (document : Members) (table name : List ℕ) → None ≡ array_in (found_in name (table_at table document)) →
+    [] ≡ map f (list_at table name document)
+unfolding list_at
+nothing_mapped f document table name e = ap (λ (i : Option Items). map f (list_in i)) e
+
+-- what the naturals of a list are
+
+natural_held : (least most : ℕ) (n : Option ℤ) → MatchOption n ⊥ (λ n. (pos least ≤ℤ n) × (n ≤ℤ pos most)) → (least ≤ natural_of n) × (natural_of n ≤ most)
+natural_held least most None h = absurd h
+natural_held least most (Some (pos n)) h = let a = h.0 in let b = h.1 in (omega (arith, ints), omega (arith, ints))
+natural_held least most (Some (negsuc n)) h = let a = h.0 in absurd (omega (arith, ints))
+
+pub naturals_held : (fewest most low high : ℕ) (list : List Data) → ListHolds fewest most (pos low) (pos high) list →
+    All (λ n. (low ≤ n) × (n ≤ high)) (map (λ d. natural_of (as_integer d)) list)
+naturals_held fewest most low high list held =
+    All-map (λ n. (low ≤ n) × (n ≤ high)) (λ d. natural_of (as_integer d)) list
+    (λ k d lt. natural_held low high (as_integer (slice_index_or list k d)) (held.all k d lt))
+
+pub told : {E : Type 0} (fewest most low high : ℕ) (list : List Data) (result : Result (Vec ℕ Global) E) → ListHolds fewest most (pos low) (pos high) list →
+    IfOk result (λ v. v.items ≡ map (λ d. natural_of (as_integer d)) list) →
+    IfOk result (λ v. All (λ n. (low ≤ n) × (n ≤ high)) v.items) × IfOk result (λ v. fewest ≤ length v.items) × IfOk result (λ v. length v.items ≤ most)
+told fewest most low high list (Err e) held is = (tt, tt, tt)
+told fewest most low high list (Ok v) held is =
+    let count : length v.items ≡ length list = ap length is ∙ length-map list (λ d. natural_of (as_integer d)) in
+    let a = held.from in
+    let b = held.to in
+    (subst (λ (l : List ℕ). All (λ n. (low ≤ n) × (n ≤ high)) l) (sym is) (naturals_held fewest most low high list held), omega arith, omega arith)
+
+-- what the integers of a list are, where none is further than this from 0
+
+integer_held : (size : ℕ) (n : Option ℤ) → MatchOption n ⊥ (λ n. ((neg_ℤ (pos size)) ≤ℤ n) × (n ≤ℤ pos size)) → unsigned_abs (integer_of n) ≤ size
+integer_held size None h = absurd h
+integer_held size (Some z) h = let a = h.0 in let b = h.1 in grind (arith, ints)
+
+pub integers_held : (fewest most : ℕ) (size : ℕ) (list : List Data) → ListHolds fewest most (neg_ℤ (pos size)) (pos size) list →
+    All (λ z. unsigned_abs z ≤ size) (map (λ d. integer_of (as_integer d)) list)
+integers_held fewest most size list held =
+    All-map (λ z. unsigned_abs z ≤ size) (λ d. integer_of (as_integer d)) list
+    (λ k d lt. integer_held size (as_integer (slice_index_or list k d)) (held.all k d lt))
+
+pub integers_told : {E : Type 0} (fewest most : ℕ) (size : ℕ) (list : List Data) (result : Result (Vec ℤ Global) E) → ListHolds fewest most (neg_ℤ (pos size)) (pos size) list →
+    IfOk result (λ v. v.items ≡ map (λ d. integer_of (as_integer d)) list) →
+    IfOk result (λ v. All (λ z. unsigned_abs z ≤ size) v.items) × IfOk result (λ v. fewest ≤ length v.items) × IfOk result (λ v. length v.items ≤ most)
+integers_told fewest most size list (Err e) held is = (tt, tt, tt)
+integers_told fewest most size list (Ok v) held is =
+    let count : length v.items ≡ length list = ap length is ∙ length-map list (λ d. integer_of (as_integer d)) in
+    let a = held.from in
+    let b = held.to in
+    (subst (λ (l : List ℤ). All (λ z. unsigned_abs z ≤ size) l) (sym is) (integers_held fewest most size list held), omega arith, omega arith)

@@ -1,0 +1,8 @@
+use Rattle.std.proofs.Common.{◌≡◌, map, take}
+use Rattle.toml.specs.Data.{as_integer}
+use Rattle.toml.specs.View.{view}
+use Rattle.scenario.specs.KeyValues.{integer_of}
+use Rattle.scenario.proofs.listed.shorts_in.Given as goal
+
+abbrev pub invariant-loop-found : goal.invariant-loop-found
+invariant-loop-found l = l.shorts.items ≡ map (λ v. integer_of (as_integer (view v))) (take l.found-index l.list.items)

@@ -1,0 +1,62 @@
+//! What the tests of all keys stand on.
+ghost use Rattle.std.specs.Prelude.{◌≡◌, ◌≤◌};
+ghost use Rattle.toml.specs.View.{table_view};
+ghost use Rattle.scenario.specs.KeyFaults.{basis_of, counts, is_version_two, tick_of};
+
+use crate::found::integer_found;
+use crate::rows::When;
+use toml::Table;
+
+/// The values of a document on which the tests of other keys stand.
+#[derive(Clone, Copy, Debug, PartialEq, Eq)]
+pub struct Basis {
+    /// The length of a tick, 1 to 60 s.
+    pub tick: u32,
+    /// Whether the keys are those of version 2, and not of version 1.
+    pub is_version_two: bool,
+    /// Whether own ship is needed.
+    pub need_own: bool,
+}
+
+/// The seconds of a tick, or 1 where the document has none.
+#[tactic(auto, unfolding(crate::specs::KeyFaults::tick_of))]
+pub(crate) fn tick_of(document: &Table) -> u32
+    ensures value { result ≡ tick_of (table_view document.now) }
+    ensures some { 1 ≤ result }
+{
+    match integer_found(document, "window", "tick") {
+        Some(number) if 1 <= number && number <= 60 => number as u32,
+        _ => 1,
+    }
+}
+
+/// Whether the keys are those of version 2.
+#[tactic(auto, unfolding(crate::specs::KeyFaults::is_version_two))]
+pub(crate) fn is_version_two(document: &Table) -> bool
+    ensures { result ≡ is_version_two (table_view document.now) }
+{
+    matches!(integer_found(document, "", "version"), Some(2))
+}
+
+pub(crate) fn basis_of(document: &Table, need_own: bool) -> Basis
+    ensures value { result ≡ basis_of need_own (table_view document.now) }
+    ensures tick { 1 ≤ result.tick }
+{
+    Basis {
+        tick: tick_of(document),
+        is_version_two: is_version_two(document),
+        need_own,
+    }
+}
+
+/// Whether a key is looked at.
+pub(crate) fn counts(basis: Basis, when: When) -> bool
+    ensures { result ≡ counts basis when }
+{
+    match when {
+        When::Always => true,
+        When::InVersionOne => !basis.is_version_two,
+        When::InVersionTwo => basis.is_version_two,
+        When::ForOwnShip => basis.need_own,
+    }
+}

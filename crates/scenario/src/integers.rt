@@ -1,0 +1,133 @@
+//! The integers of a document without a fault.
+ghost use Rattle.std.specs.Prelude.{◌≡◌, ◌≤◌, ◌%◌, ◌≤ℤ◌, pos, unsigned_abs, MatchOption, Some, true};
+ghost use Rattle.toml.specs.View.{table_view};
+ghost use Rattle.scenario.specs.Inner.KnownKeys.{are_ticks, begins_with_the_tick, is_own, lies_in, may_lie_in, range_at};
+ghost use Rattle.scenario.specs.KeyValues.{found_in, integer_at, integer_or, natural_at, optional_at, table_at};
+ghost use Rattle.scenario.specs.KeyFaults.{basis_of, tick_of, IsFaultless};
+
+use crate::found::{found, integer_found};
+use toml::Table;
+
+/// The integer at a key that has no fault, if the key has one.
+fn known(document: &Table, table: &str, name: &str, low: i64, high: i64) -> Option<i64>
+    requires faultless { IsFaultless (is_own table.now) (table_view document.now) }
+    requires known { lies_in low high (range_at (basis_of (is_own table.now) (table_view document.now)) table.now name.now) ≡ true }
+    ensures value { result ≡ integer_at table.now name.now (table_view document.now) }
+    ensures held { MatchOption result ⊥ (λ n. (low ≤ℤ n) × (n ≤ℤ high)) }
+    ensures tick { begins_with_the_tick (range_at (basis_of (is_own table.now) (table_view document.now)) table.now name.now) ≡ true
+        → MatchOption result ⊥ (λ n. pos (tick_of (table_view document.now)) ≤ℤ n) }
+    ensures ticks { are_ticks (range_at (basis_of (is_own table.now) (table_view document.now)) table.now name.now) ≡ true
+        → MatchOption result ⊥ (λ n. unsigned_abs n % tick_of (table_view document.now) ≡ 0) }
+{
+    integer_found(document, table, name)
+}
+
+/// The integer at a key whose range lies within the two numbers, in a document without a fault.
+pub(crate) fn integer(document: &Table, table: &str, name: &str, low: i64, high: i64) -> i64
+    requires faultless { IsFaultless (is_own table.now) (table_view document.now) }
+    requires known { lies_in low high (range_at (basis_of (is_own table.now) (table_view document.now)) table.now name.now) ≡ true }
+    ensures value { integer_at table.now name.now (table_view document.now) ≡ Some result }
+    ensures low { low ≤ℤ result }
+    ensures high { result ≤ℤ high }
+    ensures tick { begins_with_the_tick (range_at (basis_of (is_own table.now) (table_view document.now)) table.now name.now) ≡ true
+        → pos (tick_of (table_view document.now)) ≤ℤ result }
+    ensures ticks { are_ticks (range_at (basis_of (is_own table.now) (table_view document.now)) table.now name.now) ≡ true
+        → unsigned_abs result % tick_of (table_view document.now) ≡ 0 }
+{
+    match known(document, table, name, low, high) {
+        Some(number) => number,
+        None => low,
+    }
+}
+
+/// The same of a key that holds no integer below 0.
+pub(crate) fn natural(document: &Table, table: &str, name: &str, least: u32, most: u32) -> u32
+    requires faultless { IsFaultless (is_own table.now) (table_view document.now) }
+    requires known { lies_in (pos least) (pos most) (range_at (basis_of (is_own table.now) (table_view document.now)) table.now name.now) ≡ true }
+    ensures there { integer_at table.now name.now (table_view document.now) ≡ Some (pos result) }
+    ensures value { result ≡ natural_at table.now name.now (table_view document.now) }
+    ensures least { least ≤ result }
+    ensures most { result ≤ most }
+    ensures tick { begins_with_the_tick (range_at (basis_of (is_own table.now) (table_view document.now)) table.now name.now) ≡ true
+        → tick_of (table_view document.now) ≤ result }
+    ensures ticks { are_ticks (range_at (basis_of (is_own table.now) (table_view document.now)) table.now name.now) ≡ true
+        → result % tick_of (table_view document.now) ≡ 0 }
+{
+    integer(document, table, name, i64::from(least), i64::from(most)) as u32
+}
+
+/// The same of a key whose integers fit 16 bits.
+pub(crate) fn short_natural(document: &Table, table: &str, name: &str, least: u16, most: u16) -> u16
+    requires faultless { IsFaultless (is_own table.now) (table_view document.now) }
+    requires known { lies_in (pos least) (pos most) (range_at (basis_of (is_own table.now) (table_view document.now)) table.now name.now) ≡ true }
+    ensures value { result ≡ natural_at table.now name.now (table_view document.now) }
+    ensures least { least ≤ result }
+    ensures most { result ≤ most }
+{
+    natural(document, table, name, u32::from(least), u32::from(most)) as u16
+}
+
+/// The same of a key whose integers do not fit 32 bits.
+pub(crate) fn long_natural(document: &Table, table: &str, name: &str, most: i64) -> u64
+    requires faultless { IsFaultless (is_own table.now) (table_view document.now) }
+    requires known { lies_in (pos 0) most (range_at (basis_of (is_own table.now) (table_view document.now)) table.now name.now) ≡ true }
+    ensures value { result ≡ natural_at table.now name.now (table_view document.now) }
+    ensures most { pos result ≤ℤ most }
+{
+    integer(document, table, name, 0, most) as u64
+}
+
+fn integer_or(document: &Table, table: &str, name: &str, otherwise: i64) -> Option<i64>
+    ensures { result ≡ integer_or otherwise (found_in name.now (table_at table.now (table_view document.now))) }
+{
+    match found(document, table, name) {
+        Some(found) => found.as_integer(),
+        None => Some(otherwise),
+    }
+}
+
+/// The integer at a key that has no fault, or the other number where the key is left out.
+fn known_or(
+    document: &Table,
+    table: &str,
+    name: &str,
+    low: i64,
+    high: i64,
+    otherwise: i64,
+) -> Option<i64>
+    requires faultless { IsFaultless (is_own table.now) (table_view document.now) }
+    requires known { may_lie_in low high otherwise (range_at (basis_of (is_own table.now) (table_view document.now)) table.now name.now) ≡ true }
+    ensures value { result ≡ integer_or otherwise (found_in name.now (table_at table.now (table_view document.now))) }
+    ensures held { MatchOption result ⊥ (λ n. (low ≤ℤ n) × (n ≤ℤ high)) }
+{
+    integer_or(document, table, name, otherwise)
+}
+
+/// The integer at a key that may be left out for another number, in a document without a fault.
+#[tactic(auto, unfolding(crate::specs::KeyValues::optional_at))]
+pub(crate) fn optional(
+    document: &Table,
+    table: &str,
+    name: &str,
+    least: u32,
+    most: u32,
+    otherwise: u32,
+) -> u32
+    requires faultless { IsFaultless (is_own table.now) (table_view document.now) }
+    requires known { may_lie_in (pos least) (pos most) (pos otherwise) (range_at (basis_of (is_own table.now) (table_view document.now)) table.now name.now) ≡ true }
+    ensures value { result ≡ optional_at table.now name.now otherwise (table_view document.now) }
+    ensures least { least ≤ result }
+    ensures most { result ≤ most }
+{
+    match known_or(
+        document,
+        table,
+        name,
+        i64::from(least),
+        i64::from(most),
+        i64::from(otherwise),
+    ) {
+        Some(number) => number as u32,
+        None => least,
+    }
+}

@@ -1,0 +1,136 @@
+//! Own ship, and the plans among which a manoeuvre is sought.
+ghost use Rattle.std.specs.Prelude.{◌≡◌, ◌≤◌, ◌*◌, neg_ℤ, pos, unsigned_abs, codes, length, All, IfOk, IfSome, true};
+ghost use Rattle.toml.specs.View.{table_view};
+ghost use Rattle.lattice.specs.Grids.{positions_of};
+ghost use Rattle.scenario.specs.KeyFaults.{tick_of, IsFaultless};
+ghost use Rattle.scenario.specs.KeyValues.{integers_at, natural_at};
+ghost use Rattle.scenario.specs.ScenarioValues.{grid_of, own_of, own_where, IsOwnPart};
+
+use crate::integers::{natural, optional};
+use crate::listed::shorts;
+use lattice::Lattice;
+use std::alloc::{AllocError, Global};
+use toml::Table;
+
+/// Own ship, and the plans among which a manoeuvre is sought.
+#[derive(Drop)]
+pub struct OwnPart {
+    /// Her MMSI.
+    pub mmsi: u32,
+    pub lattice: Lattice,
+    /// The radius of her domain, in metres, 0 to 100,000, but for what her length adds.
+    pub base: u32,
+    /// How many of her lengths the radius has besides, 0 to 100.
+    pub lengths: u32,
+    /// How near, in metres, 1 to 100,000, a vessel is a target.
+    pub range: u32,
+}
+
+#[tactic(auto, unfolding(crate::specs::Inner::KnownKeys::kind_at, crate::specs::ScenarioKeys::rows))]
+fn courses_in(alloc: Global, document: &Table) -> Result<Vec<i16>, AllocError>
+    requires { IsFaultless true (table_view document.now) }
+    ensures values { IfOk result (λ v. v.items ≡ integers_at (codes "own") (codes "courses") (table_view document.now)) }
+    ensures in_range { IfOk result (λ v. All (λ z. unsigned_abs z ≤ 1800) v.items) }
+    ensures some { IfOk result (λ v. 1 ≤ length v.items) }
+    ensures most { IfOk result (λ v. length v.items ≤ 32) }
+{
+    shorts(alloc, document, "own", "courses", 32, 1800)
+}
+
+#[tactic(auto, unfolding(crate::specs::Inner::KnownKeys::kind_at, crate::specs::ScenarioKeys::rows))]
+fn speeds_in(alloc: Global, document: &Table) -> Result<Vec<i16>, AllocError>
+    requires { IsFaultless true (table_view document.now) }
+    ensures values { IfOk result (λ v. v.items ≡ integers_at (codes "own") (codes "speeds") (table_view document.now)) }
+    ensures in_range { IfOk result (λ v. All (λ z. unsigned_abs z ≤ 1022) v.items) }
+    ensures some { IfOk result (λ v. 1 ≤ length v.items) }
+    ensures most { IfOk result (λ v. length v.items ≤ 16) }
+{
+    shorts(alloc, document, "own", "speeds", 16, 1022)
+}
+
+/// The lattice of these changes of course and of speed, with the other numbers of the document.
+#[tactic(auto, unfolding(crate::specs::ScenarioValues::grid_of, crate::specs::Inner::KnownKeys::kind_at, crate::specs::ScenarioKeys::rows))]
+fn lattice_of(alloc: Global, document: &Table, courses: &[i16], speeds: &[i16]) -> Lattice
+    requires faultless { IsFaultless true (table_view document.now) }
+    requires courses { courses.now ≡ integers_at (codes "own") (codes "courses") (table_view document.now) }
+    requires speeds { speeds.now ≡ integers_at (codes "own") (codes "speeds") (table_view document.now) }
+    requires some_courses { 1 ≤ length courses.now }
+    requires few_courses { length courses.now ≤ 32 }
+    requires course_changes { All (λ z. unsigned_abs z ≤ 1800) courses.now }
+    requires some_speeds { 1 ≤ length speeds.now }
+    requires few_speeds { length speeds.now ≤ 16 }
+    requires speed_changes { All (λ z. unsigned_abs z ≤ 1022) speeds.now }
+    ensures value { result ≡ grid_of (table_view document.now) }
+    ensures time { positions_of result * tick_of (table_view document.now) ≤ 7200 }
+{
+    let legs = natural(document, "own", "legs", 1, 8);
+    let leg_ticks = natural(document, "own", "leg_ticks", 1, 7200);
+    let tail = natural(document, "own", "tail", 0, 7200);
+    let turn_rate = optional(document, "own", "turn_rate", 1, 1800, 1800);
+    let speed_rate = optional(document, "own", "speed_rate", 1, 1022, 1022);
+    Lattice::new(
+        alloc,
+        courses,
+        speeds,
+        legs as u8,
+        leg_ticks,
+        tail,
+        turn_rate as u16,
+        speed_rate as u16,
+    )
+}
+
+fn lattice_in(alloc: Global, document: &Table) -> Result<Lattice, AllocError>
+    requires { IsFaultless true (table_view document.now) }
+    ensures value { IfOk result (λ l. l ≡ grid_of (table_view document.now)) }
+    ensures time { IfOk result (λ l. positions_of l * tick_of (table_view document.now) ≤ 7200) }
+{
+    let courses = courses_in(alloc, document)?;
+    let speeds = speeds_in(alloc, document)?;
+    Ok(lattice_of(alloc, document, &courses, &speeds))
+}
+
+/// Own ship with this lattice.
+#[tactic(auto, unfolding(crate::specs::ScenarioValues::own_of, crate::specs::Inner::KnownKeys::kind_at, crate::specs::ScenarioKeys::rows))]
+fn own_with(document: &Table, lattice: Lattice) -> OwnPart
+    requires faultless { IsFaultless true (table_view document.now) }
+    requires lattice { lattice ≡ grid_of (table_view document.now) }
+    requires time { positions_of lattice * tick_of (table_view document.now) ≤ 7200 }
+    ensures values { result ≡ own_of (table_view document.now) }
+    ensures in_range { IsOwnPart (tick_of (table_view document.now)) result }
+{
+    OwnPart {
+        mmsi: natural(document, "own", "mmsi", 200_000_000, 799_999_999),
+        lattice,
+        base: natural(document, "own", "base", 0, 100_000),
+        lengths: natural(document, "own", "lengths", 0, 100),
+        range: natural(document, "own", "range", 1, 100_000),
+    }
+}
+
+/// Own ship of a document without a fault.
+fn own_in(alloc: Global, document: &Table) -> Result<OwnPart, AllocError>
+    requires { IsFaultless true (table_view document.now) }
+    ensures values { IfOk result (λ o. o ≡ own_of (table_view document.now)) }
+    ensures in_range { IfOk result (IsOwnPart (tick_of (table_view document.now))) }
+{
+    let lattice = lattice_in(alloc, document)?;
+    Ok(own_with(document, lattice))
+}
+
+/// Own ship of a document without a fault, where she is needed.
+pub(crate) fn own_where(
+    alloc: Global,
+    document: &Table,
+    need_own: bool,
+) -> Result<Option<OwnPart>, AllocError>
+    requires { IsFaultless need_own (table_view document.now) }
+    ensures values { IfOk result (λ o. o ≡ own_where need_own (table_view document.now)) }
+    ensures in_range { IfOk result (λ o. IfSome o (IsOwnPart (tick_of (table_view document.now)))) }
+{
+    if !need_own {
+        return Ok(None);
+    }
+    let own = own_in(alloc, document)?;
+    Ok(Some(own))
+}
