@@ -17,6 +17,7 @@ pub fn encode_position(alloc: Global, report: &PositionReport) -> Result<Bits, M
     requires ranges { IsReport report.now }
     requires kind { IsWritable report.now }
     ensures bits { IfOk result (λ bits. bits ≡ encoded_of report.now) }
+    ensures length { IfOk result (λ bits. length bits ≡ 168) }
     ensures decodes { IfOk result (λ bits. decoded_of bits ≡ decoded.Message (Position report.now)) }
 {
     if report.kind == 18 {

@@ -8,5 +8,6 @@ pub use Rattle.ais_messages.specs.MessageFields
 pub mod AcceptedReports
 pub mod JoinedReports
 pub mod VesselsHeld
+pub mod FaultTexts
 pub mod Standing
 pub mod Inner

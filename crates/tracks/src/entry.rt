@@ -1,6 +1,8 @@
 //! What a message comes to.
 use fixed_geometry::Point;
 use outside::Memory;
+use std::error::Error;
+use std::fmt;
 
 /// Why a position report is not accepted; the first that applies is the cause.
 #[derive(Clone, Copy, Debug, PartialEq, Eq)]
@@ -36,6 +38,22 @@ pub enum BookFault {
     /// There was no memory.
     Memory,
 }
+
+impl fmt::Display for BookFault {
+    ghost use Rattle.std.specs.Prelude.{Some};
+    ghost use Rattle.tracks.specs.FaultTexts.{book_fault_text};
+
+    ghost output = { λ fault. Some (book_fault_text fault) };
+
+    fn fmt<W: fmt::Write>(&self, f: &mut fmt::Formatter<W>) -> fmt::Result {
+        f.write_str(match self {
+            BookFault::TooManyVessels => "too many vessels",
+            BookFault::Memory => "out of memory",
+        })
+    }
+}
+
+impl Error for BookFault {}
 
 impl From<Memory> for BookFault {
     ghost use Rattle.std.specs.Prelude.{◌≡◌};
