@@ -1,3 +1,4 @@
+pub mod Inner
 pub mod MessageFields
 pub mod SixBitText
 pub use Rattle.aivdm.specs.BitFields

@@ -159,6 +159,13 @@ decoded_as bits (Ok layout) =
 unfoldable pub decoded_of : List Bool → Decoded
 decoded_of bits = if nat_lt (length bits) 38 then decoded.Dropped Short else decoded_as bits (layout_of bits)
 
+-- the position report of a message that is one and nothing else
+abbrev pub position_in : Decoded → Option PositionReport
+position_in (decoded.Message (message.Position report)) = Some report
+position_in (decoded.Message (message.Static _)) = None
+position_in (decoded.Message (message.Both _ _)) = None
+position_in (decoded.Dropped _) = None
+
 -- ---- the ranges
 
 abbrev pub IsShip : ℕ → Type 0

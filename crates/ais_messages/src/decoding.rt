@@ -1,10 +1,12 @@
 //! From bits to messages.
-ghost use Rattle.std.specs.Prelude.{◌≡◌, ◌<◌, ◌≤◌, ◌+◌, ◌*◌, length, unsigned_abs, IfSome, IsTrue};
-ghost use Rattle.ais_messages.specs.MessageFields.{below, tenfold_below, class_a_of, class_b_of, coarse_place_of, decoded_of, is_ship, layout_of, least_bits, long_range_of, message_of, mmsi_of, part_layout, place_of, ship_at, IfMessage, IsMessage, IsReport, IsShipData};
+ghost use Rattle.std.specs.Prelude.{◌≡◌, ◌<◌, ◌≤◌, ◌+◌, ◌*◌, length, unsigned_abs, IfOk, IfSome, IsTrue};
+ghost use Rattle.ais_messages.specs.MessageFields.{below, tenfold_below, class_a_of, class_b_of, coarse_place_of, decoded_of, is_ship, layout_of, least_bits, long_range_of, message_of, mmsi_of, part_layout, place_of, position_in, ship_at, IfMessage, IsMessage, IsReport, IsShipData};
+ghost use Rattle.ais_messages.specs.Inner.Readings.{decoded_by};
+ghost use Rattle.ais_messages.specs.declared.message.Decoded.TheVariants as decoded;
 
 use crate::message::{Decoded, Message, MessageCause, PositionReport, ShipData, StaticReport};
-use crate::text::text6;
-use aivdm::Bits;
+use crate::text::text_in;
+use aivdm::{BitSlice, Bits};
 
 /// The layouts of messages. Message 24 has two.
 #[derive(Clone, Copy, Debug, PartialEq, Eq)]
@@ -42,7 +44,7 @@ impl Layout {
 
     /// The layout of a message, or why it is not read.
     #[tactic(auto, unfolding(crate::specs::MessageFields::layout_of))]
-    fn of(bits: &Bits) -> Result<Layout, MessageCause>
+    fn of(bits: &BitSlice<'_>) -> Result<Layout, MessageCause>
         requires { 38 ≤ length bits.now }
         ensures { result ≡ layout_of bits.now }
     {
@@ -59,7 +61,7 @@ impl Layout {
 }
 
 /// The layout of a message 24.
-fn part_layout(bits: &Bits) -> Result<Layout, MessageCause>
+fn part_layout(bits: &BitSlice<'_>) -> Result<Layout, MessageCause>
     ensures { result ≡ part_layout bits.now }
 {
     if bits.len() < 40 {
@@ -72,28 +74,68 @@ fn part_layout(bits: &Bits) -> Result<Layout, MessageCause>
     }
 }
 
+/// The layout by which a message is read, or why it is not.
+#[inline(always)]
+#[tactic(auto, unfolding(crate::specs::MessageFields::decoded_of))]
+fn readable(bits: &BitSlice<'_>) -> Result<Layout, MessageCause>
+    ensures layout { decoded_by bits.now result ≡ decoded_of bits.now }
+    ensures long { IfOk result (λ layout. least_bits layout ≤ length bits.now) }
+    ensures ship { IfOk result (λ _. IsTrue (is_ship (mmsi_of bits.now))) }
+{
+    if bits.len() < 38 {
+        return Err(MessageCause::Short);
+    }
+    let layout = Layout::of(bits)?;
+    if bits.len() < layout.least_bits() {
+        return Err(MessageCause::Short);
+    }
+    if !is_ship(bits.unsigned(8, 30)) {
+        return Err(MessageCause::NotShip);
+    }
+    Ok(layout)
+}
+
 /// Reads a message. Of several causes to drop it, it tells the first: fewer than 38 bits are `Short`; a type other than 1, 2,
 /// 3, 5, 18, 19, 24 and 27 is `Kind`; a message 24 of fewer than 40 bits is `Short`, and one of a part other than 0 and 1 is
 /// `Kind`; fewer bits than its type needs are `Short`; and an MMSI outside 200000000 to 799999999 is `NotShip`.
-#[tactic(auto, unfolding(crate::specs::MessageFields::decoded_of))]
 pub fn decode(bits: &Bits) -> Decoded
     ensures fields { result ≡ decoded_of bits.now }
     ensures ranges { IfMessage result IsMessage }
 {
-    if bits.len() < 38 {
-        return Decoded::Dropped(MessageCause::Short);
+    let bits = bits.as_slice();
+    match readable(&bits) {
+        Ok(layout) => Decoded::Message(message(&bits, layout)),
+        Err(cause) => Decoded::Dropped(cause),
     }
-    let layout = match Layout::of(bits) {
-        Ok(layout) => layout,
-        Err(cause) => return Decoded::Dropped(cause),
-    };
-    if bits.len() < layout.least_bits() {
-        return Decoded::Dropped(MessageCause::Short);
+}
+
+/// The position report of a message that is one and nothing else, as messages 1, 2, 3, 18 and 27 are.
+#[inline(always)]
+pub fn position(bits: &BitSlice<'_>) -> Option<PositionReport>
+    ensures report { result ≡ position_in (decoded_of bits.now) }
+    ensures ranges { IfSome result IsReport }
+{
+    match readable(bits) {
+        Ok(layout) => position_by(bits, layout),
+        Err(_) => None,
     }
-    if !is_ship(bits.unsigned(8, 30)) {
-        return Decoded::Dropped(MessageCause::NotShip);
+}
+
+/// The position report of a message of this layout, if it is one and nothing else.
+#[inline(always)]
+#[tactic(auto, unfolding(crate::specs::MessageFields::message_of))]
+fn position_by(bits: &BitSlice<'_>, layout: Layout) -> Option<PositionReport>
+    requires long { least_bits layout ≤ length bits.now }
+    requires ship { IsTrue (is_ship (mmsi_of bits.now)) }
+    ensures report { result ≡ position_in (decoded.Message (message_of layout bits.now)) }
+    ensures ranges { IfSome result IsReport }
+{
+    match layout {
+        Layout::ClassA => Some(class_a(bits)),
+        Layout::ClassB => Some(class_b(bits)),
+        Layout::LongRange => Some(long_range(bits)),
+        Layout::Voyage | Layout::ExtendedClassB | Layout::NamePart | Layout::ShipPart => None,
     }
-    Decoded::Message(message(bits, layout))
 }
 
 /// Whether an identity begins with a country's digits, as a ship's does.
@@ -105,7 +147,7 @@ fn is_ship(mmsi: u32) -> bool
 
 /// The message that this ship sent.
 #[tactic(auto, unfolding(crate::specs::MessageFields::message_of))]
-fn message(bits: &Bits, layout: Layout) -> Message
+fn message(bits: &BitSlice<'_>, layout: Layout) -> Message
     requires long { least_bits layout ≤ length bits.now }
     requires ship { IsTrue (is_ship (mmsi_of bits.now)) }
     ensures fields { result ≡ message_of layout bits.now }
@@ -117,20 +159,20 @@ fn message(bits: &Bits, layout: Layout) -> Message
         Layout::LongRange => Message::Position(long_range(bits)),
         Layout::Voyage => Message::Static(StaticReport {
             mmsi: bits.unsigned(8, 30),
-            name: Some(text6(bits, 112, 20)),
+            name: Some(text_in(bits, 112, 20)),
             ship: Some(ship(bits, 232, 240, 249, 258, 264)),
         }),
         Layout::ExtendedClassB => Message::Both(
             class_b(bits),
             StaticReport {
                 mmsi: bits.unsigned(8, 30),
-                name: Some(text6(bits, 143, 20)),
+                name: Some(text_in(bits, 143, 20)),
                 ship: Some(ship(bits, 263, 271, 280, 289, 295)),
             },
         ),
         Layout::NamePart => Message::Static(StaticReport {
             mmsi: bits.unsigned(8, 30),
-            name: Some(text6(bits, 40, 20)),
+            name: Some(text_in(bits, 40, 20)),
             ship: None,
         }),
         Layout::ShipPart => Message::Static(StaticReport {
@@ -143,7 +185,7 @@ fn message(bits: &Bits, layout: Layout) -> Message
 
 /// The fields of messages 1, 2 and 3.
 #[tactic(auto, unfolding(crate::specs::MessageFields::class_a_of))]
-fn class_a(bits: &Bits) -> PositionReport
+fn class_a(bits: &BitSlice<'_>) -> PositionReport
     requires long { 168 ≤ length bits.now }
     requires ship { IsTrue (is_ship (mmsi_of bits.now)) }
     ensures fields { result ≡ class_a_of bits.now }
@@ -163,7 +205,7 @@ fn class_a(bits: &Bits) -> PositionReport
 
 /// The position's fields of messages 18 and 19.
 #[tactic(auto, unfolding(crate::specs::MessageFields::class_b_of))]
-fn class_b(bits: &Bits) -> PositionReport
+fn class_b(bits: &BitSlice<'_>) -> PositionReport
     requires long { 168 ≤ length bits.now }
     requires ship { IsTrue (is_ship (mmsi_of bits.now)) }
     ensures fields { result ≡ class_b_of bits.now }
@@ -183,7 +225,7 @@ fn class_b(bits: &Bits) -> PositionReport
 
 /// The fields of message 27.
 #[tactic(auto, unfolding(crate::specs::MessageFields::long_range_of))]
-fn long_range(bits: &Bits) -> PositionReport
+fn long_range(bits: &BitSlice<'_>) -> PositionReport
     requires long { 96 ≤ length bits.now }
     requires ship { IsTrue (is_ship (mmsi_of bits.now)) }
     ensures fields { result ≡ long_range_of bits.now }
@@ -203,7 +245,7 @@ fn long_range(bits: &Bits) -> PositionReport
 
 /// A ship's type and size, from the bits at which the five fields begin.
 fn ship(
-    bits: &Bits,
+    bits: &BitSlice<'_>,
     kind: usize,
     bow: usize,
     stern: usize,

@@ -2,7 +2,7 @@
 ghost use Rattle.std.specs.Prelude.{◌≡◌, ◌==◌, ◌+◌, ◌*◌, ◌<◌, ◌≤◌, length, position, take};
 ghost use Rattle.ais_messages.specs.SixBitText.{before_at, character_of, characters_at, text_at, trimmed};
 
-use aivdm::Bits;
+use aivdm::{BitSlice, Bits};
 use std::marker::Model;
 
 /// A text of at most 20 characters in ASCII, as a ship's name (ITU-R M.1371-5, annex 8, table 47). It is seen as the list of its
@@ -70,7 +70,7 @@ fn character(value: u32) -> u8
 }
 
 /// Puts `count` characters to the front, of those from bit `first` on.
-fn put_characters(bytes: &mut [u8; 20], bits: &Bits, first: usize, count: usize)
+fn put_characters(bytes: &mut [u8; 20], bits: &BitSlice<'_>, first: usize, count: usize)
     requires few { count ≤ 20 }
     requires within { first + 6 * count ≤ length bits.now }
     ensures { take count bytes.new ≡ characters_at bits.now first count }
@@ -112,8 +112,17 @@ fn end_of(text: &[u8]) -> usize
 
 /// The text of `count` characters of six bits each, from bit `first` on, which is counted from 0. The first `@` ends it, and
 /// spaces at its end are dropped (ITU-R M.1371-5, annex 8, table 47).
-#[tactic(auto, unfolding(crate::specs::SixBitText::text_at))]
 pub fn text6(bits: &Bits, first: usize, count: usize) -> Text20
+    requires few { count ≤ 20 }
+    requires within { first + 6 * count ≤ length bits.now }
+    ensures { result ≡ text_at bits.now first count }
+{
+    text_in(&bits.as_slice(), first, count)
+}
+
+/// The same of bits in place.
+#[tactic(auto, unfolding(crate::specs::SixBitText::text_at))]
+pub(crate) fn text_in(bits: &BitSlice<'_>, first: usize, count: usize) -> Text20
     requires few { count ≤ 20 }
     requires within { first + 6 * count ≤ length bits.now }
     ensures { result ≡ text_at bits.now first count }

@@ -3,6 +3,7 @@ pub mod BitLists
 pub mod Blocks
 pub mod Cuts
 pub mod Digits
+pub mod ForCallers
 pub mod Joining
 pub mod Masks
 pub mod OneReading

@@ -1,6 +1,7 @@
 -- A payload's bytes as sextets.
-use Rattle.std.proofs.Common.{◌≡◌, ℕ, ◌+◌, ◌-◌, ◌*◌, ◌<◌, ◌≤◌, Bool, List, [], ◌∷◌, ◌++◌, length, take, drop, map, flat_map, get_or, All, IsTrue, refl, sym, ap, ap₂, ◌∙◌, arith, take_all, append-nil, get_or-drop, length-take, length-take-le}
-use Rattle.std.proofs.lemmas.List.{length-map, get_or-map, drop_all, get_or-append_right, take_more}
+use Rattle.std.proofs.Common.{◌≡◌, ℕ, ◌+◌, ◌-◌, ◌*◌, ◌<◌, ◌≤◌, Bool, List, [], ◌∷◌, ◌++◌, length, take, drop, map, flat_map, get_or, All, IsTrue, refl, sym, ap, ap₂, ◌∙◌, arith, take_all, take-take, append-nil, get_or-drop, length-take, length-take-le}
+use Rattle.std.proofs.lemmas.List.{length-map, get_or-map, drop_all, get_or-append_right, map-append, take-map, take_more}
+use Rattle.std.proofs.Math.Seq.{take-add}
 use Rattle.std.proofs.lemmas.Grind.{flat_map-append}
 use Rattle.std.proofs.lemmas.Bool.Decides.{nat_tests}
 use Rattle.std.specs.List.{refill}
@@ -79,3 +80,21 @@ pub length-bits_of : (payload : List ℕ) (fill : ℕ) → length (bits_of paylo
 unfolding bits_of
 length-bits_of payload fill =
     let bits = flat_map (λ byte. binary 6 (six_bits byte)) payload in omega (arith, length-take (length bits - fill) bits, length-payload_bits payload)
+
+-- ---- a payload that is mapped block by block, from its front
+
+-- one block more
+pub mapped_more : (f : ℕ → ℕ) (xs : List ℕ) (i n : ℕ) (old new : List ℕ) → take i old ≡ map f (take i xs)
+    → take (i + n) new ≡ take i old ++ map f (take n (drop i xs)) → take (i + n) new ≡ map f (take (i + n) xs)
+mapped_more f xs i n old new done put =
+    put ∙ ap (λ (l : List ℕ). l ++ map f (take n (drop i xs))) done ∙ sym (map-append f (take i xs) (take n (drop i xs))) ∙ ap (map f) (sym (take-add i n xs))
+
+-- the last block, which may overlap those before it
+pub mapped_last : (f : ℕ → ℕ) (xs : List ℕ) (i n : ℕ) (old new : List ℕ) → n ≤ length xs → length xs ≤ i + n → take i old ≡ map f (take i xs)
+    → take (length xs - n + n) new ≡ take (length xs - n) old ++ map f (take n (drop (length xs - n) xs)) → take (length xs) new ≡ map f xs
+mapped_last f xs i n old new some near done put =
+    let start = length xs - n in
+    let whole : start + n ≡ length xs = omega arith in
+    let front : take start old ≡ map f (take start xs)
+    = sym (take-take start i old (omega arith)) ∙ ap (take start) done ∙ take-map f start (take i xs) ∙ ap (map f) (take-take start i xs (omega arith)) in
+    ap (λ k. take k new) (sym whole) ∙ mapped_more f xs start n old new front put ∙ ap (λ k. map f (take k xs)) whole ∙ ap (map f) (take_all (length xs) xs (omega arith))

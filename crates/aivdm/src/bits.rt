@@ -5,6 +5,7 @@ ghost use Rattle.aivdm.specs.BitFields.{binary, number_of, signed_at, unsigned_a
 ghost use Rattle.aivdm.specs.PayloadBits.{bits_of, is_armour, six_bits};
 ghost use Rattle.aivdm.specs.Inner.Sextets.{bits_in, sextets_of, AreSextets};
 
+use crate::bit_slice::BitSlice;
 use outside::Memory;
 use smallvec::SmallVec;
 use std::alloc::Global;
@@ -101,6 +102,17 @@ impl Bits {
         Ok(())
     }
 
+    /// The same bits, in place.
+    #[inline(always)]
+    pub fn as_slice(&self) -> BitSlice<'_>
+        ensures { result ≡ self.now }
+    {
+        BitSlice {
+            sextets: self.sextets.as_slice(),
+            len: self.len,
+        }
+    }
+
     /// How many bits there are.
     pub fn len(&self) -> usize
         ensures { result ≡ length self.now }
@@ -123,11 +135,7 @@ impl Bits {
         ensures value { result ≡ unsigned_at self.now first width }
         ensures bound { result < 2 ^ width }
     {
-        prove!(first < self.len);
-        let last = first + width as usize - 1;
-        let number = number(&self.sextets.as_slice()[first / 6..last / 6 + 1]);
-        let after = 5 - last % 6;
-        ((number >> after) % (1 << width)) as u32
+        self.as_slice().unsigned(first, width)
     }
 
     /// The number in `width` bits from bit `first` on, in two's complement.
@@ -137,17 +145,13 @@ impl Bits {
         requires within { first + width ≤ length self.now }
         ensures { result ≡ signed_at self.now first width }
     {
-        let value = self.unsigned(first, width);
-        if value < 1 << (width - 1) {
-            value as i32
-        } else {
-            (i64::from(value) - (1 << width)) as i32
-        }
+        self.as_slice().signed(first, width)
     }
 }
 
 /// Puts in place of each byte of a payload the six bits that it stands for.
-fn dearmour(payload: &mut [u8])
+#[inline(always)]
+pub(crate) fn dearmour(payload: &mut [u8])
     requires { All (λ byte. IsTrue (is_armour byte)) payload.old }
     ensures { payload.new ≡ map six_bits payload.old }
 {
@@ -164,19 +168,6 @@ fn sextet(byte: u8) -> u8
 {
     let value = byte - 48;
     if value > 40 { value - 8 } else { value }
-}
-
-/// The number in the bits of some sextets.
-fn number(sextets: &[u8]) -> u64
-    requires few { length sextets.now ≤ 10 }
-    requires six { All (λ sextet. sextet < 64) sextets.now }
-    ensures { result ≡ number_of (bits_in sextets.now) }
-{
-    let mut number = 0;
-    for sextet in sextets {
-        number = number * 64 + u64::from(*sextet);
-    }
-    number
 }
 
 /// So many bits and more. No memory has room for more than a `usize` counts.

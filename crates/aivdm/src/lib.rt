@@ -15,6 +15,7 @@
 #![tactic(auto)]
 
 mod armour;
+mod bit_slice;
 mod bits;
 mod checksum;
 mod fields;
@@ -26,6 +27,7 @@ mod sentence;
 mod tag_block;
 mod writer;
 
+pub use bit_slice::{BitSlice, SentenceRoom};
 pub use bits::Bits;
 pub use joiner::{Joined, Joiner};
 pub use line::read_line;

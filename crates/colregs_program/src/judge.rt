@@ -1,9 +1,12 @@
 //! Judging a log's lines one after the other.
-ghost use Rattle.std.specs.Prelude.{◌≡◌, ◌≤◌, ◌<◌, ◌+◌, ◌^◌, ◌++◌, ◌∷◌, [], ◌↔◌, List, ℕ, IfOk, OnOk, Ok, Err, length, slice_index};
+ghost use Rattle.std.specs.Prelude.{◌≡◌, ◌≤◌, ◌<◌, ◌+◌, ◌^◌, ◌++◌, ◌∷◌, [], ◌↔◌, List, ℕ, IfOk, IfSome, OnOk, Ok, Err, length, slice_index};
 ghost use Rattle.aivdm.specs.FragmentJoining.{Taken};
 ghost use Rattle.aivdm.specs.OpenMessages.{StandsFor as JoinerStandsFor};
 ghost use Rattle.aivdm.specs.Sentences.{IfSentence, IsSentence, body_seen, fields_seen};
-ghost use Rattle.ais_messages.specs.MessageFields.{IfMessage, IsMessage};
+ghost use Rattle.ais_messages.specs.MessageFields.{decoded_of, IfMessage, IsMessage, IsReport};
+ghost use Rattle.ais_messages.specs.declared.message.Message.TheVariants.{Position};
+ghost use Rattle.ais_messages.specs.declared.message.Decoded.TheVariants as decoded;
+ghost use Rattle.aivdm.specs.PayloadBits.{bits_of};
 ghost use Rattle.scenario.specs.ScenarioValues.{IsInRange};
 ghost use Rattle.scenario.specs.declared.values.Scenario.{Scenario};
 ghost use Rattle.tracks.specs.AcceptedReports.{Numbers};
@@ -16,8 +19,8 @@ ghost use Rattle.colregs_program.specs.SentLines.{sent_decoded, sent_heard};
 use crate::judged::Judged;
 use crate::line_times::LineTimes;
 use crate::outcome::LineOutcome;
-use ais_messages::{Decoded, Message, decode};
-use aivdm::{Body, Joined, Joiner, Sentence, read_line};
+use ais_messages::{Decoded, Message, PositionReport, decode, position};
+use aivdm::{Body, Joined, Joiner, Sentence, SentenceRoom, read_line};
 use scenario::Scenario;
 use std::alloc::Global;
 use tracks::{Accepted, Book, BookFault, Entry};
@@ -38,6 +41,36 @@ fn judged(message: &Message, time: u64, entry: Entry) -> Judged
         Entry::Static => Judged::Without(LineOutcome::Static),
         Entry::Dropped(cause) => Judged::Without(cause.into()),
     }
+}
+
+/// What a position report that is a message by itself comes to, from its entry in the book.
+#[inline(always)]
+fn judged_report(report: &PositionReport, time: u64, entry: Entry) -> Judged
+    ensures { result ≡ judged_entry (record { message = Position report.now; time = time }) entry }
+{
+    match entry {
+        Entry::Point(point) => Judged::Accepted(Accepted {
+            time,
+            point,
+            report: *report,
+        }),
+        Entry::Static => Judged::Without(LineOutcome::Static),
+        Entry::Dropped(cause) => Judged::Without(cause.into()),
+    }
+}
+
+/// The position report that a sentence consists of, if it is one alone.
+#[inline(always)]
+fn report_of(room: &mut SentenceRoom, sentence: &Sentence<'_>) -> Option<PositionReport>
+    requires { IsSentence (fields_seen sentence.now) }
+    ensures report { IfSome result (λ report. (sentence.now.total ≡ 1)
+        × (decoded_of (bits_of sentence.now.payload.now sentence.now.fill) ≡ decoded.Message (Position report))) }
+    ensures ranges { IfSome result IsReport }
+{
+    if sentence.total != 1 {
+        return None;
+    }
+    position(&room.bits_of(sentence))
 }
 
 /// What is kept of the lines so far: it stands for the list of them.
@@ -121,8 +154,46 @@ impl Judge {
         }
     }
 
-    /// Judges a sentence that is in time.
-    fn judge_sentence(&mut self, sentence: &Sentence<'_>, time: u64) -> Result<Judged, BookFault>
+    /// Judges a position report that is a message by itself.
+    #[inline(always)]
+    fn judge_report(&mut self, report: &PositionReport, time: u64) -> Result<Judged, BookFault>
+        requires { IsReport report.now }
+        ensures judged { IfOk result (λ judged. (numbers : Numbers) (before : List Sent) → BookStandsFor self.old.book numbers before
+            → Enters numbers self.new judged before (Ok (record { message = Position report.now; time = time }))) }
+        ensures crowded { result ≡ Err TooManyVessels → (numbers : Numbers) (before : List Sent) → BookStandsFor self.old.book numbers before
+            → greatest_held < held_with numbers before (Ok (record { message = Position report.now; time = time })) }
+        ensures same { self.new ≡ record self.old { book = self.new.book } }
+    {
+        let entry = self.book.take_report(report, time)?;
+        Ok(judged_report(report, time, entry))
+    }
+
+    /// Judges a sentence that is in time. Most are position reports by themselves, and are read in place.
+    #[inline(always)]
+    fn judge_sentence(
+        &mut self,
+        room: &mut SentenceRoom,
+        sentence: &Sentence<'_>,
+        time: u64,
+    ) -> Result<Judged, BookFault>
+        requires { IsSentence (fields_seen sentence.now) }
+        ensures judged { IfOk result (λ judged. (numbers : Numbers) (taken : List Taken) (messages : List Sent) → JoinerStandsFor self.old.joiner taken
+            → BookStandsFor self.old.book numbers messages → length (held_of numbers messages) ≤ greatest_held
+            → GoesOn numbers self.new judged taken messages (Ok (record { sentence = fields_seen sentence.now; time = time }))) }
+        ensures crowded { result ≡ Err TooManyVessels → (numbers : Numbers) (taken : List Taken) (messages : List Sent)
+            → JoinerStandsFor self.old.joiner taken → BookStandsFor self.old.book numbers messages
+            → greatest_held < held_with numbers messages (sent_heard taken (Ok (record { sentence = fields_seen sentence.now; time = time }))) }
+        ensures same { self.new ≡ record self.old { joiner = self.new.joiner; book = self.new.book } }
+    {
+        match report_of(room, sentence) {
+            Some(report) => self.judge_report(&report, time),
+            None => self.judge_part(sentence, time),
+        }
+    }
+
+    /// Judges a sentence that is in time, by way of the joiner.
+    #[inline(never)]
+    fn judge_part(&mut self, sentence: &Sentence<'_>, time: u64) -> Result<Judged, BookFault>
         requires { IsSentence (fields_seen sentence.now) }
         ensures judged { IfOk result (λ judged. (numbers : Numbers) (taken : List Taken) (messages : List Sent) → JoinerStandsFor self.old.joiner taken
             → BookStandsFor self.old.book numbers messages → length (held_of numbers messages) ≤ greatest_held
@@ -140,7 +211,13 @@ impl Judge {
     }
 
     /// Judges what a line says.
-    fn judge_body(&mut self, body: &Body<'_>, time: u64) -> Result<Judged, BookFault>
+    #[inline(always)]
+    fn judge_body(
+        &mut self,
+        room: &mut SentenceRoom,
+        body: &Body<'_>,
+        time: u64,
+    ) -> Result<Judged, BookFault>
         requires { IfSentence body.now (λ s. IsSentence (fields_seen s)) }
         ensures judged { IfOk result (λ judged. (numbers : Numbers) (taken : List Taken) (messages : List Sent) → JoinerStandsFor self.old.joiner taken
             → BookStandsFor self.old.book numbers messages → length (held_of numbers messages) ≤ greatest_held
@@ -154,14 +231,15 @@ impl Judge {
             Body::Dropped(cause) => Ok(Judged::Without((*cause).into())),
             Body::Sentence(sentence) => match self.times.untimely(time) {
                 Some(outcome) => Ok(Judged::Without(outcome)),
-                None => self.judge_sentence(sentence, time),
+                None => self.judge_sentence(room, sentence, time),
             },
         }
     }
 
     /// Takes the next line, and gives what it comes to. Where it makes a 4097th vessel held, or memory runs out, the judge may
     /// only be dropped.
-    pub(crate) fn take(&mut self, line: &[u8]) -> Result<Judged, BookFault>
+    #[inline(always)]
+    pub(crate) fn take(&mut self, room: &mut SentenceRoom, line: &[u8]) -> Result<Judged, BookFault>
         ensures judged { IfOk result (λ judged. (scenario : Scenario) (before : List (List ℕ)) → StandsFor self.old scenario before
             → judged ≡ judged_line scenario before line.now) }
         ensures stands { OnOk result ((scenario : Scenario) (before : List (List ℕ)) → length before + 1 < 2 ^ 64
@@ -171,7 +249,7 @@ impl Judge {
     {
         let reading = read_line(line);
         let time = self.times.time(reading.stamp);
-        let judged = self.judge_body(&reading.body, time)?;
+        let judged = self.judge_body(room, &reading.body, time)?;
         self.times.pass(reading.stamp);
         self.count(judged.outcome());
         Ok(judged)

@@ -18,6 +18,7 @@ use crate::log_lines::first_line;
 use crate::points_rows::{all_outcomes, write_counts, write_line};
 use crate::request::Mode;
 use crate::status::{Status, Which};
+use aivdm::SentenceRoom;
 use outside::{Memory, ReadFault, Source, read_whole};
 use scenario::Scenario;
 use std::alloc::Global;
@@ -88,10 +89,11 @@ fn take_lines(judge: &mut Judge, rows: &mut CsvRows, log: &[u8]) -> Result<(), B
     ensures crowded { result ≡ Err TooManyVessels → (scenario : Scenario) → StandsFor judge.old scenario []
         → IsTrue (is_crowded scenario (lines_of log.now)) }
 {
+    let mut room = SentenceRoom::new();
     let mut at = 0;
     while at < log.len() {
         let line = first_line(&log[at..]);
-        let judged = judge.take(line.bytes)?;
+        let judged = judge.take(&mut room, line.bytes)?;
         write_line(rows, &judged)?;
         at += line.taken;
     }

@@ -2,7 +2,8 @@
 ghost use Rattle.std.specs.Prelude.{ℕ, true, ◌≡◌, ◌+◌, ◌<◌, ◌≤◌, ◌++◌, ◌∷◌, [], ◌↔◌, All, Contains, Err, IfOk, IfSome, List, None, OnErr, OnOk, Some, length, slice_get, vec_len, if◌then◌else◌};
 ghost use Rattle.std.specs.List.{insert};
 ghost use Rattle.std.specs.Option.{option_copied};
-ghost use Rattle.ais_messages.specs.MessageFields.{IsMessage};
+ghost use Rattle.ais_messages.specs.MessageFields.{IsMessage, IsReport};
+ghost use Rattle.ais_messages.specs.declared.message.Message.TheVariants.{Position};
 ghost use Rattle.motion.specs.TickStates.{MovesLittle, state_at};
 ghost use Rattle.tracks.specs.AcceptedReports.{Numbers};
 ghost use Rattle.tracks.specs.Inner.Keeping.{IsKept, makes_held};
@@ -13,12 +14,13 @@ ghost use Rattle.tracks.specs.declared.entry.BookFault.TheVariants.{TooManyVesse
 use crate::accepted::Accepted;
 use crate::entry::{BookFault, Entry};
 use crate::given::GivenNumbers;
+use crate::guesses::Guesses;
 use crate::judging::judge;
 use crate::parts::{position_report, sender, static_report};
 use crate::places::index_of;
 use crate::statics::Statics;
 use crate::vessel::Vessel;
-use ais_messages::Message;
+use ais_messages::{Message, PositionReport};
 use fixed_geometry::Reference;
 use motion::Legs;
 use outside::Memory;
@@ -38,7 +40,7 @@ fn first_entry(numbers: &GivenNumbers, message: &Message, time: u64) -> Entry
         return Entry::Static;
     };
     match judge(numbers, None, report, time) {
-        Ok(accepted) => Entry::Point(accepted.point),
+        Ok(point) => Entry::Point(point),
         Err(cause) => Entry::Dropped(cause),
     }
 }
@@ -81,6 +83,8 @@ pub struct Book {
     numbers: GivenNumbers,
     held: Vec<u32>,
     vessels: Vec<Vessel>,
+    /// Where vessels were found last, to save the search for them.
+    guesses: Guesses,
 }
 
 impl Model for Book {
@@ -112,6 +116,7 @@ impl Book {
             },
             held: Vec::new(alloc),
             vessels: Vec::new(alloc),
+            guesses: Guesses::new(),
         }
     }
 
@@ -134,9 +139,68 @@ impl Book {
     {
         let mmsi = sender(message);
         match index_of(&self.held, mmsi) {
-            Ok(at) => Ok(self.take_further(at, message, time)?),
+            Ok(at) => {
+                self.guesses.note(mmsi, at);
+                Ok(self.take_further(at, message, time)?)
+            }
             Err(at) => self.take_first(at, mmsi, message, time),
         }
+    }
+
+    /// Takes the next message, which is a position report alone: the same as [`Book::take`] of that message.
+    #[inline(always)]
+    pub fn take_report(&mut self, report: &PositionReport, time: u64) -> Result<Entry, BookFault>
+        requires { IsReport report.now }
+        ensures entry { IfOk result (λ entry. (numbers : Numbers) (sent : List Sent) → StandsFor self.old numbers sent
+            → entry ≡ entry_of numbers sent (record { message = Position report.now; time = time })) }
+        ensures stands { OnOk result ((numbers : Numbers) (sent : List Sent) → StandsFor self.old numbers sent
+            → StandsFor self.new numbers (sent ++ record { message = Position report.now; time = time } ∷ [])) }
+        ensures same { OnErr result (self.new ≡ self.old) }
+        ensures too_many { (numbers : Numbers) (sent : List Sent) → StandsFor self.old numbers sent
+            → (result ≡ Err TooManyVessels)
+            ↔ (4096 < length (held_of numbers (sent ++ record { message = Position report.now; time = time } ∷ []))) }
+        ensures settled { OnOk result ((numbers : Numbers) (sent : List Sent) → StandsFor self.old numbers sent
+            → (mmsi t : ℕ) → t + numbers.gap < time → state_at t (legs_in self.new mmsi) ≡ state_at t (legs_in self.old mmsi)) }
+    {
+        match self.guess(report.mmsi) {
+            Some(at) => Ok(self.report_further(at, report, time)?),
+            None => self.take(&Message::Position(*report), time),
+        }
+    }
+
+    /// The index at which a vessel was found last, if she still stands there.
+    #[inline(always)]
+    fn guess(&self, mmsi: u32) -> Option<usize>
+        ensures { IfSome result (λ at. slice_get self.now.held at ≡ Some mmsi) }
+    {
+        let at = self.guesses.at(mmsi);
+        if at < self.held.len() && self.held[at] == mmsi {
+            Some(at)
+        } else {
+            None
+        }
+    }
+
+    /// Takes a position report of the vessel that is held at this index.
+    #[inline(always)]
+    fn report_further(
+        &mut self,
+        at: usize,
+        report: &PositionReport,
+        time: u64,
+    ) -> Result<Entry, Memory>
+        requires report { IsReport report.now }
+        requires sender { slice_get self.old.held at ≡ Some report.now.mmsi }
+        ensures entry { IfOk result (λ entry. (numbers : Numbers) (sent : List Sent) → StandsFor self.old numbers sent
+            → entry ≡ entry_of numbers sent (record { message = Position report.now; time = time })) }
+        ensures stands { OnOk result ((numbers : Numbers) (sent : List Sent) → StandsFor self.old numbers sent
+            → StandsFor self.new numbers (sent ++ record { message = Position report.now; time = time } ∷ [])) }
+        ensures same { OnErr result (self.new ≡ self.old) }
+        ensures few { (numbers : Numbers) (sent : List Sent) → StandsFor self.old numbers sent
+            → length (held_of numbers (sent ++ record { message = Position report.now; time = time } ∷ [])) ≤ 4096 }
+    {
+        let vessel = &mut self.vessels[at];
+        vessel.take_report(&self.numbers, report, time)
     }
 
     /// Takes a message of the vessel that is held at this index.

@@ -13,6 +13,7 @@ mod accepted;
 mod book;
 mod entry;
 mod given;
+mod guesses;
 mod judging;
 pub mod laws;
 mod parts;

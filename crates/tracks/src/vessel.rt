@@ -134,7 +134,7 @@ impl Vessel {
     }
 
     /// Takes a position report of hers.
-    fn take_report(
+    pub(crate) fn take_report(
         &mut self,
         numbers: &GivenNumbers,
         report: &PositionReport,
@@ -152,9 +152,16 @@ impl Vessel {
     {
         match judge(numbers, latest(&self.points), report, time) {
             Err(cause) => Ok(Entry::Dropped(cause)),
-            Ok(accepted) => {
-                self.accept(numbers.gap, accepted)?;
-                Ok(Entry::Point(accepted.point))
+            Ok(point) => {
+                self.accept(
+                    numbers.gap,
+                    Accepted {
+                        time,
+                        point,
+                        report: *report,
+                    },
+                )?;
+                Ok(Entry::Point(point))
             }
         }
     }

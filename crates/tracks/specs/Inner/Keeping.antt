@@ -2,6 +2,7 @@
 use Rattle.std.specs.Prelude.{ℕ, ◌≡◌, ◌+◌, ◌-◌, ◌*◌, ◌<◌, ◌≤◌, ◌⊎◌, Bool, ◌||◌, is_some, List, [], ◌∷◌, ◌++◌, length, All, Option, Some, None, IfSome, Result, Ok, Err}
 use Rattle.std.specs.List.{last_or}
 use Rattle.std.specs.Option.{option_or}
+use Rattle.fixed_geometry.specs.declared.point.Point.{Point}
 use Rattle.motion.specs.TickStates.{AreJoined}
 use Rattle.motion.specs.declared.leg.Leg.{Leg}
 use Rattle.ais_messages.specs.declared.message.StaticReport.{StaticReport}
@@ -15,6 +16,11 @@ use Rattle.tracks.specs.declared.entry.ReportCause.{ReportCause}
 use Rattle.tracks.specs.declared.statics.Statics.{Statics}
 
 -- ---- what a message changes
+
+-- a report at its point, or why it has none
+abbrev pub with_point : Reported → Result Point ReportCause → Result Accepted ReportCause
+with_point now (Ok point) = Ok (record { time = now.time; point = point; report = now.report })
+with_point now (Err cause) = Err cause
 
 abbrev pub accepted_by : Result Accepted ReportCause → Option Accepted
 accepted_by (Ok accepted) = Some accepted

@@ -1,11 +1,13 @@
+use Rattle.std.proofs.Common.{subst, sym}
 use Rattle.std.proofs.lemmas.Result.{on_ok_weaker}
+use Rattle.tracks.specs.Standing.{BookValue, StandsFor}
 use Rattle.tracks.proofs.Settled.{past_stays_in}
 use Rattle.tracks.proofs.book.Book.take.Goals as goal
 
 pub returns-in_ok-take_further-in-Ok-clause-settled : goal.returns-in_ok-take_further-in-Ok-clause-settled
 returns-in_ok-take_further-in-Ok-clause-settled c = λ numbers sent h mmsi t lt.
     past_stays_in c.args.self.now _ numbers sent (record { message = c.args.message.now; time = c.args.time }) mmsi t h
-    (c.in_ok-take_further-in-Ok.ensures.stands numbers sent h) lt
+    (c.in_ok-take_further-in-Ok.ensures.stands numbers sent (subst (λ (b : BookValue). StandsFor b numbers sent) (sym c.self.view_is) h)) lt
 
 pub returns-in-Err-clause-settled : goal.returns-in-Err-clause-settled
 returns-in-Err-clause-settled c =

@@ -1,7 +1,7 @@
 use Rattle.std.proofs.Common.{◌≡◌, take}
 use Rattle.aivdm.specs.BitFields.{number_of}
 use Rattle.aivdm.specs.Inner.Sextets.{bits_in}
-use Rattle.aivdm.proofs.bits.number.Given as goal
+use Rattle.aivdm.proofs.bit_slice.number.Given as goal
 
 -- the number of the sextets so far
 abbrev pub invariant-loop-sextet : goal.invariant-loop-sextet
