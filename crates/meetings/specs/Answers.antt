@@ -1,5 +1,6 @@
 -- What a row answers to each atom, by what it keeps.
-use Rattle.std.specs.Prelude.{is_some}
+use Rattle.std.specs.Prelude.{ℕ, Bool, Option, is_some}
+use Rattle.motion.specs.Steps.{RelativeMove}
 use Rattle.sectors.specs.declared.class.Class.TheVariants as class
 use Rattle.mtl_formulas.specs.declared.atom.Atom.{Atom}
 use Rattle.mtl_formulas.specs.declared.atom.Atom.TheVariants.{Always, Never, Seen, Risk, Engaged, Begin, Overtaking, Overtaken, HeadOn, CrossingGives, CrossingStands, Passing, Unclassified, Age, Opening, Clear, Close, OtherOnPort, Ahead, Alters, Apparent, ToStarboard, ToPort, OtherApparent, RankGives, RankStands, BothPower}
@@ -7,9 +8,23 @@ use Rattle.mtl_formulas.specs.declared.verdict.Verdict.{Verdict}
 use Rattle.mtl_formulas.specs.declared.verdict.Verdict.TheVariants.{No, Open, Yes}
 use Rattle.meetings.specs.Atoms.{metres}
 use Rattle.meetings.specs.Inner.Tests.{ahead, is_age, is_close, is_first, is_kind, is_opening, is_separated, on_port, seen_as, told}
-use Rattle.meetings.specs.declared.atom_row.AtomRow.{AtomRow}
+use Rattle.encounters.specs.declared.changes.Changes.{Changes}
+use Rattle.meetings.specs.declared.atom_row.Meeting.{Meeting}
 
-abbrev pub answer_of : AtomRow → Atom → Verdict
+-- what a row keeps: the step, where it is seen, the vessels' directions there, and what the engagement tells
+pub record Kept : Type 0 where
+  pub step : Option RelativeMove
+  pub direction : Option ℕ
+  pub other_direction : Option ℕ
+  pub risk : Bool
+  pub meeting : Option Meeting
+  pub tick : ℕ
+  pub changes : Changes
+  pub rank_gives : Verdict
+  pub rank_stands : Verdict
+  pub both_power : Verdict
+
+abbrev pub answer_of : Kept → Atom → Verdict
 answer_of row Always = Yes
 answer_of row Never = No
 answer_of row Seen = told (is_some row.step)

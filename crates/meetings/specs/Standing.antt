@@ -3,21 +3,36 @@ use Rattle.std.specs.Prelude.{ℕ, ◌≡◌, List, map, Option}
 use Rattle.encounters.specs.Standing as encounters
 use Rattle.encounters.specs.declared.act.Act.{Act}
 use Rattle.encounters.specs.declared.detect.Detect.{Detect}
+use Rattle.encounters.specs.declared.engagement_state.EngagementState.{EngagementState}
 use Rattle.encounters.specs.declared.pair_step.PairStep.{PairStep}
+use Rattle.meetings.specs.Answers.{Kept, answer_of}
 use Rattle.meetings.specs.Atoms.{AreRows}
-use Rattle.meetings.specs.Answers.{answer_of}
-use Rattle.meetings.specs.declared.follower.Follower.{Follower}
 use Rattle.meetings.specs.declared.pair.Pair.{Pair}
-use Rattle.meetings.specs.declared.pair_trace.PairTrace.{PairTrace}
 
-pub record Follows (follower : Follower) (detect : Detect) (act : Act) (tick : ℕ) (steps : List (Option PairStep)) : Type 0 where
-  pub by_detect : follower.detect ≡ detect
-  pub by_act : follower.act ≡ act
-  pub by_tick : follower.tick ≡ tick
-  pub engagement : encounters.StandsFor follower.engagement detect steps
-  pub latest : encounters.IsStateAfter detect steps follower.latest
+-- what a follower keeps: its numbers, the engagement, and the state at the latest step
+pub record Following : Type 0 where
+  pub detect : Detect
+  pub act : Act
+  pub tick : ℕ
+  pub engagement : encounters.Kept
+  pub latest : EngagementState
 
-pub record StandsFor (trace : PairTrace) (pair : Pair) (detect : Detect) (act : Act) (tick : ℕ) (steps : List (Option PairStep)) : Type 0 where
-  pub of_pair : trace.pair ≡ pair
-  pub follows : Follows trace.follower detect act tick steps
-  pub rows : AreRows detect act tick steps (map answer_of trace.rows.items)
+-- A follower follows these steps, by these numbers.
+pub record Follows (following : Following) (numbers : Detect) (act : Act) (tick : ℕ) (steps : List (Option PairStep)) : Type 0 where
+  pub by_detect : following.detect ≡ numbers
+  pub by_act : following.act ≡ act
+  pub by_tick : following.tick ≡ tick
+  pub engagement : encounters.StandsFor following.engagement numbers steps
+  pub latest : encounters.IsStateAfter numbers steps following.latest
+
+-- what a trace keeps: its pair, what follows the pair, and the rows so far
+pub record Traced : Type 0 where
+  pub pair : Pair
+  pub following : Following
+  pub rows : List Kept
+
+-- A trace of this pair has these steps so far, by these numbers.
+pub record StandsFor (traced : Traced) (pair : Pair) (detect : Detect) (act : Act) (tick : ℕ) (steps : List (Option PairStep)) : Type 0 where
+  pub of_pair : traced.pair ≡ pair
+  pub follows : Follows traced.following detect act tick steps
+  pub rows : AreRows detect act tick steps (map answer_of traced.rows)

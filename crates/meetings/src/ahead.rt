@@ -1,5 +1,5 @@
 //! Crossing ahead of a vessel, and on which side of her another is.
-ghost use Rattle.std.specs.Prelude.{◌≡◌, ◌^◌, ◌<◌, ◌+ℤ◌};
+ghost use Rattle.std.specs.Prelude.{◌≡◌, ◌^◌, ◌<◌, ◌≤◌, ◌-ℤ◌, unsigned_abs};
 ghost use Rattle.fixed_geometry.specs.Plane.{dot_of, turn_of};
 ghost use Rattle.fixed_geometry.specs.Sizes.{IsBelow, IsWithin};
 ghost use Rattle.sectors.specs.Class.{opposite};
@@ -21,6 +21,23 @@ fn has_sign_of(a: i128, b: i64) -> bool
     (0 < a && 0 < b) || (a < 0 && b < 0)
 }
 
+/// The same number, where it is known to be small.
+fn narrowed(n: i128) -> i64
+    requires { unsigned_abs n ≤ 2 ^ 57 }
+    ensures value { result ≡ n }
+    ensures small { unsigned_abs result ≤ 2 ^ 57 }
+{
+    n as i64
+}
+
+fn minus(a: i64, b: i64) -> i64
+    requires a_small { unsigned_abs a ≤ 2 ^ 57 }
+    requires b_small { unsigned_abs b ≤ 2 ^ 57 }
+    ensures { result ≡ a -ℤ b }
+{
+    a - b
+}
+
 /// Where a point lies as it is seen along a line: `x` to port of it, `y` ahead on it, in millionths.
 fn along(u: Point, r: Point) -> Point
     requires u_small { IsWithin 1000000 u }
@@ -29,8 +46,8 @@ fn along(u: Point, r: Point) -> Point
     ensures small { IsWithin (2 ^ 57) result }
 {
     Point {
-        x: turn(u, r) as i64,
-        y: dot(u, r) as i64,
+        x: narrowed(turn(u, r)),
+        y: narrowed(dot(u, r)),
     }
 }
 
@@ -40,7 +57,7 @@ fn crosses_ahead_by(first: Point, second: Point) -> bool
     requires second_small { IsWithin (2 ^ 57) second }
     ensures { result ≡ crosses_ahead_by first.y first.x second.y second.x }
 {
-    crosses(first.x, second.x) && has_sign_of(turn(first, second), first.x - second.x)
+    crosses(first.x, second.x) && has_sign_of(turn(first, second), minus(first.x, second.x))
 }
 
 fn opposite(r: Point) -> Point

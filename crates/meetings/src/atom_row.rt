@@ -1,6 +1,5 @@
 //! What one step of an ordered pair answers to the atoms.
-ghost use Rattle.std.specs.Prelude.{◌≡◌, ◌<◌, ◌≤◌};
-ghost use Rattle.std.specs.Option.{ForSome};
+ghost use Rattle.std.specs.Prelude.{◌≡◌, ◌*◌, ◌≤◌};
 ghost use Rattle.meetings.specs.Atoms.{metres};
 ghost use Rattle.meetings.specs.Inner.Tests.{ahead, is_age, is_close, is_first, is_kind, is_opening, is_separated, on_port, seen_as, told};
 
@@ -11,6 +10,7 @@ use fixed_geometry::{bearing, norm2};
 use motion::Step;
 use mtl_formulas::{Atom, Atoms, Verdict};
 use sectors::Class;
+use std::marker::Model;
 
 /// The engagement at a step.
 #[derive(Clone, Copy, Debug, PartialEq, Eq)]
@@ -41,11 +41,22 @@ pub struct AtomRow {
     pub(crate) rank_gives: Verdict,
     pub(crate) rank_stands: Verdict,
     pub(crate) both_power: Verdict,
-    ghost heads: { ForSome direction (λ d. d < 3600) },
-    ghost other_heads: { ForSome other_direction (λ d. d < 3600) },
 }
 
-fn told(holds: bool) -> Verdict
+impl Model for AtomRow {
+    ghost use Rattle.std.specs.Prelude.{◌<◌, IfSome};
+    ghost use Rattle.meetings.specs.Answers.{Kept};
+
+    ghost Value = { Kept };
+
+    ghost view = { λ row. record { step = row.step; direction = row.direction; other_direction = row.other_direction; risk = row.risk; meeting = row.meeting; tick = row.tick; changes = row.changes; rank_gives = row.rank_gives; rank_stands = row.rank_stands; both_power = row.both_power } };
+
+    ghost invariant = { λ row. IfSome row.direction (λ d. d < 3600) × IfSome row.other_direction (λ d. d < 3600) };
+
+    ghost inverse = { λ kept. record { step = kept.step; direction = kept.direction; other_direction = kept.other_direction; risk = kept.risk; meeting = kept.meeting; tick = kept.tick; changes = kept.changes; rank_gives = kept.rank_gives; rank_stands = kept.rank_stands; both_power = kept.both_power } };
+}
+
+pub(crate) fn told(holds: bool) -> Verdict
     ensures { result ≡ told holds }
 {
     if holds { Verdict::Yes } else { Verdict::No }
@@ -58,6 +69,12 @@ fn tenths(m: u32) -> u64
     ensures small { result ≤ 1000000000 }
 {
     10_000 * u64::from(m)
+}
+
+fn product(a: u32, b: u32) -> u64
+    ensures { result ≡ a * b }
+{
+    u64::from(a) * u64::from(b)
 }
 
 impl AtomRow {
@@ -127,7 +144,7 @@ impl AtomRow {
     {
         match self.meeting {
             None => false,
-            Some(meeting) => { u64::from(seconds) <= u64::from(meeting.age) * u64::from(self.tick) }
+            Some(meeting) => { u64::from(seconds) <= product(meeting.age, self.tick) }
         }
     }
 

@@ -5,11 +5,12 @@ ghost use Rattle.encounters.specs.Directions.{HaveDirections, HaveDirectionsSinc
 ghost use Rattle.encounters.specs.Risk.{HasRisk, IsDetect};
 ghost use Rattle.meetings.specs.Atoms.{AreAnswers};
 ghost use Rattle.meetings.specs.Answers.{answer_of};
-ghost use Rattle.meetings.specs.Inner.Tests.{direction_of, meeting_of, other_direction_of};
+ghost use Rattle.meetings.specs.Inner.Tests.{direction_of, meeting_of, other_direction_of, step_of};
 ghost use Rattle.meetings.specs.SinceBeginning.{changes_at};
 
-use crate::atom_row::{AtomRow, Meeting};
+use crate::atom_row::{AtomRow, Meeting, told};
 use encounters::{Act, Changes, Detect, EngagementState, PairStep, changes_since, risk};
+use motion::Step;
 use mtl_formulas::Verdict;
 
 fn meeting_of(state: &EngagementState) -> Option<Meeting>
@@ -51,6 +52,15 @@ fn has_risk(detect: &Detect, seen: Option<&PairStep>) -> bool
     }
 }
 
+fn step_of(seen: Option<&PairStep>) -> Option<Step>
+    ensures { result ≡ step_of (option_copied seen.entry) }
+{
+    match seen {
+        None => None,
+        Some(pair) => Some(pair.step),
+    }
+}
+
 fn direction(seen: Option<&PairStep>) -> Option<u16>
     requires { IfSome (option_copied seen) HaveDirections }
     ensures value { result ≡ direction_of (option_copied seen.entry) }
@@ -83,13 +93,8 @@ pub fn atoms_at(
     ensures { AreAnswers detect.now act.now tick state.now (option_copied seen.entry) (answer_of result) }
 {
     let meeting = meeting_of(state);
-    let both_power = if meeting.is_some() {
-        Verdict::Yes
-    } else {
-        Verdict::No
-    };
     AtomRow {
-        step: seen.map(|pair| pair.step),
+        step: step_of(seen),
         direction: direction(seen),
         other_direction: other_direction(seen),
         risk: has_risk(detect, seen),
@@ -98,6 +103,6 @@ pub fn atoms_at(
         changes: changes_at(act, state, seen),
         rank_gives: Verdict::No,
         rank_stands: Verdict::No,
-        both_power,
+        both_power: told(meeting.is_some()),
     }
 }

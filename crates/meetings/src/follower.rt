@@ -3,33 +3,45 @@ ghost use Rattle.std.specs.Prelude.{ℕ, ◌≡◌, ◌<◌, ◌^◌, ◌++◌, 
 ghost use Rattle.std.specs.Option.{option_copied};
 ghost use Rattle.encounters.specs.Directions.{HaveDirections, HaveDirectionsSince};
 ghost use Rattle.encounters.specs.Risk.{IsDetect};
+ghost use Rattle.encounters.specs.Standing.{IsStateAfter};
+ghost use Rattle.encounters.specs.declared.act.Act.{Act};
+ghost use Rattle.encounters.specs.declared.detect.Detect.{Detect};
+ghost use Rattle.encounters.specs.declared.pair_step.PairStep.{PairStep};
+ghost use Rattle.meetings.specs.Atoms.{IsAtomRow};
+ghost use Rattle.meetings.specs.Answers.{answer_of};
+ghost use Rattle.meetings.specs.Standing.{Follows};
 
 use crate::atom_row::AtomRow;
 use crate::atoms::atoms_at;
 use encounters::{Act, Detect, Engagement, EngagementState, PairStep};
+use std::marker::Model;
 
 /// Follows an ordered pair (A, B) step by step, and gives the row of each. It stands for its numbers and the list of the steps
 /// so far.
 #[derive(Clone, Copy, Debug)]
 pub struct Follower {
-    pub(crate) detect: Detect,
-    pub(crate) act: Act,
-    pub(crate) tick: u32,
-    pub(crate) engagement: Engagement,
+    detect: Detect,
+    act: Act,
+    tick: u32,
+    engagement: Engagement,
     /// The state at the latest step.
-    pub(crate) latest: EngagementState,
-    ghost numbers: { IsDetect detect },
+    latest: EngagementState,
+}
+
+impl Model for Follower {
+    ghost use Rattle.encounters.specs.Risk.{IsDetect};
+    ghost use Rattle.meetings.specs.Standing.{Following};
+
+    ghost Value = { Following };
+
+    ghost view = { λ f. record { detect = f.detect; act = f.act; tick = f.tick; engagement = f.engagement; latest = f.latest } };
+
+    ghost invariant = { λ f. IsDetect f.detect };
+
+    ghost inverse = { λ f. record { detect = f.detect; act = f.act; tick = f.tick; engagement = f.engagement; latest = f.latest } };
 }
 
 impl Follower {
-    ghost use Rattle.encounters.specs.Standing.{IsStateAfter};
-    ghost use Rattle.encounters.specs.declared.act.Act.{Act};
-    ghost use Rattle.encounters.specs.declared.detect.Detect.{Detect};
-    ghost use Rattle.encounters.specs.declared.pair_step.PairStep.{PairStep};
-    ghost use Rattle.meetings.specs.Atoms.{IsAtomRow};
-    ghost use Rattle.meetings.specs.Answers.{answer_of};
-    ghost use Rattle.meetings.specs.Standing.{Follows};
-
     /// A pair of no steps yet. A tick lasts so many seconds.
     pub fn new(detect: Detect, act: Act, tick: u32) -> Follower
         requires { IsDetect detect }

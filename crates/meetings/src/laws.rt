@@ -20,7 +20,9 @@ pub fn at_most_one_value()
 pub fn at_most_one_row()
     ensures { (detect : Detect) (act : Act) (tick : ℕ) (steps : List (Option PairStep)) (i : ℕ) (answers others : Atom → Verdict) (atom : Atom) →
         IsAtomRow detect act tick steps i answers → IsAtomRow detect act tick steps i others → answers atom ≡ others atom }
-{}
+{
+    at_most_one_value();
+}
 
 /// The row of a step stays when further steps come.
 pub fn the_past_stays()

@@ -2,6 +2,13 @@
 ghost use Rattle.std.specs.Prelude.{ℕ, ◌≡◌, ◌<◌, ◌^◌, ◌++◌, ◌∷◌, [], List, Option, length, map, IfSome, OnErr, OnOk};
 ghost use Rattle.encounters.specs.Directions.{HaveDirections};
 ghost use Rattle.encounters.specs.Risk.{IsDetect};
+ghost use Rattle.encounters.specs.declared.act.Act.{Act};
+ghost use Rattle.encounters.specs.declared.detect.Detect.{Detect};
+ghost use Rattle.encounters.specs.declared.pair_step.PairStep.{PairStep};
+ghost use Rattle.meetings.specs.Atoms.{AreRows};
+ghost use Rattle.meetings.specs.Answers.{answer_of};
+ghost use Rattle.meetings.specs.Standing.{StandsFor};
+ghost use Rattle.meetings.specs.declared.pair.Pair.{Pair};
 
 use crate::atom_row::AtomRow;
 use crate::follower::Follower;
@@ -9,25 +16,26 @@ use crate::pair::Pair;
 use encounters::{Act, Detect, PairStep};
 use outside::Memory;
 use std::alloc::Global;
+use std::marker::Model;
 
 /// An ordered pair of vessels with the rows of its steps so far. It stands for its pair, its numbers and the list of these
 /// steps.
 #[derive(Debug, Drop)]
 pub struct PairTrace {
-    pub(crate) pair: Pair,
-    pub(crate) follower: Follower,
-    pub(crate) rows: Vec<AtomRow>,
+    pair: Pair,
+    follower: Follower,
+    rows: Vec<AtomRow>,
+}
+
+impl Model for PairTrace {
+    ghost use Rattle.meetings.specs.Standing.{Traced};
+
+    ghost Value = { Traced };
+
+    ghost view = { λ t. record { pair = t.pair; following = t.follower; rows = t.rows.items } };
 }
 
 impl PairTrace {
-    ghost use Rattle.encounters.specs.declared.act.Act.{Act};
-    ghost use Rattle.encounters.specs.declared.detect.Detect.{Detect};
-    ghost use Rattle.encounters.specs.declared.pair_step.PairStep.{PairStep};
-    ghost use Rattle.meetings.specs.Atoms.{AreRows};
-    ghost use Rattle.meetings.specs.Answers.{answer_of};
-    ghost use Rattle.meetings.specs.Standing.{StandsFor};
-    ghost use Rattle.meetings.specs.declared.pair.Pair.{Pair};
-
     /// A trace of no steps yet. A tick lasts so many seconds. This takes no memory.
     pub fn new(alloc: Global, pair: Pair, detect: Detect, act: Act, tick: u32) -> PairTrace
         requires { IsDetect detect }

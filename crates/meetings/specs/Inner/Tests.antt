@@ -1,6 +1,5 @@
 -- The tests that answer the atoms.
 use Rattle.std.specs.Prelude.{ℕ, ◌+◌, ◌*◌, Bool, true, false, ◌&&◌, ◌||◌, ◌==◌, nat_le, Option, Some, None, is_some, ℤ, pos, neg_ℤ, ◌*ℤ◌, int_le, int_lt}
-use Rattle.std.specs.Option.{option_map}
 use Rattle.fixed_geometry.specs.Bearing.{bearing_of, relative_of}
 use Rattle.fixed_geometry.specs.Plane.{dot_of, norm2_of, turn_of}
 use Rattle.motion.specs.Steps.{RelativeMove}
@@ -8,7 +7,6 @@ use Rattle.sectors.specs.declared.class.Class.{Class}
 use Rattle.sectors.specs.declared.class.Class.TheVariants as class
 use Rattle.mtl_formulas.specs.declared.verdict.Verdict.{Verdict}
 use Rattle.mtl_formulas.specs.declared.verdict.Verdict.TheVariants.{No, Open, Yes}
-use Rattle.encounters.specs.Alterations.{verdict_of}
 use Rattle.encounters.specs.declared.engagement_state.EngagementState.{EngagementState}
 use Rattle.encounters.specs.declared.engagement_state.EngagementState.TheVariants.{Apart, Engaged}
 use Rattle.encounters.specs.declared.pair_step.PairStep.{PairStep}
@@ -34,12 +32,19 @@ is_close r step = int_lt (norm2_of step.p) (pos (r * r))
 abbrev pub is_on_port : ℕ → ℕ → Bool
 is_on_port direction bearing = nat_le 1801 (relative_of bearing direction) && nat_le (relative_of bearing direction) 3599
 
-abbrev pub on_port : Option ℕ → RelativeMove → Verdict
-on_port None step = Open
-on_port (Some direction) step = verdict_of (option_map (is_on_port direction) (bearing_of step.p))
+-- Open where the direction or the bearing is absent
+abbrev pub on_port_by : Option ℕ → Option ℕ → Verdict
+on_port_by None bearing = Open
+on_port_by (Some direction) None = Open
+on_port_by (Some direction) (Some bearing) = told (is_on_port direction bearing)
 
+abbrev pub on_port : Option ℕ → RelativeMove → Verdict
+on_port direction step = on_port_by direction (bearing_of step.p)
+
+-- Open where the direction is absent
 abbrev pub ahead : Option ℕ → RelativeMove → Verdict
-ahead direction step = verdict_of (option_map (λ d. crosses_ahead d step) direction)
+ahead None step = Open
+ahead (Some direction) step = told (crosses_ahead direction step)
 
 -- Open where the step is not seen
 abbrev pub seen_as : (RelativeMove → Verdict) → Option RelativeMove → Verdict
@@ -71,6 +76,10 @@ is_first (Some meeting) = meeting.age == 0
 abbrev pub meeting_of : EngagementState → Option Meeting
 meeting_of Apart = None
 meeting_of (Engaged kind age a b) = Some (record { kind = kind; age = age })
+
+abbrev pub step_of : Option PairStep → Option RelativeMove
+step_of None = None
+step_of (Some pair) = Some pair.step
 
 abbrev pub direction_of : Option PairStep → Option ℕ
 direction_of None = None
