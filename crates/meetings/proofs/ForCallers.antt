@@ -1,5 +1,5 @@
 -- Lemmas for the crates above: the steps of two vessels one after the other, and rows as steps come.
-use Rattle.std.proofs.Common.{◌≡◌, ◌≢◌, ℕ, zero, suc, ◌+◌, ◌-◌, ◌<◌, ◌≤◌, ◌⊎◌, inl, inr, List, [], ◌∷◌, ◌++◌, length, length-append, refl, sym, ap, ap₂, subst, ◌∙◌, arith}
+use Rattle.std.proofs.Common.{◌≡◌, ℕ, zero, suc, ◌+◌, ◌-◌, ◌<◌, ◌≤◌, ◌⊎◌, inl, inr, List, [], ◌∷◌, ◌++◌, length, length-append, refl, sym, ap, ap₂, subst, ◌∙◌, arith, take, length-take}
 use Rattle.std.specs.Prelude.{Option, None, Some, slice_get, IsSomeAnd, IfSome}
 use Rattle.motion.specs.declared.leg.TickState.{TickState}
 use Rattle.mtl_formulas.specs.declared.atom.Atom.{Atom}
@@ -9,10 +9,9 @@ use Rattle.encounters.specs.Risk.{HasRisk}
 use Rattle.encounters.specs.declared.act.Act.{Act}
 use Rattle.encounters.specs.declared.detect.Detect.{Detect}
 use Rattle.encounters.specs.declared.pair_step.PairStep.{PairStep}
-use Rattle.encounters.proofs.ForCallers.{seen_at-front, seen_at-behind, state_over_more, state_behind}
-use Rattle.encounters.proofs.OneState.{one_state}
+use Rattle.encounters.proofs.ForCallers.{agree_back, agree_front, engagement_of-agree, seen_at-behind, seen_at-front, state_behind, state_over_more}
 use Rattle.meetings.specs.Atoms.{AreRows, IsAtomRow}
-use Rattle.meetings.specs.Traces.{AreInContact, BeginsTrace, IsContactAt, step_at, step_between, steps_from}
+use Rattle.meetings.specs.Traces.{AreInContact, BeginsTrace, step_at, step_between, steps_from}
 
 -- ---- steps
 
@@ -81,6 +80,38 @@ module _ (detect : Detect) (act : Act) (tick : ℕ) where
     is_state = state_over_more detect steps more i row.state lt row.is_state;
     values = rw (seen_at-front steps more i lt) row.values;
   }
+
+  pub row_over_less : (steps more : List (Option PairStep)) (i : ℕ) (answers : Atom → Verdict) → i < length steps
+      → IsAtomRow detect act tick (steps ++ more) i answers → IsAtomRow detect act tick steps i answers
+  row_over_less steps more i answers lt row = record {
+    state = row.state;
+    is_state = engagement_of-agree detect (steps ++ more) steps i row.state (agree_back steps (steps ++ more) i (agree_front steps more i lt)) row.is_state;
+    values = rw (← seen_at-front steps more i lt) row.values;
+  }
+
+  -- the rows of a front of the steps are a front of the rows
+  pub rows_of_front : (steps more : List (Option PairStep)) (rows : List (Atom → Verdict)) → AreRows detect act tick (steps ++ more) rows
+      → AreRows detect act tick steps (take (length steps) rows)
+  rows_of_front steps more rows h =
+      let count = h.count in
+      record {
+        count = omega (arith, length-append steps more, length-take (length steps) rows);
+        each = λ i lt.
+            subst (λ (o : Option (Atom → Verdict)). IsSomeAnd o (IsAtomRow detect act tick steps i)) (sym (taken rows (length steps) i lt))
+            (row_of (slice_get rows i) i lt (h.each i (omega (arith, length-append steps more))));
+      }
+    where
+      taken : (rows : List (Atom → Verdict)) (n i : ℕ) → i < n → slice_get (take n rows) i ≡ slice_get rows i
+      taken [] zero i lt = absurd (omega arith)
+      taken [] (suc n) i lt = refl
+      taken (x ∷ rows) zero i lt = absurd (omega arith)
+      taken (x ∷ rows) (suc n) zero lt = refl
+      taken (x ∷ rows) (suc n) (suc i) lt = taken rows n i (omega arith)
+
+      row_of : (o : Option (Atom → Verdict)) (i : ℕ) → i < length steps → IsSomeAnd o (IsAtomRow detect act tick (steps ++ more) i)
+          → IsSomeAnd o (IsAtomRow detect act tick steps i)
+      row_of None i lt h = h
+      row_of (Some x) i lt h = row_over_less steps more i x lt h
 
   pub row_behind : (front steps : List (Option PairStep)) → ((k : ℕ) → k < length front → IfSome (seen_at front k) (λ pair. ¬ HasRisk detect pair.step))
       → (i : ℕ) (answers : Atom → Verdict) → IsAtomRow detect act tick steps i answers → IsAtomRow detect act tick (front ++ steps) (length front + i) answers
