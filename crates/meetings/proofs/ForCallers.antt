@@ -1,5 +1,5 @@
 -- Lemmas for the crates above: the steps of two vessels one after the other, and rows as steps come.
-use Rattle.std.proofs.Common.{◌≡◌, ℕ, zero, suc, ◌+◌, ◌-◌, ◌<◌, ◌≤◌, ◌⊎◌, inl, inr, List, [], ◌∷◌, ◌++◌, length, length-append, refl, sym, ap, ap₂, subst, ◌∙◌, arith, take, length-take}
+use Rattle.std.proofs.Common.{◌≡◌, ℕ, zero, suc, ◌+◌, ◌-◌, ◌<◌, ◌⊎◌, inl, inr, List, [], ◌∷◌, ◌++◌, length, length-append, refl, sym, ap, ap₂, subst, ◌∙◌, arith, take, length-take}
 use Rattle.std.specs.Prelude.{Option, None, Some, slice_get, IsSomeAnd, IfSome}
 use Rattle.motion.specs.declared.leg.TickState.{TickState}
 use Rattle.mtl_formulas.specs.declared.atom.Atom.{Atom}

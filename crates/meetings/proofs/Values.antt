@@ -1,16 +1,14 @@
 -- What a row answers by what it keeps are the atoms' values.
-use Rattle.std.proofs.Common.{◌≡◌, ℕ, zero, suc, ◌*◌, ◌≤◌, ℤ, pos, ◌≤ℤ◌, ◌<ℤ◌, IsTrue, refl, sym, ap, ◌∙◌, arith}
-use Rattle.std.specs.Prelude.{Bool, true, false, ◌==◌, ◌↔◌, Option, None, Some, IsSomeAnd, IsSome, is_some, nat_le, int_le, int_lt}
+use Rattle.std.proofs.Common.{◌≡◌, ℕ, zero, suc, ◌*◌, ◌≤◌, IsTrue, refl, sym, ap, ◌∙◌, arith}
+use Rattle.std.specs.Prelude.{Bool, true, false, ◌==◌, ◌↔◌, Option, None, Some, IsSomeAnd, IsSome, is_some, nat_le}
 use Rattle.std.proofs.lemmas.Int.{ints}
 use Rattle.std.proofs.lemmas.Option.{same_Some}
 use Rattle.fixed_geometry.specs.Bearing.{bearing_of}
 use Rattle.motion.specs.Steps.{RelativeMove}
 use Rattle.sectors.specs.declared.class.Class.{Class}
 use Rattle.sectors.specs.declared.class.Class.TheVariants as class
-use Rattle.mtl_formulas.specs.declared.atom.Atom.{Atom}
 use Rattle.mtl_formulas.specs.declared.atom.Atom.TheVariants as atom
-use Rattle.mtl_formulas.specs.declared.verdict.Verdict.{Verdict}
-use Rattle.mtl_formulas.specs.declared.verdict.Verdict.TheVariants.{No, Open, Yes}
+use Rattle.mtl_formulas.specs.declared.verdict.Verdict.TheVariants.{No}
 use Rattle.encounters.specs.Risk.{HasRisk, IsOpening}
 use Rattle.encounters.specs.declared.act.Act.{Act}
 use Rattle.encounters.specs.declared.detect.Detect.{Detect}
@@ -20,7 +18,7 @@ use Rattle.encounters.specs.declared.pair_step.PairStep.{PairStep}
 use Rattle.closest_approach.specs.Separation.{IsSeparated}
 use Rattle.meetings.specs.Ahead.{crosses_ahead}
 use Rattle.meetings.specs.Answers.{Kept, answer_of}
-use Rattle.meetings.specs.Atoms.{AreAnswers, IsAtomValue, IsClose, IsOnPort, Tells, WhereKnown, metres}
+use Rattle.meetings.specs.Atoms.{AreAnswers, IsClose, IsOnPort, Tells, WhereKnown, metres}
 use Rattle.meetings.specs.Inner.Tests.{ahead, class_index, direction_of, is_age, is_close, is_first, is_kind, is_on_port, is_opening, is_separated, meeting_of, on_port, on_port_by, other_direction_of, seen_as, step_of, told}
 use Rattle.meetings.specs.SinceBeginning.{age_of, changes_at, kind_of}
 use Rattle.meetings.proofs.SeparatedByEnds.{separated_exactly}

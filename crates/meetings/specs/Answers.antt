@@ -5,7 +5,7 @@ use Rattle.sectors.specs.declared.class.Class.TheVariants as class
 use Rattle.mtl_formulas.specs.declared.atom.Atom.{Atom}
 use Rattle.mtl_formulas.specs.declared.atom.Atom.TheVariants.{Always, Never, Seen, Risk, Engaged, Begin, Overtaking, Overtaken, HeadOn, CrossingGives, CrossingStands, Passing, Unclassified, Age, Opening, Clear, Close, OtherOnPort, Ahead, Alters, Apparent, ToStarboard, ToPort, OtherApparent, RankGives, RankStands, BothPower}
 use Rattle.mtl_formulas.specs.declared.verdict.Verdict.{Verdict}
-use Rattle.mtl_formulas.specs.declared.verdict.Verdict.TheVariants.{No, Open, Yes}
+use Rattle.mtl_formulas.specs.declared.verdict.Verdict.TheVariants.{No, Yes}
 use Rattle.meetings.specs.Atoms.{metres}
 use Rattle.meetings.specs.Inner.Tests.{ahead, is_age, is_close, is_first, is_kind, is_opening, is_separated, on_port, seen_as, told}
 use Rattle.encounters.specs.declared.changes.Changes.{Changes}

@@ -1,5 +1,5 @@
 //! What one step of an ordered pair answers to the atoms.
-ghost use Rattle.std.specs.Prelude.{◌≡◌, ◌*◌, ◌≤◌};
+ghost use Rattle.std.specs.Prelude.{◌≡◌, ◌*◌, ◌≤◌, nat_le};
 ghost use Rattle.meetings.specs.Atoms.{metres};
 ghost use Rattle.meetings.specs.Inner.Tests.{ahead, is_age, is_close, is_first, is_kind, is_opening, is_separated, on_port, seen_as, told};
 
@@ -31,13 +31,15 @@ pub struct AtomRow {
     pub(crate) direction: Option<u16>,
     /// B's direction there.
     pub(crate) other_direction: Option<u16>,
+    /// Whether there is risk of collision.
     pub(crate) risk: bool,
     /// The engagement, where there is one.
     pub(crate) meeting: Option<Meeting>,
     /// How many seconds a tick lasts.
     pub(crate) tick: u32,
-    /// How the vessels have altered since it began.
+    /// How the vessels have altered since the engagement began.
     pub(crate) changes: Changes,
+    /// Whether A gives way by rank (Rule 18), or B does, or neither.
     pub(crate) rank_gives: Verdict,
     pub(crate) rank_stands: Verdict,
     pub(crate) both_power: Verdict,
@@ -71,10 +73,11 @@ fn tenths(m: u32) -> u64
     10_000 * u64::from(m)
 }
 
-fn product(a: u32, b: u32) -> u64
-    ensures { result ≡ a * b }
+/// Whether so many steps, of so many seconds each, last so long.
+fn lasts(steps: u32, tick: u32, seconds: u32) -> bool
+    ensures { result ≡ nat_le seconds (steps * tick) }
 {
-    u64::from(a) * u64::from(b)
+    u64::from(seconds) <= u64::from(steps) * u64::from(tick)
 }
 
 impl AtomRow {
@@ -139,12 +142,12 @@ impl AtomRow {
         }
     }
 
-    fn lasts(&self, seconds: u32) -> bool
+    fn is_as_old_as(&self, seconds: u32) -> bool
         ensures { result ≡ is_age self.now.tick seconds self.now.meeting }
     {
         match self.meeting {
             None => false,
-            Some(meeting) => { u64::from(seconds) <= product(meeting.age, self.tick) }
+            Some(meeting) => lasts(meeting.age, self.tick, seconds),
         }
     }
 
@@ -178,7 +181,7 @@ impl Atoms for AtomRow {
             Atom::CrossingStands => told(self.is_of_kind(Class::CrossingStands)),
             Atom::Passing => told(self.is_of_kind(Class::Passing)),
             Atom::Unclassified => told(self.is_of_kind(Class::Unclassified)),
-            Atom::Age(seconds) => told(self.lasts(seconds)),
+            Atom::Age(seconds) => told(self.is_as_old_as(seconds)),
             Atom::Opening => self.opening(),
             Atom::Clear(metres) => self.clear(metres),
             Atom::Close(metres) => self.close(metres),

@@ -77,9 +77,10 @@ fn other_direction(seen: Option<&PairStep>) -> Option<u16>
     seen?.b.direction
 }
 
-/// What a step of an ordered pair (A, B) answers to each atom, where it is seen or not, and `state` is that of their engagement
-/// at the step. Risk and the alterations are found here, all else when it is asked. A tick lasts so many seconds. Directions
-/// are below 3600. Without ranks `rank_gives` and `rank_stands` are No, and `both_power` tells whether they are engaged.
+/// What a step of an ordered pair (A, B) answers to each atom, where `state` is that of their engagement at the step. A step of
+/// an engagement is seen; of one that is not seen the alterations are No. Risk and the alterations are found here, all else
+/// when it is asked. A tick lasts so many seconds. Directions are below 3600. Without ranks `rank_gives` and `rank_stands` are
+/// No, and `both_power` tells whether they are engaged.
 pub fn atoms_at(
     detect: &Detect,
     state: &EngagementState,

@@ -1,5 +1,5 @@
 -- The tests that answer the atoms.
-use Rattle.std.specs.Prelude.{ℕ, ◌+◌, ◌*◌, Bool, true, false, ◌&&◌, ◌||◌, ◌==◌, nat_le, Option, Some, None, is_some, ℤ, pos, neg_ℤ, ◌*ℤ◌, int_le, int_lt}
+use Rattle.std.specs.Prelude.{ℕ, ◌*◌, Bool, true, false, ◌&&◌, ◌||◌, ◌==◌, nat_le, Option, Some, None, pos, neg_ℤ, ◌*ℤ◌, int_le, int_lt}
 use Rattle.fixed_geometry.specs.Bearing.{bearing_of, relative_of}
 use Rattle.fixed_geometry.specs.Plane.{dot_of, norm2_of, turn_of}
 use Rattle.motion.specs.Steps.{RelativeMove}

@@ -1,9 +1,7 @@
-use Rattle.std.proofs.Common.{◌≡◌, ℕ, List, [], ◌∷◌, ◌++◌, length, sym, subst}
+use Rattle.std.proofs.Common.{ℕ, sym, subst}
 use Rattle.std.specs.Option.{option_copied}
-use Rattle.std.specs.Prelude.{Option}
 use Rattle.encounters.specs.declared.act.Act.{Act}
 use Rattle.encounters.specs.declared.detect.Detect.{Detect}
-use Rattle.encounters.specs.declared.pair_step.PairStep.{PairStep}
 use Rattle.encounters.proofs.ForCallers.{seen_at-last}
 use Rattle.encounters.proofs.Lasting.{to_last}
 use Rattle.meetings.specs.Answers.{answer_of}
