@@ -1,0 +1,4 @@
+pub mod ForCallers
+pub mod SeparatedByEnds
+pub mod Values
+pub mod Rows

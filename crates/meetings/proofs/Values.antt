@@ -1,0 +1,164 @@
+-- What a row answers by what it keeps are the atoms' values.
+use Rattle.std.proofs.Common.{◌≡◌, ℕ, zero, suc, ◌*◌, ◌≤◌, IsTrue, refl, sym, ap, ◌∙◌, arith}
+use Rattle.std.specs.Prelude.{Bool, true, false, ◌==◌, ◌↔◌, Option, None, Some, IsSomeAnd, IsSome, is_some, nat_le}
+use Rattle.std.proofs.lemmas.Int.{ints}
+use Rattle.std.proofs.lemmas.Option.{same_Some}
+use Rattle.fixed_geometry.specs.Bearing.{bearing_of}
+use Rattle.motion.specs.Steps.{RelativeMove}
+use Rattle.sectors.specs.declared.class.Class.{Class}
+use Rattle.sectors.specs.declared.class.Class.TheVariants as class
+use Rattle.mtl_formulas.specs.declared.atom.Atom.TheVariants as atom
+use Rattle.mtl_formulas.specs.declared.verdict.Verdict.TheVariants.{No}
+use Rattle.encounters.specs.Risk.{HasRisk, IsOpening}
+use Rattle.encounters.specs.declared.act.Act.{Act}
+use Rattle.encounters.specs.declared.detect.Detect.{Detect}
+use Rattle.encounters.specs.declared.engagement_state.EngagementState.{EngagementState}
+use Rattle.encounters.specs.declared.engagement_state.EngagementState.TheVariants.{Apart, Engaged}
+use Rattle.encounters.specs.declared.pair_step.PairStep.{PairStep}
+use Rattle.closest_approach.specs.Separation.{IsSeparated}
+use Rattle.meetings.specs.Ahead.{crosses_ahead}
+use Rattle.meetings.specs.Answers.{Kept, answer_of}
+use Rattle.meetings.specs.Atoms.{AreAnswers, IsClose, IsOnPort, Tells, WhereKnown, metres}
+use Rattle.meetings.specs.Inner.Tests.{ahead, class_index, direction_of, is_age, is_close, is_first, is_kind, is_on_port, is_opening, is_separated, meeting_of, on_port, on_port_by, other_direction_of, seen_as, step_of, told}
+use Rattle.meetings.specs.SinceBeginning.{age_of, changes_at, kind_of}
+use Rattle.meetings.proofs.SeparatedByEnds.{separated_exactly}
+
+tells : (P : Type 0) (b : Bool) → (IsTrue b → P) → (P → IsTrue b) → Tells P (told b)
+tells P true to from = to refl
+tells P false to from = λ p. let no : false ≡ true = from p in cc
+
+-- ---- of the state
+
+class_from : ℕ → Class
+class_from zero = class.Overtaking
+class_from (suc zero) = class.Overtaken
+class_from (suc (suc zero)) = class.HeadOn
+class_from (suc (suc (suc zero))) = class.CrossingGives
+class_from (suc (suc (suc (suc zero)))) = class.CrossingStands
+class_from (suc (suc (suc (suc (suc zero))))) = class.Passing
+class_from _ = class.Unclassified
+
+class_again : (kind : Class) → class_from (class_index kind) ≡ kind
+unfolding class_from
+class_again class.Overtaking = refl
+class_again class.Overtaken = refl
+class_again class.HeadOn = refl
+class_again class.CrossingGives = refl
+class_again class.CrossingStands = refl
+class_again class.Passing = refl
+class_again class.Unclassified = refl
+
+same_class : (kind other : Class) → IsTrue (class_index kind == class_index other) → kind ≡ other
+same_class kind other h =
+    let same : class_index kind ≡ class_index other = grind (arith, h) in
+    sym (class_again kind) ∙ (ap class_from same ∙ class_again other)
+
+same_index : (kind other : Class) → kind ≡ other → IsTrue (class_index kind == class_index other)
+same_index kind other h = let same : class_index kind ≡ class_index other = ap class_index h in grind (arith, same)
+
+of_kind : (kind : Class) (state : EngagementState) → Tells (kind_of state ≡ Some kind) (told (is_kind kind (meeting_of state)))
+of_kind kind Apart = λ h. cc
+of_kind kind (Engaged own age a b) = tells (Some own ≡ Some kind) (class_index own == class_index kind)
+    (λ h. ap Some (same_class own kind h)) (λ h. same_index own kind (same_Some own kind h))
+
+engaged : (state : EngagementState) → Tells (IsSome (age_of state)) (told (is_some (meeting_of state)))
+engaged Apart = λ h. cc
+engaged (Engaged kind age a b) = refl
+
+first : (state : EngagementState) → Tells (age_of state ≡ Some 0) (told (is_first (meeting_of state)))
+first Apart = λ h. cc
+first (Engaged kind age a b) = tells (Some age ≡ Some 0) (age == 0)
+    (λ h. let zero : age ≡ 0 = grind (arith, h) in ap Some zero) (λ h. let zero : age ≡ 0 = same_Some age 0 h in grind (arith, zero))
+
+lasts : (tick seconds : ℕ) (state : EngagementState) → Tells (IsSomeAnd (age_of state) (λ age. seconds ≤ age * tick)) (told (is_age tick seconds (meeting_of state)))
+lasts tick seconds Apart = λ h. h
+lasts tick seconds (Engaged kind age a b) = tells (seconds ≤ age * tick) (nat_le seconds (age * tick)) (λ h. grind (arith, h)) (λ h. grind (arith, h))
+
+-- ---- of the step
+
+at_risk : (detect : Detect) (seen : Option PairStep) (risk : Bool) → (IsTrue risk ↔ IsSomeAnd seen (λ pair. HasRisk detect pair.step))
+    → Tells (IsSomeAnd seen (λ pair. HasRisk detect pair.step)) (told risk)
+at_risk detect seen risk h = tells (IsSomeAnd seen (λ pair. HasRisk detect pair.step)) risk h.0 h.1
+
+is_seen : (seen : Option PairStep) → Tells (IsSome seen) (told (is_some (step_of seen)))
+is_seen None = λ h. cc
+is_seen (Some pair) = refl
+
+opening : (seen : Option PairStep) → WhereKnown seen (λ pair. Tells (IsOpening pair.step)) (seen_as (λ step. told (is_opening step)) (step_of seen))
+opening None = refl
+opening (Some pair) = tells (IsOpening pair.step) (is_opening pair.step) (λ h. grind (arith, ints, h)) (λ h. grind (arith, ints, h))
+
+clear : (m : ℕ) (seen : Option PairStep)
+    → WhereKnown seen (λ pair. Tells (IsSeparated pair.step (metres m))) (seen_as (λ step. told (is_separated step (metres m))) (step_of seen))
+clear m None = refl
+clear m (Some pair) = let h = separated_exactly pair.step (metres m) in tells (IsSeparated pair.step (metres m)) (is_separated pair.step (metres m)) h.0 h.1
+
+close : (m : ℕ) (seen : Option PairStep) → WhereKnown seen (λ pair. Tells (IsClose m pair)) (seen_as (λ step. told (is_close (metres m) step)) (step_of seen))
+close m None = refl
+close m (Some pair) = tells (IsClose m pair) (is_close (metres m) pair.step) (λ h. grind (arith, ints, h)) (λ h. grind (arith, ints, h))
+
+port_by : (direction bearing : Option ℕ) → WhereKnown direction (λ d. WhereKnown bearing (λ b. Tells (IsOnPort d b))) (on_port_by direction bearing)
+port_by None bearing = refl
+port_by (Some d) None = refl
+port_by (Some d) (Some b) = tells (IsOnPort d b) (is_on_port d b) (λ h. (grind (arith, h), grind (arith, h))) (λ h. grind (arith, h.0, h.1))
+
+port : (seen : Option PairStep) → WhereKnown seen (λ pair. WhereKnown pair.a.direction (λ d. WhereKnown (bearing_of pair.step.p) (λ b. Tells (IsOnPort d b))))
+    (seen_as (on_port (direction_of seen)) (step_of seen))
+port None = refl
+port (Some pair) = port_by pair.a.direction (bearing_of pair.step.p)
+
+ahead_by : (direction : Option ℕ) (step : RelativeMove) → WhereKnown direction (λ d. Tells (IsTrue (crosses_ahead d step))) (ahead direction step)
+ahead_by None step = refl
+ahead_by (Some d) step = tells (IsTrue (crosses_ahead d step)) (crosses_ahead d step) (λ h. h) (λ h. h)
+
+crosses : (seen : Option PairStep) → WhereKnown seen (λ pair. WhereKnown pair.b.direction (λ d. Tells (IsTrue (crosses_ahead d pair.step))))
+    (seen_as (ahead (other_direction_of seen)) (step_of seen))
+crosses None = refl
+crosses (Some pair) = ahead_by pair.b.direction pair.step
+
+-- ---- all atoms
+
+abbrev pub row_of : Act → ℕ → EngagementState → Option PairStep → Bool → Kept
+row_of act tick state seen risk = record {
+  step = step_of seen;
+  direction = direction_of seen;
+  other_direction = other_direction_of seen;
+  risk = risk;
+  meeting = meeting_of state;
+  tick = tick;
+  changes = changes_at act state seen;
+  rank_gives = No;
+  rank_stands = No;
+  both_power = told (is_some (meeting_of state));
+}
+
+module _ (detect : Detect) (act : Act) (tick : ℕ) (state : EngagementState) (seen : Option PairStep) (risk : Bool)
+    (decides : IsTrue risk ↔ IsSomeAnd seen (λ pair. HasRisk detect pair.step)) where
+  pub values : AreAnswers detect act tick state seen (answer_of (row_of act tick state seen risk))
+  values atom.Always = refl
+  values atom.Never = refl
+  values atom.Seen = is_seen seen
+  values atom.Risk = at_risk detect seen risk decides
+  values atom.Engaged = engaged state
+  values atom.Begin = first state
+  values atom.Overtaking = of_kind class.Overtaking state
+  values atom.Overtaken = of_kind class.Overtaken state
+  values atom.HeadOn = of_kind class.HeadOn state
+  values atom.CrossingGives = of_kind class.CrossingGives state
+  values atom.CrossingStands = of_kind class.CrossingStands state
+  values atom.Passing = of_kind class.Passing state
+  values atom.Unclassified = of_kind class.Unclassified state
+  values (atom.Age seconds) = lasts tick seconds state
+  values atom.Opening = opening seen
+  values (atom.Clear m) = clear m seen
+  values (atom.Close m) = close m seen
+  values atom.OtherOnPort = port seen
+  values atom.Ahead = crosses seen
+  values atom.Alters = refl
+  values atom.Apparent = refl
+  values atom.ToStarboard = refl
+  values atom.ToPort = refl
+  values atom.OtherApparent = refl
+  values atom.RankGives = refl
+  values atom.RankStands = refl
+  values atom.BothPower = engaged state

@@ -1,0 +1,54 @@
+-- What a row answers to each atom, by what it keeps.
+use Rattle.std.specs.Prelude.{ℕ, Bool, Option, is_some}
+use Rattle.motion.specs.Steps.{RelativeMove}
+use Rattle.sectors.specs.declared.class.Class.TheVariants as class
+use Rattle.mtl_formulas.specs.declared.atom.Atom.{Atom}
+use Rattle.mtl_formulas.specs.declared.atom.Atom.TheVariants.{Always, Never, Seen, Risk, Engaged, Begin, Overtaking, Overtaken, HeadOn, CrossingGives, CrossingStands, Passing, Unclassified, Age, Opening, Clear, Close, OtherOnPort, Ahead, Alters, Apparent, ToStarboard, ToPort, OtherApparent, RankGives, RankStands, BothPower}
+use Rattle.mtl_formulas.specs.declared.verdict.Verdict.{Verdict}
+use Rattle.mtl_formulas.specs.declared.verdict.Verdict.TheVariants.{No, Yes}
+use Rattle.meetings.specs.Atoms.{metres}
+use Rattle.meetings.specs.Inner.Tests.{ahead, is_age, is_close, is_first, is_kind, is_opening, is_separated, on_port, seen_as, told}
+use Rattle.encounters.specs.declared.changes.Changes.{Changes}
+use Rattle.meetings.specs.declared.atom_row.Meeting.{Meeting}
+
+-- what a row keeps: the step, where it is seen, the vessels' directions there, and what the engagement tells
+pub record Kept : Type 0 where
+  pub step : Option RelativeMove
+  pub direction : Option ℕ
+  pub other_direction : Option ℕ
+  pub risk : Bool
+  pub meeting : Option Meeting
+  pub tick : ℕ
+  pub changes : Changes
+  pub rank_gives : Verdict
+  pub rank_stands : Verdict
+  pub both_power : Verdict
+
+abbrev pub answer_of : Kept → Atom → Verdict
+answer_of row Always = Yes
+answer_of row Never = No
+answer_of row Seen = told (is_some row.step)
+answer_of row Risk = told row.risk
+answer_of row Engaged = told (is_some row.meeting)
+answer_of row Begin = told (is_first row.meeting)
+answer_of row Overtaking = told (is_kind class.Overtaking row.meeting)
+answer_of row Overtaken = told (is_kind class.Overtaken row.meeting)
+answer_of row HeadOn = told (is_kind class.HeadOn row.meeting)
+answer_of row CrossingGives = told (is_kind class.CrossingGives row.meeting)
+answer_of row CrossingStands = told (is_kind class.CrossingStands row.meeting)
+answer_of row Passing = told (is_kind class.Passing row.meeting)
+answer_of row Unclassified = told (is_kind class.Unclassified row.meeting)
+answer_of row (Age seconds) = told (is_age row.tick seconds row.meeting)
+answer_of row Opening = seen_as (λ step. told (is_opening step)) row.step
+answer_of row (Clear m) = seen_as (λ step. told (is_separated step (metres m))) row.step
+answer_of row (Close m) = seen_as (λ step. told (is_close (metres m) step)) row.step
+answer_of row OtherOnPort = seen_as (on_port row.direction) row.step
+answer_of row Ahead = seen_as (ahead row.other_direction) row.step
+answer_of row Alters = row.changes.alters
+answer_of row Apparent = row.changes.apparent
+answer_of row ToStarboard = row.changes.to_starboard
+answer_of row ToPort = row.changes.to_port
+answer_of row OtherApparent = row.changes.other_apparent
+answer_of row RankGives = row.rank_gives
+answer_of row RankStands = row.rank_stands
+answer_of row BothPower = row.both_power

@@ -1,0 +1,17 @@
+pub use Rattle.fixed_geometry.specs.Bearing
+pub use Rattle.fixed_geometry.specs.Compass
+pub use Rattle.fixed_geometry.specs.Plane
+pub use Rattle.motion.specs.Displacement
+pub use Rattle.motion.specs.Steps
+pub use Rattle.closest_approach.specs.Separation
+pub use Rattle.sectors.specs.Class
+pub use Rattle.encounters.specs.Risk
+pub use Rattle.encounters.specs.Engagement
+pub use Rattle.encounters.specs.Alterations
+pub mod SinceBeginning
+pub mod Ahead
+pub mod Atoms
+pub mod Answers
+pub mod Traces
+pub mod Standing
+pub mod Inner

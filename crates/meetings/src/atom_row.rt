@@ -1,0 +1,200 @@
+//! What one step of an ordered pair answers to the atoms.
+ghost use Rattle.std.specs.Prelude.{◌≡◌, ◌*◌, ◌≤◌, nat_le};
+ghost use Rattle.meetings.specs.Atoms.{metres};
+ghost use Rattle.meetings.specs.Inner.Tests.{ahead, is_age, is_close, is_first, is_kind, is_opening, is_separated, on_port, seen_as, told};
+
+use crate::ahead::{crosses_ahead, is_on_port};
+use closest_approach::separated;
+use encounters::{Changes, opening};
+use fixed_geometry::{bearing, norm2};
+use motion::Step;
+use mtl_formulas::{Atom, Atoms, Verdict};
+use sectors::Class;
+use std::marker::Model;
+
+/// The engagement at a step.
+#[derive(Clone, Copy, Debug, PartialEq, Eq)]
+pub(crate) struct Meeting {
+    /// The class at its beginning.
+    pub(crate) kind: Class,
+    /// How many steps it has lasted, 0 at its beginning.
+    pub(crate) age: u32,
+}
+
+/// One step of an ordered pair (A, B), with its answers to all atoms. It keeps what the engagement tells, and the step for
+/// those atoms that are found when they are asked.
+#[derive(Clone, Copy, Debug)]
+pub struct AtomRow {
+    /// The step, where it is seen.
+    pub(crate) step: Option<Step>,
+    /// A's direction at its first tick.
+    pub(crate) direction: Option<u16>,
+    /// B's direction there.
+    pub(crate) other_direction: Option<u16>,
+    /// Whether there is risk of collision.
+    pub(crate) risk: bool,
+    /// The engagement, where there is one.
+    pub(crate) meeting: Option<Meeting>,
+    /// How many seconds a tick lasts.
+    pub(crate) tick: u32,
+    /// How the vessels have altered since the engagement began.
+    pub(crate) changes: Changes,
+    /// Whether A gives way by rank (Rule 18), or B does, or neither.
+    pub(crate) rank_gives: Verdict,
+    pub(crate) rank_stands: Verdict,
+    pub(crate) both_power: Verdict,
+}
+
+impl Model for AtomRow {
+    ghost use Rattle.std.specs.Prelude.{◌<◌, IfSome};
+    ghost use Rattle.meetings.specs.Answers.{Kept};
+
+    ghost Value = { Kept };
+
+    ghost view = { λ row. record { step = row.step; direction = row.direction; other_direction = row.other_direction; risk = row.risk; meeting = row.meeting; tick = row.tick; changes = row.changes; rank_gives = row.rank_gives; rank_stands = row.rank_stands; both_power = row.both_power } };
+
+    ghost invariant = { λ row. IfSome row.direction (λ d. d < 3600) × IfSome row.other_direction (λ d. d < 3600) };
+
+    ghost inverse = { λ kept. record { step = kept.step; direction = kept.direction; other_direction = kept.other_direction; risk = kept.risk; meeting = kept.meeting; tick = kept.tick; changes = kept.changes; rank_gives = kept.rank_gives; rank_stands = kept.rank_stands; both_power = kept.both_power } };
+}
+
+pub(crate) fn told(holds: bool) -> Verdict
+    ensures { result ≡ told holds }
+{
+    if holds { Verdict::Yes } else { Verdict::No }
+}
+
+/// A distance in metres, in tenths of a millimetre.
+fn tenths(m: u32) -> u64
+    requires { m ≤ 100000 }
+    ensures value { result ≡ metres m }
+    ensures small { result ≤ 1000000000 }
+{
+    10_000 * u64::from(m)
+}
+
+/// Whether so many steps, of so many seconds each, last so long.
+fn lasts(steps: u32, tick: u32, seconds: u32) -> bool
+    ensures { result ≡ nat_le seconds (steps * tick) }
+{
+    u64::from(seconds) <= u64::from(steps) * u64::from(tick)
+}
+
+impl AtomRow {
+    /// Open where the step is not seen.
+    fn clear(&self, m: u32) -> Verdict
+        requires { m ≤ 100000 }
+        ensures { result ≡ seen_as (λ step. told (is_separated step (metres m))) self.now.step }
+    {
+        match &self.step {
+            None => Verdict::Open,
+            Some(step) => told(separated(step, tenths(m))),
+        }
+    }
+
+    fn close(&self, m: u32) -> Verdict
+        requires { m ≤ 100000 }
+        ensures { result ≡ seen_as (λ step. told (is_close (metres m) step)) self.now.step }
+    {
+        let r = u128::from(tenths(m));
+        match &self.step {
+            None => Verdict::Open,
+            Some(step) => told(norm2(step.p()) < r * r),
+        }
+    }
+
+    fn opening(&self) -> Verdict
+        ensures { result ≡ seen_as (λ step. told (is_opening step)) self.now.step }
+    {
+        match &self.step {
+            None => Verdict::Open,
+            Some(step) => told(opening(step)),
+        }
+    }
+
+    fn other_on_port(&self) -> Verdict
+        ensures { result ≡ seen_as (on_port self.now.direction) self.now.step }
+    {
+        match (&self.step, self.direction) {
+            (Some(step), Some(direction)) => match bearing(step.p()) {
+                None => Verdict::Open,
+                Some(bearing) => told(is_on_port(direction, bearing)),
+            },
+            _ => Verdict::Open,
+        }
+    }
+
+    fn ahead(&self) -> Verdict
+        ensures { result ≡ seen_as (ahead self.now.other_direction) self.now.step }
+    {
+        match (&self.step, self.other_direction) {
+            (Some(step), Some(direction)) => told(crosses_ahead(direction, step)),
+            _ => Verdict::Open,
+        }
+    }
+
+    fn is_of_kind(&self, kind: Class) -> bool
+        ensures { result ≡ is_kind kind self.now.meeting }
+    {
+        match self.meeting {
+            None => false,
+            Some(meeting) => meeting.kind == kind,
+        }
+    }
+
+    fn is_as_old_as(&self, seconds: u32) -> bool
+        ensures { result ≡ is_age self.now.tick seconds self.now.meeting }
+    {
+        match self.meeting {
+            None => false,
+            Some(meeting) => lasts(meeting.age, self.tick, seconds),
+        }
+    }
+
+    fn begins(&self) -> bool
+        ensures { result ≡ is_first self.now.meeting }
+    {
+        match self.meeting {
+            None => false,
+            Some(meeting) => meeting.age == 0,
+        }
+    }
+}
+
+impl Atoms for AtomRow {
+    ghost use Rattle.meetings.specs.Answers.{answer_of};
+
+    ghost answer = { answer_of };
+
+    fn value(&self, atom: Atom) -> Verdict {
+        match atom {
+            Atom::Always => Verdict::Yes,
+            Atom::Never => Verdict::No,
+            Atom::Seen => told(self.step.is_some()),
+            Atom::Risk => told(self.risk),
+            Atom::Engaged => told(self.meeting.is_some()),
+            Atom::Begin => told(self.begins()),
+            Atom::Overtaking => told(self.is_of_kind(Class::Overtaking)),
+            Atom::Overtaken => told(self.is_of_kind(Class::Overtaken)),
+            Atom::HeadOn => told(self.is_of_kind(Class::HeadOn)),
+            Atom::CrossingGives => told(self.is_of_kind(Class::CrossingGives)),
+            Atom::CrossingStands => told(self.is_of_kind(Class::CrossingStands)),
+            Atom::Passing => told(self.is_of_kind(Class::Passing)),
+            Atom::Unclassified => told(self.is_of_kind(Class::Unclassified)),
+            Atom::Age(seconds) => told(self.is_as_old_as(seconds)),
+            Atom::Opening => self.opening(),
+            Atom::Clear(metres) => self.clear(metres),
+            Atom::Close(metres) => self.close(metres),
+            Atom::OtherOnPort => self.other_on_port(),
+            Atom::Ahead => self.ahead(),
+            Atom::Alters => self.changes.alters,
+            Atom::Apparent => self.changes.apparent,
+            Atom::ToStarboard => self.changes.to_starboard,
+            Atom::ToPort => self.changes.to_port,
+            Atom::OtherApparent => self.changes.other_apparent,
+            Atom::RankGives => self.rank_gives,
+            Atom::RankStands => self.rank_stands,
+            Atom::BothPower => self.both_power,
+        }
+    }
+}

@@ -1,0 +1,80 @@
+//! The rows of a pair's trace.
+ghost use Rattle.std.specs.Prelude.{ℕ, ◌≡◌, ◌<◌, ◌^◌, ◌++◌, ◌∷◌, [], List, Option, length, map, IfSome, OnErr, OnOk};
+ghost use Rattle.encounters.specs.Directions.{HaveDirections};
+ghost use Rattle.encounters.specs.Risk.{IsDetect};
+ghost use Rattle.encounters.specs.declared.act.Act.{Act};
+ghost use Rattle.encounters.specs.declared.detect.Detect.{Detect};
+ghost use Rattle.encounters.specs.declared.pair_step.PairStep.{PairStep};
+ghost use Rattle.meetings.specs.Atoms.{AreRows};
+ghost use Rattle.meetings.specs.Answers.{answer_of};
+ghost use Rattle.meetings.specs.Standing.{StandsFor};
+ghost use Rattle.meetings.specs.declared.pair.Pair.{Pair};
+
+use crate::atom_row::AtomRow;
+use crate::follower::Follower;
+use crate::pair::Pair;
+use encounters::{Act, Detect, PairStep};
+use outside::Memory;
+use std::alloc::Global;
+use std::marker::Model;
+
+/// An ordered pair of vessels with the rows of its steps so far. It stands for its pair, its numbers and the list of these
+/// steps.
+#[derive(Debug, Drop)]
+pub struct PairTrace {
+    pair: Pair,
+    follower: Follower,
+    rows: Vec<AtomRow>,
+}
+
+impl Model for PairTrace {
+    ghost use Rattle.meetings.specs.Standing.{Traced};
+
+    ghost Value = { Traced };
+
+    ghost view = { λ t. record { pair = t.pair; following = t.follower; rows = t.rows.items } };
+}
+
+impl PairTrace {
+    /// A trace of no steps yet. A tick lasts so many seconds. This takes no memory.
+    pub fn new(alloc: Global, pair: Pair, detect: Detect, act: Act, tick: u32) -> PairTrace
+        requires { IsDetect detect }
+        ensures { StandsFor result pair detect act tick [] }
+    {
+        PairTrace {
+            pair,
+            follower: Follower::new(detect, act, tick),
+            rows: Vec::new(alloc),
+        }
+    }
+
+    /// Puts a step after the others, fewer than 2^31, which is seen, or is not. Directions are below 3600. Where there is no
+    /// memory for its row, the trace is as before.
+    pub fn push(&mut self, seen: Option<PairStep>) -> Result<(), Memory>
+        requires { IfSome seen HaveDirections }
+        ensures ok { OnOk result ((pair : Pair) (detect : Detect) (act : Act) (tick : ℕ) (steps : List (Option PairStep)) → length steps < 2 ^ 31
+            → StandsFor self.old pair detect act tick steps → StandsFor self.new pair detect act tick (steps ++ seen ∷ [])) }
+        ensures memory { OnErr result (self.new ≡ self.old) }
+    {
+        self.rows.try_reserve(1)?;
+        let row = self.follower.step(seen.as_ref());
+        self.rows.push_reserved(row);
+        Ok(())
+    }
+
+    /// The rows of the steps, one a step: each answers every atom by its value at that step.
+    pub fn rows(&self) -> &[AtomRow]
+        ensures { (pair : Pair) (detect : Detect) (act : Act) (tick : ℕ) (steps : List (Option PairStep)) →
+            StandsFor self.now pair detect act tick steps → AreRows detect act tick steps (map answer_of result.now) }
+    {
+        &self.rows
+    }
+
+    /// The pair whose trace it is.
+    pub fn pair(&self) -> Pair
+        ensures { (pair : Pair) (detect : Detect) (act : Act) (tick : ℕ) (steps : List (Option PairStep)) →
+            StandsFor self.now pair detect act tick steps → result ≡ pair }
+    {
+        self.pair
+    }
+}
