@@ -59,8 +59,8 @@ still_below bound tracks later rows s c h = record {
 which : (m n : ℕ) → (m ≤ n) ⊎ (n < m)
 which m n = grind arith
 
-pub front_of_all : (bound : ℕ) (tracks : List Track) (rows all : List Row) → AreRowsBelow bound tracks rows → AreRows tracks all → (rest : List Row) × (all ≡ rows ++ rest)
-front_of_all bound tracks rows all h k =
+front_in_all : (bound : ℕ) (tracks : List Track) (rows all : List Row) → AreRowsBelow bound tracks rows → AreRows tracks all → (rest : List Row) × (all ≡ rows ++ rest)
+front_in_all bound tracks rows all h k =
     let rest = filter (λ (row : Row). nat_le bound (last_of row)) all in (
       rest,
       same_list place_of place_cmp place_total all (rows ++ rest) k.ordered
@@ -82,3 +82,12 @@ front_of_all bound tracks rows all h k =
           | inl le ↦ Contains-append_right rows _ z (in_filter (λ row. nat_le bound (last_of row)) all z i (grind (arith, nat_tests)))
           | inr lt ↦ Contains-append_left rows _ z ((h.each z).1 (is, lt))
         ]
+
+-- ---- the laws
+
+pub one_list : (tracks : List Track) (rows others : List Row) → AreRows tracks rows → AreRows tracks others → rows ≡ others
+one_list tracks rows others h k = same_list place_of place_cmp place_total rows others h.ordered k.ordered (λ z i. (k.each z).1 ((h.each z).0 i)) (λ z i. (h.each z).1 ((k.each z).0 i))
+
+pub front_of_all : (bound : ℕ) (tracks later : List Track) (rows all : List Row) → AreSettled bound tracks → Continue bound tracks later → AreRowsBelow bound tracks rows → AreRows later all
+    → (rest : List Row) × (all ≡ rows ++ rest)
+front_of_all bound tracks later rows all s c h k = front_in_all bound later rows all (still_below bound tracks later rows s c h) k

@@ -1,3 +1,4 @@
+pub mod ForCallers
 mod StrictOrder
 mod Places
 mod Stretches

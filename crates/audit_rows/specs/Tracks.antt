@@ -40,7 +40,7 @@ IsNextAt tracks index step = IfSome (slice_get tracks index) (λ track. step ≡
 
 -- ---- what no further mark changes
 
--- In each track a mark stands behind each step below the bound, so that a stretch that ends there is known to end.
+-- Each track has a mark behind each of its steps below the bound, so that a stretch that ends there is known to end.
 abbrev pub AreSettled : ℕ → List Track → Type 0
 AreSettled bound tracks = AllByRecursion (λ track. bound ≤ track.first + (length track.marks - 1)) tracks
 

@@ -22,3 +22,6 @@ pub use mark::Mark;
 pub use row::Row;
 pub use row_queue::RowQueue;
 pub use topic::Topic;
+
+#[cfg(test)]
+mod tests;

@@ -16,7 +16,9 @@ pub enum Row {
         pair: Pair,
         /// The kind of the engagement at the first step.
         kind: Class,
+        /// The first step of the stretch.
         first: u32,
+        /// The last.
         last: u32,
         /// The least distance of all its steps.
         least: u64,
@@ -29,7 +31,9 @@ pub enum Row {
         rule: u32,
         /// Open, and not broken.
         undecided: bool,
+        /// The first step of the stretch.
         first: u32,
+        /// The last.
         last: u32,
     },
 }
