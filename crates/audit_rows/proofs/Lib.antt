@@ -1,0 +1,13 @@
+pub mod ForCallers
+mod StrictOrder
+mod Places
+mod Stretches
+mod Sorts
+mod Closing
+mod Tracks
+mod Pending
+mod Popping
+mod Queues
+mod Ending
+mod Fronts
+mod Results

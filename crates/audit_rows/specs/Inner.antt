@@ -1,0 +1,4 @@
+pub mod Sorts
+pub mod Closed
+pub mod Lanes
+pub mod Queues

@@ -1,0 +1,51 @@
+//! What stands at one step of a track.
+ghost use Rattle.std.specs.Prelude.{◌≡◌, ◌↔◌, IsTrue};
+ghost use Rattle.audit_rows.specs.Inner.Sorts.{join, sort_of};
+
+use sectors::Class;
+
+/// What stands at one step of a track.
+#[derive(Clone, Copy, Debug, PartialEq, Eq)]
+pub enum Mark {
+    /// Nothing that rows tell of.
+    Nothing,
+    /// The rule is broken there.
+    Broken,
+    /// What the rule comes to there is open.
+    Undecided,
+    /// The vessels are engaged.
+    Engaged {
+        /// The kind of the engagement.
+        kind: Class,
+        /// The least distance in the step.
+        least: u64,
+    },
+}
+
+impl Mark {
+    /// Whether both, as neighbours, stand in one stretch.
+    pub(crate) fn is_like(self, other: Mark) -> bool
+        ensures { IsTrue result ↔ (sort_of self ≡ sort_of other) }
+    {
+        match (self, other) {
+            (Mark::Nothing, Mark::Nothing) => true,
+            (Mark::Broken, Mark::Broken) => true,
+            (Mark::Undecided, Mark::Undecided) => true,
+            (Mark::Engaged { .. }, Mark::Engaged { .. }) => true,
+            _ => false,
+        }
+    }
+
+    /// Both as one: the kind of the first, and the lesser distance.
+    pub(crate) fn join(self, next: Mark) -> Mark
+        ensures { result ≡ join self next }
+    {
+        match (self, next) {
+            (Mark::Engaged { kind, least }, Mark::Engaged { least: other, .. }) => Mark::Engaged {
+                kind,
+                least: least.min(other),
+            },
+            _ => self,
+        }
+    }
+}

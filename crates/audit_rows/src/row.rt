@@ -1,0 +1,62 @@
+//! The rows of an audit.
+ghost use Rattle.std.specs.Prelude.{◌≡◌};
+ghost use Rattle.audit_rows.specs.Order.{place_of};
+
+use crate::place::Place;
+use crate::topic::Topic;
+use meetings::Pair;
+use sectors::Class;
+
+/// One maximal stretch of a track, by its first and its last step.
+#[derive(Clone, Copy, Debug, PartialEq, Eq)]
+pub enum Row {
+    /// The vessels are engaged at each step of the stretch, and at neither neighbour of it.
+    Meeting {
+        /// Whose meeting it is.
+        pair: Pair,
+        /// The kind of the engagement at the first step.
+        kind: Class,
+        /// The first step of the stretch.
+        first: u32,
+        /// The last.
+        last: u32,
+        /// The least distance of all its steps.
+        least: u64,
+    },
+    /// A rule is broken at each step of the stretch, or what it comes to is open at each, and it is not so at either neighbour.
+    Verdict {
+        /// Whose duties are audited, and towards whom.
+        pair: Pair,
+        /// The rule's index.
+        rule: u32,
+        /// Open, and not broken.
+        undecided: bool,
+        /// The first step of the stretch.
+        first: u32,
+        /// The last.
+        last: u32,
+    },
+}
+
+impl Row {
+    /// Where the row stands among all rows.
+    pub(crate) fn place(&self) -> Place
+        ensures { result ≡ place_of self.now }
+    {
+        match *self {
+            Row::Meeting { pair, last, .. } => Place {
+                last,
+                topic: Topic::Meeting(pair),
+            },
+            Row::Verdict {
+                pair,
+                rule,
+                last,
+                ..
+            } => Place {
+                last,
+                topic: Topic::Verdict(pair, rule),
+            },
+        }
+    }
+}

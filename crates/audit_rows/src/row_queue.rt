@@ -1,0 +1,132 @@
+//! Many tracks at once, and their rows in one order.
+ghost use Rattle.std.specs.Prelude.{◌≡◌, ◌≤◌, ◌++◌, ◌∷◌, [], ℕ, List, length, IfOk, OnOk};
+ghost use Rattle.std.specs.List.{AllZip};
+ghost use Rattle.std.specs.Map.{values_of};
+ghost use Rattle.audit_rows.specs.declared.row.Row.{Row};
+ghost use Rattle.audit_rows.specs.Inner.Lanes.{Stands};
+ghost use Rattle.audit_rows.specs.Inner.Queues.{ArePlaced, Holds, IsPopped, StandsFor};
+ghost use Rattle.audit_rows.specs.Rows.{AreRows, AreRowsBelow};
+ghost use Rattle.audit_rows.specs.Tracks.{AreSettled, IsNew, IsNextAt, Track, begun, marked};
+
+use crate::lane::Lane;
+use crate::mark::Mark;
+use crate::place::Place;
+use crate::row::Row;
+use crate::topic::Topic;
+use outside::Memory;
+use std::alloc::Global;
+use std::collections::BTreeMap;
+
+/// Takes the first rows off, as far as they end below the bound.
+fn pop_below(
+    alloc: Global,
+    pending: &mut BTreeMap<Place, Row>,
+    bound: u32,
+) -> Result<Vec<Row>, Memory>
+    ensures { IfOk result (λ rows. ArePlaced pending.old.entries → IsPopped bound pending.old.entries rows.items pending.new.entries) }
+{
+    let mut rows = Vec::new(alloc);
+    while let Some((place, _)) = pending.first_key_value() {
+        if bound <= place.last {
+            break;
+        }
+        if let Some((_, row)) = pending.pop_first() {
+            rows.push(row)?;
+        }
+    }
+    Ok(rows)
+}
+
+/// Takes all rows off.
+fn pop_all(alloc: Global, pending: &mut BTreeMap<Place, Row>) -> Result<Vec<Row>, Memory>
+    ensures { IfOk result (λ rows. rows.items ≡ values_of pending.old.entries) }
+{
+    let mut rows = Vec::new(alloc);
+    while let Some((_, row)) = pending.pop_first() {
+        rows.push(row)?;
+    }
+    Ok(rows)
+}
+
+/// Adds the rows that the end of all tracks closes.
+fn end_all(lanes: &[Lane], pending: &mut BTreeMap<Place, Row>) -> Result<(), Memory>
+    ensures { OnOk result ((tracks : List Track) (bound : ℕ) (given : List Row) → AllZip Stands lanes.now tracks
+        → Holds pending.old.entries tracks bound given → AreRows tracks (given ++ values_of pending.new.entries)) }
+{
+    for lane in lanes {
+        if let Some(row) = lane.end() {
+            pending.insert(row.place(), row)?;
+        }
+    }
+    Ok(())
+}
+
+/// Takes the marks of many tracks, one after the other, and hands out their rows in one order, each as soon as no further mark
+/// can change what stands before it. It stands for the tracks, a bound, and the rows that it has given: those that end below the
+/// bound. After an `Err` it may only be dropped.
+#[derive(Drop)]
+pub struct RowQueue {
+    alloc: Global,
+    lanes: Vec<Lane>,
+    /// The rows that no further mark changes and that were not handed out yet.
+    pending: BTreeMap<Place, Row>,
+}
+
+impl RowQueue {
+    /// No tracks yet. This takes no memory.
+    pub fn new(alloc: Global) -> RowQueue
+        ensures { StandsFor result [] 0 [] }
+    {
+        RowQueue {
+            alloc,
+            lanes: Vec::new(alloc),
+            pending: BTreeMap::new(alloc),
+        }
+    }
+
+    /// Begins a track and gives its index: how many were begun before it. No other track may be of its topic, and it may begin
+    /// at no step below the bound of the rows that were handed out.
+    pub fn begin(&mut self, topic: Topic) -> Result<usize, Memory>
+        ensures index { IfOk result (λ index. (tracks : List Track) (bound : ℕ) (given : List Row) → StandsFor self.old tracks bound given
+            → index ≡ length tracks) }
+        ensures stands { OnOk result ((tracks : List Track) (bound first : ℕ) (given : List Row) → StandsFor self.old tracks bound given
+            → IsNew topic tracks → bound ≤ first → StandsFor self.new (tracks ++ begun topic first ∷ []) bound given) }
+    {
+        let index = self.lanes.len();
+        self.lanes.push(Lane::new(topic))?;
+        Ok(index)
+    }
+
+    /// Takes the next mark, which is for the step, of the track at the index. Where there is no such track it does nothing.
+    pub fn mark(&mut self, index: usize, step: u32, mark: Mark) -> Result<(), Memory>
+        ensures { OnOk result ((tracks : List Track) (bound : ℕ) (given : List Row) → StandsFor self.old tracks bound given
+            → IsNextAt tracks index step → StandsFor self.new (marked tracks index mark) bound given) }
+    {
+        let Some(lane) = self.lanes.get_mut(index) else {
+            return Ok(());
+        };
+        if let Some(row) = lane.push(step, mark) {
+            self.pending.insert(row.place(), row)?;
+        }
+        Ok(())
+    }
+
+    /// Hands out the further rows that end below the bound, up to which the tracks must be settled. The bound may not sink.
+    pub fn rows_below(&mut self, bound: u32) -> Result<Vec<Row>, Memory>
+        ensures stands { IfOk result (λ rows. (tracks : List Track) (old : ℕ) (given : List Row) → StandsFor self.old tracks old given
+            → old ≤ bound → AreSettled bound tracks → StandsFor self.new tracks bound (given ++ rows.items)) }
+        ensures rows { IfOk result (λ rows. (tracks : List Track) (old : ℕ) (given : List Row) → StandsFor self.old tracks old given
+            → old ≤ bound → AreSettled bound tracks → AreRowsBelow bound tracks (given ++ rows.items)) }
+    {
+        pop_below(self.alloc, &mut self.pending, bound)
+    }
+
+    /// Ends all tracks, and hands out the rows that are left.
+    pub fn finish(mut self) -> Result<Vec<Row>, Memory>
+        ensures { IfOk result (λ rows. (tracks : List Track) (bound : ℕ) (given : List Row) → StandsFor self tracks bound given
+            → AreRows tracks (given ++ rows.items)) }
+    {
+        end_all(&self.lanes, &mut self.pending)?;
+        pop_all(self.alloc, &mut self.pending)
+    }
+}
