@@ -91,7 +91,8 @@ impl Program {
 
     /// How many positions ahead the farthest of the formulas looks, 0 to 7200.
     pub fn reach(&self) -> u32
-        ensures { (formulas : List FormulaTree) → IsProgramOf self.now formulas → result ≡ greatest_reach formulas }
+        ensures small { result ≤ 7200 }
+        ensures formulas { (formulas : List FormulaTree) → IsProgramOf self.now formulas → result ≡ greatest_reach formulas }
     {
         self.reach
     }

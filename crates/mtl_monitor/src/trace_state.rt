@@ -167,6 +167,7 @@ impl TraceState {
     pub fn answer(&self, program: &Program, formula: usize) -> Option<(u32, Verdict)>
         requires fits { Fits program.now self.now }
         requires inside { formula < count_of program.now }
+        ensures within { IfSome result (λ a. a.0 < fed_of self.now) }
         ensures value { IfSome result (λ a. a.1 ≡ last_value program.now self.now formula) }
         ensures fed { (formulas : List FormulaTree) (rows : Trace) → Follows program.now self.now formulas rows →
             IsFed result (formula_at formulas formula) rows }

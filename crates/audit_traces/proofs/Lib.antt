@@ -1,0 +1,11 @@
+mod Counts
+mod Runs
+mod Totals
+mod Begun
+mod RowAnswers
+mod TraceTracks
+mod TraceKeeping
+mod SeenVessels
+mod AddedPairs
+mod FoundPairs
+mod Reach

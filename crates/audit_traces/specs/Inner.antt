@@ -1,0 +1,3 @@
+pub mod Counting
+pub mod RowAnswers
+pub mod Pairing

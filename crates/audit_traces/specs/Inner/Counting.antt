@@ -1,0 +1,23 @@
+-- How a total counts. Each of its numbers stands still at its type's end.
+use Rattle.std.specs.Prelude.{ℕ, ◌≡◌, ◌+◌, List, Some, length, slice_get}
+use Rattle.std.specs.List.{filter}
+use Rattle.mtl_formulas.specs.declared.verdict.Verdict.{Verdict}
+use Rattle.mtl_formulas.specs.declared.verdict.Verdict.TheVariants.{No, Open, Yes}
+use Rattle.audit_rows.specs.declared.row.Row.{Row}
+use Rattle.audit_traces.specs.AuditTotals.{is_run_of, told}
+use Rattle.audit_traces.specs.declared.total.Total.{Total}
+
+-- with one more position, at which the rule's formula has the value
+abbrev pub with_value : Verdict → Total → Total
+with_value Yes total = record total { positions = told (total.positions + 1); yes = told (total.yes + 1) }
+with_value No total = record total { positions = told (total.positions + 1); no = told (total.no + 1) }
+with_value Open total = record total { positions = told (total.positions + 1); undecided = told (total.undecided + 1) }
+
+abbrev pub with_run : Total → Total
+with_run total = record total { runs = told (total.runs + 1) }
+
+-- Each total has as many more runs as the rows tell of its rule, and the rest of it stays.
+pub record AddRuns (rows : List Row) (old new : List Total) : Type 0 where
+  pub as_many : length new ≡ length old
+  pub each : (rule runs : ℕ) (total : Total) → slice_get old rule ≡ Some total → total.runs ≡ told runs
+      → slice_get new rule ≡ Some (record total { runs = told (runs + length (filter (is_run_of rule) rows)) })

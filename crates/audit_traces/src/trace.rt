@@ -1,0 +1,171 @@
+//! One trace.
+ghost use Rattle.std.specs.Prelude.{◌≡◌, ◌<◌, ◌^◌, ◌∷◌, ◌++◌, [], List, length, Option};
+ghost use Rattle.std.specs.Option.{option_copied};
+ghost use Rattle.encounters.specs.Standing.{IsStateAfter};
+ghost use Rattle.encounters.specs.declared.detect.Detect.{Detect};
+ghost use Rattle.encounters.specs.declared.pair_step.PairStep.{PairStep};
+ghost use Rattle.audit_traces.specs.AuditTracks.{IsMeetingMark};
+
+use crate::marks::Marks;
+use audit_rows::Mark;
+use closest_approach::least;
+use encounters::{Act, Detect, EngagementState, PairStep};
+use meetings::{Follower, Pair};
+use mtl_monitor::{Program, TraceState};
+use outside::Memory;
+use std::alloc::Global;
+
+/// What the meeting's track has at a step: the kind of the engagement, and the least distance within the step.
+fn meeting_mark(state: &EngagementState, seen: Option<&PairStep>) -> Mark
+    ensures { (detect : Detect) (steps : List (Option PairStep)) → IsStateAfter detect (steps ++ option_copied seen.entry ∷ []) state.now
+        → IsMeetingMark detect (steps ++ option_copied seen.entry ∷ []) (length steps) result }
+{
+    match (state, seen) {
+        (EngagementState::Engaged { kind, .. }, Some(pair)) => Mark::Engaged {
+            kind: *kind,
+            least: least(&pair.step),
+        },
+        _ => Mark::Nothing,
+    }
+}
+
+/// One trace: its pair, its first step, the engagement, and the values of the rules' formulas so far. It stands for the steps
+/// so far and what they answer to the atoms.
+#[derive(Drop)]
+pub struct AuditTrace {
+    pair: Pair,
+    start: u32,
+    follower: Follower,
+    values: TraceState,
+    ghost early: { start < 2 ^ 31 },
+}
+
+impl AuditTrace {
+    ghost use Rattle.std.specs.Prelude.{◌+◌, ◌≤◌, ℕ, IfOk, IfSome, OnOk};
+    ghost use Rattle.encounters.specs.Directions.{HaveDirections};
+    ghost use Rattle.encounters.specs.Risk.{IsDetect};
+    ghost use Rattle.mtl_monitor.specs.Following.{Fits, IsProgramOf, count_of, fed_of};
+    ghost use Rattle.mtl_monitor.specs.declared.program.Program.{Program};
+    ghost use Rattle.audit_rows.specs.Tracks.{Track};
+    ghost use Rattle.audit_rows.specs.declared.row.Row.{Row};
+    ghost use Rattle.audit_traces.specs.Audited.{Numbers};
+    ghost use Rattle.audit_traces.specs.Inner.RowAnswers.{MarksRule, MarksRules};
+    ghost use Rattle.audit_traces.specs.Tallies.{Keeps, rules_of};
+    ghost use Rattle.audit_traces.specs.TraceKeeping.{AreTracksSoFar, HasTracksOf, IsReady, Known, StandsFor, Steps, formulas_of, opened, steps_of};
+
+    /// The trace of a pair that begins at a step, of which there are none yet.
+    pub fn new(
+        alloc: Global,
+        program: &Program,
+        pair: Pair,
+        start: u32,
+        detect: Detect,
+        act: Act,
+        tick: u32,
+    ) -> Result<AuditTrace, Memory>
+        requires detect { IsDetect detect }
+        requires early { start < 2 ^ 31 }
+        ensures ready { IfOk result (IsReady program.now) }
+        ensures steps { IfOk result (λ trace. steps_of trace ≡ 0) }
+        ensures stands { IfOk result (λ trace. (numbers : Numbers) → IsProgramOf program.now (formulas_of numbers) → numbers.detect ≡ detect
+            → numbers.act ≡ act → numbers.tick ≡ tick → StandsFor program.now numbers trace (opened pair start)) }
+    {
+        Ok(AuditTrace {
+            pair,
+            start,
+            follower: Follower::new(detect, act, tick),
+            values: TraceState::new(alloc, program)?,
+        })
+    }
+
+    /// The pair.
+    pub fn pair(&self) -> Pair
+        ensures { (program : Program) (numbers : Numbers) (known : Known) → StandsFor program numbers self.now known → result ≡ known.pair }
+    {
+        self.pair
+    }
+
+    /// Marks the position that the last row has decided for a rule, if there is one: the rule's track has this index.
+    fn mark_rule(
+        &self,
+        program: &Program,
+        marks: &mut Marks,
+        index: usize,
+        rule: usize,
+    ) -> Result<(), Memory>
+        requires fits { Fits program.now self.now.values }
+        requires few { fed_of self.now.values ≤ 2 ^ 31 }
+        requires formula { rule < count_of program.now }
+        requires total { rule < rules_of marks.old }
+        ensures as_many { rules_of marks.new ≡ rules_of marks.old }
+        ensures marks { OnOk result (MarksRule program.now self.now index rule marks.old marks.new) }
+    {
+        match self.values.answer(program, rule) {
+            Some((position, value)) => marks.mark_rule(index, rule, self.start + position, value),
+            None => Ok(()),
+        }
+    }
+
+    /// Marks the positions that the last row has decided: the rules' tracks in the queue begin with that of rule 0 at this index.
+    fn mark_rules(&self, program: &Program, marks: &mut Marks, first: usize) -> Result<(), Memory>
+        requires fits { Fits program.now self.now.values }
+        requires few { fed_of self.now.values ≤ 2 ^ 31 }
+        requires totals { rules_of marks.old ≡ count_of program.now }
+        requires room { first + count_of program.now < 2 ^ 64 }
+        ensures as_many { rules_of marks.new ≡ rules_of marks.old }
+        ensures marks { OnOk result (MarksRules program.now self.now first (count_of program.now) marks.old marks.new) }
+    {
+        for rule in 0..program.formula_count() {
+            self.mark_rule(program, marks, first + rule, rule)?;
+        }
+        Ok(())
+    }
+
+    /// Takes the next step, which is seen, or is not: its tracks, of which the meeting's is the one at this index, get the marks that
+    /// it decides.
+    pub fn step(
+        &mut self,
+        program: &Program,
+        seen: Option<&PairStep>,
+        step: u32,
+        marks: &mut Marks,
+        first: usize,
+    ) -> Result<(), Memory>
+        requires seen { IfSome (option_copied seen) HaveDirections }
+        requires ready { IsReady program.now self.old }
+        requires few { steps_of self.old < 2 ^ 31 }
+        requires totals { rules_of marks.old ≡ count_of program.now }
+        requires room { first + count_of program.now + 1 < 2 ^ 64 }
+        ensures ready { IsReady program.now self.new }
+        ensures steps { steps_of self.new ≡ steps_of self.old + 1 }
+        ensures as_many { rules_of marks.new ≡ rules_of marks.old }
+        ensures stands { OnOk result ((numbers : Numbers) (known : Known) (before mine after : List Track) (bound : ℕ) (given : List Row)
+            → StandsFor program.now numbers self.old known → step ≡ known.start + length known.steps
+            → AreTracksSoFar numbers known mine → first ≡ length before → Keeps marks.old (length numbers.rules) (before ++ mine ++ after) bound given
+            → Steps program.now numbers self.new known (option_copied seen.entry) marks.new before after bound given) }
+    {
+        let row = self.follower.step(seen);
+        self.values.feed(program, &row);
+        marks.mark_meeting(first, step, meeting_mark(&self.follower.state(), seen))?;
+        self.mark_rules(program, marks, first + 1)
+    }
+
+    /// Ends the trace: its tracks get the marks of all positions that are left.
+    pub fn end(&mut self, program: &Program, marks: &mut Marks, first: usize) -> Result<(), Memory>
+        requires ready { IsReady program.now self.old }
+        requires few { steps_of self.old ≤ 2 ^ 31 }
+        requires totals { rules_of marks.old ≡ count_of program.now }
+        requires room { first + count_of program.now + 1 < 2 ^ 64 }
+        ensures as_many { rules_of marks.new ≡ rules_of marks.old }
+        ensures ended { OnOk result ((numbers : Numbers) (known : Known) (before mine after : List Track) (bound : ℕ) (given : List Row)
+            → StandsFor program.now numbers self.old known → AreTracksSoFar numbers known mine → first ≡ length before
+            → Keeps marks.old (length numbers.rules) (before ++ mine ++ after) bound given
+            → HasTracksOf numbers known marks.new before after bound given) }
+    {
+        for _ in 0..program.reach() {
+            self.values.pass_end(program);
+            self.mark_rules(program, marks, first + 1)?;
+        }
+        Ok(())
+    }
+}
