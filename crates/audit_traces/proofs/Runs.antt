@@ -3,7 +3,7 @@ use Rattle.std.proofs.Common.{◌≡◌, ℕ, zero, suc, ◌+◌, ◌<◌, List,
 use Rattle.std.specs.List.{filter, slice_get}
 use Rattle.std.proofs.Math.ListN.{set}
 use Rattle.audit_rows.specs.declared.row.Row.{Row}
-use Rattle.audit_traces.specs.AuditTotals.{is_run_of, told}
+use Rattle.audit_traces.specs.RuleCounts.{is_run_of, told}
 use Rattle.audit_traces.specs.Inner.Counting.{AddRuns}
 use Rattle.audit_traces.specs.declared.total.Total.{Total}
 use Rattle.audit_traces.proofs.Counts.{length-filter_append}

@@ -15,7 +15,7 @@ use Rattle.audit_rows.specs.declared.row.Row.{Row}
 use Rattle.audit_rows.specs.declared.topic.Topic.{Topic}
 use Rattle.audit_rows.specs.declared.topic.Topic.TheVariants as topic
 use Rattle.audit_rows.specs.Tracks.{Track, marked}
-use Rattle.audit_traces.specs.AuditTotals.{is_run_of, told}
+use Rattle.audit_traces.specs.RuleCounts.{is_run_of, told}
 use Rattle.audit_traces.specs.Inner.Counting.{AddRuns, with_value}
 use Rattle.audit_traces.specs.Tallies.{AreTallies, IsMeetingAt, IsMeetingTopic, IsRuleAt, Tallies, begun_tracks, counted, is_broken, is_nothing, is_of_rule, is_undecided}
 use Rattle.audit_traces.specs.ValueMarks.{mark_of}

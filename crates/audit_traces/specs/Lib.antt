@@ -10,7 +10,7 @@ pub mod Audited
 pub mod Contacts
 pub mod ValueMarks
 pub mod AuditTracks
-pub mod AuditTotals
+pub mod RuleCounts
 pub mod Tallies
 pub mod TraceKeeping
 pub mod Inner

@@ -9,7 +9,7 @@ use Rattle.audit_rows.specs.declared.mark.Mark.TheVariants.{Nothing, Broken, Und
 use Rattle.audit_rows.specs.declared.row.Row.{Row}
 use Rattle.audit_rows.specs.declared.topic.Topic.{Topic}
 use Rattle.audit_rows.specs.declared.topic.Topic.TheVariants.{Meeting, Verdict}
-use Rattle.audit_traces.specs.AuditTotals.{is_run_of, told}
+use Rattle.audit_traces.specs.RuleCounts.{is_run_of, told}
 use Rattle.audit_traces.specs.declared.marks.Marks.{Marks}
 use Rattle.audit_traces.specs.declared.total.Total.{Total}
 

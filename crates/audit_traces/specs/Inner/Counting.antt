@@ -4,7 +4,7 @@ use Rattle.std.specs.List.{filter}
 use Rattle.mtl_formulas.specs.declared.verdict.Verdict.{Verdict}
 use Rattle.mtl_formulas.specs.declared.verdict.Verdict.TheVariants.{No, Open, Yes}
 use Rattle.audit_rows.specs.declared.row.Row.{Row}
-use Rattle.audit_traces.specs.AuditTotals.{is_run_of, told}
+use Rattle.audit_traces.specs.RuleCounts.{is_run_of, told}
 use Rattle.audit_traces.specs.declared.total.Total.{Total}
 
 -- with one more position, at which the rule's formula has the value

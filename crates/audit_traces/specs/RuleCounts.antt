@@ -1,4 +1,4 @@
--- What each rule comes to over all traces.
+-- How a total counts stretches and positions.
 use Rattle.std.specs.Prelude.{ℕ, ◌-◌, ◌^◌, ◌==◌, ◌&&◌, min, Bool, false, not}
 use Rattle.audit_rows.specs.declared.row.Row.{Row}
 use Rattle.audit_rows.specs.declared.row.Row.TheVariants as row
