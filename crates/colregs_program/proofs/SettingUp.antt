@@ -4,11 +4,11 @@ use Rattle.std.specs.declared.alloc.Global.{Global}
 use Rattle.outside.specs.Shelves.{Files, Fetches, content_of}
 use Rattle.outside.specs.declared.shelf.Fetched.TheVariants as fetched
 use Rattle.scenario.specs.ScenarioReading.{IsRefused, Means}
-use Rattle.scenario.specs.declared.key.Key.{Key}
-use Rattle.scenario.specs.declared.cause.Cause.{Cause}
+use Rattle.scenario_keys.specs.declared.key.Key.{Key}
+use Rattle.scenario_keys.specs.declared.cause.Cause.{Cause}
 use Rattle.scenario.specs.declared.values.Scenario.{Scenario}
-use Rattle.scenario.specs.declared.fault.ScenarioFault.{ScenarioFault}
-use Rattle.scenario.specs.declared.fault.ScenarioFault.TheVariants as refusal
+use Rattle.scenario_keys.specs.declared.fault.ScenarioFault.{ScenarioFault}
+use Rattle.scenario_keys.specs.declared.fault.ScenarioFault.TheVariants as refusal
 use Rattle.colregs_program.specs.Answers.{greatest_scenario, LiesUnder}
 use Rattle.colregs_program.specs.Inner.SetUps.{IsSetUpDue, set_up_fault}
 use Rattle.colregs_program.specs.declared.set_up.SetUpFault.{SetUpFault}

@@ -1,6 +1,6 @@
 //! The line on standard error that names a fault.
 ghost use Rattle.std.specs.Prelude.{◌≡◌, IfOk, OnErr, IsTrue, string_bytes};
-ghost use Rattle.scenario.specs.declared.key.Key.{Key};
+ghost use Rattle.scenario_keys.specs.declared.key.Key.{Key};
 ghost use Rattle.colregs_program.specs.FaultLines.{fault_line, is_made};
 
 use crate::status::{Status, Which};

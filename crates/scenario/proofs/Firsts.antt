@@ -1,90 +1,208 @@
--- The first fault of a list of rows, and the row of a number.
-use Rattle.std.proofs.Common.{◌≡◌, ℕ, suc, List, [], ◌∷◌, ◌++◌, map, find, ◌==◌, true, false, if◌then◌else◌, Option, Some, None, refl, ap, sym, ◌∙◌, All, IfSome, arith, option_map}
+-- The first fault of the keys of a document: of the keys before the formulas, of the formulas, and of own ship's keys.
+use Rattle.std.proofs.Common.{◌≡◌, List, [], ◌∷◌, ◌++◌, map, Bool, true, false, ◌⊎◌, inl, inr, Option, Some, None, Result, Ok, Err, IfErr, OnOk, refl, ap, sym, ◌∙◌, All, subst}
+use Rattle.std.specs.Prelude.{codes}
+use Rattle.std.specs.List.{list_all}
+use Rattle.std.proofs.lemmas.Bool.{and_parts}
 use Rattle.std.proofs.lemmas.List.Elements.{All-cons}
-use Rattle.scenario.specs.ScenarioKeys.{Row}
-use Rattle.scenario.specs.KeyFaults.{IsFirst}
-use Rattle.scenario.specs.FirstOf.{first_of}
-use Rattle.scenario.specs.Inner.SeenRows.{seen}
-use Rattle.scenario.specs.declared.rows.KeyRow.{KeyRow}
-use Rattle.scenario.specs.declared.key.Key.{Key}
-use Rattle.scenario.specs.declared.cause.Cause.{Cause}
+use Rattle.toml.specs.Data.{Members}
+use Rattle.scenario_keys.specs.FirstFaults.{IsFound}
+use Rattle.scenario_keys.specs.FirstOf.{first_of}
+use Rattle.scenario_keys.specs.ScenarioKeys.{Row, row, first_rows, formula_rows, own_rows, rows}
+use Rattle.scenario_keys.specs.declared.rows.Kind.{Kind}
+use Rattle.scenario_keys.specs.declared.rows.Kind.TheVariants as kind
+use Rattle.scenario_keys.specs.declared.key.Key.{Key}
+use Rattle.scenario_keys.specs.declared.cause.Cause.{Cause}
+use Rattle.scenario_keys.proofs.ForCallers.{all_append, all_back, all_front, all_head, all_none, all_tail, first_ahead, first_behind, first_here, one_more}
+use Rattle.scenario.specs.KeyFaults.{basis_of, fault_of, tick_of}
+use Rattle.scenario.specs.RuleValues.{formula_tables, rule_numbers_of}
+use Rattle.added_rules.specs.FormulaTables.{IsFormulaFault}
+use Rattle.added_rules.specs.ScenarioRules.{IsWeightFault}
+use Rattle.scenario_keys.specs.ToldFaults.{IfFault}
+use Rattle.scenario_keys.specs.declared.fault.ScenarioFault.{ScenarioFault}
+use Rattle.scenario_keys.specs.declared.fault.ScenarioFault.TheVariants as refusal
+use Rattle.scenario.specs.DocumentFaults.{IsFaultless, IsFirstFault, IsTold, IsToldBy}
+use Rattle.scenario.specs.Inner.NoFaults.{HaveNoFault}
+use Rattle.scenario.specs.declared.basis.Basis.{Basis}
 
-one_more : (test : Row → Option (Key × Cause)) (here : Row) (after : List Row) (found : Key × Cause) →
-    test here ≡ None → IsFirst test after found → IsFirst test (here ∷ after) found
-one_more test here after found h is = record {
-  before = here ∷ is.before;
-  here = is.here;
-  after = is.after;
-  order = ap (λ l. here ∷ l) is.order;
-  faultless = All-cons (λ row. test row ≡ None) here is.before h is.faultless;
-  faulty = is.faulty;
-}
+-- what is told where the first of all tests comes out
 
-first_is : (test : Row → Option (Key × Cause)) (list : List Row) (found : Key × Cause) → first_of (map test list) ≡ Some found → IsFirst test list found
-first_is test [] found h = cc
-first_is test (here ∷ after) found h =
-    elim (test here) as (λ t. test here ≡ t → first_of (t ∷ map test after) ≡ Some found → IsFirst test (here ∷ after) found) [
-      | None ↦ λ e f. one_more test here after found e (first_is test after found f)
-      | Some fault ↦ λ e f. record { before = []; here = here; after = after; order = refl; faultless = λ k d lt. absurd (omega arith); faulty = e ∙ f }
-    ] refl h
-
-none_is : (test : Row → Option (Key × Cause)) (list : List Row) → first_of (map test list) ≡ None → All (λ row. test row ≡ None) list
-none_is test [] h = λ k d lt. absurd (omega arith)
-none_is test (here ∷ after) h =
-    elim (test here) as (λ t. test here ≡ t → first_of (t ∷ map test after) ≡ None → All (λ row. test row ≡ None) (here ∷ after)) [
-      | None ↦ λ e f. All-cons (λ row. test row ≡ None) here after e (none_is test after f)
-      | Some fault ↦ λ e f. cc
-    ] refl h
+found_first : (test : Row → Option (Key × Cause)) (list : List Row) (result : Option (Key × Cause)) → result ≡ first_of (map test list) →
+    IsFound (λ row told. told ≡ test row) list result
+found_first test [] result e = subst (λ r. IsFound (λ row told. told ≡ test row) [] r) (sym e) (all_none (λ row. None ≡ test row))
+found_first test (here ∷ after) result e =
+    elim (test here) as (λ t. test here ≡ t → result ≡ first_of (t ∷ map test after) → IsFound (λ row told. told ≡ test row) (here ∷ after) result) [
+      | None ↦ λ t f. later here after result (sym t) (found_first test after result f)
+      | Some fault ↦ λ t f. subst (λ r. IsFound (λ row told. told ≡ test row) (here ∷ after) r) (sym f)
+          (first_here (λ row told. told ≡ test row) here after fault (sym t))
+    ] refl e
+  where
+    later : (here : Row) (after : List Row) (result : Option (Key × Cause)) → None ≡ test here → IsFound (λ row told. told ≡ test row) after result →
+        IsFound (λ row told. told ≡ test row) (here ∷ after) result
+    later here after None h is = All-cons (λ row. None ≡ test row) here after h is
+    later here after (Some found) h is = one_more (λ row told. told ≡ test row) here after found h is
 
 -- the tests of rows, each seen as the definition has it
-pub seen_tests : {A : Type 0} → (test : Row → Option (Key × Cause)) (view : A → Row) (list : List A) → map (λ row. test (view row)) list ≡ map test (map view list)
+seen_tests : {A : Type 0} → (test : Row → Option (Key × Cause)) (view : A → Row) (list : List A) → map (λ row. test (view row)) list ≡ map test (map view list)
 seen_tests test view [] = refl
 seen_tests test view (row ∷ list) = ap (λ l. test (view row) ∷ l) (seen_tests test view list)
 
--- what is told where the first of all tests comes out
-pub told : (test : Row → Option (Key × Cause)) (list : List Row) (result : Option (Key × Cause)) → result ≡ first_of (map test list) →
-    IfSome result (IsFirst test list) × (result ≡ None → All (λ row. test row ≡ None) list)
-told test list None e = (tt, λ h. none_is test list (sym e))
-told test list (Some found) e = (first_is test list found (sym e), λ h. cc)
+pub first_told : {A : Type 0} (test : Row → Option (Key × Cause)) (view : A → Row) (list : List A) (rows : List Row) (result : Option (Key × Cause)) →
+    map view list ≡ rows → result ≡ first_of (map (λ row. test (view row)) list) → IsFound (λ row told. told ≡ test row) rows result
+first_told test view list rows result e f =
+    found_first test rows result (f ∙ ap first_of (seen_tests test view list) ∙ ap (λ l. first_of (map test l)) e)
 
--- the same the other way round: what is the first fault of a list, and that a list without one has none
+-- keys that are none of formulas are told by their faults
 
-all_head : (test : Row → Option (Key × Cause)) (here : Row) (rest : List Row) → All (λ row. test row ≡ None) (here ∷ rest) → test here ≡ None
-all_head test here rest all = all 0 here (omega arith)
+abbrev pub is_plain : Kind → Bool
+is_plain kind.FormulaName = false
+is_plain kind.Formulas = false
+is_plain _ = true
 
-all_tail : (test : Row → Option (Key × Cause)) (here : Row) (rest : List Row) → All (λ row. test row ≡ None) (here ∷ rest) → All (λ row. test row ≡ None) rest
-all_tail test here rest all = λ k d lt. all (suc k) d (omega arith)
+told_plain : (here : Kind) (basis : Basis) (document : Members) (row : Row) (told : Option (Key × Cause)) → is_plain here ≡ true →
+    told ≡ fault_of basis document row → IsToldBy here basis document row told
+told_plain kind.FormulaName basis document row told h e = absurd (cc)
+told_plain kind.Formulas basis document row told h e = absurd (cc)
+told_plain (kind.Number of) basis document row told h e = e
+told_plain (kind.Numbers list) basis document row told h e = e
+told_plain (kind.Tables most) basis document row told h e = e
+told_plain kind.Plans basis document row told h e = e
+told_plain kind.Document basis document row told h e = e
+told_plain kind.FormulaText basis document row told h e = e
 
-pub none_of : (test : Row → Option (Key × Cause)) (list : List Row) → All (λ row. test row ≡ None) list → first_of (map test list) ≡ None
-none_of test [] all = refl
-none_of test (here ∷ rest) all = let e = all_head test here rest all in rw e (none_of test rest (all_tail test here rest all))
+pub plain_told : (here : Kind) (basis : Basis) (document : Members) (row : Row) (told : Option (Key × Cause)) → is_plain here ≡ true →
+    IsToldBy here basis document row told → told ≡ fault_of basis document row
+plain_told kind.FormulaName basis document row told h e = absurd (cc)
+plain_told kind.Formulas basis document row told h e = absurd (cc)
+plain_told (kind.Number of) basis document row told h e = e
+plain_told (kind.Numbers list) basis document row told h e = e
+plain_told (kind.Tables most) basis document row told h e = e
+plain_told kind.Plans basis document row told h e = e
+plain_told kind.Document basis document row told h e = e
+plain_told kind.FormulaText basis document row told h e = e
 
-first_behind : (test : Row → Option (Key × Cause)) (before after : List Row) (here : Row) (found : Key × Cause) →
-    All (λ row. test row ≡ None) before → test here ≡ Some found → first_of (map test (before ++ (here ∷ after))) ≡ Some found
-first_behind test [] after here found all e = rw e
-first_behind test (earlier ∷ before) after here found all e =
-    let f = all_head test earlier before all in rw f (first_behind test before after here found (all_tail test earlier before all) e)
+abbrev pub IsPlain : Row → Type 0
+IsPlain row = is_plain row.kind ≡ true
 
-pub first_at : (test : Row → Option (Key × Cause)) (list : List Row) (found : Key × Cause) → IsFirst test list found → first_of (map test list) ≡ Some found
-first_at test list found is = rw is.order (first_behind test is.before is.after is.here found is.faultless is.faulty)
+all_plain : (list : List Row) → list_all (λ row. is_plain row.kind) list ≡ true → All IsPlain list
+all_plain [] h = all_none IsPlain
+all_plain (row ∷ list) h =
+    let (a, b) = and_parts (is_plain row.kind) (list_all (λ row. is_plain row.kind) list) h in
+    All-cons IsPlain row list a (all_plain list b)
 
--- a row that is found among the program's is the one that is found among the definition's
+pub first_plain : All IsPlain first_rows
+unfolding first_rows
+first_plain = all_plain first_rows refl
 
-find_seen : (number : ℕ) (list : List KeyRow) → option_map seen (find (λ row. row.number == number) list) ≡ find (λ row. row.number == number) (map seen list)
-find_seen number [] = refl
-find_seen number (row ∷ list) =
-    elim (row.number == number) as (λ b. option_map seen (if b then Some row else find (λ row. row.number == number) list)
-    ≡ (if b then Some (seen row) else find (λ row. row.number == number) (map seen list))) [
-      | true ↦ refl
-      | false ↦ find_seen number list
+pub own_plain : All IsPlain own_rows
+unfolding own_rows
+own_plain = all_plain own_rows refl
+
+none_told : (basis : Basis) (document : Members) (list : List Row) → All IsPlain list → All (λ row. None ≡ fault_of basis document row) list →
+    All (λ row. IsTold basis document row None) list
+none_told basis document [] plain all = all_none (λ row. IsTold basis document row None)
+none_told basis document (row ∷ list) plain all =
+    All-cons (λ row. IsTold basis document row None) row list
+    (told_plain row.kind basis document row None (all_head IsPlain row list plain) (all_head (λ row. None ≡ fault_of basis document row) row list all))
+    (none_told basis document list (all_tail IsPlain row list plain) (all_tail (λ row. None ≡ fault_of basis document row) row list all))
+
+pub found_told : (basis : Basis) (document : Members) (list : List Row) (result : Option (Key × Cause)) → All IsPlain list →
+    IsFound (λ row told. told ≡ fault_of basis document row) list result → IsFound (IsTold basis document) list result
+found_told basis document list None plain all = none_told basis document list plain all
+found_told basis document list (Some found) plain is =
+    let parts = subst (λ l. All IsPlain l) is.order plain in
+    record {
+      before = is.before;
+      here = is.here;
+      after = is.after;
+      order = is.order;
+      faultless = none_told basis document is.before (all_front IsPlain is.before (is.here ∷ is.after) parts) is.faultless;
+      faulty = told_plain is.here.kind basis document is.here (Some found)
+          (all_head IsPlain is.here is.after (all_back IsPlain is.before (is.here ∷ is.after) parts)) is.faulty;
+    }
+
+pub no_fault : (basis : Basis) (document : Members) (list : List Row) → All IsPlain list → All (λ row. IsTold basis document row None) list →
+    All (λ row. fault_of basis document row ≡ None) list
+no_fault basis document [] plain all = all_none (λ row. fault_of basis document row ≡ None)
+no_fault basis document (row ∷ list) plain all =
+    All-cons (λ row. fault_of basis document row ≡ None) row list
+    (sym (plain_told row.kind basis document row None (all_head IsPlain row list plain) (all_head (λ row. IsTold basis document row None) row list all)))
+    (no_fault basis document list (all_tail IsPlain row list plain) (all_tail (λ row. IsTold basis document row None) row list all))
+
+-- the three parts of the table together
+
+pub faultless : (need_own : Bool) (document : Members) → IsFound (IsTold (basis_of need_own document) document) first_rows None →
+    IsFound (IsTold (basis_of need_own document) document) formula_rows None → IsFound (IsTold (basis_of need_own document) document) own_rows None →
+    IsFaultless need_own document
+unfolding IsFaultless
+faultless need_own document a b c =
+    let P : Row → Type 0 = λ row. IsTold (basis_of need_own document) document row None in
+    all_append P first_rows (formula_rows ++ own_rows) a (all_append P formula_rows own_rows b c)
+
+pub first_in_front : (need_own : Bool) (document : Members) (found : Key × Cause) → IsFound (IsTold (basis_of need_own document) document) first_rows (Some found) →
+    IsFirstFault need_own document found
+unfolding IsFirstFault
+first_in_front need_own document found a = first_ahead (IsTold (basis_of need_own document) document) first_rows (formula_rows ++ own_rows) found a
+
+pub first_in_formulas : (need_own : Bool) (document : Members) (found : Key × Cause) → IsFound (IsTold (basis_of need_own document) document) first_rows None →
+    IsFound (IsTold (basis_of need_own document) document) formula_rows (Some found) → IsFirstFault need_own document found
+unfolding IsFirstFault
+first_in_formulas need_own document found a b =
+    let test = IsTold (basis_of need_own document) document in
+    first_behind test first_rows (formula_rows ++ own_rows) found a (first_ahead test formula_rows own_rows found b)
+
+pub first_in_own : (need_own : Bool) (document : Members) (found : Key × Cause) → IsFound (IsTold (basis_of need_own document) document) first_rows None →
+    IsFound (IsTold (basis_of need_own document) document) formula_rows None → IsFound (IsTold (basis_of need_own document) document) own_rows (Some found) →
+    IsFirstFault need_own document found
+unfolding IsFirstFault
+first_in_own need_own document found a b c =
+    let test = IsTold (basis_of need_own document) document in
+    first_behind test first_rows (formula_rows ++ own_rows) found a (first_behind test formula_rows own_rows found b c)
+
+-- the keys of formulas
+
+pub formulas_none : (need_own : Bool) (document : Members) → IsFormulaFault (tick_of document) (formula_tables document) None →
+    IsWeightFault (tick_of document) (rule_numbers_of document) (formula_tables document) None → IsFound (IsTold (basis_of need_own document) document) formula_rows None
+unfolding formula_rows fault_of
+formulas_none need_own document h k =
+    let P : Row → Type 0 = λ row. IsTold (basis_of need_own document) document row None in
+    let names = row 32 (codes "") (codes "formula.name") kind.FormulaName in
+    let texts = row 33 (codes "") (codes "formula.text") kind.FormulaText in
+    let weights = row 34 (codes "") (codes "formulas") kind.Formulas in
+    All-cons P names (texts ∷ weights ∷ []) h (All-cons P texts (weights ∷ []) refl (All-cons P weights [] k (all_none P)))
+
+formulas_some : (need_own : Bool) (document : Members) (found : Key × Cause) → IsFormulaFault (tick_of document) (formula_tables document) (Some found)
+    ⊎ (IsFormulaFault (tick_of document) (formula_tables document) None × IsWeightFault (tick_of document) (rule_numbers_of document) (formula_tables document) (Some found)) →
+    IsFound (IsTold (basis_of need_own document) document) formula_rows (Some found)
+unfolding formula_rows fault_of
+formulas_some need_own document found h =
+    let test : Row → Option (Key × Cause) → Type 0 = IsTold (basis_of need_own document) document in
+    let names = row 32 (codes "") (codes "formula.name") kind.FormulaName in
+    let texts = row 33 (codes "") (codes "formula.text") kind.FormulaText in
+    let weights = row 34 (codes "") (codes "formulas") kind.Formulas in
+    elim h [
+      | inl a ↦ first_here test names (texts ∷ weights ∷ []) found a
+      | inr b ↦ one_more test names (texts ∷ weights ∷ []) found b.0
+          (one_more test texts (weights ∷ []) found refl (first_here test weights [] found b.1))
     ]
 
-option_map-seen : {B : Type 0} (view : B → KeyRow) (result : Option B) → option_map (λ b. seen (view b)) result ≡ option_map seen (option_map view result)
-option_map-seen view None = refl
-option_map-seen view (Some b) = refl
+pub formulas_found : {A : Type 0} (need_own : Bool) (document : Members) (result : Result A ScenarioFault) →
+    IfErr result (IfFault (λ told. IsFormulaFault (tick_of document) (formula_tables document) (Some told)
+    ⊎ (IsFormulaFault (tick_of document) (formula_tables document) None × IsWeightFault (tick_of document) (rule_numbers_of document) (formula_tables document) (Some told)))) →
+    IfErr result (IfFault (λ told. IsFound (IsTold (basis_of need_own document) document) formula_rows (Some told)))
+formulas_found need_own document (Ok value) h = tt
+formulas_found need_own document (Err (refusal.Fault key why)) h = formulas_some need_own document (key, why) h
+formulas_found need_own document (Err refusal.Memory) h = tt
 
-pub found_seen : {B : Type 0} (number : ℕ) (view : B → KeyRow) (list : List KeyRow) (rows : List Row) (result : Option B) →
-    option_map view result ≡ find (λ row. row.number == number) list → map seen list ≡ rows →
-    option_map (λ b. seen (view b)) result ≡ find (λ row. row.number == number) rows
-found_seen number view list rows result e f =
-    option_map-seen view result ∙ ap (option_map seen) e ∙ find_seen number list ∙ ap (find (λ row. row.number == number)) f
+-- the keys from which values are read
+
+pub read_from : (need_own : Bool) (document : Members) → IsFound (IsTold (basis_of need_own document) document) first_rows None →
+    IsFound (IsTold (basis_of need_own document) document) own_rows None → HaveNoFault need_own document
+read_from false document a b = no_fault (basis_of false document) document first_rows first_plain a
+read_from true document a b = no_fault (basis_of true document) document own_rows own_plain b
+
+pub formulas_none_of : {A : Type 0} (need_own : Bool) (document : Members) (result : Result A ScenarioFault) →
+    OnOk result (IsFormulaFault (tick_of document) (formula_tables document) None) →
+    OnOk result (IsWeightFault (tick_of document) (rule_numbers_of document) (formula_tables document) None) →
+    OnOk result (IsFound (IsTold (basis_of need_own document) document) formula_rows None)
+formulas_none_of need_own document (Ok value) h k = formulas_none need_own document h k
+formulas_none_of need_own document (Err fault) h k = tt

@@ -7,21 +7,24 @@ use Rattle.std.proofs.lemmas.Bool.Decides.{nat_tests}
 use Rattle.std.specs.Str.{bytes_eq}
 use Rattle.std.proofs.lemmas.Slice.Eq.{bytes_eq-Decides}
 use Rattle.toml.specs.Data.{Data, Members, as_integer, get_member}
-use Rattle.scenario.specs.ScenarioKeys.{Row, rows}
-use Rattle.scenario.specs.KeyValues.{found_in, integer_at, integer_found, integer_or, table_at}
-use Rattle.scenario.specs.KeyFaults.{basis_of, bounds_of, counts, fault_by, fault_in, fault_of, integer_cause, is_multiple, is_version_two, is_within, missing_cause, number_cause, tick_of, tick_or_one, IsFaultless}
+use Rattle.scenario_keys.specs.ScenarioKeys.{Row, first_rows}
+use Rattle.scenario_keys.specs.KeyValues.{found_in, integer_at, integer_found, integer_or, table_at}
+use Rattle.scenario_keys.specs.IntegerFaults.{bounds_of, integer_cause, is_multiple, is_within, missing_cause, number_cause}
+use Rattle.scenario_keys.specs.ToldFaults.{fault_by}
+use Rattle.scenario.specs.KeyFaults.{basis_of, counts, fault_in, fault_of, is_version_two, tick_of, tick_or_one}
+use Rattle.scenario.specs.Inner.NoFaults.{rows_by, HaveNoFault}
 use Rattle.scenario.specs.Inner.KnownKeys.{are_ticks, begins_with_the_tick, is_named, kind_at, kind_of, lies_in, may_lie_in, range_at, range_in}
-use Rattle.scenario.specs.declared.cause.Cause.{Cause}
-use Rattle.scenario.specs.declared.cause.Cause.TheVariants as cause
-use Rattle.scenario.specs.declared.key.Key.{Key}
+use Rattle.scenario_keys.specs.declared.cause.Cause.{Cause}
+use Rattle.scenario_keys.specs.declared.cause.Cause.TheVariants as cause
+use Rattle.scenario_keys.specs.declared.key.Key.{Key}
 use Rattle.scenario.specs.declared.basis.Basis.{Basis}
-use Rattle.scenario.specs.declared.numbers.Bounds.{Bounds}
-use Rattle.scenario.specs.declared.rows.Range.{Range}
-use Rattle.scenario.specs.declared.rows.Range.TheVariants as range
-use Rattle.scenario.specs.declared.rows.When.{When}
-use Rattle.scenario.specs.declared.rows.When.TheVariants as when
-use Rattle.scenario.specs.declared.rows.Kind.{Kind}
-use Rattle.scenario.specs.declared.rows.Kind.TheVariants as kind
+use Rattle.scenario_keys.specs.declared.numbers.Bounds.{Bounds}
+use Rattle.scenario_keys.specs.declared.rows.Range.{Range}
+use Rattle.scenario_keys.specs.declared.rows.Range.TheVariants as range
+use Rattle.scenario_keys.specs.declared.rows.When.{When}
+use Rattle.scenario_keys.specs.declared.rows.When.TheVariants as when
+use Rattle.scenario_keys.specs.declared.rows.Kind.{Kind}
+use Rattle.scenario_keys.specs.declared.rows.Kind.TheVariants as kind
 
 int_le-true : (x y : ℤ) → int_le x y ≡ true → x ≤ℤ y
 int_le-true x y h = grind (arith, ints)
@@ -128,14 +131,14 @@ row_faultless need_own document table name here row found is =
     let C : List ℕ → List ℕ → Type 0 = λ t n. Faultless (basis_of need_own document) n here (table_at t document) in
     subst (λ (n : List ℕ). C table n) en (subst (λ (t : List ℕ). C t row.name) et h)
 
-pub faultless_at : (need_own : Bool) (document : Members) (table name : List ℕ) (here : Kind) → kind_at (basis_of need_own document) table name ≡ Some here → IsFaultless need_own document →
+pub faultless_at : (need_own : Bool) (document : Members) (table name : List ℕ) (here : Kind) → kind_at (basis_of need_own document) table name ≡ Some here → HaveNoFault need_own document →
     Faultless (basis_of need_own document) name here (table_at table document)
 unfolding kind_at
 faultless_at need_own document table name here is faultless =
-    elim (find (is_named table name) rows) as (λ r. find (is_named table name) rows ≡ r → kind_of (basis_of need_own document) r ≡ Some here →
+    elim (find (is_named table name) (rows_by need_own)) as (λ r. find (is_named table name) (rows_by need_own) ≡ r → kind_of (basis_of need_own document) r ≡ Some here →
     Faultless (basis_of need_own document) name here (table_at table document)) [
       | None ↦ λ e h. cc
-      | Some row ↦ λ e h. row_faultless need_own document table name here row (found_row (is_named table name) (fault_of (basis_of need_own document) document) rows row e faultless) h
+      | Some row ↦ λ e h. row_faultless need_own document table name here row (found_row (is_named table name) (fault_of (basis_of need_own document) document) (rows_by need_own) row e faultless) h
     ] refl is
 
 -- an integer's key has no cause
@@ -153,10 +156,14 @@ kind_is : (here : Option Kind) (of : Range) → range_in here ≡ Some of → he
 kind_is None of h = cc
 kind_is (Some (kind.Number this)) of h = let same : this ≡ of = cc in ap (λ (r : Range). Some (kind.Number r)) same
 kind_is (Some (kind.Numbers list)) of h = cc
+kind_is (Some (kind.Tables most)) of h = cc
 kind_is (Some kind.Plans) of h = cc
+kind_is (Some kind.FormulaName) of h = cc
+kind_is (Some kind.FormulaText) of h = cc
+kind_is (Some kind.Formulas) of h = cc
 kind_is (Some kind.Document) of h = cc
 
-uncaused_at : (need_own : Bool) (document : Members) (table name : List ℕ) (of : Range) → range_at (basis_of need_own document) table name ≡ Some of → IsFaultless need_own document →
+uncaused_at : (need_own : Bool) (document : Members) (table name : List ℕ) (of : Range) → range_at (basis_of need_own document) table name ≡ Some of → HaveNoFault need_own document →
     number_cause (bounds_of (tick_of document) of) (found_in name (table_at table document)) ≡ None
 uncaused_at need_own document table name of is faultless =
     let h = faultless_at need_own document table name (kind.Number of) (kind_is (kind_at (basis_of need_own document) table name) of is) faultless in
@@ -173,6 +180,15 @@ pub one_le_tick : (document : Members) → 1 ≤ tick_of document
 unfolding tick_of
 one_le_tick document = tick_or_one-from (integer_at (codes "window") (codes "tick") document)
 
+tick_or_one-to : (n : Option ℤ) → tick_or_one n ≤ 60
+tick_or_one-to None = omega arith
+tick_or_one-to (Some (pos n)) = grind (arith, nat_tests)
+tick_or_one-to (Some (negsuc n)) = omega arith
+
+pub tick_le_60 : (document : Members) → tick_of document ≤ 60
+unfolding tick_of
+tick_le_60 document = tick_or_one-to (integer_at (codes "window") (codes "tick") document)
+
 narrower : (low high : ℤ) (bounds : Bounds) (found : Option Data) → low ≤ℤ bounds.low → int_le bounds.high high ≡ true → Holds bounds found → Lies low high found
 narrower low high bounds found h k holds = record {
   number = holds.number;
@@ -183,11 +199,11 @@ narrower low high bounds found h k holds = record {
 
 -- what a key that must be there holds by its range
 holds_at : (need_own : Bool) (document : Members) (table name : List ℕ) (of : Range) → (bounds_of (tick_of document) of).otherwise ≡ None → range_at (basis_of need_own document) table name ≡ Some of →
-    IsFaultless need_own document → Holds (bounds_of (tick_of document) of) (found_in name (table_at table document))
+    HaveNoFault need_own document → Holds (bounds_of (tick_of document) of) (found_in name (table_at table document))
 holds_at need_own document table name of required is faultless =
     holds_required (bounds_of (tick_of document) of) (found_in name (table_at table document)) required (uncaused_at need_own document table name of is faultless)
 
-lies_by : (need_own : Bool) (document : Members) (table name : List ℕ) (low high : ℤ) (of : Range) → range_at (basis_of need_own document) table name ≡ Some of → lies_in low high (Some of) ≡ true → IsFaultless need_own document →
+lies_by : (need_own : Bool) (document : Members) (table name : List ℕ) (low high : ℤ) (of : Range) → range_at (basis_of need_own document) table name ≡ Some of → lies_in low high (Some of) ≡ true → HaveNoFault need_own document →
     Lies low high (found_in name (table_at table document))
 lies_by need_own document table name low high (range.FromTo least most) is within faultless =
     let (a, b) = and_parts (int_le low least) (int_le most high) within in
@@ -211,7 +227,7 @@ lies_by need_own document table name low high (range.TicksTo most) is within fau
     (holds_at need_own document table name (range.TicksTo most) refl is faultless)
 lies_by need_own document table name low high (range.Optional least most otherwise) is within faultless = cc
 
-lies : (need_own : Bool) (document : Members) (table name : List ℕ) (low high : ℤ) → lies_in low high (range_at (basis_of need_own document) table name) ≡ true → IsFaultless need_own document →
+lies : (need_own : Bool) (document : Members) (table name : List ℕ) (low high : ℤ) → lies_in low high (range_at (basis_of need_own document) table name) ≡ true → HaveNoFault need_own document →
     Lies low high (found_in name (table_at table document))
 lies need_own document table name low high within faultless =
     elim (range_at (basis_of need_own document) table name) as (λ r. range_at (basis_of need_own document) table name ≡ r → lies_in low high r ≡ true → Lies low high (found_in name (table_at table document))) [
@@ -226,7 +242,7 @@ told low high found (Some n) lies e =
     let same : lies.number ≡ n = cc in
     subst (λ (n : ℤ). (low ≤ℤ n) × (n ≤ℤ high)) same (lies.least, lies.most)
 
-pub known : (need_own : Bool) (document : Members) (table name : List ℕ) (low high : ℤ) (result : Option ℤ) → lies_in low high (range_at (basis_of need_own document) table name) ≡ true → IsFaultless need_own document →
+pub known : (need_own : Bool) (document : Members) (table name : List ℕ) (low high : ℤ) (result : Option ℤ) → lies_in low high (range_at (basis_of need_own document) table name) ≡ true → HaveNoFault need_own document →
     result ≡ integer_at table name document → MatchOption result ⊥ (λ n. (low ≤ℤ n) × (n ≤ℤ high))
 unfolding integer_at
 known need_own document table name low high result within faultless e =
@@ -241,7 +257,7 @@ least_told bounds found (Some n) holds e =
     let same : holds.number ≡ n = cc in
     subst (λ (n : ℤ). bounds.low ≤ℤ n) same holds.least
 
-from_tick_by : (need_own : Bool) (document : Members) (table name : List ℕ) (of : Range) (result : Option ℤ) → range_at (basis_of need_own document) table name ≡ Some of → begins_with_the_tick (Some of) ≡ true → IsFaultless need_own document →
+from_tick_by : (need_own : Bool) (document : Members) (table name : List ℕ) (of : Range) (result : Option ℤ) → range_at (basis_of need_own document) table name ≡ Some of → begins_with_the_tick (Some of) ≡ true → HaveNoFault need_own document →
     result ≡ integer_at table name document → MatchOption result ⊥ (λ n. pos (tick_of document) ≤ℤ n)
 unfolding integer_at
 from_tick_by need_own document table name (range.FromTo least most) result is begins faultless e = cc
@@ -254,7 +270,7 @@ from_tick_by need_own document table name (range.TicksFromOneTo most) result is 
 from_tick_by need_own document table name (range.TicksTo most) result is begins faultless e = cc
 from_tick_by need_own document table name (range.Optional least most otherwise) result is begins faultless e = cc
 
-pub from_tick : (need_own : Bool) (document : Members) (table name : List ℕ) (result : Option ℤ) → begins_with_the_tick (range_at (basis_of need_own document) table name) ≡ true → IsFaultless need_own document →
+pub from_tick : (need_own : Bool) (document : Members) (table name : List ℕ) (result : Option ℤ) → begins_with_the_tick (range_at (basis_of need_own document) table name) ≡ true → HaveNoFault need_own document →
     result ≡ integer_at table name document → MatchOption result ⊥ (λ n. pos (tick_of document) ≤ℤ n)
 from_tick need_own document table name result begins faultless e =
     elim (range_at (basis_of need_own document) table name) as (λ r. range_at (basis_of need_own document) table name ≡ r → begins_with_the_tick r ≡ true → MatchOption result ⊥ (λ n. pos (tick_of document) ≤ℤ n)) [
@@ -271,7 +287,7 @@ whole_told bounds found (Some n) holds e =
     let same : holds.number ≡ n = cc in
     subst (λ (n : ℤ). unsigned_abs n % bounds.step ≡ 0) same holds.whole
 
-in_ticks_by : (need_own : Bool) (document : Members) (table name : List ℕ) (of : Range) (result : Option ℤ) → range_at (basis_of need_own document) table name ≡ Some of → are_ticks (Some of) ≡ true → IsFaultless need_own document →
+in_ticks_by : (need_own : Bool) (document : Members) (table name : List ℕ) (of : Range) (result : Option ℤ) → range_at (basis_of need_own document) table name ≡ Some of → are_ticks (Some of) ≡ true → HaveNoFault need_own document →
     result ≡ integer_at table name document → MatchOption result ⊥ (λ n. unsigned_abs n % tick_of document ≡ 0)
 unfolding integer_at
 in_ticks_by need_own document table name (range.FromTo least most) result is ticks faultless e = cc
@@ -284,7 +300,7 @@ in_ticks_by need_own document table name (range.TicksTo most) result is ticks fa
     (holds_at need_own document table name (range.TicksTo most) refl is faultless) e
 in_ticks_by need_own document table name (range.Optional least most otherwise) result is ticks faultless e = cc
 
-pub in_ticks : (need_own : Bool) (document : Members) (table name : List ℕ) (result : Option ℤ) → are_ticks (range_at (basis_of need_own document) table name) ≡ true → IsFaultless need_own document →
+pub in_ticks : (need_own : Bool) (document : Members) (table name : List ℕ) (result : Option ℤ) → are_ticks (range_at (basis_of need_own document) table name) ≡ true → HaveNoFault need_own document →
     result ≡ integer_at table name document → MatchOption result ⊥ (λ n. unsigned_abs n % tick_of document ≡ 0)
 in_ticks need_own document table name result ticks faultless e =
     elim (range_at (basis_of need_own document) table name) as (λ r. range_at (basis_of need_own document) table name ≡ r → are_ticks r ≡ true → MatchOption result ⊥ (λ n. unsigned_abs n % tick_of document ≡ 0)) [
@@ -308,7 +324,7 @@ or_by low high otherwise other least most (Some found) within h =
     told low high (Some found) (as_integer found)
     (narrower low high bounds (Some found) (int_le-true low least d) e (holds_found bounds found h)) refl
 
-or_at : (need_own : Bool) (document : Members) (table name : List ℕ) (low high otherwise : ℤ) (of : Range) → range_at (basis_of need_own document) table name ≡ Some of → may_lie_in low high otherwise (Some of) ≡ true → IsFaultless need_own document →
+or_at : (need_own : Bool) (document : Members) (table name : List ℕ) (low high otherwise : ℤ) (of : Range) → range_at (basis_of need_own document) table name ≡ Some of → may_lie_in low high otherwise (Some of) ≡ true → HaveNoFault need_own document →
     MatchOption (integer_or otherwise (found_in name (table_at table document))) ⊥ (λ n. (low ≤ℤ n) × (n ≤ℤ high))
 or_at need_own document table name low high otherwise (range.FromTo least most) is within faultless = cc
 or_at need_own document table name low high otherwise (range.FromTheTickTo most) is within faultless = cc
@@ -317,7 +333,7 @@ or_at need_own document table name low high otherwise (range.TicksTo most) is wi
 or_at need_own document table name low high otherwise (range.Optional least most other) is within faultless =
     or_by low high otherwise other least most (found_in name (table_at table document)) within (uncaused_at need_own document table name (range.Optional least most other) is faultless)
 
-pub known_or : (need_own : Bool) (document : Members) (table name : List ℕ) (low high otherwise : ℤ) → may_lie_in low high otherwise (range_at (basis_of need_own document) table name) ≡ true → IsFaultless need_own document →
+pub known_or : (need_own : Bool) (document : Members) (table name : List ℕ) (low high otherwise : ℤ) → may_lie_in low high otherwise (range_at (basis_of need_own document) table name) ≡ true → HaveNoFault need_own document →
     MatchOption (integer_or otherwise (found_in name (table_at table document))) ⊥ (λ n. (low ≤ℤ n) × (n ≤ℤ high))
 known_or need_own document table name low high otherwise within faultless =
     elim (range_at (basis_of need_own document) table name) as (λ r. range_at (basis_of need_own document) table name ≡ r → may_lie_in low high otherwise r ≡ true → MatchOption (integer_or otherwise (found_in name (table_at table document))) ⊥ (λ n. (low ≤ℤ n) × (n ≤ℤ high))) [
@@ -334,15 +350,19 @@ pub tick_is : (document : Members) (n : ℕ) → 1 ≤ n → n ≤ 60 → intege
 unfolding tick_of
 tick_is document n h k e = rw e (tick_known n h k)
 
--- a document without a fault where own ship is needed has none where she is not
+-- a key without a fault where own ship is needed has none where she is not
 
 same_fault : (need_own : Bool) (document : Members) (row : ℕ) (name : List ℕ) (here : Kind) (table : Result Members Cause) →
     fault_in (basis_of need_own document) row name here table ≡ fault_in (basis_of false document) row name here table
 same_fault need_own document row name here (Err cause) = refl
 same_fault need_own document row name (kind.Number of) (Ok table) = refl
 same_fault need_own document row name (kind.Numbers list) (Ok table) = refl
+same_fault need_own document row name (kind.Tables most) (Ok table) = refl
 same_fault need_own document row name kind.Plans (Ok table) = refl
 same_fault need_own document row name kind.Document (Ok table) = refl
+same_fault need_own document row name kind.FormulaName (Ok table) = refl
+same_fault need_own document row name kind.FormulaText (Ok table) = refl
+same_fault need_own document row name kind.Formulas (Ok table) = refl
 
 counts_less : (need_own : Bool) (document : Members) (here : When) (fault other : Option (Key × Cause)) → fault ≡ other →
     (if counts (basis_of need_own document) here then fault else None) ≡ None → (if counts (basis_of false document) here then other else None) ≡ None
@@ -360,5 +380,5 @@ row_without_own need_own document row h =
     (fault_in (basis_of false document) row.number row.name row.kind (table_at row.table document))
     (same_fault need_own document row.number row.name row.kind (table_at row.table document)) h
 
-pub without_own : (need_own : Bool) (document : Members) → IsFaultless need_own document → IsFaultless false document
-without_own need_own document faultless = λ k d lt. row_without_own need_own document (slice_index_or rows k d) (faultless k d lt)
+pub without_own : (need_own : Bool) (document : Members) → All (λ here. fault_of (basis_of need_own document) document here ≡ None) first_rows → HaveNoFault false document
+without_own need_own document faultless = λ k d lt. row_without_own need_own document (slice_index_or first_rows k d) (faultless k d lt)

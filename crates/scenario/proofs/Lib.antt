@@ -1,4 +1,3 @@
-pub mod Elements
 pub mod Firsts
 pub mod Held
 pub mod Single

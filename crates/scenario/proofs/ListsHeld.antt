@@ -11,19 +11,21 @@ use Rattle.std.proofs.lemmas.List.Elements.{All-cons, All-map}
 use Rattle.toml.specs.Data.{Data, Items, Members, as_array, as_integer, get_member}
 use Rattle.toml.specs.View.{view, items_view}
 use Rattle.toml.specs.declared.value.Value.{Value}
-use Rattle.scenario.specs.FirstOf.{first_of}
-use Rattle.scenario.specs.ListFaults.{array_fault, at_item, elements, elements_fault, is_in_range, is_no_integer, is_out_of_range, length_fault, list_fault}
-use Rattle.scenario.specs.KeyValues.{array_in, found_in, integer_of, list_at, list_in, natural_of, table_at}
-use Rattle.scenario.specs.KeyFaults.{basis_of, fault_in, fault_listed, IsFaultless}
+use Rattle.scenario_keys.specs.FirstOf.{first_of}
+use Rattle.scenario_keys.specs.ListFaults.{array_fault, at_item, elements, elements_fault, is_in_range, is_no_integer, is_no_table, is_out_of_range, length_fault, list_fault, table_array_fault, tables_fault, tables_fault_in}
+use Rattle.scenario_keys.specs.KeyValues.{array_in, found_in, integer_of, list_at, list_in, natural_of, table_at}
+use Rattle.scenario_keys.specs.ToldFaults.{fault_listed}
+use Rattle.scenario.specs.KeyFaults.{basis_of, fault_in}
+use Rattle.scenario.specs.Inner.NoFaults.{HaveNoFault}
 use Rattle.scenario.specs.Inner.KnownKeys.{fewest_of, kind_at, list_range_at, list_range_in, lists_lie_in}
 use Rattle.scenario.specs.Inner.WithinBounds.{IsWithin}
 use Rattle.scenario.specs.declared.basis.Basis.{Basis}
-use Rattle.scenario.specs.declared.cause.Cause.{Cause}
-use Rattle.scenario.specs.declared.cause.Cause.TheVariants as cause
-use Rattle.scenario.specs.declared.rows.ListRange.{ListRange}
-use Rattle.scenario.specs.declared.rows.Kind.{Kind}
-use Rattle.scenario.specs.declared.rows.Kind.TheVariants as kind
-use Rattle.scenario.proofs.Elements.{mapped_seen, seen_elements}
+use Rattle.scenario_keys.specs.declared.cause.Cause.{Cause}
+use Rattle.scenario_keys.specs.declared.cause.Cause.TheVariants as cause
+use Rattle.scenario_keys.specs.declared.rows.ListRange.{ListRange}
+use Rattle.scenario_keys.specs.declared.rows.Kind.{Kind}
+use Rattle.scenario_keys.specs.declared.rows.Kind.TheVariants as kind
+use Rattle.scenario_keys.proofs.Elements.{mapped_seen, seen_elements}
 use Rattle.scenario.proofs.Held.{faultless_at}
 
 -- no element passes where none is first
@@ -148,10 +150,14 @@ list_kind_is : (here : Option Kind) (range : ListRange) → list_range_in here �
 list_kind_is None range h = cc
 list_kind_is (Some (kind.Numbers this)) range h = let same : this ≡ range = cc in ap (λ (r : ListRange). Some (kind.Numbers r)) same
 list_kind_is (Some (kind.Number of)) range h = cc
+list_kind_is (Some (kind.Tables most)) range h = cc
 list_kind_is (Some kind.Plans) range h = cc
+list_kind_is (Some kind.FormulaName) range h = cc
+list_kind_is (Some kind.FormulaText) range h = cc
+list_kind_is (Some kind.Formulas) range h = cc
 list_kind_is (Some kind.Document) range h = cc
 
-list_held_by : (need_own : Bool) (document : Members) (table name : List ℕ) (range : ListRange) → list_range_at (basis_of need_own document) table name ≡ Some range → IsFaultless need_own document →
+list_held_by : (need_own : Bool) (document : Members) (table name : List ℕ) (range : ListRange) → list_range_at (basis_of need_own document) table name ≡ Some range → HaveNoFault need_own document →
     ListHolds (fewest_of range) range.most range.low range.high (list_at table name document)
 unfolding list_at
 list_held_by need_own document table name range is faultless =
@@ -170,7 +176,7 @@ wider_element low high least most None a b h = h
 wider_element low high least most (Some n) a b h = (≤ℤ_trans low least n a h.0, ≤ℤ_trans n most high h.1 b)
 
 pub list_held : (need_own : Bool) (document : Members) (table name : List ℕ) (fewest most : ℕ) (low high : ℤ) → lists_lie_in fewest most low high (list_range_at (basis_of need_own document) table name) ≡ true →
-    IsFaultless need_own document → ListHolds fewest most low high (list_at table name document)
+    HaveNoFault need_own document → ListHolds fewest most low high (list_at table name document)
 list_held need_own document table name fewest most low high within faultless =
     elim (list_range_at (basis_of need_own document) table name) as (λ r. list_range_at (basis_of need_own document) table name ≡ r → lists_lie_in fewest most low high r ≡ true →
     ListHolds fewest most low high (list_at table name document)) [
@@ -217,6 +223,45 @@ pub nothing_mapped : {A : Type 0} (f : Data → A) (document : Members) (table n
     [] ≡ map f (list_at table name document)
 unfolding list_at
 nothing_mapped f document table name e = ap (λ (i : Option Items). map f (list_in i)) e
+
+-- the list itself
+
+pub values_at : (document : Members) (table name : List ℕ) (values : List Value) → Some (items_view values) ≡ array_in (found_in name (table_at table document)) →
+    map view values ≡ list_at table name document
+unfolding list_at
+values_at document table name values e = sym (seen_elements values) ∙ ap list_in e
+
+pub nothing_at : (document : Members) (table name : List ℕ) → None ≡ array_in (found_in name (table_at table document)) → [] ≡ list_at table name document
+unfolding list_at
+nothing_at document table name e = ap list_in e
+
+-- a list of tables is no longer than it may be
+
+few_tables : (most : ℕ) (list : List Data) → tables_fault_in most list ≡ None → length list ≤ most
+unfolding tables_fault_in
+few_tables most list h =
+    let (a, b) = first_two (at_item cause.Type_ (position is_no_table list)) (length_fault 0 most (length list)) [] h in
+    (length_held 0 most (length list) (first_one (length_fault 0 most (length list)) b)).1
+
+few_found : (most : ℕ) (found : Option Data) → tables_fault most found ≡ None → length (list_in (array_in found)) ≤ most
+few_found most None h = omega arith
+few_found most (Some found) h =
+    elim (as_array found) as (λ a. table_array_fault most a ≡ None → length (list_in a) ≤ most) [
+      | None ↦ λ e. cc
+      | Some items ↦ λ e. few_tables most (elements items) e
+    ] h
+
+tables_uncaused : (basis : Basis) (row : ℕ) (name : List ℕ) (most : ℕ) (table : Result Members Cause) → fault_in basis row name (kind.Tables most) table ≡ None →
+    tables_fault most (found_in name table) ≡ None
+tables_uncaused basis row name most (Err cause) h = cc
+tables_uncaused basis row name most (Ok table) h = unlisted row (tables_fault most (get_member name table)) h
+
+pub tables_held : (need_own : Bool) (document : Members) (table name : List ℕ) (most : ℕ) → kind_at (basis_of need_own document) table name ≡ Some (kind.Tables most) →
+    HaveNoFault need_own document → length (list_at table name document) ≤ most
+unfolding list_at
+tables_held need_own document table name most is faultless =
+    let h = faultless_at need_own document table name (kind.Tables most) is faultless in
+    few_found most (found_in name (table_at table document)) (tables_uncaused (basis_of need_own document) h.number name most (table_at table document) h.faultless)
 
 -- what the naturals of a list are
 

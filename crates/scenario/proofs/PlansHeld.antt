@@ -5,25 +5,26 @@ use Rattle.std.proofs.lemmas.Bool.{and_parts}
 use Rattle.std.proofs.lemmas.Bool.Decides.{nat_tests}
 use Rattle.std.proofs.lemmas.List.{length-map}
 use Rattle.toml.specs.Data.{Members, as_integer}
-use Rattle.scenario.specs.KeyFaults.{basis_of, tick_of, IsFaultless}
-use Rattle.scenario.specs.KeyValues.{integer_of, integers_at, list_at, natural_at}
+use Rattle.scenario.specs.KeyFaults.{basis_of, tick_of}
+use Rattle.scenario.specs.Inner.NoFaults.{HaveNoFault}
+use Rattle.scenario_keys.specs.KeyValues.{integer_of, integers_at, list_at, natural_at}
 use Rattle.scenario.specs.PlanFaults.{are_few, are_in_range, are_short, plans_cause, sizes_of}
-use Rattle.scenario.specs.ScenarioKeys.{rows}
+use Rattle.scenario_keys.specs.ScenarioKeys.{own_rows}
 use Rattle.scenario.specs.Inner.KnownKeys.{kind_at}
-use Rattle.scenario.specs.declared.cause.Cause.{Cause}
-use Rattle.scenario.specs.declared.cause.Cause.TheVariants as cause
+use Rattle.scenario_keys.specs.declared.cause.Cause.{Cause}
+use Rattle.scenario_keys.specs.declared.cause.Cause.TheVariants as cause
 use Rattle.scenario.specs.declared.plan_sizes.PlanSizes.{PlanSizes}
-use Rattle.scenario.specs.declared.rows.Kind.TheVariants as kind
+use Rattle.scenario_keys.specs.declared.rows.Kind.TheVariants as kind
 use Rattle.scenario.proofs.Held.{faultless_at, one_le_tick, uncaused}
 
 nat_le-true : (m n : ℕ) → nat_le m n ≡ true → m ≤ n
 nat_le-true m n h = grind (arith, nat_tests)
 
 is_plans : (document : Members) → kind_at (basis_of true document) (codes "") (codes "own") ≡ Some kind.Plans
-unfolding kind_at rows
+unfolding kind_at own_rows
 is_plans document = refl
 
-uncaused_plans : (document : Members) → IsFaultless true document → plans_cause (tick_of document) (sizes_of document) ≡ None
+uncaused_plans : (document : Members) → HaveNoFault true document → plans_cause (tick_of document) (sizes_of document) ≡ None
 uncaused_plans document faultless =
     let h = faultless_at true document (codes "") (codes "own") kind.Plans (is_plans document) faultless in
     uncaused h.number (plans_cause (tick_of document) (sizes_of document)) h.faultless
@@ -59,7 +60,7 @@ sizes_are document courses speeds legs leg_ticks tail c s l t u =
     ap length s ∙ length-map (list_at (codes "own") (codes "speeds") document) (λ d. integer_of (as_integer d)) in
     rw (many, more, l, t, u)
 
-pub plans_held : (document : Members) (courses speeds : List ℤ) (legs leg_ticks tail : ℕ) → IsFaultless true document →
+pub plans_held : (document : Members) (courses speeds : List ℤ) (legs leg_ticks tail : ℕ) → HaveNoFault true document →
     courses ≡ integers_at (codes "own") (codes "courses") document → speeds ≡ integers_at (codes "own") (codes "speeds") document →
     legs ≡ natural_at (codes "own") (codes "legs") document → leg_ticks ≡ natural_at (codes "own") (codes "leg_ticks") document →
     tail ≡ natural_at (codes "own") (codes "tail") document →

@@ -1,17 +1,50 @@
 -- A document has one meaning: its values, or its first fault.
-use Rattle.std.proofs.Common.{◌≡◌, ◌⊎◌, inl, inr, ℕ, Bool, List, map, Some, None, Result, Ok, Err, IfOk, refl, ap, sym, ◌∙◌, subst}
+use Rattle.std.proofs.Common.{◌≡◌, ◌⊎◌, inl, inr, ℕ, Bool, List, Option, Result, Ok, Err, IfOk, IfErr, refl, ap, sym, ◌∙◌, subst}
 use Rattle.toml.specs.Data.{Members}
-use Rattle.scenario.specs.ScenarioKeys.{rows}
-use Rattle.scenario.specs.KeyFaults.{basis_of, fault_of, IsFaultless, IsFirstFault}
+use Rattle.scenario_keys.specs.ScenarioKeys.{Row, rows}
+use Rattle.scenario_keys.specs.ToldFaults.{IfFault}
+use Rattle.scenario_keys.proofs.ForCallers.{never_both, one_first}
+use Rattle.added_rules.proofs.ForCallers.{one_formula_fault, one_rules, one_weight_fault}
+use Rattle.scenario.specs.KeyFaults.{basis_of, tick_of}
+use Rattle.scenario.specs.RuleValues.{formula_tables, rule_numbers_of, AreRulesOf}
+use Rattle.scenario.specs.DocumentFaults.{IsFaultless, IsFirstFault, IsTold, IsToldBy}
 use Rattle.scenario.specs.ScenarioValues.{scenario_of}
 use Rattle.scenario.specs.ScenarioReading.{IsRefused, Means, Reads}
-use Rattle.scenario.specs.FirstOf.{first_of}
-use Rattle.scenario.proofs.Firsts.{first_at, none_of}
-use Rattle.scenario.specs.declared.cause.Cause.{Cause}
-use Rattle.scenario.specs.declared.fault.ScenarioFault.{ScenarioFault}
-use Rattle.scenario.specs.declared.fault.ScenarioFault.TheVariants as refusal
-use Rattle.scenario.specs.declared.key.Key.{Key}
+use Rattle.scenario_keys.specs.declared.rows.Kind.{Kind}
+use Rattle.scenario_keys.specs.declared.rows.Kind.TheVariants as kind
+use Rattle.scenario_keys.specs.declared.cause.Cause.{Cause}
+use Rattle.scenario_keys.specs.declared.fault.ScenarioFault.{ScenarioFault}
+use Rattle.scenario_keys.specs.declared.fault.ScenarioFault.TheVariants as refusal
+use Rattle.scenario_keys.specs.declared.key.Key.{Key}
+use Rattle.scenario.specs.declared.basis.Basis.{Basis}
 use Rattle.scenario.specs.declared.values.Scenario.{Scenario}
+
+-- the test of a key finds one thing
+
+one_by : (here : Kind) (basis : Basis) (document : Members) (row : Row) (a b : Option (Key × Cause)) → IsToldBy here basis document row a → IsToldBy here basis document row b → a ≡ b
+one_by kind.FormulaName basis document row a b h k = one_formula_fault (tick_of document) (formula_tables document) a b h k
+one_by kind.Formulas basis document row a b h k = one_weight_fault (tick_of document) (rule_numbers_of document) (formula_tables document) a b h k
+one_by (kind.Number of) basis document row a b h k = h ∙ sym k
+one_by (kind.Numbers list) basis document row a b h k = h ∙ sym k
+one_by (kind.Tables most) basis document row a b h k = h ∙ sym k
+one_by kind.Plans basis document row a b h k = h ∙ sym k
+one_by kind.Document basis document row a b h k = h ∙ sym k
+one_by kind.FormulaText basis document row a b h k = h ∙ sym k
+
+one_told : (basis : Basis) (document : Members) (row : Row) (a b : Option (Key × Cause)) → IsTold basis document row a → IsTold basis document row b → a ≡ b
+one_told basis document row a b h k = one_by row.kind basis document row a b h k
+
+faultless_or_not : (need_own : Bool) (document : Members) (found : Key × Cause) → IsFaultless need_own document → IsFirstFault need_own document found → ⊥
+unfolding IsFaultless IsFirstFault
+faultless_or_not need_own document found h k =
+    never_both (IsTold (basis_of need_own document) document) (one_told (basis_of need_own document) document) rows found h k
+
+one_fault : (need_own : Bool) (document : Members) (a b : Key × Cause) → IsFirstFault need_own document a → IsFirstFault need_own document b → a ≡ b
+unfolding IsFirstFault
+one_fault need_own document a b h k =
+    one_first (IsTold (basis_of need_own document) document) (one_told (basis_of need_own document) document) rows a b h k
+
+-- so do the bytes of a scenario
 
 one_document : (bytes : List ℕ) (a b : Members) → Reads bytes a → Reads bytes b → a ≡ b
 one_document bytes a b h k = let e = sym h.tree ∙ k.tree in cc
@@ -19,24 +52,17 @@ one_document bytes a b h k = let e = sym h.tree ∙ k.tree in cc
 one_meaning : (need_own : Bool) (bytes : List ℕ) (a b : Scenario) → Means need_own bytes a → Means need_own bytes b → a ≡ b
 one_meaning need_own bytes a b h k =
     let same = one_document bytes h.document k.document h.reads k.reads in
-    h.values ∙ ap (scenario_of need_own) same ∙ sym k.values
+    let rules = one_rules (tick_of k.document) (rule_numbers_of k.document) (formula_tables k.document) a.rules b.rules
+    (subst (λ (d : Members). AreRulesOf d a.rules) same h.rules) k.rules in
+    h.values ∙ ap (λ (d : Members). scenario_of need_own d a.rules) same ∙ ap (scenario_of need_own k.document) rules ∙ sym k.values
 
-faultless_none : (need_own : Bool) (document : Members) → IsFaultless need_own document → first_of (map (fault_of (basis_of need_own document) document) rows) ≡ None
-faultless_none need_own document h = none_of (fault_of (basis_of need_own document) document) rows h
-
-faulty_some : (need_own : Bool) (document : Members) (found : Key × Cause) → IsFirstFault need_own document found → first_of (map (fault_of (basis_of need_own document) document) rows) ≡ Some found
-unfolding IsFirstFault
-faulty_some need_own document found h = first_at (fault_of (basis_of need_own document) document) rows found h
-
-never_both : (need_own : Bool) (bytes : List ℕ) (scenario : Scenario) (key : Key) (cause : Cause) → Means need_own bytes scenario → IsRefused need_own bytes key cause → ⊥
-never_both need_own bytes scenario key cause means refused =
+never : (need_own : Bool) (bytes : List ℕ) (scenario : Scenario) (key : Key) (cause : Cause) → Means need_own bytes scenario → IsRefused need_own bytes key cause → ⊥
+never need_own bytes scenario key cause means refused =
     elim refused [
       | inl h ↦ h.unread means.document means.reads
       | inr h ↦ (
           let same = one_document bytes means.document h.document means.reads h.reads in
-          let none = faultless_none need_own h.document (subst (λ (d : Members). IsFaultless need_own d) same means.faultless) in
-          let some = faulty_some need_own h.document (key, cause) h.first in
-          cc)
+          faultless_or_not need_own h.document (key, cause) (subst (λ (d : Members). IsFaultless need_own d) same means.faultless) h.first)
     ]
 
 one_refusal : (need_own : Bool) (bytes : List ℕ) (key other : Key) (cause why : Cause) → IsRefused need_own bytes key cause → IsRefused need_own bytes other why → (key ≡ other) × (cause ≡ why)
@@ -50,9 +76,7 @@ one_refusal need_own bytes key other cause why refused again =
         | inl k ↦ absurd (k.unread h.document h.reads)
         | inr k ↦ (
             let same = one_document bytes h.document k.document h.reads k.reads in
-            let one = faulty_some need_own k.document (key, cause) (subst (λ (d : Members). IsFirstFault need_own d (key, cause)) same h.first) in
-            let two = faulty_some need_own k.document (other, why) k.first in
-            let pair : (key, cause) ≡ (other, why) = cc in
+            let pair = one_fault need_own k.document (key, cause) (other, why) (subst (λ (d : Members). IsFirstFault need_own d (key, cause)) same h.first) k.first in
             (ap (λ (p : Key × Cause). p.0) pair, ap (λ (p : Key × Cause). p.1) pair))
       ]
     ]
@@ -60,19 +84,28 @@ one_refusal need_own bytes key other cause why refused again =
 -- an answer that is right is the only one that is
 
 pub meant : (need_own : Bool) (bytes : List ℕ) (result : Result Scenario ScenarioFault) → IfOk result (Means need_own bytes) →
-    ((key : Key) (cause : Cause) → result ≡ Err (refusal.Fault key cause) → IsRefused need_own bytes key cause) →
+    IfErr result (IfFault (λ told. IsRefused need_own bytes told.0 told.1)) →
     (scenario : Scenario) → Means need_own bytes scenario → (result ≡ Ok scenario) ⊎ (result ≡ Err refusal.Memory)
 meant need_own bytes (Ok found) values refused scenario means = inl (ap (λ (s : Scenario). Ok s) (one_meaning need_own bytes found scenario values means))
-meant need_own bytes (Err (refusal.Fault key cause)) values refused scenario means = absurd (never_both need_own bytes scenario key cause means (refused key cause refl))
+meant need_own bytes (Err (refusal.Fault key cause)) values refused scenario means = absurd (never need_own bytes scenario key cause means refused)
 meant need_own bytes (Err refusal.Memory) values refused scenario means = inr refl
 
 pub told : (need_own : Bool) (bytes : List ℕ) (result : Result Scenario ScenarioFault) → IfOk result (Means need_own bytes) →
-    ((key : Key) (cause : Cause) → result ≡ Err (refusal.Fault key cause) → IsRefused need_own bytes key cause) →
+    IfErr result (IfFault (λ told. IsRefused need_own bytes told.0 told.1)) →
     (key : Key) (cause : Cause) → IsRefused need_own bytes key cause → (result ≡ Err (refusal.Fault key cause)) ⊎ (result ≡ Err refusal.Memory)
-told need_own bytes (Ok found) values refused key cause is = absurd (never_both need_own bytes found key cause values is)
+told need_own bytes (Ok found) values refused key cause is = absurd (never need_own bytes found key cause values is)
 told need_own bytes (Err (refusal.Fault other why)) values refused key cause is =
-    let same = one_refusal need_own bytes other key why cause (refused other why refl) is in
+    let same = one_refusal need_own bytes other key why cause refused is in
     let e : other ≡ key = same.0 in
     let f : why ≡ cause = same.1 in
     inl (cc)
 told need_own bytes (Err refusal.Memory) values refused key cause is = inr refl
+
+pub refused : (need_own : Bool) (bytes : List ℕ) (result : Result Scenario ScenarioFault) → IfErr result (IfFault (λ told. IsRefused need_own bytes told.0 told.1)) →
+    (key : Key) (cause : Cause) → result ≡ Err (refusal.Fault key cause) → IsRefused need_own bytes key cause
+refused need_own bytes (Ok found) h key cause e = cc
+refused need_own bytes (Err (refusal.Fault other why)) h key cause e =
+    let f : other ≡ key = cc in
+    let g : why ≡ cause = cc in
+    subst (λ (k : Key). IsRefused need_own bytes k cause) f (subst (λ (w : Cause). IsRefused need_own bytes other w) g h)
+refused need_own bytes (Err refusal.Memory) h key cause e = cc

@@ -1,5 +1,4 @@
 -- Definitions that no public clause cites.
-pub mod SeenRows
 pub mod KnownKeys
-pub mod ViewedResults
+pub mod NoFaults
 pub mod WithinBounds

@@ -1,9 +1,9 @@
 -- Whether own ship's plans are too many, or too long.
 use Rattle.std.specs.Prelude.{ℕ, ◌+◌, ◌*◌, ◌^◌, ◌&&◌, nat_le, Bool, codes, length, if◌then◌else◌, Option, Some, None}
 use Rattle.toml.specs.Data.{Members}
-use Rattle.scenario.specs.KeyValues.{list_at, natural_at}
-use Rattle.scenario.specs.declared.cause.Cause.{Cause}
-use Rattle.scenario.specs.declared.cause.Cause.TheVariants as cause
+use Rattle.scenario_keys.specs.KeyValues.{list_at, natural_at}
+use Rattle.scenario_keys.specs.declared.cause.Cause.{Cause}
+use Rattle.scenario_keys.specs.declared.cause.Cause.TheVariants as cause
 use Rattle.scenario.specs.declared.plan_sizes.PlanSizes.{PlanSizes}
 
 unfoldable pub sizes_of : Members → PlanSizes

@@ -2,11 +2,12 @@
 use Rattle.std.specs.Prelude.{◌≡◌, ◌⊎◌, ℕ, Bool, List, Some, IsUtf8}
 use Rattle.toml.specs.Data.{Members}
 use Rattle.toml.specs.Parse.{parse_document}
-use Rattle.scenario.specs.KeyFaults.{IsFaultless, IsFirstFault}
+use Rattle.scenario.specs.DocumentFaults.{IsFaultless, IsFirstFault}
+use Rattle.scenario.specs.RuleValues.{AreRulesOf}
 use Rattle.scenario.specs.ScenarioValues.{scenario_of}
-use Rattle.scenario.specs.declared.key.Key.{Key}
-use Rattle.scenario.specs.declared.cause.Cause.{Cause}
-use Rattle.scenario.specs.declared.cause.Cause.TheVariants as cause
+use Rattle.scenario_keys.specs.declared.key.Key.{Key}
+use Rattle.scenario_keys.specs.declared.cause.Cause.{Cause}
+use Rattle.scenario_keys.specs.declared.cause.Cause.TheVariants as cause
 use Rattle.scenario.specs.declared.values.Scenario.{Scenario}
 
 -- The bytes are a text that TOML reads as this document.
@@ -14,12 +15,14 @@ pub record Reads (bytes : List ℕ) (document : Members) : Type 0 where
   pub text : IsUtf8 bytes
   pub tree : parse_document bytes ≡ Some document
 
--- The bytes mean a scenario, with own ship where she is needed: no key that counts has a fault, and the values are the numbers at the keys.
+-- The bytes mean a scenario, with own ship where she is needed: no key that counts has a fault, and the
+-- values are those at the keys.
 pub record Means (need_own : Bool) (bytes : List ℕ) (scenario : Scenario) : Type 0 where
   pub document : Members
   pub reads : Reads bytes document
   pub faultless : IsFaultless need_own document
-  pub values : scenario ≡ scenario_of need_own document
+  pub rules : AreRulesOf document scenario.rules
+  pub values : scenario ≡ scenario_of need_own document scenario.rules
 
 -- The bytes are no TOML document: that is the fault of the first row, `document`.
 pub record IsNoToml (bytes : List ℕ) (key : Key) (why : Cause) : Type 0 where

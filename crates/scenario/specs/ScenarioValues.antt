@@ -1,17 +1,16 @@
 -- The values of a scenario: the numbers at its keys, and their ranges.
-use Rattle.std.specs.Prelude.{◌≡◌, ℕ, ◌≤◌, ◌*◌, ◌/◌, ◌%◌, ◌^◌, if◌then◌else◌, codes, List, length, All, IfSome, Bool, true, false, Option, Some, None}
+use Rattle.std.specs.Prelude.{ℕ, ◌≤◌, ◌*◌, ◌/◌, ◌^◌, codes, List, length, All, IfSome, Bool, true, false, Option, Some, None}
 use Rattle.toml.specs.Data.{Members}
 use Rattle.fixed_geometry.specs.Place.{Place}
-use Rattle.scenario.specs.KeyValues.{integers_at, natural_at, naturals_at, optional_at, signed_at}
-use Rattle.scenario.specs.KeyFaults.{is_version_two, tick_of}
+use Rattle.scenario_keys.specs.KeyValues.{integers_at, natural_at, naturals_at, optional_at, signed_at}
+use Rattle.scenario.specs.KeyFaults.{tick_of}
 use Rattle.lattice.specs.Grids.{Grid, grid, positions_of}
 use Rattle.scenario.specs.declared.own_part.OwnPart.{OwnPart}
 use Rattle.encounters.specs.Risk.{IsDetect}
 use Rattle.encounters.specs.declared.act.Act.{Act}
 use Rattle.encounters.specs.declared.detect.Detect.{Detect}
-use Rattle.scenario.specs.declared.rule_numbers.RuleNumbers.{RuleNumbers}
-use Rattle.scenario.specs.declared.rule_numbers.Safe.{Safe}
-use Rattle.scenario.specs.declared.rule_numbers.Safe.TheVariants as safe
+use Rattle.rule_set.specs.NamedTrees.{NamedTree}
+use Rattle.added_rules.specs.ScenarioRules.{AreLightRules}
 use Rattle.scenario.specs.declared.values.Window.{Window}
 use Rattle.scenario.specs.declared.values.LogNumbers.{LogNumbers}
 use Rattle.scenario.specs.declared.values.Scenario.{Scenario}
@@ -71,30 +70,6 @@ act_of document = record {
   apparent_speed = natural_at (codes "act") (codes "apparent_speed") document;
 }
 
--- the numbers of the rules' formulas, in metres and seconds; the safe distance is one in version 1, and one for each kind of
--- encounter in version 2
-unfoldable pub safe_of : Members → Safe
-safe_of document =
-    if is_version_two document
-    then safe.PerKind
-    (natural_at (codes "rules") (codes "safe_head_on") document)
-    (natural_at (codes "rules") (codes "safe_overtaking") document)
-    (natural_at (codes "rules") (codes "safe_crossing") document)
-    (natural_at (codes "rules") (codes "safe_other") document)
-    else safe.One (natural_at (codes "rules") (codes "safe") document)
-
-unfoldable pub rules_of : Members → RuleNumbers
-rules_of document = record {
-  safe = safe_of document;
-  overtake = natural_at (codes "rules") (codes "overtake") document;
-  close = natural_at (codes "rules") (codes "close") document;
-  t8 = natural_at (codes "rules") (codes "t8") document;
-  ta = natural_at (codes "rules") (codes "ta") document;
-  tl = natural_at (codes "rules") (codes "tl") document;
-  tw = natural_at (codes "rules") (codes "tw") document;
-  te = natural_at (codes "rules") (codes "te") document;
-}
-
 -- own ship's lattice of plans
 unfoldable pub grid_of : Members → Grid
 grid_of document =
@@ -121,21 +96,22 @@ abbrev pub own_where : Bool → Members → Option OwnPart
 own_where false document = None
 own_where true document = Some (own_of document)
 
-unfoldable pub scenario_with : Option OwnPart → Members → Scenario
-scenario_with own document = record {
+-- with these rules
+unfoldable pub scenario_with : List NamedTree → Option OwnPart → Members → Scenario
+scenario_with rules own document = record {
   window = window_of document;
   reference = reference_of document;
   log = log_numbers_of document;
   detect = detect_of document;
   act = act_of document;
-  rules = rules_of document;
+  rules = rules;
   subjects = naturals_at (codes "") (codes "subjects") document;
   own = own;
 }
 
--- the values of a document without a fault, with own ship where she is needed
-abbrev pub scenario_of : Bool → Members → Scenario
-scenario_of need_own document = scenario_with (own_where need_own document) document
+-- the values of a document without a fault, with these rules, and with own ship where she is needed
+abbrev pub scenario_of : Bool → Members → List NamedTree → Scenario
+scenario_of need_own document rules = scenario_with rules (own_where need_own document) document
 
 -- Each value is in its key's range. A reference and a lattice are so by their types.
 
@@ -177,25 +153,6 @@ pub record AreActNumbers (act : Act) : Type 0 where
 abbrev pub IsDistance : ℕ → Type 0
 IsDistance metres = (1 ≤ metres) × (metres ≤ 100000)
 
--- some ticks, in seconds
-abbrev pub IsTime : ℕ → ℕ → Type 0
-IsTime tick seconds = (seconds ≤ 7200) × (seconds % tick ≡ 0)
-
-abbrev pub IsSafe : Safe → Type 0
-IsSafe (safe.One metres) = IsDistance metres
-IsSafe (safe.PerKind head_on overtaking crossing other) =
-    IsDistance head_on × IsDistance overtaking × IsDistance crossing × IsDistance other
-
-pub record AreRuleNumbers (tick : ℕ) (rules : RuleNumbers) : Type 0 where
-  pub safe : IsSafe rules.safe
-  pub overtake : IsDistance rules.overtake
-  pub close : IsDistance rules.close
-  pub t8 : IsTime tick rules.t8
-  pub ta : IsTime tick rules.ta
-  pub tl : IsTime tick rules.tl
-  pub tw : IsTime tick rules.tw
-  pub te : IsTime tick rules.te
-
 -- the MMSI of a ship (ITU-R M.585)
 abbrev pub IsShip : ℕ → Type 0
 IsShip mmsi = (200000000 ≤ mmsi) × (mmsi ≤ 799999999)
@@ -213,7 +170,7 @@ pub record IsInRange (scenario : Scenario) : Type 0 where
   pub log : AreLogNumbers scenario.window.tick scenario.log
   pub detect : AreDetectNumbers scenario.window.tick scenario.detect
   pub act : AreActNumbers scenario.act
-  pub rules : AreRuleNumbers scenario.window.tick scenario.rules
+  pub rules : AreLightRules scenario.rules
   pub subjects : All IsShip scenario.subjects
   pub few_subjects : length scenario.subjects ≤ 64
   pub own : IfSome scenario.own (IsOwnPart scenario.window.tick)

@@ -3,8 +3,7 @@ ghost use Rattle.std.specs.Prelude.{◌≡◌, ◌≤◌};
 ghost use Rattle.toml.specs.View.{table_view};
 ghost use Rattle.scenario.specs.KeyFaults.{basis_of, counts, is_version_two, tick_of};
 
-use crate::found::integer_found;
-use crate::rows::When;
+use scenario_keys::{When, integer_found};
 use toml::Table;
 
 /// The values of a document on which the tests of other keys stand.
@@ -23,6 +22,7 @@ pub struct Basis {
 pub(crate) fn tick_of(document: &Table) -> u32
     ensures value { result ≡ tick_of (table_view document.now) }
     ensures some { 1 ≤ result }
+    ensures most { result ≤ 60 }
 {
     match integer_found(document, "window", "tick") {
         Some(number) if 1 <= number && number <= 60 => number as u32,

@@ -1,50 +1,20 @@
-//! The first fault of a document, in the order of the table of keys.
-ghost use Rattle.std.specs.Prelude.{◌≡◌, ◌≤◌, map, IfSome, None};
+//! The first fault of a document's keys but for those of formulas, in the order of their table.
+ghost use Rattle.std.specs.Prelude.{◌≡◌, ◌≤◌, map};
 ghost use Rattle.toml.specs.View.{table_view};
-ghost use Rattle.scenario.specs.Inner.SeenRows.{seen};
-ghost use Rattle.scenario.specs.FirstOf.{first_of};
-ghost use Rattle.scenario.specs.KeyFaults.{fault_by, fault_listed, fault_of, item_of, IsFaultless, IsFirstFault};
+ghost use Rattle.scenario_keys.specs.FirstFaults.{IsFound};
+ghost use Rattle.scenario_keys.specs.FirstOf.{first_of};
+ghost use Rattle.scenario_keys.specs.Inner.SeenRows.{seen};
+ghost use Rattle.scenario_keys.specs.ScenarioKeys.{first_rows, own_rows};
+ghost use Rattle.scenario.specs.DocumentFaults.{IsTold};
+ghost use Rattle.scenario.specs.KeyFaults.{fault_of};
 
-use crate::basis::{Basis, basis_of, counts};
-use crate::cause::Cause;
-use crate::found::{table_of, value};
-use crate::key::Key;
-use crate::lists::list_fault;
-use crate::numbers::{bounds_of, number_cause};
+use crate::basis::{Basis, counts};
 use crate::plan_sizes::{plans_cause, sizes_of};
-use crate::rows::{KeyRow, Kind, key_rows};
+use scenario_keys::{
+    Cause, Key, KeyRow, Kind, bounds_of, fault_by, fault_listed, first_rows, list_fault,
+    number_cause, own_rows, table_of, tables_fault, value,
+};
 use toml::Table;
-
-fn fault_by(row: u8, cause: Option<Cause>) -> Option<(Key, Cause)>
-    ensures { result ≡ fault_by row cause }
-{
-    match cause {
-        Some(cause) => Some((Key { row, item: 0 }, cause)),
-        None => None,
-    }
-}
-
-/// An item, or the greatest number that a key can tell where it lies further behind.
-fn item_of(item: usize) -> u16
-    ensures { result ≡ item_of item }
-{
-    match u16::try_from(item) {
-        Ok(item) => item,
-        Err(_) => u16::MAX,
-    }
-}
-
-fn fault_listed(row: u8, fault: Option<(usize, Cause)>) -> Option<(Key, Cause)>
-    ensures { result ≡ fault_listed row fault }
-{
-    match fault {
-        Some((item, cause)) => {
-            let item = item_of(item);
-            Some((Key { row, item }, cause))
-        }
-        None => None,
-    }
-}
 
 /// The fault of a key, if it counts and has one.
 #[tactic(auto, unfolding(crate::specs::KeyFaults::fault_of))]
@@ -60,7 +30,7 @@ fn fault_of(basis: Basis, document: &Table, row: &KeyRow) -> Option<(Key, Cause)
         Err(cause) => return fault_by(row.number, Some(cause)),
     };
     match row.kind {
-        Kind::Document => None,
+        Kind::Document | Kind::FormulaName | Kind::FormulaText | Kind::Formulas => None,
         Kind::Plans => fault_by(row.number, plans_cause(basis.tick, sizes_of(table))),
         Kind::Number(range) => fault_by(
             row.number,
@@ -68,6 +38,9 @@ fn fault_of(basis: Basis, document: &Table, row: &KeyRow) -> Option<(Key, Cause)
         ),
         Kind::Numbers(range) => {
             fault_listed(row.number, list_fault(range, value(table, row.name)))
+        }
+        Kind::Tables(most) => {
+            fault_listed(row.number, tables_fault(most, value(table, row.name)))
         }
     }
 }
@@ -85,10 +58,18 @@ fn first_among(basis: Basis, document: &Table, rows: &[KeyRow]) -> Option<(Key, 
     None
 }
 
-/// The first fault of a document, in the order of the table of keys.
-pub(crate) fn first_fault(document: &Table, need_own: bool) -> Option<(Key, Cause)>
-    ensures first { IfSome result (IsFirstFault need_own (table_view document.now)) }
-    ensures none { result ≡ None → IsFaultless need_own (table_view document.now) }
+/// The first fault of the keys before those of formulas.
+pub(crate) fn first_fault(basis: Basis, document: &Table) -> Option<(Key, Cause)>
+    requires { 1 ≤ basis.tick }
+    ensures { IsFound (IsTold basis (table_view document.now)) first_rows result }
 {
-    first_among(basis_of(document, need_own), document, key_rows())
+    first_among(basis, document, first_rows())
+}
+
+/// The first fault of the keys of own ship.
+pub(crate) fn own_fault(basis: Basis, document: &Table) -> Option<(Key, Cause)>
+    requires { 1 ≤ basis.tick }
+    ensures { IsFound (IsTold basis (table_view document.now)) own_rows result }
+{
+    first_among(basis, document, own_rows())
 }

@@ -2,15 +2,16 @@
 ghost use Rattle.std.specs.Prelude.{◌≡◌, ◌≤◌, ◌%◌, ◌≤ℤ◌, pos, unsigned_abs, MatchOption, Some, true};
 ghost use Rattle.toml.specs.View.{table_view};
 ghost use Rattle.scenario.specs.Inner.KnownKeys.{are_ticks, begins_with_the_tick, is_own, lies_in, may_lie_in, range_at};
-ghost use Rattle.scenario.specs.KeyValues.{found_in, integer_at, integer_or, natural_at, optional_at, table_at};
-ghost use Rattle.scenario.specs.KeyFaults.{basis_of, tick_of, IsFaultless};
+ghost use Rattle.scenario_keys.specs.KeyValues.{found_in, integer_at, integer_or, natural_at, optional_at, table_at};
+ghost use Rattle.scenario.specs.KeyFaults.{basis_of, tick_of};
+ghost use Rattle.scenario.specs.Inner.NoFaults.{HaveNoFault};
 
-use crate::found::{found, integer_found};
+use scenario_keys::{found, integer_found};
 use toml::Table;
 
 /// The integer at a key that has no fault, if the key has one.
 fn known(document: &Table, table: &str, name: &str, low: i64, high: i64) -> Option<i64>
-    requires faultless { IsFaultless (is_own table.now) (table_view document.now) }
+    requires faultless { HaveNoFault (is_own table.now) (table_view document.now) }
     requires known { lies_in low high (range_at (basis_of (is_own table.now) (table_view document.now)) table.now name.now) ≡ true }
     ensures value { result ≡ integer_at table.now name.now (table_view document.now) }
     ensures held { MatchOption result ⊥ (λ n. (low ≤ℤ n) × (n ≤ℤ high)) }
@@ -24,7 +25,7 @@ fn known(document: &Table, table: &str, name: &str, low: i64, high: i64) -> Opti
 
 /// The integer at a key whose range lies within the two numbers, in a document without a fault.
 pub(crate) fn integer(document: &Table, table: &str, name: &str, low: i64, high: i64) -> i64
-    requires faultless { IsFaultless (is_own table.now) (table_view document.now) }
+    requires faultless { HaveNoFault (is_own table.now) (table_view document.now) }
     requires known { lies_in low high (range_at (basis_of (is_own table.now) (table_view document.now)) table.now name.now) ≡ true }
     ensures value { integer_at table.now name.now (table_view document.now) ≡ Some result }
     ensures low { low ≤ℤ result }
@@ -42,7 +43,7 @@ pub(crate) fn integer(document: &Table, table: &str, name: &str, low: i64, high:
 
 /// The same of a key that holds no integer below 0.
 pub(crate) fn natural(document: &Table, table: &str, name: &str, least: u32, most: u32) -> u32
-    requires faultless { IsFaultless (is_own table.now) (table_view document.now) }
+    requires faultless { HaveNoFault (is_own table.now) (table_view document.now) }
     requires known { lies_in (pos least) (pos most) (range_at (basis_of (is_own table.now) (table_view document.now)) table.now name.now) ≡ true }
     ensures there { integer_at table.now name.now (table_view document.now) ≡ Some (pos result) }
     ensures value { result ≡ natural_at table.now name.now (table_view document.now) }
@@ -58,7 +59,7 @@ pub(crate) fn natural(document: &Table, table: &str, name: &str, least: u32, mos
 
 /// The same of a key whose integers fit 16 bits.
 pub(crate) fn short_natural(document: &Table, table: &str, name: &str, least: u16, most: u16) -> u16
-    requires faultless { IsFaultless (is_own table.now) (table_view document.now) }
+    requires faultless { HaveNoFault (is_own table.now) (table_view document.now) }
     requires known { lies_in (pos least) (pos most) (range_at (basis_of (is_own table.now) (table_view document.now)) table.now name.now) ≡ true }
     ensures value { result ≡ natural_at table.now name.now (table_view document.now) }
     ensures least { least ≤ result }
@@ -69,7 +70,7 @@ pub(crate) fn short_natural(document: &Table, table: &str, name: &str, least: u1
 
 /// The same of a key whose integers do not fit 32 bits.
 pub(crate) fn long_natural(document: &Table, table: &str, name: &str, most: i64) -> u64
-    requires faultless { IsFaultless (is_own table.now) (table_view document.now) }
+    requires faultless { HaveNoFault (is_own table.now) (table_view document.now) }
     requires known { lies_in (pos 0) most (range_at (basis_of (is_own table.now) (table_view document.now)) table.now name.now) ≡ true }
     ensures value { result ≡ natural_at table.now name.now (table_view document.now) }
     ensures most { pos result ≤ℤ most }
@@ -95,7 +96,7 @@ fn known_or(
     high: i64,
     otherwise: i64,
 ) -> Option<i64>
-    requires faultless { IsFaultless (is_own table.now) (table_view document.now) }
+    requires faultless { HaveNoFault (is_own table.now) (table_view document.now) }
     requires known { may_lie_in low high otherwise (range_at (basis_of (is_own table.now) (table_view document.now)) table.now name.now) ≡ true }
     ensures value { result ≡ integer_or otherwise (found_in name.now (table_at table.now (table_view document.now))) }
     ensures held { MatchOption result ⊥ (λ n. (low ≤ℤ n) × (n ≤ℤ high)) }
@@ -104,7 +105,7 @@ fn known_or(
 }
 
 /// The integer at a key that may be left out for another number, in a document without a fault.
-#[tactic(auto, unfolding(crate::specs::KeyValues::optional_at))]
+#[tactic(auto, unfolding(scenario_keys::specs::KeyValues::optional_at))]
 pub(crate) fn optional(
     document: &Table,
     table: &str,
@@ -113,7 +114,7 @@ pub(crate) fn optional(
     most: u32,
     otherwise: u32,
 ) -> u32
-    requires faultless { IsFaultless (is_own table.now) (table_view document.now) }
+    requires faultless { HaveNoFault (is_own table.now) (table_view document.now) }
     requires known { may_lie_in (pos least) (pos most) (pos otherwise) (range_at (basis_of (is_own table.now) (table_view document.now)) table.now name.now) ≡ true }
     ensures value { result ≡ optional_at table.now name.now otherwise (table_view document.now) }
     ensures least { least ≤ result }

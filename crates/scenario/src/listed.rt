@@ -4,10 +4,11 @@ ghost use Rattle.toml.specs.Data.{as_integer};
 ghost use Rattle.toml.specs.View.{array_view, table_view, view};
 ghost use Rattle.scenario.specs.Inner.KnownKeys.{is_own, list_range_at, lists_lie_in};
 ghost use Rattle.scenario.specs.Inner.WithinBounds.{IsWithin};
-ghost use Rattle.scenario.specs.KeyValues.{array_in, found_in, integer_of, integers_at, list_at, natural_of, naturals_at, table_at};
-ghost use Rattle.scenario.specs.KeyFaults.{basis_of, IsFaultless};
+ghost use Rattle.scenario_keys.specs.KeyValues.{array_in, found_in, integer_of, integers_at, list_at, natural_of, naturals_at, table_at};
+ghost use Rattle.scenario.specs.KeyFaults.{basis_of};
+ghost use Rattle.scenario.specs.Inner.NoFaults.{HaveNoFault};
 
-use crate::found::found;
+use scenario_keys::found;
 use std::alloc::{AllocError, Global};
 use toml::value::Array;
 use toml::{Table, Value};
@@ -79,7 +80,7 @@ pub(crate) fn naturals(
     name: &str,
     within: ListBounds,
 ) -> Result<Vec<u32>, AllocError>
-    requires faultless { IsFaultless (is_own table.now) (table_view document.now) }
+    requires faultless { HaveNoFault (is_own table.now) (table_view document.now) }
     requires known { lists_lie_in within.fewest within.most (pos within.low) (pos within.high) (list_range_at (basis_of (is_own table.now) (table_view document.now)) table.now name.now) ≡ true }
     ensures values { IfOk result (λ v. v.items ≡ naturals_at table.now name.now (table_view document.now)) }
     ensures in_range { IfOk result (λ v. All (λ n. (within.low ≤ n) × (n ≤ within.high)) v.items) }
@@ -138,7 +139,7 @@ pub(crate) fn shorts(
     most: usize,
     size: u16,
 ) -> Result<Vec<i16>, AllocError>
-    requires faultless { IsFaultless (is_own table.now) (table_view document.now) }
+    requires faultless { HaveNoFault (is_own table.now) (table_view document.now) }
     requires small { size ≤ 32767 }
     requires known { lists_lie_in 1 most (neg_ℤ (pos size)) (pos size) (list_range_at (basis_of (is_own table.now) (table_view document.now)) table.now name.now) ≡ true }
     ensures values { IfOk result (λ v. v.items ≡ integers_at table.now name.now (table_view document.now)) }

@@ -2,8 +2,9 @@
 ghost use Rattle.std.specs.Prelude.{◌≡◌, ◌≤◌, ◌*◌, neg_ℤ, pos, unsigned_abs, codes, length, All, IfOk, IfSome, true};
 ghost use Rattle.toml.specs.View.{table_view};
 ghost use Rattle.lattice.specs.Grids.{positions_of};
-ghost use Rattle.scenario.specs.KeyFaults.{tick_of, IsFaultless};
-ghost use Rattle.scenario.specs.KeyValues.{integers_at, natural_at};
+ghost use Rattle.scenario.specs.KeyFaults.{tick_of};
+ghost use Rattle.scenario.specs.Inner.NoFaults.{HaveNoFault};
+ghost use Rattle.scenario_keys.specs.KeyValues.{integers_at, natural_at};
 ghost use Rattle.scenario.specs.ScenarioValues.{grid_of, own_of, own_where, IsOwnPart};
 
 use crate::integers::{natural, optional};
@@ -26,9 +27,9 @@ pub struct OwnPart {
     pub range: u32,
 }
 
-#[tactic(auto, unfolding(crate::specs::Inner::KnownKeys::kind_at, crate::specs::ScenarioKeys::rows))]
+#[tactic(auto, unfolding(crate::specs::Inner::KnownKeys::kind_at, scenario_keys::specs::ScenarioKeys::own_rows))]
 fn courses_in(alloc: Global, document: &Table) -> Result<Vec<i16>, AllocError>
-    requires { IsFaultless true (table_view document.now) }
+    requires { HaveNoFault true (table_view document.now) }
     ensures values { IfOk result (λ v. v.items ≡ integers_at (codes "own") (codes "courses") (table_view document.now)) }
     ensures in_range { IfOk result (λ v. All (λ z. unsigned_abs z ≤ 1800) v.items) }
     ensures some { IfOk result (λ v. 1 ≤ length v.items) }
@@ -37,9 +38,9 @@ fn courses_in(alloc: Global, document: &Table) -> Result<Vec<i16>, AllocError>
     shorts(alloc, document, "own", "courses", 32, 1800)
 }
 
-#[tactic(auto, unfolding(crate::specs::Inner::KnownKeys::kind_at, crate::specs::ScenarioKeys::rows))]
+#[tactic(auto, unfolding(crate::specs::Inner::KnownKeys::kind_at, scenario_keys::specs::ScenarioKeys::own_rows))]
 fn speeds_in(alloc: Global, document: &Table) -> Result<Vec<i16>, AllocError>
-    requires { IsFaultless true (table_view document.now) }
+    requires { HaveNoFault true (table_view document.now) }
     ensures values { IfOk result (λ v. v.items ≡ integers_at (codes "own") (codes "speeds") (table_view document.now)) }
     ensures in_range { IfOk result (λ v. All (λ z. unsigned_abs z ≤ 1022) v.items) }
     ensures some { IfOk result (λ v. 1 ≤ length v.items) }
@@ -49,9 +50,9 @@ fn speeds_in(alloc: Global, document: &Table) -> Result<Vec<i16>, AllocError>
 }
 
 /// The lattice of these changes of course and of speed, with the other numbers of the document.
-#[tactic(auto, unfolding(crate::specs::ScenarioValues::grid_of, crate::specs::Inner::KnownKeys::kind_at, crate::specs::ScenarioKeys::rows))]
+#[tactic(auto, unfolding(crate::specs::ScenarioValues::grid_of, crate::specs::Inner::KnownKeys::kind_at, scenario_keys::specs::ScenarioKeys::own_rows))]
 fn lattice_of(alloc: Global, document: &Table, courses: &[i16], speeds: &[i16]) -> Lattice
-    requires faultless { IsFaultless true (table_view document.now) }
+    requires faultless { HaveNoFault true (table_view document.now) }
     requires courses { courses.now ≡ integers_at (codes "own") (codes "courses") (table_view document.now) }
     requires speeds { speeds.now ≡ integers_at (codes "own") (codes "speeds") (table_view document.now) }
     requires some_courses { 1 ≤ length courses.now }
@@ -81,7 +82,7 @@ fn lattice_of(alloc: Global, document: &Table, courses: &[i16], speeds: &[i16]) 
 }
 
 fn lattice_in(alloc: Global, document: &Table) -> Result<Lattice, AllocError>
-    requires { IsFaultless true (table_view document.now) }
+    requires { HaveNoFault true (table_view document.now) }
     ensures value { IfOk result (λ l. l ≡ grid_of (table_view document.now)) }
     ensures time { IfOk result (λ l. positions_of l * tick_of (table_view document.now) ≤ 7200) }
 {
@@ -91,9 +92,9 @@ fn lattice_in(alloc: Global, document: &Table) -> Result<Lattice, AllocError>
 }
 
 /// Own ship with this lattice.
-#[tactic(auto, unfolding(crate::specs::ScenarioValues::own_of, crate::specs::Inner::KnownKeys::kind_at, crate::specs::ScenarioKeys::rows))]
+#[tactic(auto, unfolding(crate::specs::ScenarioValues::own_of, crate::specs::Inner::KnownKeys::kind_at, scenario_keys::specs::ScenarioKeys::own_rows))]
 fn own_with(document: &Table, lattice: Lattice) -> OwnPart
-    requires faultless { IsFaultless true (table_view document.now) }
+    requires faultless { HaveNoFault true (table_view document.now) }
     requires lattice { lattice ≡ grid_of (table_view document.now) }
     requires time { positions_of lattice * tick_of (table_view document.now) ≤ 7200 }
     ensures values { result ≡ own_of (table_view document.now) }
@@ -110,7 +111,7 @@ fn own_with(document: &Table, lattice: Lattice) -> OwnPart
 
 /// Own ship of a document without a fault.
 fn own_in(alloc: Global, document: &Table) -> Result<OwnPart, AllocError>
-    requires { IsFaultless true (table_view document.now) }
+    requires { HaveNoFault true (table_view document.now) }
     ensures values { IfOk result (λ o. o ≡ own_of (table_view document.now)) }
     ensures in_range { IfOk result (IsOwnPart (tick_of (table_view document.now))) }
 {
@@ -124,7 +125,7 @@ pub(crate) fn own_where(
     document: &Table,
     need_own: bool,
 ) -> Result<Option<OwnPart>, AllocError>
-    requires { IsFaultless need_own (table_view document.now) }
+    requires { HaveNoFault need_own (table_view document.now) }
     ensures values { IfOk result (λ o. o ≡ own_where need_own (table_view document.now)) }
     ensures in_range { IfOk result (λ o. IfSome o (IsOwnPart (tick_of (table_view document.now)))) }
 {

@@ -1,13 +1,11 @@
 //! Whether own ship's plans are too many, or too long.
 ghost use Rattle.std.specs.Prelude.{◌≡◌, ◌≤◌, codes, length, pos, true};
 ghost use Rattle.toml.specs.View.{table_view};
-ghost use Rattle.scenario.specs.KeyValues.{list_at, natural_at};
+ghost use Rattle.scenario_keys.specs.KeyValues.{list_at, natural_at};
 ghost use Rattle.scenario.specs.PlanFaults.{are_few, are_in_range, are_short, plans_cause, sizes_of};
 
-use crate::cause::Cause;
-use crate::found::integer_found;
 use crate::listed::array;
-use crate::lists::element_count;
+use scenario_keys::{Cause, element_count, integer_found};
 use toml::Table;
 
 /// The numbers that say how many plans own ship has, and how long they last.
@@ -31,7 +29,7 @@ fn natural_at(document: &Table, name: &str) -> u64
     }
 }
 
-#[tactic(auto, unfolding(crate::specs::KeyValues::list_at))]
+#[tactic(auto, unfolding(scenario_keys::specs::KeyValues::list_at))]
 fn count_at(document: &Table, name: &str) -> u64
     ensures { result ≡ length (list_at (codes "own") name.now (table_view document.now)) }
 {

@@ -1,34 +1,54 @@
 //! Reads a scenario.
-ghost use Rattle.std.specs.Prelude.{◌≡◌, ◌⊎◌, IfOk, false};
+ghost use Rattle.std.specs.Prelude.{◌≡◌, ◌⊎◌, IfErr, IfOk};
 ghost use Rattle.toml.specs.View.{table_view};
-ghost use Rattle.scenario.specs.ScenarioReading.{IsRefused, Means, Reads};
-ghost use Rattle.scenario.specs.ScenarioValues.{IsInRange};
-ghost use Rattle.scenario.specs.declared.key.Key.{Key};
-ghost use Rattle.scenario.specs.declared.cause.Cause.{Cause};
+ghost use Rattle.scenario_keys.specs.ToldFaults.{IfFault};
+ghost use Rattle.scenario_keys.specs.declared.key.Key.{Key};
+ghost use Rattle.scenario_keys.specs.declared.cause.Cause.{Cause};
+ghost use Rattle.scenario.specs.DocumentFaults.{IsFaultless, IsFirstFault};
+ghost use Rattle.scenario.specs.RuleValues.{AreRulesOf};
+ghost use Rattle.scenario.specs.ScenarioReading.{IsRefused, Means};
+ghost use Rattle.scenario.specs.ScenarioValues.{scenario_of, IsInRange};
 ghost use Rattle.scenario.specs.declared.values.Scenario.{Scenario};
 
-use crate::cause::Cause;
-use crate::fault::ScenarioFault;
-use crate::first::first_fault;
-use crate::key::Key;
+use crate::basis::basis_of;
+use crate::first::{first_fault, own_fault};
+use crate::rules::rules_in;
 use crate::values::{Scenario, scenario_in};
+use scenario_keys::{Cause, Key, ScenarioFault};
 use std::alloc::Global;
+use toml::Table;
+
+/// The values of a document, or its first fault.
+fn values_of(alloc: Global, document: &Table, need_own: bool) -> Result<Scenario, ScenarioFault>
+    ensures faultless { IfOk result (λ _. IsFaultless need_own (table_view document.now)) }
+    ensures rules { IfOk result (λ s. AreRulesOf (table_view document.now) s.rules) }
+    ensures values { IfOk result (λ s. s ≡ scenario_of need_own (table_view document.now) s.rules) }
+    ensures in_range { IfOk result IsInRange }
+    ensures fault { IfErr result (IfFault (IsFirstFault need_own (table_view document.now))) }
+{
+    let basis = basis_of(document, need_own);
+    if let Some((key, cause)) = first_fault(basis, document) {
+        return Err(ScenarioFault::Fault(key, cause));
+    }
+    let rules = rules_in(alloc, document, need_own)?;
+    if let Some((key, cause)) = own_fault(basis, document) {
+        return Err(ScenarioFault::Fault(key, cause));
+    }
+    Ok(scenario_in(alloc, document, rules, need_own)?)
+}
 
 /// Reads a scenario, without the rest of the contract of `read`.
 fn reading(alloc: Global, bytes: &[u8], need_own: bool) -> Result<Scenario, ScenarioFault>
     ensures values { IfOk result (Means need_own bytes.now) }
     ensures in_range { IfOk result IsInRange }
-    ensures refused { (key : Key) (cause : Cause) → result ≡ Err (ScenarioFault.Fault key cause) → IsRefused need_own bytes.now key cause }
+    ensures refused { IfErr result (IfFault (λ told. IsRefused need_own bytes.now told.0 told.1)) }
 {
     let document = match toml::table_from_slice(alloc, bytes) {
         Ok(document) => document,
         Err(error) if error.is_memory() => return Err(ScenarioFault::Memory),
         Err(_) => return Err(ScenarioFault::Fault(Key { row: 0, item: 0 }, Cause::NotToml)),
     };
-    match first_fault(&document, need_own) {
-        Some((key, cause)) => Err(ScenarioFault::Fault(key, cause)),
-        None => Ok(scenario_in(alloc, &document, need_own)?),
-    }
+    values_of(alloc, &document, need_own)
 }
 
 /// Reads a scenario: its values, each in its range, or exactly the first fault in the order of the table of keys. Memory

@@ -1,6 +1,6 @@
 //! Scenarios that are refused: each key with each of its causes.
 use crate::read;
-use crate::tests::{GOOD, second_version, with_own};
+use crate::tests::{GOOD, second_version, with_formulas, with_own};
 use std::alloc::{AllocError, Global};
 
 /// What is put for a part of a scenario, and the fault of what this gives.
@@ -235,6 +235,97 @@ const SUBJECTS: [Case; 6] = [
 fn items_of_subjects(rt: HostRuntime) -> Result<(), AllocError> {
     let otherwise = first_otherwise(rt.alloc(), GOOD, &SUBJECTS, false)?;
     assert_eq!(rt; otherwise, None);
+    Ok(())
+}
+
+/// Faults of `formula`, and formulas that have none.
+#[rattlefmt::skip]
+const FORMULAS: [Case; 27] = [
+    ("version = 1", "version = 1\nformula = 1", "formula: type"),
+    ("version = 1", "version = 1\nformula = {}", "formula: type"),
+    ("version = 1", "version = 1\nformula = [{}, 1]", "formula: type"),
+    ("version = 1", "version = 1\nformula = [{}, {}, {}, {}, {}, {}]", "formula: range"),
+    ("version = 1", "version = 1\nformula = []", ""),
+    ("version = 1", "version = 1\nformula = [{}]", "formula.name[0]: missing"),
+    ("version = 1", "version = 1\nformula = [{ name = 1 }]", "formula.name[0]: type"),
+    ("version = 1", "version = 1\nformula = [{ name = '' }]", "formula.name[0]: range"),
+    ("version = 1", "version = 1\nformula = [{ name = 'A' }]", "formula.name[0]: range"),
+    ("version = 1", "version = 1\nformula = [{ name = 'a-b' }]", "formula.name[0]: range"),
+    ("version = 1", "version = 1\nformula = [{ name = '1a' }]", "formula.name[0]: range"),
+    ("version = 1", "version = 1\nformula = [{ name = '_a' }]", "formula.name[0]: range"),
+    ("version = 1", "version = 1\nformula = [{ name = 'abcdefghijklmnopq' }]", "formula.name[0]: range"),
+    ("version = 1", "version = 1\nformula = [{ name = 'abcd_fghij123456', text = 'seen' }]", ""),
+    ("version = 1", "version = 1\nformula = [{ name = 'r14a' }]", "formula.name[0]: range"),
+    ("version = 1", "version = 1\nformula = [{ name = 'r18', text = 'seen' }]", ""),
+    ("version = 1", "version = 1\nformula = [{ name = 'u', text = 'seen' }, { name = 'u' }]", "formula.name[1]: range"),
+    ("version = 1", "version = 1\nformula = [{ name = 'u' }]", "formula.text[0]: missing"),
+    ("version = 1", "version = 1\nformula = [{ name = 'u', text = ['seen'] }]", "formula.text[0]: type"),
+    ("version = 1", "version = 1\nformula = [{ name = 'u', text = 'risk &' }]", "formula.text[0]: formula at 6"),
+    ("version = 1", "version = 1\nformula = [{ name = 'u', text = 'F[0,25] risk' }]", "formula.text[0]: formula at 4"),
+    ("version = 1", "version = 1\nformula = [{ name = 'u', text = 'F[0,7200] F[0,7200] F[0,7200] F[0,7200] F[0,7200] F[0,7200] F[0,7200] F[0,7200] F[0,7200] F[0,7200] F[0,7200] risk' }]", "formula.text[0]: formula at 114"),
+    ("version = 1", "version = 1\nformula = [{ name = 'A', text = '&' }]", "formula.name[0]: range"),
+    ("version = 1", "version = 1\nformula = [{ name = 'u', text = '&' }, { name = 'A' }]", "formula.text[0]: formula at 0"),
+    ("version = 1", "version = 1\nformula = [{ name = 'u', text = 'seen' }, { name = 'v', text = '&' }]", "formula.text[1]: formula at 0"),
+    ("te = 620\n", "te = 621\n[[formula]]\nname = 'A'\n", "rules.te: multiple"),
+    ("te = 620\n", "te = 620\n[[formula]]\nname = 'u'\ntext = 'ahead'\n", ""),
+];
+
+#[test]
+fn names_and_texts_of_formulas(rt: HostRuntime) -> Result<(), AllocError> {
+    let otherwise = first_otherwise(rt.alloc(), GOOD, &FORMULAS, false)?;
+    assert_eq!(rt; otherwise, None);
+    Ok(())
+}
+
+/// Two formulas in place of the good ones: what is put for the name and the text of the second, and the fault of all.
+#[rattlefmt::skip]
+const SECOND: [Case; 3] = [
+    ("'r18'", "'u1'", "formula.name[1]: range"),
+    ("'seen'", "'seen)'", "formula.text[1]: formula at 4"),
+    ("'r18'", "'u2'", ""),
+];
+
+#[test]
+fn the_second_of_two_formulas(rt: HostRuntime) -> Result<(), AllocError> {
+    let good = with_formulas(rt.alloc())?;
+    let otherwise = first_otherwise(rt.alloc(), good.as_str(), &SECOND, false)?;
+    assert_eq!(rt; otherwise, None);
+    Ok(())
+}
+
+/// The eleven rules of the good scenario weigh 515. With the first three formulas they weigh 65,535, and with the last, of one
+/// node, 65,536; `!seen` has two.
+#[rattlefmt::skip]
+const WEIGHTS: [Case; 2] = [
+    ("version = 1", "version = 1\nformula = [{ name = 'a', text = 'F[0,7200] F[0,7200] F[0,7200] F[0,7200] F[0,7200] F[0,7200] F[0,7200] F[0,7200] seen' }, { name = 'b', text = 'F[0,7200] F[0,7200] seen' }, { name = 'c', text = 'F[0,5450] seen' }, { name = 'd', text = 'seen' }]", ""),
+    ("version = 1", "version = 1\nformula = [{ name = 'a', text = 'F[0,7200] F[0,7200] F[0,7200] F[0,7200] F[0,7200] F[0,7200] F[0,7200] F[0,7200] seen' }, { name = 'b', text = 'F[0,7200] F[0,7200] seen' }, { name = 'c', text = 'F[0,5450] seen' }, { name = 'd', text = '!seen' }]", "formulas: product"),
+];
+
+#[test]
+fn weights_of_formulas(rt: HostRuntime) -> Result<(), AllocError> {
+    let otherwise = first_otherwise(rt.alloc(), GOOD, &WEIGHTS, false)?;
+    assert_eq!(rt; otherwise, None);
+    Ok(())
+}
+
+/// The good scenario with a formula of one word and so many spaces.
+fn with_spaces(alloc: Global, spaces: usize) -> Result<String, AllocError> {
+    let mut text = GOOD.to_owned(alloc)?;
+    text.push_str("[[formula]]\nname = 'u'\ntext = 'seen")?;
+    for _ in 0..spaces {
+        text.push_str(" ")?;
+    }
+    text.push_str("'\n")?;
+    Ok(text)
+}
+
+#[test]
+fn a_formula_has_at_most_1024_bytes(rt: HostRuntime) -> Result<(), AllocError> {
+    for (spaces, expected) in [(1020, ""), (1021, "formula.text[0]: range")] {
+        let text = with_spaces(rt.alloc(), spaces)?;
+        let told = told(rt.alloc(), text.as_str(), false)?;
+        assert_eq!(rt; told.as_str(), expected);
+    }
     Ok(())
 }
 

@@ -1,8 +1,10 @@
 //! Scenarios with known values, known first faults and known texts.
 use crate::refusal_tests::told;
-use crate::{Cause, Key, RuleNumbers, Safe, ScenarioFault, Subjects, read};
+use crate::{Cause, Key, ScenarioFault, Subjects, read};
 use encounters::{Act, Detect};
+use mtl_formulas::print;
 use outside::Memory;
+use rule_set::RuleSet;
 use sectors::Angles;
 use std::alloc::{AllocError, Global};
 
@@ -28,16 +30,20 @@ const ACT: Act = Act {
     apparent_speed: 51,
 };
 
-const RULES: RuleNumbers = RuleNumbers {
-    safe: Safe::One(201),
-    overtake: 202,
-    close: 300,
-    t8: 60,
-    ta: 70,
-    tl: 20,
-    tw: 110,
-    te: 620,
-};
+/// Whether the rule at an index has this name and, printed at a tick of 10 seconds, this text.
+fn is_rule(
+    alloc: Global,
+    rules: &RuleSet,
+    k: usize,
+    name: &str,
+    text: &str,
+) -> Result<bool, Memory> {
+    if rules.len() <= k {
+        return Ok(false);
+    }
+    let printed = print(alloc, rules.formula(k), 10)?;
+    Ok(rules.name(k) == name.as_bytes() && printed.as_slice() == text.as_bytes())
+}
 
 /// The good scenario in version 2.
 pub(crate) fn second_version(alloc: Global) -> Result<String, AllocError> {
@@ -78,7 +84,7 @@ fn own_ship_has_her_plans(rt: HostRuntime) -> Result<(), AllocError> {
 }
 
 #[test]
-fn values_of_a_good_scenario(rt: HostRuntime) {
+fn values_of_a_good_scenario(rt: HostRuntime) -> Result<(), Memory> {
     match read(rt.alloc(), GOOD.as_bytes(), false) {
         Ok(scenario) => {
             assert_eq!(rt; scenario.window.start, 1_700_000_000);
@@ -90,26 +96,65 @@ fn values_of_a_good_scenario(rt: HostRuntime) {
             assert_eq!(rt; scenario.log.max_bytes, 1 << 30);
             assert_eq!(rt; scenario.detect, DETECT);
             assert_eq!(rt; scenario.act, ACT);
-            assert_eq!(rt; scenario.rules, RULES);
+            assert_eq!(rt; scenario.rules.len(), 11);
+            let is = is_rule(
+                rt.alloc(),
+                &scenario.rules,
+                1,
+                "r8d",
+                "(engaged -> clear(201))",
+            )?;
+            assert!(rt; is);
             assert_eq!(rt; scenario.subjects.as_slice().len(), 0);
             assert!(rt; scenario.own.is_none());
         }
         Err(fault) => assert!(rt; false, "{fault}"),
     }
+    Ok(())
 }
 
+/// Rule 8(d) with the four distances of the second version.
+const SAFE_PER_KIND: &str =
+    "(((((engaged & head_on) -> clear(1)) & ((engaged & (overtaking | overtaken)) -> clear(2))) & ((engaged & (crossing_gives | crossing_stands)) -> clear(3))) & ((engaged & (passing | unclassified)) -> clear(100000)))";
+
 #[test]
-fn version_two_has_a_safe_distance_for_each_kind(rt: HostRuntime) -> Result<(), AllocError> {
+fn version_two_has_a_safe_distance_for_each_kind(rt: HostRuntime) -> Result<(), Memory> {
     let text = second_version(rt.alloc())?;
     match read(rt.alloc(), text.as_bytes(), false) {
         Ok(scenario) => {
-            let safe = Safe::PerKind {
-                head_on: 1,
-                overtaking: 2,
-                crossing: 3,
-                other: 100_000,
-            };
-            assert_eq!(rt; scenario.rules.safe, safe);
+            let is = is_rule(rt.alloc(), &scenario.rules, 1, "r8d", SAFE_PER_KIND)?;
+            assert!(rt; is);
+        }
+        Err(fault) => assert!(rt; false, "{fault}"),
+    }
+    Ok(())
+}
+
+/// The good scenario with two formulas.
+pub(crate) fn with_formulas(alloc: Global) -> Result<String, AllocError> {
+    let mut text = GOOD.to_owned(alloc)?;
+    text.push_str(
+        "[[formula]]\nname = 'u1'\ntext = 'F[0,20] risk & !seen'\n[[formula]]\nname = 'r18'\ntext = 'seen'\n",
+    )?;
+    Ok(text)
+}
+
+#[test]
+fn formulas_stand_behind_the_rules(rt: HostRuntime) -> Result<(), Memory> {
+    let text = with_formulas(rt.alloc())?;
+    match read(rt.alloc(), text.as_bytes(), false) {
+        Ok(scenario) => {
+            assert_eq!(rt; scenario.rules.len(), 13);
+            let first = is_rule(
+                rt.alloc(),
+                &scenario.rules,
+                11,
+                "u1",
+                "(F[0,20] risk & !seen)",
+            )?;
+            assert!(rt; first);
+            let second = is_rule(rt.alloc(), &scenario.rules, 12, "r18", "seen")?;
+            assert!(rt; second);
         }
         Err(fault) => assert!(rt; false, "{fault}"),
     }
@@ -127,7 +172,6 @@ fn the_greatest_values_are_read(rt: HostRuntime) {
             assert_eq!(rt; scenario.log.max_bytes, 1 << 30);
             assert_eq!(rt; scenario.detect.watch, 1_000_000_000);
             assert_eq!(rt; scenario.detect.horizon, 120);
-            assert_eq!(rt; scenario.rules.te, 7200);
         }
         Err(fault) => assert!(rt; false, "{fault}"),
     }

@@ -2,18 +2,20 @@
 ghost use Rattle.std.specs.Prelude.{◌≡◌, ◌≤◌, ◌*◌, ◌/◌, codes, pos, length, unsigned_abs, All, IfOk, IfSome, false, true};
 ghost use Rattle.toml.specs.View.{table_view};
 ghost use Rattle.scenario.specs.Inner.KnownKeys.{is_own, lies_in, range_at};
-ghost use Rattle.scenario.specs.KeyValues.{natural_at, naturals_at, signed_at};
-ghost use Rattle.scenario.specs.KeyFaults.{basis_of, tick_of, IsFaultless};
-ghost use Rattle.scenario.specs.ScenarioValues.{act_of, detect_of, log_numbers_of, reference_of, rules_of, safe_of, scenario_of, scenario_with, units_at, window_of, AreActNumbers, AreDetectNumbers, AreLogNumbers, AreRuleNumbers, IsInRange, IsOwnPart, IsSafe, IsShip, IsWindow};
+ghost use Rattle.scenario_keys.specs.KeyValues.{natural_at, naturals_at, signed_at};
+ghost use Rattle.scenario.specs.KeyFaults.{basis_of, tick_of};
+ghost use Rattle.scenario.specs.Inner.NoFaults.{HaveNoFault};
+ghost use Rattle.added_rules.specs.ScenarioRules.{AreLightRules};
+ghost use Rattle.scenario.specs.ScenarioValues.{act_of, detect_of, log_numbers_of, reference_of, scenario_of, scenario_with, units_at, window_of, AreActNumbers, AreDetectNumbers, AreLogNumbers, IsInRange, IsOwnPart, IsShip, IsWindow};
 
-use crate::basis::{is_version_two, tick_of};
+use crate::basis::tick_of;
 use crate::integers::{integer, long_natural, natural, optional, short_natural};
 use crate::listed::{ListBounds, naturals};
 use crate::own_part::{OwnPart, own_where};
-use crate::rule_numbers::{RuleNumbers, Safe};
 use crate::subjects::Subjects;
 use encounters::{Act, Detect};
 use fixed_geometry::Reference;
+use rule_set::RuleSet;
 use sectors::Angles;
 use std::alloc::{AllocError, Global};
 use toml::Table;
@@ -53,17 +55,17 @@ pub struct Scenario {
     pub detect: Detect,
     /// What counts as keeping course and speed, and what as a readily apparent alteration.
     pub act: Act,
-    /// The numbers of the rules' formulas.
-    pub rules: RuleNumbers,
+    /// The rules: the eleven of the COLREGs with the scenario's numbers, and at most five formulas behind them.
+    pub rules: RuleSet,
     /// The vessels whose encounters are audited.
     pub subjects: Subjects,
     /// Own ship, where she is needed.
     pub own: Option<OwnPart>,
 }
 
-#[tactic(auto, unfolding(crate::specs::ScenarioValues::window_of, crate::specs::Inner::KnownKeys::kind_at, crate::specs::ScenarioKeys::rows))]
+#[tactic(auto, unfolding(crate::specs::ScenarioValues::window_of, crate::specs::Inner::KnownKeys::kind_at, scenario_keys::specs::ScenarioKeys::first_rows))]
 fn window_in(document: &Table) -> Window
-    requires { IsFaultless false (table_view document.now) }
+    requires { HaveNoFault false (table_view document.now) }
     ensures values { result ≡ window_of (table_view document.now) }
     ensures in_range { IsWindow result }
     ensures tick { tick_of (table_view document.now) ≡ result.tick }
@@ -75,18 +77,18 @@ fn window_in(document: &Table) -> Window
     }
 }
 
-#[tactic(auto, unfolding(crate::specs::Inner::KnownKeys::kind_at, crate::specs::ScenarioKeys::rows))]
+#[tactic(auto, unfolding(crate::specs::Inner::KnownKeys::kind_at, scenario_keys::specs::ScenarioKeys::first_rows))]
 fn latitude_in(document: &Table) -> i32
-    requires { IsFaultless false (table_view document.now) }
+    requires { HaveNoFault false (table_view document.now) }
     ensures value { result ≡ signed_at (codes "reference") (codes "lat") (table_view document.now) }
     ensures in_range { unsigned_abs result ≤ 45000000 }
 {
     integer(document, "reference", "lat", -45_000_000, 45_000_000) as i32
 }
 
-#[tactic(auto, unfolding(crate::specs::Inner::KnownKeys::kind_at, crate::specs::ScenarioKeys::rows))]
+#[tactic(auto, unfolding(crate::specs::Inner::KnownKeys::kind_at, scenario_keys::specs::ScenarioKeys::first_rows))]
 fn longitude_in(document: &Table) -> i32
-    requires { IsFaultless false (table_view document.now) }
+    requires { HaveNoFault false (table_view document.now) }
     ensures value { result ≡ signed_at (codes "reference") (codes "lon") (table_view document.now) }
     ensures in_range { unsigned_abs result ≤ 108000000 }
 {
@@ -95,15 +97,15 @@ fn longitude_in(document: &Table) -> i32
 
 #[tactic(auto, unfolding(crate::specs::ScenarioValues::reference_of))]
 fn reference_in(document: &Table) -> Reference
-    requires { IsFaultless false (table_view document.now) }
+    requires { HaveNoFault false (table_view document.now) }
     ensures { result ≡ reference_of (table_view document.now) }
 {
     Reference::new(latitude_in(document), longitude_in(document)).unwrap()
 }
 
-#[tactic(auto, unfolding(crate::specs::ScenarioValues::log_numbers_of, crate::specs::Inner::KnownKeys::kind_at, crate::specs::ScenarioKeys::rows))]
+#[tactic(auto, unfolding(crate::specs::ScenarioValues::log_numbers_of, crate::specs::Inner::KnownKeys::kind_at, scenario_keys::specs::ScenarioKeys::first_rows))]
 fn log_numbers_in(document: &Table) -> LogNumbers
-    requires { IsFaultless false (table_view document.now) }
+    requires { HaveNoFault false (table_view document.now) }
     ensures values { result ≡ log_numbers_of (table_view document.now) }
     ensures in_range { AreLogNumbers (tick_of (table_view document.now)) result }
 {
@@ -118,7 +120,7 @@ fn log_numbers_in(document: &Table) -> LogNumbers
 /// A distance in metres, in tenths of a millimetre.
 #[tactic(auto, unfolding(crate::specs::ScenarioValues::units_at))]
 fn units(document: &Table, table: &str, name: &str) -> u64
-    requires faultless { IsFaultless (is_own table.now) (table_view document.now) }
+    requires faultless { HaveNoFault (is_own table.now) (table_view document.now) }
     requires known { lies_in (pos 1) (pos 100000) (range_at (basis_of (is_own table.now) (table_view document.now)) table.now name.now) ≡ true }
     ensures value { result ≡ units_at table.now name.now (table_view document.now) }
     ensures least { 10000 ≤ result }
@@ -139,9 +141,9 @@ fn ticks_in(seconds: u32, tick: u32) -> u32
     seconds / tick
 }
 
-#[tactic(auto, unfolding(crate::specs::Inner::KnownKeys::kind_at, crate::specs::ScenarioKeys::rows))]
+#[tactic(auto, unfolding(crate::specs::Inner::KnownKeys::kind_at, scenario_keys::specs::ScenarioKeys::first_rows))]
 fn horizon_in(document: &Table) -> u32
-    requires { IsFaultless false (table_view document.now) }
+    requires { HaveNoFault false (table_view document.now) }
     ensures value { result ≡ natural_at (codes "detect") (codes "horizon") (table_view document.now) / tick_of (table_view document.now) }
     ensures some { 1 ≤ result }
     ensures time { result * tick_of (table_view document.now) ≤ 7200 }
@@ -153,9 +155,9 @@ fn horizon_in(document: &Table) -> u32
     )
 }
 
-#[tactic(auto, unfolding(crate::specs::ScenarioValues::detect_of, crate::specs::Inner::KnownKeys::kind_at, crate::specs::ScenarioKeys::rows))]
+#[tactic(auto, unfolding(crate::specs::ScenarioValues::detect_of, crate::specs::Inner::KnownKeys::kind_at, scenario_keys::specs::ScenarioKeys::first_rows))]
 fn detect_in(document: &Table) -> Detect
-    requires { IsFaultless false (table_view document.now) }
+    requires { HaveNoFault false (table_view document.now) }
     ensures values { result ≡ detect_of (table_view document.now) }
     ensures in_range { AreDetectNumbers (tick_of (table_view document.now)) result }
 {
@@ -172,9 +174,9 @@ fn detect_in(document: &Table) -> Detect
     }
 }
 
-#[tactic(auto, unfolding(crate::specs::ScenarioValues::act_of, crate::specs::Inner::KnownKeys::kind_at, crate::specs::ScenarioKeys::rows))]
+#[tactic(auto, unfolding(crate::specs::ScenarioValues::act_of, crate::specs::Inner::KnownKeys::kind_at, scenario_keys::specs::ScenarioKeys::first_rows))]
 fn act_in(document: &Table) -> Act
-    requires { IsFaultless false (table_view document.now) }
+    requires { HaveNoFault false (table_view document.now) }
     ensures values { result ≡ act_of (table_view document.now) }
     ensures in_range { AreActNumbers result }
 {
@@ -186,45 +188,9 @@ fn act_in(document: &Table) -> Act
     }
 }
 
-#[tactic(auto, unfolding(crate::specs::ScenarioValues::safe_of, crate::specs::Inner::KnownKeys::kind_at, crate::specs::ScenarioKeys::rows))]
-fn safe_in(document: &Table) -> Safe
-    requires { IsFaultless false (table_view document.now) }
-    ensures values { result ≡ safe_of (table_view document.now) }
-    ensures in_range { IsSafe result }
-{
-    if is_version_two(document) {
-        Safe::PerKind {
-            head_on: natural(document, "rules", "safe_head_on", 1, 100_000),
-            overtaking: natural(document, "rules", "safe_overtaking", 1, 100_000),
-            crossing: natural(document, "rules", "safe_crossing", 1, 100_000),
-            other: natural(document, "rules", "safe_other", 1, 100_000),
-        }
-    } else {
-        Safe::One(natural(document, "rules", "safe", 1, 100_000))
-    }
-}
-
-#[tactic(auto, unfolding(crate::specs::ScenarioValues::rules_of, crate::specs::Inner::KnownKeys::kind_at, crate::specs::ScenarioKeys::rows))]
-fn rules_in(document: &Table) -> RuleNumbers
-    requires { IsFaultless false (table_view document.now) }
-    ensures values { result ≡ rules_of (table_view document.now) }
-    ensures in_range { AreRuleNumbers (tick_of (table_view document.now)) result }
-{
-    RuleNumbers {
-        safe: safe_in(document),
-        overtake: natural(document, "rules", "overtake", 1, 100_000),
-        close: natural(document, "rules", "close", 1, 100_000),
-        t8: natural(document, "rules", "t8", 0, 7200),
-        ta: natural(document, "rules", "ta", 0, 7200),
-        tl: natural(document, "rules", "tl", 0, 7200),
-        tw: natural(document, "rules", "tw", 0, 7200),
-        te: natural(document, "rules", "te", 0, 7200),
-    }
-}
-
-#[tactic(auto, unfolding(crate::specs::Inner::KnownKeys::kind_at, crate::specs::ScenarioKeys::rows))]
+#[tactic(auto, unfolding(crate::specs::Inner::KnownKeys::kind_at, scenario_keys::specs::ScenarioKeys::first_rows))]
 fn subjects_in(alloc: Global, document: &Table) -> Result<Subjects, AllocError>
-    requires { IsFaultless false (table_view document.now) }
+    requires { HaveNoFault false (table_view document.now) }
     ensures values { IfOk result (λ s. s ≡ naturals_at (codes "") (codes "subjects") (table_view document.now)) }
     ensures in_range { IfOk result (All IsShip) }
     ensures few { IfOk result (λ s. length s ≤ 64) }
@@ -241,13 +207,19 @@ fn subjects_in(alloc: Global, document: &Table) -> Result<Subjects, AllocError>
 
 /// The values of a document without a fault, with those that take memory.
 #[tactic(auto, unfolding(crate::specs::ScenarioValues::scenario_with))]
-fn with_lists(document: &Table, subjects: Subjects, own: Option<OwnPart>) -> Scenario
-    requires faultless { IsFaultless false (table_view document.now) }
+fn with_lists(
+    document: &Table,
+    rules: RuleSet,
+    subjects: Subjects,
+    own: Option<OwnPart>,
+) -> Scenario
+    requires faultless { HaveNoFault false (table_view document.now) }
+    requires rules { AreLightRules rules }
     requires subjects { subjects ≡ naturals_at (codes "") (codes "subjects") (table_view document.now) }
     requires ships { All IsShip subjects }
     requires few { length subjects ≤ 64 }
     requires own { IfSome own (IsOwnPart (tick_of (table_view document.now))) }
-    ensures values { result ≡ scenario_with own (table_view document.now) }
+    ensures values { result ≡ scenario_with rules own (table_view document.now) }
     ensures in_range { IsInRange result }
 {
     Scenario {
@@ -256,23 +228,26 @@ fn with_lists(document: &Table, subjects: Subjects, own: Option<OwnPart>) -> Sce
         log: log_numbers_in(document),
         detect: detect_in(document),
         act: act_in(document),
-        rules: rules_in(document),
+        rules,
         subjects,
         own,
     }
 }
 
-/// The values of a document without a fault, with own ship where she is needed.
+/// The values of a document without a fault, with these rules, and with own ship where she is needed.
 pub(crate) fn scenario_in(
     alloc: Global,
     document: &Table,
+    rules: RuleSet,
     need_own: bool,
 ) -> Result<Scenario, AllocError>
-    requires { IsFaultless need_own (table_view document.now) }
-    ensures values { IfOk result (λ s. s ≡ scenario_of need_own (table_view document.now)) }
+    requires faultless { HaveNoFault false (table_view document.now) }
+    requires own { HaveNoFault need_own (table_view document.now) }
+    requires light { AreLightRules rules }
+    ensures values { IfOk result (λ s. s ≡ scenario_of need_own (table_view document.now) rules) }
     ensures in_range { IfOk result IsInRange }
 {
     let subjects = subjects_in(alloc, document)?;
     let own = own_where(alloc, document, need_own)?;
-    Ok(with_lists(document, subjects, own))
+    Ok(with_lists(document, rules, subjects, own))
 }

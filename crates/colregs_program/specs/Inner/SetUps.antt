@@ -4,8 +4,8 @@ use Rattle.outside.specs.Causes.{one_more}
 use Rattle.outside.specs.Shelves.{Files, IsMissing}
 use Rattle.scenario.specs.ScenarioReading.{IsRefused}
 use Rattle.scenario.specs.declared.values.Scenario.{Scenario}
-use Rattle.scenario.specs.declared.fault.ScenarioFault.{ScenarioFault}
-use Rattle.scenario.specs.declared.fault.ScenarioFault.TheVariants as refusal
+use Rattle.scenario_keys.specs.declared.fault.ScenarioFault.{ScenarioFault}
+use Rattle.scenario_keys.specs.declared.fault.ScenarioFault.TheVariants as refusal
 use Rattle.colregs_program.specs.Answers.{Holds, LiesUnder, IsScenario, greatest_scenario}
 use Rattle.colregs_program.specs.declared.set_up.SetUpFault.{SetUpFault}
 use Rattle.colregs_program.specs.declared.set_up.SetUpFault.TheVariants as fault

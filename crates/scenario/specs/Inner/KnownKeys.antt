@@ -1,14 +1,15 @@
 -- What the table of keys says of a key that counts.
 use Rattle.std.specs.Prelude.{ℕ, ℤ, pos, ◌&&◌, nat_le, int_le, codes, List, find, Bool, true, false, if◌then◌else◌, Option, Some, None}
 use Rattle.std.specs.Str.{bytes_eq}
-use Rattle.scenario.specs.ScenarioKeys.{Row, rows}
+use Rattle.scenario_keys.specs.ScenarioKeys.{Row}
+use Rattle.scenario.specs.Inner.NoFaults.{rows_by}
 use Rattle.scenario.specs.KeyFaults.{counts}
 use Rattle.scenario.specs.declared.basis.Basis.{Basis}
-use Rattle.scenario.specs.declared.rows.Range.{Range}
-use Rattle.scenario.specs.declared.rows.Range.TheVariants as range
-use Rattle.scenario.specs.declared.rows.ListRange.{ListRange}
-use Rattle.scenario.specs.declared.rows.Kind.{Kind}
-use Rattle.scenario.specs.declared.rows.Kind.TheVariants as kind
+use Rattle.scenario_keys.specs.declared.rows.Range.{Range}
+use Rattle.scenario_keys.specs.declared.rows.Range.TheVariants as range
+use Rattle.scenario_keys.specs.declared.rows.ListRange.{ListRange}
+use Rattle.scenario_keys.specs.declared.rows.Kind.{Kind}
+use Rattle.scenario_keys.specs.declared.rows.Kind.TheVariants as kind
 
 abbrev pub is_named : List ℕ → List ℕ → Row → Bool
 is_named table name row = bytes_eq row.table table && bytes_eq row.name name
@@ -19,7 +20,7 @@ kind_of basis (Some row) = if counts basis row.when then Some row.kind else None
 
 -- what a key must hold
 unfoldable pub kind_at : Basis → List ℕ → List ℕ → Option Kind
-kind_at basis table name = kind_of basis (find (is_named table name) rows)
+kind_at basis table name = kind_of basis (find (is_named table name) (rows_by basis.need_own))
 
 -- the range of its integers
 

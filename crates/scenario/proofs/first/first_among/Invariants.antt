@@ -1,8 +1,8 @@
 use Rattle.std.proofs.Common.{◌≡◌, map, drop}
 use Rattle.toml.specs.View.{table_view}
 use Rattle.scenario.specs.KeyFaults.{fault_of}
-use Rattle.scenario.specs.FirstOf.{first_of}
-use Rattle.scenario.specs.Inner.SeenRows.{seen}
+use Rattle.scenario_keys.specs.FirstOf.{first_of}
+use Rattle.scenario_keys.specs.Inner.SeenRows.{seen}
 use Rattle.scenario.proofs.first.first_among.Given as goal
 
 abbrev pub invariant-loop-row : goal.invariant-loop-row

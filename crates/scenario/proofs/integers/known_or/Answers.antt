@@ -1,7 +1,7 @@
 use Rattle.std.proofs.Common.{ℤ, Option, MatchOption, ◌≤ℤ◌, subst, sym, ap, ◌∙◌, w64, rules}
 use Rattle.std.proofs.lemmas.Int.{to_z-of_z}
 use Rattle.toml.specs.View.{table_view}
-use Rattle.scenario.specs.KeyValues.{found_in, integer_or, table_at}
+use Rattle.scenario_keys.specs.KeyValues.{found_in, integer_or, table_at}
 use Rattle.scenario.specs.Inner.KnownKeys.{is_own}
 use Rattle.scenario.proofs.Held.{known_or}
 use Rattle.scenario.proofs.integers.known_or.Goals as goal

@@ -1,6 +1,6 @@
 use Rattle.std.proofs.Common.{pos}
 use Rattle.toml.specs.View.{table_view}
-use Rattle.scenario.specs.KeyValues.{list_at}
+use Rattle.scenario_keys.specs.KeyValues.{list_at}
 use Rattle.scenario.specs.Inner.KnownKeys.{is_own}
 use Rattle.scenario.proofs.ListsHeld.{list_held, told}
 use Rattle.scenario.proofs.listed.naturals.Goals as goal

@@ -1,7 +1,7 @@
 use Rattle.std.proofs.Common.{ℕ, pos, List, IfOk, subst, ◌≡◌, ◌∙◌}
 use Rattle.toml.specs.Data.{as_integer}
 use Rattle.toml.specs.View.{table_view}
-use Rattle.scenario.specs.KeyValues.{natural_of}
+use Rattle.scenario_keys.specs.KeyValues.{natural_of}
 use Rattle.scenario.proofs.ListsHeld.{mapped, nothing_mapped, values_held}
 use Rattle.scenario.proofs.listed.naturals_found.Goals as goal
 

@@ -1,7 +1,7 @@
 use Rattle.std.proofs.Common.{◌≡◌, map, take}
 use Rattle.toml.specs.Data.{as_integer}
 use Rattle.toml.specs.View.{view}
-use Rattle.scenario.specs.KeyValues.{natural_of}
+use Rattle.scenario_keys.specs.KeyValues.{natural_of}
 use Rattle.scenario.proofs.listed.naturals_in.Given as goal
 
 abbrev pub invariant-loop-found : goal.invariant-loop-found

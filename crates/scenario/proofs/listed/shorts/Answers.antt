@@ -1,7 +1,7 @@
 use Rattle.std.proofs.Common.{pos}
 use Rattle.std.specs.Prelude.{neg_ℤ}
 use Rattle.toml.specs.View.{table_view}
-use Rattle.scenario.specs.KeyValues.{list_at}
+use Rattle.scenario_keys.specs.KeyValues.{list_at}
 use Rattle.scenario.specs.Inner.KnownKeys.{is_own}
 use Rattle.scenario.proofs.ListsHeld.{integers_told, list_held}
 use Rattle.scenario.proofs.listed.shorts.Goals as goal

@@ -2,7 +2,7 @@ use Rattle.std.proofs.Common.{ℤ, pos, List, IfOk, subst, ◌≡◌, ◌∙◌}
 use Rattle.std.specs.Prelude.{neg_ℤ}
 use Rattle.toml.specs.Data.{as_integer}
 use Rattle.toml.specs.View.{table_view}
-use Rattle.scenario.specs.KeyValues.{integer_of}
+use Rattle.scenario_keys.specs.KeyValues.{integer_of}
 use Rattle.scenario.proofs.ListsHeld.{mapped, nothing_mapped, values_held}
 use Rattle.scenario.proofs.listed.shorts_found.Goals as goal
 

@@ -1,7 +1,7 @@
 use Rattle.std.proofs.Common.{◌≡◌, map, take}
 use Rattle.toml.specs.Data.{as_integer}
 use Rattle.toml.specs.View.{view}
-use Rattle.scenario.specs.KeyValues.{integer_of}
+use Rattle.scenario_keys.specs.KeyValues.{integer_of}
 use Rattle.scenario.proofs.listed.shorts_in.Given as goal
 
 abbrev pub invariant-loop-found : goal.invariant-loop-found

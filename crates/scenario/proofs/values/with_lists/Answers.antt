@@ -1,5 +1,5 @@
 use Rattle.std.proofs.Common.{ℕ, subst, IfSome}
-use Rattle.scenario.specs.ScenarioValues.{AreDetectNumbers, AreLogNumbers, AreRuleNumbers, IsOwnPart}
+use Rattle.scenario.specs.ScenarioValues.{AreDetectNumbers, AreLogNumbers, IsOwnPart}
 use Rattle.scenario.proofs.values.with_lists.Goals as goal
 
 pub returns-clause-in_range : goal.returns-clause-in_range
@@ -8,7 +8,7 @@ returns-clause-in_range c = record {
   log = subst (λ (tick : ℕ). AreLogNumbers tick c.log_numbers_in.result) c.window_in.ensures.tick c.log_numbers_in.ensures.in_range;
   detect = subst (λ (tick : ℕ). AreDetectNumbers tick c.detect_in.result) c.window_in.ensures.tick c.detect_in.ensures.in_range;
   act = c.act_in.ensures.in_range;
-  rules = subst (λ (tick : ℕ). AreRuleNumbers tick c.rules_in.result) c.window_in.ensures.tick c.rules_in.ensures.in_range;
+  rules = c.requires.rules;
   subjects = c.requires.ships;
   few_subjects = c.requires.few;
   own = subst (λ (tick : ℕ). IfSome c.args.own (IsOwnPart tick)) c.window_in.ensures.tick c.requires.own;

@@ -1,0 +1,4 @@
+pub mod ForCallers
+mod Added
+mod Places
+mod Texts

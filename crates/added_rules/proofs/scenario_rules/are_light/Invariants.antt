@@ -1,0 +1,6 @@
+use Rattle.std.proofs.Common.{◌≡◌, ◌+◌, take}
+use Rattle.added_rules.specs.ScenarioRules.{greatest_weight, total_weight}
+use Rattle.added_rules.proofs.scenario_rules.are_light.Given as goal
+
+abbrev pub invariant-loop-k : goal.invariant-loop-k
+invariant-loop-k l = total_weight (take l.k l.rules) + l.left ≡ greatest_weight

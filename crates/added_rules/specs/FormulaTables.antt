@@ -1,0 +1,111 @@
+-- The faults of the tables of `formula`: of each one its name, and then its text.
+use Rattle.std.specs.Prelude.{◌≡◌, ◌⊎◌, ℕ, ◌≤◌, ◌<◌, ◌==◌, nat_le, Bool, false, not, ◌&&◌, ◌||◌, if◌then◌else◌, codes, List, [], ◌∷◌, ◌++◌, length, map, bytes_eq, Option, Some, None}
+use Rattle.std.specs.Char.{is_ascii_digit}
+use Rattle.std.specs.List.{list_all, list_any}
+use Rattle.toml.specs.Data.{Data, Members, as_str, as_table, get_member}
+use Rattle.mtl_formulas.specs.FormulaReading.{Meaning, tree, syntax_fault, number_fault, size_fault, IsMeaning}
+use Rattle.scenario_keys.specs.FirstFaults.{with_before, IsFound}
+use Rattle.scenario_keys.specs.ToldFaults.{fault_at, fault_by_at}
+use Rattle.scenario_keys.specs.declared.key.Key.{Key}
+use Rattle.scenario_keys.specs.declared.cause.Cause.{Cause}
+use Rattle.scenario_keys.specs.declared.cause.Cause.TheVariants as cause
+
+-- what stands at a name in one of the tables, and its text, which is empty where there is none
+
+abbrev pub in_members : List ℕ → Option Members → Option Data
+in_members name None = None
+in_members name (Some members) = get_member name members
+
+abbrev pub member_at : List ℕ → Data → Option Data
+member_at name here = in_members name (as_table here)
+
+abbrev pub string_of : Option (List ℕ) → List ℕ
+string_of None = []
+string_of (Some text) = text
+
+abbrev pub string_in : Option Data → List ℕ
+string_in None = []
+string_in (Some found) = string_of (as_str found)
+
+abbrev pub name_of : Data → List ℕ
+name_of here = string_in (member_at (codes "name") here)
+
+abbrev pub text_of : Data → List ℕ
+text_of here = string_in (member_at (codes "text") here)
+
+-- a name: a small letter, and then small letters, digits and _, 16 bytes at most
+
+abbrev pub is_small_letter : ℕ → Bool
+is_small_letter b = nat_le 97 b && nat_le b 122
+
+abbrev pub is_name_byte : ℕ → Bool
+is_name_byte b = is_small_letter b || (is_ascii_digit b || (b == 95))
+
+abbrev pub begins_small : List ℕ → Bool
+begins_small [] = false
+begins_small (first ∷ rest) = is_small_letter first
+
+abbrev pub is_name : List ℕ → Bool
+is_name name = nat_le (length name) 16 && (begins_small name && list_all is_name_byte name)
+
+-- the names of the eleven rules
+abbrev pub rule_names : List (List ℕ)
+rule_names =
+    codes "r8b" ∷ codes "r8d" ∷ codes "r13" ∷ codes "r14a" ∷ codes "r14b" ∷ codes "r14p" ∷ codes "r15" ∷ codes "r16" ∷ codes "r17a"
+    ∷ codes "r17b" ∷ codes "r17c" ∷ []
+
+-- whether a rule has the name, or a formula of the tables before
+abbrev pub is_taken : List Data → List ℕ → Bool
+is_taken before name = list_any (λ taken. bytes_eq taken name) (rule_names ++ map name_of before)
+
+-- the fault of a name, where these names are taken
+
+abbrev pub new_name_cause : (List ℕ → Bool) → Option (List ℕ) → Option Cause
+new_name_cause taken None = Some cause.Type_
+new_name_cause taken (Some name) = if is_name name && not (taken name) then None else Some cause.Range
+
+abbrev pub name_cause : (List ℕ → Bool) → Option Data → Option Cause
+name_cause taken None = Some cause.Missing
+name_cause taken (Some found) = new_name_cause taken (as_str found)
+
+-- The fault of a text at a tick of so many seconds: the place of what is no formula, or of a number that is refused, or the text's
+-- length, where the formula is too large.
+
+abbrev pub formula_cause : ℕ → Meaning → Option Cause
+formula_cause length (tree t) = None
+formula_cause length (syntax_fault index) = Some (cause.Formula index)
+formula_cause length (number_fault index) = Some (cause.Formula index)
+formula_cause length size_fault = Some (cause.Formula length)
+
+abbrev pub HasCause : ℕ → List ℕ → Option Cause → Type 0
+HasCause tick text why = (meaning : Meaning) × IsMeaning text tick meaning × (why ≡ formula_cause (length text) meaning)
+
+-- a text is at most 1024 bytes long
+abbrev pub IsBytesCause : ℕ → List ℕ → Option Cause → Type 0
+IsBytesCause tick text why =
+    (length text ≤ 1024) × HasCause tick text why ⊎ (1024 < length text) × (why ≡ Some cause.Range)
+
+abbrev pub IsStringCause : ℕ → Option (List ℕ) → Option Cause → Type 0
+IsStringCause tick None why = why ≡ Some cause.Type_
+IsStringCause tick (Some text) why = IsBytesCause tick text why
+
+abbrev pub IsTextCause : ℕ → Option Data → Option Cause → Type 0
+IsTextCause tick None why = why ≡ Some cause.Missing
+IsTextCause tick (Some found) why = IsStringCause tick (as_str found) why
+
+-- what the test of a table finds, as so-manieth item: the fault of its name, or else that of its text
+
+abbrev pub IsTextFault : ℕ → ℕ → Option Cause → Option Data → Option (Key × Cause) → Type 0
+IsTextFault tick item (Some why) text told = told ≡ fault_at 32 item why
+IsTextFault tick item None text told = (why : Option Cause) × IsTextCause tick text why × (told ≡ fault_by_at 33 item why)
+
+abbrev pub IsFaultBy : (List ℕ → Bool) → ℕ → ℕ → Data → Option (Key × Cause) → Type 0
+IsFaultBy taken tick item here told =
+    IsTextFault tick item (name_cause taken (member_at (codes "name") here)) (member_at (codes "text") here) told
+
+abbrev pub IsTableFault : ℕ → List Data × Data → Option (Key × Cause) → Type 0
+IsTableFault tick (before, here) told = IsFaultBy (is_taken before) tick (length before) here told
+
+-- what the tests of all tables find, the first fault or none
+abbrev pub IsFormulaFault : ℕ → List Data → Option (Key × Cause) → Type 0
+IsFormulaFault tick tables told = IsFound (IsTableFault tick) (with_before [] tables) told

@@ -1,0 +1,9 @@
+//! The rules of a scenario: the eleven of the COLREGs 1972 with its numbers, and behind them the formulas of its tables; or the
+//! first fault of these.
+#![tactic(auto)]
+
+mod formula_names;
+mod formula_texts;
+mod scenario_rules;
+
+pub use scenario_rules::rules_with;

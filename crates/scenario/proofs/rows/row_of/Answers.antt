@@ -1,6 +1,0 @@
-use Rattle.scenario.specs.ScenarioKeys.{rows}
-use Rattle.scenario.proofs.Firsts.{found_seen}
-use Rattle.scenario.proofs.rows.row_of.Goals as goal
-
-pub returns : goal.returns
-returns c = found_seen c.args.number (λ row. row.now) c.key_rows.result.now rows c.find_row.result c.find_row.ensures c.key_rows.ensures

@@ -1,0 +1,89 @@
+//! The rules of a scenario.
+ghost use Rattle.std.specs.Prelude.{◌≡◌, ◌≤◌, length, map, IfErr, IfOk, Some, None, OnOk, false};
+ghost use Rattle.toml.specs.View.{table_view, view};
+ghost use Rattle.rule_set.specs.RuleTrees.{AreRuleNumbers, AreSafeMetres};
+ghost use Rattle.scenario_keys.specs.FirstFaults.{IsFound};
+ghost use Rattle.scenario_keys.specs.ScenarioKeys.{formula_rows};
+ghost use Rattle.scenario_keys.specs.ToldFaults.{IfFault};
+ghost use Rattle.added_rules.specs.ScenarioRules.{AreLightRules};
+ghost use Rattle.scenario.specs.DocumentFaults.{IsTold};
+ghost use Rattle.scenario.specs.Inner.NoFaults.{HaveNoFault};
+ghost use Rattle.scenario.specs.KeyFaults.{basis_of, tick_of};
+ghost use Rattle.scenario.specs.RuleValues.{formula_tables, rule_numbers_of, safe_of, AreRulesOf};
+
+use crate::basis::{is_version_two, tick_of};
+use crate::integers::natural;
+use crate::listed::array;
+use added_rules::rules_with;
+use rule_set::{RuleNumbers, RuleSet, Safe};
+use scenario_keys::ScenarioFault;
+use std::alloc::Global;
+use toml::{Table, Value};
+
+#[tactic(auto, unfolding(crate::specs::RuleValues::safe_of, crate::specs::Inner::KnownKeys::kind_at, scenario_keys::specs::ScenarioKeys::first_rows))]
+fn safe_in(document: &Table) -> Safe
+    requires { HaveNoFault false (table_view document.now) }
+    ensures values { result ≡ safe_of (table_view document.now) }
+    ensures in_range { AreSafeMetres result }
+{
+    if is_version_two(document) {
+        Safe::PerKind {
+            head_on: natural(document, "rules", "safe_head_on", 1, 100_000),
+            overtaking: natural(document, "rules", "safe_overtaking", 1, 100_000),
+            crossing: natural(document, "rules", "safe_crossing", 1, 100_000),
+            other: natural(document, "rules", "safe_other", 1, 100_000),
+        }
+    } else {
+        Safe::One(natural(document, "rules", "safe", 1, 100_000))
+    }
+}
+
+#[tactic(auto, unfolding(crate::specs::RuleValues::rule_numbers_of, crate::specs::Inner::KnownKeys::kind_at, scenario_keys::specs::ScenarioKeys::first_rows))]
+fn rule_numbers_in(document: &Table) -> RuleNumbers
+    requires { HaveNoFault false (table_view document.now) }
+    ensures values { result ≡ rule_numbers_of (table_view document.now) }
+    ensures in_range { AreRuleNumbers (tick_of (table_view document.now)) result }
+{
+    RuleNumbers {
+        safe: safe_in(document),
+        overtake: natural(document, "rules", "overtake", 1, 100_000),
+        close: natural(document, "rules", "close", 1, 100_000),
+        t8: natural(document, "rules", "t8", 0, 7200),
+        ta: natural(document, "rules", "ta", 0, 7200),
+        tl: natural(document, "rules", "tl", 0, 7200),
+        tw: natural(document, "rules", "tw", 0, 7200),
+        te: natural(document, "rules", "te", 0, 7200),
+    }
+}
+
+/// The tables of `formula`, none where it is left out.
+fn formula_tables(document: &Table) -> &[Value]
+    requires { HaveNoFault false (table_view document.now) }
+    ensures tables { map view result.now ≡ formula_tables (table_view document.now) }
+    ensures few { length result.now ≤ 5 }
+{
+    match array(document, "", "formula") {
+        Some(tables) => tables.as_slice(),
+        None => &[],
+    }
+}
+
+/// The rules of a document without a fault before those of its formulas, or the first fault of these.
+pub(crate) fn rules_in(
+    alloc: Global,
+    document: &Table,
+    need_own: bool,
+) -> Result<RuleSet, ScenarioFault>
+    requires { HaveNoFault false (table_view document.now) }
+    ensures rules { IfOk result (AreRulesOf (table_view document.now)) }
+    ensures light { IfOk result AreLightRules }
+    ensures faultless { OnOk result (IsFound (IsTold (basis_of need_own (table_view document.now)) (table_view document.now)) formula_rows None) }
+    ensures fault { IfErr result (IfFault (λ told. IsFound (IsTold (basis_of need_own (table_view document.now)) (table_view document.now)) formula_rows (Some told))) }
+{
+    rules_with(
+        alloc,
+        &rule_numbers_in(document),
+        tick_of(document),
+        formula_tables(document),
+    )
+}

@@ -1,0 +1,78 @@
+-- What stands at the keys of a document.
+use Rattle.std.specs.Prelude.{ℕ, ◌==◌, ℤ, pos, negsuc, List, [], map, length, if◌then◌else◌, Option, Some, None, Result, Ok, Err}
+use Rattle.toml.specs.Data.{Data, Items, Members, as_array, as_integer, as_table, get_member}
+use Rattle.scenario_keys.specs.ListFaults.{elements}
+use Rattle.scenario_keys.specs.declared.cause.Cause.{Cause}
+use Rattle.scenario_keys.specs.declared.cause.Cause.TheVariants as cause
+
+-- the table of a name, and the document itself where the name is empty
+
+abbrev pub as_table_found : Option Members → Result Members Cause
+as_table_found None = Err cause.Type_
+as_table_found (Some table) = Ok table
+
+abbrev pub found_table : Option Data → Result Members Cause
+found_table None = Err cause.Missing
+found_table (Some found) = as_table_found (as_table found)
+
+abbrev pub table_at : List ℕ → Members → Result Members Cause
+table_at name document = if length name == 0 then Ok document else found_table (get_member name document)
+
+-- what stands at a key, and its integer
+
+abbrev pub found_in : List ℕ → Result Members Cause → Option Data
+found_in name (Err cause) = None
+found_in name (Ok table) = get_member name table
+
+abbrev pub integer_found : Option Data → Option ℤ
+integer_found None = None
+integer_found (Some found) = as_integer found
+
+unfoldable pub integer_at : List ℕ → List ℕ → Members → Option ℤ
+integer_at table name document = integer_found (found_in name (table_at table document))
+
+-- the integer at a key; 0 where there is none, which is so in no document without a fault
+
+abbrev pub integer_of : Option ℤ → ℤ
+integer_of None = pos 0
+integer_of (Some z) = z
+
+abbrev pub natural_of : Option ℤ → ℕ
+natural_of None = 0
+natural_of (Some (pos n)) = n
+natural_of (Some (negsuc n)) = 0
+
+abbrev pub signed_at : List ℕ → List ℕ → Members → ℤ
+signed_at table name document = integer_of (integer_at table name document)
+
+abbrev pub natural_at : List ℕ → List ℕ → Members → ℕ
+natural_at table name document = natural_of (integer_at table name document)
+
+-- the integer at a key that may be left out for another number
+
+abbrev pub integer_or : ℤ → Option Data → Option ℤ
+integer_or otherwise None = Some otherwise
+integer_or otherwise (Some found) = as_integer found
+
+unfoldable pub optional_at : List ℕ → List ℕ → ℕ → Members → ℕ
+optional_at table name otherwise document = natural_of (integer_or (pos otherwise) (found_in name (table_at table document)))
+
+-- the elements of the list at a key, none where it is left out
+
+abbrev pub array_in : Option Data → Option Items
+array_in None = None
+array_in (Some found) = as_array found
+
+abbrev pub list_in : Option Items → List Data
+list_in None = []
+list_in (Some items) = elements items
+
+unfoldable pub list_at : List ℕ → List ℕ → Members → List Data
+list_at table name document = list_in (array_in (found_in name (table_at table document)))
+
+-- their integers
+abbrev pub integers_at : List ℕ → List ℕ → Members → List ℤ
+integers_at table name document = map (λ found. integer_of (as_integer found)) (list_at table name document)
+
+abbrev pub naturals_at : List ℕ → List ℕ → Members → List ℕ
+naturals_at table name document = map (λ found. natural_of (as_integer found)) (list_at table name document)

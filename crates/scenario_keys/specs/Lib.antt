@@ -1,0 +1,9 @@
+pub mod ScenarioKeys
+pub mod ScenarioTexts
+pub mod FirstOf
+pub mod FirstFaults
+pub mod ListFaults
+pub mod KeyValues
+pub mod IntegerFaults
+pub mod ToldFaults
+pub mod Inner

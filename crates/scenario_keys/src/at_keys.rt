@@ -1,0 +1,52 @@
+//! What stands at the keys of a document.
+ghost use Rattle.std.specs.Prelude.{◌≡◌, option_map};
+ghost use Rattle.toml.specs.Data.{get_member};
+ghost use Rattle.toml.specs.View.{table_view, view};
+ghost use Rattle.scenario_keys.specs.Inner.ViewedResults.{viewed};
+ghost use Rattle.scenario_keys.specs.KeyValues.{found_in, integer_at, table_at};
+
+use crate::cause::Cause;
+use toml::{Table, Value};
+
+pub fn value<'a>(table: &'a Table, name: &str) -> Option<&'a Value>
+    ensures { option_map (λ v. view v.now) result ≡ get_member name.now (table_view table.now) }
+{
+    table.get(name)
+}
+
+/// The table of a name, and the document itself where the name is empty.
+pub fn table_of<'a>(document: &'a Table, name: &str) -> Result<&'a Table, Cause>
+    ensures { viewed (λ t. table_view t.now) result ≡ table_at name.now (table_view document.now) }
+{
+    if name.is_empty() {
+        return Ok(document);
+    }
+    match value(document, name) {
+        Some(found) => match found.as_table() {
+            Some(table) => Ok(table),
+            None => Err(Cause::Type_),
+        },
+        None => Err(Cause::Missing),
+    }
+}
+
+/// What stands at a key.
+pub fn found<'a>(document: &'a Table, table: &str, name: &str) -> Option<&'a Value>
+    ensures { option_map (λ v. view v.now) result ≡ found_in name.now (table_at table.now (table_view document.now)) }
+{
+    match table_of(document, table) {
+        Ok(table) => value(table, name),
+        Err(_) => None,
+    }
+}
+
+/// The integer at a key.
+#[tactic(auto, unfolding(crate::specs::KeyValues::integer_at))]
+pub fn integer_found(document: &Table, table: &str, name: &str) -> Option<i64>
+    ensures { result ≡ integer_at table.now name.now (table_view document.now) }
+{
+    match found(document, table, name) {
+        Some(found) => found.as_integer(),
+        None => None,
+    }
+}

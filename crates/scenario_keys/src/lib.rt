@@ -1,0 +1,22 @@
+//! The keys of a scenario: their table, what stands at a key of a TOML document, and the fault of one integer or one list.
+//!
+//! A fault is told by its key and its cause, as `log.gap: range`.
+#![tactic(auto)]
+
+mod at_keys;
+mod cause;
+mod fault;
+mod key;
+mod lists;
+mod numbers;
+mod rows;
+mod told;
+
+pub use at_keys::{found, integer_found, table_of, value};
+pub use cause::Cause;
+pub use fault::ScenarioFault;
+pub use key::Key;
+pub use lists::{element_count, list_fault, tables_fault};
+pub use numbers::{Bounds, bounds_of, number_cause};
+pub use rows::{KeyRow, Kind, ListRange, Range, When, first_rows, own_rows};
+pub use told::{fault_by, fault_listed};

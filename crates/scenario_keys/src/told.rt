@@ -1,0 +1,39 @@
+//! How faults are told.
+ghost use Rattle.std.specs.Prelude.{◌≡◌};
+ghost use Rattle.scenario_keys.specs.ToldFaults.{fault_by, fault_listed, item_of};
+
+use crate::cause::Cause;
+use crate::key::Key;
+
+/// The fault of a key that has no items.
+pub fn fault_by(row: u8, cause: Option<Cause>) -> Option<(Key, Cause)>
+    ensures { result ≡ fault_by row cause }
+{
+    match cause {
+        Some(cause) => Some((Key { row, item: 0 }, cause)),
+        None => None,
+    }
+}
+
+/// An item, or the greatest number that a key can tell where it lies further behind.
+fn item_of(item: usize) -> u16
+    ensures { result ≡ item_of item }
+{
+    match u16::try_from(item) {
+        Ok(item) => item,
+        Err(_) => u16::MAX,
+    }
+}
+
+/// The fault of a list at one of its items.
+pub fn fault_listed(row: u8, fault: Option<(usize, Cause)>) -> Option<(Key, Cause)>
+    ensures { result ≡ fault_listed row fault }
+{
+    match fault {
+        Some((item, cause)) => {
+            let item = item_of(item);
+            Some((Key { row, item }, cause))
+        }
+        None => None,
+    }
+}
