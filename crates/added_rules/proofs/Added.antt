@@ -15,7 +15,8 @@ use Rattle.scenario_keys.specs.declared.key.Key.{Key}
 use Rattle.scenario_keys.specs.declared.cause.Cause.{Cause}
 use Rattle.scenario_keys.specs.declared.cause.Cause.TheVariants as cause
 use Rattle.scenario_keys.proofs.ForCallers.{all_append, all_none, first_behind, first_here}
-use Rattle.added_rules.specs.FormulaTables.{is_name, is_taken, member_at, name_cause, name_of, new_name_cause, rule_names, IsFaultBy, IsFormulaFault, IsTableFault, IsTextFault}
+use Rattle.scenario_keys.specs.KeyValues.{member_at}
+use Rattle.added_rules.specs.FormulaTables.{is_name, is_taken, name_cause, name_of, new_name_cause, rule_names, IsFaultBy, IsFormulaFault, IsTableFault, IsTextFault}
 use Rattle.added_rules.specs.ScenarioRules.{AreAdded, AreScenarioRules, IsAdded}
 use Rattle.added_rules.specs.Inner.{Adds, Stands}
 

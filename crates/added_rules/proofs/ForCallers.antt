@@ -12,7 +12,8 @@ use Rattle.scenario_keys.specs.ToldFaults.{fault_by, fault_by_at}
 use Rattle.scenario_keys.specs.declared.key.Key.{Key}
 use Rattle.scenario_keys.specs.declared.cause.Cause.{Cause}
 use Rattle.scenario_keys.proofs.ForCallers.{one_found}
-use Rattle.added_rules.specs.FormulaTables.{formula_cause, is_taken, member_at, name_cause, IsBytesCause, IsFormulaFault, IsStringCause, IsTableFault, IsTextCause, IsTextFault}
+use Rattle.scenario_keys.specs.KeyValues.{member_at}
+use Rattle.added_rules.specs.FormulaTables.{formula_cause, is_taken, name_cause, IsBytesCause, IsFormulaFault, IsStringCause, IsTableFault, IsTextCause, IsTextFault}
 use Rattle.added_rules.specs.ScenarioRules.{total_weight, weight_cause, AreAdded, AreScenarioRules, IsWeightFault}
 
 one_bytes_cause : (tick : ℕ) (text : List ℕ) (a b : Option Cause) → IsBytesCause tick text a → IsBytesCause tick text b → a ≡ b

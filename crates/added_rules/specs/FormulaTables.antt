@@ -2,22 +2,16 @@
 use Rattle.std.specs.Prelude.{◌≡◌, ◌⊎◌, ℕ, ◌≤◌, ◌<◌, ◌==◌, nat_le, Bool, false, not, ◌&&◌, ◌||◌, if◌then◌else◌, codes, List, [], ◌∷◌, ◌++◌, length, map, bytes_eq, Option, Some, None}
 use Rattle.std.specs.Char.{is_ascii_digit}
 use Rattle.std.specs.List.{list_all, list_any}
-use Rattle.toml.specs.Data.{Data, Members, as_str, as_table, get_member}
+use Rattle.toml.specs.Data.{Data, as_str}
 use Rattle.mtl_formulas.specs.FormulaReading.{Meaning, tree, syntax_fault, number_fault, size_fault, IsMeaning}
+use Rattle.scenario_keys.specs.KeyValues.{member_at}
 use Rattle.scenario_keys.specs.FirstFaults.{with_before, IsFound}
 use Rattle.scenario_keys.specs.ToldFaults.{fault_at, fault_by_at}
 use Rattle.scenario_keys.specs.declared.key.Key.{Key}
 use Rattle.scenario_keys.specs.declared.cause.Cause.{Cause}
 use Rattle.scenario_keys.specs.declared.cause.Cause.TheVariants as cause
 
--- what stands at a name in one of the tables, and its text, which is empty where there is none
-
-abbrev pub in_members : List ℕ → Option Members → Option Data
-in_members name None = None
-in_members name (Some members) = get_member name members
-
-abbrev pub member_at : List ℕ → Data → Option Data
-member_at name here = in_members name (as_table here)
+-- the text that stands somewhere, empty where there is none
 
 abbrev pub string_of : Option (List ℕ) → List ℕ
 string_of None = []

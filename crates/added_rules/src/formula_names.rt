@@ -3,21 +3,11 @@ ghost use Rattle.std.specs.Prelude.{◌≡◌, option_map, false, Some, None, If
 ghost use Rattle.std.specs.List.{list_all};
 ghost use Rattle.toml.specs.View.{view};
 ghost use Rattle.rule_set.specs.NamedTrees.{holds};
-ghost use Rattle.added_rules.specs.FormulaTables.{begins_small, is_name, is_name_byte, is_small_letter, member_at, name_cause, new_name_cause, string_in};
+ghost use Rattle.added_rules.specs.FormulaTables.{begins_small, is_name, is_name_byte, is_small_letter, name_cause, new_name_cause, string_in};
 
 use rule_set::{Name, RuleSet};
-use scenario_keys::{Cause, value};
+use scenario_keys::Cause;
 use toml::Value;
-
-/// What stands at a name in a table of a list.
-pub(crate) fn member<'a>(table: &'a Value, name: &str) -> Option<&'a Value>
-    ensures { option_map (λ v. view v.now) result ≡ member_at name.now (view table.now) }
-{
-    match table.as_table() {
-        Some(table) => value(table, name),
-        None => None,
-    }
-}
 
 fn is_small_letter(byte: u8) -> bool
     ensures { result ≡ is_small_letter byte }

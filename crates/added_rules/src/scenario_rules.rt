@@ -9,11 +9,11 @@ ghost use Rattle.added_rules.specs.FormulaTables.{IsFaultBy, IsFormulaFault};
 ghost use Rattle.added_rules.specs.ScenarioRules.{greatest_weight, total_weight, AreLightRules, AreScenarioRules, IsWeightFault};
 ghost use Rattle.added_rules.specs.Inner.{Adds};
 
-use crate::formula_names::{member, name_in};
+use crate::formula_names::name_in;
 use crate::formula_texts::formula_in;
 use mtl_formulas::weight;
 use rule_set::{RuleNumbers, RuleSet};
-use scenario_keys::{Cause, Key, ScenarioFault};
+use scenario_keys::{Cause, Key, ScenarioFault, member};
 use std::alloc::Global;
 use toml::Value;
 

@@ -68,6 +68,8 @@ told_plain (kind.Tables most) basis document row told h e = e
 told_plain kind.Plans basis document row told h e = e
 told_plain kind.Document basis document row told h e = e
 told_plain kind.FormulaText basis document row told h e = e
+told_plain kind.PredictedShip basis document row told h e = e
+told_plain kind.PredictedChanges basis document row told h e = e
 
 pub plain_told : (here : Kind) (basis : Basis) (document : Members) (row : Row) (told : Option (Key × Cause)) → is_plain here ≡ true →
     IsToldBy here basis document row told → told ≡ fault_of basis document row
@@ -79,6 +81,8 @@ plain_told (kind.Tables most) basis document row told h e = e
 plain_told kind.Plans basis document row told h e = e
 plain_told kind.Document basis document row told h e = e
 plain_told kind.FormulaText basis document row told h e = e
+plain_told kind.PredictedShip basis document row told h e = e
+plain_told kind.PredictedChanges basis document row told h e = e
 
 abbrev pub IsPlain : Row → Type 0
 IsPlain row = is_plain row.kind ≡ true

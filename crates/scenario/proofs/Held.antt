@@ -161,6 +161,8 @@ kind_is (Some kind.Plans) of h = cc
 kind_is (Some kind.FormulaName) of h = cc
 kind_is (Some kind.FormulaText) of h = cc
 kind_is (Some kind.Formulas) of h = cc
+kind_is (Some kind.PredictedShip) of h = cc
+kind_is (Some kind.PredictedChanges) of h = cc
 kind_is (Some kind.Document) of h = cc
 
 uncaused_at : (need_own : Bool) (document : Members) (table name : List ℕ) (of : Range) → range_at (basis_of need_own document) table name ≡ Some of → HaveNoFault need_own document →
@@ -363,6 +365,8 @@ same_fault need_own document row name kind.Document (Ok table) = refl
 same_fault need_own document row name kind.FormulaName (Ok table) = refl
 same_fault need_own document row name kind.FormulaText (Ok table) = refl
 same_fault need_own document row name kind.Formulas (Ok table) = refl
+same_fault need_own document row name kind.PredictedShip (Ok table) = refl
+same_fault need_own document row name kind.PredictedChanges (Ok table) = refl
 
 counts_less : (need_own : Bool) (document : Members) (here : When) (fault other : Option (Key × Cause)) → fault ≡ other →
     (if counts (basis_of need_own document) here then fault else None) ≡ None → (if counts (basis_of false document) here then other else None) ≡ None

@@ -155,6 +155,8 @@ list_kind_is (Some kind.Plans) range h = cc
 list_kind_is (Some kind.FormulaName) range h = cc
 list_kind_is (Some kind.FormulaText) range h = cc
 list_kind_is (Some kind.Formulas) range h = cc
+list_kind_is (Some kind.PredictedShip) range h = cc
+list_kind_is (Some kind.PredictedChanges) range h = cc
 list_kind_is (Some kind.Document) range h = cc
 
 list_held_by : (need_own : Bool) (document : Members) (table name : List ℕ) (range : ListRange) → list_range_at (basis_of need_own document) table name ≡ Some range → HaveNoFault need_own document →

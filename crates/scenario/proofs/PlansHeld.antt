@@ -1,4 +1,4 @@
--- Own ship's plans in a document without a fault.
+-- Own ship's plans, and what is predicted of other vessels, in a document without a fault.
 use Rattle.std.proofs.Common.{◌≡◌, ℕ, zero, suc, ◌≤◌, ◌+◌, ◌*◌, ◌^◌, ◌&&◌, nat_le, ℤ, List, length, Bool, true, false, if◌then◌else◌, Option, Some, None, refl, ap, ◌∙◌, subst, arith}
 use Rattle.std.specs.Prelude.{codes}
 use Rattle.std.proofs.lemmas.Bool.{and_parts}
@@ -8,6 +8,7 @@ use Rattle.toml.specs.Data.{Members, as_integer}
 use Rattle.scenario.specs.KeyFaults.{basis_of, tick_of}
 use Rattle.scenario.specs.Inner.NoFaults.{HaveNoFault}
 use Rattle.scenario_keys.specs.KeyValues.{integer_of, integers_at, list_at, natural_at}
+use Rattle.predictions.specs.PredictFaults.{predict_fault}
 use Rattle.scenario.specs.PlanFaults.{are_few, are_in_range, are_short, plans_cause, sizes_of}
 use Rattle.scenario_keys.specs.ScenarioKeys.{own_rows}
 use Rattle.scenario.specs.Inner.KnownKeys.{kind_at}
@@ -77,3 +78,14 @@ plans_held document courses speeds legs leg_ticks tail faultless c s l t u few s
     let time = nat_le-true ((legs * leg_ticks + tail) * tick_of document) 7200 b in
     let one = le_product (legs * leg_ticks + tail) (tick_of document) (one_le_tick document) in
     record { few = some; short = time; positions = omega arith }
+
+-- what is predicted in a document without a fault
+
+is_predicted : (document : Members) → kind_at (basis_of true document) (codes "") (codes "predict.mmsi") ≡ Some kind.PredictedShip
+unfolding kind_at own_rows
+is_predicted document = refl
+
+pub predict_held : (document : Members) → HaveNoFault true document →
+    predict_fault (tick_of document) (natural_at (codes "own") (codes "mmsi") document) (list_at (codes "") (codes "predict") document) ≡ None
+predict_held document faultless =
+    (faultless_at true document (codes "") (codes "predict.mmsi") kind.PredictedShip (is_predicted document) faultless).faultless

@@ -30,6 +30,8 @@ one_by (kind.Tables most) basis document row a b h k = h ∙ sym k
 one_by kind.Plans basis document row a b h k = h ∙ sym k
 one_by kind.Document basis document row a b h k = h ∙ sym k
 one_by kind.FormulaText basis document row a b h k = h ∙ sym k
+one_by kind.PredictedShip basis document row a b h k = h ∙ sym k
+one_by kind.PredictedChanges basis document row a b h k = h ∙ sym k
 
 one_told : (basis : Basis) (document : Members) (row : Row) (a b : Option (Key × Cause)) → IsTold basis document row a → IsTold basis document row b → a ≡ b
 one_told basis document row a b h k = one_by row.kind basis document row a b h k

@@ -2,7 +2,7 @@
 use Rattle.std.specs.Prelude.{ℕ, Bool, true, false, not, ◌==◌, ◌&&◌, nat_le, ℤ, pos, negsuc, List, codes, if◌then◌else◌, Option, Some, None, Result, Ok, Err}
 use Rattle.toml.specs.Data.{Members, get_member}
 use Rattle.scenario_keys.specs.IntegerFaults.{bounds_of, number_cause}
-use Rattle.scenario_keys.specs.KeyValues.{integer_at, table_at}
+use Rattle.scenario_keys.specs.KeyValues.{integer_at, list_at, natural_at, table_at}
 use Rattle.scenario_keys.specs.ListFaults.{list_fault, tables_fault}
 use Rattle.scenario_keys.specs.ScenarioKeys.{Row}
 use Rattle.scenario_keys.specs.ToldFaults.{fault_at, fault_by, fault_listed}
@@ -12,6 +12,7 @@ use Rattle.scenario_keys.specs.declared.rows.When.{When}
 use Rattle.scenario_keys.specs.declared.rows.When.TheVariants as when
 use Rattle.scenario_keys.specs.declared.key.Key.{Key}
 use Rattle.scenario_keys.specs.declared.cause.Cause.{Cause}
+use Rattle.predictions.specs.PredictFaults.{predict_fault}
 use Rattle.scenario.specs.PlanFaults.{plans_cause, sizes_of}
 use Rattle.scenario.specs.declared.basis.Basis.{Basis}
 
@@ -54,6 +55,8 @@ fault_in basis row name (kind.Number range) (Ok table) = fault_by row (number_ca
 fault_in basis row name (kind.Numbers range) (Ok table) = fault_listed row (list_fault range (get_member name table))
 fault_in basis row name kind.Plans (Ok document) = fault_by row (plans_cause basis.tick (sizes_of document))
 fault_in basis row name (kind.Tables most) (Ok table) = fault_listed row (tables_fault most (get_member name table))
+fault_in basis row name kind.PredictedShip (Ok document) =
+    predict_fault basis.tick (natural_at (codes "own") (codes "mmsi") document) (list_at (codes "") (codes "predict") document)
 fault_in basis row name _ (Ok table) = None
 
 unfoldable pub fault_of : Basis → Members → Row → Option (Key × Cause)

@@ -11,6 +11,8 @@ pub use Rattle.scenario_keys.specs.FirstFaults
 pub use Rattle.added_rules.specs.FormulaTables
 pub use Rattle.added_rules.specs.ScenarioRules
 pub use Rattle.rule_set.specs.NamedTrees
+pub use Rattle.predictions.specs.PredictFaults
+pub use Rattle.predictions.specs.PredictValues
 pub use Rattle.fixed_geometry.specs.Place
 pub use Rattle.encounters.specs.Risk
 pub use Rattle.lattice.specs.Grids

@@ -2,10 +2,11 @@
 use Rattle.std.specs.Prelude.{ℕ, ◌≤◌, ◌*◌, ◌/◌, ◌^◌, codes, List, length, All, IfSome, Bool, true, false, Option, Some, None}
 use Rattle.toml.specs.Data.{Members}
 use Rattle.fixed_geometry.specs.Place.{Place}
-use Rattle.scenario_keys.specs.KeyValues.{integers_at, natural_at, naturals_at, optional_at, signed_at}
+use Rattle.scenario_keys.specs.KeyValues.{integers_at, list_at, natural_at, naturals_at, optional_at, signed_at}
 use Rattle.scenario.specs.KeyFaults.{tick_of}
 use Rattle.lattice.specs.Grids.{Grid, grid, positions_of}
 use Rattle.scenario.specs.declared.own_part.OwnPart.{OwnPart}
+use Rattle.predictions.specs.PredictValues.{predictions_of, ArePredictions}
 use Rattle.encounters.specs.Risk.{IsDetect}
 use Rattle.encounters.specs.declared.act.Act.{Act}
 use Rattle.encounters.specs.declared.detect.Detect.{Detect}
@@ -89,6 +90,7 @@ own_of document = record {
   base = natural_at (codes "own") (codes "base") document;
   lengths = natural_at (codes "own") (codes "lengths") document;
   range = natural_at (codes "own") (codes "range") document;
+  predict = predictions_of (list_at (codes "") (codes "predict") document);
 }
 
 -- own ship, where she is needed
@@ -164,6 +166,7 @@ pub record IsOwnPart (tick : ℕ) (own : OwnPart) : Type 0 where
   pub base : own.base ≤ 100000
   pub lengths : own.lengths ≤ 100
   pub range : IsDistance own.range
+  pub predict : ArePredictions tick own.mmsi own.predict
 
 pub record IsInRange (scenario : Scenario) : Type 0 where
   pub window : IsWindow scenario.window

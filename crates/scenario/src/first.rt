@@ -9,7 +9,9 @@ ghost use Rattle.scenario.specs.DocumentFaults.{IsTold};
 ghost use Rattle.scenario.specs.KeyFaults.{fault_of};
 
 use crate::basis::{Basis, counts};
-use crate::plan_sizes::{plans_cause, sizes_of};
+use crate::listed::values_at;
+use crate::plan_sizes::{natural_at, plans_cause, sizes_of};
+use predictions::predict_fault;
 use scenario_keys::{
     Cause, Key, KeyRow, Kind, bounds_of, fault_by, fault_listed, first_rows, list_fault,
     number_cause, own_rows, table_of, tables_fault, value,
@@ -30,7 +32,16 @@ fn fault_of(basis: Basis, document: &Table, row: &KeyRow) -> Option<(Key, Cause)
         Err(cause) => return fault_by(row.number, Some(cause)),
     };
     match row.kind {
-        Kind::Document | Kind::FormulaName | Kind::FormulaText | Kind::Formulas => None,
+        Kind::Document
+        | Kind::FormulaName
+        | Kind::FormulaText
+        | Kind::Formulas
+        | Kind::PredictedChanges => None,
+        Kind::PredictedShip => predict_fault(
+            basis.tick,
+            natural_at(table, "mmsi"),
+            values_at(table, "predict"),
+        ),
         Kind::Plans => fault_by(row.number, plans_cause(basis.tick, sizes_of(table))),
         Kind::Number(range) => fault_by(
             row.number,

@@ -20,6 +20,7 @@ mod tests;
 mod values;
 
 pub use own_part::OwnPart;
+pub use predictions::{Change, Changes, Predict, Predictions};
 pub use reading::read;
 pub use scenario_keys::{Cause, Key, ScenarioFault};
 pub use subjects::Subjects;

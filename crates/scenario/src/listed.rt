@@ -1,5 +1,5 @@
 //! The lists of a document without a fault.
-ghost use Rattle.std.specs.Prelude.{◌≡◌, ◌≤◌, neg_ℤ, unsigned_abs, pos, map, length, option_map, All, IfOk, true};
+ghost use Rattle.std.specs.Prelude.{◌≡◌, ◌≤◌, codes, neg_ℤ, unsigned_abs, pos, map, length, option_map, All, IfOk, true};
 ghost use Rattle.toml.specs.Data.{as_integer};
 ghost use Rattle.toml.specs.View.{array_view, table_view, view};
 ghost use Rattle.scenario.specs.Inner.KnownKeys.{is_own, list_range_at, lists_lie_in};
@@ -20,6 +20,17 @@ pub(crate) fn array<'a>(document: &'a Table, table: &str, name: &str) -> Option<
     match found(document, table, name) {
         Some(found) => found.as_array(),
         None => None,
+    }
+}
+
+/// The values of the list at a key of the document, none where it is left out.
+#[tactic(auto, using(crate::proofs::ListsHeld::values_at, crate::proofs::ListsHeld::nothing_at))]
+pub(crate) fn values_at<'a>(document: &'a Table, name: &str) -> &'a [Value]
+    ensures { map view result.now ≡ list_at (codes "") name.now (table_view document.now) }
+{
+    match array(document, "", name) {
+        Some(list) => list.as_slice(),
+        None => &[],
     }
 }
 

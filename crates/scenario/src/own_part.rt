@@ -1,17 +1,21 @@
 //! Own ship, and the plans among which a manoeuvre is sought.
-ghost use Rattle.std.specs.Prelude.{◌≡◌, ◌≤◌, ◌*◌, neg_ℤ, pos, unsigned_abs, codes, length, All, IfOk, IfSome, true};
-ghost use Rattle.toml.specs.View.{table_view};
+ghost use Rattle.std.specs.Prelude.{◌≡◌, ◌≤◌, ◌*◌, neg_ℤ, pos, unsigned_abs, codes, length, map, All, IfOk, IfSome, true};
+ghost use Rattle.toml.specs.View.{table_view, view};
 ghost use Rattle.lattice.specs.Grids.{positions_of};
 ghost use Rattle.scenario.specs.KeyFaults.{tick_of};
 ghost use Rattle.scenario.specs.Inner.NoFaults.{HaveNoFault};
-ghost use Rattle.scenario_keys.specs.KeyValues.{integers_at, natural_at};
+ghost use Rattle.scenario_keys.specs.KeyValues.{integers_at, list_at, natural_at};
+ghost use Rattle.predictions.specs.PredictValues.{predictions_of, ArePredictions};
 ghost use Rattle.scenario.specs.ScenarioValues.{grid_of, own_of, own_where, IsOwnPart};
 
+use crate::basis::tick_of;
 use crate::integers::{natural, optional};
-use crate::listed::shorts;
+use crate::listed::{shorts, values_at};
+use crate::plan_sizes::natural_at;
 use lattice::Lattice;
+use predictions::{Predictions, predictions_of};
 use std::alloc::{AllocError, Global};
-use toml::Table;
+use toml::{Table, Value};
 
 /// Own ship, and the plans among which a manoeuvre is sought.
 #[derive(Drop)]
@@ -25,6 +29,8 @@ pub struct OwnPart {
     pub lengths: u32,
     /// How near, in metres, 1 to 100,000, a vessel is a target.
     pub range: u32,
+    /// What is predicted of other vessels; their courses and speeds of now hold until then.
+    pub predict: Predictions,
 }
 
 #[tactic(auto, unfolding(crate::specs::Inner::KnownKeys::kind_at, scenario_keys::specs::ScenarioKeys::own_rows))]
@@ -91,12 +97,37 @@ fn lattice_in(alloc: Global, document: &Table) -> Result<Lattice, AllocError>
     Ok(lattice_of(alloc, document, &courses, &speeds))
 }
 
-/// Own ship with this lattice.
+/// The tables of `predict`, none where it is left out.
+fn predict_tables(document: &Table) -> &[Value]
+    requires { HaveNoFault true (table_view document.now) }
+    ensures tables { map view result.now ≡ list_at (codes "") (codes "predict") (table_view document.now) }
+    ensures few { length result.now ≤ 64 }
+{
+    values_at(document, "predict")
+}
+
+/// What is predicted of other vessels.
+fn predictions_in(alloc: Global, document: &Table) -> Result<Predictions, AllocError>
+    requires { HaveNoFault true (table_view document.now) }
+    ensures values { IfOk result (λ p. p ≡ predictions_of (list_at (codes "") (codes "predict") (table_view document.now))) }
+    ensures in_range { IfOk result (ArePredictions (tick_of (table_view document.now)) (natural_at (codes "own") (codes "mmsi") (table_view document.now))) }
+{
+    predictions_of(
+        alloc,
+        tick_of(document),
+        natural_at(document, "mmsi"),
+        predict_tables(document),
+    )
+}
+
+/// Own ship with this lattice, and with what is predicted.
 #[tactic(auto, unfolding(crate::specs::ScenarioValues::own_of, crate::specs::Inner::KnownKeys::kind_at, scenario_keys::specs::ScenarioKeys::own_rows))]
-fn own_with(document: &Table, lattice: Lattice) -> OwnPart
+fn own_with(document: &Table, lattice: Lattice, predict: Predictions) -> OwnPart
     requires faultless { HaveNoFault true (table_view document.now) }
     requires lattice { lattice ≡ grid_of (table_view document.now) }
     requires time { positions_of lattice * tick_of (table_view document.now) ≤ 7200 }
+    requires predict { predict ≡ predictions_of (list_at (codes "") (codes "predict") (table_view document.now)) }
+    requires predicted { ArePredictions (tick_of (table_view document.now)) (natural_at (codes "own") (codes "mmsi") (table_view document.now)) predict }
     ensures values { result ≡ own_of (table_view document.now) }
     ensures in_range { IsOwnPart (tick_of (table_view document.now)) result }
 {
@@ -106,6 +137,7 @@ fn own_with(document: &Table, lattice: Lattice) -> OwnPart
         base: natural(document, "own", "base", 0, 100_000),
         lengths: natural(document, "own", "lengths", 0, 100),
         range: natural(document, "own", "range", 1, 100_000),
+        predict,
     }
 }
 
@@ -116,7 +148,8 @@ fn own_in(alloc: Global, document: &Table) -> Result<OwnPart, AllocError>
     ensures in_range { IfOk result (IsOwnPart (tick_of (table_view document.now))) }
 {
     let lattice = lattice_in(alloc, document)?;
-    Ok(own_with(document, lattice))
+    let predict = predictions_in(alloc, document)?;
+    Ok(own_with(document, lattice, predict))
 }
 
 /// Own ship of a document without a fault, where she is needed.

@@ -1,6 +1,6 @@
 //! Scenarios that are refused: each key with each of its causes.
 use crate::read;
-use crate::tests::{GOOD, second_version, with_formulas, with_own};
+use crate::tests::{GOOD, second_version, with_formulas, with_own, with_predictions};
 use std::alloc::{AllocError, Global};
 
 /// What is put for a part of a scenario, and the fault of what this gives.
@@ -459,5 +459,88 @@ fn own_ship_is_not_looked_at_where_she_is_not_needed(rt: HostRuntime) -> Result<
     let text = good.as_str().replace(rt.alloc(), "legs = 3", "legs = 0")?;
     let told = told(rt.alloc(), text.as_str(), false)?;
     assert_eq!(rt; told.as_str(), "");
+    Ok(())
+}
+
+/// Faults of `predict`, and predictions that have none.
+#[rattlefmt::skip]
+const PREDICT: [Case; 34] = [
+    ("range = 50000\n", "", "own.range: missing"),
+    ("turn_rate = 100\n[[predict]]\nmmsi = 477553000\n", "turn_rate = 0\n[[predict]]\n", "predict.mmsi[0]: missing"),
+    ("turn_rate = 100\n[[predict]]", "turn_rate = 0\n[[predict]]", "own.turn_rate: range"),
+    ("477553000", "'477553000'", "predict.mmsi[0]: type"),
+    ("477553000", "199999999", "predict.mmsi[0]: range"),
+    ("477553000", "800000000", "predict.mmsi[0]: range"),
+    ("477553000", "369190000", "predict.mmsi[0]: range"),
+    ("477553001", "369190000", "predict.mmsi[1]: range"),
+    ("477553001", "477553000", "predict.mmsi[1]: range"),
+    ("477553001", "477553002", ""),
+    ("changes = [[10, 0, 5]]\n", "", "predict.changes[1]: missing"),
+    ("[[10, 0, 5]]", "1", "predict.changes[1]: type"),
+    ("[[10, 0, 5]]", "[[10, 0, 5], 1]", "predict.changes[1]: type"),
+    ("[[10, 0, 5]]", "[[10, 0, 5.0]]", "predict.changes[1]: type"),
+    ("[[10, 0, 5]]", "[[10, 0], ['1']]", "predict.changes[1]: type"),
+    ("[[10, 0, 5]]", "[]", "predict.changes[1]: range"),
+    ("[[10, 0, 5]]", "[[]]", "predict.changes[1]: range"),
+    ("[[10, 0, 5]]", "[[10, 0]]", "predict.changes[1]: range"),
+    ("[[10, 0, 5]]", "[[10, 0, 5, 5]]", "predict.changes[1]: range"),
+    ("[[10, 0, 5]]", "[[-10, 0, 5]]", "predict.changes[1]: range"),
+    ("[[10, 0, 5]]", "[[7210, 0, 5]]", "predict.changes[1]: range"),
+    ("[[10, 0, 5]]", "[[10, -1, 5]]", "predict.changes[1]: range"),
+    ("[[10, 0, 5]]", "[[10, 3600, 5]]", "predict.changes[1]: range"),
+    ("[[10, 0, 5]]", "[[10, 0, -1]]", "predict.changes[1]: range"),
+    ("[[10, 0, 5]]", "[[10, 0, 1023]]", "predict.changes[1]: range"),
+    ("[[10, 0, 5]]", "[[10, 0, 5], [10, 0, 5]]", "predict.changes[1]: range"),
+    ("[[10, 0, 5]]", "[[20, 0, 5], [10, 0, 5]]", "predict.changes[1]: range"),
+    ("[[10, 0, 5]]", "[[15, 0, 5]]", "predict.changes[1]: multiple"),
+    ("[[10, 0, 5]]", "[[15, 0, 5], [20, 3600, 5]]", "predict.changes[1]: range"),
+    ("[[10, 0, 5]]", "[[0, 0, 0], [10, 0, 0], [20, 0, 0], [30, 0, 0], [40, 0, 0], [50, 0, 0], [60, 0, 0], [70, 0, 0], [80, 0, 0], [90, 0, 0], [100, 0, 0], [110, 0, 0], [120, 0, 0], [130, 0, 0], [140, 0, 0], [150, 0, 0]]", ""),
+    ("[[10, 0, 5]]", "[[0, 0, 0], [10, 0, 0], [20, 0, 0], [30, 0, 0], [40, 0, 0], [50, 0, 0], [60, 0, 0], [70, 0, 0], [80, 0, 0], [90, 0, 0], [100, 0, 0], [110, 0, 0], [120, 0, 0], [130, 0, 0], [140, 0, 0], [150, 0, 0], [160, 0, 0]]", "predict.changes[1]: range"),
+    ("477553001\nchanges = [[10, 0, 5]]", "1\nchanges = 1", "predict.mmsi[1]: range"),
+    ("[7200, 3599, 0]]\n[[predict]]\nmmsi = 477553001", "[7200, 3600, 0]]\n[[predict]]\nmmsi = 1", "predict.changes[0]: range"),
+    ("mmsi = 369190000", "mmsi = 477553000", "predict.mmsi[0]: range"),
+];
+
+#[test]
+fn what_is_predicted(rt: HostRuntime) -> Result<(), AllocError> {
+    let good = with_predictions(rt.alloc())?;
+    let otherwise = first_otherwise(rt.alloc(), good.as_str(), &PREDICT, true)?;
+    assert_eq!(rt; otherwise, None);
+    Ok(())
+}
+
+/// Other lists in place of the tables of `predict`.
+#[rattlefmt::skip]
+const NO_PREDICTIONS: [Case; 4] = [
+    ("version = 1", "version = 1\npredict = 1", "predict: type"),
+    ("version = 1", "version = 1\npredict = {}", "predict: type"),
+    ("version = 1", "version = 1\npredict = [{}, []]", "predict: type"),
+    ("version = 1", "version = 1\npredict = []", ""),
+];
+
+#[test]
+fn lists_of_predictions(rt: HostRuntime) -> Result<(), AllocError> {
+    let good = with_own(rt.alloc())?;
+    let otherwise = first_otherwise(rt.alloc(), good.as_str(), &NO_PREDICTIONS, true)?;
+    assert_eq!(rt; otherwise, None);
+    Ok(())
+}
+
+/// The good scenario with own ship and so many empty tables of `predict`.
+fn with_tables(alloc: Global, many: usize) -> Result<String, AllocError> {
+    let mut text = with_own(alloc)?;
+    for _ in 0..many {
+        text.push_str("[[predict]]\n")?;
+    }
+    Ok(text)
+}
+
+#[test]
+fn at_most_64_vessels_are_predicted(rt: HostRuntime) -> Result<(), AllocError> {
+    for (many, expected) in [(64, "predict.mmsi[0]: missing"), (65, "predict: range")] {
+        let text = with_tables(rt.alloc(), many)?;
+        let told = told(rt.alloc(), text.as_str(), true)?;
+        assert_eq!(rt; told.as_str(), expected);
+    }
     Ok(())
 }

@@ -13,7 +13,7 @@ ghost use Rattle.scenario.specs.RuleValues.{formula_tables, rule_numbers_of, saf
 
 use crate::basis::{is_version_two, tick_of};
 use crate::integers::natural;
-use crate::listed::array;
+use crate::listed::values_at;
 use added_rules::rules_with;
 use rule_set::{RuleNumbers, RuleSet, Safe};
 use scenario_keys::ScenarioFault;
@@ -62,10 +62,7 @@ fn formula_tables(document: &Table) -> &[Value]
     ensures tables { map view result.now ≡ formula_tables (table_view document.now) }
     ensures few { length result.now ≤ 5 }
 {
-    match array(document, "", "formula") {
-        Some(tables) => tables.as_slice(),
-        None => &[],
-    }
+    values_at(document, "formula")
 }
 
 /// The rules of a document without a fault before those of its formulas, or the first fault of these.

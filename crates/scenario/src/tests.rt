@@ -1,6 +1,6 @@
 //! Scenarios with known values, known first faults and known texts.
 use crate::refusal_tests::told;
-use crate::{Cause, Key, ScenarioFault, Subjects, read};
+use crate::{Cause, Change, Key, ScenarioFault, Subjects, read};
 use encounters::{Act, Detect};
 use mtl_formulas::print;
 use outside::Memory;
@@ -62,6 +62,48 @@ pub(crate) fn with_own(alloc: Global) -> Result<String, AllocError> {
         "[own]\nmmsi = 369190000\ncourses = [0, 300, -600]\nspeeds = [0, -5]\nlegs = 3\nleg_ticks = 30\ntail = 10\nbase = 301\nlengths = 2\nrange = 50000\nturn_rate = 100\n",
     )?;
     Ok(text)
+}
+
+/// The good scenario with own ship and what is predicted of two vessels.
+pub(crate) fn with_predictions(alloc: Global) -> Result<String, AllocError> {
+    let mut text = with_own(alloc)?;
+    text.push_str(
+        "[[predict]]\nmmsi = 477553000\nchanges = [[0, 900, 1022], [7200, 3599, 0]]\n[[predict]]\nmmsi = 477553001\nchanges = [[10, 0, 5]]\n",
+    )?;
+    Ok(text)
+}
+
+const CHANGES: [Change; 2] = [
+    Change {
+        after: 0,
+        course: 900,
+        speed: 1022,
+    },
+    Change {
+        after: 7200,
+        course: 3599,
+        speed: 0,
+    },
+];
+
+#[test]
+fn changes_are_predicted_of_other_vessels(rt: HostRuntime) -> Result<(), AllocError> {
+    let text = with_predictions(rt.alloc())?;
+    match read(rt.alloc(), text.as_bytes(), true) {
+        Ok(scenario) => match &scenario.own {
+            Some(own) => match own.predict.as_slice() {
+                [first, second] => {
+                    assert_eq!(rt; (first.mmsi, second.mmsi), (477_553_000, 477_553_001));
+                    assert!(rt; first.changes.as_slice() == CHANGES.as_slice());
+                    assert_eq!(rt; second.changes.as_slice().len(), 1);
+                }
+                _ => assert!(rt; false, "not two vessels"),
+            },
+            None => assert!(rt; false, "no own ship"),
+        },
+        Err(fault) => assert!(rt; false, "{fault}"),
+    }
+    Ok(())
 }
 
 #[test]

@@ -76,3 +76,16 @@ integers_at table name document = map (λ found. integer_of (as_integer found)) 
 
 abbrev pub naturals_at : List ℕ → List ℕ → Members → List ℕ
 naturals_at table name document = map (λ found. natural_of (as_integer found)) (list_at table name document)
+
+-- what stands at a name in one of the tables of a list
+
+abbrev pub in_members : List ℕ → Option Members → Option Data
+in_members name None = None
+in_members name (Some members) = get_member name members
+
+abbrev pub member_at : List ℕ → Data → Option Data
+member_at name found = in_members name (as_table found)
+
+-- the integers of a list that stands in another
+abbrev pub integers_in : Data → List ℤ
+integers_in found = map (λ inner. integer_of (as_integer inner)) (list_in (as_array found))

@@ -117,7 +117,7 @@ formula_rows =
     row 34 (codes "") (codes "formulas") kind.Formulas ∷
     []
 
--- the keys of own ship
+-- the keys of own ship, and of the changes that are predicted of other vessels: of each table of `predict` its ship and its changes
 unfoldable pub own_rows : List Row
 own_rows =
     own_row 35 (codes "mmsi") (from_to 200000000 799999999) ∷
@@ -130,6 +130,9 @@ own_rows =
     own_row 42 (codes "lengths") (from_to 0 100) ∷
     own_row 43 (codes "range") metres ∷
     row_when when.ForOwnShip 44 (codes "") (codes "own") kind.Plans ∷
+    row_when when.ForOwnShip 45 (codes "") (codes "predict") (kind.Tables 64) ∷
+    row_when when.ForOwnShip 46 (codes "") (codes "predict.mmsi") kind.PredictedShip ∷
+    row_when when.ForOwnShip 47 (codes "") (codes "predict.changes") kind.PredictedChanges ∷
     own_row 48 (codes "turn_rate") (optional 1 1800 1800) ∷
     own_row 49 (codes "speed_rate") (optional 1 1022 1022) ∷
     []

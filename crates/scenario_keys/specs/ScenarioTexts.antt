@@ -19,6 +19,8 @@ abbrev pub has_items : Kind → Bool
 has_items (kind.Numbers range) = true
 has_items kind.FormulaName = true
 has_items kind.FormulaText = true
+has_items kind.PredictedShip = true
+has_items kind.PredictedChanges = true
 has_items _ = false
 
 abbrev pub text_of : ℕ → Option Row → List ℕ

@@ -3,7 +3,7 @@ ghost use Rattle.std.specs.Prelude.{◌≡◌, option_map};
 ghost use Rattle.toml.specs.Data.{get_member};
 ghost use Rattle.toml.specs.View.{table_view, view};
 ghost use Rattle.scenario_keys.specs.Inner.ViewedResults.{viewed};
-ghost use Rattle.scenario_keys.specs.KeyValues.{found_in, integer_at, table_at};
+ghost use Rattle.scenario_keys.specs.KeyValues.{found_in, integer_at, member_at, table_at};
 
 use crate::cause::Cause;
 use toml::{Table, Value};
@@ -47,6 +47,16 @@ pub fn integer_found(document: &Table, table: &str, name: &str) -> Option<i64>
 {
     match found(document, table, name) {
         Some(found) => found.as_integer(),
+        None => None,
+    }
+}
+
+/// What stands at a name in one of the tables of a list.
+pub fn member<'a>(table: &'a Value, name: &str) -> Option<&'a Value>
+    ensures { option_map (λ v. view v.now) result ≡ member_at name.now (view table.now) }
+{
+    match table.as_table() {
+        Some(table) => value(table, name),
         None => None,
     }
 }

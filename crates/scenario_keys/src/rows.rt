@@ -51,6 +51,10 @@ pub enum Kind {
     Formulas,
     /// Few and short enough plans, by the keys of own ship.
     Plans,
+    /// Of each table of `predict` a ship. It is tested together with the changes, table by table.
+    PredictedShip,
+    /// Of each table of `predict` the changes of the ship's course and speed. They are tested together with the ship.
+    PredictedChanges,
 }
 
 /// Whether a fault of the key names an item of it.
@@ -59,7 +63,11 @@ pub(crate) fn has_items(kind: Kind) -> bool
 {
     matches!(
         kind,
-        Kind::Numbers(_) | Kind::FormulaName | Kind::FormulaText
+        Kind::Numbers(_)
+            | Kind::FormulaName
+            | Kind::FormulaText
+            | Kind::PredictedShip
+            | Kind::PredictedChanges
     )
 }
 
@@ -116,7 +124,7 @@ const SPEEDS: Kind = Kind::Numbers(ListRange {
 });
 
 #[rattlefmt::skip]
-const ROWS: [KeyRow; 51] = [
+const ROWS: [KeyRow; 54] = [
     KeyRow { number: 0, table: "", name: "document", kind: Kind::Document, when: When::Always },
     KeyRow { number: 1, table: "", name: "version", kind: Kind::Number(Range::FromTo(1, 2)), when: When::Always },
     KeyRow { number: 2, table: "window", name: "start", kind: Kind::Number(Range::FromTo(0, 9_999_999_999)), when: When::Always },
@@ -166,6 +174,9 @@ const ROWS: [KeyRow; 51] = [
     KeyRow { number: 42, table: "own", name: "lengths", kind: Kind::Number(Range::FromTo(0, 100)), when: When::ForOwnShip },
     KeyRow { number: 43, table: "own", name: "range", kind: METRES, when: When::ForOwnShip },
     KeyRow { number: 44, table: "", name: "own", kind: Kind::Plans, when: When::ForOwnShip },
+    KeyRow { number: 45, table: "", name: "predict", kind: Kind::Tables(64), when: When::ForOwnShip },
+    KeyRow { number: 46, table: "", name: "predict.mmsi", kind: Kind::PredictedShip, when: When::ForOwnShip },
+    KeyRow { number: 47, table: "", name: "predict.changes", kind: Kind::PredictedChanges, when: When::ForOwnShip },
     KeyRow { number: 48, table: "own", name: "turn_rate", kind: Kind::Number(Range::Optional(1, 1800, 1800)), when: When::ForOwnShip },
     KeyRow { number: 49, table: "own", name: "speed_rate", kind: Kind::Number(Range::Optional(1, 1022, 1022)), when: When::ForOwnShip },
 ];

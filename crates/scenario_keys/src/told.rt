@@ -1,6 +1,6 @@
 //! How faults are told.
 ghost use Rattle.std.specs.Prelude.{◌≡◌};
-ghost use Rattle.scenario_keys.specs.ToldFaults.{fault_by, fault_listed, item_of};
+ghost use Rattle.scenario_keys.specs.ToldFaults.{fault_by, fault_by_at, fault_listed, item_of};
 
 use crate::cause::Cause;
 use crate::key::Key;
@@ -31,6 +31,19 @@ pub fn fault_listed(row: u8, fault: Option<(usize, Cause)>) -> Option<(Key, Caus
 {
     match fault {
         Some((item, cause)) => {
+            let item = item_of(item);
+            Some((Key { row, item }, cause))
+        }
+        None => None,
+    }
+}
+
+/// The fault of a key at an item.
+pub fn fault_at(row: u8, item: usize, cause: Option<Cause>) -> Option<(Key, Cause)>
+    ensures { result ≡ fault_by_at row (item_of item) cause }
+{
+    match cause {
+        Some(cause) => {
             let item = item_of(item);
             Some((Key { row, item }, cause))
         }

@@ -1,0 +1,3 @@
+pub mod PredictFaults
+pub mod PredictValues
+pub mod Inner

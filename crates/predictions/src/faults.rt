@@ -1,0 +1,93 @@
+//! The first fault of what is predicted.
+ghost use Rattle.std.specs.Prelude.{◌≡◌, ◌≤◌, ◌==◌, option_map, codes, map};
+ghost use Rattle.std.specs.List.{list_any};
+ghost use Rattle.toml.specs.View.{view};
+ghost use Rattle.scenario_keys.specs.KeyValues.{integer_found, natural_of};
+ghost use Rattle.scenario_keys.specs.IntegerFaults.{number_cause};
+ghost use Rattle.predictions.specs.PredictFaults.{is_taken, mmsi_of, predict_fault, ship_cause, ships, table_fault};
+
+use crate::changes::changes_cause;
+use scenario_keys::{Bounds, Cause, Key, fault_at, member, number_cause};
+use toml::Value;
+
+/// The MMSIs of ships.
+const SHIPS: Bounds = Bounds {
+    low: 200_000_000,
+    high: 799_999_999,
+    step: 1,
+    otherwise: None,
+};
+
+/// The integer that stands there, 0 where none does or it is below 0.
+fn natural_in(found: Option<&Value>) -> u64
+    ensures { result ≡ natural_of (integer_found (option_map (λ v. view v.now) found.entry)) }
+{
+    match found {
+        Some(found) => match found.as_integer() {
+            Some(number) if 0 <= number => number as u64,
+            _ => 0,
+        },
+        None => 0,
+    }
+}
+
+/// The MMSI of a table, 0 where it has none.
+pub(crate) fn mmsi_of(table: &Value) -> u64
+    ensures { result ≡ mmsi_of (view table.now) }
+{
+    natural_in(member(table, "mmsi"))
+}
+
+fn is_before(tables: &[Value], mmsi: u64) -> bool
+    ensures { result ≡ list_any (λ v. mmsi_of (view v) == mmsi) tables.now }
+{
+    tables.iter().any(|table| mmsi_of(table) == mmsi)
+}
+
+/// Whether own ship has the MMSI, or a table before.
+#[tactic(auto, using(crate::proofs::Lists::any_seen))]
+fn is_taken(own: u64, before: &[Value], mmsi: u64) -> bool
+    ensures { result ≡ is_taken own (map view before.now) mmsi }
+{
+    own == mmsi || is_before(before, mmsi)
+}
+
+fn ship_cause(own: u64, before: &[Value], found: Option<&Value>) -> Option<Cause>
+    ensures { result ≡ ship_cause own (map view before.now) (option_map (λ v. view v.now) found.entry) }
+{
+    if let Some(cause) = number_cause(SHIPS, found) {
+        return Some(cause);
+    }
+    if is_taken(own, before, natural_in(found)) {
+        return Some(Cause::Range);
+    }
+    None
+}
+
+/// The fault of a table behind others: that of its ship, or else that of its changes.
+#[tactic(auto, unfolding(crate::specs::PredictFaults::table_fault), using(crate::proofs::Lists::many_seen))]
+fn table_fault(tick: u32, own: u64, before: &[Value], table: &Value) -> Option<(Key, Cause)>
+    requires { 1 ≤ tick }
+    ensures { result ≡ table_fault tick own (map view before.now, view table.now) }
+{
+    let item = before.len();
+    if let Some(cause) = ship_cause(own, before, member(table, "mmsi")) {
+        return fault_at(46, item, Some(cause));
+    }
+    fault_at(47, item, changes_cause(tick, member(table, "changes")))
+}
+
+/// The first fault of the tables of `predict`: table by table that of its ship and then that of its changes. A ship is neither
+/// own ship, whose MMSI is given, nor that of a table before. Changes are at most 16 lists of three integers: the seconds after
+/// now, multiples of the tick that each exceed those before, the course and the speed.
+pub fn predict_fault(tick: u32, own: u64, tables: &[Value]) -> Option<(Key, Cause)>
+    requires { 1 ≤ tick }
+    ensures { result ≡ predict_fault tick own (map view tables.now) }
+{
+    for k in 0..tables.len() {
+        if let Some(fault) = table_fault(tick, own, &tables[..k], &tables[k]) {
+            return Some(fault);
+        }
+    }
+    None
+}
