@@ -1,4 +1,4 @@
--- What an audit stands for after each of its calls.
+-- What a queue of rows stands for after each of its calls.
 use Rattle.std.proofs.Common.{◌≡◌, ℕ, ◌<◌, ◌≤◌, List, [], ◌∷◌, ◌++◌, length, get_or, refl, sym, ap, subst, ◌∙◌, arith, ◌⊎◌, inl, inr, append_assoc, Some, None}
 use Rattle.std.specs.Prelude.{Option}
 use Rattle.std.proofs.Math.ListN.{set}
