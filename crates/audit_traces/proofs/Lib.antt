@@ -9,3 +9,4 @@ mod SeenVessels
 mod AddedPairs
 mod FoundPairs
 mod Reach
+mod EqualDistances
