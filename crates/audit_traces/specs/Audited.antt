@@ -41,6 +41,10 @@ state_in mmsi seen = option_map (λ (vessel : ℕ × TickState). vessel.1) (find
 abbrev pub state_at : List Sighting → ℕ → ℕ → Option TickState
 state_at ticks mmsi k = state_in mmsi (get_or ticks k [])
 
+-- the vessels seen at the last tick that was given; none where none was
+abbrev pub last_sighting : List Sighting → Sighting
+last_sighting ticks = get_or ticks (length ticks - 1) []
+
 -- From one tick to the next each vessel that is seen at both moves no further than a step may say.
 abbrev pub MoveLittle : Sighting → Sighting → Type 0
 MoveLittle before after = (mmsi : ℕ) → IsShortMove (state_in mmsi before) (state_in mmsi after)

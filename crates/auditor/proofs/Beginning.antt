@@ -1,0 +1,99 @@
+-- As the traces of one pair after the other begin.
+use Rattle.std.proofs.Common.{◌≡◌, ◌≢◌, ℕ, ◌+◌, ◌<◌, ◌≤◌, ◌⊎◌, inl, inr, List, [], ◌∷◌, ◌++◌, length, get_or, take, refl, sym, ap, subst, ◌∙◌, arith}
+use Rattle.std.specs.Prelude.{All}
+use Rattle.std.specs.List.{Contains}
+use Rattle.std.proofs.lemmas.List.{take_more}
+use Rattle.std.proofs.lemmas.List.Elements.{Contains-append_cases}
+use Rattle.meetings.specs.Traces.{AreInContact}
+use Rattle.meetings.specs.declared.pair.Pair.{Pair}
+use Rattle.audit_rows.specs.declared.row.Row.{Row}
+use Rattle.audit_traces.specs.Audited.{IsAudited, Numbers, Sighting, state_in}
+use Rattle.auditor.specs.AuditTotals.{AreDifferent}
+use Rattle.audit_traces.specs.Contacts.{AreContacts}
+use Rattle.auditor.specs.Inner.AuditKeeping.{pairs_of}
+use Rattle.auditor.specs.Inner.TracesKept.{AreBegun, AreTooMany, Grew, HaveBoth, Holds, IsTaken, MayTake, swapped}
+use Rattle.audit_traces.specs.TraceKeeping.{Known}
+use Rattle.auditor.specs.declared.all_traces.AllTraces.{AllTraces}
+use Rattle.auditor.proofs.Members.{in_cons, in_none}
+use Rattle.auditor.proofs.Taking.{grew_none, grew_on}
+use Rattle.auditor.proofs.Ticks.{audited_back, contact_back}
+
+-- The traces of these pairs have begun.
+pub record AreBegunSo (kept : AllTraces) (numbers : Numbers) (seen : Sighting) (start : ℕ) (before : List Known) (bound : ℕ) (given : List Row) (front : List Pair) : Type 0 where
+  pub after : List Known
+  pub holds : Holds kept numbers after bound given
+  pub once : AreDifferent (pairs_of after)
+  pub both : HaveBoth after
+  pub grew : Grew numbers seen (pairs_of before) start before after
+  pub all : (pair : Pair) → Contains front pair → IsAudited numbers.subjects pair → Contains (pairs_of after) pair
+
+module _ (kept : AllTraces) (numbers : Numbers) (seen : Sighting) (start : ℕ) (before : List Known) (bound : ℕ) (given : List Row) where
+  pub begun_none : Holds kept numbers before bound given → AreDifferent (pairs_of before) → HaveBoth before → AreBegunSo kept numbers seen start before bound given []
+  begun_none h once both = record {
+    after = before;
+    holds = h;
+    once = once;
+    both = both;
+    grew = grew_none numbers seen (pairs_of before) start before;
+    all = λ pair i audited. in_none pair i;
+  }
+
+  -- the next pair may be taken
+  pub may_take : (subjects : List ℕ) (front : List Pair) (pair : Pair) → numbers.subjects ≡ subjects → pair.subject < pair.other
+      → AreInContact numbers.detect.watch (state_in pair.subject seen) (state_in pair.other seen)
+      → (b : AreBegunSo kept numbers seen start before bound given front) → MayTake numbers subjects seen (pairs_of before) b.after pair
+  may_take subjects front pair of lt near b = record {
+    of = of;
+    two = λ e. absurd (omega arith);
+    contact = near;
+    once = b.once;
+    both = b.both;
+    still = b.grew.still;
+  }
+
+  pub begun_more : (next : AllTraces) (pairs : List Pair) (i : ℕ) (d : Pair) → i < length pairs
+      → (b : AreBegunSo kept numbers seen start before bound given (take i pairs)) → IsTaken next numbers seen (pairs_of before) start b.after bound given (get_or pairs i d)
+      → AreBegunSo next numbers seen start before bound given (take (i + 1) pairs)
+  begun_more next pairs i d lt b t = record {
+    after = t.after;
+    holds = t.holds;
+    once = t.once;
+    both = t.both;
+    grew = grew_on numbers seen (pairs_of before) start before b.after t.after b.grew t.grew;
+    all = λ other there audited. elim (Contains-append_cases (take i pairs) (get_or pairs i d ∷ []) other (subst (λ (ps : List Pair). Contains ps other) (take_more pairs i d lt) there)) [
+      | inl earlier ↦ t.grew.still other (b.all other earlier audited)
+      | inr last ↦ elim (in_cons (get_or pairs i d) [] other last) [
+        | inl same ↦ subst (λ (p : Pair). Contains (pairs_of t.after) p) same (t.taken (subst (λ (p : Pair). IsAudited numbers.subjects p) (sym same) audited))
+        | inr none ↦ in_none other none
+      ]
+    ];
+  }
+
+  -- the traces that are too many beside those so far
+  pub too_many : (front : List Pair) (b : AreBegunSo kept numbers seen start before bound given front) → AreTooMany numbers seen (pairs_of before) start b.after → AreTooMany numbers seen (pairs_of before) start before
+  too_many front b t = record {
+    full = t.full;
+    many = t.many;
+    once = t.once;
+    grew = grew_on numbers seen (pairs_of before) start before b.after t.full b.grew t.grew;
+    further = t.further;
+    fresh = t.fresh;
+    new = t.new;
+  }
+
+  three : (m n : ℕ) → m ≢ n → (m < n) ⊎ (n < m)
+  three m n ne = grind arith
+
+  pub begun_all : (pairs : List Pair) → AreContacts numbers.detect.watch seen pairs → AreBegunSo kept numbers seen start before bound given pairs → AreBegun kept numbers seen start before bound given
+  begun_all pairs contacts b = record {
+    after = b.after;
+    holds = b.holds;
+    once = b.once;
+    grew = b.grew;
+    all = λ pair audited near. elim (three pair.subject pair.other audited.two) [
+      | inl lt ↦ b.all pair (contacts.complete pair lt near) audited
+      | inr gt ↦ b.both (swapped pair) (b.all (swapped pair)
+          (contacts.complete (swapped pair) gt (contact_back numbers.detect.watch (state_in pair.subject seen) (state_in pair.other seen) near))
+          (audited_back numbers.subjects pair audited))
+    ];
+  }

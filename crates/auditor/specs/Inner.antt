@@ -1,0 +1,2 @@
+pub mod AuditKeeping
+pub mod TracesKept

@@ -1,0 +1,13 @@
+pub use Rattle.audit_rows.specs.Order
+pub use Rattle.audit_rows.specs.Rows
+pub use Rattle.audit_rows.specs.Stretches
+pub use Rattle.audit_rows.specs.Tracks
+pub use Rattle.audit_traces.specs.Audited
+pub use Rattle.audit_traces.specs.AuditTracks
+pub use Rattle.audit_traces.specs.RuleCounts
+pub use Rattle.rule_set.specs.NamedTrees
+pub mod AuditRows
+pub mod AuditTotals
+pub mod FaultTexts
+pub mod Standing
+pub mod Inner

@@ -1,0 +1,30 @@
+//! Which pairs have a trace.
+ghost use Rattle.std.specs.Prelude.{◌≡◌, ◌↔◌, ◌⊎◌, [], IsTrue, OnOk};
+ghost use Rattle.std.specs.List.{Contains};
+ghost use Rattle.meetings.specs.declared.pair.Pair.{Pair};
+
+use meetings::Pair;
+use outside::Memory;
+use std::collections::BTreeSet;
+
+/// Whether a pair is among these.
+pub fn is_among(pairs: &BTreeSet<Pair>, pair: Pair) -> bool
+    ensures { IsTrue result ↔ Contains pairs.now.keys pair }
+{
+    pairs.contains(&pair)
+}
+
+/// Adds a pair to these.
+pub fn add(pairs: &mut BTreeSet<Pair>, pair: Pair) -> Result<(), Memory>
+    ensures { OnOk result ((other : Pair) → Contains pairs.new.keys other ↔ (Contains pairs.old.keys other ⊎ (pair ≡ other))) }
+{
+    pairs.insert(pair)?;
+    Ok(())
+}
+
+/// Whether a pair is audited, whichever of the two is the subject: where there are no subjects, any is.
+pub fn is_chosen(subjects: &[u32], pair: Pair) -> bool
+    ensures { IsTrue result ↔ ((subjects.now ≡ []) ⊎ Contains subjects.now pair.subject ⊎ Contains subjects.now pair.other) }
+{
+    subjects.is_empty() || subjects.contains(&pair.subject) || subjects.contains(&pair.other)
+}
