@@ -8,14 +8,13 @@ use Rattle.auditor.specs.AuditTotals.{AreDifferent}
 module _ {X : Type 0} where
   pub different_push : (xs : List X) (x : X) → AreDifferent xs → (Contains xs x → ⊥) → AreDifferent (xs ++ x ∷ [])
   different_push [] x d new = (λ i. in_none x i, tt)
-  different_push (y ∷ ys) x d new =
-      (
-        λ i. elim (Contains-append_cases ys (x ∷ []) y i) [
-          | inl there ↦ d.0 there
-          | inr last ↦ elim (in_cons x [] y last) [ inl same ↦ new (subst (λ (z : X). Contains (y ∷ ys) z) (sym same) (in_head y ys)) | inr none ↦ in_none y none ]
-        ],
-        different_push ys x d.1 (λ i. new (in_tail y ys x i)),
-      )
+  different_push (y ∷ ys) x d new = (
+    λ i. elim (Contains-append_cases ys (x ∷ []) y i) [
+      | inl there ↦ d.0 there
+      | inr last ↦ elim (in_cons x [] y last) [ inl same ↦ new (subst (λ (z : X). Contains (y ∷ ys) z) (sym same) (in_head y ys)) | inr none ↦ in_none y none ]
+    ],
+    different_push ys x d.1 (λ i. new (in_tail y ys x i)),
+  )
 
   parted : (ys : List X) (x : X) → Contains ys x → (front : List X) × (back : List X) × (ys ≡ front ++ x ∷ back)
   parted [] x i = in_none x i

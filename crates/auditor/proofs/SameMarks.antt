@@ -121,15 +121,20 @@ module _ (tree : FormulaTree) (trace : Trace) where
       let more : List Mark = marks_from n (length trace - n) in
       let count = h.count in
       let rest : length more ≡ length trace - n = from_length n (length trace - n) in
-      let whole : length (marks ++ more) ≡ length trace = omega (arith, length-append marks more) in
-      (more, record { count = whole; each = λ i lt. elim (early i n) [
-        | inl before ↦ (let was : mark_at marks i ≡ mark_of (value_in trace tree i) =
-            h.each i before [] ∙ ap (λ (rows : Trace). mark_of (value_in rows tree i)) (append-nil trace) in
-            get_or_append_left marks more Nothing i before ∙ was)
-        | inr behind ↦ (let there : n + (i - n) ≡ i = omega arith in
-            get_or-append_right marks more n i Nothing refl behind
-            ∙ (from_at n (length trace - n) (i - n) (omega arith) ∙ ap (λ (j : ℕ). mark_of (value_in trace tree j)) there))
-      ] })
+      let whole : length (marks ++ more) ≡ length trace = omega (arith, length-append marks more) in (
+        more,
+        record {
+          count = whole;
+          each = λ i lt. elim (early i n) [
+            | inl before ↦ (let was : mark_at marks i ≡ mark_of (value_in trace tree i) =
+                h.each i before [] ∙ ap (λ (rows : Trace). mark_of (value_in rows tree i)) (append-nil trace) in
+                get_or_append_left marks more Nothing i before ∙ was)
+            | inr behind ↦ (let there : n + (i - n) ≡ i = omega arith in
+                get_or-append_right marks more n i Nothing refl behind
+                ∙ (from_at n (length trace - n) (i - n) (omega arith) ∙ ap (λ (j : ℕ). mark_of (value_in trace tree j)) there))
+          ];
+        },
+      )
     where
       early : (i n : ℕ) → (i < n) ⊎ (n ≤ i)
       early i n = grind arith

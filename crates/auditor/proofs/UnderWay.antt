@@ -81,8 +81,20 @@ module _ (program : Program) (numbers : Numbers) (before seen : Sighting) (step 
   pub under_way_none : (traces : List AuditTrace) (marks : Marks) (tracks : List Track) → AllZip (StandsFor program numbers) traces knowns
       → ((known : Known) → Contains knowns known → IsAtStep step known) → AreAllTracks numbers knowns tracks → Keeps marks (length numbers.rules) tracks bound given → IsUnderWay traces marks 0 0
   under_way_none traces marks tracks z at all keeps = record {
-    front = []; rest = knowns; done = []; parted = refl; count = refl; followed = tt; at = at; stand = z;
-    mine = []; others = tracks; done_tracks = refl; rest_tracks = all; first_is = refl; keeps = keeps;
+    front = [];
+    rest = knowns;
+    done = [];
+    parted = refl;
+    count = refl;
+    followed = tt;
+    at = at;
+    stand = z;
+    mine = [];
+    others = tracks;
+    done_tracks = refl;
+    rest_tracks = all;
+    first_is = refl;
+    keeps = keeps;
   }
 
   -- what the step of a trace comes to
@@ -167,7 +179,16 @@ module _ (program : Program) (numbers : Numbers) (knowns : List Known) (bound : 
   pub ending_none : (traces : List AuditTrace) (marks : Marks) (tracks : List Track) → AllZip (StandsFor program numbers) traces knowns
       → AreAllTracks numbers knowns tracks → Keeps marks (length numbers.rules) tracks bound given → IsEnding traces marks 0 0
   ending_none traces marks tracks z all keeps = record {
-    front = []; rest = knowns; parted = refl; stand = z; mine = []; others = tracks; done_tracks = refl; rest_tracks = all; first_is = refl; keeps = keeps;
+    front = [];
+    rest = knowns;
+    parted = refl;
+    stand = z;
+    mine = [];
+    others = tracks;
+    done_tracks = refl;
+    rest_tracks = all;
+    first_is = refl;
+    keeps = keeps;
   }
 
   abbrev pub EndsIt : AuditTrace → Marks → Marks → ℕ → Type 0

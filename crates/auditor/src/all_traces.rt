@@ -189,7 +189,14 @@ impl AllTraces {
         ensures holds { OnOk result ((numbers : Numbers) (knowns : List Known) (bound : ℕ) (given : List Row) → Holds self.old numbers knowns bound given
             → All (IsAtStep step) knowns → AreFollowed self.new numbers before.now seen.now knowns bound given) }
     {
-        follow_each(&mut self.traces, &self.program, &mut self.marks, before, seen, step)
+        follow_each(
+            &mut self.traces,
+            &self.program,
+            &mut self.marks,
+            before,
+            seen,
+            step,
+        )
     }
 
     /// Begins the trace of a pair that has none.

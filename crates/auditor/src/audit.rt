@@ -162,7 +162,13 @@ impl Audit {
         requires ticks { window.ticks ≤ 20000 }
         ensures sound { IfOk result (λ audit. IsSound audit) }
         ensures stands { IfOk result (λ audit. StandsFor audit (record {
-          detect = detect; act = act; tick = window.tick; last_tick = window.ticks; subjects = subjects.items; rules = rules }) [] []) }
+          detect = detect;
+          act = act;
+          tick = window.tick;
+          last_tick = window.ticks;
+          subjects = subjects.items;
+          rules = rules;
+        }) [] []) }
     {
         let program = program_of(alloc, &rules)?;
         Ok(Audit {
@@ -206,7 +212,10 @@ impl Audit {
             self.last_tick,
         )?;
         replace(&mut self.latest, seen)?;
-        let bound = self.given.saturating_sub(self.traces.reach()).saturating_sub(1);
+        let bound = self
+            .given
+            .saturating_sub(self.traces.reach())
+            .saturating_sub(1);
         self.given += 1;
         Ok(self.traces.rows_below(bound)?)
     }

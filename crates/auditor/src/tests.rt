@@ -40,6 +40,7 @@ const NUMBERS: RuleNumbers = RuleNumbers {
 };
 
 const OWN: u32 = 369_190_000;
+
 const OTHER: u32 = 477_553_000;
 
 /// An audit of so many ticks of 10 seconds, by the eleven rules.
@@ -186,6 +187,11 @@ fn sixty_five_vessels_are_too_many_pairs(rt: HostRuntime) -> Result<(), Fail> {
     let mut few = audit(rt.alloc(), 4)?;
     assert!(rt; few.step(&still(rt.alloc(), 64)?).is_ok());
     let mut many = audit(rt.alloc(), 4)?;
-    assert!(rt; matches!(many.step(&still(rt.alloc(), 65)?), Err(AuditFault::TooManyPairs)));
+    assert!(rt;
+        matches!(
+            many.step(&still(rt.alloc(), 65)?),
+            Err(AuditFault::TooManyPairs)
+        )
+    );
     Ok(())
 }

@@ -31,7 +31,7 @@ loop-trace-preserved c =
     record {
       tracks_are = inv.tracks_are;
       few = omega arith;
-      totals = c.end.ensures.rules ∙ inv.totals;
+      totals = c.end.ensures.as_many ∙ inv.totals;
       many = count ∙ inv.many;
       rest = λ k d from lt. (let ne : k ≢ i = omega arith in let inside : k < length old = omega arith in rw get_or-set_other (inv.rest k d (omega arith) inside));
       holds = λ numbers knowns tracks bound given is z all keeps.

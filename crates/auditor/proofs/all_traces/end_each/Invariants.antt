@@ -21,5 +21,5 @@ invariant-loop-trace l = record {
   rest : (k : ℕ) (d : AuditTrace) → l.trace-index ≤ k → k < length l.traces → IsReady l.program 20000 (get_or l.traces k d);
   holds : (numbers : Numbers) (knowns : List Known) (tracks : List Track) (bound : ℕ) (given : List Row) → IsProgramOf l.program (formulas_of numbers)
       → AllZip (StandsFor l.program numbers) l.fn.traces knowns → AreAllTracks numbers knowns tracks → Keeps l.fn.marks (length numbers.rules) tracks bound given
-      → IsEnding l.program numbers knowns bound given l.traces l.marks l.first l.trace-index
+      → IsEnding l.program numbers knowns bound given l.traces l.marks l.first l.trace-index;
 }

@@ -36,9 +36,8 @@ step-requires-clause-seen c =
 
 pub returns-clause-stands : goal.returns-clause-stands
 returns-clause-stands c = on_done c.step.result _ _ (λ steps numbers known front mine back bound given h at t e k.
-    let few : length known.steps < 2 ^ 31 = (let s = at.0 in let small = c.requires.few in omega arith) in
     let pair = c.pair-pair.ensures c.args.program.now numbers known h in
     let states = same_step _ _ _ _ _ _ _ _ c.state_of.ensures c.state_of-2.ensures c.state_of-3.ensures c.state_of-4.ensures in
     let same = c.as_ref.ensures.value ∙ (c.step_between-seen_step.ensures.value ∙ (states ∙ ap (λ (p : Pair). step_of p c.args.before.now c.args.seen.now) pair)) in
     subst (λ (o : Option PairStep). Steps c.args.program.now numbers c.step.new.self known o c.step.new.marks front back bound given) same
-    (steps numbers known front mine back bound given h at.0 few t e k)) c.step.ensures.stands
+    (steps numbers known front mine back bound given h at.0 t e k)) c.step.ensures.stands

@@ -6,5 +6,5 @@ use Rattle.auditor.proofs.audit.program_of.Given as goal
 abbrev pub invariant-loop-rule : goal.invariant-loop-rule
 invariant-loop-rule l = record {
   count : count_of l.program ≡ l.rule;
-  formulas : IsProgramOf l.program (map (λ (r : NamedTree). r.tree) (take l.rule l.rules))
+  formulas : IsProgramOf l.program (map (λ (r : NamedTree). r.tree) (take l.rule l.rules));
 }

@@ -13,5 +13,5 @@ invariant-loop-pair l = record {
   ready : AreReady l.self l.start;
   holds : (numbers : Numbers) (knowns : List Known) (bound : ℕ) (given : List Row) → Holds l.fn.self numbers knowns bound given
       → numbers.subjects ≡ l.subjects → AreDifferent (pairs_of knowns) → HaveBoth knowns → bound ≤ l.start
-      → AreBegunSo l.self numbers l.seen l.start knowns bound given (take l.pair-index l.pair-items)
+      → AreBegunSo l.self numbers l.seen l.start knowns bound given (take l.pair-index l.pair-items);
 }
