@@ -87,7 +87,7 @@ abbrev pub IsTextCause : ℕ → Option Data → Option Cause → Type 0
 IsTextCause tick None why = why ≡ Some cause.Missing
 IsTextCause tick (Some found) why = IsStringCause tick (as_str found) why
 
--- what the test of a table finds, as so-manieth item: the fault of its name, or else that of its text
+-- what the test of a table at an index finds: the fault of its name, or else that of its text
 
 abbrev pub IsTextFault : ℕ → ℕ → Option Cause → Option Data → Option (Key × Cause) → Type 0
 IsTextFault tick item (Some why) text told = told ≡ fault_at 32 item why

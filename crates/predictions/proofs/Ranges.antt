@@ -22,9 +22,9 @@ use Rattle.scenario_keys.specs.declared.cause.Cause.TheVariants as cause
 use Rattle.scenario_keys.specs.declared.key.Key.{Key}
 use Rattle.scenario_keys.proofs.ForCallers.{all_head, all_none, all_tail}
 use Rattle.predictions.proofs.Lists.{all_seen, mapped_seen}
-use Rattle.predictions.specs.PredictFaults.{after_of, are_changes, are_on_ticks, array_cause, ascend, ascend_from, changes_cause, is_change_of, is_from_0_to, is_integer_list, is_taken, list_cause, mmsi_of, new_cause, numbers_of, predict_fault, ship_cause, ships, table_fault}
+use Rattle.predictions.specs.PredictFaults.{after_of, are_changes, are_on_ticks, array_cause, ascend, ascend_from, changes_cause, is_change_of, is_from_0_to, is_integer_list, is_taken, list_cause, mmsi_of, new_cause, numbers_of, predict_fault, ship_cause, ships, table_fault, HaveNoFault}
 use Rattle.predictions.specs.PredictValues.{change_of, changes_of, predict_of, predictions_of, ArePredictions, AreTimed}
-use Rattle.predictions.specs.Inner.{IsReadable}
+use Rattle.predictions.specs.Inner.{AreReadable, IsReadable}
 use Rattle.predictions.specs.declared.changes.Change.{Change}
 use Rattle.predictions.specs.declared.changes.ChangeNumbers.{ChangeNumbers}
 use Rattle.predictions.specs.declared.predictions.Predict.{Predict}
@@ -87,10 +87,10 @@ from_map : {A B : Type 0} (P : B → Type 0) (f : A → B) (l : List A) → All 
 from_map P f [] h = all_none (λ a. P (f a))
 from_map P f (a ∷ l) h = All-cons (λ a. P (f a)) a l (all_head P (f a) (map f l) h) (from_map P f l (all_tail P (f a) (map f l) h))
 
-pub readable : (tick own : ℕ) (values : List Value) → predict_fault tick own (map view values) ≡ None → All (λ v. IsReadable tick (view v)) values
-readable tick own values h =
-    from_map (IsReadable tick) view values
-    (λ k d lt. let p = all_pass tick own (map view values) h k d lt in record { ship = p.ship; changes = p.changes })
+pub readable : (values : List Value) → HaveNoFault (map view values) → All (λ v. IsReadable (view v)) values
+readable values (tick, own, h) =
+    from_map IsReadable view values
+    (λ k d lt. let p = all_pass tick own (map view values) h k d lt in record { ship = p.ship; changes = (tick, p.changes) })
 
 -- ships
 
@@ -311,10 +311,10 @@ array_held tick (Some items) values h e =
     sym (all_seen (λ found. is_change_of (numbers_of found)) values)
     ∙ list_held tick (elements (items_view values)) (subst (λ (i : Items). list_cause tick (elements i) ≡ None) (sym same) h)
 
-pub changes_held : (tick : ℕ) (found : Option Data) (values : List Value) → changes_cause tick found ≡ None → Some (items_view values) ≡ array_in found →
+pub changes_held : (found : Option Data) (values : List Value) → AreReadable found → Some (items_view values) ≡ array_in found →
     list_all (λ v. is_change_of (numbers_of (view v))) values ≡ true
-changes_held tick None values h e = absurd (cc)
-changes_held tick (Some found) values h e = array_held tick (as_array found) values h e
+changes_held None values (tick, h) e = absurd (cc)
+changes_held (Some found) values (tick, h) e = array_held tick (as_array found) values h e
 
 pub changes_are : (found : Option Data) (values : List Value) → Some (items_view values) ≡ array_in found →
     map (λ v. change_of (numbers_of (view v))) values ≡ changes_of found

@@ -14,7 +14,11 @@ abbrev pub ascend_behind : Option ℤ → List ℤ → Bool
 ascend_behind None rest = ascend rest
 ascend_behind (Some before) rest = ascend_from before rest
 
+-- Changes stand there that have no fault at some tick.
+abbrev pub AreReadable : Option Data → Type 0
+AreReadable found = (tick : ℕ) × (changes_cause tick found ≡ None)
+
 -- The table has a ship and changes without a fault.
-pub record IsReadable (tick : ℕ) (here : Data) : Type 0 where
+pub record IsReadable (here : Data) : Type 0 where
   pub ship : number_cause ships (member_at (codes "mmsi") here) ≡ None
-  pub changes : changes_cause tick (member_at (codes "changes") here) ≡ None
+  pub changes : AreReadable (member_at (codes "changes") here)

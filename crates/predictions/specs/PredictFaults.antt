@@ -1,5 +1,5 @@
 -- The faults of the tables of `predict`: of each one its ship, and then its changes.
-use Rattle.std.specs.Prelude.{ℕ, ◌==◌, ◌%◌, nat_le, Bool, true, false, ◌&&◌, if◌then◌else◌, codes, ℤ, pos, int_le, int_lt, unsigned_abs, List, [], ◌∷◌, length, map, Option, Some, None}
+use Rattle.std.specs.Prelude.{◌≡◌, ℕ, ◌==◌, ◌%◌, nat_le, Bool, true, false, ◌&&◌, if◌then◌else◌, codes, ℤ, pos, int_le, int_lt, unsigned_abs, List, [], ◌∷◌, length, map, Option, Some, None}
 use Rattle.std.specs.List.{list_all, list_any}
 use Rattle.std.specs.Option.{is_some}
 use Rattle.toml.specs.Data.{Data, Items, as_array, as_integer}
@@ -111,3 +111,7 @@ table_fault tick own (before, here) =
 -- the first fault of all tables
 unfoldable pub predict_fault : ℕ → ℕ → List Data → Option (Key × Cause)
 predict_fault tick own tables = first_of (map (table_fault tick own) (with_before [] tables))
+
+-- At some tick, where own ship has some MMSI, no table has a fault.
+abbrev pub HaveNoFault : List Data → Type 0
+HaveNoFault tables = (tick : ℕ) × (own : ℕ) × (predict_fault tick own tables ≡ None)

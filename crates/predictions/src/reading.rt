@@ -1,12 +1,11 @@
 //! Reads what is predicted from tables without a fault.
-ghost use Rattle.std.specs.Prelude.{◌≡◌, ◌≤◌, option_map, codes, length, map, All, IfOk, None, true};
+ghost use Rattle.std.specs.Prelude.{◌≡◌, ◌≤◌, ℕ, option_map, codes, length, map, All, IfOk, None, true};
 ghost use Rattle.std.specs.List.{list_all};
 ghost use Rattle.toml.specs.View.{array_view, view};
 ghost use Rattle.scenario_keys.specs.KeyValues.{array_in, member_at};
-ghost use Rattle.scenario_keys.specs.IntegerFaults.{number_cause};
-ghost use Rattle.predictions.specs.PredictFaults.{changes_cause, is_change_of, mmsi_of, numbers_of, predict_fault, ships};
+ghost use Rattle.predictions.specs.PredictFaults.{is_change_of, mmsi_of, numbers_of, predict_fault, HaveNoFault};
 ghost use Rattle.predictions.specs.PredictValues.{change_of, changes_of, predict_of, predictions_of, ArePredictions};
-ghost use Rattle.predictions.specs.Inner.{IsReadable};
+ghost use Rattle.predictions.specs.Inner.{AreReadable, IsReadable};
 
 use crate::changes::{Change, Changes, numbers_of};
 use crate::faults::mmsi_of;
@@ -55,8 +54,8 @@ fn array_in(found: Option<&Value>) -> Option<&Array>
 }
 
 /// The changes of a table.
-fn changes_of(alloc: Global, tick: u32, found: Option<&Value>) -> Result<Changes, AllocError>
-    requires { changes_cause tick (option_map (λ v. view v.now) found) ≡ None }
+fn changes_of(alloc: Global, found: Option<&Value>) -> Result<Changes, AllocError>
+    requires { AreReadable (option_map (λ v. view v.now) found) }
     ensures { IfOk result (λ changes. changes ≡ changes_of (option_map (λ v. view v.now) found.entry)) }
 {
     match array_in(found) {
@@ -65,40 +64,36 @@ fn changes_of(alloc: Global, tick: u32, found: Option<&Value>) -> Result<Changes
     }
 }
 
-fn predict_in(alloc: Global, tick: u32, table: &Value) -> Result<Predict, AllocError>
-    requires { IsReadable tick (view table.now) }
+fn predict_in(alloc: Global, table: &Value) -> Result<Predict, AllocError>
+    requires { IsReadable (view table.now) }
     ensures { IfOk result (λ predict. predict ≡ predict_of (view table.now)) }
 {
-    let changes = changes_of(alloc, tick, member(table, "changes"))?;
+    let changes = changes_of(alloc, member(table, "changes"))?;
     Ok(Predict {
         mmsi: mmsi_of(table) as u32,
         changes,
     })
 }
 
-fn predicts_in(alloc: Global, tick: u32, tables: &[Value]) -> Result<Vec<Predict>, AllocError>
-    requires { All (λ v. IsReadable tick (view v)) tables.now }
+fn predicts_in(alloc: Global, tables: &[Value]) -> Result<Vec<Predict>, AllocError>
+    requires { All (λ v. IsReadable (view v)) tables.now }
     ensures { IfOk result (λ list. list.items ≡ map (λ v. predict_of (view v)) tables.now) }
 {
     let mut list = Vec::new(alloc);
     for table in tables {
-        list.push(predict_in(alloc, tick, table)?)?;
+        list.push(predict_in(alloc, table)?)?;
     }
     Ok(list)
 }
 
-/// What at most 64 tables without a fault predict, by the MMSI of own ship.
-pub fn predictions_of(
-    alloc: Global,
-    tick: u32,
-    own: u64,
-    tables: &[Value],
-) -> Result<Predictions, AllocError>
+/// What at most 64 tables predict that have no fault at some tick, where own ship has some MMSI. For this tick and MMSI the
+/// values are in their ranges.
+pub fn predictions_of(alloc: Global, tables: &[Value]) -> Result<Predictions, AllocError>
     requires few { length tables.now ≤ 64 }
-    requires faultless { predict_fault tick own (map view tables.now) ≡ None }
+    requires faultless { HaveNoFault (map view tables.now) }
     ensures values { IfOk result (λ p. p ≡ predictions_of (map view tables.now)) }
-    ensures in_range { IfOk result (ArePredictions tick own) }
+    ensures in_range { (tick own : ℕ) → predict_fault tick own (map view tables.now) ≡ None → IfOk result (ArePredictions tick own) }
 {
-    let list = predicts_in(alloc, tick, tables)?;
+    let list = predicts_in(alloc, tables)?;
     Ok(Predictions::new(list))
 }

@@ -189,13 +189,13 @@ formulas_some need_own document found h =
           (one_more test texts (weights ∷ []) found refl (first_here test weights [] found b.1))
     ]
 
-pub formulas_found : {A : Type 0} (need_own : Bool) (document : Members) (result : Result A ScenarioFault) →
+pub formulas_found : {A : Type 0} (document : Members) (result : Result A ScenarioFault) →
     IfErr result (IfFault (λ told. IsFormulaFault (tick_of document) (formula_tables document) (Some told)
     ⊎ (IsFormulaFault (tick_of document) (formula_tables document) None × IsWeightFault (tick_of document) (rule_numbers_of document) (formula_tables document) (Some told)))) →
-    IfErr result (IfFault (λ told. IsFound (IsTold (basis_of need_own document) document) formula_rows (Some told)))
-formulas_found need_own document (Ok value) h = tt
-formulas_found need_own document (Err (refusal.Fault key why)) h = formulas_some need_own document (key, why) h
-formulas_found need_own document (Err refusal.Memory) h = tt
+    IfErr result (IfFault (λ told. (need_own : Bool) → IsFound (IsTold (basis_of need_own document) document) formula_rows (Some told)))
+formulas_found document (Ok value) h = tt
+formulas_found document (Err (refusal.Fault key why)) h = λ need_own. formulas_some need_own document (key, why) h
+formulas_found document (Err refusal.Memory) h = tt
 
 -- the keys from which values are read
 
@@ -204,9 +204,9 @@ pub read_from : (need_own : Bool) (document : Members) → IsFound (IsTold (basi
 read_from false document a b = no_fault (basis_of false document) document first_rows first_plain a
 read_from true document a b = no_fault (basis_of true document) document own_rows own_plain b
 
-pub formulas_none_of : {A : Type 0} (need_own : Bool) (document : Members) (result : Result A ScenarioFault) →
+pub formulas_none_of : {A : Type 0} (document : Members) (result : Result A ScenarioFault) →
     OnOk result (IsFormulaFault (tick_of document) (formula_tables document) None) →
     OnOk result (IsWeightFault (tick_of document) (rule_numbers_of document) (formula_tables document) None) →
-    OnOk result (IsFound (IsTold (basis_of need_own document) document) formula_rows None)
-formulas_none_of need_own document (Ok value) h k = formulas_none need_own document h k
-formulas_none_of need_own document (Err fault) h k = tt
+    OnOk result ((need_own : Bool) → IsFound (IsTold (basis_of need_own document) document) formula_rows None)
+formulas_none_of document (Ok value) h k = λ need_own. formulas_none need_own document h k
+formulas_none_of document (Err fault) h k = tt

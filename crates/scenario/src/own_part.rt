@@ -8,10 +8,8 @@ ghost use Rattle.scenario_keys.specs.KeyValues.{integers_at, list_at, natural_at
 ghost use Rattle.predictions.specs.PredictValues.{predictions_of, ArePredictions};
 ghost use Rattle.scenario.specs.ScenarioValues.{grid_of, own_of, own_where, IsOwnPart};
 
-use crate::basis::tick_of;
 use crate::integers::{natural, optional};
 use crate::listed::{shorts, values_at};
-use crate::plan_sizes::natural_at;
 use lattice::Lattice;
 use predictions::{Predictions, predictions_of};
 use std::alloc::{AllocError, Global};
@@ -112,12 +110,7 @@ fn predictions_in(alloc: Global, document: &Table) -> Result<Predictions, AllocE
     ensures values { IfOk result (λ p. p ≡ predictions_of (list_at (codes "") (codes "predict") (table_view document.now))) }
     ensures in_range { IfOk result (ArePredictions (tick_of (table_view document.now)) (natural_at (codes "own") (codes "mmsi") (table_view document.now))) }
 {
-    predictions_of(
-        alloc,
-        tick_of(document),
-        natural_at(document, "mmsi"),
-        predict_tables(document),
-    )
+    predictions_of(alloc, predict_tables(document))
 }
 
 /// Own ship with this lattice, and with what is predicted.

@@ -30,7 +30,7 @@ fn values_of(alloc: Global, document: &Table, need_own: bool) -> Result<Scenario
     if let Some((key, cause)) = first_fault(basis, document) {
         return Err(ScenarioFault::Fault(key, cause));
     }
-    let rules = rules_in(alloc, document, need_own)?;
+    let rules = rules_in(alloc, document)?;
     if let Some((key, cause)) = own_fault(basis, document) {
         return Err(ScenarioFault::Fault(key, cause));
     }

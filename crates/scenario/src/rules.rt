@@ -1,5 +1,5 @@
 //! The rules of a scenario.
-ghost use Rattle.std.specs.Prelude.{◌≡◌, ◌≤◌, length, map, IfErr, IfOk, Some, None, OnOk, false};
+ghost use Rattle.std.specs.Prelude.{◌≡◌, ◌≤◌, Bool, length, map, IfErr, IfOk, Some, None, OnOk, false};
 ghost use Rattle.toml.specs.View.{table_view, view};
 ghost use Rattle.rule_set.specs.RuleTrees.{AreRuleNumbers, AreSafeMetres};
 ghost use Rattle.scenario_keys.specs.FirstFaults.{IsFound};
@@ -66,16 +66,12 @@ fn formula_tables(document: &Table) -> &[Value]
 }
 
 /// The rules of a document without a fault before those of its formulas, or the first fault of these.
-pub(crate) fn rules_in(
-    alloc: Global,
-    document: &Table,
-    need_own: bool,
-) -> Result<RuleSet, ScenarioFault>
+pub(crate) fn rules_in(alloc: Global, document: &Table) -> Result<RuleSet, ScenarioFault>
     requires { HaveNoFault false (table_view document.now) }
     ensures rules { IfOk result (AreRulesOf (table_view document.now)) }
     ensures light { IfOk result AreLightRules }
-    ensures faultless { OnOk result (IsFound (IsTold (basis_of need_own (table_view document.now)) (table_view document.now)) formula_rows None) }
-    ensures fault { IfErr result (IfFault (λ told. IsFound (IsTold (basis_of need_own (table_view document.now)) (table_view document.now)) formula_rows (Some told))) }
+    ensures faultless { OnOk result ((need_own : Bool) → IsFound (IsTold (basis_of need_own (table_view document.now)) (table_view document.now)) formula_rows None) }
+    ensures fault { IfErr result (IfFault (λ told. (need_own : Bool) → IsFound (IsTold (basis_of need_own (table_view document.now)) (table_view document.now)) formula_rows (Some told))) }
 {
     rules_with(
         alloc,

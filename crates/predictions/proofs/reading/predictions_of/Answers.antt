@@ -8,14 +8,14 @@ use Rattle.predictions.proofs.Ranges.{in_range, readable}
 use Rattle.predictions.proofs.reading.predictions_of.Goals as goal
 
 pub predicts_in-requires : goal.predicts_in-requires
-predicts_in-requires c = readable c.args.tick c.args.own c.args.tables.now c.requires.faultless
+predicts_in-requires c = readable c.args.tables.now c.requires.faultless
 
 pub returns-clause-values : goal.returns-clause-values
 returns-clause-values c = c.new.ensures ∙ c.in_ok-list.ensures ∙ sym (map-map predict_of view c.args.tables.now)
 
 pub returns-clause-in_range : goal.returns-clause-in_range
-returns-clause-in_range c =
+returns-clause-in_range c = λ tick own h.
     let few = c.requires.few in
     let many = length-map c.args.tables.now view in
-    subst (λ (l : List Predict). ArePredictions c.args.tick c.args.own l) (sym (returns-clause-values c))
-    (in_range c.args.tick c.args.own (map view c.args.tables.now) (omega arith) c.requires.faultless)
+    subst (λ (l : List Predict). ArePredictions tick own l) (sym (returns-clause-values c))
+    (in_range tick own (map view c.args.tables.now) (omega arith) h)

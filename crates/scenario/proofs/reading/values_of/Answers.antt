@@ -1,4 +1,4 @@
-use Rattle.std.proofs.Common.{List, Some, ap, sym, subst, ◌∙◌}
+use Rattle.std.proofs.Common.{Bool, List, Some, ap, sym, subst, ◌∙◌}
 use Rattle.std.proofs.lemmas.Result.{err_from_is_err_and}
 use Rattle.toml.specs.View.{table_view}
 use Rattle.rule_set.specs.NamedTrees.{NamedTree}
@@ -29,14 +29,14 @@ returns-in_err-rules-clause-fault c =
     let document = table_view c.args.document.now in
     let p = err_from_is_err_and c.from_residual.result c.from_residual.ensures.1 in
     rw (p.1, p.2)
-    (faults_alike (λ told. IsFound (IsTold (basis_of c.args.need_own document) document) formula_rows (Some told)) (IsFirstFault c.args.need_own document)
-    (λ told h. first_in_formulas c.args.need_own document told (rw c.basis_of-basis.ensures.value at c.in_default.ensures) h)
+    (faults_alike (λ told. (need_own : Bool) → IsFound (IsTold (basis_of need_own document) document) formula_rows (Some told)) (IsFirstFault c.args.need_own document)
+    (λ told h. first_in_formulas c.args.need_own document told (rw c.basis_of-basis.ensures.value at c.in_default.ensures) (h c.args.need_own))
     c.in_err-rules.field-0.0 c.in_err-rules.ensures.fault)
 
 pub returns-in-Some-own_fault-clause-fault : goal.returns-in-Some-own_fault-clause-fault
 returns-in-Some-own_fault-clause-fault c =
     first_in_own c.args.need_own (table_view c.args.document.now) (c.in-Some-own_fault.key, c.in-Some-own_fault.cause)
-    (rw c.basis_of-basis.ensures.value at c.in_default.ensures) c.in_ok-rules.ensures.faultless (rw c.basis_of-basis.ensures.value at c.in-Some-own_fault.ensures)
+    (rw c.basis_of-basis.ensures.value at c.in_default.ensures) (c.in_ok-rules.ensures.faultless c.args.need_own) (rw c.basis_of-basis.ensures.value at c.in-Some-own_fault.ensures)
 
 pub scenario_in-requires-clause-faultless : goal.scenario_in-requires-clause-faultless
 scenario_in-requires-clause-faultless c =
@@ -51,7 +51,7 @@ scenario_in-requires-clause-own c =
 
 pub returns-clause-faultless : goal.returns-clause-faultless
 returns-clause-faultless c =
-    faultless c.args.need_own (table_view c.args.document.now) (rw c.basis_of-basis.ensures.value at c.in_default.ensures) c.in_ok-rules.ensures.faultless
+    faultless c.args.need_own (table_view c.args.document.now) (rw c.basis_of-basis.ensures.value at c.in_default.ensures) (c.in_ok-rules.ensures.faultless c.args.need_own)
     (rw c.basis_of-basis.ensures.value at c.in_default-own_fault.ensures)
 
 pub returns-clause-rules : goal.returns-clause-rules

@@ -4,11 +4,11 @@ use Rattle.scenario.proofs.rules.rules_in.Goals as goal
 
 pub returns-clause-faultless : goal.returns-clause-faultless
 returns-clause-faultless c =
-    formulas_none_of c.args.need_own (table_view c.args.document.now) c.rules_with.result
+    formulas_none_of (table_view c.args.document.now) c.rules_with.result
     (rw (c.formula_tables.ensures.tables, c.tick_of.ensures.value) at c.rules_with.ensures.faultless)
     (rw (c.formula_tables.ensures.tables, c.rule_numbers_in.ensures.values, c.tick_of.ensures.value) at c.rules_with.ensures.weighed)
 
 pub returns-clause-fault : goal.returns-clause-fault
 returns-clause-fault c =
-    formulas_found c.args.need_own (table_view c.args.document.now) c.rules_with.result
+    formulas_found (table_view c.args.document.now) c.rules_with.result
     (rw (c.formula_tables.ensures.tables, c.rule_numbers_in.ensures.values, c.tick_of.ensures.value) at c.rules_with.ensures.fault)
