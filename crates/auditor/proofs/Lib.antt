@@ -1,6 +1,5 @@
 mod Members
 mod Pairs
-mod SeenVessels
 mod Ticks
 mod Different
 mod SameMarks
@@ -16,3 +15,5 @@ mod NextTick
 mod OneValue
 mod Stepping
 mod TotalsOf
+mod WorkedMeeting
+mod StillVessels

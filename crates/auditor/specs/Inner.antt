@@ -1,2 +1,3 @@
 pub mod AuditKeeping
 pub mod TracesKept
+pub mod WorkedMeeting

@@ -51,7 +51,7 @@ fn follow_one(
     requires totals { rules_of marks.old ≡ count_of program.now }
     requires room { first + count_of program.now + 1 < 2 ^ 64 }
     ensures ready { IsReady program.now (step + 1) trace.new }
-    ensures rules { rules_of marks.new ≡ rules_of marks.old }
+    ensures as_many { rules_of marks.new ≡ rules_of marks.old }
     ensures stands { OnOk result ((numbers : Numbers) (known : Known) (front mine back : List Track) (bound : ℕ) (given : List Row)
         → StandsFor program.now numbers trace.old known → IsAtStep step known → AreTracksSoFar numbers known mine → first ≡ length front
         → Keeps marks.old (length numbers.rules) (front ++ mine ++ back) bound given
@@ -88,7 +88,7 @@ fn follow_each(
     requires totals { rules_of marks.old ≡ count_of program.now }
     ensures ready { OnOk result (All (IsReady program.now (step + 1)) traces.new) }
     ensures many { length traces.new ≡ length traces.old }
-    ensures rules { rules_of marks.new ≡ rules_of marks.old }
+    ensures as_many { rules_of marks.new ≡ rules_of marks.old }
     ensures stands { OnOk result ((numbers : Numbers) (knowns : List Known) (tracks : List Track) (bound : ℕ) (given : List Row)
         → IsProgramOf program.now (formulas_of numbers) → AllZip (StandsFor program.now numbers) traces.old knowns → All (IsAtStep step) knowns → AreAllTracks numbers knowns tracks
         → Keeps marks.old (length numbers.rules) tracks bound given

@@ -1,5 +1,5 @@
 -- What an audit keeps of all traces.
-use Rattle.std.specs.Prelude.{ℕ, ◌≡◌, ◌<◌, List, [], ◌∷◌, ◌++◌, map}
+use Rattle.std.specs.Prelude.{ℕ, ◌≡◌, ◌-◌, List, [], ◌∷◌, ◌++◌, length, map, get_or}
 use Rattle.std.specs.List.{Contains}
 use Rattle.mtl_formulas.specs.FormulaTree.{FormulaTree}
 use Rattle.mtl_monitor.specs.Traces.{Trace}
@@ -9,6 +9,10 @@ use Rattle.meetings.specs.declared.pair.Pair.{Pair}
 use Rattle.audit_traces.specs.Audited.{Begins, Numbers, Sighting, trace_steps}
 use Rattle.auditor.specs.AuditTotals.{AreDifferent}
 use Rattle.audit_traces.specs.TraceKeeping.{AreRuleMarksSoFar, AreTracks, Known}
+
+-- the vessels seen at the last tick that was given; none where none was
+abbrev pub last_sighting : List Sighting → Sighting
+last_sighting ticks = get_or ticks (length ticks - 1) []
 
 abbrev pub pairs_of : List Known → List Pair
 pairs_of knowns = map (λ known. known.pair) knowns

@@ -40,10 +40,6 @@ pub record AreReady (kept : AllTraces) (most : ℕ) : Type 0 where
 abbrev pub traces_of : AllTraces → ℕ
 traces_of kept = length kept.traces.items
 
--- The pair has a trace.
-abbrev pub HasTraceOf : AllTraces → Pair → Type 0
-HasTraceOf kept pair = Contains kept.pairs.keys pair
-
 -- ---- what it stands for
 
 pub record Holds (kept : AllTraces) (numbers : Numbers) (knowns : List Known) (bound : ℕ) (given : List Row) : Type 0 where

@@ -38,8 +38,8 @@ loop-trace-preserved c =
     record {
       tracks_are = inv.tracks_are;
       few = omega arith;
-      totals = c.follow_one.ensures.rules ∙ inv.totals;
-      totals_were = c.follow_one.ensures.rules ∙ inv.totals_were;
+      totals = c.follow_one.ensures.as_many ∙ inv.totals;
+      totals_were = c.follow_one.ensures.as_many ∙ inv.totals_were;
       many = count ∙ inv.many;
       done = λ k d lt. elim (before_or_at k i lt) [
         | inl before ↦ (let ne : k ≢ i = omega arith in rw get_or-set_other (inv.done k d before))
