@@ -3,9 +3,9 @@ use Rattle.std.proofs.Common.{◌≡◌, ℕ, ◌+◌, ◌-◌, ◌<◌, ◌≤�
 use Rattle.mtl_monitor.specs.Following.{greatest_reach}
 use Rattle.audit_rows.specs.Tracks.{AreSettled, Track}
 use Rattle.audit_rows.specs.declared.row.Row.{Row}
-use Rattle.audit_traces.specs.Audited.{Numbers, Sighting}
+use Rattle.audit_traces.specs.Audited.{Numbers, Sighting, last_sighting}
 use Rattle.auditor.specs.AuditRows.{AreAuditRowsBelow}
-use Rattle.auditor.specs.Inner.AuditKeeping.{AreAllTracks, AreKnown, last_sighting}
+use Rattle.auditor.specs.Inner.AuditKeeping.{AreAllTracks, AreKnown}
 use Rattle.auditor.specs.Inner.TracesKept.{AreReady, AreSettledKnowns, HaveRowsBelow, Holds, HoldsNow}
 use Rattle.auditor.specs.Standing.{HaveMoreThan, settled_by}
 use Rattle.audit_traces.specs.TraceKeeping.{Known, StandsFor, formulas_of}

@@ -9,8 +9,7 @@ use Rattle.encounters.specs.declared.pair_step.PairStep.{PairStep}
 use Rattle.meetings.specs.Traces.{AreInContact, BeginsTrace, IsContactAt, step_at, step_between, steps_from}
 use Rattle.meetings.specs.declared.pair.Pair.{Pair}
 use Rattle.meetings.proofs.ForCallers.{steps_from-last}
-use Rattle.audit_traces.specs.Audited.{Begins, IsAudited, Numbers, Sighting, state_at, state_in, trace_steps}
-use Rattle.auditor.specs.Inner.AuditKeeping.{last_sighting}
+use Rattle.audit_traces.specs.Audited.{Begins, IsAudited, Numbers, Sighting, state_at, state_in, trace_steps, last_sighting}
 
 -- ---- the two orders of a pair
 

@@ -8,9 +8,9 @@ use Rattle.encounters.specs.declared.detect.Detect.{Detect}
 use Rattle.meetings.specs.declared.pair.Pair.{Pair}
 use Rattle.audit_rows.specs.Tracks.{Track}
 use Rattle.audit_rows.specs.declared.row.Row.{Row}
-use Rattle.audit_traces.specs.Audited.{AreAscending, ArePlaced, Begins, Numbers, Sighting}
+use Rattle.audit_traces.specs.Audited.{AreAscending, ArePlaced, Begins, Numbers, Sighting, last_sighting}
 use Rattle.auditor.specs.AuditTotals.{AreDifferent}
-use Rattle.auditor.specs.Inner.AuditKeeping.{AreKnown, last_sighting}
+use Rattle.auditor.specs.Inner.AuditKeeping.{AreKnown}
 use Rattle.auditor.specs.Inner.TracesKept.{AreReady, Holds}
 use Rattle.audit_traces.specs.Tallies.{Keeps}
 use Rattle.audit_traces.specs.TraceKeeping.{Known, formulas_of}

@@ -10,10 +10,6 @@ use Rattle.audit_traces.specs.Audited.{Begins, Numbers, Sighting, trace_steps}
 use Rattle.auditor.specs.AuditTotals.{AreDifferent}
 use Rattle.audit_traces.specs.TraceKeeping.{AreRuleMarksSoFar, AreTracks, Known}
 
--- the vessels seen at the last tick that was given; none where none was
-abbrev pub last_sighting : List Sighting → Sighting
-last_sighting ticks = get_or ticks (length ticks - 1) []
-
 abbrev pub pairs_of : List Known → List Pair
 pairs_of knowns = map (λ known. known.pair) knowns
 

@@ -9,5 +9,5 @@ invariant-loop-k l = record {
   sound : IsSound l.audit;
   at : given_of l.audit ≡ l.k;
   last : last_tick_of l.audit ≡ l.ticks;
-  moves : MoveLittle (latest_of l.audit) (head_on_at l.k)
+  moves : MoveLittle (latest_of l.audit) (head_on_at l.k);
 }

@@ -8,5 +8,5 @@ abbrev pub invariant-loop-k : goal.invariant-loop-k
 invariant-loop-k l = record {
   less : All (λ (vessel : ℕ × TickState). vessel.0 < 200000000 + l.k) l.seen.items;
   ascending : AreAscending l.seen.items;
-  placed : ArePlaced l.seen.items
+  placed : ArePlaced l.seen.items;
 }
