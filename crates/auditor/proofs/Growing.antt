@@ -1,5 +1,5 @@
 -- As traces begin.
-use Rattle.std.proofs.Common.{◌≡◌, ◌≢◌, ℕ, zero, suc, ◌+◌, ◌-◌, ◌<◌, ◌≤◌, ◌⊎◌, ◌↔◌, inl, inr, List, [], ◌∷◌, ◌++◌, length, map, append_assoc, append-nil, take, take_all, drop, refl, sym, ap, ap₂, subst, ◌∙◌, arith}
+use Rattle.std.proofs.Common.{◌≡◌, ℕ, suc, ◌+◌, ◌⊎◌, ◌↔◌, inl, inr, List, [], ◌∷◌, ◌++◌, length, map, append_assoc, append-nil, take, take_all, drop, refl, sym, ap, ap₂, subst, ◌∙◌, arith}
 use Rattle.std.specs.List.{AllByRecursion, AllZip, Contains}
 use Rattle.std.proofs.lemmas.List.{drop_all, map-append}
 use Rattle.std.proofs.lemmas.List.Elements.{Contains-append_left, Contains-append_right, Contains-append_cases}
@@ -9,9 +9,7 @@ use Rattle.rule_set.specs.NamedTrees.{NamedTree}
 use Rattle.meetings.specs.declared.pair.Pair.{Pair}
 use Rattle.audit_rows.specs.Tracks.{Track}
 use Rattle.audit_rows.specs.declared.mark.Mark.{Mark}
-use Rattle.audit_rows.specs.declared.topic.Topic.{Topic}
-use Rattle.audit_traces.specs.Audited.{IsAudited, Numbers, Sighting, state_in}
-use Rattle.auditor.specs.AuditTotals.{AreDifferent}
+use Rattle.audit_traces.specs.Audited.{Numbers, Sighting}
 use Rattle.auditor.specs.Inner.AuditKeeping.{AreAllTracks, AreTracksOfAll, pairs_of}
 use Rattle.auditor.specs.Inner.TracesKept.{IsFollowed}
 use Rattle.audit_traces.specs.Tallies.{IsUnknown, begun_rules, begun_tracks, pair_of}

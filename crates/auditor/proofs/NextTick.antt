@@ -1,9 +1,8 @@
 -- The traces that the ticks have begun, from one tick to the next.
-use Rattle.std.proofs.Common.{◌≡◌, ℕ, ◌+◌, ◌-◌, ◌<◌, ◌≤◌, zero, suc, ◌⊎◌, inl, inr, List, [], ◌∷◌, ◌++◌, length, length-append, map, get_or, refl, sym, ap, ap₂, subst, ◌∙◌, arith}
+use Rattle.std.proofs.Common.{◌≡◌, ℕ, ◌+◌, ◌-◌, ◌<◌, ◌≤◌, zero, suc, ◌⊎◌, inl, inr, List, [], ◌∷◌, ◌++◌, length, map, get_or, refl, sym, ap, ap₂, subst, ◌∙◌, arith}
 use Rattle.std.specs.Prelude.{All, Option}
 use Rattle.std.specs.List.{AllZip, Contains}
 use Rattle.std.proofs.lemmas.List.Elements.{All-contains, Contains-get_or}
-use Rattle.motion.specs.declared.leg.TickState.{TickState}
 use Rattle.encounters.specs.declared.pair_step.PairStep.{PairStep}
 use Rattle.meetings.specs.Traces.{AreInContact}
 use Rattle.meetings.specs.declared.pair.Pair.{Pair}
@@ -23,7 +22,7 @@ use Rattle.auditor.specs.Standing.{HaveMoreThan, settled_by}
 use Rattle.audit_traces.specs.TraceKeeping.{AreRuleMarksSoFar, AreTracksSoFar, Known, StandsFor, formulas_of}
 use Rattle.auditor.specs.declared.all_traces.AllTraces.{AllTraces}
 use Rattle.audit_traces.specs.declared.trace.AuditTrace.{AuditTrace}
-use Rattle.auditor.proofs.Different.{few_different, from_map, in_map, zip_right}
+use Rattle.auditor.proofs.Different.{few_different, from_map, zip_right}
 use Rattle.auditor.proofs.Growing.{each_track, pairs_followed}
 use Rattle.auditor.proofs.Members.{in_cons, in_head, in_none, in_tail}
 use Rattle.auditor.proofs.Ticks.{began_before, begins_back, begins_now, begins_still, begins_until, begun_within, contact_is_now, no_steps, steps_then}

@@ -1,16 +1,11 @@
 -- Each step has one answer to an atom.
-use Rattle.std.proofs.Common.{◌≡◌, ℕ, List, refl, sym, ◌∙◌}
+use Rattle.std.proofs.Common.{◌≡◌, ℕ, refl, sym, ◌∙◌}
 use Rattle.std.specs.Prelude.{Option, None, Some}
-use Rattle.mtl_formulas.specs.declared.atom.Atom.{Atom}
 use Rattle.mtl_formulas.specs.declared.atom.Atom.TheVariants.{Always, Never, Seen, Risk, Engaged, Begin, Overtaking, Overtaken, HeadOn, CrossingGives, CrossingStands, Passing, Unclassified, Age, Opening, Clear, Close, OtherOnPort, Ahead, Alters, Apparent, ToStarboard, ToPort, OtherApparent, RankGives, RankStands, BothPower}
 use Rattle.mtl_formulas.specs.declared.verdict.Verdict.{Verdict}
 use Rattle.mtl_formulas.specs.declared.verdict.Verdict.TheVariants.{No, Open, Yes}
 use Rattle.fixed_geometry.specs.Bearing.{bearing_of}
-use Rattle.encounters.specs.declared.act.Act.{Act}
-use Rattle.encounters.specs.declared.detect.Detect.{Detect}
-use Rattle.encounters.specs.declared.engagement_state.EngagementState.{EngagementState}
-use Rattle.encounters.specs.declared.pair_step.PairStep.{PairStep}
-use Rattle.meetings.specs.Atoms.{IsAtomValue, IsOnPort, Tells, WhereKnown}
+use Rattle.meetings.specs.Atoms.{IsOnPort, Tells, WhereKnown}
 use Rattle.meetings.proofs.Rows.{OneValue, one_row}
 use Rattle.auditor.proofs.SameMarks.{OneRow}
 

@@ -1,13 +1,12 @@
 -- What holds of each vessel that is seen holds of the state of any.
-use Rattle.std.proofs.Common.{◌≡◌, ℕ, ◌^◌, Bool, true, false, cond, List, [], ◌∷◌, refl, sym, ap, subst, ◌∙◌}
-use Rattle.std.specs.Prelude.{All, IfSome, Option, Some, None, ◌==◌}
+use Rattle.std.proofs.Common.{◌≡◌, ℕ, ◌^◌, true, false, cond, [], ◌∷◌}
+use Rattle.std.specs.Prelude.{All, IfSome, Option, Some, ◌==◌}
 use Rattle.std.specs.List.{find}
 use Rattle.std.specs.Option.{option_map}
 use Rattle.std.proofs.lemmas.List.Elements.{All-head, All-tail, All-weaker}
 use Rattle.fixed_geometry.specs.Sizes.{IsBelow}
 use Rattle.motion.specs.declared.leg.TickState.{TickState}
 use Rattle.encounters.specs.Directions.{HasDirection}
-use Rattle.encounters.specs.declared.pair_step.PairStep.{PairStep}
 use Rattle.meetings.specs.Traces.{IsPlaced, step_between}
 use Rattle.audit_traces.specs.Audited.{ArePlaced, Sighting, state_in}
 

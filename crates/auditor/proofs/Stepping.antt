@@ -1,14 +1,13 @@
 -- One tick of the whole audit.
-use Rattle.std.proofs.Common.{◌≡◌, ℕ, ◌+◌, ◌-◌, ◌<◌, ◌≤◌, List, [], ◌∷◌, ◌++◌, length, length-append, get_or, refl, sym, ap, subst, ◌∙◌, arith}
+use Rattle.std.proofs.Common.{◌≡◌, ℕ, ◌+◌, ◌-◌, ◌≤◌, List, [], ◌∷◌, ◌++◌, length, length-append, get_or, sym, ap, subst, ◌∙◌, arith}
 use Rattle.mtl_monitor.specs.Following.{greatest_reach}
-use Rattle.audit_rows.specs.Tracks.{AreSettled, Track}
+use Rattle.audit_rows.specs.Tracks.{AreSettled}
 use Rattle.audit_rows.specs.declared.row.Row.{Row}
 use Rattle.audit_traces.specs.Audited.{Numbers, Sighting, last_sighting}
 use Rattle.auditor.specs.AuditRows.{AreAuditRowsBelow}
-use Rattle.auditor.specs.Inner.AuditKeeping.{AreAllTracks, AreKnown}
 use Rattle.auditor.specs.Inner.TracesKept.{AreReady, AreSettledKnowns, HaveRowsBelow, Holds, HoldsNow}
 use Rattle.auditor.specs.Standing.{HaveMoreThan, settled_by}
-use Rattle.audit_traces.specs.TraceKeeping.{Known, StandsFor, formulas_of}
+use Rattle.audit_traces.specs.TraceKeeping.{StandsFor, formulas_of}
 use Rattle.auditor.specs.declared.all_traces.AllTraces.{AllTraces}
 use Rattle.auditor.proofs.Growing.{zip_length}
 use Rattle.auditor.proofs.NextTick.{no_more, rows_known, settled}

@@ -1,9 +1,9 @@
 -- Two vessels in contact, of which both traces begin.
-use Rattle.std.proofs.Common.{◌≡◌, ◌≢◌, ℕ, ◌+◌, ◌<◌, ◌≤◌, ◌⊎◌, ◌↔◌, inl, inr, List, [], ◌∷◌, ◌++◌, length, refl, sym, ap, subst, ◌∙◌, arith}
+use Rattle.std.proofs.Common.{◌≡◌, ℕ, ◌⊎◌, inl, inr, List, [], ◌∷◌, ◌++◌, refl, sym, ap, subst}
 use Rattle.std.specs.List.{Contains}
-use Rattle.std.proofs.lemmas.List.Elements.{Contains-append_left, Contains-append_cases}
+use Rattle.std.proofs.lemmas.List.Elements.{Contains-append_cases}
 use Rattle.meetings.specs.declared.pair.Pair.{Pair}
-use Rattle.audit_traces.specs.Audited.{IsAudited, Numbers, Sighting, state_in}
+use Rattle.audit_traces.specs.Audited.{Numbers, Sighting, state_in}
 use Rattle.auditor.specs.AuditTotals.{AreDifferent}
 use Rattle.auditor.specs.Inner.AuditKeeping.{pairs_of}
 use Rattle.auditor.specs.Inner.TracesKept.{Grew, HaveBoth, IsFresh, IsOpened, MayTake, swapped}

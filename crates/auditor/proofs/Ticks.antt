@@ -1,12 +1,11 @@
 -- What a further tick leaves as it was, and what it adds to a trace.
-use Rattle.std.proofs.Common.{◌≡◌, ◌≢◌, ℕ, ℤ, zero, suc, ◌+◌, ◌-◌, ◌*◌, ◌<◌, ◌≤◌, ◌⊎◌, inl, inr, ◌-ℤ◌, ◌*ℤ◌, ◌+ℤ◌, List, [], ◌∷◌, ◌++◌, length, length-append, get_or, get_or-append-add, refl, sym, ap, ap₂, subst, ◌∙◌, arith}
+use Rattle.std.proofs.Common.{◌≡◌, ℕ, ℤ, zero, suc, ◌+◌, ◌-◌, ◌*◌, ◌<◌, ◌≤◌, ◌⊎◌, inl, inr, ◌-ℤ◌, ◌*ℤ◌, ◌+ℤ◌, List, [], ◌∷◌, ◌++◌, length, length-append, get_or, get_or-append-add, refl, sym, ap, ap₂, subst, ◌∙◌, arith}
 use Rattle.std.specs.Prelude.{Option, Some, None, pos, ◌≤ℤ◌}
-use Rattle.std.specs.List.{Contains}
 use Rattle.std.proofs.lemmas.List.{get_or_append_left, get_or_past}
 use Rattle.fixed_geometry.proofs.ForCallers.{polynomials, diff_of, diff_same}
 use Rattle.motion.specs.declared.leg.TickState.{TickState}
 use Rattle.encounters.specs.declared.pair_step.PairStep.{PairStep}
-use Rattle.meetings.specs.Traces.{AreInContact, BeginsTrace, IsContactAt, step_at, step_between, steps_from}
+use Rattle.meetings.specs.Traces.{AreInContact, IsContactAt, step_at, step_between, steps_from}
 use Rattle.meetings.specs.declared.pair.Pair.{Pair}
 use Rattle.meetings.proofs.ForCallers.{steps_from-last}
 use Rattle.audit_traces.specs.Audited.{Begins, IsAudited, Numbers, Sighting, state_at, state_in, trace_steps, last_sighting}

@@ -1,12 +1,11 @@
 -- What the marks of all traces come to is what the definition counts.
-use Rattle.std.proofs.Common.{◌≡◌, ◌≢◌, ℕ, zero, suc, ◌+◌, ◌<◌, ◌≤◌, ◌==◌, Bool, true, false, cond, if◌then◌else◌, List, [], ◌∷◌, ◌++◌, length, map, refl, sym, ap, ap₂, subst, ◌∙◌, arith, eq-eqb, ne_eqb}
+use Rattle.std.proofs.Common.{◌≡◌, ◌≢◌, ℕ, zero, suc, ◌+◌, ◌<◌, Bool, true, false, cond, if◌then◌else◌, List, [], ◌∷◌, ◌++◌, length, map, refl, sym, ap, subst, ◌∙◌, arith, eq-eqb, ne_eqb}
 use Rattle.std.specs.Prelude.{IsSomeAnd, Option, None, Some, slice_get}
 use Rattle.std.specs.List.{Contains, filter, range_with_len, sum_by}
 use Rattle.std.proofs.lemmas.List.Sums.{sum_by-append, sum_by-cons}
-use Rattle.mtl_formulas.specs.FormulaTree.{FormulaTree}
 use Rattle.mtl_formulas.specs.declared.verdict.Verdict.{Verdict}
 use Rattle.mtl_formulas.specs.declared.verdict.Verdict.TheVariants.{No, Open, Yes}
-use Rattle.mtl_monitor.specs.Traces.{Trace, value_in}
+use Rattle.mtl_monitor.specs.Traces.{value_in}
 use Rattle.rule_set.specs.NamedTrees.{NamedTree, rule_at}
 use Rattle.encounters.specs.declared.pair_step.PairStep.{PairStep}
 use Rattle.meetings.specs.Atoms.{AreRows}
@@ -17,7 +16,7 @@ use Rattle.audit_rows.specs.declared.mark.Mark.{Mark}
 use Rattle.audit_rows.specs.declared.row.Row.{Row}
 use Rattle.audit_rows.specs.declared.topic.Topic.{Topic}
 use Rattle.audit_rows.specs.declared.topic.Topic.TheVariants as topic
-use Rattle.audit_traces.specs.Audited.{Begins, Numbers, Sighting, trace_steps}
+use Rattle.audit_traces.specs.Audited.{Numbers, Sighting}
 use Rattle.auditor.specs.AuditTotals.{AreDifferent, AreTotals, AreTraces, IsTotal, Traced, is_value, positions_with}
 use Rattle.audit_traces.specs.AuditTracks.{IsTraceOf}
 use Rattle.auditor.specs.Inner.AuditKeeping.{AreKnown, AreTracksOfAll, pairs_of}
@@ -27,8 +26,7 @@ use Rattle.audit_traces.specs.Tallies.{Tallies, counted, is_broken, is_nothing, 
 use Rattle.audit_traces.specs.TraceKeeping.{AreRuleMarksWhole, AreRuleTracks, AreTracks, Known}
 use Rattle.audit_traces.specs.ValueMarks.{mark_of}
 use Rattle.audit_traces.specs.declared.total.Total.{Total}
-use Rattle.auditor.proofs.Different.{from_map, in_map}
-use Rattle.auditor.proofs.Members.{in_head, in_tail}
+use Rattle.auditor.proofs.Different.{from_map}
 use Rattle.auditor.proofs.TracksOf.{HaveRows}
 
 -- ---- the traces

@@ -1,5 +1,5 @@
 -- The tracks that are kept, and the tracks of the definition.
-use Rattle.std.proofs.Common.{◌≡◌, ℕ, zero, suc, ◌+◌, ◌-◌, ◌<◌, ◌≤◌, ◌⊎◌, inl, inr, List, [], ◌∷◌, ◌++◌, length, map, append-nil, refl, sym, ap, subst, ◌∙◌, arith}
+use Rattle.std.proofs.Common.{◌≡◌, ℕ, zero, suc, ◌+◌, ◌<◌, inl, inr, List, [], ◌∷◌, ◌++◌, length, map, append-nil, sym, ap, subst, ◌∙◌, arith}
 use Rattle.std.specs.Prelude.{Option}
 use Rattle.std.specs.List.{Contains}
 use Rattle.std.proofs.lemmas.List.Elements.{Contains-append_left, Contains-append_right, Contains-append_cases}
@@ -16,7 +16,7 @@ use Rattle.audit_rows.specs.declared.topic.Topic.TheVariants.{Meeting, Verdict}
 use Rattle.auditor.proofs.Members.{in_cons, in_head, in_none, in_tail}
 use Rattle.audit_traces.specs.Audited.{Begins, Numbers, Sighting, trace_steps}
 use Rattle.audit_traces.specs.AuditTracks.{AreMarksOf, AreMeetingMarks, AreRuleMarks, IsTrack}
-use Rattle.auditor.specs.Inner.AuditKeeping.{AreKnown, AreTracksOfAll, IsKnown, pairs_of}
+use Rattle.auditor.specs.Inner.AuditKeeping.{AreKnown, AreTracksOfAll, IsKnown}
 use Rattle.audit_traces.specs.TraceKeeping.{AreMeetingMarksSoFar, AreRuleMarksWhole, AreRuleTracks, AreTracks, IsMeetingTrack, IsRuleTrack, Known}
 use Rattle.auditor.proofs.Different.{from_map}
 use Rattle.auditor.proofs.SameMarks.{OneRow, same_meeting_marks, same_rule_marks, same_trace}

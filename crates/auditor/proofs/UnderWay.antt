@@ -1,6 +1,5 @@
 -- As one trace after the other takes its step, or ends.
-use Rattle.std.proofs.Common.{◌≡◌, ℕ, zero, suc, ◌+◌, ◌-◌, ◌<◌, ◌≤◌, List, [], ◌∷◌, ◌++◌, length, length-append, get_or, set, drop, map, append_assoc, append-nil, refl, sym, ap, ap₂, subst, ◌∙◌, arith}
-use Rattle.std.specs.Prelude.{Option}
+use Rattle.std.proofs.Common.{◌≡◌, ℕ, suc, ◌+◌, ◌<◌, ◌≤◌, List, [], ◌∷◌, ◌++◌, length, length-append, get_or, set, drop, map, append_assoc, append-nil, refl, sym, ap, subst, ◌∙◌, arith}
 use Rattle.std.specs.List.{AllZip, Contains}
 use Rattle.std.proofs.lemmas.List.{drop_more, drop_all}
 use Rattle.std.proofs.Common.{drop-set-lt}
@@ -9,7 +8,6 @@ use Rattle.mtl_monitor.specs.Traces.{Trace}
 use Rattle.mtl_monitor.specs.Following.{IsProgramOf, count_of}
 use Rattle.mtl_monitor.specs.declared.program.Program.{Program}
 use Rattle.rule_set.specs.NamedTrees.{NamedTree}
-use Rattle.encounters.specs.declared.pair_step.PairStep.{PairStep}
 use Rattle.audit_rows.specs.Tracks.{Track}
 use Rattle.audit_rows.specs.declared.mark.Mark.{Mark}
 use Rattle.audit_rows.specs.declared.row.Row.{Row}
@@ -21,7 +19,7 @@ use Rattle.audit_traces.specs.TraceKeeping.{AreRuleMarksSoFar, AreRuleMarksWhole
 use Rattle.audit_traces.specs.declared.marks.Marks.{Marks}
 use Rattle.audit_traces.specs.declared.trace.AuditTrace.{AuditTrace}
 use Rattle.auditor.proofs.Growing.{tracks_push, zip_length, zip_push}
-use Rattle.auditor.proofs.Members.{in_head, in_none, in_tail}
+use Rattle.auditor.proofs.Members.{in_head, in_tail}
 
 -- ---- how many tracks a trace has
 

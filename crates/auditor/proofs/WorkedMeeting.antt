@@ -1,7 +1,6 @@
 -- The two vessels of the worked meeting move as a step may say.
-use Rattle.std.proofs.Common.{◌≡◌, ℕ, zero, suc, ◌+◌, ◌*◌, ◌<◌, ◌≤◌, ◌^◌, Bool, true, false, cond, List, [], ◌∷◌, arith}
+use Rattle.std.proofs.Common.{ℕ, zero, suc, ◌+◌, ◌*◌, ◌≤◌, ◌^◌, true, false, cond, [], ◌∷◌, arith}
 use Rattle.std.specs.Prelude.{Some, None, pos, neg_ℤ, ◌-ℤ◌, ◌==◌, Option}
-use Rattle.std.specs.List.{find}
 use Rattle.std.specs.Option.{option_map}
 use Rattle.std.proofs.lemmas.Int.{ints}
 use Rattle.std.proofs.lemmas.List.Elements.{All-cons, All-nil}
@@ -10,7 +9,7 @@ use Rattle.motion.specs.Displacement.{displacement}
 use Rattle.motion.specs.declared.leg.TickState.{TickState}
 use Rattle.encounters.specs.Directions.{HasDirection}
 use Rattle.meetings.specs.Traces.{IsShortMove}
-use Rattle.audit_traces.specs.Audited.{ArePlaced, AreAscending, MoveLittle, Sighting, state_in}
+use Rattle.audit_traces.specs.Audited.{ArePlaced, AreAscending, MoveLittle, Sighting}
 use Rattle.auditor.specs.Inner.WorkedMeeting.{head_on_at}
 
 pub from_none : (seen : Sighting) → MoveLittle [] seen

@@ -1,20 +1,13 @@
 -- What an audit stands for: its numbers, the vessels seen at the ticks that it was given, and the rows that it has given.
-use Rattle.std.specs.Prelude.{ℕ, ◌≡◌, ◌+◌, ◌-◌, ◌<◌, ◌≤◌, ◌↔◌, ◌≢◌, IsTrue, List, [], ◌∷◌, ◌++◌, length, map, All}
-use Rattle.std.specs.List.{AllZip, Contains}
-use Rattle.mtl_monitor.specs.Following.{IsProgramOf, greatest_reach}
-use Rattle.rule_set.specs.NamedTrees.{NamedTree}
-use Rattle.encounters.specs.declared.act.Act.{Act}
-use Rattle.encounters.specs.declared.detect.Detect.{Detect}
+use Rattle.std.specs.Prelude.{ℕ, ◌≡◌, ◌+◌, ◌-◌, ◌<◌, ◌≤◌, List, length, All}
+use Rattle.mtl_monitor.specs.Following.{greatest_reach}
 use Rattle.meetings.specs.declared.pair.Pair.{Pair}
-use Rattle.audit_rows.specs.Tracks.{Track}
 use Rattle.audit_rows.specs.declared.row.Row.{Row}
 use Rattle.audit_traces.specs.Audited.{AreAscending, ArePlaced, Begins, Numbers, Sighting, last_sighting}
 use Rattle.auditor.specs.AuditTotals.{AreDifferent}
 use Rattle.auditor.specs.Inner.AuditKeeping.{AreKnown}
 use Rattle.auditor.specs.Inner.TracesKept.{AreReady, Holds}
-use Rattle.audit_traces.specs.Tallies.{Keeps}
 use Rattle.audit_traces.specs.TraceKeeping.{Known, formulas_of}
-use Rattle.audit_traces.specs.TraceKeeping as trace
 use Rattle.auditor.specs.declared.audit.Audit.{Audit}
 
 -- how many positions ahead the farthest of the rules looks

@@ -1,5 +1,5 @@
 -- The worked head-on meeting: the two vessels at a tick.
-use Rattle.std.specs.Prelude.{ℕ, ◌*◌, List, [], ◌∷◌, Some, pos, neg_ℤ, ◌-ℤ◌}
+use Rattle.std.specs.Prelude.{ℕ, ◌*◌, [], ◌∷◌, Some, pos, neg_ℤ, ◌-ℤ◌}
 use Rattle.audit_traces.specs.Audited.{Sighting}
 
 abbrev pub head_on_at : ℕ → Sighting

@@ -1,6 +1,4 @@
-use Rattle.std.proofs.Common.{◌≡◌, ◌≢◌, ℕ, ◌+◌, ◌<◌, ◌≤◌, List, length, length-set, get_or-set_other, refl, ap, subst, ◌∙◌, arith}
-use Rattle.mtl_monitor.specs.Following.{count_of}
-use Rattle.audit_traces.specs.declared.marks.Marks.{Marks}
+use Rattle.std.proofs.Common.{◌≢◌, ℕ, ◌+◌, ◌<◌, ◌≤◌, List, length, length-set, get_or-set_other, refl, ap, ◌∙◌, arith}
 use Rattle.audit_traces.specs.declared.trace.AuditTrace.{AuditTrace}
 use Rattle.auditor.proofs.UnderWay.{ending_all, ending_more, ending_none}
 use Rattle.auditor.proofs.all_traces.end_each.Goals as goal

@@ -1,4 +1,4 @@
-use Rattle.std.proofs.Common.{◌≡◌, ℕ, ◌+◌, ◌-◌, List, length, subst, arith}
+use Rattle.std.proofs.Common.{◌≡◌, ◌+◌, ◌-◌, length, subst, arith}
 use Rattle.std.specs.List.{AllZip}
 use Rattle.audit_traces.specs.Audited.{Sighting}
 use Rattle.auditor.specs.Inner.TracesKept.{IsFollowed}

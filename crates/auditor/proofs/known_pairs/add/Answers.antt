@@ -1,4 +1,4 @@
-use Rattle.std.proofs.Common.{◌⊎◌, inl, inr, List, sym, subst}
+use Rattle.std.proofs.Common.{inl, inr, List, sym, subst}
 use Rattle.std.specs.List.{Contains}
 use Rattle.std.specs.BTreeSet.{insert_key}
 use Rattle.meetings.specs.declared.pair.Pair.{Pair}

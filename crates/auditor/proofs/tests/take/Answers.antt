@@ -1,4 +1,4 @@
-use Rattle.std.proofs.Common.{◌≡◌, ◌+◌, sym, subst, ◌∙◌}
+use Rattle.std.proofs.Common.{◌+◌, sym, subst, ◌∙◌}
 use Rattle.audit_traces.specs.Audited.{MoveLittle, Sighting}
 use Rattle.auditor.specs.Inner.WorkedMeeting.{head_on_at}
 use Rattle.auditor.proofs.WorkedMeeting.{moves_at}

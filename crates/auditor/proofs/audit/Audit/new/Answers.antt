@@ -1,4 +1,4 @@
-use Rattle.std.proofs.Common.{◌≡◌, ℕ, List, [], refl, subst, arith}
+use Rattle.std.proofs.Common.{◌≡◌, ℕ, [], refl, subst, arith}
 use Rattle.audit_traces.specs.Audited.{Numbers}
 use Rattle.auditor.specs.Inner.TracesKept.{Holds}
 use Rattle.auditor.specs.Standing.{settled_by}

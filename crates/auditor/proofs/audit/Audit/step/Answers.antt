@@ -1,5 +1,5 @@
-use Rattle.std.proofs.Common.{◌≡◌, ℕ, ◌+◌, ◌-◌, ◌≤◌, List, [], ◌∷◌, ◌++◌, length, Err, refl, sym, ap, subst, ◌∙◌, arith}
-use Rattle.audit_traces.specs.Audited.{AreAscending, ArePlaced, Numbers, Sighting, last_sighting}
+use Rattle.std.proofs.Common.{◌≡◌, ℕ, ◌+◌, ◌-◌, ◌++◌, length, Err, sym, ap, subst, ◌∙◌, arith}
+use Rattle.audit_traces.specs.Audited.{AreAscending, ArePlaced, Sighting}
 use Rattle.auditor.specs.Inner.TracesKept.{AreReady}
 use Rattle.auditor.specs.Standing.{settled_by}
 use Rattle.audit_traces.specs.TraceKeeping.{formulas_of}
