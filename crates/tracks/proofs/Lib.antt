@@ -8,3 +8,4 @@ pub mod Books
 pub mod OneList
 pub mod Settled
 pub mod EqualReports
+pub mod Seen

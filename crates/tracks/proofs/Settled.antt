@@ -134,7 +134,7 @@ no_legs : (numbers : Numbers) (sent : List Sent) (m : ℕ) → is_held numbers s
 unfolding legs_of
 no_legs numbers sent m h = ap (legs_between numbers.gap) (sym (no_points numbers sent m h))
 
-legs_in-is : (book : BookValue) (numbers : Numbers) (sent : List Sent) (m : ℕ) → StandsFor book numbers sent → legs_in book m ≡ legs_of numbers sent m
+pub legs_in-is : (book : BookValue) (numbers : Numbers) (sent : List Sent) (m : ℕ) → StandsFor book numbers sent → legs_in book m ≡ legs_of numbers sent m
 legs_in-is book numbers sent m h =
     (λ i. legs_among (h.holds i) (h.vessels i) m) ∙ decide (is_held numbers sent m) refl
   where

@@ -10,4 +10,5 @@ pub mod JoinedReports
 pub mod VesselsHeld
 pub mod FaultTexts
 pub mod Standing
+pub mod SeenVessels
 pub mod Inner

@@ -1,12 +1,17 @@
 //! The book of vessels.
-ghost use Rattle.std.specs.Prelude.{ℕ, true, ◌≡◌, ◌+◌, ◌<◌, ◌≤◌, ◌++◌, ◌∷◌, [], ◌↔◌, All, Contains, Err, IfOk, IfSome, List, None, OnErr, OnOk, Some, length, slice_get, vec_len, if◌then◌else◌};
+ghost use Rattle.std.specs.Prelude.{ℕ, true, ◌≡◌, ◌+◌, ◌^◌, ◌<◌, ◌≤◌, ◌++◌, ◌∷◌, [], ◌↔◌, All, Contains, Err, IfOk, IfSome, IsOk, List, None, OnErr, OnOk, Some, length, map, slice_get, slice_index, vec_capacity, vec_len, if◌then◌else◌};
 ghost use Rattle.std.specs.List.{insert};
-ghost use Rattle.std.specs.Option.{option_copied};
+ghost use Rattle.std.specs.List.Sorted.{IsStrictlyIncreasing};
+ghost use Rattle.std.specs.Option.{option_copied, option_to_list};
+ghost use Rattle.fixed_geometry.specs.Sizes.{IsBelow};
 ghost use Rattle.ais_messages.specs.MessageFields.{IsMessage, IsReport};
 ghost use Rattle.ais_messages.specs.declared.message.Message.TheVariants.{Position};
-ghost use Rattle.motion.specs.TickStates.{MovesLittle, state_at};
+ghost use Rattle.motion.specs.Displacement.{displacement};
+ghost use Rattle.motion.specs.TickStates.{IsTickState, MovesLittle, state_at};
+ghost use Rattle.motion.specs.declared.leg.TickState.{TickState};
 ghost use Rattle.tracks.specs.AcceptedReports.{Numbers};
 ghost use Rattle.tracks.specs.Inner.Keeping.{IsKept, makes_held};
+ghost use Rattle.tracks.specs.SeenVessels.{seen_in, seen_of, sighting};
 ghost use Rattle.tracks.specs.Standing.{IsAccepted, IsNumbers, StandsFor, legs_in, vessel_held};
 ghost use Rattle.tracks.specs.VesselsHeld.{Sent, accepted_of, entry_at, entry_of, held_of, is_held, legs_of, reported_in, sender_of, statics_of, with_number};
 ghost use Rattle.tracks.specs.declared.entry.BookFault.TheVariants.{TooManyVessels};
@@ -22,7 +27,7 @@ use crate::statics::Statics;
 use crate::vessel::Vessel;
 use ais_messages::{Message, PositionReport};
 use fixed_geometry::Reference;
-use motion::Legs;
+use motion::{Legs, TickState};
 use outside::Memory;
 use std::alloc::Global;
 use std::marker::Model;
@@ -305,6 +310,75 @@ impl Book {
         let legs = self.vessel_of(mmsi)?.legs();
         legs.moves_little(u64::from(self.numbers.gap));
         Some(legs)
+    }
+
+    /// The vessel that is held at this index.
+    fn vessel_at(&self, at: usize) -> &Vessel
+        requires { at < length self.now.held }
+        ensures legs { result.now.legs ≡ legs_in self.now (slice_index self.now.held at) }
+        ensures kept { IsKept self.now.numbers.gap result.now }
+    {
+        &self.vessels[at]
+    }
+
+    /// The legs of the vessel that is held at this index.
+    fn legs_at(&self, at: usize) -> &Legs
+        requires { at < length self.now.held }
+        ensures value { result.now ≡ legs_in self.now (slice_index self.now.held at) }
+        ensures moves { MovesLittle self.now.numbers.gap result.now }
+    {
+        let legs = self.vessel_at(at).legs();
+        legs.moves_little(u64::from(self.numbers.gap));
+        legs
+    }
+
+    /// Puts the vessel that is held at this index after the others, if she is seen at the time.
+    fn look_at(&self, at: usize, time: u64, seen: &mut Vec<(u32, TickState)>) -> Result<(), Memory>
+        requires { at < length self.now.held }
+        ensures more { OnOk result (seen.new.items
+            ≡ seen.old.items ++ option_to_list (sighting time (legs_in self.now) (slice_index self.now.held at))) }
+        ensures placed { OnOk result (All (λ (vessel : ℕ × TickState). IsTickState 2222400000 vessel.1) seen.old.items
+            → All (λ (vessel : ℕ × TickState). IsTickState 2222400000 vessel.1) seen.new.items) }
+        ensures few { vec_len seen.new ≤ vec_len seen.old + 1 }
+        ensures capacity { vec_capacity seen.old ≤ vec_capacity seen.new }
+        ensures room { vec_len seen.old < vec_capacity seen.old → IsOk result }
+    {
+        if let Some(state) = self.legs_at(at).at(time) {
+            seen.push((self.held[at], state))?;
+        }
+        Ok(())
+    }
+
+    /// Puts the vessels that are seen at a time, each with her state, in the place of what `seen` holds, in the order of their
+    /// identities. `seen` keeps its room, and where that is enough for all vessels held, there is always memory. Where there is
+    /// none, what `seen` holds is not told.
+    pub fn look(&self, time: u64, seen: &mut Vec<(u32, TickState)>) -> Result<(), Memory>
+        ensures value { OnOk result ((numbers : Numbers) (sent : List Sent) → StandsFor self.now numbers sent
+            → seen.new.items ≡ seen_of numbers sent time) }
+        ensures kept { OnOk result (seen.new.items ≡ seen_in self.now time) }
+        ensures ascending { OnOk result (IsStrictlyIncreasing (map (λ (vessel : ℕ × TickState). vessel.0) seen.new.items)) }
+        ensures placed { OnOk result (All (λ (vessel : ℕ × TickState). IsTickState 2222400000 vessel.1) seen.new.items) }
+        ensures capacity { vec_capacity seen.old ≤ vec_capacity seen.new }
+        ensures room { length self.now.held ≤ vec_capacity seen.old → IsOk result }
+    {
+        seen.clear();
+        for at in 0..self.held.len() {
+            self.look_at(at, time, seen)?;
+        }
+        Ok(())
+    }
+
+    /// A law of the book, which does nothing: from one time to another, at most a minute and at most the gap later, a vessel that
+    /// is seen at both moves by less than 2^25 in each component.
+    pub fn moves_little(&self)
+        ensures { (t u mmsi : ℕ) (before after : TickState) → t ≤ u → u ≤ t + 60 → u ≤ t + self.now.numbers.gap
+            → Contains (seen_in self.now t) (mmsi, before) → Contains (seen_in self.now u) (mmsi, after)
+            → IsBelow (2 ^ 25) (displacement before.point after.point) }
+    {
+        // The law holds of each vessel's legs.
+        for at in 0..self.held.len() {
+            let _ = self.legs_at(at);
+        }
     }
 
     /// What a vessel told of herself, or `None` where she is not held.

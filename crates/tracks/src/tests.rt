@@ -5,6 +5,7 @@ use super::*;
 use ais_messages::{Decoded, Message, PositionReport, ShipData, StaticReport, decode};
 use aivdm::{Body, Joined, Joiner, read_line};
 use fixed_geometry::{Point, Reference};
+use motion::TickState;
 use std::alloc::Global;
 use std::process::Abort;
 use std::test::Fail;
@@ -238,6 +239,37 @@ fn vessels_in_ascending_order(rt: HostRuntime) -> Result<(), Fail> {
     };
     assert_eq!(rt; first, OWN);
     assert_eq!(rt; second, OTHER);
+    Ok(())
+}
+
+/// Where a vessel is by her reports on the meridian, so far north.
+fn state(north: i64) -> TickState {
+    TickState {
+        point: Point { x: 0, y: north },
+        direction: Some(0),
+        speed: Some(180),
+    }
+}
+
+#[test]
+fn vessels_seen_in_ascending_order(rt: HostRuntime) -> Result<(), Fail> {
+    let mut book = book(rt.alloc(), 500)?;
+    let north = Message::Position(report(OTHER, 10));
+    let south = Message::Position(report(OTHER, 0));
+    let still = Message::Position(report(OWN, 0));
+    assert!(rt; book.take(&south, 1000).is_ok());
+    assert!(rt; book.take(&still, 1000).is_ok());
+    assert!(rt; book.take(&still, 1050).is_ok());
+    assert!(rt; book.take(&north, 1100).is_ok());
+    book.moves_little();
+    let mut seen = Vec::new(rt.alloc());
+    book.look(1050, &mut seen)?;
+    assert_eq!(rt;
+        seen.as_slice(),
+        [(OWN, state(0)), (OTHER, state(9260))].as_slice()
+    );
+    book.look(1100, &mut seen)?;
+    assert_eq!(rt; seen.as_slice(), [(OTHER, state(18520))].as_slice());
     Ok(())
 }
 
