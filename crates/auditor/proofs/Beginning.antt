@@ -1,42 +1,31 @@
 -- As the traces of one pair after the other begin.
 use Rattle.std.proofs.Common.{◌≡◌, ◌≢◌, ℕ, ◌+◌, ◌<◌, ◌⊎◌, inl, inr, List, [], ◌∷◌, length, get_or, take, sym, subst, arith}
-use Rattle.std.specs.List.{Contains}
+use Rattle.std.specs.List.{AllPairs, Contains}
 use Rattle.std.proofs.lemmas.List.{take_more}
 use Rattle.std.proofs.lemmas.List.Elements.{Contains-append_cases}
 use Rattle.meetings.specs.Traces.{AreInContact}
 use Rattle.meetings.specs.declared.pair.Pair.{Pair}
 use Rattle.audit_rows.specs.declared.row.Row.{Row}
 use Rattle.audit_traces.specs.Audited.{IsAudited, Numbers, Sighting, state_in}
-use Rattle.auditor.specs.AuditTotals.{AreDifferent}
 use Rattle.audit_traces.specs.Contacts.{AreContacts}
 use Rattle.auditor.specs.Inner.AuditKeeping.{pairs_of}
 use Rattle.auditor.specs.Inner.TracesKept.{AreBegun, AreTooMany, Grew, HaveBoth, Holds, IsTaken, MayTake, swapped}
 use Rattle.audit_traces.specs.TraceKeeping.{Known}
 use Rattle.auditor.specs.declared.all_traces.AllTraces.{AllTraces}
 use Rattle.auditor.proofs.Members.{in_cons, in_none}
-use Rattle.auditor.proofs.Taking.{grew_none, grew_on}
+use Rattle.auditor.proofs.Taking.{grew_on}
 use Rattle.auditor.proofs.Ticks.{audited_back, contact_back}
 
 -- The traces of these pairs have begun.
 pub record AreBegunSo (kept : AllTraces) (numbers : Numbers) (seen : Sighting) (start : ℕ) (before : List Known) (bound : ℕ) (given : List Row) (front : List Pair) : Type 0 where
   pub after : List Known
   pub holds : Holds kept numbers after bound given
-  pub once : AreDifferent (pairs_of after)
+  pub once : AllPairs ◌≢◌ (pairs_of after)
   pub both : HaveBoth after
   pub grew : Grew numbers seen (pairs_of before) start before after
   pub all : (pair : Pair) → Contains front pair → IsAudited numbers.subjects pair → Contains (pairs_of after) pair
 
 module _ (kept : AllTraces) (numbers : Numbers) (seen : Sighting) (start : ℕ) (before : List Known) (bound : ℕ) (given : List Row) where
-  pub begun_none : Holds kept numbers before bound given → AreDifferent (pairs_of before) → HaveBoth before → AreBegunSo kept numbers seen start before bound given []
-  begun_none h once both = record {
-    after = before;
-    holds = h;
-    once = once;
-    both = both;
-    grew = grew_none numbers seen (pairs_of before) start before;
-    all = λ pair i audited. in_none pair i;
-  }
-
   -- the next pair may be taken
   pub may_take : (subjects : List ℕ) (front : List Pair) (pair : Pair) → numbers.subjects ≡ subjects → pair.subject < pair.other
       → AreInContact numbers.detect.watch (state_in pair.subject seen) (state_in pair.other seen)

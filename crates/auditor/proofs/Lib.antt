@@ -1,3 +1,4 @@
+pub mod ForCallers
 mod Members
 mod Pairs
 mod Ticks
@@ -15,5 +16,7 @@ mod NextTick
 mod OneValue
 mod Stepping
 mod TotalsOf
+mod MoreTicks
+mod OneAudit
 mod WorkedMeeting
 mod StillVessels

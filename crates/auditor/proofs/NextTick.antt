@@ -1,7 +1,8 @@
 -- The traces that the ticks have begun, from one tick to the next.
-use Rattle.std.proofs.Common.{◌≡◌, ℕ, ◌+◌, ◌-◌, ◌<◌, ◌≤◌, zero, suc, ◌⊎◌, inl, inr, List, [], ◌∷◌, ◌++◌, length, map, get_or, refl, sym, ap, ap₂, subst, ◌∙◌, arith}
+use Rattle.std.proofs.Common.{◌≡◌, ◌≢◌, ℕ, ◌+◌, ◌-◌, ◌<◌, ◌≤◌, zero, suc, ◌⊎◌, inl, inr, List, [], ◌∷◌, ◌++◌, length, map, get_or, sym, ap, ap₂, subst, ◌∙◌, arith}
 use Rattle.std.specs.Prelude.{All, Option}
-use Rattle.std.specs.List.{AllZip, Contains}
+use Rattle.std.specs.List.{AllPairs, AllZip, Contains}
+use Rattle.std.proofs.lemmas.List.{length-map}
 use Rattle.std.proofs.lemmas.List.Elements.{All-contains, Contains-get_or}
 use Rattle.encounters.specs.declared.pair_step.PairStep.{PairStep}
 use Rattle.meetings.specs.Traces.{AreInContact}
@@ -15,14 +16,13 @@ use Rattle.audit_rows.specs.Tracks.{AreSettled, Track, next_step}
 use Rattle.audit_rows.specs.declared.row.Row.{Row}
 use Rattle.audit_rows.proofs.ForCallers.{settled_by_reach}
 use Rattle.audit_traces.specs.Audited.{Begins, Numbers, Sighting, state_at, trace_steps, last_sighting}
-use Rattle.auditor.specs.AuditTotals.{AreDifferent}
 use Rattle.auditor.specs.Inner.AuditKeeping.{AreAllTracks, AreKnown, IsKnown, pairs_of}
-use Rattle.auditor.specs.Inner.TracesKept.{AreBegun, AreKnownOn, AreTooMany, HaveBoth, IsAtStep, IsFollowed, IsFresh, IsOpened, step_of, swapped}
+use Rattle.auditor.specs.Inner.TracesKept.{AreBegun, AreKnownOn, AreTooMany, HaveBoth, IsAtStep, IsFollowed, IsFresh, IsNextTick, IsOpened, MayBegin, step_of, swapped}
 use Rattle.auditor.specs.Standing.{HaveMoreThan, settled_by}
 use Rattle.audit_traces.specs.TraceKeeping.{AreRuleMarksSoFar, AreTracksSoFar, Known, StandsFor, formulas_of}
 use Rattle.auditor.specs.declared.all_traces.AllTraces.{AllTraces}
 use Rattle.audit_traces.specs.declared.trace.AuditTrace.{AuditTrace}
-use Rattle.auditor.proofs.Different.{few_different, from_map, zip_right}
+use Rattle.auditor.proofs.Different.{different_cons, few_different, from_map, zip_right}
 use Rattle.auditor.proofs.Growing.{each_track, pairs_followed}
 use Rattle.auditor.proofs.Members.{in_cons, in_head, in_none, in_tail}
 use Rattle.auditor.proofs.Ticks.{began_before, begins_back, begins_now, begins_still, begins_until, begun_within, contact_is_now, no_steps, steps_then}
@@ -84,7 +84,7 @@ module _ (numbers : Numbers) (ticks : List Sighting) where
           each = λ known i. let (old, j, f) = zip_member (IsFollowed (last_sighting ticks) seen) knowns after known z i in followed_known old known (are.each old j) f;
           all = λ pair start begins. subst (λ (ps : List Pair). Contains ps pair) (sym same) (are.all pair start begins);
           before = λ pair i. began knowns are pair (subst (λ (ps : List Pair). Contains ps pair) same i);
-          once = subst (λ (ps : List Pair). AreDifferent ps) (sym same) are.once;
+          once = subst (λ (ps : List Pair). AllPairs ◌≢◌ ps) (sym same) are.once;
         }
 
     -- before the first tick there are none
@@ -96,10 +96,14 @@ module _ (numbers : Numbers) (ticks : List Sighting) where
       once = are.once;
     }
 
-    pub have_both : (knowns : List Known) → AreKnownOn numbers ticks seen knowns → HaveBoth knowns
+    have_both : (knowns : List Known) → AreKnownOn numbers ticks seen knowns → HaveBoth knowns
     have_both knowns on pair i = let (start, begins) = on.before pair i in on.all (swapped pair) start (begins_back numbers ticks pair start begins)
 
     -- ---- traces begin
+
+    pub may_begin : (subjects : List ℕ) (last_tick given bound : ℕ) (knowns : List Known) → AreKnownOn numbers ticks seen knowns → IsNextTick numbers ticks subjects last_tick given bound
+        → MayBegin numbers subjects knowns given bound
+    may_begin subjects last_tick given bound knowns on next = record { chosen = next.chosen; once = on.once; both = have_both knowns on; early = next.early }
 
     module _ (knowns : List Known) (on : AreKnownOn numbers ticks seen knowns) where
       pub known_still : numbers.last_tick ≤ length ticks → AreKnown numbers (ticks ++ seen ∷ []) knowns
@@ -135,10 +139,6 @@ module _ (numbers : Numbers) (ticks : List Sighting) where
 
         -- ---- the limit
 
-        map_length : (xs : List Known) → length (pairs_of xs) ≡ length xs
-        map_length [] = refl
-        map_length (x ∷ xs) = ap suc (map_length xs)
-
         full_begins : (full : List Known) → ((known : Known) → Contains full known → Contains knowns known ⊎ IsOpened numbers seen (pairs_of knowns) (length ticks) known)
             → (pair : Pair) → Contains (pairs_of full) pair → (start : ℕ) × Begins numbers (ticks ++ seen ∷ []) pair start
         full_begins full each pair i =
@@ -148,12 +148,12 @@ module _ (numbers : Numbers) (ticks : List Sighting) where
 
         pub have_more : AreTooMany numbers seen (pairs_of knowns) (length ticks) knowns → HaveMoreThan 4096 numbers (ticks ++ seen ∷ [])
         have_more t =
-            let count = map_length t.full in
+            let count = length-map t.full (λ (k : Known). k.pair) in
             let many = t.many in
             record {
               pairs = t.further ∷ pairs_of t.full;
               many = omega arith;
-              once = (t.new, t.once);
+              once = different_cons t.further (pairs_of t.full) t.new t.once;
               begin = all_members (λ pair. (start : ℕ) × Begins numbers (ticks ++ seen ∷ []) pair start) (t.further ∷ pairs_of t.full) (λ pair i. elim (in_cons t.further (pairs_of t.full) pair i) [
                 | inl same ↦ (length ticks, subst (λ (p : Pair). Begins numbers (ticks ++ seen ∷ []) p (length ticks)) same (fresh_begins t.further t.fresh))
                 | inr later ↦ full_begins t.full t.grew.each pair later
@@ -164,13 +164,9 @@ module _ (numbers : Numbers) (ticks : List Sighting) where
   no_more knowns are few m =
       let le = few_different m.pairs (pairs_of knowns) m.once
       (λ pair i. let (start, begins) = All-contains (λ (p : Pair). (s : ℕ) × Begins numbers ticks p s) m.pairs pair m.begin i in are.all pair start begins) in
-      let count = pairs_length knowns in
+      let count = length-map knowns (λ (k : Known). k.pair) in
       let many = m.many in
       omega arith
-    where
-      pairs_length : (xs : List Known) → length (pairs_of xs) ≡ length xs
-      pairs_length [] = refl
-      pairs_length (x ∷ xs) = ap suc (pairs_length xs)
 
   -- ---- what is settled
 

@@ -1,13 +1,16 @@
--- Each step has one answer to an atom.
-use Rattle.std.proofs.Common.{◌≡◌, ℕ, refl, sym, ◌∙◌}
+-- Each step has one answer to an atom, and steps have one list of them.
+use Rattle.std.proofs.Common.{◌≡◌, ℕ, List, refl, sym, ◌∙◌}
 use Rattle.std.specs.Prelude.{Option, None, Some}
 use Rattle.mtl_formulas.specs.declared.atom.Atom.TheVariants.{Always, Never, Seen, Risk, Engaged, Begin, Overtaking, Overtaken, HeadOn, CrossingGives, CrossingStands, Passing, Unclassified, Age, Opening, Clear, Close, OtherOnPort, Ahead, Alters, Apparent, ToStarboard, ToPort, OtherApparent, RankGives, RankStands, BothPower}
 use Rattle.mtl_formulas.specs.declared.verdict.Verdict.{Verdict}
 use Rattle.mtl_formulas.specs.declared.verdict.Verdict.TheVariants.{No, Open, Yes}
 use Rattle.fixed_geometry.specs.Bearing.{bearing_of}
-use Rattle.meetings.specs.Atoms.{IsOnPort, Tells, WhereKnown}
-use Rattle.meetings.proofs.Rows.{OneValue, one_row}
-use Rattle.auditor.proofs.SameMarks.{OneRow}
+use Rattle.mtl_monitor.specs.Traces.{Trace}
+use Rattle.encounters.specs.declared.act.Act.{Act}
+use Rattle.encounters.specs.declared.detect.Detect.{Detect}
+use Rattle.encounters.specs.declared.pair_step.PairStep.{PairStep}
+use Rattle.meetings.specs.Atoms.{AreRows, IsOnPort, Tells, WhereKnown}
+use Rattle.meetings.proofs.Rows.{OneValue, one_list}
 
 tells_one : (H : Type 0) (v w : Verdict) → Tells H v → Tells H w → v ≡ w
 tells_one H Yes Yes h k = refl
@@ -51,5 +54,5 @@ one_value detect act tick state seen RankGives v w h k = h ∙ sym k
 one_value detect act tick state seen RankStands v w h k = h ∙ sym k
 one_value detect act tick state seen BothPower v w h k = tells_one _ v w h k
 
-pub one_answer : OneRow
-one_answer = one_row one_value
+pub same_trace : (detect : Detect) (act : Act) (tick : ℕ) (steps : List (Option PairStep)) (trace other : Trace) → AreRows detect act tick steps trace → AreRows detect act tick steps other → trace ≡ other
+same_trace = one_list one_value

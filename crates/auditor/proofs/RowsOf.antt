@@ -15,7 +15,7 @@ use Rattle.auditor.specs.AuditRows.{AreAuditRows, AreAuditRowsBelow, IsAuditRow}
 use Rattle.audit_traces.specs.AuditTracks.{IsTrack}
 use Rattle.auditor.specs.Inner.AuditKeeping.{AreKnown, AreTracksOfAll}
 use Rattle.audit_traces.specs.TraceKeeping.{AreRuleMarksSoFar, AreRuleMarksWhole, Known}
-use Rattle.auditor.proofs.SameMarks.{OneRow, go_on}
+use Rattle.auditor.proofs.SameMarks.{go_on}
 use Rattle.auditor.proofs.TracksOf.{GoesOn, HaveRows, becomes, comes}
 
 -- ---- so far
@@ -42,7 +42,7 @@ settled_at bound (t ∷ ts) track s i =
 closed : (bound last first next count : ℕ) → bound ≤ first + (count - 1) → first ≤ last → next ≡ first + count → last < bound → last + 1 < next
 closed bound last first next count b f n lt = omega arith
 
-module _ (one : OneRow) (numbers : Numbers) (ticks : List Sighting) (knowns : List Known) (are : AreKnown numbers ticks knowns) (rows_of : HaveRows numbers knowns) (tracks : List Track) where
+module _ (numbers : Numbers) (ticks : List Sighting) (knowns : List Known) (are : AreKnown numbers ticks knowns) (rows_of : HaveRows numbers knowns) (tracks : List Track) where
   pub audit_rows_below : (bound : ℕ) (rows : List Row) → AreTracksOfAll AreRuleMarksSoFar numbers knowns tracks → AreSettled bound tracks → AreRowsBelow bound tracks rows → AreAuditRowsBelow numbers ticks bound rows
   audit_rows_below bound rows all settled h = record {
     each = λ row. (
@@ -63,7 +63,7 @@ module _ (one : OneRow) (numbers : Numbers) (ticks : List Sighting) (knowns : Li
 
       here : (row : Row) (whole : Track) → IsTrack numbers ticks whole → IsRowOf whole row → last_of row < bound → IsRow tracks row
       here row whole is of lt =
-          let c = comes AnyRest AreRuleMarksSoFar any so_far numbers ticks knowns are rows_of tracks all one whole is in
+          let c = comes AnyRest AreRuleMarksSoFar any so_far numbers ticks knowns are rows_of tracks all whole is in
           let track : Track = c.track in
           let longer : IsRowOf (record track { marks = track.marks ++ c.more }) row = subst (λ (t : Track). IsRowOf t row) c.is of in
           let from : track.first ≤ first_of row = (row_within (record track { marks = track.marks ++ c.more }) row longer).0 in
@@ -96,7 +96,7 @@ unfolding with_marks
 same_track track more e =
     ap (λ (ms : List Mark). with_marks track (track.marks ++ ms)) e ∙ ap (λ (ms : List Mark). with_marks track ms) (append-nil track.marks)
 
-module _ (one : OneRow) (numbers : Numbers) (ticks : List Sighting) (knowns : List Known) (are : AreKnown numbers ticks knowns) (rows_of : HaveRows numbers knowns) (tracks : List Track) where
+module _ (numbers : Numbers) (ticks : List Sighting) (knowns : List Known) (are : AreKnown numbers ticks knowns) (rows_of : HaveRows numbers knowns) (tracks : List Track) where
   pub audit_rows : (rows : List Row) → AreTracksOfAll AreRuleMarksWhole numbers knowns tracks → AreRows tracks rows → AreAuditRows numbers ticks rows
   audit_rows rows all h = record {
     each = λ row. (
@@ -114,5 +114,5 @@ module _ (one : OneRow) (numbers : Numbers) (ticks : List Sighting) (knowns : Li
 
       here : (row : Row) (whole : Track) → IsTrack numbers ticks whole → IsRowOf whole row → IsRow tracks row
       here row whole is of =
-          let c = comes NoRest AreRuleMarksWhole nothing whole_already numbers ticks knowns are rows_of tracks all one whole is in
+          let c = comes NoRest AreRuleMarksWhole nothing whole_already numbers ticks knowns are rows_of tracks all whole is in
           in_rows tracks c.track row c.held (subst (λ (t : Track). IsRowOf t row) (c.is ∙ same_track c.track c.more (rest_none c.more c.rest)) of)

@@ -1,22 +1,16 @@
 -- There is one mark for each position of a trace.
-use Rattle.std.proofs.Common.{◌≡◌, ℕ, zero, suc, ◌+◌, ◌-◌, ◌<◌, ◌≤◌, ◌⊎◌, inl, inr, List, [], ◌∷◌, ◌++◌, length, length-append, get_or, append-nil, ext_get_or, refl, sym, ap, subst, ◌∙◌, arith}
+use Rattle.std.proofs.Common.{◌≡◌, ℕ, zero, suc, ◌+◌, ◌-◌, ◌<◌, ◌≤◌, ◌⊎◌, inl, inr, List, [], ◌∷◌, ◌++◌, length, length-append, get_or, append-nil, ext_get_or, refl, sym, ap, ◌∙◌, arith}
 use Rattle.std.specs.Prelude.{Option, None, Some, IsSomeAnd}
-use Rattle.std.proofs.Math.Path.{fun_ext}
 use Rattle.std.proofs.lemmas.List.{get_or_append_left, get_or-append_right}
-use Rattle.std.proofs.lemmas.Option.{same_Some, slice_get-get_or}
+use Rattle.std.proofs.lemmas.Option.{same_Some}
 use Rattle.sectors.specs.declared.class.Class.{Class}
 use Rattle.mtl_formulas.specs.FormulaTree.{FormulaTree}
-use Rattle.mtl_formulas.specs.declared.atom.Atom.{Atom}
-use Rattle.mtl_formulas.specs.declared.verdict.Verdict.{Verdict}
-use Rattle.mtl_formulas.specs.declared.verdict.Verdict.TheVariants.{Open}
 use Rattle.mtl_monitor.specs.Traces.{Trace, value_in}
 use Rattle.encounters.specs.Engagement.{seen_at}
-use Rattle.encounters.specs.declared.act.Act.{Act}
 use Rattle.encounters.specs.declared.detect.Detect.{Detect}
 use Rattle.encounters.specs.declared.engagement_state.EngagementState.TheVariants as state
 use Rattle.encounters.specs.declared.pair_step.PairStep.{PairStep}
 use Rattle.encounters.proofs.OneState.{one_state}
-use Rattle.meetings.specs.Atoms.{AreRows, IsAtomRow}
 use Rattle.meetings.specs.SinceBeginning.{kind_of}
 use Rattle.audit_rows.specs.Stretches.{mark_at}
 use Rattle.audit_rows.specs.declared.mark.Mark.{Mark}
@@ -66,25 +60,6 @@ same_meeting_marks numbers steps marks others h k =
     let count = h.count in
     let other_count = k.count in
     ext_get_or Nothing marks others (omega arith) (λ i lt. one_meeting_mark numbers.detect steps i (mark_at marks i) (mark_at others i) (h.each i lt) (k.each i (omega arith)))
-
--- ---- what the steps answer to the atoms
-
-abbrev pub OneRow : Type 0
-OneRow = (detect : Detect) (act : Act) (tick : ℕ) (steps : List (Option PairStep)) (i : ℕ) (answers others : Atom → Verdict) (atom : Atom) →
-    IsAtomRow detect act tick steps i answers → IsAtomRow detect act tick steps i others → answers atom ≡ others atom
-
-module _ (one : OneRow) (detect : Detect) (act : Act) (tick : ℕ) (steps : List (Option PairStep)) where
-  row_at : (rows : Trace) (d : Atom → Verdict) (i : ℕ) → AreRows detect act tick steps rows → i < length rows → IsAtomRow detect act tick steps i (get_or rows i d)
-  row_at rows d i h lt =
-      let count = h.count in
-      subst (λ (o : Option (Atom → Verdict)). IsSomeAnd o (IsAtomRow detect act tick steps i)) (slice_get-get_or rows i d lt) (h.each i (omega arith))
-
-  pub same_trace : (rows others : Trace) → AreRows detect act tick steps rows → AreRows detect act tick steps others → rows ≡ others
-  same_trace rows others h k =
-      let count = h.count in
-      let other_count = k.count in
-      let d : Atom → Verdict = λ atom. Open in
-      ext_get_or d rows others (omega arith) (λ i lt. fun_ext (λ atom. one detect act tick steps i (get_or rows i d) (get_or others i d) atom (row_at rows d i h lt) (row_at others d i k (omega arith))))
 
 -- ---- rules
 

@@ -5,16 +5,22 @@ use Rattle.audit_rows.specs.Tracks.{AreSettled}
 use Rattle.audit_rows.specs.declared.row.Row.{Row}
 use Rattle.audit_traces.specs.Audited.{Numbers, Sighting, last_sighting}
 use Rattle.auditor.specs.AuditRows.{AreAuditRowsBelow}
-use Rattle.auditor.specs.Inner.TracesKept.{AreReady, AreSettledKnowns, HaveRowsBelow, Holds, HoldsNow}
-use Rattle.auditor.specs.Standing.{HaveMoreThan, settled_by}
+use Rattle.auditor.specs.Inner.TracesKept.{AreReady, AreSettledKnowns, HaveRowsBelow, Holds, HoldsNow, IsNextTick}
+use Rattle.auditor.specs.Standing.{HaveMoreThan, StandsFor as AuditStandsFor, settled_by}
 use Rattle.audit_traces.specs.TraceKeeping.{StandsFor, formulas_of}
 use Rattle.auditor.specs.declared.all_traces.AllTraces.{AllTraces}
+use Rattle.auditor.specs.declared.audit.Audit.{Audit}
 use Rattle.auditor.proofs.Growing.{zip_length}
 use Rattle.auditor.proofs.NextTick.{no_more, rows_known, settled}
-use Rattle.auditor.proofs.OneValue.{one_answer}
 use Rattle.auditor.proofs.RowsOf.{audit_rows_below}
 use Rattle.auditor.proofs.Ticks.{given_now}
 use Rattle.auditor.proofs.TracksOf.{HaveRows}
+
+pub next_tick : (numbers : Numbers) (ticks : List Sighting) (audit : Audit) (given : List Row) (subjects : List ℕ) → subjects ≡ audit.subjects.items → AuditStandsFor audit numbers ticks given
+    → IsNextTick numbers ticks subjects audit.last_tick audit.given (settled_by numbers (length ticks - 1))
+next_tick numbers ticks audit given subjects e s =
+    let count = s.count in
+    record { count = s.count; chosen = sym s.subjects ∙ sym e; last = sym s.last_tick; early = omega arith }
 
 module _ (numbers : Numbers) (ticks : List Sighting) (seen : Sighting) where
   pub counted : length ticks + 1 ≡ length (ticks ++ seen ∷ [])
@@ -25,9 +31,6 @@ module _ (numbers : Numbers) (ticks : List Sighting) (seen : Sighting) where
       let e = length-append ticks (seen ∷ []) in
       let at : length (ticks ++ seen ∷ []) - 1 ≡ length ticks = omega arith in
       ap (λ (k : ℕ). get_or (ticks ++ seen ∷ []) k []) at ∙ given_now ticks seen
-
-  pub early_bound : (given : ℕ) → given ≡ length ticks → settled_by numbers (length ticks - 1) ≤ given
-  early_bound given e = omega arith
 
   pub bound_of : (given reach less bound : ℕ) → given ≡ length ticks → reach ≡ greatest_reach (formulas_of numbers) → less ≡ given - reach → bound ≡ less - 1 → bound ≡ settled_by numbers (length ticks)
   bound_of given reach less bound e f g h = omega arith
@@ -53,7 +56,7 @@ module _ (numbers : Numbers) (ticks : List Sighting) (seen : Sighting) where
       pub rows_given : (rows : List Row) → HaveRowsBelow bound numbers now.knowns rows → AreAuditRowsBelow numbers (ticks ++ seen ∷ []) (settled_by numbers (length ticks)) rows
       rows_given rows h =
           subst (λ (b : ℕ). AreAuditRowsBelow numbers (ticks ++ seen ∷ []) b rows) is
-          (audit_rows_below one_answer numbers (ticks ++ seen ∷ []) now.knowns now.are_known have_rows h.tracks bound rows h.are_tracks (all_settled h.tracks h.are_tracks) h.are_rows)
+          (audit_rows_below numbers (ticks ++ seen ∷ []) now.knowns now.are_known have_rows h.tracks bound rows h.are_tracks (all_settled h.tracks h.are_tracks) h.are_rows)
 
       pub held : (next : AllTraces) (rows : List Row) → Holds next numbers now.knowns bound rows → Holds next numbers now.knowns (settled_by numbers (length (ticks ++ seen ∷ []) - 1)) rows
       held next rows h =

@@ -1,10 +1,9 @@
 -- Two vessels in contact, of which both traces begin.
-use Rattle.std.proofs.Common.{◌≡◌, ℕ, ◌⊎◌, inl, inr, List, [], ◌∷◌, ◌++◌, refl, sym, ap, subst}
-use Rattle.std.specs.List.{Contains}
+use Rattle.std.proofs.Common.{◌≡◌, ◌≢◌, ℕ, ◌⊎◌, inl, inr, List, [], ◌∷◌, ◌++◌, refl, sym, ap, subst}
+use Rattle.std.specs.List.{AllPairs, Contains}
 use Rattle.std.proofs.lemmas.List.Elements.{Contains-append_cases}
 use Rattle.meetings.specs.declared.pair.Pair.{Pair}
 use Rattle.audit_traces.specs.Audited.{Numbers, Sighting, state_in}
-use Rattle.auditor.specs.AuditTotals.{AreDifferent}
 use Rattle.auditor.specs.Inner.AuditKeeping.{pairs_of}
 use Rattle.auditor.specs.Inner.TracesKept.{Grew, HaveBoth, IsFresh, IsOpened, MayTake, swapped}
 use Rattle.audit_traces.specs.TraceKeeping.{Known, opened}
@@ -65,9 +64,9 @@ module _ (numbers : Numbers) (seen : Sighting) (old : List Pair) (start : ℕ) w
           | inr same ↦ may.two (ap (λ (p : Pair). p.subject) same)
         ]
 
-    pub once_mid : AreDifferent (pairs_of mid)
+    pub once_mid : AllPairs ◌≢◌ (pairs_of mid)
     unfolding mid
-    once_mid = subst (λ (ps : List Pair). AreDifferent ps) (sym (pairs_push knowns pair start)) (different_push (pairs_of knowns) pair may.once new)
+    once_mid = subst (λ (ps : List Pair). AllPairs ◌≢◌ ps) (sym (pairs_push knowns pair start)) (different_push (pairs_of knowns) pair may.once new)
 
     pub after : List Known
     after = mid ++ opened (swapped pair) start ∷ []
@@ -80,9 +79,9 @@ module _ (numbers : Numbers) (seen : Sighting) (old : List Pair) (start : ℕ) w
     unfolding after
     after_is = refl
 
-    pub once_after : AreDifferent (pairs_of after)
+    pub once_after : AllPairs ◌≢◌ (pairs_of after)
     unfolding after
-    once_after = subst (λ (ps : List Pair). AreDifferent ps) (sym (pairs_push mid (swapped pair) start)) (different_push (pairs_of mid) (swapped pair) once_mid new_other)
+    once_after = subst (λ (ps : List Pair). AllPairs ◌≢◌ ps) (sym (pairs_push mid (swapped pair) start)) (different_push (pairs_of mid) (swapped pair) once_mid new_other)
 
     pub grew_mid : Grew numbers seen old start knowns mid
     unfolding mid

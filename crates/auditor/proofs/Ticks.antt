@@ -5,15 +5,13 @@ use Rattle.std.proofs.lemmas.List.{get_or_append_left, get_or_past}
 use Rattle.fixed_geometry.proofs.ForCallers.{polynomials, diff_of, diff_same}
 use Rattle.motion.specs.declared.leg.TickState.{TickState}
 use Rattle.encounters.specs.declared.pair_step.PairStep.{PairStep}
-use Rattle.meetings.specs.Traces.{AreInContact, IsContactAt, step_at, step_between, steps_from}
+use Rattle.meetings.specs.Traces.{AreInContact, IsContactAt, step_at, steps_from}
 use Rattle.meetings.specs.declared.pair.Pair.{Pair}
 use Rattle.meetings.proofs.ForCallers.{steps_from-last}
 use Rattle.audit_traces.specs.Audited.{Begins, IsAudited, Numbers, Sighting, state_at, state_in, trace_steps, last_sighting}
+use Rattle.auditor.specs.Inner.TracesKept.{step_of, swapped}
 
 -- ---- the two orders of a pair
-
-abbrev pub swapped : Pair → Pair
-swapped pair = record { subject = pair.other; other = pair.subject }
 
 square_back : (a b : ℤ) → (b -ℤ a) *ℤ (b -ℤ a) ≡ (a -ℤ b) *ℤ (a -ℤ b)
 square_back a b = rw (← diff_of a, ← diff_of b) (simp polynomials (diff_same _ _ _ _ (omega arith)))
@@ -166,10 +164,6 @@ steps_agree a b c d i (suc count) f g =
     let b1 = g (i + 1) (omega arith) in
     let here : step_at a b i ≡ step_at c d i = rw (a0, a1, b0, b1) in
     ap₂ (λ (x : Option PairStep) (xs : List (Option PairStep)). x ∷ xs) here (steps_agree a b c d (i + 1) count (λ k le. f k (omega arith)) (λ k le. g k (omega arith)))
-
--- the step from one sighting to the next
-abbrev pub step_of : Pair → Sighting → Sighting → Option PairStep
-step_of pair before seen = step_between (state_in pair.subject before) (state_in pair.other before) (state_in pair.subject seen) (state_in pair.other seen)
 
 module _ (numbers : Numbers) (ticks : List Sighting) (seen : Sighting) (pair : Pair) (start : ℕ) where
   pub steps_then : start < length ticks → trace_steps numbers (ticks ++ seen ∷ []) pair start ≡ trace_steps numbers ticks pair start ++ step_of pair (last_sighting ticks) seen ∷ []

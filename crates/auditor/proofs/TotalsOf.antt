@@ -1,7 +1,7 @@
 -- What the marks of all traces come to is what the definition counts.
 use Rattle.std.proofs.Common.{◌≡◌, ◌≢◌, ℕ, zero, suc, ◌+◌, ◌<◌, Bool, true, false, cond, if◌then◌else◌, List, [], ◌∷◌, ◌++◌, length, map, refl, sym, ap, subst, ◌∙◌, arith, eq-eqb, ne_eqb}
 use Rattle.std.specs.Prelude.{IsSomeAnd, Option, None, Some, slice_get}
-use Rattle.std.specs.List.{Contains, filter, range_with_len, sum_by}
+use Rattle.std.specs.List.{AllPairs, Contains, filter, range_with_len, sum_by}
 use Rattle.std.proofs.lemmas.List.Sums.{sum_by-append, sum_by-cons}
 use Rattle.mtl_formulas.specs.declared.verdict.Verdict.{Verdict}
 use Rattle.mtl_formulas.specs.declared.verdict.Verdict.TheVariants.{No, Open, Yes}
@@ -17,7 +17,7 @@ use Rattle.audit_rows.specs.declared.row.Row.{Row}
 use Rattle.audit_rows.specs.declared.topic.Topic.{Topic}
 use Rattle.audit_rows.specs.declared.topic.Topic.TheVariants as topic
 use Rattle.audit_traces.specs.Audited.{Numbers, Sighting}
-use Rattle.auditor.specs.AuditTotals.{AreDifferent, AreTotals, AreTraces, IsTotal, Traced, is_value, positions_with}
+use Rattle.auditor.specs.AuditTotals.{AreTotals, AreTraces, IsTotal, Traced, is_value, positions_with}
 use Rattle.audit_traces.specs.AuditTracks.{IsTraceOf}
 use Rattle.auditor.specs.Inner.AuditKeeping.{AreKnown, AreTracksOfAll, pairs_of}
 use Rattle.auditor.specs.Inner.TracesKept.{AreEnded}
@@ -48,7 +48,7 @@ are_traces numbers ticks knowns are rows = record {
       } in
       subst (λ (u : Traced). IsTraceOf numbers ticks u.pair u.start u.trace) e of);
   all = λ pair start begins. subst (λ (ps : List Pair). Contains ps pair) (sym (same_pairs knowns)) (are.all pair start begins);
-  once = subst (λ (ps : List Pair). AreDifferent ps) (sym (same_pairs knowns)) are.once;
+  once = subst (λ (ps : List Pair). AllPairs ◌≢◌ ps) (sym (same_pairs knowns)) are.once;
 }
 
 -- ---- counting marks

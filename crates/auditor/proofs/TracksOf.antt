@@ -19,7 +19,8 @@ use Rattle.audit_traces.specs.AuditTracks.{AreMarksOf, AreMeetingMarks, AreRuleM
 use Rattle.auditor.specs.Inner.AuditKeeping.{AreKnown, AreTracksOfAll, IsKnown}
 use Rattle.audit_traces.specs.TraceKeeping.{AreMeetingMarksSoFar, AreRuleMarksWhole, AreRuleTracks, AreTracks, IsMeetingTrack, IsRuleTrack, Known}
 use Rattle.auditor.proofs.Different.{from_map}
-use Rattle.auditor.proofs.SameMarks.{OneRow, same_meeting_marks, same_rule_marks, same_trace}
+use Rattle.auditor.proofs.OneValue.{same_trace}
+use Rattle.auditor.proofs.SameMarks.{same_meeting_marks, same_rule_marks}
 use Rattle.auditor.proofs.Ticks.{one_beginning}
 
 track_of : Topic → ℕ → List Mark → Track
@@ -236,40 +237,39 @@ module _ (Rest : List Mark → Type 0) (AreMarks : FormulaTree → Trace → Lis
           is = grown meeting (Meeting pair) start marks [] (m.topic ∙ ap (λ (p : Pair). Meeting p) e) (m.first ∙ f) (append-nil meeting.marks ∙ same);
         }
 
-    module _ (one : OneRow) where
-      rule_comes : (pair : Pair) (rule start : ℕ) (marks : List Mark) → AreRuleMarks numbers ticks pair rule start marks
-          → (known : Known) → Contains knowns known → known.pair ≡ pair → known.start ≡ start → known.steps ≡ trace_steps numbers ticks pair start
-          → (mine : List Track) → AreTracks AreMarks numbers known mine → ((t : Track) → Contains mine t → Contains tracks t) → Comes (record { topic = Verdict pair rule; first = start; marks = marks })
-      rule_comes pair rule start marks h known i e f g [] t hold = absurd t
-      rule_comes pair rule start marks h known i e f g (meeting ∷ rules) t hold =
-          let p = picked_rule AreMarks numbers known 0 numbers.rules rules rule t.1 h.within in
-          let is = p.is in
-          let at : 0 + rule ≡ rule = omega arith in
-          let topic : p.track.topic ≡ Verdict pair rule = is.topic ∙ (ap (λ (n : ℕ). Verdict known.pair n) at ∙ ap (λ (q : Pair). Verdict q rule) e) in
-          let tree : FormulaTree = (rule_at numbers.rules rule).tree in
-          let n = go_on tree known.trace p.track.marks is.marks in
-          let mine_rows : AreRows numbers.detect numbers.act numbers.tick (trace_steps numbers ticks pair start) known.trace =
-          subst (λ (s : List (Option PairStep)). AreRows numbers.detect numbers.act numbers.tick s known.trace) g (rows known i) in
-          let same : known.trace ≡ h.trace = same_trace one numbers.detect numbers.act numbers.tick (trace_steps numbers ticks pair start) known.trace h.trace mine_rows h.of.rows in
-          let whole : AreRuleMarksWhole tree h.trace (p.track.marks ++ n.more) = subst (λ (r : Trace). AreRuleMarksWhole tree r (p.track.marks ++ n.more)) same n.whole in
-          let marks_are : p.track.marks ++ n.more ≡ marks = same_rule_marks tree h.trace (p.track.marks ++ n.more) marks whole (record { count = h.count; each = h.each }) in
-          record {
-            track = p.track;
-            held = hold p.track (in_tail meeting rules p.track p.held);
-            more = n.more;
-            rest = n.rest;
-            is = grown p.track (Verdict pair rule) start marks n.more topic (is.first ∙ f) marks_are;
-          }
+    rule_comes : (pair : Pair) (rule start : ℕ) (marks : List Mark) → AreRuleMarks numbers ticks pair rule start marks
+        → (known : Known) → Contains knowns known → known.pair ≡ pair → known.start ≡ start → known.steps ≡ trace_steps numbers ticks pair start
+        → (mine : List Track) → AreTracks AreMarks numbers known mine → ((t : Track) → Contains mine t → Contains tracks t) → Comes (record { topic = Verdict pair rule; first = start; marks = marks })
+    rule_comes pair rule start marks h known i e f g [] t hold = absurd t
+    rule_comes pair rule start marks h known i e f g (meeting ∷ rules) t hold =
+        let p = picked_rule AreMarks numbers known 0 numbers.rules rules rule t.1 h.within in
+        let is = p.is in
+        let at : 0 + rule ≡ rule = omega arith in
+        let topic : p.track.topic ≡ Verdict pair rule = is.topic ∙ (ap (λ (n : ℕ). Verdict known.pair n) at ∙ ap (λ (q : Pair). Verdict q rule) e) in
+        let tree : FormulaTree = (rule_at numbers.rules rule).tree in
+        let n = go_on tree known.trace p.track.marks is.marks in
+        let mine_rows : AreRows numbers.detect numbers.act numbers.tick (trace_steps numbers ticks pair start) known.trace =
+        subst (λ (s : List (Option PairStep)). AreRows numbers.detect numbers.act numbers.tick s known.trace) g (rows known i) in
+        let same : known.trace ≡ h.trace = same_trace numbers.detect numbers.act numbers.tick (trace_steps numbers ticks pair start) known.trace h.trace mine_rows h.of.rows in
+        let whole : AreRuleMarksWhole tree h.trace (p.track.marks ++ n.more) = subst (λ (r : Trace). AreRuleMarksWhole tree r (p.track.marks ++ n.more)) same n.whole in
+        let marks_are : p.track.marks ++ n.more ≡ marks = same_rule_marks tree h.trace (p.track.marks ++ n.more) marks whole (record { count = h.count; each = h.each }) in
+        record {
+          track = p.track;
+          held = hold p.track (in_tail meeting rules p.track p.held);
+          more = n.more;
+          rest = n.rest;
+          is = grown p.track (Verdict pair rule) start marks n.more topic (is.first ∙ f) marks_are;
+        }
 
-      comes_by : (topic : Topic) (start : ℕ) (marks : List Mark) → AreMarksOf numbers ticks topic start marks → Comes (record { topic = topic; first = start; marks = marks })
-      comes_by (Meeting pair) start marks h =
-          let o = known_of pair start h.begins in
-          let p = picked_trace AreMarks numbers knowns tracks o.known all o.among in
-          meeting_comes pair start marks h o.known o.pair_is o.start_is o.steps_are p.mine p.tracks_of p.held
-      comes_by (Verdict pair rule) start marks h =
-          let o = known_of pair start h.of.begins in
-          let p = picked_trace AreMarks numbers knowns tracks o.known all o.among in
-          rule_comes pair rule start marks h o.known o.among o.pair_is o.start_is o.steps_are p.mine p.tracks_of p.held
+    comes_by : (topic : Topic) (start : ℕ) (marks : List Mark) → AreMarksOf numbers ticks topic start marks → Comes (record { topic = topic; first = start; marks = marks })
+    comes_by (Meeting pair) start marks h =
+        let o = known_of pair start h.begins in
+        let p = picked_trace AreMarks numbers knowns tracks o.known all o.among in
+        meeting_comes pair start marks h o.known o.pair_is o.start_is o.steps_are p.mine p.tracks_of p.held
+    comes_by (Verdict pair rule) start marks h =
+        let o = known_of pair start h.of.begins in
+        let p = picked_trace AreMarks numbers knowns tracks o.known all o.among in
+        rule_comes pair rule start marks h o.known o.among o.pair_is o.start_is o.steps_are p.mine p.tracks_of p.held
 
-      pub comes : (whole : Track) → IsTrack numbers ticks whole → Comes whole
-      comes whole h = comes_by whole.topic whole.first whole.marks h
+    pub comes : (whole : Track) → IsTrack numbers ticks whole → Comes whole
+    comes whole h = comes_by whole.topic whole.first whole.marks h

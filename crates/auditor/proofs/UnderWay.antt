@@ -1,7 +1,7 @@
 -- As one trace after the other takes its step, or ends.
 use Rattle.std.proofs.Common.{◌≡◌, ℕ, suc, ◌+◌, ◌<◌, ◌≤◌, List, [], ◌∷◌, ◌++◌, length, length-append, get_or, set, drop, map, append_assoc, append-nil, refl, sym, ap, subst, ◌∙◌, arith}
 use Rattle.std.specs.List.{AllZip, Contains}
-use Rattle.std.proofs.lemmas.List.{drop_more, drop_all}
+use Rattle.std.proofs.lemmas.List.{drop_more, drop_all, length-map}
 use Rattle.std.proofs.Common.{drop-set-lt}
 use Rattle.mtl_formulas.specs.FormulaTree.{FormulaTree}
 use Rattle.mtl_monitor.specs.Traces.{Trace}
@@ -34,12 +34,8 @@ pub tracks_length : (AreMarks : FormulaTree → Trace → List Mark → Type 0) 
 tracks_length AreMarks numbers known [] h = absurd h
 tracks_length AreMarks numbers known (meeting ∷ rules) h = let e = rules_length AreMarks known 0 numbers.rules rules h.1 in omega arith
 
-map_length : (rules : List NamedTree) → length (map (λ (r : NamedTree). r.tree) rules) ≡ length rules
-map_length [] = refl
-map_length (r ∷ rs) = ap suc (map_length rs)
-
 pub program_length : (program : Program) (numbers : Numbers) → IsProgramOf program (formulas_of numbers) → count_of program ≡ length numbers.rules
-program_length program numbers is = is.of.count ∙ map_length numbers.rules
+program_length program numbers is = is.of.count ∙ length-map numbers.rules (λ (r : NamedTree). r.tree)
 
 -- ---- lists of traces and what they stand for
 

@@ -1,49 +1,23 @@
 -- The two vessels of the worked meeting move as a step may say.
-use Rattle.std.proofs.Common.{ℕ, zero, suc, ◌+◌, ◌*◌, ◌≤◌, ◌^◌, true, false, cond, [], ◌∷◌, arith}
+use Rattle.std.proofs.Common.{ℕ, ◌+◌, ◌*◌, ◌^◌, true, false, cond, [], arith}
 use Rattle.std.specs.Prelude.{Some, None, pos, neg_ℤ, ◌-ℤ◌, ◌==◌, Option}
 use Rattle.std.specs.Option.{option_map}
 use Rattle.std.proofs.lemmas.Int.{ints}
-use Rattle.std.proofs.lemmas.List.Elements.{All-cons, All-nil}
 use Rattle.fixed_geometry.specs.Sizes.{IsBelow}
 use Rattle.motion.specs.Displacement.{displacement}
 use Rattle.motion.specs.declared.leg.TickState.{TickState}
-use Rattle.encounters.specs.Directions.{HasDirection}
 use Rattle.meetings.specs.Traces.{IsShortMove}
-use Rattle.audit_traces.specs.Audited.{ArePlaced, AreAscending, MoveLittle, Sighting}
+use Rattle.audit_traces.specs.Audited.{MoveLittle, Sighting}
 use Rattle.auditor.specs.Inner.WorkedMeeting.{head_on_at}
 
 pub from_none : (seen : Sighting) → MoveLittle [] seen
 from_none seen mmsi = tt
-
-is_placed : (v : ℕ × TickState) (vs : Sighting) → IsBelow (2 ^ 33) v.1.point × HasDirection v.1 → ArePlaced vs → ArePlaced (v ∷ vs)
-is_placed v vs h all = All-cons (λ (w : ℕ × TickState). IsBelow (2 ^ 33) w.1.point × HasDirection w.1) v vs h all
 
 abbrev own : ℕ → ℕ × TickState
 own k = (369190000, record { point = record { x = pos 0; y = pos (926000 * k) -ℤ pos 18520000 }; direction = Some 0; speed = Some 180 })
 
 abbrev other : ℕ → ℕ × TickState
 other k = (477553000, record { point = record { x = neg_ℤ (pos 185200); y = pos 18520000 -ℤ pos (926000 * k) }; direction = Some 1800; speed = Some 180 })
-
-own_placed : (k : ℕ) → k ≤ 40 → IsBelow (2 ^ 33) (own k).1.point
-own_placed k le = record { x = omega (arith, ints); y = omega (arith, ints) }
-
-other_placed : (k : ℕ) → k ≤ 40 → IsBelow (2 ^ 33) (other k).1.point
-other_placed k le = record { x = omega (arith, ints); y = omega (arith, ints) }
-
-own_directed : (k : ℕ) → HasDirection (own k).1
-own_directed k = omega arith
-
-other_directed : (k : ℕ) → HasDirection (other k).1
-other_directed k = omega arith
-
-pub placed_at : (k : ℕ) → k ≤ 40 → ArePlaced (head_on_at k)
-placed_at k le =
-    is_placed (own k) (other k ∷ []) (own_placed k le, own_directed k)
-    (is_placed (other k) [] (other_placed k le, other_directed k) (All-nil (λ (w : ℕ × TickState). IsBelow (2 ^ 33) w.1.point × HasDirection w.1)))
-
-pub ascending_at : (k : ℕ) → AreAscending (head_on_at k)
-ascending_at k zero lt = omega arith
-ascending_at k (suc i) lt = absurd (omega arith)
 
 abbrev state : Option (ℕ × TickState) → Option TickState
 state found = option_map (λ (v : ℕ × TickState). v.1) found

@@ -1,6 +1,6 @@
 -- What each rule comes to over all traces.
-use Rattle.std.specs.Prelude.{ℕ, ◌≡◌, ◌<◌, Bool, true, false, List, [], ◌∷◌, length, map, slice_get, IsSomeAnd}
-use Rattle.std.specs.List.{Contains, filter, range_with_len, sum_by}
+use Rattle.std.specs.Prelude.{ℕ, ◌≡◌, ◌≢◌, ◌<◌, Bool, true, false, List, length, map, slice_get, IsSomeAnd}
+use Rattle.std.specs.List.{AllPairs, Contains, filter, range_with_len, sum_by}
 use Rattle.mtl_formulas.specs.FormulaTree.{FormulaTree}
 use Rattle.mtl_formulas.specs.declared.verdict.Verdict.{Verdict}
 use Rattle.mtl_formulas.specs.declared.verdict.Verdict.TheVariants.{No, Open, Yes}
@@ -12,11 +12,6 @@ use Rattle.audit_traces.specs.RuleCounts.{is_run_of, told}
 use Rattle.audit_traces.specs.Audited.{Begins, Numbers, Sighting}
 use Rattle.audit_traces.specs.AuditTracks.{IsTraceOf}
 use Rattle.audit_traces.specs.declared.total.Total.{Total}
-
--- No element stands twice.
-abbrev pub AreDifferent : {X : Type 0} → List X → Type 0
-AreDifferent [] = Unit {0}
-AreDifferent (x ∷ xs) = (¬ Contains xs x) × AreDifferent xs
 
 -- ---- the traces
 
@@ -30,7 +25,7 @@ pub record Traced : Type 0 where
 pub record AreTraces (numbers : Numbers) (ticks : List Sighting) (traces : List Traced) : Type 0 where
   pub each : (t : Traced) → Contains traces t → IsTraceOf numbers ticks t.pair t.start t.trace
   pub all : (pair : Pair) (start : ℕ) → Begins numbers ticks pair start → Contains (map (λ t. t.pair) traces) pair
-  pub once : AreDifferent (map (λ t. t.pair) traces)
+  pub once : AllPairs ◌≢◌ (map (λ t. t.pair) traces)
 
 -- ---- the total of a rule
 

@@ -1,13 +1,11 @@
 -- What an audit stands for: its numbers, the vessels seen at the ticks that it was given, and the rows that it has given.
-use Rattle.std.specs.Prelude.{ℕ, ◌≡◌, ◌+◌, ◌-◌, ◌<◌, ◌≤◌, List, length, All}
+use Rattle.std.specs.Prelude.{ℕ, ◌≡◌, ◌≢◌, ◌+◌, ◌-◌, ◌<◌, ◌≤◌, List, length, All, AllPairs}
 use Rattle.mtl_monitor.specs.Following.{greatest_reach}
 use Rattle.meetings.specs.declared.pair.Pair.{Pair}
 use Rattle.audit_rows.specs.declared.row.Row.{Row}
 use Rattle.audit_traces.specs.Audited.{AreAscending, ArePlaced, Begins, Numbers, Sighting, last_sighting}
-use Rattle.auditor.specs.AuditTotals.{AreDifferent}
-use Rattle.auditor.specs.Inner.AuditKeeping.{AreKnown}
-use Rattle.auditor.specs.Inner.TracesKept.{AreReady, Holds}
-use Rattle.audit_traces.specs.TraceKeeping.{Known, formulas_of}
+use Rattle.auditor.specs.Inner.TracesKept.{AreReady, HoldsNow}
+use Rattle.audit_traces.specs.TraceKeeping.{formulas_of}
 use Rattle.auditor.specs.declared.audit.Audit.{Audit}
 
 -- how many positions ahead the farthest of the rules looks
@@ -48,9 +46,7 @@ pub record StandsFor (audit : Audit) (numbers : Numbers) (ticks : List Sighting)
   pub subjects : audit.subjects.items ≡ numbers.subjects
   pub count : audit.given ≡ length ticks
   pub latest : audit.latest.items ≡ last_sighting ticks
-  pub knowns : List Known
-  pub are_known : AreKnown numbers ticks knowns
-  pub holds : Holds audit.traces numbers knowns (settled_by numbers (length ticks - 1)) given
+  pub traces : HoldsNow audit.traces numbers ticks (settled_by numbers (length ticks - 1)) given
 
 -- ---- the limit of traces
 
@@ -58,5 +54,5 @@ pub record StandsFor (audit : Audit) (numbers : Numbers) (ticks : List Sighting)
 pub record HaveMoreThan (most : ℕ) (numbers : Numbers) (ticks : List Sighting) : Type 0 where
   pub pairs : List Pair
   pub many : most < length pairs
-  pub once : AreDifferent pairs
+  pub once : AllPairs ◌≢◌ pairs
   pub begin : All (λ pair. (start : ℕ) × Begins numbers ticks pair start) pairs

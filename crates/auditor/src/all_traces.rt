@@ -9,9 +9,8 @@ ghost use Rattle.audit_rows.specs.Rows.{AreRowsBelow};
 ghost use Rattle.audit_rows.specs.Tracks.{AreSettled, Track};
 ghost use Rattle.audit_rows.specs.declared.row.Row.{Row};
 ghost use Rattle.audit_traces.specs.Audited.{AreAscending, ArePlaced, IsAudited, MoveLittle, Numbers, Sighting};
-ghost use Rattle.auditor.specs.AuditTotals.{AreDifferent};
 ghost use Rattle.auditor.specs.Inner.AuditKeeping.{AreAllTracks, pairs_of};
-ghost use Rattle.auditor.specs.Inner.TracesKept.{AreBegun, AreEnded, AreFinished, AreFollowed, AreReady, AreSettledKnowns, AreStepped, AreTooMany, HaveBoth, HaveRowsBelow, Holds, IsAtStep, IsReady, IsTaken, MayTake, step_of, traces_of};
+ghost use Rattle.auditor.specs.Inner.TracesKept.{AreBegun, AreEnded, AreFinished, AreFollowed, AreReady, AreSettledKnowns, AreStepped, AreTooMany, HaveRowsBelow, Holds, IsAtStep, IsReady, IsTaken, MayBegin, MayTake, step_of, traces_of};
 ghost use Rattle.audit_traces.specs.Tallies.{Keeps, rules_of};
 ghost use Rattle.audit_traces.specs.TraceKeeping.{AreTracksSoFar, Known, StandsFor, Steps, formulas_of, opened};
 ghost use Rattle.auditor.specs.declared.fault.AuditFault.TheVariants.{TooManyPairs};
@@ -278,10 +277,10 @@ impl AllTraces {
         requires ready { AreReady self.old start }
         ensures ready { OnOk result (AreReady self.new start) }
         ensures holds { OnOk result ((numbers : Numbers) (knowns : List Known) (bound : ℕ) (given : List Row) → Holds self.old numbers knowns bound given
-            → numbers.subjects ≡ subjects.now → AreDifferent (pairs_of knowns) → HaveBoth knowns → bound ≤ start
+            → MayBegin numbers subjects.now knowns start bound
             → AreBegun self.new numbers seen.now start knowns bound given) }
         ensures many { result ≡ Err TooManyPairs → (numbers : Numbers) (knowns : List Known) (bound : ℕ) (given : List Row) → Holds self.old numbers knowns bound given
-            → numbers.subjects ≡ subjects.now → AreDifferent (pairs_of knowns) → HaveBoth knowns → bound ≤ start
+            → MayBegin numbers subjects.now knowns start bound
             → AreTooMany numbers seen.now (pairs_of knowns) start knowns }
     {
         let pairs = contacts(self.alloc, seen, self.detect.watch)?;

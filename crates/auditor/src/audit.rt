@@ -7,10 +7,8 @@ ghost use Rattle.audit_rows.specs.declared.row.Row.{Row};
 ghost use Rattle.audit_traces.specs.Audited.{AreAscending, ArePlaced, MoveLittle, Numbers, Sighting, last_sighting};
 ghost use Rattle.auditor.specs.AuditRows.{AreAuditRows, AreAuditRowsBelow};
 ghost use Rattle.auditor.specs.AuditTotals.{AreTotals};
-ghost use Rattle.auditor.specs.Inner.AuditKeeping.{AreKnown};
-ghost use Rattle.auditor.specs.Inner.TracesKept.{AreKnownOn, AreReady, Holds, HoldsNow, HoldsOn};
+ghost use Rattle.auditor.specs.Inner.TracesKept.{AreReady, HoldsNow, HoldsOn, IsNextTick};
 ghost use Rattle.auditor.specs.Standing.{HaveMoreThan, IsSound, StandsFor, given_of, last_tick_of, latest_of, settled_by};
-ghost use Rattle.audit_traces.specs.TraceKeeping.{Known};
 ghost use Rattle.auditor.specs.declared.fault.AuditFault.TheVariants.{TooManyPairs};
 
 use crate::all_traces::AllTraces;
@@ -52,8 +50,8 @@ fn follow(
     requires few { given ≤ 20000 }
     requires ready { AreReady traces.old (given - 1) }
     ensures ready { OnOk result (AreReady traces.new given) }
-    ensures holds { OnOk result ((numbers : Numbers) (ticks : List Sighting) (knowns : List Known) (bound : ℕ) (rows : List Row) → given ≡ length ticks
-        → latest.now ≡ last_sighting ticks → AreKnown numbers ticks knowns → Holds traces.old numbers knowns bound rows
+    ensures holds { OnOk result ((numbers : Numbers) (ticks : List Sighting) (bound : ℕ) (rows : List Row) → given ≡ length ticks
+        → latest.now ≡ last_sighting ticks → HoldsNow traces.old numbers ticks bound rows
         → HoldsOn traces.new numbers ticks seen.now bound rows) }
 {
     if given == 0 {
@@ -75,12 +73,12 @@ fn begin(
     requires few { last_tick ≤ 20000 }
     requires ready { AreReady traces.old given }
     ensures ready { OnOk result (AreReady traces.new given) }
-    ensures holds { OnOk result ((numbers : Numbers) (ticks : List Sighting) (knowns : List Known) (bound : ℕ) (rows : List Row) → given ≡ length ticks
-        → numbers.subjects ≡ subjects.now → numbers.last_tick ≡ last_tick → bound ≤ given → AreKnownOn numbers ticks seen.now knowns
-        → Holds traces.old numbers knowns bound rows → HoldsNow traces.new numbers (ticks ++ seen.now ∷ []) bound rows) }
-    ensures many { result ≡ Err TooManyPairs → (numbers : Numbers) (ticks : List Sighting) (knowns : List Known) (bound : ℕ) (rows : List Row) → given ≡ length ticks
-        → numbers.subjects ≡ subjects.now → numbers.last_tick ≡ last_tick → bound ≤ given → AreKnownOn numbers ticks seen.now knowns
-        → Holds traces.old numbers knowns bound rows → HaveMoreThan 4096 numbers (ticks ++ seen.now ∷ []) }
+    ensures holds { OnOk result ((numbers : Numbers) (ticks : List Sighting) (bound : ℕ) (rows : List Row)
+        → IsNextTick numbers ticks subjects.now last_tick given bound → HoldsOn traces.old numbers ticks seen.now bound rows
+        → HoldsNow traces.new numbers (ticks ++ seen.now ∷ []) bound rows) }
+    ensures many { result ≡ Err TooManyPairs → (numbers : Numbers) (ticks : List Sighting) (bound : ℕ) (rows : List Row)
+        → IsNextTick numbers ticks subjects.now last_tick given bound → HoldsOn traces.old numbers ticks seen.now bound rows
+        → HaveMoreThan 4096 numbers (ticks ++ seen.now ∷ []) }
 {
     if last_tick <= given {
         return Ok(());
@@ -106,14 +104,12 @@ fn take(
     requires window { last_tick ≤ 20000 }
     requires ready { AreReady traces.old (given - 1) }
     ensures ready { OnOk result (AreReady traces.new given) }
-    ensures holds { OnOk result ((numbers : Numbers) (ticks : List Sighting) (knowns : List Known) (bound : ℕ) (rows : List Row) → given ≡ length ticks
-        → numbers.subjects ≡ subjects.now → numbers.last_tick ≡ last_tick → bound ≤ given → latest.now ≡ last_sighting ticks
-        → AreKnown numbers ticks knowns → Holds traces.old numbers knowns bound rows
-        → HoldsNow traces.new numbers (ticks ++ seen.now ∷ []) bound rows) }
-    ensures many { result ≡ Err TooManyPairs → (numbers : Numbers) (ticks : List Sighting) (knowns : List Known) (bound : ℕ) (rows : List Row) → given ≡ length ticks
-        → numbers.subjects ≡ subjects.now → numbers.last_tick ≡ last_tick → bound ≤ given → latest.now ≡ last_sighting ticks
-        → AreKnown numbers ticks knowns → Holds traces.old numbers knowns bound rows
-        → HaveMoreThan 4096 numbers (ticks ++ seen.now ∷ []) }
+    ensures holds { OnOk result ((numbers : Numbers) (ticks : List Sighting) (bound : ℕ) (rows : List Row)
+        → IsNextTick numbers ticks subjects.now last_tick given bound → latest.now ≡ last_sighting ticks
+        → HoldsNow traces.old numbers ticks bound rows → HoldsNow traces.new numbers (ticks ++ seen.now ∷ []) bound rows) }
+    ensures many { result ≡ Err TooManyPairs → (numbers : Numbers) (ticks : List Sighting) (bound : ℕ) (rows : List Row)
+        → IsNextTick numbers ticks subjects.now last_tick given bound → latest.now ≡ last_sighting ticks
+        → HoldsNow traces.old numbers ticks bound rows → HaveMoreThan 4096 numbers (ticks ++ seen.now ∷ []) }
 {
     follow(traces, latest, seen, given)?;
     begin(traces, subjects, seen, given, last_tick)
@@ -152,10 +148,10 @@ impl Audit {
     /// of all pairs.
     pub fn new(
         alloc: Global,
-        rules: RuleSet,
+        rules: &RuleSet,
         detect: Detect,
         act: Act,
-        subjects: Vec<u32>,
+        subjects: &[u32],
         window: Window,
     ) -> Result<Audit, Memory>
         requires detect { IsDetect detect }
@@ -166,14 +162,14 @@ impl Audit {
           act = act;
           tick = window.tick;
           last_tick = window.ticks;
-          subjects = subjects.items;
-          rules = rules;
+          subjects = subjects.now;
+          rules = rules.now;
         }) [] []) }
     {
-        let program = program_of(alloc, &rules)?;
+        let program = program_of(alloc, rules)?;
         Ok(Audit {
             last_tick: window.ticks,
-            subjects,
+            subjects: subjects.to_vec(alloc)?,
             traces: AllTraces::new(alloc, program, detect, act, window.tick)?,
             latest: Vec::new(alloc),
             given: 0,

@@ -9,6 +9,7 @@ mod all_traces;
 mod audit;
 mod fault;
 mod known_pairs;
+pub mod laws;
 
 pub use audit::{Audit, AuditEnd};
 pub use audit_rows::Row;

@@ -62,7 +62,7 @@ fn audit(alloc: Global, ticks: u32) -> Result<Audit, Fail>
         tick: 10,
         ticks,
     };
-    Ok(Audit::new(alloc, rules, DETECT, ACT, Vec::new(alloc), window)?)
+    Ok(Audit::new(alloc, &rules, DETECT, ACT, &[], window)?)
 }
 
 /// How far north of the middle the first vessel is at a tick.

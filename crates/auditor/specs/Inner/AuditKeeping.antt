@@ -1,13 +1,12 @@
 -- What an audit keeps of all traces.
-use Rattle.std.specs.Prelude.{ℕ, ◌≡◌, List, [], ◌∷◌, ◌++◌, map}
-use Rattle.std.specs.List.{Contains}
+use Rattle.std.specs.Prelude.{ℕ, ◌≡◌, ◌≢◌, List, [], ◌∷◌, ◌++◌, map}
+use Rattle.std.specs.List.{AllPairs, Contains}
 use Rattle.mtl_formulas.specs.FormulaTree.{FormulaTree}
 use Rattle.mtl_monitor.specs.Traces.{Trace}
 use Rattle.audit_rows.specs.Tracks.{Track}
 use Rattle.audit_rows.specs.declared.mark.Mark.{Mark}
 use Rattle.meetings.specs.declared.pair.Pair.{Pair}
 use Rattle.audit_traces.specs.Audited.{Begins, Numbers, Sighting, trace_steps}
-use Rattle.auditor.specs.AuditTotals.{AreDifferent}
 use Rattle.audit_traces.specs.TraceKeeping.{AreRuleMarksSoFar, AreTracks, Known}
 
 abbrev pub pairs_of : List Known → List Pair
@@ -22,7 +21,7 @@ pub record IsKnown (numbers : Numbers) (ticks : List Sighting) (known : Known) :
 pub record AreKnown (numbers : Numbers) (ticks : List Sighting) (knowns : List Known) : Type 0 where
   pub each : (known : Known) → Contains knowns known → IsKnown numbers ticks known
   pub all : (pair : Pair) (start : ℕ) → Begins numbers ticks pair start → Contains (pairs_of knowns) pair
-  pub once : AreDifferent (pairs_of knowns)
+  pub once : AllPairs ◌≢◌ (pairs_of knowns)
 
 -- the tracks of one trace, and then those of others
 pub record AreParted (tracks mine others : List Track) : Type 0 where

@@ -1,6 +1,6 @@
 -- What is kept of all traces, and how it grows.
 use Rattle.std.specs.Prelude.{ℕ, ◌≡◌, ◌≢◌, ◌+◌, ◌≤◌, ◌↔◌, ◌⊎◌, Option, List, [], ◌∷◌, ◌++◌, length, All}
-use Rattle.std.specs.List.{AllZip, Contains}
+use Rattle.std.specs.List.{AllPairs, AllZip, Contains}
 use Rattle.mtl_monitor.specs.Following.{IsProgramOf, count_of}
 use Rattle.mtl_monitor.specs.declared.program.Program.{Program}
 use Rattle.encounters.specs.Risk.{IsDetect}
@@ -11,7 +11,6 @@ use Rattle.audit_rows.specs.Rows.{AreRows, AreRowsBelow}
 use Rattle.audit_rows.specs.Tracks.{AreSettled, Track}
 use Rattle.audit_rows.specs.declared.row.Row.{Row}
 use Rattle.audit_traces.specs.Audited.{Begins, IsAudited, Numbers, Sighting, state_in}
-use Rattle.auditor.specs.AuditTotals.{AreDifferent}
 use Rattle.auditor.specs.Inner.AuditKeeping.{AreAllTracks, AreKnown, AreTracksOfAll, IsKnown, pairs_of}
 use Rattle.audit_traces.specs.Tallies.{AreTallies, Keeps, rules_of}
 use Rattle.audit_traces.specs.TraceKeeping.{AreRuleMarksWhole, Known, formulas_of}
@@ -107,12 +106,19 @@ pub record Grew (numbers : Numbers) (seen : Sighting) (old : List Pair) (start :
   pub each : (known : Known) → Contains after known → Contains before known ⊎ IsOpened numbers seen old start known
   pub still : (pair : Pair) → Contains (pairs_of before) pair → Contains (pairs_of after) pair
 
+-- The subjects are these, the traces stand once each and in both orders, and no row was handed out that ends at the tick or later.
+pub record MayBegin (numbers : Numbers) (subjects : List ℕ) (knowns : List Known) (start bound : ℕ) : Type 0 where
+  pub chosen : numbers.subjects ≡ subjects
+  pub once : AllPairs ◌≢◌ (pairs_of knowns)
+  pub both : HaveBoth knowns
+  pub early : bound ≤ start
+
 -- A pair of different vessels in contact may be taken, where those that had a trace before still have it.
 pub record MayTake (numbers : Numbers) (subjects : List ℕ) (seen : Sighting) (old : List Pair) (knowns : List Known) (pair : Pair) : Type 0 where
   pub of : numbers.subjects ≡ subjects
   pub two : pair.subject ≢ pair.other
   pub contact : AreInContact numbers.detect.watch (state_in pair.subject seen) (state_in pair.other seen)
-  pub once : AreDifferent (pairs_of knowns)
+  pub once : AllPairs ◌≢◌ (pairs_of knowns)
   pub both : HaveBoth knowns
   pub still : (other : Pair) → Contains old other → Contains (pairs_of knowns) other
 
@@ -120,7 +126,7 @@ pub record MayTake (numbers : Numbers) (subjects : List ℕ) (seen : Sighting) (
 pub record IsTaken (kept : AllTraces) (numbers : Numbers) (seen : Sighting) (old : List Pair) (start : ℕ) (before : List Known) (bound : ℕ) (given : List Row) (pair : Pair) : Type 0 where
   pub after : List Known
   pub holds : Holds kept numbers after bound given
-  pub once : AreDifferent (pairs_of after)
+  pub once : AllPairs ◌≢◌ (pairs_of after)
   pub both : HaveBoth after
   pub grew : Grew numbers seen old start before after
   pub taken : IsAudited numbers.subjects pair → Contains (pairs_of after) pair
@@ -129,7 +135,7 @@ pub record IsTaken (kept : AllTraces) (numbers : Numbers) (seen : Sighting) (old
 pub record AreBegun (kept : AllTraces) (numbers : Numbers) (seen : Sighting) (start : ℕ) (before : List Known) (bound : ℕ) (given : List Row) : Type 0 where
   pub after : List Known
   pub holds : Holds kept numbers after bound given
-  pub once : AreDifferent (pairs_of after)
+  pub once : AllPairs ◌≢◌ (pairs_of after)
   pub grew : Grew numbers seen (pairs_of before) start before after
   pub all : (pair : Pair) → IsAudited numbers.subjects pair → AreInContact numbers.detect.watch (state_in pair.subject seen) (state_in pair.other seen)
       → Contains (pairs_of after) pair
@@ -138,7 +144,7 @@ pub record AreBegun (kept : AllTraces) (numbers : Numbers) (seen : Sighting) (st
 pub record AreTooMany (numbers : Numbers) (seen : Sighting) (old : List Pair) (start : ℕ) (before : List Known) : Type 0 where
   pub full : List Known
   pub many : length full ≡ 4096
-  pub once : AreDifferent (pairs_of full)
+  pub once : AllPairs ◌≢◌ (pairs_of full)
   pub grew : Grew numbers seen old start before full
   pub further : Pair
   pub fresh : IsFresh numbers seen old further
@@ -146,12 +152,19 @@ pub record AreTooMany (numbers : Numbers) (seen : Sighting) (old : List Pair) (s
 
 -- ---- from one tick to the next
 
+-- So many ticks of a window with these subjects and this last tick were given, and no row was handed out that ends at the next or later.
+pub record IsNextTick (numbers : Numbers) (ticks : List Sighting) (subjects : List ℕ) (last_tick given bound : ℕ) : Type 0 where
+  pub count : given ≡ length ticks
+  pub chosen : numbers.subjects ≡ subjects
+  pub last : numbers.last_tick ≡ last_tick
+  pub early : bound ≤ given
+
 -- The traces are those that the ticks before this one have begun, with their steps up to it.
 pub record AreKnownOn (numbers : Numbers) (ticks : List Sighting) (seen : Sighting) (knowns : List Known) : Type 0 where
   pub each : (known : Known) → Contains knowns known → IsKnown numbers (ticks ++ seen ∷ []) known
   pub all : (pair : Pair) (start : ℕ) → Begins numbers ticks pair start → Contains (pairs_of knowns) pair
   pub before : (pair : Pair) → Contains (pairs_of knowns) pair → (start : ℕ) × Begins numbers ticks pair start
-  pub once : AreDifferent (pairs_of knowns)
+  pub once : AllPairs ◌≢◌ (pairs_of knowns)
 
 pub record HoldsOn (kept : AllTraces) (numbers : Numbers) (ticks : List Sighting) (seen : Sighting) (bound : ℕ) (given : List Row) : Type 0 where
   pub knowns : List Known

@@ -27,34 +27,34 @@ may kept numbers seen start before bound given subjects pairs i d contacts lt e 
     may_take kept numbers seen start before bound given subjects (take i pairs) (get_or pairs i d) e at.0 at.1 b
 
 pub returns-in_err-take-clause-many : goal.returns-in_err-take-clause-many
-returns-in_err-take-clause-many c = λ fault numbers knowns bound given h subjects once both le.
+returns-in_err-take-clause-many c = λ fault numbers knowns bound given h allowed.
     let items : List Pair = c.as_slice-pair-items.result.now in
     let i : ℕ = c.loop-pair.pair-index in
     let contacts = contacts_of c.args.self.now.detect numbers.detect c.args.seen.now c.in_ok-pairs.pairs.items items h.detect c.as_slice-pair-items.ensures.value c.in_ok-pairs.ensures in
-    let b = c.loop-pair.invariant.holds numbers knowns bound given h subjects once both le in
-    let m = may c.loop-pair.self numbers c.args.seen.now c.args.start knowns bound given c.args.subjects.now items i (record { subject = 0; other = 0 }) contacts c.loop-pair-test.true subjects b in
+    let b = c.loop-pair.invariant.holds numbers knowns bound given h allowed in
+    let m = may c.loop-pair.self numbers c.args.seen.now c.args.start knowns bound given c.args.subjects.now items i (record { subject = 0; other = 0 }) contacts c.loop-pair-test.true allowed.chosen b in
     let same = same_fault c.from_residual-in_err-take.result c.in_err-take.field-0.0 TooManyPairs c.from_residual-in_err-take.ensures.1 fault in
     let err : c.take.result ≡ Err TooManyPairs = c.in_err-take.was ∙ ap (λ (e : AuditFault). Err e) (sym same) in
     too_many c.loop-pair.self numbers c.args.seen.now c.args.start knowns bound given (take i items) b
-    (c.take.ensures.many err numbers c.args.seen.now (pairs_of knowns) b.after bound given b.holds m le)
+    (c.take.ensures.many err numbers c.args.seen.now (pairs_of knowns) b.after bound given b.holds m allowed.early)
 
 pub loop-pair-preserved : goal.loop-pair-preserved
 loop-pair-preserved c = record {
   ready = c.in_ok-take.ensures.ready;
-  holds = λ numbers knowns bound given h subjects once both le. (
+  holds = λ numbers knowns bound given h allowed. (
       let items : List Pair = c.as_slice-pair-items.result.now in
       let i : ℕ = c.loop-pair.pair-index in
       let contacts = contacts_of c.args.self.now.detect numbers.detect c.args.seen.now c.in_ok-pairs.pairs.items items h.detect c.as_slice-pair-items.ensures.value c.in_ok-pairs.ensures in
-      let b = c.loop-pair.invariant.holds numbers knowns bound given h subjects once both le in
-      let m = may c.loop-pair.self numbers c.args.seen.now c.args.start knowns bound given c.args.subjects.now items i (record { subject = 0; other = 0 }) contacts c.loop-pair-test.true subjects b in
+      let b = c.loop-pair.invariant.holds numbers knowns bound given h allowed in
+      let m = may c.loop-pair.self numbers c.args.seen.now c.args.start knowns bound given c.args.subjects.now items i (record { subject = 0; other = 0 }) contacts c.loop-pair-test.true allowed.chosen b in
       begun_more c.loop-pair.self numbers c.args.seen.now c.args.start knowns bound given c.take.new.self items i (record { subject = 0; other = 0 }) c.loop-pair-test.true b
-      (c.in_ok-take.ensures.holds numbers c.args.seen.now (pairs_of knowns) b.after bound given b.holds m le));
+      (c.in_ok-take.ensures.holds numbers c.args.seen.now (pairs_of knowns) b.after bound given b.holds m allowed.early));
 }
 
 pub returns-clause-holds : goal.returns-clause-holds
-returns-clause-holds c = λ numbers knowns bound given h subjects once both le.
+returns-clause-holds c = λ numbers knowns bound given h allowed.
     let items : List Pair = c.as_slice-pair-items.result.now in
     let contacts = contacts_of c.args.self.now.detect numbers.detect c.args.seen.now c.in_ok-pairs.pairs.items items h.detect c.as_slice-pair-items.ensures.value c.in_ok-pairs.ensures in
-    let b = c.loop-pair.invariant.holds numbers knowns bound given h subjects once both le in
+    let b = c.loop-pair.invariant.holds numbers knowns bound given h allowed in
     begun_all c.loop-pair.self numbers c.args.seen.now c.args.start knowns bound given items contacts
     (subst (λ (ps : List Pair). AreBegunSo c.loop-pair.self numbers c.args.seen.now c.args.start knowns bound given ps) (take_all c.loop-pair.pair-index items c.loop-pair-test.false) b)

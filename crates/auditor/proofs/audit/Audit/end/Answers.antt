@@ -1,7 +1,6 @@
 use Rattle.std.proofs.Common.{◌++◌, ◌-◌, length}
 use Rattle.auditor.specs.Standing.{settled_by}
 use Rattle.auditor.proofs.NextTick.{rows_known}
-use Rattle.auditor.proofs.OneValue.{one_answer}
 use Rattle.auditor.proofs.RowsOf.{audit_rows}
 use Rattle.auditor.proofs.TotalsOf.{are_totals}
 use Rattle.auditor.proofs.audit.Audit.end.Goals as goal
@@ -9,13 +8,13 @@ use Rattle.auditor.proofs.audit.Audit.end.Goals as goal
 pub returns-clause-rows : goal.returns-clause-rows
 returns-clause-rows c = λ numbers ticks given s.
     let traces = c.args.self.traces in
-    let e = c.in_ok-rows.ensures numbers s.knowns (settled_by numbers (length ticks - 1)) given s.holds in
-    audit_rows one_answer numbers ticks s.knowns s.are_known (rows_known traces.program numbers traces.traces.items s.knowns s.holds.traces) e.tracks
+    let e = c.in_ok-rows.ensures numbers s.traces.knowns (settled_by numbers (length ticks - 1)) given s.traces.holds in
+    audit_rows numbers ticks s.traces.knowns s.traces.are_known (rows_known traces.program numbers traces.traces.items s.traces.knowns s.traces.holds.traces) e.tracks
     (given ++ c.in_ok-rows.rows.items) e.are_tracks e.are_rows
 
 pub returns-clause-totals : goal.returns-clause-totals
 returns-clause-totals c = λ numbers ticks given s.
     let traces = c.args.self.traces in
-    let e = c.in_ok-rows.ensures numbers s.knowns (settled_by numbers (length ticks - 1)) given s.holds in
-    are_totals numbers ticks s.knowns (given ++ c.in_ok-rows.rows.items) c.in_ok-rows.totals.items s.are_known
-    (rows_known traces.program numbers traces.traces.items s.knowns s.holds.traces) e
+    let e = c.in_ok-rows.ensures numbers s.traces.knowns (settled_by numbers (length ticks - 1)) given s.traces.holds in
+    are_totals numbers ticks s.traces.knowns (given ++ c.in_ok-rows.rows.items) c.in_ok-rows.totals.items s.traces.are_known
+    (rows_known traces.program numbers traces.traces.items s.traces.knowns s.traces.holds.traces) e
