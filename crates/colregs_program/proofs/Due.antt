@@ -1,9 +1,9 @@
 -- The answer that words, shelf and log call for, step by step.
-use Rattle.std.proofs.Common.{ℕ, ◌≡◌, ◌≤◌, ◌<◌, ◌+◌, ◌⊎◌, nat_lt, List, length, Option, None, Some, IfSome, Result, Ok, Err, refl, ap, sym, subst, ◌∙◌, arith}
+use Rattle.std.proofs.Common.{ℕ, ◌≡◌, ◌<◌, List, length, Option, None, Some, Result, Ok, Err, refl, ap, sym, subst}
 use Rattle.outside.specs.Shelves.{Files, IsMissing}
 use Rattle.scenario.specs.declared.values.Scenario.{Scenario}
-use Rattle.colregs_program.specs.Answers.{IsDue, IsScenario, LiesUnder, Meets, Requested, greatest_scenario}
-use Rattle.colregs_program.specs.Endings.{refusal_of}
+use Rattle.colregs_program.specs.Answers.{IsDue, LiesUnder, Meets, Requested, greatest_scenario}
+use Rattle.colregs_program.specs.Endings.{IsMet}
 use Rattle.colregs_program.specs.Requests.{Request, request_of}
 use Rattle.colregs_program.specs.Inner.SetUps.{IsSetUpDue, answer_of}
 use Rattle.colregs_program.specs.declared.request.Mode.{Mode}
@@ -20,6 +20,7 @@ usage_due words files log status.ShelfFault refused is = cc (refused, is.1)
 usage_due words files log (status.Limit which.Scenario most) refused is = cc (refused, is.1.1)
 usage_due words files log (status.Limit which.Log most) refused is = cc (refused, is.3.accepted)
 usage_due words files log (status.Limit which.Vessels most) refused is = cc (refused, is.3.accepted)
+usage_due words files log (status.Limit which.Pairs most) refused is = cc (refused, is.3.accepted)
 usage_due words files log (status.Scenario key why) refused is = cc (refused, is.1)
 usage_due words files log status.Done refused is = cc (refused, is.3.accepted)
 usage_due words files log status.ReadFault refused is = absurd is
@@ -33,7 +34,8 @@ answer_to (Some refusal) = refusal
 
 -- the answer that is due where setting up comes to this
 abbrev pub Follows : Option (List ℕ) → Mode → Status → Result Scenario SetUpFault → Type 0
-Follows log mode due (Ok scenario) = (bytes : List ℕ) × (log ≡ Some bytes) × (answer_to (refusal_of mode scenario bytes) ≡ due)
+Follows log mode due (Ok scenario) =
+    (bytes : List ℕ) × (met : Option Status) × (log ≡ Some bytes) × IsMet mode scenario bytes met × (answer_to met ≡ due)
 Follows log mode due (Err why) = answer_of why ≡ due
 
 -- what setting up is to come to, where an answer is due
@@ -53,7 +55,7 @@ of_meeting words files log request refusal accepted meets =
     subst (λ (r : Request). SetUpDue files log r (answer_to refusal)) same (record {
       came = Ok meets.1;
       is = meets.3.lies;
-      follows = (meets.2, meets.3.gives, ap answer_to meets.4);
+      follows = (meets.2, refusal, meets.3.gives, meets.4, refl);
     })
 
 pub set_up_due : (words : List (List ℕ)) (files : Option Files) (log : Option (List ℕ)) (request : Request) (due : Status)
@@ -77,6 +79,8 @@ set_up_due words files log request (status.Scenario key why) accepted is = recor
 set_up_due words files log request (status.Limit which.Log most) accepted is = of_meeting words files log request (Some (status.Limit which.Log most)) accepted is
 set_up_due words files log request (status.Limit which.Vessels most) accepted is =
     of_meeting words files log request (Some (status.Limit which.Vessels most)) accepted is
+set_up_due words files log request (status.Limit which.Pairs most) accepted is =
+    of_meeting words files log request (Some (status.Limit which.Pairs most)) accepted is
 set_up_due words files log request status.Done accepted is = of_meeting words files log request None accepted is
 set_up_due words files log request status.ReadFault accepted is = absurd is
 set_up_due words files log request status.WriteFault accepted is = absurd is

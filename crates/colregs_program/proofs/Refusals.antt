@@ -1,27 +1,26 @@
 -- What a run that fails, or ends, answers is what is due.
-use Rattle.std.proofs.Common.{ℕ, ◌≡◌, ◌≤◌, ◌<◌, ◌+◌, ◌⊎◌, inl, inr, nat_lt, Bool, true, false, IsTrue, List, ◌++◌, length, Option, None, Some, IfSome, Result, Ok, Err, refl, ap, sym, subst, ◌∙◌, arith, if◌then◌else◌, length-append}
-use Rattle.std.proofs.lemmas.Bool.Decides.{nat_tests}
+use Rattle.std.proofs.Common.{ℕ, ◌≡◌, ◌≤◌, ◌<◌, ◌+◌, ◌⊎◌, inl, inr, List, length, Option, None, Some, IfSome, Result, Ok, Err, ap, sym, subst, ◌∙◌, arith, length-append}
 use Rattle.std.specs.Io.KnownBytes.{Consumes}
 use Rattle.outside.specs.Causes.{Rose, one_more}
 use Rattle.outside.specs.Shelves.{Files}
 use Rattle.outside.specs.WholeReading.{StopsAt}
 use Rattle.outside.specs.declared.whole.ReadFault.TheVariants as read
 use Rattle.scenario.specs.declared.values.Scenario.{Scenario}
-use Rattle.colregs_program.specs.Answers.{IsDue}
-use Rattle.colregs_program.specs.Endings.{refusal_of}
-use Rattle.colregs_program.specs.JudgedLines.{greatest_held, is_crowded}
-use Rattle.colregs_program.specs.LogLines.{lines_of}
+use Rattle.colregs_program.specs.Answers.{Holds, IsDue, IsScenario, Runs}
+use Rattle.judged_lines.specs.JudgedLines.{greatest_held}
+use Rattle.colregs_program.specs.Endings.{IsEnding, IsMet, greatest_traces}
 use Rattle.colregs_program.specs.Requests.{Request, request_of}
 use Rattle.colregs_program.specs.Inner.SetUps as set_up
 use Rattle.colregs_program.specs.Inner.LogFaults as log_fault
 use Rattle.colregs_program.specs.declared.request.Mode.{Mode}
-use Rattle.colregs_program.specs.declared.report.LogFault.{LogFault}
-use Rattle.colregs_program.specs.declared.report.LogFault.TheVariants as unread
+use Rattle.colregs_program.specs.declared.log_fault.LogFault.{LogFault}
+use Rattle.colregs_program.specs.declared.log_fault.LogFault.TheVariants as unread
 use Rattle.colregs_program.specs.declared.set_up.SetUpFault.{SetUpFault}
 use Rattle.colregs_program.specs.declared.set_up.SetUpFault.TheVariants as fault
 use Rattle.colregs_program.specs.declared.status.Status.{Status}
 use Rattle.colregs_program.specs.declared.status.Status.TheVariants as status
 use Rattle.colregs_program.specs.declared.status.Which.TheVariants as which
+use Rattle.colregs_program.proofs.Meeting.{met_long, one_met}
 use Rattle.colregs_program.proofs.Due.{answer_to, Follows, set_up_due}
 
 -- An answer is told as it is, or as want of memory.
@@ -83,79 +82,57 @@ longer : (bytes : List ℕ) (left' : Option (List ℕ)) (piece : List ℕ) → C
 longer bytes None piece taken = absurd taken
 longer bytes (Some rest) piece taken = let whole : length bytes ≡ length piece + length rest = ap length taken ∙ length-append piece rest in omega (arith, whole)
 
--- what stands in the way of a log, by two tests
-abbrev refused_by : Scenario → Bool → Bool → Option Status
-refused_by scenario long crowded =
-    if long then Some (status.Limit which.Log scenario.log.max_bytes)
-    else if crowded then Some (status.Limit which.Vessels greatest_held)
-    else None
-
-pub is_refused : (mode : Mode) (scenario : Scenario) (bytes : List ℕ) → scenario.log.max_bytes < length bytes
-    → refusal_of mode scenario bytes ≡ Some (status.Limit which.Log scenario.log.max_bytes)
-is_refused mode scenario bytes long =
-    let test : nat_lt scenario.log.max_bytes (length bytes) ≡ true = grind (arith, nat_tests) in
-    ap (λ (b : Bool). refused_by scenario b (is_crowded scenario (lines_of bytes))) test
-
-short_is : (scenario : Scenario) (bytes : List ℕ) → length bytes ≤ scenario.log.max_bytes → nat_lt scenario.log.max_bytes (length bytes) ≡ false
-short_is scenario bytes short = grind (arith, nat_tests)
-
-pub is_crowded_out : (mode : Mode) (scenario : Scenario) (bytes : List ℕ) → length bytes ≤ scenario.log.max_bytes → is_crowded scenario (lines_of bytes) ≡ true
-    → refusal_of mode scenario bytes ≡ Some (status.Limit which.Vessels greatest_held)
-is_crowded_out mode scenario bytes short crowded =
-    ap (λ (b : Bool). refused_by scenario b (is_crowded scenario (lines_of bytes))) (short_is scenario bytes short) ∙ ap (refused_by scenario false) crowded
-
-pub is_not_refused : (mode : Mode) (scenario : Scenario) (bytes : List ℕ) → length bytes ≤ scenario.log.max_bytes → is_crowded scenario (lines_of bytes) ≡ false
-    → refusal_of mode scenario bytes ≡ None
-is_not_refused mode scenario bytes short calm =
-    ap (λ (b : Bool). refused_by scenario b (is_crowded scenario (lines_of bytes))) (short_is scenario bytes short) ∙ ap (refused_by scenario false) calm
+-- What the log calls for is what was met in it.
+met_is : (log : Option (List ℕ)) (mode : Mode) (scenario : Scenario) (due refusal : Status) → IfSome log (λ bytes. IsMet mode scenario bytes (Some refusal))
+    → Follows log mode due (Ok scenario) → refusal ≡ due
+met_is log mode scenario due refusal is (bytes, met, gives, follows, answers) =
+    let here = subst (λ (l : Option (List ℕ)). IfSome l (λ told. IsMet mode scenario told (Some refusal))) gives is in
+    ap answer_to (one_met mode scenario bytes (Some refusal) met here follows) ∙ answers
 
 -- the log is longer than allowed: that is due
 too_long : (log left' : Option (List ℕ)) (mode : Mode) (scenario : Scenario) (due : Status) (limit : ℕ) → limit ≡ scenario.log.max_bytes
     → StopsAt scenario.log.max_bytes 0 log left' read.TooLong → Follows log mode due (Ok scenario) → status.Limit which.Log limit ≡ due
-too_long log left' mode scenario due limit same stops follows =
-    let bytes = follows.0 in
-    let taken = subst (λ (l : Option (List ℕ)). Consumes l left' stops.piece) follows.1 stops.taken in
+too_long log left' mode scenario due limit same stops (bytes, met, gives, follows, answers) =
+    let taken = subst (λ (l : Option (List ℕ)). Consumes l left' stops.piece) gives stops.taken in
     let long : scenario.log.max_bytes < length bytes = omega (arith, stops.long, longer bytes left' stops.piece taken) in
-    ap (status.Limit which.Log) same ∙ sym (ap answer_to (is_refused mode scenario bytes long)) ∙ follows.2
-
--- what is told of a log that makes too many vessels held
-abbrev IsCrowdedLog : Scenario → Option (List ℕ) → Type 0
-IsCrowdedLog scenario log = IfSome log (λ bytes. (length bytes ≤ scenario.log.max_bytes) × IsTrue (is_crowded scenario (lines_of bytes)))
-
-too_many : (log : Option (List ℕ)) (mode : Mode) (scenario : Scenario) (due : Status) → IsCrowdedLog scenario log → Follows log mode due (Ok scenario)
-    → status.Limit which.Vessels greatest_held ≡ due
-too_many log mode scenario due crowded follows =
-    let held = subst (IsCrowdedLog scenario) follows.1 crowded in
-    sym (ap answer_to (is_crowded_out mode scenario follows.0 held.0 held.1)) ∙ follows.2
-
--- so the log is refused for its vessels
-pub refused_for_vessels : (log : Option (List ℕ)) (mode : Mode) (scenario : Scenario) → IsCrowdedLog scenario log
-    → IfSome log (λ bytes. refusal_of mode scenario bytes ≡ Some (status.Limit which.Vessels greatest_held))
-refused_for_vessels None mode scenario crowded = tt
-refused_for_vessels (Some bytes) mode scenario crowded = is_crowded_out mode scenario bytes crowded.0 crowded.1
+    ap (status.Limit which.Log) same ∙ ap answer_to (one_met mode scenario bytes _ met (met_long mode scenario bytes long) follows) ∙ answers
 
 pub no_report : (log left' : Option (List ℕ)) (mode : Mode) (scenario : Scenario) (due told : Status) (before now : ℕ) (why : LogFault) (Made : Type 0)
-    → Follows log mode due (Ok scenario) → log_fault.LogCause scenario log left' before now why → ¬ Rose before now
+    → Follows log mode due (Ok scenario) → log_fault.LogCause mode scenario log left' before now why → ¬ Rose before now
     → IsTold told (log_fault.answer_of why) Made → (told ≡ due) ⊎ (told ≡ status.Memory)
 no_report log left' mode scenario due told before now unread.NotRead Made follows cause calm is_told = absurd (calm (rose before now cause.0))
 no_report log left' mode scenario due told before now (unread.TooLong limit) Made follows cause calm is_told =
     told_is told (status.Limit which.Log limit) due Made is_told (too_long log left' mode scenario due limit cause.1 cause.2 follows)
 no_report log left' mode scenario due told before now unread.TooManyVessels Made follows cause calm is_told =
-    told_is told (status.Limit which.Vessels greatest_held) due Made is_told (too_many log mode scenario due cause.2 follows)
+    told_is told (status.Limit which.Vessels greatest_held) due Made is_told (met_is log mode scenario due _ cause.1.met follows)
+no_report log left' mode scenario due told before now unread.TooManyPairs Made follows cause calm is_told =
+    told_is told (status.Limit which.Pairs greatest_traces) due Made is_told (met_is log mode scenario due _ cause.1.met follows)
 no_report log left' mode scenario due told before now unread.Memory Made follows cause calm is_told = inr (memory_told told Made is_told)
 
 -- a log whose report was made
-abbrev IsReported : Scenario → (List ℕ → Type 0) → Option (List ℕ) → Type 0
-IsReported scenario report log =
-    IfSome log (λ bytes. (length bytes ≤ scenario.log.max_bytes) × (is_crowded scenario (lines_of bytes) ≡ false) × report bytes)
+abbrev pub IsReported : Mode → Scenario → List ℕ → Option (List ℕ) → Type 0
+IsReported mode scenario report log = IfSome log (λ bytes. IsMet mode scenario bytes None × IsEnding mode scenario bytes report)
 
-pub done : (log : Option (List ℕ)) (mode : Mode) (scenario : Scenario) (due : Status) (report : List ℕ → Type 0)
-    → Follows log mode due (Ok scenario) → IsReported scenario report log → status.Done ≡ due
-done log mode scenario due report follows whole =
-    let held = subst (IsReported scenario report) follows.1 whole in
-    sym (ap answer_to (is_not_refused mode scenario follows.0 held.0 held.1)) ∙ follows.2
+pub done : (log : Option (List ℕ)) (mode : Mode) (scenario : Scenario) (due : Status) (report : List ℕ)
+    → Follows log mode due (Ok scenario) → IsReported mode scenario report log → status.Done ≡ due
+done log mode scenario due report (bytes, met, gives, follows, answers) whole =
+    let here = subst (IsReported mode scenario report) gives whole in
+    ap answer_to (one_met mode scenario bytes None met here.0 follows) ∙ answers
 
-pub not_refused : (log : Option (List ℕ)) (mode : Mode) (scenario : Scenario) (report : List ℕ → Type 0) → IsReported scenario report log
-    → IfSome log (λ bytes. (refusal_of mode scenario bytes ≡ None) × report bytes)
-not_refused None mode scenario report whole = tt
-not_refused (Some bytes) mode scenario report whole = (is_not_refused mode scenario bytes whole.0 whole.1, whole.2)
+-- ---- a run that writes
+
+-- What is told of the bytes under a name follows.
+held_so : (files : Option Files) (name : List ℕ) (P Q : List ℕ → Type 0) → ((text : List ℕ) → P text → Q text) → Holds files name P → Holds files name Q
+held_so None name P Q so holds = tt
+held_so (Some held) name P Q so (text, found, p) = (text, found, so text p)
+
+pub runs : (words : List (List ℕ)) (files : Option Files) (request : Request) (scenario : Scenario) (P : Request → Scenario → Type 0)
+    → request_of words ≡ Some request → Holds files request.name (λ text. IsScenario text scenario) → P request scenario → Runs words files P
+runs words files request scenario P accepted holds p =
+    (request, accepted, held_so files request.name (λ text. IsScenario text scenario) (λ text. (s : Scenario) × IsScenario text s × P request s) (λ text is. (scenario, is, p)) holds)
+
+-- The report that was made was written so.
+pub written : (mode : Mode) (scenario : Scenario) (report : List ℕ) (Written : List ℕ → Type 0) (log : Option (List ℕ)) → IsReported mode scenario report log → Written report
+    → IfSome log (λ bytes. IsMet mode scenario bytes None × (text : List ℕ) × IsEnding mode scenario bytes text × Written text)
+written mode scenario report Written None made put = tt
+written mode scenario report Written (Some bytes) made put = (made.0, report, made.1, put)

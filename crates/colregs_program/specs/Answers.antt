@@ -3,7 +3,7 @@ use Rattle.std.specs.Prelude.{ℕ, ◌≡◌, ◌≤◌, ◌<◌, ◌^◌, Bool,
 use Rattle.outside.specs.Shelves.{Files, IsMissing, content_of}
 use Rattle.scenario.specs.ScenarioReading.{IsRefused, Means}
 use Rattle.scenario.specs.declared.values.Scenario.{Scenario}
-use Rattle.colregs_program.specs.Endings.{refusal_of}
+use Rattle.colregs_program.specs.Endings.{IsMet}
 use Rattle.colregs_program.specs.Requests.{Request, request_of}
 use Rattle.colregs_program.specs.declared.status.Status.{Status}
 use Rattle.colregs_program.specs.declared.status.Status.TheVariants as status
@@ -48,7 +48,7 @@ pub record IsReady (words : List (List ℕ)) (files : Option Files) (log : Optio
 abbrev pub Meets : List (List ℕ) → Option Files → Option (List ℕ) → Option Status → Type 0
 Meets words files log refusal =
     (request : Request) × (scenario : Scenario) × (bytes : List ℕ)
-    × IsReady words files log request scenario bytes × (refusal_of request.mode scenario bytes ≡ refusal)
+    × IsReady words files log request scenario bytes × IsMet request.mode scenario bytes refusal
 
 -- The answer that words, shelf and log call for, where the shelf and the log tell what they hold: the first that stands in
 -- the way of a run, and `Done` where nothing does.
@@ -61,6 +61,7 @@ IsDue words files log (status.Scenario key cause) =
     Requested words (λ request. LiesUnder files request.name (λ text. (length text ≤ greatest_scenario) × IsRefused false text key cause))
 IsDue words files log (status.Limit which.Log most) = Meets words files log (Some (status.Limit which.Log most))
 IsDue words files log (status.Limit which.Vessels most) = Meets words files log (Some (status.Limit which.Vessels most))
+IsDue words files log (status.Limit which.Pairs most) = Meets words files log (Some (status.Limit which.Pairs most))
 IsDue words files log status.Done = Meets words files log None
 IsDue words files log status.ReadFault = ⊥
 IsDue words files log status.WriteFault = ⊥
@@ -74,6 +75,7 @@ IsBeforeLog (status.Limit which.Scenario most) = true
 IsBeforeLog (status.Scenario key cause) = true
 IsBeforeLog (status.Limit which.Log most) = false
 IsBeforeLog (status.Limit which.Vessels most) = false
+IsBeforeLog (status.Limit which.Pairs most) = false
 IsBeforeLog status.Done = false
 IsBeforeLog status.ReadFault = false
 IsBeforeLog status.WriteFault = false

@@ -14,11 +14,12 @@ abbrev pub limited : Which → List ℕ
 limited which.Scenario = codes "scenario"
 limited which.Log = codes "log"
 limited which.Vessels = codes "vessels"
+limited which.Pairs = codes "pairs"
 
 -- the line of a fault; nothing where the run is finished
 abbrev pub fault_line : Status → List ℕ
 fault_line status.Done = []
-fault_line status.Usage = line (codes "usage: points SCENARIO")
+fault_line status.Usage = line (codes "usage: points|audit SCENARIO")
 fault_line (status.Scenario key cause) = line (codes "scenario: " ++ fault_text key cause)
 fault_line status.ShelfFault = line (codes "scenario: not read")
 fault_line status.ReadFault = line (codes "log: not read")

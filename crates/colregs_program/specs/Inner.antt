@@ -1,7 +1,5 @@
 -- Definitions that proofs need and no public clause cites.
+pub mod AuditWriting
 pub mod LineBytes
 pub mod LogFaults
 pub mod SetUps
-pub mod JudgeState
-pub mod Times
-pub mod CsvRowsText

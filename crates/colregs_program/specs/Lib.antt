@@ -1,14 +1,9 @@
-pub mod LogLines
-pub mod LineOutcomes
-pub mod JudgedLines
-pub mod CsvRows
+pub mod OutcomeRows
 pub mod PointsReport
-pub mod Answers
+pub mod AuditReport
 pub mod Requests
 pub mod Endings
+pub mod Answers
 pub mod Told
 pub mod FaultLines
 pub mod Inner
-pub mod EachLine
-pub mod LineTimes
-pub mod SentLines

@@ -14,7 +14,10 @@ is_name [] = false
 is_name (first ∷ rest) = not (first == 45)
 
 abbrev pub mode_named : List ℕ → Option Mode
-mode_named word = if bytes_eq word (codes "points") then Some mode.Points else None
+mode_named word =
+    if bytes_eq word (codes "points") then Some mode.Points
+    else if bytes_eq word (codes "audit") then Some mode.Audit
+    else None
 
 abbrev pub request_by : Option Mode → List ℕ → Option Request
 request_by None name = None

@@ -24,7 +24,7 @@ impl FaultLine {
     {
         let text = match status {
             Status::Done => "",
-            Status::Usage => "usage: points SCENARIO\n",
+            Status::Usage => "usage: points|audit SCENARIO\n",
             Status::Scenario(key, cause) => {
                 return Ok(FaultLine::Made(refusal_line(alloc, *key, *cause)?));
             }
@@ -63,5 +63,6 @@ fn limit_line(alloc: Global, which: Which, most: u64) -> Result<String, AllocErr
         Which::Scenario => format!(in alloc; "limit: scenario {most}\n"),
         Which::Log => format!(in alloc; "limit: log {most}\n"),
         Which::Vessels => format!(in alloc; "limit: vessels {most}\n"),
+        Which::Pairs => format!(in alloc; "limit: pairs {most}\n"),
     }
 }

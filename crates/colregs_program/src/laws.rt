@@ -1,13 +1,18 @@
-//! Laws of the report, which stand over the definitions alone.
-ghost use Rattle.std.specs.Prelude.{◌≡◌, ℕ, List, length, sum_by};
-ghost use Rattle.colregs_program.specs.JudgedLines.{judged_lines};
-ghost use Rattle.colregs_program.specs.LineOutcomes.{all_outcomes};
-ghost use Rattle.colregs_program.specs.LogLines.{lines_of};
-ghost use Rattle.colregs_program.specs.PointsReport.{count_of};
+//! Laws of reports, which stand over the definitions alone.
+ghost use Rattle.std.specs.Prelude.{◌≡◌, ℕ, List, Option};
 ghost use Rattle.scenario.specs.declared.values.Scenario.{Scenario};
+ghost use Rattle.colregs_program.specs.Endings.{IsEnding, IsMet};
+ghost use Rattle.colregs_program.specs.declared.request.Mode.{Mode};
+ghost use Rattle.colregs_program.specs.declared.status.Status.{Status};
 
-/// Each line of a log has exactly one outcome: the counts of the outcomes sum to the number of lines.
-pub fn each_line_has_one_outcome()
-    ensures { (scenario : Scenario) (log : List ℕ) →
-        sum_by (λ outcome. count_of outcome (judged_lines scenario (lines_of log))) all_outcomes ≡ length (lines_of log) }
+/// A request has at most one report on a log.
+pub fn one_ending()
+    ensures { (mode : Mode) (scenario : Scenario) (log text other : List ℕ) →
+        IsEnding mode scenario log text → IsEnding mode scenario log other → text ≡ other }
+{}
+
+/// At most one refusal, or none, is met in a log.
+pub fn one_refusal()
+    ensures { (mode : Mode) (scenario : Scenario) (log : List ℕ) (met other : Option Status) →
+        IsMet mode scenario log met → IsMet mode scenario log other → met ≡ other }
 {}

@@ -1,19 +1,16 @@
 //! The program as one call: a scenario and a log of AIS sentences in, the report of one mode out.
 //!
 //! `run` reads the scenario from a shelf and the log from a source, judges the log's lines in their order, and writes
-//! the report to a sink. What it writes is the report that `specs/PointsReport.antt` defines from the bytes of the
+//! the report to a sink. What it writes is the report that `specs/Endings.antt` defines from the bytes of the
 //! scenario and the log, however the reads are cut.
 #![tactic(auto)]
 
-mod csv_rows;
+mod audit;
 mod fault_line;
-mod judge;
-mod judged;
 pub mod laws;
-mod line_times;
-mod log_lines;
-mod outcome;
-mod points_rows;
+mod log_fault;
+mod outcome_rows;
+mod points;
 mod program;
 mod report;
 mod request;
@@ -21,11 +18,11 @@ mod set_up;
 mod status;
 #[cfg(test)]
 mod tests;
+mod ticks;
+mod totals;
+mod vessels;
 
-pub use judged::Judged;
-pub use outcome::LineOutcome;
 pub use program::run;
 pub use request::Mode;
 pub use scenario::{Cause, Key, LogNumbers, Scenario, Window};
 pub use status::{Status, Which};
-pub use tracks::Accepted;

@@ -10,7 +10,7 @@ ghost use Rattle.scenario.specs.ScenarioReading.{IsRefused};
 ghost use Rattle.scenario_keys.specs.declared.key.Key.{Key};
 ghost use Rattle.scenario_keys.specs.declared.cause.Cause.{Cause};
 ghost use Rattle.colregs_program.specs.Answers.{greatest_scenario, Holds, IsBeforeLog, IsDue, Requested, Runs};
-ghost use Rattle.colregs_program.specs.Endings.{ending_of, refusal_of};
+ghost use Rattle.colregs_program.specs.Endings.{IsEnding, IsMet};
 ghost use Rattle.colregs_program.specs.FaultLines.{fault_line, is_made};
 ghost use Rattle.colregs_program.specs.Requests.{request_of};
 ghost use Rattle.colregs_program.specs.Told.{Gains};
@@ -54,8 +54,9 @@ fn tell<E: Sink>(alloc: Global, status: Status, err: &mut E) -> Status
 /// Runs the program with these words, which do not hold its own name.
 ///
 /// `points SCENARIO` reads the scenario of that name from the shelf and the whole log, and writes the report of `points`
-/// to `out`: a row for each accepted report in the order of the log, and then how many lines came to each outcome. What
-/// `err` gets names the fault, and nothing else is written.
+/// to `out`: a row for each accepted report in the order of the log, and then how many lines came to each outcome. `audit SCENARIO`
+/// writes the report of `audit`: a row for each meeting and for each stretch on which a rule is broken or undecided, in their order,
+/// then the vessels, what each rule comes to, and the outcomes. What `err` gets names the fault, and nothing else is written.
 pub fn run<H: Shelf, S: Source, K: Sink, E: Sink>(
     alloc: Global,
     words: &[Word],
@@ -66,8 +67,8 @@ pub fn run<H: Shelf, S: Source, K: Sink, E: Sink>(
 ) -> Status
     // A finished run: the log was read to its end, and `out` gained exactly the report, however the reads were cut.
     ensures report { result ≡ Status.Done → Runs words.now (H.files shelf.old) (λ request scenario.
-        IfSome (S.left log.old) (λ bytes. (refusal_of request.mode scenario bytes ≡ None)
-        × Appends (K.contents out.old) (K.contents out.new) (ending_of request.mode scenario bytes))) }
+        IfSome (S.left log.old) (λ bytes. IsMet request.mode scenario bytes None
+        × (text : List ℕ) × IsEnding request.mode scenario bytes text × Appends (K.contents out.old) (K.contents out.new) text)) }
     ensures read { result ≡ Status.Done → IsAtEnd (S.left log.new) }
 
     // Completeness: the answer that words, shelf and log call for comes, where no call fails. Memory alone is free.
@@ -94,12 +95,15 @@ pub fn run<H: Shelf, S: Source, K: Sink, E: Sink>(
         × Runs words.now (H.files shelf.old) (λ _ scenario. most ≡ scenario.log.max_bytes) }
     ensures vessel_limit { (most : ℕ) → result ≡ Status.Limit which.Vessels most → IsAtEnd (S.left log.new)
         × Runs words.now (H.files shelf.old) (λ request scenario.
-        IfSome (S.left log.old) (λ bytes. refusal_of request.mode scenario bytes ≡ Some (Status.Limit which.Vessels most))) }
+        IfSome (S.left log.old) (λ bytes. IsMet request.mode scenario bytes (Some (Status.Limit which.Vessels most)))) }
+    ensures pair_limit { (most : ℕ) → result ≡ Status.Limit which.Pairs most → IsAtEnd (S.left log.new)
+        × Runs words.now (H.files shelf.old) (λ request scenario.
+        IfSome (S.left log.old) (λ bytes. IsMet request.mode scenario bytes (Some (Status.Limit which.Pairs most)))) }
     ensures write_fault { result ≡ Status.WriteFault → (K.faults out.new ≡ one_more (K.faults out.old))
         × IsAtEnd (S.left log.new)
         × Runs words.now (H.files shelf.old) (λ request scenario.
-        IfSome (S.left log.old) (λ bytes. (refusal_of request.mode scenario bytes ≡ None)
-        × AppendsPart (K.contents out.old) (K.contents out.new) (ending_of request.mode scenario bytes))) }
+        IfSome (S.left log.old) (λ bytes. IsMet request.mode scenario bytes None
+        × (text : List ℕ) × IsEnding request.mode scenario bytes text × AppendsPart (K.contents out.old) (K.contents out.new) text)) }
 
     // What is asked for and what is written then.
     ensures fetched { H.fetches shelf.new

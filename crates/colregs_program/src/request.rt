@@ -9,6 +9,8 @@ use outside::Word;
 pub enum Mode {
     /// Positions out of a log, as points of the plane.
     Points,
+    /// How the vessels of a log met, and which duties were broken or stayed undecided.
+    Audit,
 }
 
 /// What is asked for: a mode, with the scenario of a name.
@@ -32,6 +34,7 @@ fn mode_named(word: &Word) -> Option<Mode>
 {
     match word.text() {
         "points" => Some(Mode::Points),
+        "audit" => Some(Mode::Audit),
         _ => None,
     }
 }

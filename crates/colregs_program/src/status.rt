@@ -13,6 +13,8 @@ pub enum Which {
     Log,
     /// The vessels that are held, at most 4096.
     Vessels,
+    /// The ordered pairs of vessels whose traces have begun, at most 4096.
+    Pairs,
 }
 
 /// How a run ends. Standard error gets a line that names each fault.

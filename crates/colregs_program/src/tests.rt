@@ -1,7 +1,8 @@
-//! The worked rows of `points`, by whole runs in memory, and each fault by its number.
+//! The worked rows of `points` and `audit`, by whole runs in memory, and each fault by its number.
 ghost use Rattle.outside.specs.Calls.{AreCallNumbers};
 
-use crate::{Cause, Key, Status, Which, laws, run};
+use crate::{Cause, Key, Status, Which, run};
+use judged_lines::laws;
 use outside::{MemorySink, MemorySource, PlainShelf, PlainSource, Source, Taken, Word};
 use std::alloc::Global;
 use std::test::Fail;
@@ -76,12 +77,14 @@ struct Ended {
     err: MemorySink,
 }
 
-/// Runs `points scenario.toml` on this scenario and log.
-fn points<S: Source>(alloc: Global, scenario: &str, log: &mut S) -> Result<Ended, Fail> {
-    let words = vec![in alloc;
-        Word::new(alloc, "points")?,
-        Word::new(alloc, "scenario.toml")?,
-    ]?;
+/// Runs a mode with `scenario.toml` on this scenario and log.
+fn run_mode<S: Source>(
+    alloc: Global,
+    mode: &str,
+    scenario: &str,
+    log: &mut S,
+) -> Result<Ended, Fail> {
+    let words = vec![in alloc; Word::new(alloc, mode)?, Word::new(alloc, "scenario.toml")?]?;
     let file = (
         Word::new(alloc, "scenario.toml")?,
         scenario.as_bytes().to_vec(alloc)?,
@@ -91,6 +94,11 @@ fn points<S: Source>(alloc: Global, scenario: &str, log: &mut S) -> Result<Ended
     let mut err = MemorySink::new(alloc, 1000, Vec::new(alloc));
     let status = run(alloc, words.as_slice(), &mut shelf, log, &mut out, &mut err);
     Ok(Ended { status, out, err })
+}
+
+/// Runs `points`.
+fn points<S: Source>(alloc: Global, scenario: &str, log: &mut S) -> Result<Ended, Fail> {
+    run_mode(alloc, "points", scenario, log)
 }
 
 /// How `points` ends on this scenario and log, which write nothing, and what standard error gets.
@@ -290,7 +298,7 @@ fn shelf_without_the_name(rt: HostRuntime) -> Result<(), Fail> {
     let status = run(alloc, &words[..1], &mut shelf, &mut log, &mut out, &mut err);
     assert_eq!(rt; status, Status::Usage);
     assert_eq!(rt; status.number(), 2);
-    assert!(rt; err.bytes().ends_with(b"usage: points SCENARIO\n"));
+    assert!(rt; err.bytes().ends_with(b"usage: points|audit SCENARIO\n"));
     Ok(())
 }
 
@@ -332,5 +340,58 @@ fn each_write_that_fails_leaves_the_front_before_it(rt: HostRuntime) -> Result<(
         assert!(rt; REPORT.starts_with(ended.out.bytes()));
         assert!(rt; ended.err.bytes().is_empty());
     }
+    Ok(())
+}
+
+/// Two vessels that meet head on, each with a report at the beginning and one 400 seconds later.
+const HEAD_ON: &[u8] =
+    b"\\c:1700000000*5F\\!AIVDM,2,1,3,B,55P5TL01VIaAL@7WKO@mBplU@<PDhh000000001S;AJ::4A80?4i@E53,0*3E
+!AIVDM,2,2,3,B,1@0000000000000,2*55
+\\c:1700000000*5F\\!AIVDM,1,1,,A,15P5TL0P2l00001wwHt000000000,0*5C
+\\c:1700000000*5F\\!AIVDM,1,1,,A,177KQJ0P2lOwwtp00W4725`00000,0*31
+\\c:1700000400*5B\\!AIVDM,1,1,,A,15P5TL0P2l0000000W4000000000,0*02
+\\c:1700000400*5B\\!AIVDM,1,1,,A,177KQJ0P2lOwwtqwwHt725`00000,0*6F
+";
+
+const HEAD_ON_AUDITED: &[u8] = b"verdict,369190000,477553000,r14a,broken,0,0
+verdict,477553000,369190000,r14a,broken,0,0
+verdict,369190000,477553000,r8d,broken,18,21
+verdict,477553000,369190000,r8d,broken,18,21
+meeting,369190000,477553000,head_on,0,25,185200
+meeting,477553000,369190000,head_on,0,25,185200
+vessel,369190000,MT.MITCHELL,99,180,2,1
+vessel,477553000,,0,0,2,1
+total,r8b,80,80,0,0,0
+total,r8d,80,72,8,0,2
+total,r13,80,80,0,0,0
+total,r14a,80,78,2,0,2
+total,r14b,80,80,0,0,0
+total,r14p,80,80,0,0,0
+total,r15,80,80,0,0,0
+total,r16,80,80,0,0,0
+total,r17a,80,80,0,0,0
+total,r17b,80,80,0,0,0
+total,r17c,80,80,0,0,0
+lines,empty,0,,,,
+";
+
+// Neither alters: each breaks the rule on nearly reciprocal courses, and they pass too near.
+#[test]
+fn two_vessels_meet_head_on_and_neither_alters(rt: HostRuntime) -> Result<(), Fail> {
+    let scenario = SCENARIO.replace(
+        rt.alloc(),
+        "lat = 28549600\nlon = -73407500",
+        "lat = 0\nlon = 0",
+    )?;
+    let mut log = PlainSource::new(HEAD_ON.to_vec(rt.alloc())?, 64);
+    let ended = run_mode(rt.alloc(), "audit", scenario.as_str(), &mut log)?;
+    assert_eq!(rt; ended.status, Status::Done);
+    assert!(rt; ended.out.bytes().starts_with(HEAD_ON_AUDITED));
+    assert!(rt;
+        ended
+            .out
+            .bytes()
+            .ends_with(b"lines,static,1,,,,\nlines,point,4,,,,\n")
+    );
     Ok(())
 }

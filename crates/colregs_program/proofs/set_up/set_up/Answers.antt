@@ -1,4 +1,4 @@
-use Rattle.std.proofs.Common.{inr, Ok, Err, ap, sym, ◌∙◌, rules}
+use Rattle.std.proofs.Common.{inr, Ok, Err}
 use Rattle.colregs_program.proofs.SettingUp.{due-from_read}
 use Rattle.colregs_program.proofs.set_up.set_up.Goals as goal
 

@@ -1,0 +1,184 @@
+#!/usr/bin/env python3
+"""Makes scenarios and logs, runs two programs on each, and compares what they write: audits.py PROGRAM OTHER [--first SEED] [--count N]
+
+Both programs take `audit SCENARIO` and a log on standard input. Each seed makes one scenario and one log: a fleet whose vessels meet
+head on, cross, overtake or pass, of which some alter course, slow down, are lost for a while or tell of themselves, with damaged lines
+between; numbers, formulas and subjects of the scenario's own; and a window that may cut the log at either end. Where the bytes on
+standard output or the statuses differ, the seed is told and its files are kept in the folder `--keep`.
+"""
+import argparse
+import math
+import os
+import random
+import subprocess
+import sys
+
+from harbour import armour, damage, position_report, sentence, tagged, voyage
+
+START = 1700000000
+ATOMS = ["true", "false", "seen", "risk", "engaged", "begin", "overtaking", "overtaken", "head_on", "crossing_gives",
+         "crossing_stands", "passing", "unclassified", "opening", "other_on_port", "ahead", "alters", "apparent",
+         "to_starboard", "to_port", "other_apparent"]
+NAMES = ["ALPHA", "BRAVO, OF HULL", "CHARLIE \"C\"", "DELTA", "ECHO-9", "FOX"]
+
+
+def bounds(draw, tick):
+    lower = draw.choice([0, 0, 1, 2]) * tick
+    return "[%d,%d]" % (lower, lower + draw.choice([0, 1, 2, 5, 9]) * tick)
+
+
+def formula(draw, tick, depth):
+    if depth == 0:
+        kind = draw.randrange(10)
+        if kind == 0:
+            return "clear(%d)" % draw.choice([0, 50, 200, 900, 3000])
+        if kind == 1:
+            return "close(%d)" % draw.choice([100, 300, 1500])
+        if kind == 2:
+            return "age(%d)" % (draw.randrange(6) * tick)
+        return draw.choice(ATOMS)
+    kind = draw.randrange(8)
+    if kind == 0:
+        return "!" + formula(draw, tick, depth - 1)
+    if kind <= 3:
+        return "(%s %s %s)" % (formula(draw, tick, depth - 1), draw.choice(["&", "|", "->"]), formula(draw, tick, depth - 1))
+    if kind <= 6:
+        return "%s%s %s" % (draw.choice("FGOH"), bounds(draw, tick), formula(draw, tick, depth - 1))
+    return "(%s %s%s %s)" % (formula(draw, tick, depth - 1), draw.choice("US"), bounds(draw, tick), formula(draw, tick, depth - 1))
+
+
+def scenario(draw, fleet, span):
+    tick = draw.choice([1, 2, 5, 7, 10, 10, 15, 30, 60])
+    ticks = max(1, min(400, draw.choice([span, span, span // 2, span * 2]) // tick))
+    start = START + draw.choice([0, 0, 0, -60, 37, span // 3])
+    times = [draw.randrange(0, 12) * tick for _ in range(5)]
+    four = draw.random() < 0.3
+    lines = ["version = %d" % (2 if four else 1)]
+    if draw.random() < 0.3:
+        lines.append("subjects = [%s]" % ", ".join(str(v["mmsi"]) for v in draw.sample(fleet, draw.randrange(1, min(4, len(fleet)) + 1))))
+    lines += ["[window]", "start = %d" % start, "tick = %d" % tick, "ticks = %d" % ticks]
+    lines += ["[reference]", "lat = %d" % draw.choice([0, 28549600, -20000000]), "lon = 0"]
+    lines += ["[log]", "gap = %d" % max(tick, draw.choice([30, 90, 600])), "slack = %d" % draw.choice([0, 20, 60]),
+              "max_speed = %d" % draw.choice([300, 500, 1022])]
+    lines += ["[detect]", "watch = %d" % draw.choice([1500, 5000, 9000]), "risk = %d" % draw.choice([150, 500, 1200]),
+              "clear = %d" % draw.choice([200, 1000]), "horizon = %d" % (draw.choice([1, 10, 40, 100]) * tick),
+              "doubt = %d" % draw.choice([0, 30, 200]), "ahead = %d" % draw.choice([50, 100, 200]),
+              "reciprocal = %d" % draw.choice([60, 100, 250])]
+    lines += ["[act]", "steady_turn = %d" % draw.choice([0, 50]), "apparent_turn = %d" % draw.choice([100, 200]),
+              "steady_speed = %d" % draw.choice([0, 10]), "apparent_speed = %d" % draw.choice([20, 50])]
+    lines += ["[rules]", "overtake = %d" % draw.choice([100, 400]), "close = %d" % draw.choice([200, 600])]
+    lines += ["%s = %d" % (name, time) for name, time in zip(["t8", "ta", "tl", "tw", "te"], times)]
+    if four:
+        lines += ["safe_head_on = %d" % draw.choice([100, 400]), "safe_overtaking = %d" % draw.choice([100, 400]),
+                  "safe_crossing = %d" % draw.choice([100, 400]), "safe_other = %d" % draw.choice([100, 400])]
+    else:
+        lines += ["safe = %d" % draw.choice([100, 200, 700])]
+    for k in range(draw.choice([0, 0, 1, 2, 5])):
+        lines += ["[[formula]]", 'name = "u%d"' % (k + 1), 'text = "%s"' % formula(draw, tick, draw.randrange(1, 4))]
+    return "\n".join(lines) + "\n"
+
+
+def meeting_fleet(draw, span):
+    """Vessels that come near one point at about one time."""
+    base = draw.randrange(0, 3600)
+    for k in range(draw.choice([2, 2, 3, 4, 6])):
+        course = (base + draw.choice([0, 0, 1800, 1800, 900, 2700, 450, 1350, 3150, 30, 1770]) + draw.randrange(-40, 41)) % 3600
+        speed = draw.choice([0, 60, 120, 180, 240])
+        yield {
+            "mmsi": 200000000 + draw.randrange(0, 5) * 100000000 + draw.randrange(0, 1000000), "course": course, "speed": speed,
+            "meets": span * draw.uniform(0.3, 0.8), "off": (draw.gauss(0, 250), draw.gauss(0, 250)), "kind": draw.choice([1, 1, 3, 18]),
+            "period": draw.choice([5, 10, 20, 30]), "phase": draw.randrange(0, 10),
+            "alters": span * draw.uniform(0.1, 0.9) if draw.random() < 0.6 else None,
+            "turn": draw.choice([-600, -300, -60, 60, 300, 600]), "slows": draw.choice([0, 0, -60, -120]),
+            "lost": (span * draw.uniform(0.2, 0.8), draw.choice([40, 120, 700])) if draw.random() < 0.3 else None,
+            "heading": draw.random() < 0.8, "voyage": draw.random() < 0.5,
+        }
+
+
+def reports(draw, vessel, span, latitude):
+    course, speed = vessel["course"], vessel["speed"]
+    angle = math.radians(course / 10)
+    way = speed * vessel["meets"] / 36000 * 1852
+    x, y = vessel["off"][0] - way * math.sin(angle), vessel["off"][1] - way * math.cos(angle)
+    at = 0
+    for elapsed in range(vessel["phase"], span, vessel["period"]):
+        if vessel["alters"] is not None and elapsed >= vessel["alters"] and course == vessel["course"] and speed == vessel["speed"]:
+            course, speed = (course + vessel["turn"]) % 3600, max(0, speed + vessel["slows"])
+        angle = math.radians(course / 10)
+        step = speed * (elapsed - at) / 36000 * 1852
+        x, y, at = x + step * math.sin(angle), y + step * math.cos(angle), elapsed
+        if vessel["lost"] is not None and vessel["lost"][0] <= elapsed < sum(vessel["lost"]):
+            continue
+        north = round(latitude + y / 1852 * 10000)
+        east = round(x / 1852 * 10000 / math.cos(math.radians(latitude / 600000)))
+        heading = course // 10 if vessel["heading"] else 511
+        bits = position_report(vessel["kind"], vessel["mmsi"], north, east, speed if draw.random() < 0.97 else 1023,
+                               course if draw.random() < 0.97 else 3600, heading, elapsed % 60)
+        payload, fill = armour(bits)
+        yield elapsed, [tagged(START + elapsed, sentence(1, 1, "", "AB"[elapsed % 2], payload, fill))]
+
+
+def voyages(draw, fleet):
+    for k, vessel in enumerate(fleet):
+        if vessel["voyage"]:
+            payload, fill = armour(voyage(vessel["mmsi"], draw.choice(NAMES), 60 + k, draw.randrange(200), draw.randrange(100), 10, 12))
+            yield 7 * k, [tagged(START + 7 * k, sentence(2, 1, k % 10, "A", payload[:56], 0)), sentence(2, 2, k % 10, "A", payload[56:], fill)]
+
+
+def make(seed):
+    draw = random.Random(seed)
+    span = draw.choice([200, 400, 900, 1500])
+    fleet = list(meeting_fleet(draw, span))
+    text = scenario(draw, fleet, span)
+    latitude = int(text.split("lat = ")[1].split("\n")[0])
+    lines = [entry for vessel in fleet for entry in reports(draw, vessel, span, latitude)] + list(voyages(draw, fleet))
+    if draw.random() < 0.5:
+        lines += list(damage())
+    ordered = sorted(lines, key=lambda entry: entry[0] + (draw.choice([0, 0, 0, 15, 70]) if draw.random() < 0.05 else 0))
+    return text, "".join(line + "\n" for _, texts in ordered for line in texts)
+
+
+def run(program, folder, log):
+    done = subprocess.run([program, "audit", "scenario.toml"], input=log.encode(), cwd=folder, stdout=subprocess.PIPE, stderr=subprocess.PIPE)
+    return done.returncode, done.stdout
+
+
+def main():
+    parser = argparse.ArgumentParser(description=__doc__, formatter_class=argparse.RawDescriptionHelpFormatter)
+    parser.add_argument("program")
+    parser.add_argument("other")
+    parser.add_argument("--first", type=int, default=1)
+    parser.add_argument("--count", type=int, default=300)
+    parser.add_argument("--keep", default="audits-kept")
+    args = parser.parse_args()
+    program, other = os.path.abspath(args.program), os.path.abspath(args.other)
+    same, statuses, kinds = 0, {}, {}
+    for seed in range(args.first, args.first + args.count):
+        text, log = make(seed)
+        folder = os.path.join(args.keep, str(seed))
+        os.makedirs(folder, exist_ok=True)
+        for name, content in (("scenario.toml", text), ("log", log)):
+            with open(os.path.join(folder, name), "w") as out:
+                out.write(content)
+        mine, theirs = run(program, folder, log), run(other, folder, log)
+        statuses[mine[0]] = statuses.get(mine[0], 0) + 1
+        for row in mine[1].decode().split("\n"):
+            fields = row.split(",")
+            kind = " ".join(fields[:1] + (fields[3:5] if fields[0] == "verdict" else fields[3:4] if fields[0] == "meeting" else []))
+            kinds[kind] = kinds.get(kind, 0) + 1
+        if mine == theirs:
+            same += 1
+            os.remove(os.path.join(folder, "log"))
+            os.remove(os.path.join(folder, "scenario.toml"))
+            os.rmdir(folder)
+        else:
+            print("seed %d differs: statuses %d and %d" % (seed, mine[0], theirs[0]))
+    print("%d of %d the same; statuses %s" % (same, args.count, statuses))
+    for kind in sorted(kinds):
+        if kind:
+            print("%8d %s" % (kinds[kind], kind))
+    return 0 if same == args.count else 1
+
+
+if __name__ == "__main__":
+    sys.exit(main())

@@ -1,0 +1,12 @@
+use Rattle.std.proofs.Common.{ℕ, List, ◌++◌, OnOk, refl, subst}
+use Rattle.audit_report.specs.CsvRows.{row_of}
+use Rattle.audit_report.specs.ReportTexts.{HasText}
+use Rattle.audit_report.proofs.RowFields.{seven}
+use Rattle.audit_report.proofs.report_text.ReportText.write_total.Goals as goal
+
+pub returns : goal.returns
+returns c =
+    subst
+    (λ (fields : List (List ℕ)). OnOk c.write_fields.result ((text : List ℕ) → HasText c.args.self.now text → HasText c.write_fields.new.self (text ++ row_of fields)))
+    (seven refl refl c.digits.ensures c.digits-2.ensures c.digits-3.ensures c.digits-4.ensures c.digits-5.ensures)
+    c.write_fields.ensures

@@ -1,0 +1,3 @@
+pub mod CsvRows
+pub mod ReportRows
+pub mod ReportTexts

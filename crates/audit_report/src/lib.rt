@@ -1,0 +1,14 @@
+//! The rows of reports as text.
+//!
+//! A report is a list of rows of seven fields, as CSV (RFC 4180): fields between commas, quoted where they must be, and a line feed
+//! behind each row. [`ReportText`] takes rows one after the other and holds the text of all; [`row_bytes`] gives that of one.
+#![tactic(auto)]
+
+mod digits;
+mod report_row;
+mod report_text;
+#[cfg(test)]
+mod tests;
+
+pub use report_row::ReportRow;
+pub use report_text::{ReportText, row_bytes};

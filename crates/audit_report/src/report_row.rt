@@ -1,0 +1,79 @@
+//! One row of a report.
+use ais_messages::Text20;
+use audit_traces::Total;
+use fixed_geometry::Point;
+use judged_lines::LineOutcome;
+use meetings::Pair;
+use sectors::Class;
+
+/// One row of a report. Names are borrowed from whoever keeps them. Distances are in 0.1 mm, times in seconds since the Unix epoch,
+/// speeds in 1/10 knot, courses in 1/10 degree.
+#[derive(Clone, Copy)]
+pub enum ReportRow<'a> {
+    /// An accepted report of a vessel.
+    Point {
+        mmsi: u32,
+        time: u64,
+        point: Point,
+        speed: Option<u16>,
+        course: Option<u16>,
+    },
+    /// A maximal stretch of steps at which two vessels are engaged.
+    Meeting {
+        pair: Pair,
+        /// The kind at the first step.
+        kind: Class,
+        first: u32,
+        last: u32,
+        /// The least distance of all its steps.
+        least: u64,
+    },
+    /// A maximal stretch of steps at which a rule is broken, or stays undecided.
+    Verdict {
+        pair: Pair,
+        /// The rule's name.
+        name: &'a [u8],
+        undecided: bool,
+        first: u32,
+        last: u32,
+    },
+    /// A vessel that was heard of.
+    Vessel {
+        mmsi: u32,
+        name: Option<&'a Text20>,
+        /// The type of ship (ITU-R M.1371), 0 where it is not known.
+        kind: u8,
+        /// Her length in metres, 0 where it is not known.
+        length: u32,
+        /// How many of her reports were accepted.
+        reports: u64,
+        /// How many legs join them.
+        legs: u64,
+    },
+    /// What a rule comes to over all traces.
+    Total {
+        /// The rule's name.
+        name: &'a [u8],
+        total: Total,
+    },
+    /// How many lines of the log came to an outcome.
+    Lines {
+        outcome: LineOutcome,
+        count: u64,
+    },
+    /// A leg of the plan that was found.
+    Plan {
+        number: u32,
+        leg: u8,
+        course: u16,
+        speed: u16,
+        /// The tick at which the leg begins.
+        first: u32,
+        /// The tick at which it ends.
+        last: u32,
+    },
+    /// All plans fail.
+    NoPlan {
+        plans: u32,
+    },
+}

@@ -1,0 +1,40 @@
+-- The whole report of an audit, and why there is none.
+use Rattle.std.proofs.Common.{ℕ, ◌≡◌, ◌≢◌, ◌++◌, false, List, append_assoc, ap, ap₂, sym, subst, ◌∙◌}
+use Rattle.std.specs.Prelude.{Result, Ok, Err, IfErr, IsErrAnd}
+use Rattle.audit_rows.specs.declared.row.Row.{Row}
+use Rattle.audit_traces.specs.declared.total.Total.{Total}
+use Rattle.auditor.specs.Standing.{HaveMoreThan}
+use Rattle.judged_lines.specs.JudgedLines.{is_crowded, numbers_of}
+use Rattle.judged_lines.specs.LogLines.{lines_of}
+use Rattle.scenario.specs.declared.values.Scenario.{Scenario}
+use Rattle.tracks.specs.VesselsHeld.{Sent}
+use Rattle.colregs_program.specs.AuditReport.{audit_numbers, sightings_of, stretch_rows, total_rows, vessel_rows}
+use Rattle.colregs_program.specs.Endings.{greatest_traces}
+use Rattle.colregs_program.specs.Inner.LogFaults.{EndingCause}
+use Rattle.colregs_program.specs.declared.log_fault.EndingFault.{EndingFault}
+use Rattle.colregs_program.specs.declared.log_fault.EndingFault.TheVariants as ending
+use Rattle.colregs_program.specs.declared.request.Mode.TheVariants as mode
+
+-- the fault that a `?` hands on has its cause
+pub err_cause : {T E : Type 0} (r : Result T E) (x : E) (P : E → Type 0) → IsErrAnd r (λ e. e ≡ x) → P x → IfErr r P
+err_cause (Ok v) x P is cause = tt
+err_cause (Err e) x P is cause = subst P (sym is) cause
+
+pub audit_cause : {T : Type 0} (scenario : Scenario) (log : List ℕ) (fault : EndingFault) (r : Result T EndingFault) → r ≡ Err fault → r ≢ Err ending.TooManyVessels
+    → is_crowded scenario (lines_of log) ≡ false → (r ≡ Err ending.TooManyPairs → HaveMoreThan greatest_traces (audit_numbers scenario) (sightings_of scenario log))
+    → EndingCause mode.Audit scenario log fault
+audit_cause scenario log ending.TooManyVessels r was not calm many = absurd (not was)
+audit_cause scenario log ending.TooManyPairs r was not calm many = (calm, many was)
+audit_cause scenario log ending.Memory r was not calm many = tt
+
+-- the rows one after the other
+pub whole_text : (scenario : Scenario) (messages : List Sent) (rows : List Row) (totals totals' : List Total) (counts counts' : List ℕ) → totals ≡ totals' → counts ≡ counts'
+    → ((stretch_rows scenario.rules rows ++ vessel_rows (numbers_of scenario) messages) ++ total_rows scenario.rules totals) ++ counts
+    ≡ stretch_rows scenario.rules rows ++ (vessel_rows (numbers_of scenario) messages ++ total_rows scenario.rules totals' ++ counts')
+whole_text scenario messages rows totals totals' counts counts' same same' =
+    let s = stretch_rows scenario.rules rows in
+    let v = vessel_rows (numbers_of scenario) messages in
+    let t = total_rows scenario.rules totals in
+    ap (λ (l : List ℕ). l ++ counts) (append_assoc s v t)
+    ∙ append_assoc s (v ++ t) counts
+    ∙ ap₂ (λ (ts : List Total) (c : List ℕ). s ++ (v ++ total_rows scenario.rules ts ++ c)) same same'

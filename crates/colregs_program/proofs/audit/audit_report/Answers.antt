@@ -1,0 +1,57 @@
+use Rattle.std.proofs.Common.{[], ◌∙◌, length, ap}
+use Rattle.judged_lines.specs.JudgedLines.{judged_lines, numbers_of}
+use Rattle.judged_lines.specs.LogLines.{lines_of}
+use Rattle.judged_lines.specs.SentLines.{sent}
+use Rattle.colregs_program.specs.AuditReport.{rows_behind, sightings_of}
+use Rattle.colregs_program.proofs.AuditText.{audit_cause, err_cause, whole_text}
+use Rattle.colregs_program.proofs.OutcomeRows.{count_rows-from_counts}
+use Rattle.colregs_program.proofs.audit.audit_report.Goals as goal
+
+pub returns-in_err-totals-clause-cause : goal.returns-in_err-totals-clause-cause
+unfolding sightings_of
+returns-in_err-totals-clause-cause c =
+    let scenario = c.args.scenario.now in
+    let log = c.args.log.now in
+    let stands = c.in_ok-judge_log.ensures.lines scenario c.new-judge.ensures in
+    let messages = sent scenario (lines_of log) in
+    let book = c.book.ensures scenario (lines_of log) stands in
+    err_cause _ _ _ c.from_residual-in_err-totals.ensures.1
+    (audit_cause scenario log c.in_err-totals.field-0.0 c.write_audit.result c.in_err-totals.was c.write_audit.ensures.pairs_alone stands.calm
+    (λ err. c.write_audit.ensures.many err messages book))
+
+pub write_totals-requires : goal.write_totals-requires
+write_totals-requires c =
+    let scenario = c.args.scenario.now in
+    let lines = lines_of c.args.log.now in
+    let stands = c.in_ok-judge_log.ensures.lines scenario c.new-judge.ensures in
+    let book = c.book.ensures scenario lines stands in
+    let audited = c.in_ok-totals.ensures.audited (sent scenario lines) [] book c.new-text.ensures in
+    ap length c.as_slice.ensures.value ∙ audited.are_totals.count
+
+pub returns-clause-report : goal.returns-clause-report
+unfolding sightings_of rows_behind
+returns-clause-report c =
+    let scenario = c.args.scenario.now in
+    let lines = lines_of c.args.log.now in
+    let stands = c.in_ok-judge_log.ensures.lines scenario c.new-judge.ensures in
+    let messages = sent scenario lines in
+    let audited = c.in_ok-totals.ensures.audited messages [] (c.book.ensures scenario lines stands) c.new-text.ensures in
+    let vessels = c.in_ok-write_vessels.ensures (numbers_of scenario) messages _ (c.book-2.ensures scenario lines stands) audited.has in
+    let totals = c.in_ok-write_totals.ensures _ vessels in
+    let counts = c.in_ok-write_counts.ensures _ totals in
+    let outcomes = count_rows-from_counts c.counts.result.now (judged_lines scenario lines) c.all_outcomes.result.now c.all_outcomes.ensures (c.counts.ensures scenario lines stands) in
+    record {
+      rows = audited.rows;
+      totals = c.in_ok-totals.totals.items;
+      are_rows = audited.are_rows;
+      are_totals = audited.are_totals;
+      is = c.in_ok-into_bytes.ensures _ counts ∙ whole_text scenario messages audited.rows _ _ _ _ c.as_slice.ensures.value outcomes;
+    }
+
+pub returns-clause-calm : goal.returns-clause-calm
+unfolding sightings_of
+returns-clause-calm c =
+    let scenario = c.args.scenario.now in
+    let lines = lines_of c.args.log.now in
+    let stands = c.in_ok-judge_log.ensures.lines scenario c.new-judge.ensures in
+    record { calm = stands.calm; few = λ many. c.in_ok-totals.ensures.few (sent scenario lines) (c.book.ensures scenario lines stands) many }

@@ -1,0 +1,2 @@
+pub mod JudgeState
+pub mod Times

@@ -1,0 +1,30 @@
+-- What a judge stands for: the lines of a log that it was given, and what each of them came to.
+use Rattle.std.specs.Prelude.{ℕ, ◌≡◌, ◌≤◌, ◌<◌, ◌==◌, Bool, false, count_by, length, slice_index, List}
+use Rattle.aivdm.specs.OpenMessages.{StandsFor as JoinerStandsFor}
+use Rattle.scenario.specs.declared.values.Scenario.{Scenario}
+use Rattle.tracks.specs.Standing.{StandsFor as BookStandsFor}
+use Rattle.tracks.specs.VesselsHeld.{held_of}
+use Rattle.judged_lines.specs.JudgedLines.{greatest_held, is_crowded, judged_lines, numbers_of, outcome_of}
+use Rattle.judged_lines.specs.LineOutcomes.{place_of}
+use Rattle.judged_lines.specs.SentLines.{heard, sent}
+use Rattle.judged_lines.specs.Inner.Times.{KeepsTimes}
+use Rattle.judged_lines.specs.declared.judged.Judged.{Judged}
+use Rattle.judged_lines.specs.declared.judge.Judge.{Judge}
+
+-- whether a line came to the outcome at this index
+abbrev pub is_at_place : ℕ → Judged → Bool
+is_at_place place line = place_of (outcome_of line) == place
+
+-- At each index stands how many lines came to the outcome there.
+pub record AreCounts (counts : List ℕ) (lines : List Judged) : Type 0 where
+  pub many : length counts ≡ 21
+  pub each : (place : ℕ) → place < 21 → slice_index counts place ≡ count_by (is_at_place place) lines
+
+-- The judge stands for these lines, which make no more vessels held than it can hold.
+pub record StandsFor (judge : Judge) (scenario : Scenario) (lines : List (List ℕ)) : Type 0 where
+  pub times : KeepsTimes judge.times scenario lines
+  pub joiner : JoinerStandsFor judge.joiner (heard scenario lines)
+  pub book : BookStandsFor judge.book (numbers_of scenario) (sent scenario lines)
+  pub few : length (held_of (numbers_of scenario) (sent scenario lines)) ≤ greatest_held
+  pub calm : is_crowded scenario lines ≡ false
+  pub counts : AreCounts judge.counts (judged_lines scenario lines)

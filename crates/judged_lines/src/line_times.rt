@@ -1,0 +1,101 @@
+//! The times of a log's lines.
+ghost use Rattle.std.specs.Prelude.{◌≡◌, unwrap_or};
+ghost use Rattle.judged_lines.specs.LineTimes.{is_late, lies_in};
+
+use crate::outcome::LineOutcome;
+use scenario::{LogNumbers, Scenario, Window};
+
+/// Whether a time lies in the window of lines: from a gap before the first tick to a gap behind the last.
+fn lies_in(window: &Window, gap: u32, time: u64) -> bool
+    ensures { result ≡ lies_in window.now gap time }
+{
+    let gap = u64::from(gap);
+    let length = u64::from(window.ticks) * u64::from(window.tick);
+    let last = window.start.saturating_add(length).saturating_add(gap);
+    window.start <= time.saturating_add(gap) && time <= last
+}
+
+/// Whether the clock is past a time by more than the slack.
+fn is_late(slack: u32, clock: Option<u64>, time: u64) -> bool
+    ensures { result ≡ is_late slack clock time }
+{
+    match clock {
+        None => false,
+        Some(clock) => time.saturating_add(u64::from(slack)) < clock,
+    }
+}
+
+/// The nearest stamp and the clock, behind the lines so far.
+#[derive(Clone, Copy, Debug, PartialEq, Eq)]
+pub(crate) struct LineTimes {
+    window: Window,
+    log: LogNumbers,
+    /// The stamp of the last line that has one.
+    nearest: Option<u64>,
+    /// The greatest stamp that lies in the window of lines.
+    clock: Option<u64>,
+}
+
+impl LineTimes {
+    ghost use Rattle.std.specs.Prelude.{[]};
+    ghost use Rattle.judged_lines.specs.Inner.Times.{KeepsTimes, clock_behind, nearest_of, times_behind, untimely_by};
+
+    /// No line came yet.
+    pub(crate) fn new(scenario: &Scenario) -> LineTimes
+        ensures { KeepsTimes result scenario.now [] }
+    {
+        LineTimes {
+            window: scenario.window,
+            log: scenario.log,
+            nearest: None,
+            clock: None,
+        }
+    }
+
+    /// The time of the next line, in seconds: its stamp, else the nearest stamp, else the window's start.
+    pub(crate) fn time(&self, stamp: Option<u64>) -> u64
+        ensures { result ≡ unwrap_or (nearest_of stamp self.now.nearest) self.now.window.start }
+    {
+        match (stamp, self.nearest) {
+            (Some(stamp), _) => stamp,
+            (None, Some(nearest)) => nearest,
+            (None, None) => self.window.start,
+        }
+    }
+
+    /// Why a sentence of this time is not heard.
+    pub(crate) fn untimely(&self, time: u64) -> Option<LineOutcome>
+        ensures { result ≡ untimely_by self.now time }
+    {
+        if !lies_in(&self.window, self.log.gap, time) {
+            return Some(LineOutcome::Outside);
+        }
+        if is_late(self.log.slack, self.clock, time) {
+            return Some(LineOutcome::Late);
+        }
+        None
+    }
+
+    /// The clock behind a stamp.
+    fn clock_behind(&self, stamp: u64) -> Option<u64>
+        ensures { result ≡ clock_behind self.now.window self.now.log.gap self.now.clock stamp }
+    {
+        if !lies_in(&self.window, self.log.gap, stamp) {
+            return self.clock;
+        }
+        match self.clock {
+            Some(clock) => Some(stamp.max(clock)),
+            None => Some(stamp),
+        }
+    }
+
+    /// Takes the next line's stamp.
+    pub(crate) fn pass(&mut self, stamp: Option<u64>)
+        ensures { self.new ≡ times_behind self.old stamp }
+    {
+        if let Some(stamp) = stamp {
+            self.clock = self.clock_behind(stamp);
+            self.nearest = Some(stamp);
+        }
+    }
+}
