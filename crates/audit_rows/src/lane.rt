@@ -1,5 +1,5 @@
 //! The latest stretch of one track.
-ghost use Rattle.std.specs.Prelude.{◌≡◌, ℕ};
+ghost use Rattle.std.specs.Prelude.{◌≡◌, ℕ, Some};
 ghost use Rattle.audit_rows.specs.declared.mark.Mark.TheVariants.{Nothing};
 ghost use Rattle.audit_rows.specs.Inner.Closed.{Closes};
 ghost use Rattle.audit_rows.specs.Inner.Lanes.{Stands};
@@ -28,27 +28,35 @@ impl Lane {
         }
     }
 
-    /// Takes the next mark, which is for the step. Gives the row of the stretch that it ends, if rows tell of that.
+    /// Takes the next mark, which is for the step. Gives the row of the stretch that it ends, if rows tell of that. Most marks go on
+    /// with the stretch, so that case is in line.
+    #[inline(always)]
     pub(crate) fn push(&mut self, step: u32, mark: Mark) -> Option<Row>
         ensures stands { (track : Track) → Stands self.old track → step ≡ next_step track → Stands self.new (longer track mark) }
         ensures closes { (track : Track) → Stands self.old track → Closes track mark result }
     {
-        let latest = self.latest;
+        let Some(stretch) = &mut self.latest else {
+            self.turn(step, mark);
+            return None;
+        };
+        if stretch.mark.is_like(mark) {
+            stretch.go_on(step, mark);
+            return None;
+        }
+        let ended = *stretch;
+        self.turn(step, mark);
+        ended.row(self.topic)
+    }
+
+    /// Begins a stretch with this mark.
+    fn turn(&mut self, step: u32, mark: Mark)
+        ensures { self.new ≡ record self.old { latest = Some (record { first = step; last = step; mark = mark }) } }
+    {
         self.latest = Some(Stretch {
             first: step,
             last: step,
             mark,
         });
-        let stretch = latest?;
-        if stretch.mark.is_like(mark) {
-            self.latest = Some(Stretch {
-                first: stretch.first,
-                last: step,
-                mark: stretch.mark.join(mark),
-            });
-            return None;
-        }
-        stretch.row(self.topic)
     }
 
     /// The row of the stretch that the track's end ends.

@@ -24,6 +24,7 @@ pub enum Mark {
 
 impl Mark {
     /// Whether both, as neighbours, stand in one stretch.
+    #[inline(always)]
     pub(crate) fn is_like(self, other: Mark) -> bool
         ensures { IsTrue result ↔ (sort_of self ≡ sort_of other) }
     {
@@ -37,6 +38,7 @@ impl Mark {
     }
 
     /// Both as one: the kind of the first, and the lesser distance.
+    #[inline(always)]
     pub(crate) fn join(self, next: Mark) -> Mark
         ensures { result ≡ join self next }
     {

@@ -98,6 +98,7 @@ impl RowQueue {
     }
 
     /// Takes the next mark, which is for the step, of the track at the index. Where there is no such track it does nothing.
+    #[inline(always)]
     pub fn mark(&mut self, index: usize, step: u32, mark: Mark) -> Result<(), Memory>
         ensures { OnOk result ((tracks : List Track) (bound : ℕ) (given : List Row) → StandsFor self.old tracks bound given
             → IsNextAt tracks index step → StandsFor self.new (marked tracks index mark) bound given) }

@@ -1,6 +1,7 @@
 //! A stretch of marks of one sort.
 ghost use Rattle.std.specs.Prelude.{◌≡◌};
 ghost use Rattle.audit_rows.specs.Inner.Lanes.{row_of};
+ghost use Rattle.audit_rows.specs.Inner.Sorts.{join};
 
 use crate::mark::Mark;
 use crate::row::Row;
@@ -15,6 +16,15 @@ pub(crate) struct Stretch {
 }
 
 impl Stretch {
+    /// Takes one mark more of its sort, which is for the step.
+    #[inline(always)]
+    pub(crate) fn go_on(&mut self, step: u32, mark: Mark)
+        ensures { self.new ≡ record self.old { last = step; mark = join self.old.mark mark } }
+    {
+        self.last = step;
+        self.mark = self.mark.join(mark);
+    }
+
     /// Its row, if rows of the topic tell of such a stretch.
     pub(crate) fn row(&self, topic: Topic) -> Option<Row>
         ensures { result ≡ row_of topic self.now }
