@@ -14,6 +14,7 @@ use audit_report::ReportText;
 use judged_lines::{Judge, judge_log};
 use scenario::Scenario;
 use std::alloc::Global;
+use tracks::Keeping;
 
 /// The report on a log.
 pub(crate) fn audit_report(
@@ -26,7 +27,7 @@ pub(crate) fn audit_report(
     ensures calm { OnOk result (IsCalm Audit scenario.now log.now) }
     ensures cause { IfErr result (EndingCause Audit scenario.now log.now) }
 {
-    let mut judge = Judge::new(alloc, scenario);
+    let mut judge = Judge::new(alloc, Keeping::Tracks, scenario);
     judge_log(&mut judge, log)?;
     let mut text = ReportText::new(alloc);
     let totals = write_audit(alloc, scenario, judge.book(), &mut text)?;

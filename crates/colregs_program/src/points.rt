@@ -19,7 +19,7 @@ use judged_lines::{Judge, Judged, first_line};
 use outside::Memory;
 use scenario::Scenario;
 use std::alloc::Global;
-use tracks::BookFault;
+use tracks::{BookFault, Keeping};
 
 /// Writes the rows of a line: that of its accepted report, if it has one.
 #[inline(always)]
@@ -70,7 +70,7 @@ pub(crate) fn points_report(
     ensures calm { OnOk result (IsCalm Points scenario.now log.now) }
     ensures cause { IfErr result (EndingCause Points scenario.now log.now) }
 {
-    let mut judge = Judge::new(alloc, scenario);
+    let mut judge = Judge::new(alloc, Keeping::Latest, scenario);
     let mut text = ReportText::new(alloc);
     take_lines(&mut judge, &mut text, log)?;
     write_counts(&mut text, judge.counts(), all_outcomes())?;

@@ -7,6 +7,7 @@ ghost use Rattle.judged_lines.specs.JudgedLines.{numbers_of};
 ghost use Rattle.scenario.specs.ScenarioValues.{IsInRange, IsWindow};
 ghost use Rattle.tracks.specs.Standing.{StandsFor as BookStandsFor};
 ghost use Rattle.tracks.specs.VesselsHeld.{Sent};
+ghost use Rattle.tracks.specs.declared.keeping.Keeping.TheVariants.{Tracks};
 ghost use Rattle.colregs_program.specs.AuditReport.{audit_numbers, sighted, stretch_fields, stretch_rows, time_of_tick};
 ghost use Rattle.colregs_program.specs.Endings.{greatest_traces};
 ghost use Rattle.colregs_program.specs.Inner.AuditWriting.{AreOfRules, IsAudited, IsOfRules};
@@ -85,6 +86,7 @@ pub(crate) fn write_audit(
     text: &mut ReportText,
 ) -> Result<Vec<Total>, EndingFault>
     requires in_range { IsInRange scenario.now }
+    requires keeping { book.now.keeping ≡ Tracks }
     requires numbers { book.now.numbers ≡ numbers_of scenario.now }
     ensures audited { IfOk result (λ totals. (messages : List Sent) (front : List ℕ) → BookStandsFor book.now (numbers_of scenario.now) messages
         → HasText text.old front → IsAudited scenario.now messages text.new front totals.items) }

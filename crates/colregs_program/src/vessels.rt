@@ -6,6 +6,7 @@ ghost use Rattle.audit_report.specs.ReportTexts.{HasText};
 ghost use Rattle.tracks.specs.AcceptedReports.{Numbers};
 ghost use Rattle.tracks.specs.Standing.{StandsFor as BookStandsFor};
 ghost use Rattle.tracks.specs.VesselsHeld.{Sent, is_held, legs_of, statics_of};
+ghost use Rattle.tracks.specs.declared.keeping.Keeping.TheVariants.{Tracks};
 ghost use Rattle.colregs_program.specs.AuditReport.{held_fields, kind_of, length_of, vessel_rows};
 
 use ais_messages::{ShipData, Text20};
@@ -35,6 +36,7 @@ fn length_of(ship: Option<ShipData>) -> u32
 
 /// How many legs join the reports of a vessel.
 fn count_legs(book: &Book, mmsi: u32) -> u64
+    requires { book.now.keeping ≡ Tracks }
     ensures { (numbers : Numbers) (messages : List Sent) → BookStandsFor book.now numbers messages → is_held numbers messages mmsi ≡ true
         → result ≡ length (legs_of numbers messages mmsi) }
 {
@@ -62,6 +64,7 @@ fn ship_told(book: &Book, mmsi: u32) -> Option<ShipData>
 
 /// Writes the row of a vessel that is held.
 fn write_vessel(text: &mut ReportText, book: &Book, mmsi: u32) -> Result<(), Memory>
+    requires { book.now.keeping ≡ Tracks }
     ensures { OnOk result ((numbers : Numbers) (messages : List Sent) (front : List ℕ) → BookStandsFor book.now numbers messages
         → is_held numbers messages mmsi ≡ true → HasText text.old front
         → HasText text.new (front ++ row_of (held_fields numbers messages mmsi))) }
@@ -79,6 +82,7 @@ fn write_vessel(text: &mut ReportText, book: &Book, mmsi: u32) -> Result<(), Mem
 
 /// Writes the rows of all vessels that are held, in the order of their MMSIs.
 pub(crate) fn write_vessels(text: &mut ReportText, book: &Book) -> Result<(), Memory>
+    requires { book.now.keeping ≡ Tracks }
     ensures { OnOk result ((numbers : Numbers) (messages : List Sent) (front : List ℕ) → BookStandsFor book.now numbers messages
         → HasText text.old front → HasText text.new (front ++ vessel_rows numbers messages)) }
 {

@@ -10,6 +10,11 @@ use Rattle.judged_lines.specs.SentLines.{heard, sent}
 use Rattle.judged_lines.specs.Inner.Times.{KeepsTimes}
 use Rattle.judged_lines.specs.declared.judged.Judged.{Judged}
 use Rattle.judged_lines.specs.declared.judge.Judge.{Judge}
+use Rattle.tracks.specs.declared.keeping.Keeping.{Keeping}
+
+-- how much of each vessel its book keeps
+abbrev pub keeping_of : Judge → Keeping
+keeping_of judge = judge.book.keeping
 
 -- whether a line came to the outcome at this index
 abbrev pub is_at_place : ℕ → Judged → Bool

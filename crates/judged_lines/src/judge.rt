@@ -23,7 +23,7 @@ use ais_messages::{Decoded, Message, PositionReport, decode, position};
 use aivdm::{Body, Joined, Joiner, Sentence, SentenceRoom, read_line};
 use scenario::Scenario;
 use std::alloc::Global;
-use tracks::{Accepted, Book, BookFault, Entry};
+use tracks::{Accepted, Book, BookFault, Entry, Keeping};
 
 /// What a message comes to, from its entry in the book.
 fn judged(message: &Message, time: u64, entry: Entry) -> Judged
@@ -86,19 +86,22 @@ pub struct Judge {
 impl Judge {
     ghost use Rattle.std.specs.Prelude.{◌-◌, min, slice_set};
     ghost use Rattle.judged_lines.specs.LineOutcomes.{place_of};
-    ghost use Rattle.judged_lines.specs.Standing.{AreCounts, StandsFor};
+    ghost use Rattle.judged_lines.specs.Standing.{AreCounts, StandsFor, keeping_of};
     ghost use Rattle.judged_lines.specs.Inner.JudgeState.{Enters, GoesOn, heard_by, held_with};
 
-    /// A judge by the numbers of a scenario, to whom no line came yet. This takes no memory.
-    pub fn new(alloc: Global, scenario: &Scenario) -> Judge
+    /// A judge by the numbers of a scenario, to whom no line came yet, and whose book keeps so much of each vessel. This takes no
+    /// memory.
+    pub fn new(alloc: Global, keeping: Keeping, scenario: &Scenario) -> Judge
         requires { IsInRange scenario.now }
-        ensures { StandsFor result scenario.now [] }
+        ensures keeping { keeping_of result ≡ keeping }
+        ensures stands { StandsFor result scenario.now [] }
     {
         Judge {
             times: LineTimes::new(scenario),
             joiner: Joiner::new(alloc),
             book: Book::new(
                 alloc,
+                keeping,
                 scenario.reference,
                 scenario.log.gap,
                 scenario.log.max_speed,
@@ -117,7 +120,8 @@ impl Judge {
 
     /// The book of vessels, as the lines so far tell of them.
     pub fn book(&self) -> &Book
-        ensures { (scenario : Scenario) (lines : List (List ℕ)) → StandsFor self.now scenario lines
+        ensures keeping { result.now.keeping ≡ keeping_of self.now }
+        ensures stands { (scenario : Scenario) (lines : List (List ℕ)) → StandsFor self.now scenario lines
             → BookStandsFor result.now (numbers_of scenario) (sent scenario lines) }
     {
         &self.book
@@ -142,6 +146,7 @@ impl Judge {
         ensures crowded { result ≡ Err TooManyVessels → (numbers : Numbers) (before : List Sent) → BookStandsFor self.old.book numbers before
             → greatest_held < held_with numbers before (Ok (record { message = message.now; time = time })) }
         ensures same { self.new ≡ record self.old { book = self.new.book } }
+        ensures keeping { keeping_of self.new ≡ keeping_of self.old }
     {
         let entry = self.book.take(message, time)?;
         Ok(judged(message, time, entry))
@@ -156,6 +161,7 @@ impl Judge {
         ensures crowded { result ≡ Err TooManyVessels → (numbers : Numbers) (before : List Sent) → BookStandsFor self.old.book numbers before
             → greatest_held < held_with numbers before (sent_decoded time decoded.now) }
         ensures same { self.new ≡ record self.old { book = self.new.book } }
+        ensures keeping { keeping_of self.new ≡ keeping_of self.old }
     {
         match decoded {
             Decoded::Message(message) => self.judge_message(message, time),
@@ -172,6 +178,7 @@ impl Judge {
         ensures crowded { result ≡ Err TooManyVessels → (numbers : Numbers) (before : List Sent) → BookStandsFor self.old.book numbers before
             → greatest_held < held_with numbers before (Ok (record { message = Position report.now; time = time })) }
         ensures same { self.new ≡ record self.old { book = self.new.book } }
+        ensures keeping { keeping_of self.new ≡ keeping_of self.old }
     {
         let entry = self.book.take_report(report, time)?;
         Ok(judged_report(report, time, entry))
@@ -193,6 +200,7 @@ impl Judge {
             → JoinerStandsFor self.old.joiner taken → BookStandsFor self.old.book numbers messages
             → greatest_held < held_with numbers messages (sent_heard taken (Ok (record { sentence = fields_seen sentence.now; time = time }))) }
         ensures same { self.new ≡ record self.old { joiner = self.new.joiner; book = self.new.book } }
+        ensures keeping { keeping_of self.new ≡ keeping_of self.old }
     {
         match report_of(room, sentence) {
             Some(report) => self.judge_report(&report, time),
@@ -211,6 +219,7 @@ impl Judge {
             → JoinerStandsFor self.old.joiner taken → BookStandsFor self.old.book numbers messages
             → greatest_held < held_with numbers messages (sent_heard taken (Ok (record { sentence = fields_seen sentence.now; time = time }))) }
         ensures same { self.new ≡ record self.old { joiner = self.new.joiner; book = self.new.book } }
+        ensures keeping { keeping_of self.new ≡ keeping_of self.old }
     {
         match self.joiner.take(sentence, time)? {
             Joined::Message(bits) => self.judge_decoded(&decode(&bits), time),
@@ -235,6 +244,7 @@ impl Judge {
             → JoinerStandsFor self.old.joiner taken → BookStandsFor self.old.book numbers messages
             → greatest_held < held_with numbers messages (sent_heard taken (heard_by self.old.times time (body_seen body.now))) }
         ensures same { self.new ≡ record self.old { joiner = self.new.joiner; book = self.new.book } }
+        ensures keeping { keeping_of self.new ≡ keeping_of self.old }
     {
         match body {
             Body::Dropped(cause) => Ok(Judged::Without((*cause).into())),
@@ -253,6 +263,7 @@ impl Judge {
             → judged ≡ judged_line scenario before line.now) }
         ensures stands { OnOk result ((scenario : Scenario) (before : List (List ℕ)) → length before + 1 < 2 ^ 64
             → StandsFor self.old scenario before → StandsFor self.new scenario (before ++ line.now ∷ [])) }
+        ensures keeping { keeping_of self.new ≡ keeping_of self.old }
         ensures crowded { result ≡ Err TooManyVessels → (scenario : Scenario) (before : List (List ℕ)) → StandsFor self.old scenario before
             → greatest_held < held_behind scenario before line.now }
     {

@@ -4,7 +4,7 @@ ghost use Rattle.scenario.specs.declared.values.Scenario.{Scenario};
 ghost use Rattle.tracks.specs.declared.entry.BookFault.TheVariants.{TooManyVessels};
 ghost use Rattle.judged_lines.specs.JudgedLines.{is_crowded};
 ghost use Rattle.judged_lines.specs.LogLines.{lines_of};
-ghost use Rattle.judged_lines.specs.Standing.{StandsFor};
+ghost use Rattle.judged_lines.specs.Standing.{StandsFor, keeping_of};
 
 use crate::judge::Judge;
 use crate::log_lines::first_line;
@@ -16,6 +16,7 @@ use tracks::BookFault;
 pub fn judge_log(judge: &mut Judge, log: &[u8]) -> Result<(), BookFault>
     ensures lines { OnOk result ((scenario : Scenario) → StandsFor judge.old scenario []
         → StandsFor judge.new scenario (lines_of log.now)) }
+    ensures keeping { keeping_of judge.new ≡ keeping_of judge.old }
     ensures crowded { result ≡ Err TooManyVessels → (scenario : Scenario) → StandsFor judge.old scenario []
         → IsTrue (is_crowded scenario (lines_of log.now)) }
 {

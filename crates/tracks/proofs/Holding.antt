@@ -11,7 +11,9 @@ use Rattle.tracks.specs.VesselsHeld.{Sent, accepted_of, held_of, is_held, legs_o
 use Rattle.tracks.specs.Inner.AscendingNumbers.{Ascends}
 use Rattle.tracks.specs.Inner.Keeping.{accepted_in, makes_held, points_with, untold}
 use Rattle.tracks.specs.declared.accepted.Accepted.{Accepted}
+use Rattle.tracks.specs.declared.keeping.Keeping.{Keeping}
 use Rattle.tracks.proofs.Ascending.{IsAmong, among-with_number, among_passes, filter-ascends, filter_none_more, filter_one_more, itself_among, passes_among, with_number-ascends}
+use Rattle.tracks.proofs.KeptReports.{kept_legs-none, kept_points-none}
 use Rattle.tracks.proofs.Messages.{accepted_of-other, accepted_of-own, static_reports_of-other, static_reports_of-own}
 
 -- ---- a vessel
@@ -58,9 +60,11 @@ pub no_statics : (numbers : Numbers) (sent : List Sent) (mmsi : ℕ) → is_held
 unfolding is_held
 no_statics numbers sent mmsi h = (none_left (accepted_of numbers sent mmsi) (static_reports_of sent mmsi) h).1
 
-pub vessel_untold : (numbers : Numbers) (sent : List Sent) (mmsi : ℕ) → is_held numbers sent mmsi ≡ false → vessel_of numbers sent mmsi ≡ untold
+pub vessel_untold : (keeping : Keeping) (numbers : Numbers) (sent : List Sent) (mmsi : ℕ) → is_held numbers sent mmsi ≡ false
+    → vessel_of keeping numbers sent mmsi ≡ untold
 unfolding legs_of statics_of
-vessel_untold numbers sent mmsi h = rw (no_points numbers sent mmsi h, no_statics numbers sent mmsi h) refl
+vessel_untold keeping numbers sent mmsi h =
+    rw (no_points numbers sent mmsi h, no_statics numbers sent mmsi h, kept_points-none keeping, kept_legs-none keeping) refl
 
 either : (o : Option Accepted) (p : Option StaticReport) → some_of (points_with [] o) ([] ++ option_to_list p) ≡ (is_some p || is_some o)
 either None None = refl

@@ -5,15 +5,18 @@ use Rattle.std.specs.Option.{option_to_list}
 use Rattle.std.specs.List.{All, AllAdjacentBelow, cons_option, last_or}
 use Rattle.std.proofs.lemmas.Bool.Decides.{nat_tests}
 use Rattle.std.proofs.lemmas.List.{append-nil, get_or_append_left}
-use Rattle.std.proofs.lemmas.List.Elements.{All-push}
+use Rattle.std.proofs.lemmas.List.Elements.{All-nil, All-push}
 use Rattle.std.proofs.Math.Seq.{get_or-append_seam}
 use Rattle.motion.specs.TickStates.{AreJoined, Meets}
 use Rattle.motion.specs.declared.leg.Leg.{Leg}
 use Rattle.motion.proofs.LastPassing.{last_or-at}
 use Rattle.tracks.specs.JoinedReports.{joined, leg_between, legs_between, legs_from}
 use Rattle.tracks.specs.Inner.Keeping.{EndsAt, IsKept, joined_after, vessel_with}
-use Rattle.tracks.specs.Standing.{IsAccepted, VesselValue}
+use Rattle.tracks.specs.Standing.{IsAccepted, VesselValue, kept_points}
 use Rattle.tracks.specs.declared.accepted.Accepted.{Accepted}
+use Rattle.tracks.specs.declared.keeping.Keeping.{Keeping}
+use Rattle.tracks.specs.declared.keeping.Keeping.TheVariants.{Latest, Tracks}
+use Rattle.tracks.proofs.KeptReports.{kept_points-push, latest_alone}
 use Rattle.tracks.proofs.Lasts.{last_or-push}
 
 -- ---- the legs
@@ -91,7 +94,7 @@ after_meets : (gap : ℕ) (o : Option Leg) (leg : Leg) → IfSome o (λ last. Me
 after_meets gap None leg h = tt
 after_meets gap (Some last) leg h = elim h [ inl m ↦ (let e = m.time in omega arith) | inr lt ↦ omega arith ]
 
-pub leg_after : (gap : ℕ) (vessel : VesselValue) (now : Accepted) (leg : Leg) → IsKept gap vessel → joined_after gap (last_or None vessel.points) now ≡ Some leg
+pub leg_after : (gap : ℕ) (vessel : VesselValue) (now : Accepted) (leg : Leg) → IsKept Tracks gap vessel → joined_after gap (last_or None vessel.points) now ≡ Some leg
     → IfSome (last_or None vessel.legs) (λ last. last.t2 ≤ leg.t1)
 leg_after gap vessel now leg h e = after_meets gap (last_or None vessel.legs) leg (with_leg gap (last_or None vessel.points) vessel.legs now leg h.ends e)
 
@@ -101,12 +104,13 @@ some_leg (Some latest) gap now leg e =
     let is = joined-some gap latest now leg e in
     (ap (λ (l : Leg). l.t2) is, ap (λ (l : Leg). l.p2) is)
 
-pub kept_joined : (gap : ℕ) (vessel new : VesselValue) (now : Accepted) (leg : Leg) → IsKept gap vessel → IsAccepted now
-    → joined_after gap (last_or None vessel.points) now ≡ Some leg → new.points ≡ vessel.points ++ now ∷ [] → new.legs ≡ vessel.legs ++ leg ∷ [] → IsKept gap new
+pub kept_joined : (gap : ℕ) (vessel new : VesselValue) (now : Accepted) (leg : Leg) → IsKept Tracks gap vessel → IsAccepted now
+    → joined_after gap (last_or None vessel.points) now ≡ Some leg → new.points ≡ vessel.points ++ now ∷ [] → new.legs ≡ vessel.legs ++ leg ∷ [] → IsKept Tracks gap new
 kept_joined gap vessel new now leg h is e points legs =
     let ends : IfSome (Some now) (λ latest. IfSome (Some leg) (EndsAt gap latest)) = inl (some_leg (last_or None vessel.points) gap now leg e) in
     record {
       points = subst (λ (xs : List Accepted). All IsAccepted xs) (sym points) (All-push IsAccepted vessel.points now h.points is);
+      no_others = refl;
       legs = legs ∙ ap (λ (xs : List Leg). xs ++ leg ∷ []) h.legs ∙ ap (λ (o : Option Leg). legs_between gap vessel.points ++ option_to_list o) (sym e)
           ∙ sym (legs_between-push gap vessel.points now) ∙ ap (legs_between gap) (sym points);
       ends = rw (points, legs, last_or-push, last_or-push) ends;
@@ -132,12 +136,13 @@ no_leg gap (x ∷ xs) legs now same ends e = past (last_or (Some x) xs) (last_or
     past None some ends e = absurd (cc)
     past (Some latest) some ends e = later gap latest now (last_or None legs) (joined-none gap latest now e) ends
 
-pub kept_apart : (gap : ℕ) (vessel new : VesselValue) (now : Accepted) → IsKept gap vessel → IsAccepted now
-    → joined_after gap (last_or None vessel.points) now ≡ None → new.points ≡ vessel.points ++ now ∷ [] → new.legs ≡ vessel.legs → IsKept gap new
+pub kept_apart : (gap : ℕ) (vessel new : VesselValue) (now : Accepted) → IsKept Tracks gap vessel → IsAccepted now
+    → joined_after gap (last_or None vessel.points) now ≡ None → new.points ≡ vessel.points ++ now ∷ [] → new.legs ≡ vessel.legs → IsKept Tracks gap new
 kept_apart gap vessel new now h is e points legs =
     let ends : IfSome (Some now) (λ latest. IfSome (last_or None vessel.legs) (EndsAt gap latest)) = no_leg gap vessel.points vessel.legs now h.legs h.ends e in
     record {
       points = subst (λ (xs : List Accepted). All IsAccepted xs) (sym points) (All-push IsAccepted vessel.points now h.points is);
+      no_others = refl;
       legs = legs ∙ h.legs ∙ sym (append-nil (legs_between gap vessel.points)) ∙ ap (λ (o : Option Leg). legs_between gap vessel.points ++ option_to_list o) (sym e)
           ∙ sym (legs_between-push gap vessel.points now) ∙ ap (legs_between gap) (sym points);
       ends = rw (points, legs, last_or-push) ends;
@@ -146,30 +151,58 @@ kept_apart gap vessel new now h is e points legs =
 
 -- ---- a vessel with one more accepted report
 
-pub record HasTaken (gap : ℕ) (old new : VesselValue) (now : Accepted) : Type 0 where
-  pub kept : IsKept gap new
-  pub is : new ≡ vessel_with gap old (Some now)
+pub record HasTaken (keeping : Keeping) (gap : ℕ) (old new : VesselValue) (now : Accepted) : Type 0 where
+  pub kept : IsKept keeping gap new
+  pub is : new ≡ vessel_with keeping gap old (Some now)
 
-has_taken : (gap : ℕ) (old new : VesselValue) (now : Accepted) → IsKept gap new → new.points ≡ old.points ++ now ∷ [] → new.statics ≡ old.statics → HasTaken gap old new now
-has_taken gap old new now kept points statics =
-    let legs : new.legs ≡ legs_between gap (old.points ++ now ∷ []) = kept.legs ∙ ap (legs_between gap) points in
+has_taken : (keeping : Keeping) (gap : ℕ) (old new : VesselValue) (now : Accepted) → IsKept keeping gap new → new.points ≡ kept_points keeping (old.points ++ now ∷ [])
+    → new.statics ≡ old.statics → HasTaken keeping gap old new now
+has_taken keeping gap old new now kept points statics =
+    let legs : new.legs ≡ legs_between gap (kept_points keeping (old.points ++ now ∷ [])) = kept.legs ∙ ap (legs_between gap) points in
     record { kept = kept; is = λ i. record { points = points i; legs = legs i; statics = statics i } }
 
-pub takes_joined : (gap : ℕ) (old inside new : VesselValue) (now : Accepted) (leg : Leg) → inside ≡ old → IsKept gap old → IsAccepted now
+pub takes_joined : (gap : ℕ) (old inside new : VesselValue) (now : Accepted) (leg : Leg) → inside ≡ old → IsKept Tracks gap old → IsAccepted now
     → joined_after gap (last_or None inside.points) now ≡ Some leg → new.points ≡ inside.points ++ now ∷ [] → new.legs ≡ inside.legs ++ leg ∷ []
-    → new.statics ≡ inside.statics → HasTaken gap old new now
+    → new.statics ≡ inside.statics → HasTaken Tracks gap old new now
 takes_joined gap old inside new now leg same h is e points legs statics =
-    let kept : IsKept gap inside = subst (IsKept gap) (sym same) h in
+    let kept : IsKept Tracks gap inside = subst (IsKept Tracks gap) (sym same) h in
     let new-kept = kept_joined gap inside new now leg kept is e points legs in
-    subst (λ (v : VesselValue). HasTaken gap v new now) same (has_taken gap inside new now new-kept points statics)
+    subst (λ (v : VesselValue). HasTaken Tracks gap v new now) same (has_taken Tracks gap inside new now new-kept points statics)
 
-pub takes_apart : (gap : ℕ) (old inside new : VesselValue) (now : Accepted) → inside ≡ old → IsKept gap old → IsAccepted now
+pub takes_apart : (gap : ℕ) (old inside new : VesselValue) (now : Accepted) → inside ≡ old → IsKept Tracks gap old → IsAccepted now
     → joined_after gap (last_or None inside.points) now ≡ None → new.points ≡ inside.points ++ now ∷ [] → new.legs ≡ inside.legs
-    → new.statics ≡ inside.statics → HasTaken gap old new now
+    → new.statics ≡ inside.statics → HasTaken Tracks gap old new now
 takes_apart gap old inside new now same h is e points legs statics =
-    let kept : IsKept gap inside = subst (IsKept gap) (sym same) h in
+    let kept : IsKept Tracks gap inside = subst (IsKept Tracks gap) (sym same) h in
     let new-kept = kept_apart gap inside new now kept is e points legs in
-    subst (λ (v : VesselValue). HasTaken gap v new now) same (has_taken gap inside new now new-kept points statics)
+    subst (λ (v : VesselValue). HasTaken Tracks gap v new now) same (has_taken Tracks gap inside new now new-kept points statics)
+
+-- ---- a vessel of whom the latest report alone is kept
+
+kept_latest : (gap : ℕ) (old new : VesselValue) (now : Accepted) → IsKept Latest gap old → IsAccepted now → new.points ≡ now ∷ [] → new.legs ≡ old.legs → IsKept Latest gap new
+kept_latest gap old new now h is points legs =
+    let none : new.legs ≡ [] = legs ∙ h.legs ∙ latest_alone gap old.points h.no_others in
+    let alone : new.points ≡ kept_points Latest new.points = points ∙ ap (kept_points Latest) (sym points) in
+    let ends : IfSome (Some now) (λ latest. IfSome (last_or None []) (EndsAt gap latest)) = tt in
+    record {
+      points = rw points (All-push IsAccepted [] now (All-nil IsAccepted) is);
+      no_others = alone;
+      legs = none ∙ sym (latest_alone gap new.points alone);
+      ends = rw (points, none) ends;
+      are_joined = subst (λ (xs : List Leg). AreJoined gap xs) (sym legs) h.are_joined;
+    }
+
+takes_alone : (gap : ℕ) (old new : VesselValue) (now : Accepted) → IsKept Latest gap old → IsAccepted now → new ≡ record old { points = now ∷ [] }
+    → HasTaken Latest gap old new now
+takes_alone gap old new now h is e =
+    let points : new.points ≡ now ∷ [] = ap (λ (v : VesselValue). v.points) e in
+    has_taken Latest gap old new now (kept_latest gap old new now h is points (ap (λ (v : VesselValue). v.legs) e)) (points ∙ sym (kept_points-push old.points now))
+    (ap (λ (v : VesselValue). v.statics) e)
+
+pub takes_latest : (keeping : Keeping) (gap : ℕ) (old new : VesselValue) (now : Accepted) → keeping ≡ Latest → IsKept keeping gap old → IsAccepted now
+    → new ≡ record old { points = now ∷ [] } → HasTaken keeping gap old new now
+takes_latest keeping gap old new now latest h is e =
+    subst (λ (k : Keeping). HasTaken k gap old new now) (sym latest) (takes_alone gap old new now (subst (λ (k : Keeping). IsKept k gap old) latest h) is e)
 
 pub joined-within : (gap : ℕ) (latest now : Accepted) (leg : Leg) → joined gap latest now ≡ Some leg → now.time ≤ latest.time + gap
 joined-within gap latest now leg e = grind (arith, nat_tests)

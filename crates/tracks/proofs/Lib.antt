@@ -1,5 +1,6 @@
 pub mod Ascending
 pub mod Lasts
+pub mod KeptReports
 pub mod Joining
 pub mod Messages
 pub mod Holding

@@ -14,9 +14,11 @@ use Rattle.motion.specs.declared.leg.Leg.{Leg}
 use Rattle.motion.specs.declared.leg.TickState.{TickState}
 use Rattle.tracks.specs.AcceptedReports.{Numbers}
 use Rattle.tracks.specs.SeenVessels.{seen_in, seen_of, sighting}
-use Rattle.tracks.specs.Standing.{BookValue, StandsFor, VesselValue, legs_among, legs_in}
-use Rattle.tracks.specs.VesselsHeld.{Sent}
+use Rattle.tracks.specs.Standing.{BookValue, StandsFor, VesselValue, kept_legs, legs_among, legs_in}
+use Rattle.tracks.specs.VesselsHeld.{Sent, legs_of}
 use Rattle.tracks.specs.Inner.AscendingNumbers.{Ascends}
+use Rattle.tracks.specs.declared.keeping.Keeping.{Keeping}
+use Rattle.tracks.specs.declared.keeping.Keeping.TheVariants.{Tracks}
 use Rattle.tracks.proofs.Ascending.{ascends_lt}
 use Rattle.tracks.proofs.Settled.{legs_in-is}
 
@@ -61,9 +63,13 @@ seen_all book time at seen le h = h ∙ ap (filter_map (sighting time (legs_in b
 
 -- ---- by the messages
 
-pub seen_in-is : (book : BookValue) (numbers : Numbers) (sent : List Sent) (time : ℕ) → StandsFor book numbers sent → seen_in book time ≡ seen_of numbers sent time
+pub seen_in-is : (book : BookValue) (numbers : Numbers) (sent : List Sent) (time : ℕ) → book.keeping ≡ Tracks → StandsFor book numbers sent
+    → seen_in book time ≡ seen_of numbers sent time
 unfolding seen_in seen_of
-seen_in-is book numbers sent time h = λ i. filter_map (sighting time (λ m. legs_in-is book numbers sent m h i)) (h.holds i)
+seen_in-is book numbers sent time all h =
+    let legs : (m : ℕ) → legs_in book m ≡ legs_of numbers sent m =
+    λ m. legs_in-is book numbers sent m h ∙ ap (λ (keeping : Keeping). kept_legs keeping (legs_of numbers sent m)) all in
+    λ i. filter_map (sighting time (λ m. legs m i)) (h.holds i)
 
 -- ---- what holds of each vessel seen
 

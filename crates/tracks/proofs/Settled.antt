@@ -14,13 +14,16 @@ use Rattle.fixed_geometry.specs.declared.point.Point.{Point}
 use Rattle.ais_messages.specs.declared.message.PositionReport.{PositionReport}
 use Rattle.tracks.specs.AcceptedReports.{Numbers, Reported, at_place, at_point, judged, placed}
 use Rattle.tracks.specs.JoinedReports.{legs_between}
-use Rattle.tracks.specs.Standing.{BookValue, StandsFor, VesselValue, legs_among, legs_in, vessel_of}
+use Rattle.tracks.specs.Standing.{BookValue, StandsFor, VesselValue, kept_legs, legs_among, legs_in, vessel_of}
 use Rattle.tracks.specs.VesselsHeld.{Sent, accepted_of, held_of, is_held, legs_of, report_in, reported_in, sender_of}
 use Rattle.tracks.proofs.Ascending.{IsAmong}
 use Rattle.tracks.proofs.Holding.{held_among, held_passes, no_points}
 use Rattle.tracks.specs.Inner.Keeping.{accepted_by, accepted_in, joined_after, points_with}
 use Rattle.tracks.specs.declared.accepted.Accepted.{Accepted}
 use Rattle.tracks.specs.declared.entry.ReportCause.{ReportCause}
+use Rattle.tracks.specs.declared.keeping.Keeping.{Keeping}
+use Rattle.tracks.specs.declared.keeping.Keeping.TheVariants.{Latest, Tracks}
+use Rattle.tracks.proofs.KeptReports.{kept_legs-none}
 use Rattle.tracks.proofs.Joining.{joined-some, joined-within, legs_between-push}
 use Rattle.tracks.proofs.Messages.{accepted_of-other, accepted_of-own}
 use Rattle.tracks.proofs.OneList.{judged_placed}
@@ -130,22 +133,32 @@ legs_among-none f (n ∷ ms) m not =
     differs (inl same) = absurd (not (inl (sym same)))
     differs (inr other) = grind (arith, nat_tests)
 
-no_legs : (numbers : Numbers) (sent : List Sent) (m : ℕ) → is_held numbers sent m ≡ false → [] ≡ legs_of numbers sent m
+no_legs : (keeping : Keeping) (numbers : Numbers) (sent : List Sent) (m : ℕ) → is_held numbers sent m ≡ false → [] ≡ kept_legs keeping (legs_of numbers sent m)
 unfolding legs_of
-no_legs numbers sent m h = ap (legs_between numbers.gap) (sym (no_points numbers sent m h))
+no_legs keeping numbers sent m h =
+    sym (kept_legs-none keeping) ∙ ap (λ (xs : List Accepted). kept_legs keeping (legs_between numbers.gap xs)) (sym (no_points numbers sent m h))
 
-pub legs_in-is : (book : BookValue) (numbers : Numbers) (sent : List Sent) (m : ℕ) → StandsFor book numbers sent → legs_in book m ≡ legs_of numbers sent m
+pub legs_in-is : (book : BookValue) (numbers : Numbers) (sent : List Sent) (m : ℕ) → StandsFor book numbers sent
+    → legs_in book m ≡ kept_legs book.keeping (legs_of numbers sent m)
 legs_in-is book numbers sent m h =
     (λ i. legs_among (h.holds i) (h.vessels i) m) ∙ decide (is_held numbers sent m) refl
   where
-    decide : (b : Bool) → is_held numbers sent m ≡ b → legs_among (held_of numbers sent) (map (vessel_of numbers sent) (held_of numbers sent)) m ≡ legs_of numbers sent m
-    decide true e = legs_among-own (vessel_of numbers sent) (held_of numbers sent) m (held_among numbers sent m e)
+    decide : (b : Bool) → is_held numbers sent m ≡ b
+        → legs_among (held_of numbers sent) (map (vessel_of book.keeping numbers sent) (held_of numbers sent)) m ≡ kept_legs book.keeping (legs_of numbers sent m)
+    decide true e = legs_among-own (vessel_of book.keeping numbers sent) (held_of numbers sent) m (held_among numbers sent m e)
     decide false e =
-        legs_among-none (vessel_of numbers sent) (held_of numbers sent) m (λ h. let held : is_held numbers sent m ≡ true = held_passes numbers sent m h in absurd (cc))
-        ∙ no_legs numbers sent m e
+        legs_among-none (vessel_of book.keeping numbers sent) (held_of numbers sent) m
+        (λ h. let held : is_held numbers sent m ≡ true = held_passes numbers sent m h in absurd (cc)) ∙ no_legs book.keeping numbers sent m e
 
-pub past_stays_in : (old new : BookValue) (numbers : Numbers) (sent : List Sent) (one : Sent) (mmsi t : ℕ) → StandsFor old numbers sent
+-- also of the legs that are kept
+kept_past : (keeping : Keeping) (numbers : Numbers) (sent : List Sent) (one : Sent) (mmsi t : ℕ) → t + numbers.gap < one.time
+    → state_at t (kept_legs keeping (legs_of numbers (sent ++ one ∷ []) mmsi)) ≡ state_at t (kept_legs keeping (legs_of numbers sent mmsi))
+kept_past Latest numbers sent one mmsi t lt = refl
+kept_past Tracks numbers sent one mmsi t lt = past_stays numbers sent one mmsi t lt
+
+pub past_stays_in : (old new : BookValue) (numbers : Numbers) (sent : List Sent) (one : Sent) (mmsi t : ℕ) → new.keeping ≡ old.keeping → StandsFor old numbers sent
     → StandsFor new numbers (sent ++ one ∷ []) → t + numbers.gap < one.time → state_at t (legs_in new mmsi) ≡ state_at t (legs_in old mmsi)
-past_stays_in old new numbers sent one mmsi t before after lt =
-    ap (state_at t) (legs_in-is new numbers (sent ++ one ∷ []) mmsi after) ∙ past_stays numbers sent one mmsi t lt
-    ∙ ap (state_at t) (sym (legs_in-is old numbers sent mmsi before))
+past_stays_in old new numbers sent one mmsi t same before after lt =
+    ap (state_at t) (legs_in-is new numbers (sent ++ one ∷ []) mmsi after)
+    ∙ ap (λ (keeping : Keeping). state_at t (kept_legs keeping (legs_of numbers (sent ++ one ∷ []) mmsi))) same
+    ∙ kept_past old.keeping numbers sent one mmsi t lt ∙ ap (state_at t) (sym (legs_in-is old numbers sent mmsi before))

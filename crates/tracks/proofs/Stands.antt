@@ -1,17 +1,20 @@
 -- A book stands for one more message.
 use Rattle.std.proofs.Common.{◌≡◌, ◌≢◌, ◌∙◌, ℕ, zero, suc, ◌+◌, ◌<◌, ◌≤◌, inl, inr, Bool, true, false, List, [], ◌∷◌, ◌++◌, length, map, get_or, set, Some, None, refl, ap, sym, subst, arith}
-use Rattle.std.specs.Prelude.{slice_get}
+use Rattle.std.specs.Prelude.{Option, slice_get}
 use Rattle.std.specs.List.{All, Contains, insert, last_or}
 use Rattle.std.proofs.lemmas.List.Edits.{length-insert}
 use Rattle.tracks.specs.AcceptedReports.{Numbers}
-use Rattle.tracks.specs.Standing.{BookValue, StandsFor, VesselValue, vessel_held, vessel_of}
+use Rattle.tracks.specs.Standing.{BookValue, StandsFor, VesselValue, kept_points, vessel_held, vessel_of}
 use Rattle.tracks.specs.VesselsHeld.{Sent, accepted_of, entry_at, entry_of, held_of, is_held, reported_in, sender_of, with_number}
 use Rattle.tracks.specs.Inner.AscendingNumbers.{Ascends}
 use Rattle.tracks.specs.Inner.Keeping.{makes_held, untold, vessel_after}
 use Rattle.tracks.specs.declared.accepted.Accepted.{Accepted}
 use Rattle.tracks.specs.declared.entry.Entry.{Entry}
+use Rattle.tracks.specs.declared.keeping.Keeping.{Keeping}
+use Rattle.tracks.specs.declared.keeping.Keeping.TheVariants.{Tracks}
 use Rattle.tracks.proofs.Ascending.{Contains_from_among, IsAmong, among_above, among_passes, with_number-among}
 use Rattle.tracks.proofs.Holding.{held_among, held_of-ascends, held_of-more, held_of-same, is_held-first, is_held-stays, no_points, vessel_untold}
+use Rattle.tracks.proofs.KeptReports.{kept_points-last, kept_points-none}
 use Rattle.tracks.proofs.Messages.{vessel_of-other, vessel_of-own}
 
 -- ---- a map of ascending numbers, changed at one of them
@@ -59,15 +62,18 @@ map-insert g (n ∷ ms) (suc at) m = ap (λ (vs : List _). g n ∷ vs) (map-inse
 -- ---- a message of a vessel that is held
 
 pub vessel_at : (book : BookValue) (numbers : Numbers) (sent : List Sent) (at m : ℕ) (vessel : VesselValue) → StandsFor book numbers sent
-    → slice_get book.held at ≡ Some m → vessel ≡ get_or book.vessels at vessel → vessel ≡ vessel_of numbers sent m
+    → slice_get book.held at ≡ Some m → vessel ≡ get_or book.vessels at vessel → vessel ≡ vessel_of book.keeping numbers sent m
 vessel_at book numbers sent at m vessel h e is =
     is ∙ ap (λ (vs : List VesselValue). get_or vs at vessel) h.vessels
-    ∙ map_at (vessel_of numbers sent) (held_of numbers sent) at m vessel (ap (λ (ms : List ℕ). slice_get ms at) (sym h.holds) ∙ e)
+    ∙ map_at (vessel_of book.keeping numbers sent) (held_of numbers sent) at m vessel (ap (λ (ms : List ℕ). slice_get ms at) (sym h.holds) ∙ e)
 
-pub entry_after : (numbers : Numbers) (sent : List Sent) (one : Sent) (points : List Accepted) → points ≡ accepted_of numbers sent (sender_of one.message)
+pub entry_after : (keeping : Keeping) (numbers : Numbers) (sent : List Sent) (one : Sent) (points : List Accepted)
+    → points ≡ kept_points keeping (accepted_of numbers sent (sender_of one.message))
     → entry_at numbers (last_or None points) (reported_in one) ≡ entry_of numbers sent one
 unfolding entry_of
-entry_after numbers sent one points same = ap (λ (xs : List Accepted). entry_at numbers (last_or None xs) (reported_in one)) same
+entry_after keeping numbers sent one points same =
+    ap (λ (latest : Option Accepted). entry_at numbers latest (reported_in one))
+    (ap (last_or None) same ∙ kept_points-last keeping (accepted_of numbers sent (sender_of one.message)))
 
 held_at : (book : BookValue) (numbers : Numbers) (sent : List Sent) (at m : ℕ) → StandsFor book numbers sent → slice_get book.held at ≡ Some m → is_held numbers sent m ≡ true
 unfolding held_of
@@ -84,21 +90,24 @@ held_further book numbers sent one at h e =
 
 pub stands_further : (book new : BookValue) (numbers : Numbers) (sent : List Sent) (one : Sent) (at : ℕ) (vessel : VesselValue) → StandsFor book numbers sent
     → slice_get book.held at ≡ Some (sender_of one.message) → vessel ≡ get_or book.vessels at vessel
-    → new.numbers ≡ book.numbers → new.held ≡ book.held → new.vessels ≡ set book.vessels at (vessel_after book.numbers vessel one)
+    → new.keeping ≡ book.keeping → new.numbers ≡ book.numbers → new.held ≡ book.held
+    → new.vessels ≡ set book.vessels at (vessel_after book.keeping book.numbers vessel one)
     → StandsFor new numbers (sent ++ one ∷ [])
-stands_further book new numbers sent one at vessel h e is same-numbers same-held vessels =
+stands_further book new numbers sent one at vessel h e is same-keeping same-numbers same-held vessels =
     let m = sender_of one.message in
     let ms = held_of numbers sent in
     let here : slice_get ms at ≡ Some m = ap (λ (ks : List ℕ). slice_get ks at) (sym h.holds) ∙ e in
     let held = held_further book numbers sent one at h e in
-    let changed : vessel_after book.numbers vessel one ≡ vessel_of numbers (sent ++ one ∷ []) m =
-    (λ i. vessel_after (h.by i) (vessel_at book numbers sent at m vessel h e is i) one) ∙ sym (vessel_of-own numbers sent one m refl) in
+    let f : ℕ → VesselValue = vessel_of book.keeping numbers sent in
+    let g : ℕ → VesselValue = vessel_of book.keeping numbers (sent ++ one ∷ []) in
+    let changed : vessel_after book.keeping book.numbers vessel one ≡ g m =
+    (λ i. vessel_after book.keeping (h.by i) (vessel_at book numbers sent at m vessel h e is i) one) ∙ sym (vessel_of-own book.keeping numbers sent one m refl) in
     record {
       by = same-numbers ∙ h.by;
       holds = same-held ∙ h.holds ∙ sym held;
       vessels = vessels ∙ (λ i. set (h.vessels i) at (changed i))
-          ∙ set-map (vessel_of numbers sent) (vessel_of numbers (sent ++ one ∷ [])) ms at m (held_of-ascends numbers sent) here (λ k ne. vessel_of-other numbers sent one k ne)
-          ∙ ap (map (vessel_of numbers (sent ++ one ∷ []))) (sym held);
+          ∙ set-map f g ms at m (held_of-ascends numbers sent) here (λ k ne. vessel_of-other book.keeping numbers sent one k ne)
+          ∙ (λ i. map (vessel_of (sym same-keeping i) numbers (sent ++ one ∷ [])) (sym held i));
     }
 
 -- ---- a message of a vessel that is not held
@@ -114,7 +123,7 @@ pub entry_first : (book : BookValue) (numbers : Numbers) (sent : List Sent) (one
     → entry_at book.numbers None (reported_in one) ≡ entry_of numbers sent one
 entry_first book numbers sent one h not =
     ap (λ (n : Numbers). entry_at n None (reported_in one)) h.by
-    ∙ entry_after numbers sent one [] (sym (no_points numbers sent (sender_of one.message) (not_held book numbers sent (sender_of one.message) h not)))
+    ∙ entry_after Tracks numbers sent one [] (sym (no_points numbers sent (sender_of one.message) (not_held book numbers sent (sender_of one.message) h not)))
 
 -- The message does not make its vessel held.
 pub held_without : (book : BookValue) (numbers : Numbers) (sent : List Sent) (one : Sent) → StandsFor book numbers sent → ¬ IsAmong (sender_of one.message) book.held
@@ -136,9 +145,9 @@ stands_without book numbers sent one h not no-holding =
       by = h.by;
       holds = h.holds ∙ sym held;
       vessels = h.vessels
-          ∙ sym (map_agree (vessel_of numbers sent) (vessel_of numbers (sent ++ one ∷ [])) m (held_of numbers sent) (λ k ne. vessel_of-other numbers sent one k ne)
-          (not_among m book.held (held_of numbers sent) h.holds not))
-          ∙ ap (map (vessel_of numbers (sent ++ one ∷ []))) (sym held);
+          ∙ sym (map_agree (vessel_of book.keeping numbers sent) (vessel_of book.keeping numbers (sent ++ one ∷ [])) m (held_of numbers sent)
+          (λ k ne. vessel_of-other book.keeping numbers sent one k ne) (not_among m book.held (held_of numbers sent) h.holds not))
+          ∙ ap (map (vessel_of book.keeping numbers (sent ++ one ∷ []))) (sym held);
     }
 
 -- The message makes its vessel held.
@@ -152,22 +161,24 @@ held_with book numbers sent one h not holding =
 
 pub stands_with : (book new : BookValue) (numbers : Numbers) (sent : List Sent) (one : Sent) (at : ℕ) → StandsFor book numbers sent
     → ¬ IsAmong (sender_of one.message) book.held → makes_held book.numbers one ≡ true → with_number (sender_of one.message) book.held ≡ insert book.held at (sender_of one.message)
-    → new.numbers ≡ book.numbers → new.held ≡ insert book.held at (sender_of one.message) → new.vessels ≡ insert book.vessels at (vessel_after book.numbers untold one)
+    → new.keeping ≡ book.keeping → new.numbers ≡ book.numbers → new.held ≡ insert book.held at (sender_of one.message)
+    → new.vessels ≡ insert book.vessels at (vessel_after book.keeping book.numbers untold one)
     → StandsFor new numbers (sent ++ one ∷ [])
-stands_with book new numbers sent one at h not holding more same-numbers held vessels =
+stands_with book new numbers sent one at h not holding more same-keeping same-numbers held vessels =
     let m = sender_of one.message in
-    let f : ℕ → VesselValue = vessel_of numbers sent in
-    let g : ℕ → VesselValue = vessel_of numbers (sent ++ one ∷ []) in
+    let f : ℕ → VesselValue = vessel_of book.keeping numbers sent in
+    let g : ℕ → VesselValue = vessel_of book.keeping numbers (sent ++ one ∷ []) in
     let all = held_with book numbers sent one h not holding in
     let before = not_held book numbers sent m h not in
-    let changed : vessel_after book.numbers untold one ≡ g m =
-    (λ i. vessel_after (h.by i) (sym (vessel_untold numbers sent m before) i) one) ∙ sym (vessel_of-own numbers sent one m refl) in
+    let changed : vessel_after book.keeping book.numbers untold one ≡ g m =
+    (λ i. vessel_after book.keeping (h.by i) (sym (vessel_untold book.keeping numbers sent m before) i) one) ∙ sym (vessel_of-own book.keeping numbers sent one m refl) in
     let others : book.vessels ≡ map g book.held =
-    h.vessels ∙ ap (map f) (sym h.holds) ∙ sym (map_agree f g m book.held (λ k ne. vessel_of-other numbers sent one k ne) (not_among m book.held book.held refl not)) in
+    h.vessels ∙ ap (map f) (sym h.holds) ∙ sym (map_agree f g m book.held (λ k ne. vessel_of-other book.keeping numbers sent one k ne) (not_among m book.held book.held refl not)) in
     record {
       by = same-numbers ∙ h.by;
       holds = held ∙ sym more ∙ sym all;
-      vessels = vessels ∙ (λ i. insert (others i) at (changed i)) ∙ map-insert g book.held at m ∙ ap (map g) (sym more ∙ sym all);
+      vessels = vessels ∙ (λ i. insert (others i) at (changed i)) ∙ map-insert g book.held at m
+          ∙ (let now : insert book.held at m ≡ held_of numbers (sent ++ one ∷ []) = sym more ∙ sym all in λ i. map (vessel_of (sym same-keeping i) numbers (sent ++ one ∷ [])) (now i));
     }
 
 pub count_with : (book : BookValue) (numbers : Numbers) (sent : List Sent) (one : Sent) (at : ℕ) → StandsFor book numbers sent
@@ -184,11 +195,12 @@ absent_as m one ms e not among = not (Contains_from_among m ms (subst (λ (k : �
 
 pub stands_as : (book new : BookValue) (numbers : Numbers) (sent : List Sent) (one : Sent) (at m : ℕ) → m ≡ sender_of one.message → StandsFor book numbers sent
     → ¬ Contains book.held m → makes_held book.numbers one ≡ true → with_number m book.held ≡ insert book.held at m
-    → new.numbers ≡ book.numbers → new.held ≡ insert book.held at m → new.vessels ≡ insert book.vessels at (vessel_after book.numbers untold one)
+    → new.keeping ≡ book.keeping → new.numbers ≡ book.numbers → new.held ≡ insert book.held at m
+    → new.vessels ≡ insert book.vessels at (vessel_after book.keeping book.numbers untold one)
     → StandsFor new numbers (sent ++ one ∷ [])
-stands_as book new numbers sent one at m e h not holding more same-numbers held vessels =
+stands_as book new numbers sent one at m e h not holding more same-keeping same-numbers held vessels =
     stands_with book new numbers sent one at h (absent_as m one book.held e not) holding
-    (subst (λ (k : ℕ). with_number k book.held ≡ insert book.held at k) e more) same-numbers (held ∙ ap (insert book.held at) e) vessels
+    (subst (λ (k : ℕ). with_number k book.held ≡ insert book.held at k) e more) same-keeping same-numbers (held ∙ ap (insert book.held at) e) vessels
 
 pub count_as : (book : BookValue) (numbers : Numbers) (sent : List Sent) (one : Sent) (at m : ℕ) → m ≡ sender_of one.message → StandsFor book numbers sent
     → ¬ Contains book.held m → makes_held book.numbers one ≡ true → at ≤ length book.held → with_number m book.held ≡ insert book.held at m
@@ -227,17 +239,18 @@ first_count_more book one at m first holding numbers sent h =
 -- ---- look-ups
 
 pub found_vessel : (book : BookValue) (numbers : Numbers) (sent : List Sent) (at m : ℕ) (vessel : VesselValue) → StandsFor book numbers sent
-    → slice_get book.held at ≡ Some m → vessel ≡ get_or book.vessels at vessel → Some vessel ≡ vessel_held numbers sent m
+    → slice_get book.held at ≡ Some m → vessel ≡ get_or book.vessels at vessel → Some vessel ≡ vessel_held book.keeping numbers sent m
 found_vessel book numbers sent at m vessel h e is =
     rw (held_at book numbers sent at m h e) (ap (λ (v : VesselValue). Some v) (vessel_at book numbers sent at m vessel h e is))
 
 pub no_vessel : (book : BookValue) (numbers : Numbers) (sent : List Sent) (m : ℕ) → StandsFor book numbers sent → ¬ Contains book.held m
-    → None ≡ vessel_held numbers sent m
+    → None ≡ vessel_held book.keeping numbers sent m
 no_vessel book numbers sent m h not = rw (not_held book numbers sent m h (λ among. not (Contains_from_among m book.held among))) refl
 
-pub no_points_held : (numbers : Numbers) (sent : List Sent) (m : ℕ) → None ≡ vessel_held numbers sent m → [] ≡ accepted_of numbers sent m
-no_points_held numbers sent m none = decide (is_held numbers sent m) refl
+pub no_points_held : (keeping : Keeping) (numbers : Numbers) (sent : List Sent) (m : ℕ) → None ≡ vessel_held keeping numbers sent m
+    → [] ≡ kept_points keeping (accepted_of numbers sent m)
+no_points_held keeping numbers sent m none = decide (is_held numbers sent m) refl
   where
-    decide : (b : Bool) → is_held numbers sent m ≡ b → [] ≡ accepted_of numbers sent m
-    decide true e = absurd (let some : vessel_held numbers sent m ≡ Some (vessel_of numbers sent m) = rw e refl in cc)
-    decide false e = sym (no_points numbers sent m e)
+    decide : (b : Bool) → is_held numbers sent m ≡ b → [] ≡ kept_points keeping (accepted_of numbers sent m)
+    decide true e = absurd (let some : vessel_held keeping numbers sent m ≡ Some (vessel_of keeping numbers sent m) = rw e refl in cc)
+    decide false e = sym (ap (kept_points keeping) (no_points numbers sent m e) ∙ kept_points-none keeping)

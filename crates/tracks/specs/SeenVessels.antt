@@ -17,6 +17,6 @@ sighting time legs mmsi = option_map (λ (state : TickState). (mmsi, state)) (st
 unfoldable pub seen_of : Numbers → List Sent → ℕ → List (ℕ × TickState)
 seen_of numbers sent time = filter_map (sighting time (legs_of numbers sent)) (held_of numbers sent)
 
--- the same by what a book keeps
+-- the same by the legs that a book keeps
 unfoldable pub seen_in : BookValue → ℕ → List (ℕ × TickState)
 seen_in book time = filter_map (sighting time (legs_in book)) book.held

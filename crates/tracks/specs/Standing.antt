@@ -1,12 +1,26 @@
 -- What a book of vessels stands for.
 use Rattle.std.specs.Prelude.{ℕ, ◌≡◌, ◌==◌, ◌≤◌, List, [], ◌∷◌, map, Option, Some, None, if◌then◌else◌}
+use Rattle.std.specs.List.{last_or}
+use Rattle.std.specs.Option.{option_to_list}
 use Rattle.fixed_geometry.specs.Sizes.{IsWithin}
 use Rattle.ais_messages.specs.MessageFields.{IsReport}
 use Rattle.motion.specs.declared.leg.Leg.{Leg}
 use Rattle.tracks.specs.AcceptedReports.{Numbers}
 use Rattle.tracks.specs.VesselsHeld.{Sent, accepted_of, held_of, is_held, legs_of, statics_of}
 use Rattle.tracks.specs.declared.accepted.Accepted.{Accepted}
+use Rattle.tracks.specs.declared.keeping.Keeping.{Keeping}
+use Rattle.tracks.specs.declared.keeping.Keeping.TheVariants.{Latest, Tracks}
 use Rattle.tracks.specs.declared.statics.Statics.{Statics}
+
+-- Of a vessel's accepted reports the latest alone is kept, or all.
+abbrev pub kept_points : Keeping → List Accepted → List Accepted
+kept_points Latest points = option_to_list (last_or None points)
+kept_points Tracks points = points
+
+-- With the latest alone no legs are kept.
+abbrev pub kept_legs : Keeping → List Leg → List Leg
+kept_legs Latest legs = []
+kept_legs Tracks legs = legs
 
 -- what is kept of a vessel
 pub record VesselValue : Type 0 where
@@ -14,8 +28,9 @@ pub record VesselValue : Type 0 where
   pub legs : List Leg
   pub statics : Statics
 
--- what a book keeps: its numbers, and the vessels that are held, in the order of their identities
+-- what a book keeps: how much of each vessel, its numbers, and the vessels that are held, in the order of their identities
 pub record BookValue : Type 0 where
+  pub keeping : Keeping
   pub numbers : Numbers
   pub held : List ℕ
   pub vessels : List VesselValue
@@ -29,22 +44,22 @@ legs_among (held ∷ others) (vessel ∷ vessels) mmsi = if held == mmsi then ve
 abbrev pub legs_in : BookValue → ℕ → List Leg
 legs_in book mmsi = legs_among book.held book.vessels mmsi
 
--- what the messages tell of a vessel
-abbrev pub vessel_of : Numbers → List Sent → ℕ → VesselValue
-vessel_of numbers sent mmsi = record {
-  points = accepted_of numbers sent mmsi;
-  legs = legs_of numbers sent mmsi;
+-- what is kept of what the messages tell of a vessel
+abbrev pub vessel_of : Keeping → Numbers → List Sent → ℕ → VesselValue
+vessel_of keeping numbers sent mmsi = record {
+  points = kept_points keeping (accepted_of numbers sent mmsi);
+  legs = kept_legs keeping (legs_of numbers sent mmsi);
   statics = statics_of sent mmsi;
 }
 
-abbrev pub vessel_held : Numbers → List Sent → ℕ → Option VesselValue
-vessel_held numbers sent mmsi = if is_held numbers sent mmsi then Some (vessel_of numbers sent mmsi) else None
+abbrev pub vessel_held : Keeping → Numbers → List Sent → ℕ → Option VesselValue
+vessel_held keeping numbers sent mmsi = if is_held numbers sent mmsi then Some (vessel_of keeping numbers sent mmsi) else None
 
 -- A book stands for its numbers and the list of the messages so far.
 pub record StandsFor (book : BookValue) (numbers : Numbers) (sent : List Sent) : Type 0 where
   pub by : book.numbers ≡ numbers
   pub holds : book.held ≡ held_of numbers sent
-  pub vessels : book.vessels ≡ map (vessel_of numbers sent) (held_of numbers sent)
+  pub vessels : book.vessels ≡ map (vessel_of book.keeping numbers sent) (held_of numbers sent)
 
 -- the numbers that a scenario may have
 pub record IsNumbers (numbers : Numbers) : Type 0 where

@@ -12,15 +12,17 @@ ghost use Rattle.motion.specs.declared.leg.TickState.{TickState};
 ghost use Rattle.tracks.specs.AcceptedReports.{Numbers};
 ghost use Rattle.tracks.specs.Inner.Keeping.{IsKept, makes_held};
 ghost use Rattle.tracks.specs.SeenVessels.{seen_in, seen_of, sighting};
-ghost use Rattle.tracks.specs.Standing.{IsAccepted, IsNumbers, StandsFor, legs_in, vessel_held};
+ghost use Rattle.tracks.specs.Standing.{IsAccepted, IsNumbers, StandsFor, kept_legs, kept_points, legs_in, vessel_held};
 ghost use Rattle.tracks.specs.VesselsHeld.{Sent, accepted_of, entry_at, entry_of, held_of, is_held, legs_of, reported_in, sender_of, statics_of, with_number};
 ghost use Rattle.tracks.specs.declared.entry.BookFault.TheVariants.{TooManyVessels};
+ghost use Rattle.tracks.specs.declared.keeping.Keeping.TheVariants.{Tracks};
 
 use crate::accepted::Accepted;
 use crate::entry::{BookFault, Entry};
 use crate::given::GivenNumbers;
 use crate::guesses::Guesses;
 use crate::judging::judge;
+use crate::keeping::Keeping;
 use crate::parts::{position_report, sender, static_report};
 use crate::places::index_of;
 use crate::statics::Statics;
@@ -80,11 +82,12 @@ fn put(
     Ok(())
 }
 
-/// The vessels that were heard of, with their accepted reports, the legs between them and their static data. It is seen as what it
-/// keeps, which stands for its numbers and the list of the messages so far.
+/// The vessels that were heard of, with their static data, and with their accepted reports and the legs between them, or with the
+/// latest report alone. It is seen as what it keeps, which stands for its numbers and the list of the messages so far.
 #[derive(Drop)]
 pub struct Book {
     alloc: Global,
+    keeping: Keeping,
     numbers: GivenNumbers,
     held: Vec<u32>,
     vessels: Vec<Vessel>,
@@ -98,22 +101,30 @@ impl Model for Book {
 
     ghost Value = { BookValue };
 
-    ghost view = { λ b. record { numbers = b.numbers; held = b.held.items; vessels = b.vessels.items } };
+    ghost view = { λ b. record { keeping = b.keeping; numbers = b.numbers; held = b.held.items; vessels = b.vessels.items } };
 
-    ghost invariant = { λ b. IsBook (record { numbers = b.numbers; held = b.held.items; vessels = b.vessels.items }) };
+    ghost invariant = { λ b. IsBook (record { keeping = b.keeping; numbers = b.numbers; held = b.held.items; vessels = b.vessels.items }) };
 }
 
 impl Book {
     /// A book that holds no vessel, about a reference. Reports at most `gap` seconds apart are joined, and a vessel moves at most at
-    /// `max_speed` tenths of a knot. This takes no memory.
-    pub fn new(alloc: Global, reference: Reference, gap: u32, max_speed: u16) -> Book
+    /// `max_speed` tenths of a knot. What is kept of a vessel's accepted reports stays as it is told here. This takes no memory.
+    pub fn new(
+        alloc: Global,
+        keeping: Keeping,
+        reference: Reference,
+        gap: u32,
+        max_speed: u16,
+    ) -> Book
         requires gap { gap ≤ 3600 }
         requires some_speed { 1 ≤ max_speed }
         requires max_speed { max_speed ≤ 1022 }
-        ensures { StandsFor result (record { reference = reference; gap = gap; max_speed = max_speed }) [] }
+        ensures keeping { result.keeping ≡ keeping }
+        ensures stands { StandsFor result (record { reference = reference; gap = gap; max_speed = max_speed }) [] }
     {
         Book {
             alloc,
+            keeping,
             numbers: GivenNumbers {
                 reference,
                 gap,
@@ -136,6 +147,7 @@ impl Book {
         ensures stands { OnOk result ((numbers : Numbers) (sent : List Sent) → StandsFor self.old numbers sent
             → StandsFor self.new numbers (sent ++ record { message = message.now; time = time } ∷ [])) }
         ensures same { OnErr result (self.new ≡ self.old) }
+        ensures keeping { self.new.keeping ≡ self.old.keeping }
         ensures too_many { (numbers : Numbers) (sent : List Sent) → StandsFor self.old numbers sent
             → (result ≡ Err TooManyVessels)
             ↔ (4096 < length (held_of numbers (sent ++ record { message = message.now; time = time } ∷ []))) }
@@ -161,6 +173,7 @@ impl Book {
         ensures stands { OnOk result ((numbers : Numbers) (sent : List Sent) → StandsFor self.old numbers sent
             → StandsFor self.new numbers (sent ++ record { message = Position report.now; time = time } ∷ [])) }
         ensures same { OnErr result (self.new ≡ self.old) }
+        ensures keeping { self.new.keeping ≡ self.old.keeping }
         ensures too_many { (numbers : Numbers) (sent : List Sent) → StandsFor self.old numbers sent
             → (result ≡ Err TooManyVessels)
             ↔ (4096 < length (held_of numbers (sent ++ record { message = Position report.now; time = time } ∷ []))) }
@@ -201,11 +214,12 @@ impl Book {
         ensures stands { OnOk result ((numbers : Numbers) (sent : List Sent) → StandsFor self.old numbers sent
             → StandsFor self.new numbers (sent ++ record { message = Position report.now; time = time } ∷ [])) }
         ensures same { OnErr result (self.new ≡ self.old) }
+        ensures keeping { self.new.keeping ≡ self.old.keeping }
         ensures few { (numbers : Numbers) (sent : List Sent) → StandsFor self.old numbers sent
             → length (held_of numbers (sent ++ record { message = Position report.now; time = time } ∷ [])) ≤ 4096 }
     {
         let vessel = &mut self.vessels[at];
-        vessel.take_report(&self.numbers, report, time)
+        vessel.take_report(self.keeping, &self.numbers, report, time)
     }
 
     /// Takes a message of the vessel that is held at this index.
@@ -217,11 +231,12 @@ impl Book {
         ensures stands { OnOk result ((numbers : Numbers) (sent : List Sent) → StandsFor self.old numbers sent
             → StandsFor self.new numbers (sent ++ record { message = message.now; time = time } ∷ [])) }
         ensures same { OnErr result (self.new ≡ self.old) }
+        ensures keeping { self.new.keeping ≡ self.old.keeping }
         ensures few { (numbers : Numbers) (sent : List Sent) → StandsFor self.old numbers sent
             → length (held_of numbers (sent ++ record { message = message.now; time = time } ∷ [])) ≤ 4096 }
     {
         let vessel = &mut self.vessels[at];
-        vessel.take(&self.numbers, message, time)
+        vessel.take(self.keeping, &self.numbers, message, time)
     }
 
     /// Takes a message of a vessel that is not held.
@@ -242,6 +257,7 @@ impl Book {
         ensures stands { OnOk result ((numbers : Numbers) (sent : List Sent) → StandsFor self.old numbers sent
             → StandsFor self.new numbers (sent ++ record { message = message.now; time = time } ∷ [])) }
         ensures same { OnErr result (self.new ≡ self.old) }
+        ensures keeping { self.new.keeping ≡ self.old.keeping }
         ensures too_many { (numbers : Numbers) (sent : List Sent) → StandsFor self.old numbers sent
             → (result ≡ Err TooManyVessels)
             ↔ (4096 < length (held_of numbers (sent ++ record { message = message.now; time = time } ∷ []))) }
@@ -271,17 +287,18 @@ impl Book {
         ensures stands { OnOk result ((numbers : Numbers) (sent : List Sent) → StandsFor self.old numbers sent
             → StandsFor self.new numbers (sent ++ record { message = message.now; time = time } ∷ [])) }
         ensures same { OnErr result (self.new ≡ self.old) }
+        ensures keeping { self.new.keeping ≡ self.old.keeping }
     {
         let mut vessel = Vessel::new(self.alloc);
-        vessel.take(&self.numbers, message, time)?;
+        vessel.take(self.keeping, &self.numbers, message, time)?;
         put(&mut self.held, &mut self.vessels, at, mmsi, vessel)
     }
 
     /// The vessel of this identity, if she is held.
     fn vessel_of(&self, mmsi: u32) -> Option<&Vessel>
         ensures value { (numbers : Numbers) (sent : List Sent) → StandsFor self.now numbers sent
-            → option_copied result ≡ vessel_held numbers sent mmsi }
-        ensures kept { IfSome (option_copied result) (IsKept self.now.numbers.gap) }
+            → option_copied result ≡ vessel_held self.now.keeping numbers sent mmsi }
+        ensures kept { IfSome (option_copied result) (IsKept self.now.keeping self.now.numbers.gap) }
     {
         match index_of(&self.held, mmsi) {
             Ok(at) => Some(&self.vessels[at]),
@@ -289,10 +306,10 @@ impl Book {
         }
     }
 
-    /// The accepted reports of a vessel, in the order in which they came.
+    /// The accepted reports of a vessel that are kept, in the order in which they came.
     pub fn points(&self, mmsi: u32) -> &[Accepted]
         ensures value { (numbers : Numbers) (sent : List Sent) → StandsFor self.now numbers sent
-            → result.now ≡ accepted_of numbers sent mmsi }
+            → result.now ≡ kept_points self.now.keeping (accepted_of numbers sent mmsi) }
         ensures ranges { All IsAccepted result.now }
     {
         match self.vessel_of(mmsi) {
@@ -301,10 +318,10 @@ impl Book {
         }
     }
 
-    /// The legs between the accepted reports of a vessel, or `None` where she is not held.
+    /// The legs that are kept between the accepted reports of a vessel, or `None` where she is not held.
     pub fn legs(&self, mmsi: u32) -> Option<&Legs>
         ensures value { (numbers : Numbers) (sent : List Sent) → StandsFor self.now numbers sent
-            → option_copied result ≡ (if is_held numbers sent mmsi then Some (legs_of numbers sent mmsi) else None) }
+            → option_copied result ≡ (if is_held numbers sent mmsi then Some (kept_legs self.now.keeping (legs_of numbers sent mmsi)) else None) }
         ensures moves { IfSome (option_copied result) (MovesLittle self.now.numbers.gap) }
     {
         let legs = self.vessel_of(mmsi)?.legs();
@@ -316,7 +333,7 @@ impl Book {
     fn vessel_at(&self, at: usize) -> &Vessel
         requires { at < length self.now.held }
         ensures legs { result.now.legs ≡ legs_in self.now (slice_index self.now.held at) }
-        ensures kept { IsKept self.now.numbers.gap result.now }
+        ensures kept { IsKept self.now.keeping self.now.numbers.gap result.now }
     {
         &self.vessels[at]
     }
@@ -350,10 +367,10 @@ impl Book {
     }
 
     /// Puts the vessels that are seen at a time, each with her state, in the place of what `seen` holds, in the order of their
-    /// identities. `seen` keeps its room, and where that is enough for all vessels held, there is always memory. Where there is
-    /// none, what `seen` holds is not told.
+    /// identities. In a book that keeps no legs nobody is seen. `seen` keeps its room, and where that is enough for all vessels held,
+    /// there is always memory. Where there is none, what `seen` holds is not told.
     pub fn look(&self, time: u64, seen: &mut Vec<(u32, TickState)>) -> Result<(), Memory>
-        ensures value { OnOk result ((numbers : Numbers) (sent : List Sent) → StandsFor self.now numbers sent
+        ensures value { OnOk result (self.now.keeping ≡ Tracks → (numbers : Numbers) (sent : List Sent) → StandsFor self.now numbers sent
             → seen.new.items ≡ seen_of numbers sent time) }
         ensures kept { OnOk result (seen.new.items ≡ seen_in self.now time) }
         ensures ascending { OnOk result (IsStrictlyIncreasing (map (λ (vessel : ℕ × TickState). vessel.0) seen.new.items)) }

@@ -3,7 +3,8 @@
 //! A `Book` takes the messages one after the other. A position report is dropped where it has no place (`NoPos`), lies outside the
 //! region (`Far`), is no later than the latest accepted report of its vessel (`Back`), repeats it (`Repeat`), or would have the
 //! vessel move faster than she can (`Jump`); else it is accepted. Accepted reports that follow each other within the gap are
-//! joined by a leg. Times are whole seconds since the Unix epoch, lengths tenths of a millimetre.
+//! joined by a leg. What a message comes to needs the latest accepted report alone, so a book is told when it is made whether it keeps
+//! all, with the legs, or only that one. Times are whole seconds since the Unix epoch, lengths tenths of a millimetre.
 //!
 //! Of three reports of one vessel, the first at second 1700000000, the same again 5 seconds later and one from another place 10
 //! seconds later, 20,000,000 away, the first is accepted, the second is a `Repeat` and the third a `Jump`.
@@ -15,6 +16,7 @@ mod entry;
 mod given;
 mod guesses;
 mod judging;
+mod keeping;
 pub mod laws;
 mod parts;
 mod places;
@@ -24,6 +26,7 @@ mod vessel;
 pub use accepted::Accepted;
 pub use book::Book;
 pub use entry::{BookFault, Entry, ReportCause};
+pub use keeping::Keeping;
 pub use statics::Statics;
 
 #[cfg(test)]

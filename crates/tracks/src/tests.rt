@@ -50,12 +50,20 @@ fn hull(mmsi: u32, bow: u16) -> StaticReport
 }
 
 /// A book about the place at 0 north and 0 east, with a gap of 900 seconds.
-fn book(alloc: Global, max_speed: u16) -> Result<Book, Fail>
+fn book_of(alloc: Global, keeping: Keeping, max_speed: u16) -> Result<Book, Fail>
     requires some_speed { 1 ≤ max_speed }
     requires max_speed { max_speed ≤ 1022 }
 {
     let reference = Reference::new(0, 0).ok_or("a reference")?;
-    Ok(Book::new(alloc, reference, 900, max_speed))
+    Ok(Book::new(alloc, keeping, reference, 900, max_speed))
+}
+
+/// Such a book that keeps all accepted reports, and the legs between them.
+fn book(alloc: Global, max_speed: u16) -> Result<Book, Fail>
+    requires some_speed { 1 ≤ max_speed }
+    requires max_speed { max_speed ≤ 1022 }
+{
+    book_of(alloc, Keeping::Tracks, max_speed)
 }
 
 const OWN: u32 = 369190000;
@@ -270,6 +278,50 @@ fn vessels_seen_in_ascending_order(rt: HostRuntime) -> Result<(), Fail> {
     );
     book.look(1100, &mut seen)?;
     assert_eq!(rt; seen.as_slice(), [(OTHER, state(18520))].as_slice());
+    Ok(())
+}
+
+/// Gives two books a report of own ship from so far north, and compares what it comes to.
+fn take_in_both(rt: &impl Abort, latest: &mut Book, tracks: &mut Book, north: u16, time: u64) {
+    let message = Message::Position(report(OWN, i32::from(north)));
+    assert_eq!(rt; latest.take(&message, time), tracks.take(&message, time));
+}
+
+#[test]
+fn the_latest_report_alone_serves_to_judge(rt: HostRuntime) -> Result<(), Fail> {
+    let mut latest = book_of(rt.alloc(), Keeping::Latest, 500)?;
+    let mut tracks = book_of(rt.alloc(), Keeping::Tracks, 500)?;
+    let moved = report(OWN, 10);
+    // A first report, a repeat, a jump, a repeat, the same half a minute later, back, a second report, and one past the gap.
+    for (north, time) in [
+        (0, 1000),
+        (0, 1005),
+        (10800, 1010),
+        (0, 1030),
+        (0, 1031),
+        (10, 1020),
+        (10, 1100),
+        (10800, 2001),
+    ] {
+        take_in_both(&rt, &mut latest, &mut tracks, north, time);
+    }
+    assert_eq!(rt;
+        latest.take_report(&moved, 3000),
+        tracks.take_report(&moved, 3000)
+    );
+    let lost = PositionReport {
+        place: None,
+        ..moved
+    };
+    let both = Message::Both(lost, hull(OWN, 90));
+    assert_eq!(rt; latest.take(&both, 3100), tracks.take(&both, 3100));
+    assert_eq!(rt; latest.vessels(), 1);
+    assert_eq!(rt; tracks.points(OWN).len(), 5);
+    assert_eq!(rt; latest.points(OWN).len(), 1);
+    assert_eq!(rt; latest.points(OWN).last(), tracks.points(OWN).last());
+    assert_eq!(rt; latest.statics(OWN), tracks.statics(OWN));
+    let legs = latest.legs(OWN).ok_or("the vessel is held")?;
+    assert!(rt; legs.is_empty());
     Ok(())
 }
 

@@ -1,5 +1,5 @@
 //! What is kept of one vessel.
-ghost use Rattle.std.specs.Prelude.{◌≡◌, ◌≤◌, ◌<◌, All, None, IfOk, IfSome, OnOk, OnErr, Some};
+ghost use Rattle.std.specs.Prelude.{◌≡◌, ◌≤◌, ◌<◌, ◌∷◌, [], All, None, IfOk, IfSome, OnOk, OnErr, Some};
 ghost use Rattle.std.specs.List.{last_or};
 ghost use Rattle.std.specs.Option.{option_copied};
 ghost use Rattle.ais_messages.specs.MessageFields.{IsMessage, IsReport};
@@ -7,13 +7,15 @@ ghost use Rattle.motion.specs.TickStates.{IsLeg};
 ghost use Rattle.tracks.specs.AcceptedReports.{judged};
 ghost use Rattle.tracks.specs.JoinedReports.{direction_of, joined};
 ghost use Rattle.tracks.specs.Inner.Keeping.{Follows, IsKept, accepted_by, accepted_in, joined_after, told, untold, vessel_after, vessel_with};
-ghost use Rattle.tracks.specs.Standing.{IsAccepted, IsNumbers};
+ghost use Rattle.tracks.specs.Standing.{IsAccepted, IsNumbers, kept_points};
 ghost use Rattle.tracks.specs.VesselsHeld.{entry_at, entry_by, reported_in, static_in};
+ghost use Rattle.tracks.specs.declared.keeping.Keeping.TheVariants.{Latest, Tracks};
 
 use crate::accepted::Accepted;
 use crate::entry::Entry;
 use crate::given::GivenNumbers;
 use crate::judging::judge;
+use crate::keeping::Keeping;
 use crate::parts::{position_report, static_report};
 use crate::statics::Statics;
 use ais_messages::{Message, PositionReport, StaticReport, Text20};
@@ -80,7 +82,7 @@ fn leg_to(gap: u32, points: &[Accepted], accepted: &Accepted) -> Option<Leg>
     }
 }
 
-/// Her accepted reports, the legs between them, and what she told of herself.
+/// Her accepted reports or the latest alone, the legs between those that are kept, and what she told of herself.
 #[derive(Debug, Drop)]
 pub(crate) struct Vessel {
     points: Vec<Accepted>,
@@ -112,17 +114,17 @@ impl Vessel {
     }
 
     /// Puts an accepted report after the others, with the leg that it ends.
-    fn accept(&mut self, gap: u32, accepted: Accepted) -> Result<(), Memory>
+    fn add(&mut self, gap: u32, accepted: &Accepted) -> Result<(), Memory>
         requires gap { gap ≤ 3600 }
-        requires kept { IsKept gap self.old }
-        requires accepted { IsAccepted accepted }
-        requires follows { IfSome (last_or None self.old.points) (λ latest. Follows gap latest accepted) }
-        ensures ok { OnOk result (self.new ≡ vessel_with gap self.old (Some accepted)) }
+        requires kept { IsKept Tracks gap self.old }
+        requires accepted { IsAccepted accepted.now }
+        requires follows { IfSome (last_or None self.old.points) (λ latest. Follows gap latest accepted.now) }
+        ensures ok { OnOk result (self.new ≡ vessel_with Tracks gap self.old (Some accepted.now)) }
         ensures err { OnErr result (self.new ≡ self.old) }
-        ensures kept { IsKept gap self.new }
+        ensures kept { IsKept Tracks gap self.new }
     {
-        let leg = leg_to(gap, &self.points, &accepted);
-        self.points.push(accepted)?;
+        let leg = leg_to(gap, &self.points, accepted);
+        self.points.push(*accepted)?;
         let Some(leg) = leg else {
             return Ok(());
         };
@@ -133,29 +135,64 @@ impl Vessel {
         Ok(())
     }
 
+    /// Puts an accepted report in the place of the one that is kept, if there is one; else it takes memory for one. It
+    /// stands apart, so that adding is as fast as without it.
+    #[inline(never)]
+    fn replace(&mut self, accepted: &Accepted) -> Result<(), Memory>
+        requires { self.old.points ≡ kept_points Latest self.old.points }
+        ensures ok { OnOk result (self.new ≡ record self.old { points = accepted.now ∷ [] }) }
+        ensures err { OnErr result (self.new ≡ self.old) }
+    {
+        if self.points.is_empty() {
+            self.points.reserve_exact(1)?;
+            self.points.push(*accepted)?;
+        } else {
+            self.points[0] = *accepted;
+        }
+        Ok(())
+    }
+
+    /// Keeps an accepted report, after the others or in their place.
+    fn accept(&mut self, keeping: Keeping, gap: u32, accepted: &Accepted) -> Result<(), Memory>
+        requires gap { gap ≤ 3600 }
+        requires kept { IsKept keeping gap self.old }
+        requires accepted { IsAccepted accepted.now }
+        requires follows { IfSome (last_or None self.old.points) (λ latest. Follows gap latest accepted.now) }
+        ensures ok { OnOk result (self.new ≡ vessel_with keeping gap self.old (Some accepted.now)) }
+        ensures err { OnErr result (self.new ≡ self.old) }
+        ensures kept { IsKept keeping gap self.new }
+    {
+        match keeping {
+            Keeping::Latest => self.replace(accepted),
+            Keeping::Tracks => self.add(gap, accepted),
+        }
+    }
+
     /// Takes a position report of hers.
     pub(crate) fn take_report(
         &mut self,
+        keeping: Keeping,
         numbers: &GivenNumbers,
         report: &PositionReport,
         time: u64,
     ) -> Result<Entry, Memory>
         requires numbers { IsNumbers numbers.now }
-        requires kept { IsKept numbers.now.gap self.old }
+        requires kept { IsKept keeping numbers.now.gap self.old }
         requires report { IsReport report.now }
         ensures entry { IfOk result (λ entry. entry
             ≡ entry_by (judged numbers.now (last_or None self.old.points) (record { report = report.now; time = time }))) }
-        ensures ok { OnOk result (self.new ≡ vessel_with numbers.now.gap self.old
+        ensures ok { OnOk result (self.new ≡ vessel_with keeping numbers.now.gap self.old
             (accepted_by (judged numbers.now (last_or None self.old.points) (record { report = report.now; time = time })))) }
         ensures err { OnErr result (self.new ≡ self.old) }
-        ensures kept { IsKept numbers.now.gap self.new }
+        ensures kept { IsKept keeping numbers.now.gap self.new }
     {
         match judge(numbers, latest(&self.points), report, time) {
             Err(cause) => Ok(Entry::Dropped(cause)),
             Ok(point) => {
                 self.accept(
+                    keeping,
                     numbers.gap,
-                    Accepted {
+                    &Accepted {
                         time,
                         point,
                         report: *report,
@@ -181,23 +218,24 @@ impl Vessel {
     /// Takes the position report of a message of hers, if it has one.
     fn take_position(
         &mut self,
+        keeping: Keeping,
         numbers: &GivenNumbers,
         message: &Message,
         time: u64,
     ) -> Result<Entry, Memory>
         requires numbers { IsNumbers numbers.now }
-        requires kept { IsKept numbers.now.gap self.old }
+        requires kept { IsKept keeping numbers.now.gap self.old }
         requires message { IsMessage message.now }
         ensures entry { IfOk result (λ entry. entry ≡ entry_at numbers.now (last_or None self.old.points)
             (reported_in (record { message = message.now; time = time }))) }
-        ensures ok { OnOk result (self.new ≡ vessel_with numbers.now.gap self.old
+        ensures ok { OnOk result (self.new ≡ vessel_with keeping numbers.now.gap self.old
             (accepted_in numbers.now (last_or None self.old.points) (reported_in (record { message = message.now; time = time })))) }
         ensures err { OnErr result (self.new ≡ self.old) }
-        ensures kept { IsKept numbers.now.gap self.new }
+        ensures kept { IsKept keeping numbers.now.gap self.new }
     {
         match position_report(message) {
             None => Ok(Entry::Static),
-            Some(report) => self.take_report(numbers, report, time),
+            Some(report) => self.take_report(keeping, numbers, report, time),
         }
     }
 
@@ -214,20 +252,21 @@ impl Vessel {
     #[tactic(auto, unfolding(crate::specs::Inner::Keeping::vessel_after))]
     pub(crate) fn take(
         &mut self,
+        keeping: Keeping,
         numbers: &GivenNumbers,
         message: &Message,
         time: u64,
     ) -> Result<Entry, Memory>
         requires numbers { IsNumbers numbers.now }
-        requires kept { IsKept numbers.now.gap self.old }
+        requires kept { IsKept keeping numbers.now.gap self.old }
         requires message { IsMessage message.now }
         ensures entry { IfOk result (λ entry. entry ≡ entry_at numbers.now (last_or None self.old.points)
             (reported_in (record { message = message.now; time = time }))) }
-        ensures ok { OnOk result (self.new ≡ vessel_after numbers.now self.old (record { message = message.now; time = time })) }
+        ensures ok { OnOk result (self.new ≡ vessel_after keeping numbers.now self.old (record { message = message.now; time = time })) }
         ensures err { OnErr result (self.new ≡ self.old) }
-        ensures kept { IsKept numbers.now.gap self.new }
+        ensures kept { IsKept keeping numbers.now.gap self.new }
     {
-        let entry = self.take_position(numbers, message, time)?;
+        let entry = self.take_position(keeping, numbers, message, time)?;
         self.keep_static(message);
         Ok(entry)
     }

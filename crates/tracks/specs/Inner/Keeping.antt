@@ -8,11 +8,12 @@ use Rattle.motion.specs.declared.leg.Leg.{Leg}
 use Rattle.ais_messages.specs.declared.message.StaticReport.{StaticReport}
 use Rattle.tracks.specs.AcceptedReports.{Numbers, Reported, distance2, judged, square}
 use Rattle.tracks.specs.JoinedReports.{joined, legs_between}
-use Rattle.tracks.specs.Standing.{BookValue, IsAccepted, IsNumbers, VesselValue}
+use Rattle.tracks.specs.Standing.{BookValue, IsAccepted, IsNumbers, VesselValue, kept_points}
 use Rattle.tracks.specs.VesselsHeld.{Sent, reported_in, static_in}
 use Rattle.tracks.specs.Inner.AscendingNumbers.{Ascends}
 use Rattle.tracks.specs.declared.accepted.Accepted.{Accepted}
 use Rattle.tracks.specs.declared.entry.ReportCause.{ReportCause}
+use Rattle.tracks.specs.declared.keeping.Keeping.{Keeping}
 use Rattle.tracks.specs.declared.statics.Statics.{Statics}
 
 -- ---- what a message changes
@@ -35,14 +36,19 @@ abbrev pub points_with : List Accepted → Option Accepted → List Accepted
 points_with points None = points
 points_with points (Some accepted) = points ++ accepted ∷ []
 
+-- the reports that are kept, with one more
+abbrev pub kept_with : Keeping → List Accepted → Option Accepted → List Accepted
+kept_with keeping points None = points
+kept_with keeping points (Some accepted) = kept_points keeping (points ++ accepted ∷ [])
+
 abbrev pub statics_with : Statics → Option StaticReport → Statics
 statics_with statics None = statics
 statics_with statics (Some report) = record { name = option_or report.name statics.name; ship = option_or report.ship statics.ship }
 
-abbrev pub vessel_with : ℕ → VesselValue → Option Accepted → VesselValue
-vessel_with gap vessel accepted = record {
-  points = points_with vessel.points accepted;
-  legs = legs_between gap (points_with vessel.points accepted);
+abbrev pub vessel_with : Keeping → ℕ → VesselValue → Option Accepted → VesselValue
+vessel_with keeping gap vessel accepted = record {
+  points = kept_with keeping vessel.points accepted;
+  legs = legs_between gap (kept_with keeping vessel.points accepted);
   statics = vessel.statics;
 }
 
@@ -50,9 +56,9 @@ abbrev pub told : VesselValue → Option StaticReport → VesselValue
 told vessel report = record { points = vessel.points; legs = vessel.legs; statics = statics_with vessel.statics report }
 
 -- what is kept of a vessel after a message of hers
-unfoldable pub vessel_after : Numbers → VesselValue → Sent → VesselValue
-vessel_after numbers vessel one =
-    told (vessel_with numbers.gap vessel (accepted_in numbers (last_or None vessel.points) (reported_in one))) (static_in one.message)
+unfoldable pub vessel_after : Keeping → Numbers → VesselValue → Sent → VesselValue
+vessel_after keeping numbers vessel one =
+    told (vessel_with keeping numbers.gap vessel (accepted_in numbers (last_or None vessel.points) (reported_in one))) (static_in one.message)
 
 -- nothing was told yet
 abbrev pub untold : VesselValue
@@ -78,8 +84,9 @@ joined_after gap (Some latest) now = joined gap latest now
 abbrev pub EndsAt : ℕ → Accepted → Leg → Type 0
 EndsAt gap latest leg = ((leg.t2 ≡ latest.time) × (leg.p2 ≡ latest.point)) ⊎ (leg.t2 + gap < latest.time)
 
-pub record IsKept (gap : ℕ) (vessel : VesselValue) : Type 0 where
+pub record IsKept (keeping : Keeping) (gap : ℕ) (vessel : VesselValue) : Type 0 where
   pub points : All IsAccepted vessel.points
+  pub no_others : vessel.points ≡ kept_points keeping vessel.points
   pub legs : vessel.legs ≡ legs_between gap vessel.points
   pub ends : IfSome (last_or None vessel.points) (λ latest. IfSome (last_or None vessel.legs) (EndsAt gap latest))
   pub are_joined : AreJoined gap vessel.legs
@@ -89,4 +96,4 @@ pub record IsBook (book : BookValue) : Type 0 where
   pub ascends : Ascends book.held
   pub few : length book.held ≤ 4096
   pub each : length book.vessels ≡ length book.held
-  pub kept : All (IsKept book.numbers.gap) book.vessels
+  pub kept : All (IsKept book.keeping book.numbers.gap) book.vessels

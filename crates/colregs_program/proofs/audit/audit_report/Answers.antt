@@ -12,9 +12,9 @@ unfolding sightings_of
 returns-in_err-totals-clause-cause c =
     let scenario = c.args.scenario.now in
     let log = c.args.log.now in
-    let stands = c.in_ok-judge_log.ensures.lines scenario c.new-judge.ensures in
+    let stands = c.in_ok-judge_log.ensures.lines scenario c.new-judge.ensures.stands in
     let messages = sent scenario (lines_of log) in
-    let book = c.book.ensures scenario (lines_of log) stands in
+    let book = c.book.ensures.stands scenario (lines_of log) stands in
     err_cause _ _ _ c.from_residual-in_err-totals.ensures.1
     (audit_cause scenario log c.in_err-totals.field-0.0 c.write_audit.result c.in_err-totals.was c.write_audit.ensures.pairs_alone stands.calm
     (λ err. c.write_audit.ensures.many err messages book))
@@ -23,8 +23,8 @@ pub write_totals-requires : goal.write_totals-requires
 write_totals-requires c =
     let scenario = c.args.scenario.now in
     let lines = lines_of c.args.log.now in
-    let stands = c.in_ok-judge_log.ensures.lines scenario c.new-judge.ensures in
-    let book = c.book.ensures scenario lines stands in
+    let stands = c.in_ok-judge_log.ensures.lines scenario c.new-judge.ensures.stands in
+    let book = c.book.ensures.stands scenario lines stands in
     let audited = c.in_ok-totals.ensures.audited (sent scenario lines) [] book c.new-text.ensures in
     ap length c.as_slice.ensures.value ∙ audited.are_totals.count
 
@@ -33,10 +33,10 @@ unfolding sightings_of rows_behind
 returns-clause-report c =
     let scenario = c.args.scenario.now in
     let lines = lines_of c.args.log.now in
-    let stands = c.in_ok-judge_log.ensures.lines scenario c.new-judge.ensures in
+    let stands = c.in_ok-judge_log.ensures.lines scenario c.new-judge.ensures.stands in
     let messages = sent scenario lines in
-    let audited = c.in_ok-totals.ensures.audited messages [] (c.book.ensures scenario lines stands) c.new-text.ensures in
-    let vessels = c.in_ok-write_vessels.ensures (numbers_of scenario) messages _ (c.book-2.ensures scenario lines stands) audited.has in
+    let audited = c.in_ok-totals.ensures.audited messages [] (c.book.ensures.stands scenario lines stands) c.new-text.ensures in
+    let vessels = c.in_ok-write_vessels.ensures (numbers_of scenario) messages _ (c.book-2.ensures.stands scenario lines stands) audited.has in
     let totals = c.in_ok-write_totals.ensures _ vessels in
     let counts = c.in_ok-write_counts.ensures _ totals in
     let outcomes = count_rows-from_counts c.counts.result.now (judged_lines scenario lines) c.all_outcomes.result.now c.all_outcomes.ensures (c.counts.ensures scenario lines stands) in
@@ -53,5 +53,5 @@ unfolding sightings_of
 returns-clause-calm c =
     let scenario = c.args.scenario.now in
     let lines = lines_of c.args.log.now in
-    let stands = c.in_ok-judge_log.ensures.lines scenario c.new-judge.ensures in
-    record { calm = stands.calm; few = λ many. c.in_ok-totals.ensures.few (sent scenario lines) (c.book.ensures scenario lines stands) many }
+    let stands = c.in_ok-judge_log.ensures.lines scenario c.new-judge.ensures.stands in
+    record { calm = stands.calm; few = λ many. c.in_ok-totals.ensures.few (sent scenario lines) (c.book.ensures.stands scenario lines stands) many }

@@ -11,9 +11,9 @@ returns c =
     let scenario = c.args.scenario.now in
     let lines = judged_lines scenario (lines_of c.args.log.now) in
     let taken = c.in_ok-take_lines.ensures in
-    let stands = taken.lines scenario c.new-judge.ensures in
+    let stands = taken.lines scenario c.new-judge.ensures.stands in
     let counts = c.counts.ensures scenario (lines_of c.args.log.now) stands in
-    let rows = c.in_ok-write_counts.ensures (point_rows lines) (taken.rows scenario c.new-judge.ensures c.new-text.ensures) in
+    let rows = c.in_ok-write_counts.ensures (point_rows lines) (taken.rows scenario c.new-judge.ensures.stands c.new-text.ensures) in
     record {
       report = c.in_ok-into_bytes.ensures _ rows
           ∙ ap (λ text. point_rows lines ++ text) (count_rows-from_counts c.counts.result.now lines c.all_outcomes.result.now c.all_outcomes.ensures counts);

@@ -27,7 +27,7 @@ returns-in_err-rows-clause-many c = λ told messages stands.
     let fault = pairs_fault c.in_err-rows.field-0.0 (same_fault c.from_residual-in_err-rows.result _ _ c.from_residual-in_err-rows.ensures.1 told) in
     let err : c.step.result ≡ Err audit_fault.TooManyPairs = c.in_err-rows.was ∙ ap (λ (e : AuditFault). Err e) fault in
     many_now scenario messages c.loop-tick.tick up.ticks c.as_slice-in-loop-tick.result.now (omega (arith, c.loop-tick-test.true)) (up.seen messages stands)
-    (c.as_slice-in-loop-tick.ensures.value ∙ c.in_ok-look.ensures.value (numbers_of scenario) messages stands ∙ ap (seen_of (numbers_of scenario) messages) c.time_of.ensures)
+    (c.as_slice-in-loop-tick.ensures.value ∙ c.in_ok-look.ensures.value c.requires.keeping (numbers_of scenario) messages stands ∙ ap (seen_of (numbers_of scenario) messages) c.time_of.ensures)
     (c.step.ensures.many err (audit_numbers scenario) up.ticks up.given up.stands)
 
 pub write_stretches-requires : goal.write_stretches-requires
@@ -50,7 +50,7 @@ loop-tick-preserved c =
       up = audited_on scenario c.args.book.now c.args.text.now c.loop-tick.text c.write_stretches.new.text c.loop-tick.audit c.step.new.self c.loop-tick.tick
           c.as_slice-in-loop-tick.result.now c.in_ok-rows.rows.items so_far.up rows.latest
           (c.as_slice-in-loop-tick.ensures.value ∙ c.in_ok-look.ensures.kept ∙ ap (seen_in c.args.book.now) c.time_of.ensures)
-          (λ messages stands. c.as_slice-in-loop-tick.ensures.value ∙ c.in_ok-look.ensures.value (numbers_of scenario) messages stands
+          (λ messages stands. c.as_slice-in-loop-tick.ensures.value ∙ c.in_ok-look.ensures.value c.requires.keeping (numbers_of scenario) messages stands
           ∙ ap (seen_of (numbers_of scenario) messages) c.time_of.ensures)
           rows.stands rows.few
           (λ front has. subst (λ (rs : List Row). HasText c.write_stretches.new.text (front ++ stretch_rows scenario.rules rs)) c.as_slice-in-loop-tick-2.ensures.value

@@ -1,16 +1,17 @@
-use Rattle.std.proofs.Common.{[], ◌∷◌, ◌++◌, subst, sym, ap, arith, Err}
+use Rattle.std.proofs.Common.{[], ◌∷◌, ◌++◌, ◌∙◌, refl, subst, sym, ap, arith, Err}
 use Rattle.judged_lines.specs.Standing.{StandsFor}
 use Rattle.judged_lines.proofs.TakingLines.{before_is, crowded_log, from_front, one_line_on}
 use Rattle.judged_lines.proofs.whole_log.judge_log.Goals as goal
 
 pub loop-at-init : goal.loop-at-init
-loop-at-init c = record { within = omega arith; up = ([], from_front c.args.judge.now c.args.log.now) }
+loop-at-init c = record { keeping = refl; within = omega arith; up = ([], from_front c.args.judge.now c.args.log.now) }
 
 pub loop-at-preserved : goal.loop-at-preserved
 loop-at-preserved c =
     let line = c.first_line-line in
     let (before, up) = c.loop-at.invariant.up in
     record {
+      keeping = c.take.ensures.keeping ∙ c.loop-at.invariant.keeping;
       within = omega (arith, line.ensures.within);
       up = (
         before ++ line.result.bytes.now ∷ [],

@@ -8,14 +8,14 @@ use Rattle.judged_lines.proofs.Counting.{AreCounts-zeros}
 use Rattle.judged_lines.proofs.Pushing.{nothing_crowded, nothing_heard, nothing_held, nothing_judged, nothing_sent}
 use Rattle.judged_lines.proofs.judge.Judge.new.Goals as goal
 
-pub returns : goal.returns
-returns c =
+pub returns-clause-stands : goal.returns-clause-stands
+returns-clause-stands c =
     let scenario = c.args.scenario.now in
     let numbers = numbers_of scenario in
     record {
       times = c.new.ensures;
       joiner = subst (JoinerStandsFor c.new-2.result) (sym (nothing_heard scenario)) c.new-2.ensures;
-      book = subst (BookStandsFor c.new-3.result numbers) (sym (nothing_sent scenario)) c.new-3.ensures;
+      book = subst (BookStandsFor c.new-3.result numbers) (sym (nothing_sent scenario)) c.new-3.ensures.stands;
       few = subst (λ (l : List Sent). length (held_of numbers l) ≤ greatest_held) (sym (nothing_sent scenario)) (nothing_held numbers);
       calm = nothing_crowded scenario;
       counts = subst (AreCounts _) (sym (nothing_judged scenario)) AreCounts-zeros;

@@ -10,12 +10,12 @@ use Rattle.tracks.proofs.book.Book.hold.Goals as goal
 
 pub invariant_of-self : goal.invariant_of-self
 invariant_of-self c =
-    let old : BookValue = record { numbers = c.self.inside.numbers; held = c.self.inside.held.items; vessels = c.self.inside.vessels.items } in
+    let old : BookValue = record { keeping = c.self.inside.keeping; numbers = c.self.inside.numbers; held = c.self.inside.held.items; vessels = c.self.inside.vessels.items } in
     is_book_after c.put.result old _ c.args.at c.args.mmsi c.take.new.self c.self.invariant
     (subst (λ (b : BookValue). c.args.at ≤ length b.held) (sym c.self.view_is) c.requires.place)
     (subst (λ (b : BookValue). length b.held < 4096) (sym c.self.view_is) c.requires.room)
     (subst (λ (b : BookValue). with_number c.args.mmsi b.held ≡ insert b.held c.args.at c.args.mmsi) (sym c.self.view_is) c.requires.more)
-    c.take.ensures.kept refl c.put.ensures.held c.put.ensures.vessels c.put.ensures.held_same c.put.ensures.vessels_same
+    c.take.ensures.kept refl refl c.put.ensures.held c.put.ensures.vessels c.put.ensures.held_same c.put.ensures.vessels_same
 
 -- both clauses of one result
 both : {T E P Q R : Type 0} (r : Result T E) → (P → Q → R) → OnOk r P → OnOk r Q → OnOk r R
@@ -24,10 +24,10 @@ both (Err e) f p q = tt
 
 pub returns-clause-stands : goal.returns-clause-stands
 returns-clause-stands c =
-    let old : BookValue = record { numbers = c.self.inside.numbers; held = c.self.inside.held.items; vessels = c.self.inside.vessels.items } in
+    let old : BookValue = record { keeping = c.self.inside.keeping; numbers = c.self.inside.numbers; held = c.self.inside.held.items; vessels = c.self.inside.vessels.items } in
     let one : Sent = record { message = c.args.message.now; time = c.args.time } in
-    let taken : c.take.new.self ≡ vessel_after c.self.inside.numbers untold one =
-    c.in_ok-take.ensures.ok ∙ ap (λ (v : VesselValue). vessel_after c.self.inside.numbers v one) c.new-vessel.ensures in
+    let taken : c.take.new.self ≡ vessel_after c.self.inside.keeping c.self.inside.numbers untold one =
+    c.in_ok-take.ensures.ok ∙ ap (λ (v : VesselValue). vessel_after c.self.inside.keeping c.self.inside.numbers v one) c.new-vessel.ensures in
     both c.put.result
     (λ held vessels numbers sent h.
     stands_as old _ numbers sent one c.args.at c.args.mmsi c.requires.sender
@@ -35,5 +35,5 @@ returns-clause-stands c =
     (subst (λ (b : BookValue). ¬ Contains b.held c.args.mmsi) (sym c.self.view_is) c.requires.absent)
     (subst (λ (b : BookValue). makes_held b.numbers one ≡ true) (sym c.self.view_is) c.requires.holding)
     (subst (λ (b : BookValue). with_number c.args.mmsi b.held ≡ insert b.held c.args.at c.args.mmsi) (sym c.self.view_is) c.requires.more)
-    refl held (vessels ∙ ap (insert c.self.inside.vessels.items c.args.at) taken))
+    refl refl held (vessels ∙ ap (insert c.self.inside.vessels.items c.args.at) taken))
     c.put.ensures.held c.put.ensures.vessels

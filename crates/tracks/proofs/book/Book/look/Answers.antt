@@ -23,11 +23,11 @@ loop-at-preserved c =
     }
 
 pub returns-clause-value : goal.returns-clause-value
-returns-clause-value c = λ numbers sent h.
+returns-clause-value c = λ tracks numbers sent h.
     let book : BookValue = c.args.self.now in
     let count : length c.self.inside.held.items ≡ length book.held = ap (λ (b : BookValue). length b.held) c.self.view_is in
     let all : length book.held ≤ c.loop-at.at = omega (arith, c.len-at-end.ensures) in
-    seen_all book c.args.time c.loop-at.at c.loop-at.seen.items all c.loop-at.invariant.kept ∙ seen_in-is book numbers sent c.args.time h
+    seen_all book c.args.time c.loop-at.at c.loop-at.seen.items all c.loop-at.invariant.kept ∙ seen_in-is book numbers sent c.args.time tracks h
 
 pub returns-clause-kept : goal.returns-clause-kept
 returns-clause-kept c =

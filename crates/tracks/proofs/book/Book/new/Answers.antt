@@ -8,11 +8,11 @@ none_held : (numbers : Numbers) → [] ≡ held_of numbers []
 unfolding held_of
 none_held numbers = refl
 
-pub returns : goal.returns
-returns c =
+pub returns-clause-stands : goal.returns-clause-stands
+returns-clause-stands c =
     let numbers : Numbers = record { reference = c.args.reference; gap = c.args.gap; max_speed = c.args.max_speed } in
     record {
       by = refl;
       holds = c.new.ensures.items ∙ none_held numbers;
-      vessels = c.new-2.ensures.items ∙ ap (map (vessel_of numbers [])) (none_held numbers);
+      vessels = c.new-2.ensures.items ∙ ap (map (vessel_of c.args.keeping numbers [])) (none_held numbers);
     }

@@ -5,12 +5,13 @@ use Rattle.std.proofs.lemmas.Result.{IfOk-weaker, on_ok_weaker}
 use Rattle.tracks.specs.AcceptedReports.{Numbers}
 use Rattle.tracks.specs.Standing.{BookValue, StandsFor, VesselValue}
 use Rattle.tracks.specs.VesselsHeld.{Sent, entry_at, reported_in, sender_of}
+use Rattle.tracks.proofs.Books.{is_book_set}
 use Rattle.tracks.proofs.Stands.{entry_after, held_further, stands_further, vessel_at}
 use Rattle.tracks.proofs.book.Book.take_further.Goals as goal
 
 -- the book before the message
 book : goal.After-self-1 → BookValue
-book c = record { numbers = c.self.inside.numbers; held = c.self.inside.held.items; vessels = c.self.inside.vessels.items }
+book c = record { keeping = c.self.inside.keeping; numbers = c.self.inside.numbers; held = c.self.inside.held.items; vessels = c.self.inside.vessels.items }
 
 one : goal.After-self-1 → Sent
 one c = record { message = c.args.message.now; time = c.args.time }
@@ -23,6 +24,10 @@ here : (c : goal.After-self-1) → slice_get (book c).held c.args.at ≡ Some (s
 unfolding book
 here c = subst (λ (b : BookValue). slice_get b.held c.args.at ≡ Some (sender_of c.args.message.now)) (sym c.self.view_is) c.requires.sender
 
+pub invariant_of-self : goal.invariant_of-self
+unfolding book
+invariant_of-self c = is_book_set (book c) c.args.at c.take.new.self c.self.invariant c.take.ensures.kept
+
 pub returns-clause-entry : goal.returns-clause-entry
 unfolding book one
 returns-clause-entry c =
@@ -31,7 +36,7 @@ returns-clause-entry c =
     let s = stood c numbers sent h in
     let at = vessel_at (book c) numbers sent c.args.at _ c.index_mut-vessel.result.now s (here c) c.index_mut-vessel.ensures.value in
     e ∙ ap (λ (n : Numbers). entry_at n (last_or None c.index_mut-vessel.result.now.points) (reported_in (one c))) s.by
-    ∙ entry_after numbers sent (one c) c.index_mut-vessel.result.now.points (ap (λ (v : VesselValue). v.points) at))
+    ∙ entry_after c.self.inside.keeping numbers sent (one c) c.index_mut-vessel.result.now.points (ap (λ (v : VesselValue). v.points) at))
     c.take.ensures.entry
 
 pub returns-clause-stands : goal.returns-clause-stands
@@ -39,7 +44,7 @@ unfolding book one
 returns-clause-stands c =
     on_ok_weaker c.take.result
     (λ e numbers sent h. stands_further (book c) _ numbers sent (one c) c.args.at c.index_mut-vessel.result.now (stood c numbers sent h) (here c) c.index_mut-vessel.ensures.value
-    refl refl (ap (set c.self.inside.vessels.items c.args.at) e))
+    refl refl refl (ap (set c.self.inside.vessels.items c.args.at) e))
     c.take.ensures.ok
 
 pub returns-clause-few : goal.returns-clause-few

@@ -20,4 +20,4 @@ returns-clause-kept c =
     let each = is.each in
     let value : c.index.result.now ≡ get_or book.vessels c.args.at c.index.result.now =
     c.index.ensures ∙ ap (λ (b : BookValue). get_or b.vessels c.args.at c.index.result.now) c.self.view_is in
-    subst (IsKept book.numbers.gap) (sym value) (All-get_or (IsKept book.numbers.gap) book.vessels c.args.at c.index.result.now (omega arith) is.kept)
+    subst (IsKept book.keeping book.numbers.gap) (sym value) (All-get_or (IsKept book.keeping book.numbers.gap) book.vessels c.args.at c.index.result.now (omega arith) is.kept)

@@ -25,7 +25,7 @@ returns-in-Ok-clause-kept c =
     let within : c.in-Ok.at < length book.held = slice_get_within book.held c.in-Ok.at c.args.mmsi (here c) in
     let value : c.index.result.now ≡ get_or book.vessels c.in-Ok.at c.index.result.now =
     c.index.ensures ∙ ap (λ (b : BookValue). get_or b.vessels c.in-Ok.at c.index.result.now) c.self.view_is in
-    subst (IsKept book.numbers.gap) (sym value) (All-get_or (IsKept book.numbers.gap) book.vessels c.in-Ok.at c.index.result.now (omega arith) is.kept)
+    subst (IsKept book.keeping book.numbers.gap) (sym value) (All-get_or (IsKept book.keeping book.numbers.gap) book.vessels c.in-Ok.at c.index.result.now (omega arith) is.kept)
 
 pub returns-in-Err-clause-value : goal.returns-in-Err-clause-value
 returns-in-Err-clause-value c = λ numbers sent h.

@@ -1,34 +1,24 @@
-use Rattle.std.proofs.Common.{arith, rules, ◌≡◌, refl, sym, subst}
-use Rattle.std.proofs.lemmas.Grind.{common_steps}
-use Rattle.tracks.specs.Standing.{VesselValue}
+use Rattle.std.proofs.Common.{Ok, Err, subst, sym}
+use Rattle.std.specs.Prelude.{OnErr, OnOk, Result}
+use Rattle.std.proofs.lemmas.Result.{on_ok_weaker}
 use Rattle.tracks.specs.Inner.Keeping.{IsKept}
-use Rattle.tracks.proofs.Joining.{HasTaken, takes_apart, takes_joined}
+use Rattle.tracks.proofs.Joining.{takes_latest}
 use Rattle.tracks.proofs.vessel.Vessel.accept.Goals as goal
 
-apart : (c : goal.In_default) → HasTaken c.args.gap c.args.self.now (record { points = c.push.new.self.items; legs = c.self.inside.legs; statics = c.self.inside.statics }) c.args.accepted
-apart c =
-    takes_apart c.args.gap c.args.self.now (record { points = c.self.inside.points.items; legs = c.self.inside.legs; statics = c.self.inside.statics }) _ c.args.accepted
-    c.self.view_is c.requires.kept c.requires.accepted (cc) c.in_ok-push.ensures.items refl refl
+pub returns-in-Latest-clause-ok : goal.returns-in-Latest-clause-ok
+returns-in-Latest-clause-ok c =
+    on_ok_weaker c.replace.result
+    (λ e. (takes_latest c.args.keeping c.args.gap c.args.self.now c.replace.new.self c.args.accepted.now c.in-Latest.is c.requires.kept c.requires.accepted e).is)
+    c.replace.ensures.ok
 
-pub returns-in_default-clause-ok : goal.returns-in_default-clause-ok
-returns-in_default-clause-ok c = (apart c).is
+-- either way
+in_both : {T E P Q R : Type 0} (r : Result T E) → (P → R) → (Q → R) → OnOk r P → OnErr r Q → R
+in_both (Ok x) f g p q = f p
+in_both (Err e) f g p q = g q
 
-pub returns-in_default-clause-kept : goal.returns-in_default-clause-kept
-returns-in_default-clause-kept c = (apart c).kept
-
-pub returns-then-is_err-clause-kept : goal.returns-then-is_err-clause-kept
-returns-then-is_err-clause-kept c =
-    let new : VesselValue = record { points = c.pop.new.self.items; legs = c.push-2.new.self; statics = c.self.inside.statics } in
-    let same : new ≡ c.args.self.now = grind (arith, common_steps) in
-    subst (IsKept c.args.gap) (sym same) c.requires.kept
-
-joined : (c : goal.Else-is_err) → HasTaken c.args.gap c.args.self.now (record { points = c.push.new.self.items; legs = c.push-2.new.self; statics = c.self.inside.statics }) c.args.accepted
-joined c =
-    takes_joined c.args.gap c.args.self.now (record { points = c.self.inside.points.items; legs = c.self.inside.legs; statics = c.self.inside.statics }) _ c.args.accepted c.in-Some.leg
-    c.self.view_is c.requires.kept c.requires.accepted (cc) c.in_ok-push.ensures.items (search rules) refl
-
-pub returns-clause-ok : goal.returns-clause-ok
-returns-clause-ok c = (joined c).is
-
-pub returns-clause-kept : goal.returns-clause-kept
-returns-clause-kept c = (joined c).kept
+pub returns-in-Latest-clause-kept : goal.returns-in-Latest-clause-kept
+returns-in-Latest-clause-kept c =
+    in_both c.replace.result
+    (λ e. (takes_latest c.args.keeping c.args.gap c.args.self.now c.replace.new.self c.args.accepted.now c.in-Latest.is c.requires.kept c.requires.accepted e).kept)
+    (λ e. subst (IsKept c.args.keeping c.args.gap) (sym e) c.requires.kept)
+    c.replace.ensures.ok c.replace.ensures.err
