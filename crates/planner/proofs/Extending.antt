@@ -1,0 +1,222 @@
+-- One more leg after a prefix.
+use Rattle.std.proofs.Common.{◌≡◌, ◌∙◌, ℕ, ◌+◌, ◌-◌, ◌*◌, ◌/◌, ◌%◌, ◌<◌, ◌≤◌, ◌⊎◌, inl, inr, List, [], ◌∷◌, ◌++◌, length, take, get_or, refl, sym, ap, subst, arith, add-one, Some, None}
+use Rattle.std.proofs.lemmas.Bool.{cases_lt}
+use Rattle.std.proofs.lemmas.List.{get_or_append_left, get_or-take}
+use Rattle.std.proofs.Math.Nat.{mul-le-mul_right}
+use Rattle.std.specs.Prelude.{Option, IsSomeAnd, slice_get, slice_index}
+use Rattle.closest_approach.specs.Separation.{IsSeparated}
+use Rattle.encounters.specs.declared.pair_step.PairStep.{PairStep}
+use Rattle.lattice.specs.Grids.{Grid, choices_of, positions_of}
+use Rattle.lattice.specs.OwnMotion.{choice_in_force}
+use Rattle.lattice.specs.PlanNumbers.{plan_of}
+use Rattle.lattice.proofs.Digits.{length-plan_of}
+use Rattle.meetings.specs.Standing as meetings
+use Rattle.meetings.specs.Traces.{step_at}
+use Rattle.mtl_monitor.specs.Traces.{Trace}
+use Rattle.mtl_monitor.specs.declared.program.Program.{Program}
+use Rattle.planner.specs.FailingPlans.{BreaksARule, EntersDomain, FailsBy, FailsTowards, Some_}
+use Rattle.planner.specs.Inner.Levels.{StandsAt, StaysOut, lasts}
+use Rattle.planner.specs.Inner.Paths.{EntersAlong}
+use Rattle.planner.specs.Inner.Watching.{Stands, StandsFor}
+use Rattle.planner.specs.Prefixes.{PrefixFails, reached, told_by}
+use Rattle.planner.specs.Situations.{now_of, own_at, target_at}
+use Rattle.planner.specs.declared.basis.Basis.{Basis}
+use Rattle.planner.specs.declared.situation.Situation.{Situation}
+use Rattle.planner.specs.declared.situation.Target.{Target}
+use Rattle.planner.specs.declared.watched.Watched.{Watched}
+use Rattle.planner.proofs.Blocks.{shared}
+use Rattle.planner.proofs.CommonLegs.{same_contact, same_steps, when_less, when_not_less}
+use Rattle.planner.proofs.FlatList.{none_some}
+use Rattle.planner.proofs.Lifting.{begins_too, enters_too, fails_too, rows_too, some_weaker}
+
+-- ---- how long a leg lasts
+
+pub leg_begins : (grid : Grid) (leg : ℕ) → leg < grid.legs → told_by grid leg ≡ leg * grid.leg_ticks
+leg_begins grid leg lt = when_less leg grid.legs (leg * grid.leg_ticks) (positions_of grid) lt
+
+pub leg_ends : (s : Situation) (leg : ℕ) → leg < s.lattice.legs → leg * s.lattice.leg_ticks + lasts s leg ≡ told_by s.lattice (leg + 1)
+leg_ends s leg lt = elim (cases_lt (leg + 1) s.lattice.legs) [
+  | inl more ↦ (let a = when_less (leg + 1) s.lattice.legs s.lattice.leg_ticks (positions_of s.lattice - leg * s.lattice.leg_ticks) more in
+      let b = when_less (leg + 1) s.lattice.legs ((leg + 1) * s.lattice.leg_ticks) (positions_of s.lattice) more in
+      ap (λ (k : ℕ). leg * s.lattice.leg_ticks + k) a ∙ (next ∙ sym b))
+  | inr last ↦ (let a = when_not_less (leg + 1) s.lattice.legs s.lattice.leg_ticks (positions_of s.lattice - leg * s.lattice.leg_ticks) last in
+      let b = when_not_less (leg + 1) s.lattice.legs ((leg + 1) * s.lattice.leg_ticks) (positions_of s.lattice) last in
+      let le : leg ≤ s.lattice.legs = omega arith in
+      let within = mul-le-mul_right s.lattice.leg_ticks le in
+      let all : leg * s.lattice.leg_ticks + (positions_of s.lattice - leg * s.lattice.leg_ticks) ≡ positions_of s.lattice = omega arith in
+      ap (λ (k : ℕ). leg * s.lattice.leg_ticks + k) a ∙ (all ∙ sym b))
+]
+  where
+    next : leg * s.lattice.leg_ticks + s.lattice.leg_ticks ≡ (leg + 1) * s.lattice.leg_ticks
+    next = omega arith
+
+-- ---- prefixes
+
+-- a prefix with one more leg begins with the prefix
+pub prefix_front : (c leg number : ℕ) → plan_of c (leg + 1) number ≡ plan_of c leg (number / c) ++ number % c ∷ []
+unfolding plan_of
+prefix_front c leg number = rw add-one refl
+
+pub shares_prefix : (c leg number : ℕ) (W : List ℕ) → take (leg + 1) W ≡ plan_of c (leg + 1) number → (i : ℕ) → i < leg + 1 → slice_index (plan_of c (leg + 1) number) i ≡ slice_index W i
+shares_prefix c leg number W e i lt = ap (λ (ds : List ℕ). slice_index ds i) (sym e) ∙ get_or-take (leg + 1) W i 0 lt
+
+pub shares_front : (c leg number : ℕ) (W : List ℕ) → take (leg + 1) W ≡ plan_of c (leg + 1) number → (i : ℕ) → i < leg → slice_index (plan_of c leg (number / c)) i ≡ slice_index W i
+shares_front c leg number W e i lt =
+    let long = length-plan_of c leg (number / c) in
+    sym (get_or_append_left (plan_of c leg (number / c)) (number % c ∷ []) 0 i (omega arith))
+    ∙ (ap (λ (ds : List ℕ). slice_index ds i) (sym (prefix_front c leg number)) ∙ shares_prefix c leg number W e i (omega arith))
+
+-- ---- what is kept stands for each plan that has the legs in common
+
+module _ (s : Situation) (X Y : List ℕ) (n : ℕ) (same : (step : ℕ) → step < n → choice_in_force s.lattice X step ≡ choice_in_force s.lattice Y step) (at : ℕ) (told : at ≤ now_of s + n) where
+  back : (step : ℕ) → step < n → choice_in_force s.lattice Y step ≡ choice_in_force s.lattice X step
+  back step lt = sym (same step lt)
+
+  pub stands_for_too : (program : Program) (T : Target) (w : Watched) → StandsFor program s X T at w → StandsFor program s Y T at w
+  stands_for_too program T w h = record {
+    begun = λ holds. let has = h.begun holds in let before = has.begins.before_end in record {
+      start = has.start;
+      rows = has.rows;
+      begins = begins_too s X Y n same at told T at has.start (omega arith) has.begins;
+      are_rows = rows_too s X Y n same at told T has.start has.rows (omega arith) has.are_rows;
+      follows = subst (λ (steps : List (Option PairStep)). meetings.Follows w.follower s.detect s.act s.tick steps) (same_steps s X Y n same T has.start (at - has.start) (omega arith)) has.follows;
+      values = has.values;
+    };
+    waits = λ fails_so. let waits = h.waits fails_so in record {
+      apart = λ k lt contact. waits.apart k lt (same_contact s Y X n back T s.detect.watch k (omega arith) contact);
+      follows = waits.follows;
+      values = waits.values;
+    };
+  }
+
+  pub stands_too : (program : Program) (T : Target) (cut : Trace) (w : Watched) → Stands program s X T cut at w → Stands program s Y T cut at w
+  stands_too program T cut w h = record {
+    stands = stands_for_too program T w h.stands;
+    counted = h.counted;
+    unbroken = λ start rows begins are passed after le told_there. let before = begins.before_end in
+        h.unbroken start rows (begins_too s Y X n back at told T at start (omega arith) begins) (rows_too s Y X n back at told T start rows (omega arith) are) passed after le told_there;
+  }
+
+pub level_too : (basis : Basis) (X Y : List ℕ) (n : ℕ) → ((step : ℕ) → step < n → choice_in_force basis.situation.lattice X step ≡ choice_in_force basis.situation.lattice Y step)
+    → (at : ℕ) → at ≤ now_of basis.situation + n → (watched : List Watched) → StandsAt basis X at watched → StandsAt basis Y at watched
+level_too basis X Y n same at told watched h = λ k t a w cut lt is_cut tells.
+    stands_too basis.situation X Y n same at told basis.program (get_or basis.situation.targets k t) cut (get_or watched k w) (h k t a w cut lt is_cut tells)
+
+-- ---- whether the longer prefix fails
+
+module _ (s : Situation) (W : List ℕ) (from steps : ℕ) (from_now : now_of s ≤ from) where
+  pub along_fails : Some_ (λ (T : Target). EntersAlong s W T from steps) s.targets → FailsBy s (from + steps) W
+  along_fails h = some_weaker (λ (T : Target). EntersAlong s W T from steps) (FailsTowards s W (from + steps)) s.targets (λ T e. let lt = e.within in inl (record {
+    step = from + e.ahead;
+    from_now = omega arith;
+    planned = omega arith;
+    enters = e.enters;
+  })) h
+
+  pub breaks_fails : Some_ (BreaksARule s W (from + steps)) s.targets → FailsBy s (from + steps) W
+  breaks_fails h = some_weaker (BreaksARule s W (from + steps)) (FailsTowards s W (from + steps)) s.targets (λ T b. inr b) h
+
+  -- neither on the way here, nor from here on
+  pub none_fails : StaysOut s W from → (¬ Some_ (λ (T : Target). EntersAlong s W T from steps) s.targets) → (¬ Some_ (BreaksARule s W (from + steps)) s.targets) → ¬ FailsBy s (from + steps) W
+  none_fails outside along breaks (k, h) = by k h
+    where
+      at : (T : Target) → FailsTowards s W (from + steps) T → (EntersDomain s W from T ⊎ EntersAlong s W T from steps) ⊎ BreaksARule s W (from + steps) T
+      at T (inr b) = inr b
+      at T (inl e) = let planned = e.planned in elim (cases_lt e.step from) [
+        | inl before ↦ inl (inl (record { step = e.step; from_now = e.from_now; planned = before; enters = e.enters }))
+        | inr after ↦ (let there : e.step ≡ from + (e.step - from) = omega arith in inl (inr (record {
+          ahead = e.step - from;
+          within = omega arith;
+          enters = subst (λ (i : ℕ). IsSomeAnd (step_at (own_at s W) (target_at s T) i) (λ pair. ¬ IsSeparated pair.step T.radius)) there e.enters;
+        })))
+      ]
+
+      one : (k : ℕ) (o : Option Target) → ((P : Target → Type 0) → IsSomeAnd o P → Some_ P s.targets) → IsSomeAnd o (FailsTowards s W (from + steps)) → ⊥
+      one k None f h = h
+      one k (Some T) f h = elim (at T h) [
+        | inl entered ↦ elim entered [
+          | inl before ↦ outside (f (EntersDomain s W from) before)
+          | inr after ↦ along (f (λ (T : Target). EntersAlong s W T from steps) after)
+        ]
+        | inr b ↦ breaks (f (BreaksARule s W (from + steps)) b)
+      ]
+
+      by : (k : ℕ) → IsSomeAnd (slice_get s.targets k) (FailsTowards s W (from + steps)) → ⊥
+      by k h = one k (slice_get s.targets k) (λ P p. (k, p)) h
+
+-- ---- from a prefix to the plan that is followed, and back to the longer prefix
+
+module _ (basis : Basis) (leg number : ℕ) (W : List ℕ) (some : 1 ≤ basis.situation.lattice.legs)
+    (begins : take (leg + 1) W ≡ plan_of (choices_of basis.situation.lattice) (leg + 1) number) where
+  same_front : (step : ℕ) → step < told_by basis.situation.lattice leg → choice_in_force basis.situation.lattice (plan_of (choices_of basis.situation.lattice) leg (number / choices_of basis.situation.lattice)) step
+      ≡ choice_in_force basis.situation.lattice W step
+  same_front = shared basis.situation.lattice (plan_of (choices_of basis.situation.lattice) leg (number / choices_of basis.situation.lattice)) W leg some
+      (shares_front (choices_of basis.situation.lattice) leg number W begins)
+
+  same_prefix : (step : ℕ) → step < told_by basis.situation.lattice (leg + 1) → choice_in_force basis.situation.lattice (plan_of (choices_of basis.situation.lattice) (leg + 1) number) step
+      ≡ choice_in_force basis.situation.lattice W step
+  same_prefix = shared basis.situation.lattice (plan_of (choices_of basis.situation.lattice) (leg + 1) number) W (leg + 1) some
+      (shares_prefix (choices_of basis.situation.lattice) leg number W begins)
+
+  within : (legs : ℕ) → reached basis.situation legs ≤ now_of basis.situation + told_by basis.situation.lattice legs
+  within legs = omega arith
+
+  from_now : (legs : ℕ) → now_of basis.situation ≤ reached basis.situation legs
+  from_now legs = omega arith
+
+  same_tick : (at : ℕ) → at ≤ at
+  same_tick at = omega arith
+
+  pub level_front : (watched : List Watched) → StandsAt basis (plan_of (choices_of basis.situation.lattice) leg (number / choices_of basis.situation.lattice)) (reached basis.situation leg) watched
+      → StandsAt basis W (reached basis.situation leg) watched
+  level_front watched h = level_too basis (plan_of (choices_of basis.situation.lattice) leg (number / choices_of basis.situation.lattice)) W (told_by basis.situation.lattice leg) same_front
+      (reached basis.situation leg) (within leg) watched h
+
+  pub level_prefix : (watched : List Watched) → StandsAt basis W (reached basis.situation (leg + 1)) watched
+      → StandsAt basis (plan_of (choices_of basis.situation.lattice) (leg + 1) number) (reached basis.situation (leg + 1)) watched
+  level_prefix watched h = level_too basis W (plan_of (choices_of basis.situation.lattice) (leg + 1) number) (told_by basis.situation.lattice (leg + 1)) (λ step lt. sym (same_prefix step lt))
+      (reached basis.situation (leg + 1)) (within (leg + 1)) watched h
+
+  pub out_front : StaysOut basis.situation (plan_of (choices_of basis.situation.lattice) leg (number / choices_of basis.situation.lattice)) (reached basis.situation leg)
+      → StaysOut basis.situation W (reached basis.situation leg)
+  out_front outside h = outside (some_weaker (EntersDomain basis.situation W (reached basis.situation leg))
+      (EntersDomain basis.situation (plan_of (choices_of basis.situation.lattice) leg (number / choices_of basis.situation.lattice)) (reached basis.situation leg)) basis.situation.targets
+      (λ T. enters_too basis.situation W (plan_of (choices_of basis.situation.lattice) leg (number / choices_of basis.situation.lattice)) (told_by basis.situation.lattice leg) (λ step lt. sym (same_front step lt))
+      (reached basis.situation leg) (within leg) T (reached basis.situation leg) (same_tick (reached basis.situation leg))) h)
+
+  long : length (plan_of (choices_of basis.situation.lattice) (leg + 1) number) ≡ leg + 1
+  long = length-plan_of (choices_of basis.situation.lattice) (leg + 1) number
+
+  pub to_prefix : FailsBy basis.situation (reached basis.situation (leg + 1)) W → PrefixFails basis.situation (plan_of (choices_of basis.situation.lattice) (leg + 1) number)
+  to_prefix h = subst (λ (n : ℕ). FailsBy basis.situation (reached basis.situation n) (plan_of (choices_of basis.situation.lattice) (leg + 1) number)) (sym long)
+      (fails_too basis.situation W (plan_of (choices_of basis.situation.lattice) (leg + 1) number) (told_by basis.situation.lattice (leg + 1)) (λ step lt. sym (same_prefix step lt))
+      (reached basis.situation (leg + 1)) (within (leg + 1)) (reached basis.situation (leg + 1)) (same_tick (reached basis.situation (leg + 1))) (from_now (leg + 1)) h)
+
+  pub from_prefix : PrefixFails basis.situation (plan_of (choices_of basis.situation.lattice) (leg + 1) number) → FailsBy basis.situation (reached basis.situation (leg + 1)) W
+  from_prefix h = fails_too basis.situation (plan_of (choices_of basis.situation.lattice) (leg + 1) number) W (told_by basis.situation.lattice (leg + 1)) same_prefix
+      (reached basis.situation (leg + 1)) (within (leg + 1)) (reached basis.situation (leg + 1)) (same_tick (reached basis.situation (leg + 1))) (from_now (leg + 1))
+      (subst (λ (n : ℕ). FailsBy basis.situation (reached basis.situation n) (plan_of (choices_of basis.situation.lattice) (leg + 1) number)) long h)
+
+pub ends_there : (s : Situation) (leg first length_of : ℕ) → leg < s.lattice.legs → first ≡ leg * s.lattice.leg_ticks → length_of ≡ lasts s leg + 1
+    → now_of s + first + (length_of - 1) ≡ reached s (leg + 1)
+ends_there s leg first length_of lt e f =
+    let ends = leg_ends s leg lt in
+    omega arith
+
+pub begins_there : (s : Situation) (leg first : ℕ) → leg < s.lattice.legs → first ≡ leg * s.lattice.leg_ticks → now_of s + first ≡ reached s leg
+begins_there s leg first lt e = ap (λ (k : ℕ). now_of s + k) (e ∙ sym (leg_begins s.lattice leg lt))
+
+-- A prefix that passes enters no domain.
+pub out_of_passing : (s : Situation) (c leg n : ℕ) → (¬ PrefixFails s (plan_of c leg n)) → StaysOut s (plan_of c leg n) (reached s leg)
+out_of_passing s c leg n passes h =
+    passes (subst (λ (k : ℕ). FailsBy s (reached s k) (plan_of c leg n)) (sym (length-plan_of c leg n))
+    (some_weaker (EntersDomain s (plan_of c leg n) (reached s leg)) (FailsTowards s (plan_of c leg n) (reached s leg)) s.targets (λ T e. inl e) h))
+
+-- Nothing was entered before now.
+pub out_at_now : (s : Situation) (X : List ℕ) → 1 ≤ s.lattice.legs → StaysOut s X (reached s 0)
+out_at_now s X some h =
+    let at : told_by s.lattice 0 ≡ 0 * s.lattice.leg_ticks = leg_begins s.lattice 0 some in
+    none_some (EntersDomain s X (reached s 0)) s.targets (λ k T lt e. let from = e.from_now in let to = e.planned in absurd (omega arith)) h
+
+pub reached_none : (s : Situation) → 1 ≤ s.lattice.legs → reached s 0 ≡ now_of s
+reached_none s some = let at : told_by s.lattice 0 ≡ 0 * s.lattice.leg_ticks = leg_begins s.lattice 0 some in omega arith

@@ -1,0 +1,69 @@
+-- What is kept of each target, one after the other.
+use Rattle.std.proofs.Common.{◌≡◌, ◌≢◌, ◌∙◌, ℕ, ◌+◌, ◌<◌, ◌≤◌, inl, inr, List, ◌++◌, length, take, drop, get_or, set, refl, sym, ap, subst, arith, Bool, true, false}
+use Rattle.std.proofs.lemmas.Bool.{cases_lt}
+use Rattle.std.proofs.lemmas.List.{get_or-set_other, get_or-set_same}
+use Rattle.std.proofs.Math.Seq.{take-append_seam}
+use Rattle.mtl_monitor.specs.Traces.{Trace}
+use Rattle.planner.specs.Inner.Breaking.{Tells, formulas_of}
+use Rattle.planner.specs.Inner.Levels.{IsBasis, IsToldAtNow, StandsAt}
+use Rattle.planner.specs.Inner.Watching.{IsCopyOf, IsCutAtNow, Stands}
+use Rattle.planner.specs.declared.already.Already.{Already}
+use Rattle.planner.specs.declared.basis.Basis.{Basis}
+use Rattle.planner.specs.declared.situation.Target.{Target}
+use Rattle.planner.specs.declared.watched.Watched.{Watched}
+
+-- ---- lists of which one element after the other is replaced
+
+pub done_set : {X : Type 0} (P : ℕ → X → Type 0) (xs : List X) (k : ℕ) (y : X) → k < length xs → ((j : ℕ) (w : X) → j < k → P j (get_or xs j w)) → P k y
+    → (j : ℕ) (w : X) → j < k + 1 → P j (get_or (set xs k y) j w)
+done_set {X} P xs k y inside before here j w lt = elim (cases_lt j k) [
+  | inl earlier ↦ (let other : j ≢ k = omega arith in subst (P j) (sym (get_or-set_other xs k j y w other)) (before j w earlier))
+  | inr last ↦ (let e : k ≡ j = omega arith in
+      subst (λ (i : ℕ). P i (get_or (set xs k y) i w)) e (subst (P k) (sym (get_or-set_same xs k y w inside)) here))
+]
+
+pub waiting_set : {X : Type 0} (xs ys : List X) (k : ℕ) (y : X) → ((j : ℕ) (w : X) → k ≤ j → get_or xs j w ≡ get_or ys j w) → (j : ℕ) (w : X) → k + 1 ≤ j → get_or (set xs k y) j w ≡ get_or ys j w
+waiting_set xs ys k y same j w le = let other : j ≢ k = omega arith in get_or-set_other xs k j y w other ∙ same j w (omega arith)
+
+pub true_unless : (b : Bool) → (b ≡ false → ⊥) → b ≡ true
+true_unless true h = refl
+true_unless false h = absurd (h refl)
+
+pub fed_step : (b : Bool) (old new k : ℕ) → (b ≡ true → new ≡ old + 1) → (b ≡ false → new ≡ old) → old ≤ k → new ≤ k + 1
+fed_step true old new k fed unfed le = let e = fed refl in omega arith
+fed_step false old new k fed unfed le = let e = unfed refl in omega arith
+
+pub written : {X : Type 0} (new old : List X) (n : ℕ) → length new ≡ length old → n ≡ length old → take n (new ++ drop (length new) old) ≡ new
+written new old n e f =
+    let here : n ≡ length new = omega arith in
+    ap (λ (m : ℕ). take m (new ++ drop (length new) old)) here ∙ take-append_seam new (drop (length new) old)
+
+pub copied : (basis : Basis) (plan : List ℕ) (at : ℕ) (from new : List Watched) → ((k : ℕ) (w v : Watched) → k < length basis.situation.targets → IsCopyOf (get_or new k w) (get_or from k v))
+    → StandsAt basis plan at from → StandsAt basis plan at new
+copied basis plan at from new copies stands = λ k t a w cut lt is_cut tells.
+    (copies k w w lt).stands basis.program basis.situation plan (get_or basis.situation.targets k t) cut at (stands k t a w cut lt is_cut tells)
+
+-- ---- one target
+
+pub rules_few : (basis : Basis) → IsBasis basis → (k : ℕ) (A : Already) → A ≡ get_or basis.already.items k A → k < length basis.situation.targets → (T : Target) → A.rules ≤ 17
+rules_few basis is k A is_already lt T =
+    let told = is.each k T A lt in
+    let width = told.tells.width in
+    let few = is.few in
+    let of_rules = is.of_rules.of.count in
+    let here : (get_or basis.already.items k A).rules ≤ 17 = omega arith in
+    subst (λ (a : Already). a.rules ≤ 17) (sym is_already) here
+
+pub told_here : (basis : Basis) → IsBasis basis → (k : ℕ) (T : Target) (A : Already) → T ≡ get_or basis.situation.targets k T → A ≡ get_or basis.already.items k A → k < length basis.situation.targets
+    → IsToldAtNow basis.situation T A
+told_here basis is k T A is_target is_already lt =
+    subst (λ (t : Target). IsToldAtNow basis.situation t A) (sym is_target)
+    (subst (λ (a : Already). IsToldAtNow basis.situation (get_or basis.situation.targets k T) a) (sym is_already) (is.each k T A lt))
+
+pub stands_here : (basis : Basis) (plan : List ℕ) (at : ℕ) (watched : List Watched) (k : ℕ) (T : Target) (A : Already) (W : Watched)
+    → T ≡ get_or basis.situation.targets k T → A ≡ get_or basis.already.items k A → W ≡ get_or watched k W → k < length basis.situation.targets
+    → StandsAt basis plan at watched → (cut : Trace) → IsCutAtNow basis.situation T cut → Tells (formulas_of basis.situation) cut A → Stands basis.program basis.situation plan T cut at W
+stands_here basis plan at watched k T A W is_target is_already is_watched lt stands cut is_cut tells =
+    subst (λ (t : Target). Stands basis.program basis.situation plan t cut at W) (sym is_target)
+    (subst (λ (w : Watched). Stands basis.program basis.situation plan (get_or basis.situation.targets k T) cut at w) (sym is_watched)
+    (stands k T A W cut lt (subst (λ (t : Target). IsCutAtNow basis.situation t cut) is_target is_cut) (subst (λ (a : Already). Tells (formulas_of basis.situation) cut a) is_already tells)))

@@ -1,0 +1,48 @@
+use Rattle.std.proofs.Common.{ℕ, ◌+◌, List, length, sym, ap, subst, ◌∙◌}
+use Rattle.lattice.specs.Grids.{choices_of}
+use Rattle.lattice.specs.PlanNumbers.{plan_of}
+use Rattle.planner.specs.FailingPlans.{FailsBy}
+use Rattle.planner.specs.Inner.Levels.{StandsAt, StaysOut}
+use Rattle.planner.specs.Prefixes.{reached}
+use Rattle.planner.specs.Situations.{now_of}
+use Rattle.planner.specs.declared.watched.Watched.{Watched}
+use Rattle.planner.proofs.Extending.{begins_there, ends_there, from_prefix, level_front, level_prefix, out_front, to_prefix}
+use Rattle.planner.proofs.Places.{written}
+use Rattle.planner.proofs.level.Level.extend.Goals as goal
+
+pub returns-clause-stands : goal.returns-clause-stands
+returns-clause-stands c = λ e.
+    let basis = c.args.basis.now in
+    let s = basis.situation in
+    let W = c.first_plan-plan.result in
+    let some = c.requires.basis.is_situation.some_leg in
+    let at = begins_there s c.args.leg c.leg_begins.result c.requires.leg c.leg_begins.ensures in
+    let end = ends_there s c.args.leg c.leg_begins.result (length c.deref_mut.result.now) c.requires.leg c.leg_begins.ensures (ap length c.deref_mut.ensures.value ∙ c.requires.places.path) in
+    let front = level_front basis c.args.leg c.args.number W some c.first_plan-plan.ensures.begins c.args.from.now.watched.items c.requires.stands in
+    let from : StandsAt basis W (now_of s + c.leg_begins.result) c.deref.result.now =
+    subst (λ (n : ℕ). StandsAt basis W n c.deref.result.now) (sym at) (subst (λ (xs : List Watched). StandsAt basis W (reached s c.args.leg) xs) (sym c.deref.ensures.value) front) in
+    let new = c.follow_leg.new.watched in
+    let of_new = c.follow_leg.ensures.targets.count in
+    let of_old = c.requires.places.targets.count in
+    subst (λ (xs : List Watched). StandsAt basis (plan_of (choices_of s.lattice) (c.args.leg + 1) c.args.number) (reached s (c.args.leg + 1)) xs)
+    (sym (written new c.args.self.now.watched.items c.args.self.now.watched.len (of_new ∙ sym of_old) c.args.self.now.watched.ok.0))
+    (level_prefix basis c.args.leg c.args.number W some c.first_plan-plan.ensures.begins new
+    (subst (λ (n : ℕ). StandsAt basis W n new) end (c.follow_leg.ensures.stands e from)))
+
+pub returns-clause-fails : goal.returns-clause-fails
+returns-clause-fails c =
+    let basis = c.args.basis.now in
+    let s = basis.situation in
+    let W = c.first_plan-plan.result in
+    let some = c.requires.basis.is_situation.some_leg in
+    let at = begins_there s c.args.leg c.leg_begins.result c.requires.leg c.leg_begins.ensures in
+    let end = ends_there s c.args.leg c.leg_begins.result (length c.deref_mut.result.now) c.requires.leg c.leg_begins.ensures (ap length c.deref_mut.ensures.value ∙ c.requires.places.path) in
+    let front = level_front basis c.args.leg c.args.number W some c.first_plan-plan.ensures.begins c.args.from.now.watched.items c.requires.stands in
+    let from : StandsAt basis W (now_of s + c.leg_begins.result) c.deref.result.now =
+    subst (λ (n : ℕ). StandsAt basis W n c.deref.result.now) (sym at) (subst (λ (xs : List Watched). StandsAt basis W (reached s c.args.leg) xs) (sym c.deref.ensures.value) front) in
+    let outside : StaysOut s W (now_of s + c.leg_begins.result) =
+    subst (λ (n : ℕ). StaysOut s W n) (sym at) (out_front basis c.args.leg c.args.number W some c.first_plan-plan.ensures.begins c.requires.outside) in
+    let h = c.follow_leg.ensures.fails from outside in (
+      λ t. to_prefix basis c.args.leg c.args.number W some c.first_plan-plan.ensures.begins (subst (λ (n : ℕ). FailsBy s n W) end (h.0 t)),
+      λ f. h.1 (subst (λ (n : ℕ). FailsBy s n W) (sym end) (from_prefix basis c.args.leg c.args.number W some c.first_plan-plan.ensures.begins f)),
+    )

@@ -1,0 +1,9 @@
+use Rattle.std.proofs.Common.{ℕ, ◌+◌, ◌-◌, ◌<◌, List, length, get_or}
+use Rattle.planner.specs.Inner.Paths.{EntersAlong, IsPath}
+use Rattle.planner.specs.Situations.{now_of}
+use Rattle.planner.specs.declared.situation.Target.{Target}
+use Rattle.planner.proofs.level.enters.Given as goal
+
+abbrev pub invariant-loop-target : goal.invariant-loop-target
+invariant-loop-target l = (plan : List ℕ) → IsPath l.situation plan l.first l.path → (i : ℕ) (d : Target) → i < l.target-index
+    → ¬ EntersAlong l.situation plan (get_or l.situation.targets i d) (now_of l.situation + l.first) (length l.path - 1)

@@ -1,0 +1,27 @@
+use Rattle.std.proofs.Common.{◌≡◌, ℕ, ◌+◌, ◌*◌, ◌^◌, List, [], length, ap, sym, subst, arith}
+use Rattle.lattice.specs.Grids.{choices_of}
+use Rattle.lattice.proofs.Digits.{plan_none}
+use Rattle.planner.specs.Inner.Levels.{StandsAt}
+use Rattle.planner.specs.Inner.Walk.{IsFirst}
+use Rattle.planner.specs.Prefixes.{reached}
+use Rattle.planner.proofs.Blocks.{first_is_least}
+use Rattle.planner.proofs.Extending.{reached_none}
+use Rattle.planner.proofs.search.Search.run.Goals as goal
+
+pub explore-requires-clause-stands : goal.explore-requires-clause-stands
+explore-requires-clause-stands c =
+    let basis = c.args.self.now.basis in
+    let s = basis.situation in
+    let some = c.requires.prepared.is_basis.is_situation.some_leg in
+    subst (λ (plan : List ℕ). StandsAt basis plan (reached s 0) c.args.self.now.start.watched.items) (sym (plan_none (choices_of s.lattice) 0))
+    (subst (λ (at : ℕ). StandsAt basis [] at c.args.self.now.start.watched.items) (sym (reached_none s some)) c.requires.prepared.stands)
+
+pub returns-clause-answer : goal.returns-clause-answer
+returns-clause-answer c =
+    let s = c.args.self.now.basis.situation in
+    let some = c.requires.prepared.is_basis.is_situation.some_leg in
+    let choice = c.requires.prepared.is_basis.is_situation.some_choice in
+    let count = c.requires.places.count in
+    let long : length c.deref_mut.result.now ≡ s.lattice.legs = omega (arith, ap length c.deref_mut.ensures.value) in
+    let first = subst (λ (n : ℕ). IsFirst s (0 * choices_of s.lattice ^ n) ((0 + 1) * choices_of s.lattice ^ n) c.in_ok-number.number) long c.in_ok-number.ensures.answer in
+    first_is_least s some c.in_ok-number.number c.plan.result choice c.plan.ensures.value first

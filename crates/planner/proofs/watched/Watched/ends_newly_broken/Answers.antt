@@ -1,0 +1,59 @@
+use Rattle.std.proofs.Common.{◌≡◌, ◌+◌, inl, inr, List, length, ◌∙◌, arith}
+use Rattle.std.proofs.lemmas.Bool.{cases_lt}
+use Rattle.mtl_formulas.specs.FormulaTree.{FormulaTree}
+use Rattle.mtl_monitor.specs.Following.{Closes, Follows}
+use Rattle.mtl_monitor.specs.Traces.{Trace}
+use Rattle.planner.specs.Inner.Breaking.{formulas_of}
+use Rattle.planner.proofs.TellingNow.{closes_next}
+use Rattle.planner.proofs.Watching.{breaks_rule, rule_told}
+use Rattle.planner.proofs.watched.Watched.ends_newly_broken.Goals as goal
+
+pub copy_from-requires : goal.copy_from-requires
+copy_from-requires c = (c.args.program.now, (c.requires.fits, c.requires.room, c.requires.ready.fits, c.requires.ready.room))
+
+pub returns-then-is_newly_broken-clause-breaks : goal.returns-then-is_newly_broken-clause-breaks
+returns-then-is_newly_broken-clause-breaks c = λ e s X T cut at of_rules from stands is_cut tells.
+    let was = c.loop-past.invariant in
+    let past = was.past in
+    let one_more = c.pass_end.ensures.past in
+    let has = stands.stands.begun c.if-not-self.false in
+    let counted = stands.counted in
+    let all_fed = has.values.all_fed in
+    let closes : Closes c.args.program.now c.pass_end.new.self (formulas_of s) has.rows =
+    closes_next c.loop-past.past (was.first (formulas_of s) has.rows has.values) (was.later (formulas_of s) has.rows has.values)
+    (c.pass_end.ensures.begins (formulas_of s) has.rows) (c.pass_end.ensures.goes_on (formulas_of s) has.rows) in
+    let told = (c.is_newly_broken.ensures (formulas_of s) cut has.rows (length has.rows + c.loop-past.past + 1) (inr (closes, omega arith)) tells (omega arith)).0 c.if-is_newly_broken.true in
+    breaks_rule s X T cut is_cut at from has.start has.rows (length has.rows + c.loop-past.past + 1) has.begins has.are_rows told
+
+pub loop-past-preserved : goal.loop-past-preserved
+loop-past-preserved c =
+    let was = c.loop-past.invariant in
+    let past = was.past in
+    let one_more = c.pass_end.ensures.past in
+    let closes : (formulas : List FormulaTree) (rows : Trace) → Follows c.args.program.now c.args.self.now.values formulas rows → Closes c.args.program.now c.pass_end.new.self formulas rows = λ formulas rows f.
+    closes_next c.loop-past.past (was.first formulas rows f) (was.later formulas rows f) (c.pass_end.ensures.begins formulas rows) (c.pass_end.ensures.goes_on formulas rows) in
+    record {
+      fits = c.pass_end.ensures.fits;
+      room = c.pass_end.ensures.room was.room;
+      past = omega arith;
+      fed = c.pass_end.ensures.fed ∙ was.fed;
+      first = λ formulas rows f e. absurd (omega arith);
+      later = λ formulas rows f lt. closes formulas rows f;
+      none = λ formulas cut rows f tells counted passed after le told. elim (cases_lt passed (length rows + c.loop-past.past + 1)) [
+        | inl earlier ↦ was.none formulas cut rows f tells counted passed after (omega arith) told
+        | inr last ↦ (let all_fed = f.all_fed in
+            let here : passed ≡ length rows + c.loop-past.past + 1 = omega arith in
+            let t = (c.is_newly_broken.ensures formulas cut rows passed (inr (closes formulas rows f, omega arith)) tells (omega arith)).1 told in
+            let not_so = c.if-is_newly_broken.false in
+            cc)
+      ];
+    }
+
+pub returns-clause-passes : goal.returns-clause-passes
+returns-clause-passes c = λ e s X T cut at of_rules from stands is_cut tells breaks.
+    let has = stands.stands.begun c.if-not-self.false in
+    let reach = c.reach-past-end.ensures.formulas (formulas_of s) of_rules in
+    let over = c.loop-past-test.false in
+    let found = rule_told s X T cut is_cut at from has.start has.rows has.begins has.are_rows stands.unbroken breaks in
+    let le = found.1.1 in
+    c.loop-past.invariant.none (formulas_of s) cut has.rows has.values tells stands.counted found.0 found.1.0 (omega arith) found.1.2

@@ -1,0 +1,27 @@
+-- Own ship's path in a leg.
+use Rattle.std.specs.Prelude.{ℕ, ◌≡◌, ◌+◌, ◌<◌, ◌^◌, List, length, get_or, IsSomeAnd}
+use Rattle.closest_approach.specs.Separation.{IsSeparated}
+use Rattle.encounters.specs.Directions.{HasDirection}
+use Rattle.fixed_geometry.specs.Sizes.{IsBelow}
+use Rattle.meetings.specs.Traces.{step_at}
+use Rattle.motion.specs.Displacement.{displacement}
+use Rattle.motion.specs.declared.leg.TickState.{TickState}
+use Rattle.planner.specs.Situations.{own_at, planned_state, target_at}
+use Rattle.planner.specs.declared.situation.Situation.{Situation}
+use Rattle.planner.specs.declared.situation.Target.{Target}
+
+-- It has her states under a plan, from a tick on that is counted from now.
+abbrev pub IsPath : Situation → List ℕ → ℕ → List TickState → Type 0
+IsPath situation plan first path = (j : ℕ) (d : TickState) → j < length path → get_or path j d ≡ planned_state situation plan (first + j)
+
+-- She is at points and heads as a step may say, and moves so from tick to tick.
+pub record IsTrack (path : List TickState) : Type 0 where
+  pub placed : (j : ℕ) (d : TickState) → j < length path → IsBelow (2 ^ 33) (get_or path j d).point
+  pub heads : (j : ℕ) (d : TickState) → j < length path → HasDirection (get_or path j d)
+  pub moves : (j : ℕ) (d : TickState) → j + 1 < length path → IsBelow (2 ^ 25) (displacement (get_or path j d).point (get_or path (j + 1) d).point)
+
+-- In some of so many steps from a tick on own ship enters the target's domain.
+pub record EntersAlong (situation : Situation) (plan : List ℕ) (target : Target) (from steps : ℕ) : Type 0 where
+  pub ahead : ℕ
+  pub within : ahead < steps
+  pub enters : IsSomeAnd (step_at (own_at situation plan) (target_at situation target) (from + ahead)) (λ pair. ¬ IsSeparated pair.step target.radius)

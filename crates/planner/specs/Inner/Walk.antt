@@ -1,0 +1,16 @@
+-- The answer among the plans of some consecutive numbers.
+use Rattle.std.specs.Prelude.{ℕ, ◌<◌, ◌≤◌}
+use Rattle.planner.specs.FailingPlans.{Fails}
+use Rattle.planner.specs.LeastPlans.{numbered}
+use Rattle.planner.specs.declared.situation.Situation.{Situation}
+
+-- Every plan fails whose number is at least `from` and below `to`.
+pub record AllFailFrom (situation : Situation) (from to : ℕ) : Type 0 where
+  pub each : (number : ℕ) → from ≤ number → number < to → Fails situation (numbered situation number)
+
+-- Of those plans it is the first that does not fail.
+pub record IsFirst (situation : Situation) (from to number : ℕ) : Type 0 where
+  pub not_before : from ≤ number
+  pub before : number < to
+  pub passes : ¬ Fails situation (numbered situation number)
+  pub lesser : AllFailFrom situation from number

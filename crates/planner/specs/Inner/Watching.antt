@@ -1,0 +1,69 @@
+-- What is kept of a target stands for the steps so far.
+use Rattle.std.specs.Prelude.{ℕ, ◌≡◌, ◌+◌, ◌-◌, ◌<◌, ◌≤◌, List, [], length, take, true, false}
+use Rattle.meetings.specs.Standing as meetings
+use Rattle.meetings.specs.Traces.{IsContactAt, steps_from}
+use Rattle.mtl_monitor.specs.Following as monitor
+use Rattle.mtl_monitor.specs.Traces.{Trace}
+use Rattle.mtl_monitor.specs.declared.program.Program.{Program}
+use Rattle.planner.specs.FailingPlans.{AreTraceRows, BeginsAt}
+use Rattle.planner.specs.Inner.Breaking.{IsNewlyBrokenAt, formulas_of}
+use Rattle.planner.specs.Situations.{now_of, own_at, target_at}
+use Rattle.planner.specs.declared.situation.Situation.{Situation}
+use Rattle.planner.specs.declared.situation.Target.{Target}
+use Rattle.planner.specs.declared.watched.Watched.{Watched}
+
+-- It goes on by this program, and has the places that it takes.
+pub record IsReady (program : Program) (watched : Watched) : Type 0 where
+  pub fits : monitor.Fits program watched.values
+  pub room : monitor.HasRoom program watched.values
+  pub unended : monitor.past_of watched.values ≡ 0
+
+-- It was fed at most so many rows.
+pub record IsEarly (at : ℕ) (watched : Watched) : Type 0 where
+  pub fed : monitor.fed_of watched.values ≤ at
+  pub since : watched.since_now ≤ at
+
+module _ (program : Program) (situation : Situation) (plan : List ℕ) (target : Target) where
+  -- The vessels were not in contact before this tick.
+  pub record HasNotBegun (at : ℕ) (watched : Watched) : Type 0 where
+    pub apart : (k : ℕ) → k < at → ¬ IsContactAt (own_at situation plan) (target_at situation target) situation.detect.watch k
+    pub follows : meetings.Follows watched.follower situation.detect situation.act situation.tick []
+    pub values : monitor.Follows program watched.values (formulas_of situation) []
+
+  -- Their trace has these rows up to this tick.
+  pub record HasBegun (at : ℕ) (watched : Watched) : Type 0 where
+    pub start : ℕ
+    pub rows : Trace
+    pub begins : BeginsAt situation plan at target start
+    pub are_rows : AreTraceRows situation plan at target start rows
+    pub follows : meetings.Follows watched.follower situation.detect situation.act situation.tick (steps_from (own_at situation plan) (target_at situation target) start (at - start))
+    pub values : monitor.Follows program watched.values (formulas_of situation) rows
+
+  pub record StandsFor (at : ℕ) (watched : Watched) : Type 0 where
+    pub begun : watched.begun ≡ true → HasBegun at watched
+    pub waits : watched.begun ≡ false → HasNotBegun at watched
+
+-- Where a trace towards the target is cut at now, under any plan, it has these rows.
+pub record IsCutAtNow (situation : Situation) (target : Target) (cut : Trace) : Type 0 where
+  pub some : (plan : List ℕ) (at start : ℕ) (rows : Trace) → now_of situation ≤ at → BeginsAt situation plan at target start
+      → AreTraceRows situation plan at target start rows → take (now_of situation - start) rows ≡ cut
+  pub none : (plan : List ℕ) → ((k : ℕ) → k < now_of situation → ¬ IsContactAt (own_at situation plan) (target_at situation target) situation.detect.watch k) → cut ≡ []
+
+-- No row from now to this tick has decided a position as newly broken.
+abbrev pub IsUnbroken : Situation → List ℕ → Target → Trace → ℕ → Type 0
+IsUnbroken situation plan target cut at = (start : ℕ) (rows : Trace) → BeginsAt situation plan at target start → AreTraceRows situation plan at target start rows
+    → (passed : ℕ) → length cut < passed → passed ≤ length rows → ¬ IsNewlyBrokenAt (formulas_of situation) cut rows passed
+
+-- What is kept stands for the steps up to a tick that is not before now, in which nothing was told as newly broken.
+pub record Stands (program : Program) (situation : Situation) (plan : List ℕ) (target : Target) (cut : Trace) (at : ℕ) (watched : Watched) : Type 0 where
+  pub stands : StandsFor program situation plan target at watched
+  pub counted : monitor.fed_of watched.values ≡ length cut + watched.since_now
+  pub unbroken : IsUnbroken situation plan target cut at
+
+-- One took over what the other stands for.
+pub record IsCopyOf (copy other : Watched) : Type 0 where
+  pub ready : (program : Program) → IsReady program other → IsReady program copy
+  pub stands : (program : Program) (situation : Situation) (plan : List ℕ) (target : Target) (cut : Trace) (at : ℕ)
+      → Stands program situation plan target cut at other → Stands program situation plan target cut at copy
+  pub fed : monitor.fed_of copy.values ≡ monitor.fed_of other.values
+  pub since : copy.since_now ≡ other.since_now

@@ -1,0 +1,13 @@
+-- What a search stands for. A reader has only to know that a new search is sound and of its situation, and that a run leaves this so.
+use Rattle.planner.specs.Inner.Levels.{ArePlaces, IsPrepared}
+use Rattle.planner.specs.declared.search.Search.{Search}
+use Rattle.planner.specs.declared.situation.Situation.{Situation}
+
+-- the situation that it was made of
+abbrev pub situation_of : Search → Situation
+situation_of search = search.basis.situation
+
+-- It has all its places, and stands at now.
+pub record IsSound (search : Search) : Type 0 where
+  pub prepared : IsPrepared search.basis search.start
+  pub places : ArePlaces search.basis 0 search.below.items

@@ -1,0 +1,312 @@
+//! What is kept after a prefix of the legs of a plan.
+ghost use Rattle.std.specs.Prelude.{ℕ, ◌≡◌, ◌+◌, ◌-◌, ◌*◌, ◌/◌, ◌<◌, ◌≤◌, ◌^◌, ◌↔◌, IfOk, IsTrue, List, false, true, length, get_or, All};
+ghost use Rattle.lattice.specs.Grids.{choices_of, positions_of};
+ghost use Rattle.lattice.specs.PlanNumbers.{plan_of, IsPlan};
+ghost use Rattle.mtl_monitor.specs.Following.{count_of, AreOfOneProgram, Fits, HasRoom, IsProgramOf};
+ghost use Rattle.mtl_monitor.specs.Traces.{Trace};
+ghost use Rattle.planner.specs.FailingPlans.{BreaksARule, FailsBy, Some_};
+ghost use Rattle.planner.specs.Inner.Breaking.{formulas_of, Tells};
+ghost use Rattle.planner.specs.Inner.Levels.{lasts, AreEarly, HasPlaces, HasTargets, IsBasis, StandsAt, StaysOut};
+ghost use Rattle.planner.specs.Inner.Paths.{EntersAlong, IsPath, IsTrack};
+ghost use Rattle.planner.specs.Inner.Watching.{IsCopyOf, IsCutAtNow, IsEarly, IsReady, Stands};
+ghost use Rattle.planner.specs.Prefixes.{reached, PrefixFails};
+ghost use Rattle.planner.specs.Situations.{now_of, IsSituation, IsTarget};
+ghost use Rattle.planner.specs.declared.situation.Target.{Target};
+ghost use Rattle.planner.specs.declared.watched.Watched.{Watched};
+
+use crate::already::Already;
+use crate::basis::Basis;
+use crate::situation::{Situation, Target};
+use crate::watched::Watched;
+use fixed_geometry::Point;
+use lattice::Plan;
+use motion::TickState;
+use mtl_monitor::{Program, TraceState};
+use outside::Memory;
+use std::alloc::Global;
+
+/// Own ship's path in the last leg of the prefix, and what is kept of each target after it.
+#[derive(Drop)]
+pub(crate) struct Level {
+    path: Vec<TickState>,
+    watched: Vec<Watched>,
+    /// Where traces are ended, for a look at what they would come to.
+    ending: TraceState,
+}
+
+/// Where a path is before it is followed.
+const NOWHERE: TickState = TickState {
+    point: Point { x: 0, y: 0 },
+    direction: None,
+    speed: None,
+};
+
+/// A path of so many ticks, to be filled in.
+fn path_of(alloc: Global, ticks: usize) -> Result<Vec<TickState>, Memory>
+    ensures { IfOk result (λ path. length path.items ≡ ticks) }
+{
+    let mut path = Vec::new(alloc);
+    for _tick in 0..ticks {
+        path.push(NOWHERE)?;
+    }
+    Ok(path)
+}
+
+/// Follows a path towards a target. Tells whether some row decides a position as newly broken.
+fn follow(
+    situation: &Situation,
+    program: &Program,
+    target: &Target,
+    already: &Already,
+    path: &[TickState],
+    first: u32,
+    watched: &mut Watched,
+) -> bool
+    requires situation { IsSituation situation.now }
+    requires target { IsTarget situation.now target.now }
+    requires track { IsTrack path.now }
+    requires planned { first + length path.now ≤ positions_of situation.now.lattice + 1 }
+    requires some { 1 ≤ length path.now }
+    requires rules { already.now.rules ≤ 17 }
+    requires program { count_of program.now ≤ 17 }
+    requires ready { IsReady program.now watched.old }
+    requires early { IsEarly (now_of situation.now + first) watched.old }
+    ensures ready { IsReady program.now watched.new }
+    ensures early { result ≡ false → IsEarly (now_of situation.now + first + (length path.now - 1)) watched.new }
+    ensures stands { result ≡ false → (plan : List ℕ) (cut : Trace) → IsPath situation.now plan first path.now
+        → IsCutAtNow situation.now target.now cut → Tells (formulas_of situation.now) cut already.now
+        → Stands program.now situation.now plan target.now cut (now_of situation.now + first) watched.old
+        → Stands program.now situation.now plan target.now cut (now_of situation.now + first + (length path.now - 1)) watched.new }
+    ensures breaks { result ≡ true → (plan : List ℕ) (cut : Trace) → IsPath situation.now plan first path.now
+        → IsCutAtNow situation.now target.now cut → Tells (formulas_of situation.now) cut already.now
+        → Stands program.now situation.now plan target.now cut (now_of situation.now + first) watched.old
+        → BreaksARule situation.now plan (now_of situation.now + first + (length path.now - 1)) target.now }
+{
+    for j in 0..path.len() - 1 {
+        let in_contact = situation.is_contact_on(path, target, first, j);
+        let seen = situation.step_on(path, target, first, j);
+        if watched.take_planned(program, already, in_contact, seen.as_ref()) {
+            return true;
+        }
+    }
+    false
+}
+
+/// The same, and whether some position is newly broken if the trace ends with the path.
+fn breaks_towards(
+    situation: &Situation,
+    program: &Program,
+    target: &Target,
+    already: &Already,
+    path: &[TickState],
+    first: u32,
+    watched: &mut Watched,
+    ending: &mut TraceState,
+) -> bool
+    requires situation { IsSituation situation.now }
+    requires target { IsTarget situation.now target.now }
+    requires track { IsTrack path.now }
+    requires planned { first + length path.now ≤ positions_of situation.now.lattice + 1 }
+    requires some { 1 ≤ length path.now }
+    requires rules { already.now.rules ≤ 17 }
+    requires program { count_of program.now ≤ 17 }
+    requires of_rules { IsProgramOf program.now (formulas_of situation.now) }
+    requires ready { IsReady program.now watched.old }
+    requires early { IsEarly (now_of situation.now + first) watched.old }
+    requires fits { Fits program.now ending.old }
+    requires room { HasRoom program.now ending.old }
+    ensures ready { IsReady program.now watched.new }
+    ensures fits { Fits program.now ending.new }
+    ensures room { HasRoom program.now ending.new }
+    ensures early { result ≡ false → IsEarly (now_of situation.now + first + (length path.now - 1)) watched.new }
+    ensures stands { result ≡ false → (plan : List ℕ) (cut : Trace) → IsPath situation.now plan first path.now
+        → IsCutAtNow situation.now target.now cut → Tells (formulas_of situation.now) cut already.now
+        → Stands program.now situation.now plan target.now cut (now_of situation.now + first) watched.old
+        → Stands program.now situation.now plan target.now cut (now_of situation.now + first + (length path.now - 1)) watched.new }
+    ensures breaks { (plan : List ℕ) (cut : Trace) → IsPath situation.now plan first path.now
+        → IsCutAtNow situation.now target.now cut → Tells (formulas_of situation.now) cut already.now
+        → Stands program.now situation.now plan target.now cut (now_of situation.now + first) watched.old
+        → (IsTrue result ↔ BreaksARule situation.now plan (now_of situation.now + first + (length path.now - 1)) target.now) }
+{
+    if follow(situation, program, target, already, path, first, watched) {
+        return true;
+    }
+    watched.ends_newly_broken(program, already, ending)
+}
+
+/// Whether own ship enters some target's domain on a path.
+fn enters(situation: &Situation, path: &[TickState], first: u32) -> bool
+    requires situation { IsSituation situation.now }
+    requires track { IsTrack path.now }
+    requires planned { first + length path.now ≤ positions_of situation.now.lattice + 1 }
+    requires some { 1 ≤ length path.now }
+    ensures { (plan : List ℕ) → IsPath situation.now plan first path.now
+        → (IsTrue result ↔ Some_ (λ (target : Target). EntersAlong situation.now plan target (now_of situation.now + first) (length path.now - 1)) situation.now.targets) }
+{
+    for target in situation.targets.as_slice() {
+        if situation.enters_along(path, target, first) {
+            return true;
+        }
+    }
+    false
+}
+
+/// Takes over what is kept of each target after other legs.
+fn copy_all(watched: &mut [Watched], others: &[Watched])
+    requires count { length watched.old ≡ length others.now }
+    requires each { (k : ℕ) (w v : Watched) → k < length watched.old → AreOfOneProgram (get_or watched.old k w).values (get_or others.now k v).values }
+    ensures count { length watched.new ≡ length watched.old }
+    ensures each { (k : ℕ) (w v : Watched) → k < length watched.old → IsCopyOf (get_or watched.new k w) (get_or others.now k v) }
+{
+    for k in 0..others.len() {
+        watched[k].copy_from(&others[k]);
+    }
+}
+
+/// Follows a path towards all targets.
+fn breaks(
+    basis: &Basis,
+    path: &[TickState],
+    first: u32,
+    watched: &mut [Watched],
+    ending: &mut TraceState,
+) -> bool
+    requires basis { IsBasis basis.now }
+    requires targets { HasTargets basis.now watched.old }
+    requires fits { Fits basis.now.program ending.old }
+    requires room { HasRoom basis.now.program ending.old }
+    requires track { IsTrack path.now }
+    requires planned { first + length path.now ≤ positions_of basis.now.situation.lattice + 1 }
+    requires some { 1 ≤ length path.now }
+    requires early { AreEarly (now_of basis.now.situation + first) watched.old }
+    ensures targets { HasTargets basis.now watched.new }
+    ensures fits { Fits basis.now.program ending.new }
+    ensures room { HasRoom basis.now.program ending.new }
+    ensures early { result ≡ false → AreEarly (now_of basis.now.situation + first + (length path.now - 1)) watched.new }
+    ensures stands { result ≡ false → (plan : List ℕ) → IsPath basis.now.situation plan first path.now
+        → StandsAt basis.now plan (now_of basis.now.situation + first) watched.old
+        → StandsAt basis.now plan (now_of basis.now.situation + first + (length path.now - 1)) watched.new }
+    ensures breaks { (plan : List ℕ) → IsPath basis.now.situation plan first path.now
+        → StandsAt basis.now plan (now_of basis.now.situation + first) watched.old
+        → (IsTrue result ↔ Some_ (BreaksARule basis.now.situation plan (now_of basis.now.situation + first + (length path.now - 1))) basis.now.situation.targets) }
+{
+    for k in 0..watched.len() {
+        if breaks_towards(
+            &basis.situation,
+            &basis.program,
+            &basis.situation.targets.as_slice()[k],
+            &basis.already[k],
+            path,
+            first,
+            &mut watched[k],
+            ending,
+        ) {
+            return true;
+        }
+    }
+    false
+}
+
+/// Follows a plan in one leg, from what is kept after the legs before it. Tells whether the plan fails up to the leg's end: own ship's
+/// path and the domains are tested before the rules.
+fn follow_leg(
+    basis: &Basis,
+    plan: &Plan,
+    first: u32,
+    from: &[Watched],
+    path: &mut [TickState],
+    watched: &mut [Watched],
+    ending: &mut TraceState,
+) -> bool
+    requires basis { IsBasis basis.now }
+    requires plan { IsPlan (choices_of basis.now.situation.lattice) basis.now.situation.lattice.legs plan.now }
+    requires planned { first + length path.old ≤ positions_of basis.now.situation.lattice + 1 }
+    requires some { 1 ≤ length path.old }
+    requires from { HasTargets basis.now from.now }
+    requires early { AreEarly (now_of basis.now.situation + first) from.now }
+    requires targets { HasTargets basis.now watched.old }
+    requires fits { Fits basis.now.program ending.old }
+    requires room { HasRoom basis.now.program ending.old }
+    ensures targets { HasTargets basis.now watched.new }
+    ensures fits { Fits basis.now.program ending.new }
+    ensures room { HasRoom basis.now.program ending.new }
+    ensures early { result ≡ false → AreEarly (now_of basis.now.situation + first + (length path.old - 1)) watched.new }
+    ensures stands { result ≡ false → StandsAt basis.now plan.now (now_of basis.now.situation + first) from.now
+        → StandsAt basis.now plan.now (now_of basis.now.situation + first + (length path.old - 1)) watched.new }
+    ensures fails { StandsAt basis.now plan.now (now_of basis.now.situation + first) from.now → StaysOut basis.now.situation plan.now (now_of basis.now.situation + first)
+        → (IsTrue result ↔ FailsBy basis.now.situation (now_of basis.now.situation + first + (length path.old - 1)) plan.now) }
+{
+    basis.situation.fill_path(plan, first, path);
+    if enters(&basis.situation, path, first) {
+        return true;
+    }
+    copy_all(watched, from);
+    breaks(basis, path, first, watched, ending)
+}
+
+impl Level {
+    /// The state at now, before any leg.
+    pub(crate) fn at_now(
+        alloc: Global,
+        program: &Program,
+        watched: Vec<Watched>,
+    ) -> Result<Level, Memory>
+        ensures { IfOk result (λ level. level.watched.items ≡ watched.items) }
+    {
+        Ok(Level {
+            path: Vec::new(alloc),
+            watched,
+            ending: TraceState::new(alloc, program)?,
+        })
+    }
+
+    /// The places for a leg that lasts so many ticks.
+    pub(crate) fn new(alloc: Global, basis: &Basis, ticks: u32) -> Result<Level, Memory>
+        requires { IsBasis basis.now }
+        ensures path { IfOk result (λ level. length level.path.items ≡ ticks + 1) }
+        ensures targets { IfOk result (λ level. HasTargets basis.now level.watched.items) }
+        ensures fits { IfOk result (λ level. Fits basis.now.program level.ending) }
+        ensures room { IfOk result (λ level. HasRoom basis.now.program level.ending) }
+    {
+        let mut watched = Vec::new(alloc);
+        for _target in basis.situation.targets.as_slice() {
+            watched.push(basis.unwatched(alloc)?)?;
+        }
+        Ok(Level {
+            path: path_of(alloc, ticks as usize + 1)?,
+            watched,
+            ending: TraceState::new(alloc, &basis.program)?,
+        })
+    }
+
+    /// Becomes the state after one more leg. Tells whether the longer prefix fails: own ship's path and the domains are tested before
+    /// the rules. The number is that of the longer prefix.
+    pub(crate) fn extend(&mut self, basis: &Basis, from: &Level, leg: u8, number: u32) -> bool
+        requires basis { IsBasis basis.now }
+        requires leg { leg < basis.now.situation.lattice.legs }
+        requires number { number < choices_of basis.now.situation.lattice ^ (leg + 1) }
+        requires places { HasPlaces basis.now leg self.old }
+        requires from { HasTargets basis.now from.now.watched.items }
+        requires early { AreEarly (reached basis.now.situation leg) from.now.watched.items }
+        requires stands { StandsAt basis.now (plan_of (choices_of basis.now.situation.lattice) leg (number / choices_of basis.now.situation.lattice))
+            (reached basis.now.situation leg) from.now.watched.items }
+        requires outside { StaysOut basis.now.situation (plan_of (choices_of basis.now.situation.lattice) leg (number / choices_of basis.now.situation.lattice))
+            (reached basis.now.situation leg) }
+        ensures places { HasPlaces basis.now leg self.new }
+        ensures early { result ≡ false → AreEarly (reached basis.now.situation (leg + 1)) self.new.watched.items }
+        ensures stands { result ≡ false → StandsAt basis.now (plan_of (choices_of basis.now.situation.lattice) (leg + 1) number)
+            (reached basis.now.situation (leg + 1)) self.new.watched.items }
+        ensures fails { IsTrue result ↔ PrefixFails basis.now.situation (plan_of (choices_of basis.now.situation.lattice) (leg + 1) number) }
+    {
+        let plan = basis.first_plan(leg + 1, number);
+        follow_leg(
+            basis,
+            &plan,
+            basis.leg_begins(leg),
+            &from.watched,
+            &mut self.path,
+            &mut self.watched,
+            &mut self.ending,
+        )
+    }
+}

@@ -1,0 +1,27 @@
+//! The planner: what is predicted of other vessels, and the least numbered plan of own ship that newly breaks no rule and enters no
+//! domain.
+#![tactic(auto)]
+
+mod already;
+mod basis;
+#[cfg(test)]
+mod checked;
+mod explore;
+mod flat;
+pub mod laws;
+mod level;
+mod lists;
+mod path;
+mod prediction;
+mod search;
+mod situation;
+#[cfg(test)]
+mod tests;
+mod ticks;
+mod watched;
+
+pub use flat::least_plan;
+pub use lists::{Ahead, Past, Targets};
+pub use prediction::predicted;
+pub use search::Search;
+pub use situation::{Situation, Target};

@@ -1,0 +1,115 @@
+//! Own ship's path in a leg, and a target's beside it.
+ghost use Rattle.std.specs.Prelude.{ℕ, ◌≡◌, ◌+◌, ◌-◌, ◌<◌, ◌≤◌, ◌↔◌, IfSome, IsSomeAnd, IsTrue, List, length};
+ghost use Rattle.closest_approach.specs.Separation.{IsSeparated};
+ghost use Rattle.encounters.specs.Directions.{HaveDirections};
+ghost use Rattle.lattice.specs.Grids.{choices_of, positions_of};
+ghost use Rattle.lattice.specs.PlanNumbers.{IsPlan};
+ghost use Rattle.meetings.specs.Traces.{IsContactAt, step_at};
+ghost use Rattle.planner.specs.Inner.Paths.{EntersAlong, IsPath, IsTrack};
+ghost use Rattle.planner.specs.Situations.{now_of, own_at, target_at, IsSituation, IsTarget};
+
+use crate::situation::{Situation, Target};
+use closest_approach::separated;
+use encounters::PairStep;
+use lattice::Plan;
+use meetings::{contact, step_between};
+use motion::TickState;
+
+impl Situation {
+    /// Fills in own ship's states under a plan at the ticks from this one on, counted from now.
+    pub(crate) fn fill_path(&self, plan: &Plan, first: u32, path: &mut [TickState])
+        requires situation { IsSituation self.now }
+        requires plan { IsPlan (choices_of self.now.lattice) self.now.lattice.legs plan.now }
+        requires planned { first + length path.old ≤ positions_of self.now.lattice + 1 }
+        ensures path { IsPath self.now plan.now first path.new }
+        ensures track { IsTrack path.new }
+    {
+        for j in 0..path.len() {
+            path[j] = self.own_ahead(plan, first + j as u32);
+        }
+    }
+
+    /// The step of a path that begins at a tick, counted from now, and of a target, so many ticks later.
+    pub(crate) fn step_on(
+        &self,
+        path: &[TickState],
+        target: &Target,
+        first: u32,
+        j: usize,
+    ) -> Option<PairStep>
+        requires situation { IsSituation self.now }
+        requires target { IsTarget self.now target.now }
+        requires track { IsTrack path.now }
+        requires planned { first + length path.now ≤ positions_of self.now.lattice + 1 }
+        requires step { j + 1 < length path.now }
+        ensures value { (plan : List ℕ) → IsPath self.now plan first path.now
+            → result ≡ step_at (own_at self.now plan) (target_at self.now target.now) (now_of self.now + first + j) }
+        ensures heads { IfSome result HaveDirections }
+    {
+        let k = self.now() + first + j as u32;
+        let other = self.target_at(target, k);
+        let other_next = self.target_at(target, k + 1);
+        step_between(
+            Some(&path[j]),
+            other.as_ref(),
+            Some(&path[j + 1]),
+            other_next.as_ref(),
+        )
+    }
+
+    /// Whether both are in contact there.
+    pub(crate) fn is_contact_on(
+        &self,
+        path: &[TickState],
+        target: &Target,
+        first: u32,
+        j: usize,
+    ) -> bool
+        requires situation { IsSituation self.now }
+        requires target { IsTarget self.now target.now }
+        requires track { IsTrack path.now }
+        requires planned { first + length path.now ≤ positions_of self.now.lattice + 1 }
+        requires tick { j < length path.now }
+        ensures { (plan : List ℕ) → IsPath self.now plan first path.now
+            → (IsTrue result ↔ IsContactAt (own_at self.now plan) (target_at self.now target.now) self.now.detect.watch (now_of self.now + first + j)) }
+    {
+        match self.target_at(target, self.now() + first + j as u32) {
+            Some(other) => contact(&path[j], &other, self.detect.watch),
+            None => false,
+        }
+    }
+
+    /// Whether own ship enters the target's domain in that step.
+    fn enters_on(&self, path: &[TickState], target: &Target, first: u32, j: usize) -> bool
+        requires situation { IsSituation self.now }
+        requires target { IsTarget self.now target.now }
+        requires track { IsTrack path.now }
+        requires planned { first + length path.now ≤ positions_of self.now.lattice + 1 }
+        requires step { j + 1 < length path.now }
+        ensures { (plan : List ℕ) → IsPath self.now plan first path.now
+            → (IsTrue result ↔ IsSomeAnd (step_at (own_at self.now plan) (target_at self.now target.now) (now_of self.now + first + j)) (λ pair. ¬ IsSeparated pair.step target.now.radius)) }
+    {
+        match self.step_on(path, target, first, j) {
+            Some(pair) => !separated(&pair.step, target.radius),
+            None => false,
+        }
+    }
+
+    /// Whether she enters it in some step of the path.
+    pub(crate) fn enters_along(&self, path: &[TickState], target: &Target, first: u32) -> bool
+        requires situation { IsSituation self.now }
+        requires target { IsTarget self.now target.now }
+        requires track { IsTrack path.now }
+        requires planned { first + length path.now ≤ positions_of self.now.lattice + 1 }
+        requires some { 1 ≤ length path.now }
+        ensures { (plan : List ℕ) → IsPath self.now plan first path.now
+            → (IsTrue result ↔ EntersAlong self.now plan target.now (now_of self.now + first) (length path.now - 1)) }
+    {
+        for j in 0..path.len() - 1 {
+            if self.enters_on(path, target, first, j) {
+                return true;
+            }
+        }
+        false
+    }
+}

@@ -1,0 +1,195 @@
+//! What is kept of a target while a plan is followed.
+ghost use Rattle.std.specs.Prelude.{ℕ, ◌≡◌, ◌+◌, ◌<◌, ◌≤◌, ◌^◌, ◌↔◌, ◌||◌, IfOk, IfSome, IsTrue, List, false, true};
+ghost use Rattle.std.specs.Option.{option_copied};
+ghost use Rattle.encounters.specs.Directions.{HaveDirections};
+ghost use Rattle.encounters.specs.Risk.{IsDetect};
+ghost use Rattle.meetings.specs.Traces.{IsContactAt, step_at};
+ghost use Rattle.mtl_formulas.specs.FormulaTree.{FormulaTree};
+ghost use Rattle.mtl_monitor.specs.Following.{count_of, fed_of, past_of, AreOfOneProgram, Fits, Follows, HasRoom, IsProgramOf};
+ghost use Rattle.mtl_monitor.specs.Traces.{Trace};
+ghost use Rattle.planner.specs.FailingPlans.{BreaksARule};
+ghost use Rattle.planner.specs.Inner.Breaking.{formulas_of, Tells};
+ghost use Rattle.planner.specs.Inner.Watching.{IsCopyOf, IsCutAtNow, IsReady, Stands, StandsFor};
+ghost use Rattle.planner.specs.Situations.{now_of, own_at, target_at};
+ghost use Rattle.planner.specs.declared.situation.Situation.{Situation};
+ghost use Rattle.planner.specs.declared.situation.Target.{Target};
+
+use crate::already::Already;
+use encounters::{Act, Detect, PairStep};
+use meetings::Follower;
+use mtl_monitor::{Program, TraceState};
+use outside::Memory;
+use std::alloc::Global;
+
+/// The trace towards a target: whether it has begun, the engagement, the values of the rules' formulas, and how many rows have come
+/// from now on.
+#[derive(Drop)]
+pub(crate) struct Watched {
+    begun: bool,
+    follower: Follower,
+    values: TraceState,
+    since_now: u32,
+}
+
+/// Whether the trace has begun once a step is taken.
+fn has_begun(before: bool, in_contact: bool) -> bool
+    ensures { result ≡ (before || in_contact) }
+{
+    before || in_contact
+}
+
+impl Watched {
+    /// Before the first step.
+    pub(crate) fn new(
+        alloc: Global,
+        program: &Program,
+        detect: Detect,
+        act: Act,
+        tick: u32,
+    ) -> Result<Watched, Memory>
+        requires { IsDetect detect }
+        ensures ready { IfOk result (IsReady program.now) }
+        ensures fed { IfOk result (λ watched. fed_of watched.values ≡ 0) }
+        ensures since { IfOk result (λ watched. watched.since_now ≡ 0) }
+        ensures stands { IfOk result (λ watched. (situation : Situation) (plan : List ℕ) (target : Target) → IsProgramOf program.now (formulas_of situation)
+            → situation.detect ≡ detect → situation.act ≡ act → situation.tick ≡ tick → StandsFor program.now situation plan target 0 watched) }
+    {
+        Ok(Watched {
+            begun: false,
+            follower: Follower::new(detect, act, tick),
+            values: TraceState::new(alloc, program)?,
+            since_now: 0,
+        })
+    }
+
+    /// Takes over what is kept of the same target after other steps. This takes no memory.
+    pub(crate) fn copy_from(&mut self, other: &Watched)
+        requires { AreOfOneProgram self.old.values other.now.values }
+        ensures { IsCopyOf self.new other.now }
+    {
+        self.begun = other.begun;
+        self.follower = other.follower;
+        self.values.copy_from(&other.values);
+        self.since_now = other.since_now;
+    }
+
+    /// Takes a step. The vessels are in contact at its first tick, or are not; it is seen, or is not.
+    pub(crate) fn take(&mut self, program: &Program, in_contact: bool, seen: Option<&PairStep>)
+        requires ready { IsReady program.now self.old }
+        requires few { fed_of self.old.values < 2 ^ 31 }
+        requires heads { IfSome (option_copied seen) HaveDirections }
+        ensures ready { IsReady program.now self.new }
+        ensures since { self.new.since_now ≡ self.old.since_now }
+        ensures fed { self.new.begun ≡ true → fed_of self.new.values ≡ fed_of self.old.values + 1 }
+        ensures unfed { self.new.begun ≡ false → fed_of self.new.values ≡ fed_of self.old.values }
+        ensures stands { (situation : Situation) (plan : List ℕ) (target : Target) (at : ℕ) → StandsFor program.now situation plan target at self.old
+            → (IsTrue in_contact ↔ IsContactAt (own_at situation plan) (target_at situation target) situation.detect.watch at)
+            → option_copied seen.entry ≡ step_at (own_at situation plan) (target_at situation target) at
+            → StandsFor program.now situation plan target (at + 1) self.new }
+    {
+        self.begun = has_begun(self.begun, in_contact);
+        if self.begun {
+            let row = self.follower.step(seen);
+            self.values.feed(program, &row);
+        }
+    }
+
+    /// Takes a step from now on, and tells whether it decides some position as newly broken.
+    pub(crate) fn take_planned(
+        &mut self,
+        program: &Program,
+        already: &Already,
+        in_contact: bool,
+        seen: Option<&PairStep>,
+    ) -> bool
+        requires ready { IsReady program.now self.old }
+        requires few { fed_of self.old.values < 2 ^ 30 }
+        requires since { self.old.since_now < 2 ^ 30 }
+        requires rules { already.now.rules ≤ 17 }
+        requires program { count_of program.now ≤ 17 }
+        requires heads { IfSome (option_copied seen) HaveDirections }
+        ensures ready { IsReady program.now self.new }
+        ensures since { self.new.since_now ≤ self.old.since_now + 1 }
+        ensures fed { fed_of self.new.values ≤ fed_of self.old.values + 1 }
+        ensures stands { result ≡ false → (situation : Situation) (plan : List ℕ) (target : Target) (cut : Trace) (at : ℕ) → now_of situation ≤ at
+            → Stands program.now situation plan target cut at self.old
+            → IsCutAtNow situation target cut → Tells (formulas_of situation) cut already.now
+            → (IsTrue in_contact ↔ IsContactAt (own_at situation plan) (target_at situation target) situation.detect.watch at)
+            → option_copied seen.entry ≡ step_at (own_at situation plan) (target_at situation target) at
+            → Stands program.now situation plan target cut (at + 1) self.new }
+        ensures breaks { result ≡ true → (situation : Situation) (plan : List ℕ) (target : Target) (cut : Trace) (at : ℕ) → now_of situation ≤ at
+            → Stands program.now situation plan target cut at self.old
+            → IsCutAtNow situation target cut → Tells (formulas_of situation) cut already.now
+            → (IsTrue in_contact ↔ IsContactAt (own_at situation plan) (target_at situation target) situation.detect.watch at)
+            → option_copied seen.entry ≡ step_at (own_at situation plan) (target_at situation target) at
+            → BreaksARule situation plan (at + 1) target }
+    {
+        self.take(program, in_contact, seen);
+        if !self.begun {
+            return false;
+        }
+        let index = self.since_now;
+        self.since_now = index + 1;
+        already.is_newly_broken(program, &self.values, index)
+    }
+
+    /// Whether some position is newly broken if the trace ends here. `ending` is another state of the program, whose places
+    /// serve here.
+    pub(crate) fn ends_newly_broken(
+        &self,
+        program: &Program,
+        already: &Already,
+        ending: &mut TraceState,
+    ) -> bool
+        requires ready { IsReady program.now self.now }
+        requires few { fed_of self.now.values < 2 ^ 30 }
+        requires since { self.now.since_now < 2 ^ 30 }
+        requires rules { already.now.rules ≤ 17 }
+        requires program { count_of program.now ≤ 17 }
+        requires fits { Fits program.now ending.old }
+        requires room { HasRoom program.now ending.old }
+        ensures fits { Fits program.now ending.new }
+        ensures room { HasRoom program.now ending.new }
+        ensures passes { result ≡ false → (situation : Situation) (plan : List ℕ) (target : Target) (cut : Trace) (at : ℕ)
+            → IsProgramOf program.now (formulas_of situation)
+            → now_of situation ≤ at → Stands program.now situation plan target cut at self.now
+            → IsCutAtNow situation target cut → Tells (formulas_of situation) cut already.now
+            → ¬ BreaksARule situation plan at target }
+        ensures breaks { result ≡ true → (situation : Situation) (plan : List ℕ) (target : Target) (cut : Trace) (at : ℕ)
+            → IsProgramOf program.now (formulas_of situation)
+            → now_of situation ≤ at → Stands program.now situation plan target cut at self.now
+            → IsCutAtNow situation target cut → Tells (formulas_of situation) cut already.now
+            → BreaksARule situation plan at target }
+    {
+        if !self.begun {
+            return false;
+        }
+        ending.copy_from(&self.values);
+        for past in 0..program.reach() {
+            ending.pass_end(program);
+            if already.is_newly_broken(program, ending, self.since_now + past) {
+                return true;
+            }
+        }
+        false
+    }
+
+    /// What is broken at now, after the steps before it.
+    pub(crate) fn already(
+        &self,
+        alloc: Global,
+        program: &Program,
+        ending: &mut TraceState,
+    ) -> Result<Already, Memory>
+        requires ready { IsReady program.now self.now }
+        requires few { fed_of self.now.values ≤ 2 ^ 31 }
+        requires rules { count_of program.now ≤ 17 }
+        requires fits { Fits program.now ending.old }
+        requires room { HasRoom program.now ending.old }
+        ensures fits { Fits program.now ending.new }
+        ensures room { HasRoom program.now ending.new }
+        ensures tells { IfOk result (λ already. (formulas : List FormulaTree) (rows : Trace) → Follows program.now self.now.values formulas rows → Tells formulas rows already) }
+    {
+        Already::of(alloc, program, &self.values, ending)
+    }
+}
