@@ -13,7 +13,8 @@ import random
 import subprocess
 import sys
 
-from harbour import armour, damage, position_report, sentence, tagged, voyage
+from harbour import damage
+from sentences import armour, position_report, sentence, tagged, voyage
 
 START = 1700000000
 ATOMS = ["true", "false", "seen", "risk", "engaged", "begin", "overtaking", "overtaken", "head_on", "crossing_gives",

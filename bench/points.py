@@ -19,39 +19,11 @@ import sys
 import tempfile
 import time
 
+from sentences import armour, position_report, sentence, tagged
+
 HERE = os.path.dirname(os.path.abspath(__file__))
 SCENARIO = os.path.join(HERE, "..", "examples", "harbour.toml")
 START = 1700000000
-
-
-def bits(value, width):
-    return format(value & ((1 << width) - 1), "0%db" % width)
-
-
-def armour(text):
-    """Six bits to a byte (IEC 61162-1)."""
-    out = []
-    for at in range(0, len(text), 6):
-        value = int(text[at:at + 6], 2)
-        out.append(chr(value + 48 if value < 40 else value + 56))
-    return "".join(out)
-
-
-def position_report(mmsi, latitude, longitude, sog, cog, heading, second):
-    fields = [(1, 6), (0, 2), (mmsi, 30), (0, 4), (128, 8), (sog, 10), (0, 1), (longitude, 28), (latitude, 27), (cog, 12),
-              (heading, 9), (second, 6), (0, 2), (0, 3), (0, 1), (0, 19)]
-    return armour("".join(bits(value, width) for value, width in fields))
-
-
-def with_sum(text):
-    total = 0
-    for byte in text.encode():
-        total ^= byte
-    return "%s*%02X" % (text, total)
-
-
-def line(time, payload, channel):
-    return "\\%s\\!%s\n" % (with_sum("c:%d" % time), with_sum("AIVDM,1,1,,%s,%s,0" % (channel, payload)))
 
 
 def write_log(path, reports, vessels):
@@ -61,9 +33,10 @@ def write_log(path, reports, vessels):
         for k in range(reports):
             vessel, second = k % vessels, k // vessels
             latitude, longitude = places[vessel]
-            out.write(line(START + second, position_report(
-                200000001 + vessel, latitude + 30 * second, longitude, draw.randrange(0, 300), draw.randrange(0, 3600),
-                draw.randrange(0, 360), second % 60), "AB"[k % 2]))
+            payload, fill = armour(position_report(
+                1, 200000001 + vessel, latitude + 30 * second, longitude, draw.randrange(0, 300), draw.randrange(0, 3600),
+                draw.randrange(0, 360), second % 60))
+            out.write(tagged(START + second, sentence(1, 1, "", "AB"[k % 2], payload, fill)) + "\n")
 
 
 def rows(command, log, cwd):

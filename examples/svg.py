@@ -1,0 +1,102 @@
+"""Lines, shapes and words of an SVG picture, and labels that keep clear of each other."""
+import math
+from xml.sax.saxutils import escape
+
+FONT = "Helvetica, Arial, 'Liberation Sans', 'DejaVu Sans', sans-serif"
+
+
+def number(value):
+    return ("%.1f" % value).replace(".0", "")
+
+
+def width_of(words, size, weight="normal"):
+    """About how wide words are; seldom less, in the usual fonts."""
+    return (0.74 if weight == "bold" else 0.62) * size * len(words)
+
+
+class Picture:
+    def __init__(self, width, height, title):
+        self.width, self.height = width, height
+        self.parts = ["<title>%s</title>" % escape(title), '<rect width="100%" height="100%" fill="#ffffff"/>']
+
+    def add(self, tag, **more):
+        words = " ".join('%s="%s"' % (key.replace("_", "-"), number(value) if isinstance(value, float) else value)
+                         for key, value in more.items())
+        self.parts.append("<%s %s/>" % (tag, words))
+
+    def line(self, a, b, stroke, width=1.0, **more):
+        self.add("line", x1=float(a[0]), y1=float(a[1]), x2=float(b[0]), y2=float(b[1]), stroke=stroke, stroke_width=float(width), **more)
+
+    def path(self, points, stroke, width=1.0, **more):
+        self.add("polyline", points=" ".join("%s,%s" % (number(x), number(y)) for x, y in points), fill="none", stroke=stroke,
+                 stroke_width=float(width), stroke_linejoin="round", **more)
+
+    def box(self, x, y, width, height, fill, **more):
+        self.add("rect", x=float(x), y=float(y), width=float(width), height=float(height), fill=fill, **more)
+
+    def dot(self, at, radius, fill, **more):
+        self.add("circle", cx=float(at[0]), cy=float(at[1]), r=float(radius), fill=fill, **more)
+
+    def words(self, x, y, words, size=11, fill="#222222", anchor="start", weight="normal", halo=False):
+        """Words of one colour, or a list of words, each with its own."""
+        around = ' stroke="#ffffff" stroke-width="3" paint-order="stroke" stroke-linejoin="round"' if halo else ""
+        inner = escape(words) if isinstance(words, str) else " ".join(
+            '<tspan fill="%s">%s</tspan>' % (own, escape(word)) for word, own in words)
+        self.parts.append('<text x="%s" y="%s" font-size="%d" fill="%s" text-anchor="%s" font-weight="%s"%s>%s</text>' % (
+            number(x), number(y), size, fill, anchor, weight, around, inner))
+
+    def text(self):
+        head = '<svg xmlns="http://www.w3.org/2000/svg" width="%d" height="%d" viewBox="0 0 %d %d" font-family="%s">' % (
+            self.width, self.height, self.width, self.height, FONT)
+        return "\n".join([head] + self.parts + ["</svg>", ""])
+
+
+class Labels:
+    """Puts words near a place where they cover as little as can be: other words, and the points that were told."""
+
+    def __init__(self, picture, frame):
+        self.picture, self.frame, self.boxes, self.points = picture, frame, [], []
+
+    def keep_clear(self, points):
+        """Tells a line that words are not to cover."""
+        for (x, y), (u, v) in zip(points, points[1:]):
+            parts = max(1, int(math.hypot(u - x, v - y) / 5))
+            self.points += [(x + (u - x) * k / parts, y + (v - y) * k / parts) for k in range(parts + 1)]
+
+    def cost(self, box):
+        x, y, u, v = box
+        left, top, right, bottom = self.frame
+        out = max(0, left - x) + max(0, top - y) + max(0, u - right) + max(0, v - bottom)
+        over = sum(max(0, min(u, b[2]) - max(x, b[0])) * max(0, min(v, b[3]) - max(y, b[1])) for b in self.boxes)
+        return 1000 * out + 20 * over + 40 * sum(x - 2 <= a <= u + 2 and y - 2 <= b <= v + 2 for a, b in self.points)
+
+    def keep_off(self, at, radius):
+        """Tells a dot that words are not to cover."""
+        self.boxes.append((at[0] - radius, at[1] - radius, at[0] + radius, at[1] + radius))
+
+    def best(self, at, width, height, reach):
+        """The cheapest box round a place, with its cost and how far off it is."""
+        best = None
+        for far in reach:
+            for turn in range(0, 360, 15):
+                across, up = math.sin(math.radians(turn)), math.cos(math.radians(turn))
+                x, y = at[0] + (far + width / 2) * across, at[1] - (far + height / 2) * up
+                box = (x - width / 2, y - height / 2, x + width / 2, y + height / 2)
+                cost = self.cost(box) + far
+                if best is None or cost < best[0]:
+                    best = cost, box, far
+        return best
+
+    def put(self, at, words, size=11, weight="normal", needed=True, apart=6, **more):
+        """Near a place, joined to it by a thin line where it is far; where it is not needed, only where it is near and covers nothing."""
+        plain = words if isinstance(words, str) else " ".join(word for word, _ in words)
+        width, height = width_of(plain, size, weight), size * 1.1
+        cost, box, far = self.best(at, width, height, range(apart, apart + 90, 4) if needed else [apart])
+        if not needed and cost > apart:
+            return
+        if far > apart + 8:
+            end = max(box[0], min(at[0], box[2])), max(box[1], min(at[1], box[3]))
+            self.picture.line(at, end, "#888888", 0.7)
+        self.boxes.append(box)
+        self.picture.words((box[0] + box[2]) / 2, (box[1] + box[3]) / 2 + size * 0.36, words, size, anchor="middle", weight=weight,
+                           halo=True, **more)
