@@ -115,6 +115,15 @@ decides_entering step r ticks least square false test apart nearer = (
   λ _. refl,
 )
 
+-- One of the two holds: the moment of least distance decides.
+pub enters_or_not : (step : RelativeMove) (r ticks : ℕ) → EntersWithin step r ticks ⊎ (¬ EntersWithin step r ticks)
+enters_or_not step r ticks =
+    let moment : Moment = nearest_of step ticks in
+    let h = nearest_least step ticks in
+    by_lt_z (norm2_of (displacement_at step moment.a moment.b)) (pos (moment.b * moment.b) *ℤ pos (r * r))
+    (λ nearer. inl (record { a = moment.a; b = moment.b; some = h.some; within = h.within; nearer = nearer }))
+    (λ apart. inr (λ enters. not_entering step r ticks (separated_if step r ticks moment h apart) enters))
+
 pub nearer_where_not : (step : RelativeMove) (r : ℕ) → (IsSeparated step r → ⊥) → IsNearer step r (nearest_of step 1).a (nearest_of step 1).b
 nearer_where_not step r not =
     by_lt_z (norm2_of (displacement_at step (nearest_of step 1).a (nearest_of step 1).b)) (pos ((nearest_of step 1).b * (nearest_of step 1).b) *ℤ pos (r * r))

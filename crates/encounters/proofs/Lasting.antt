@@ -1,14 +1,17 @@
 -- How engagements begin, last and end from one step to the next.
-use Rattle.std.proofs.Common.{◌≡◌, ℕ, zero, suc, ◌-◌, ◌^◌, ◌<◌, ◌≤◌, ◌⊎◌, inl, inr, List, [], ◌∷◌, ◌++◌, length, length-append, IfSome, IsSome, refl, sym, ap, subst, arith}
+use Rattle.std.proofs.Common.{◌≡◌, ℕ, zero, suc, ◌+◌, ◌-◌, ◌^◌, ◌<◌, ◌≤◌, ◌⊎◌, inl, inr, List, [], ◌∷◌, ◌++◌, length, length-append, IfSome, IsSome, refl, sym, ap, subst, arith}
 use Rattle.std.specs.Prelude.{Option, None, Some, IsSomeAnd, is_some, true, false}
+use Rattle.motion.specs.declared.leg.TickState.{TickState}
+use Rattle.sectors.specs.declared.class.Class.{Class}
 use Rattle.encounters.specs.Risk.{HasRisk, IsPastClear}
-use Rattle.encounters.specs.Engagement.{IsBeginning, IsEngaged, IsEngagement, IsState, seen_at}
+use Rattle.encounters.specs.Engagement.{IsBeginning, IsEngaged, IsEngagement, IsState, class_at, seen_at}
 use Rattle.encounters.specs.Standing.{IsStateAfter}
 use Rattle.encounters.specs.Inner.Following.{Follows}
 use Rattle.encounters.specs.declared.detect.Detect.{Detect}
 use Rattle.encounters.specs.declared.pair_step.PairStep.{PairStep}
 use Rattle.encounters.specs.declared.engagement_state.EngagementState.{EngagementState}
 use Rattle.encounters.specs.declared.engagement_state.EngagementState.TheVariants.{Apart, Engaged}
+use Rattle.encounters.proofs.Decided.{clear_or_not, risk_or_not}
 use Rattle.encounters.proofs.ForCallers.{seen_at-last, agree_front, agree_back, engaged_of-agree, engagement_of-agree}
 
 same_or_earlier : (k n : ℕ) → k ≤ n → (k ≡ n) ⊎ (k < n)
@@ -101,6 +104,76 @@ module _ (detect : Detect) (steps : List (Option PairStep)) where
       | inr earlier ↦ h.least other (omega arith) (λ k from to. all k from (omega arith))
     ];
   }
+
+-- ---- each step has a state
+
+module _ (detect : Detect) (steps : List (Option PairStep)) where
+  abbrev pub HasState : ℕ → Type 0
+  HasState n = (state : EngagementState) × IsState detect steps n state
+
+  -- where the step before is not engaged
+  state_begins : (n : ℕ) (pair : PairStep) → seen_at steps n ≡ Some pair → Free detect steps n → HasState n
+  state_begins n pair here free =
+      elim (risk_or_not detect pair.step) [
+        | inl risk ↦ (
+          Engaged (class_at detect pair) 0 pair.a pair.b,
+          record {
+            beginning = n;
+            begins = begins_here detect steps n (begins detect steps n pair here risk) free;
+            pair = pair;
+            first = here;
+            class = refl;
+            since = omega arith;
+            state_a = refl;
+            state_b = refl;
+          },
+        )
+        | inr riskless ↦ (Apart, stays_free detect steps n pair here riskless free)
+      ]
+
+  -- where it is
+  state_lasts : (m : ℕ) (pair : PairStep) (kind : Class) (age : ℕ) (a b : TickState) → seen_at steps (suc m) ≡ Some pair → IsEngagement detect steps m kind age a b
+      → HasState (suc m)
+  state_lasts m pair kind age a b here h =
+      elim (clear_or_not detect pair.step) [
+        | inl clear ↦ (Apart, ends detect steps (suc m) pair here clear)
+        | inr not ↦ (let until = h.begins.until in
+            let since = h.since in
+            let engaged : IsEngaged detect steps (suc m) = lasts detect steps m pair here not (h.begins.engaged m until (omega arith)) in (
+              Engaged kind (age + 1) a b,
+              record {
+                beginning = h.beginning;
+                begins = begins_as_before detect steps m h.beginning h.begins engaged;
+                pair = h.pair;
+                first = h.first;
+                class = h.class;
+                since = omega arith;
+                state_a = h.state_a;
+                state_b = h.state_b;
+              },
+            ))
+      ]
+
+  none_before : Free detect steps 0
+  unfolding Free
+  none_before m e = absurd (omega arith)
+
+  none_at : (m : ℕ) → (¬ IsEngaged detect steps m) → Free detect steps (suc m)
+  unfolding Free
+  none_at m h k e engaged = let same : k ≡ m = omega arith in h (subst (λ (i : ℕ). IsEngaged detect steps i) same engaged)
+
+  state_first : (o : Option PairStep) → seen_at steps 0 ≡ o → HasState 0
+  state_first None here = (Apart, unseen detect steps 0 here)
+  state_first (Some pair) here = state_begins 0 pair here none_before
+
+  state_next : (m : ℕ) (o : Option PairStep) → seen_at steps (suc m) ≡ o → (state : EngagementState) → IsState detect steps m state → HasState (suc m)
+  state_next m None here state h = (Apart, unseen detect steps (suc m) here)
+  state_next m (Some pair) here Apart h = state_begins (suc m) pair here (none_at m h)
+  state_next m (Some pair) here (Engaged kind age a b) h = state_lasts m pair kind age a b here h
+
+  pub some_state : (n : ℕ) → HasState n
+  some_state zero = state_first (seen_at steps 0) refl
+  some_state (suc m) = let (state, is) = some_state m in state_next m (seen_at steps (suc m)) refl state is
 
 -- ---- one step more
 

@@ -1,3 +1,4 @@
 pub mod ForCallers
+pub mod Decided
 pub mod Lasting
 pub mod OneState

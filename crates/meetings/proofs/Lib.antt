@@ -2,3 +2,4 @@ pub mod ForCallers
 pub mod SeparatedByEnds
 pub mod Values
 pub mod Rows
+pub mod SomeRows

@@ -26,6 +26,14 @@ pub fn at_most_one_row()
     at_most_one_value();
 }
 
+/// Each step has a row of answers, and each list of steps a list of rows.
+pub fn there_are_rows()
+    ensures row { (detect : Detect) (act : Act) (tick : ℕ) (steps : List (Option PairStep)) (i : ℕ) →
+        (answers : Atom → Verdict) × IsAtomRow detect act tick steps i answers }
+    ensures rows { (detect : Detect) (act : Act) (tick : ℕ) (steps : List (Option PairStep)) →
+        (rows : List (Atom → Verdict)) × AreRows detect act tick steps rows }
+{}
+
 /// The row of a step stays when further steps come: the rows of the first steps are the first rows of all.
 pub fn the_past_stays()
     ensures row { (detect : Detect) (act : Act) (tick : ℕ) (steps more : List (Option PairStep)) (i : ℕ) (answers : Atom → Verdict) → i < length steps →

@@ -1,10 +1,10 @@
--- A vessel whose legs are joined moves little from one tick to the next.
-use Rattle.std.proofs.Common.{◌≡◌, ℕ, ◌+◌, ◌-◌, ◌*◌, ◌^◌, ◌<◌, ◌≤◌, ◌⊎◌, inl, inr, List, length, get_or, None, Some, true, false, ℤ, pos, ◌+ℤ◌, ◌-ℤ◌, ◌*ℤ◌, ◌≤ℤ◌, unsigned_abs, refl, arith, ap, sym, subst, subst₂, ◌∙◌}
+-- A vessel whose legs are joined moves little from one time to another.
+use Rattle.std.proofs.Common.{◌≡◌, ℕ, ◌+◌, ◌-◌, ◌*◌, ◌<◌, ◌≤◌, ◌⊎◌, inl, inr, List, length, get_or, None, Some, true, false, ℤ, pos, ◌+ℤ◌, ◌-ℤ◌, ◌*ℤ◌, ◌≤ℤ◌, unsigned_abs, refl, arith, ap, sym, subst, subst₂, ◌∙◌}
 use Rattle.std.specs.Prelude.{Option, zero, suc, [], ◌∷◌}
 use Rattle.std.specs.Option.{option_map}
 use Rattle.std.proofs.lemmas.Int.{ints}
 use Rattle.std.proofs.lemmas.Bool.Decides.{nat_tests}
-use Rattle.fixed_geometry.specs.Sizes.{IsBelow}
+use Rattle.fixed_geometry.specs.Sizes.{IsWithin}
 use Rattle.fixed_geometry.specs.declared.point.Point.{Point}
 use Rattle.motion.specs.Between.{between}
 use Rattle.motion.specs.Inner.LegOrder.{AreLegs}
@@ -121,8 +121,8 @@ module _ (from to : Leg → ℤ) (slow : (leg : Leg) → IsLeg leg → 9 * unsig
       three a b c e l m n most p q r le = omega (arith, ints)
 
   component_near : (gap t u : ℕ) (legs : List Leg) (a b : Leg) → AreLegs legs → AreJoined gap legs → IsLastAt (holds t) legs a → IsLastAt (holds u) legs b
-      → t ≤ u → u ≤ t + 60 → u ≤ t + gap → unsigned_abs (component_at from to u b -ℤ component_at from to t a) < 2 ^ 25
-  component_near gap t u legs a b h joined at_t at_u le minute close =
+      → t ≤ u → u ≤ t + gap → unsigned_abs (component_at from to u b -ℤ component_at from to t a) ≤ (u - t) * 525763 + 2
+  component_near gap t u legs a b h joined at_t at_u le close =
       let i = at_t.index in
       let j = at_u.index in
       let (begun, before) = held t a at_t.passes in
@@ -133,12 +133,12 @@ module _ (from to : Leg → ℤ) (slow : (leg : Leg) → IsLeg leg → 9 * unsig
             let bound : P a b = subst₂ P at_t.here b-here (joined_legs gap t u i j legs a h joined lt at_u.within
             (subst (λ (l : Leg). l.t1 ≤ t) (sym at_t.here) begun) (subst (λ (l : Leg). t ≤ l.t2) (sym at_t.here) before)
             (subst (λ (l : Leg). l.t1 ≤ u) (sym b-here) after) (subst (λ (l : Leg). u ≤ l.t2) (sym b-here) over) close) in
-            small (component_at from to u b -ℤ component_at from to t a) (u - t) bound (omega arith))
+            small (component_at from to u b -ℤ component_at from to t a) (u - t) bound)
         | inr (inl same) ↦ (let one : a ≡ b = sym at_t.here ∙ (ap (λ (k : ℕ). get_or legs k a) same ∙ b-here) in
             let a-leg : IsLeg a = subst IsLeg at_t.here (h.each i a at_t.within) in
             let bound = one_leg t u a a-leg begun le (subst (λ (l : Leg). u ≤ l.t2) (sym one) over) in
-            let P : Leg → Type 0 = λ y. unsigned_abs (component_at from to u y -ℤ component_at from to t a) < 2 ^ 25 in
-            subst P one (small (component_at from to u a -ℤ component_at from to t a) (u - t) (omega arith) (omega arith)))
+            let P : Leg → Type 0 = λ y. unsigned_abs (component_at from to u y -ℤ component_at from to t a) ≤ (u - t) * 525763 + 2 in
+            subst P one (small (component_at from to u a -ℤ component_at from to t a) (u - t) (omega arith)))
         | inr (inr gt) ↦ absurd (let a-leg : IsLeg a = subst IsLeg at_t.here (h.each i a at_t.within) in
             let lasts = a-leg.lasts in
             let order : b.t2 ≤ a.t1 = subst₂ (λ (x y : Leg). x.t2 ≤ y.t1) b-here at_t.here (h.ordered j i a gt at_t.within) in
@@ -148,8 +148,8 @@ module _ (from to : Leg → ℤ) (slow : (leg : Leg) → IsLeg leg → 9 * unsig
             cc)
       ]
     where
-      small : (z : ℤ) (d : ℕ) → 9 * unsigned_abs z ≤ 4731860 * d + 18 → d ≤ 60 → unsigned_abs z < 2 ^ 25
-      small z d h k = omega arith
+      small : (z : ℤ) (d : ℕ) → 9 * unsigned_abs z ≤ 4731860 * d + 18 → unsigned_abs z ≤ d * 525763 + 2
+      small z d h = omega arith
 
 -- ---- both components
 
@@ -168,11 +168,11 @@ slow_y leg is =
 
 pub moves_little : (gap : ℕ) (legs : List Leg) → AreLegs legs → AreJoined gap legs → MovesLittle gap legs
 unfolding state_on component_at
-moves_little gap legs h joined t u before after le minute close at_t at_u =
+moves_little gap legs h joined t u before after le close at_t at_u =
     let a = seen_on t legs before at_t in
     let b = seen_on u legs after at_u in
-    let P : TickState → TickState → Type 0 = λ s v. IsBelow (2 ^ 25) (displacement s.point v.point) in
+    let P : TickState → TickState → Type 0 = λ s v. IsWithin ((u - t) * 525763 + 2) (displacement s.point v.point) in
     subst₂ P a.is b.is (record {
-      x = component_near (λ leg. leg.p1.x) (λ leg. leg.p2.x) slow_x (λ e l m. ap (λ (p : Point). p.x) m.point) gap t u legs a.leg b.leg h joined a.last b.last le minute close;
-      y = component_near (λ leg. leg.p1.y) (λ leg. leg.p2.y) slow_y (λ e l m. ap (λ (p : Point). p.y) m.point) gap t u legs a.leg b.leg h joined a.last b.last le minute close;
+      x = component_near (λ leg. leg.p1.x) (λ leg. leg.p2.x) slow_x (λ e l m. ap (λ (p : Point). p.x) m.point) gap t u legs a.leg b.leg h joined a.last b.last le close;
+      y = component_near (λ leg. leg.p1.y) (λ leg. leg.p2.y) slow_y (λ e l m. ap (λ (p : Point). p.y) m.point) gap t u legs a.leg b.leg h joined a.last b.last le close;
     })

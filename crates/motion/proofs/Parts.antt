@@ -1,7 +1,7 @@
--- A part of a whole, rounded, is no longer than the whole.
-use Rattle.std.proofs.Common.{◌≡◌, ℕ, suc, ◌+◌, ◌-◌, ◌*◌, ◌/◌, ◌<◌, ◌≤◌, ◌⊎◌, inl, inr, ℤ, pos, negsuc, ◌+ℤ◌, ◌-ℤ◌, ◌*ℤ◌, ◌≤ℤ◌, unsigned_abs, arith, ap, mul-le-mul_left}
+-- A part of a whole, rounded, is no longer than the whole, and the whole is the whole.
+use Rattle.std.proofs.Common.{◌≡◌, ℕ, suc, ◌+◌, ◌-◌, ◌*◌, ◌/◌, ◌<◌, ◌≤◌, ◌⊎◌, inl, inr, ℤ, pos, negsuc, ◌+ℤ◌, ◌-ℤ◌, ◌*ℤ◌, ◌≤ℤ◌, unsigned_abs, arith, ap, mul-le-mul_left, subst, ◌∙◌}
 use Rattle.std.proofs.lemmas.Int.{ints}
-use Rattle.std.proofs.lemmas.Nat.{div_below}
+use Rattle.std.proofs.lemmas.Nat.{div_below, div-mul-add}
 use Rattle.std.specs.Int.{int_div_euclid}
 use Rattle.fixed_geometry.specs.Rounding.{rounded}
 use Rattle.motion.specs.Between.{between}
@@ -60,3 +60,30 @@ pub between_small : (from to : ℤ) (since whole size : ℕ) → 0 < whole → s
     → unsigned_abs (between from to since whole) ≤ size
 unfolding between
 between_small from to since whole size some part f t = between_ends from to _ size (rounded_part (to -ℤ from) since whole some part) f t
+
+-- ---- the whole
+
+up_whole : (n b : ℕ) → 0 < b → (2 * (n * b) + b) / (2 * b) ≡ n
+up_whole n b some =
+    let e : n * (2 * b) + b ≡ 2 * (n * b) + b = omega arith in
+    subst (λ (a : ℕ). a / (2 * b) ≡ n) e (div-mul-add n (2 * b) b (omega arith))
+
+down_whole : (m b : ℕ) → 0 < b → (2 * (suc m * b) - b - 1) / (2 * b) ≡ m
+down_whole m b some =
+    let e : m * (2 * b) + (b - 1) ≡ 2 * (suc m * b) - b - 1 = omega arith in
+    subst (λ (a : ℕ). a / (2 * b) ≡ m) e (div-mul-add m (2 * b) (b - 1) (omega arith))
+
+rounded_whole : (whole : ℤ) (b : ℕ) → 0 < b → rounded (whole *ℤ pos b) b ≡ whole
+unfolding rounded
+rounded_whole (pos n) b some =
+    floor_up (pos 2 *ℤ (pos n *ℤ pos b) +ℤ pos b) (2 * (n * b) + b) (2 * b) (omega (arith, ints)) ∙ ap pos (up_whole n b some)
+rounded_whole (negsuc m) b some =
+    let k : ℕ = suc m in
+    floor_down (pos 2 *ℤ (negsuc m *ℤ pos b) +ℤ pos b) (2 * (k * b) - b - 1) (2 * b) (omega (arith, ints)) ∙ ap negsuc (down_whole m b some)
+
+pub between_whole : (from to : ℤ) (whole : ℕ) → 0 < whole → between from to whole whole ≡ to
+unfolding between
+between_whole from to whole some = ap (λ (q : ℤ). from +ℤ q) (rounded_whole (to -ℤ from) whole some) ∙ back from to
+  where
+    back : (from to : ℤ) → from +ℤ (to -ℤ from) ≡ to
+    back from to = omega (arith, ints)

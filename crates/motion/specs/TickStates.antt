@@ -1,9 +1,9 @@
 -- The legs between the reports of a vessel, and her state at a time.
-use Rattle.std.specs.Prelude.{ℕ, ◌≡◌, ◌+◌, ◌-◌, ◌*◌, ◌^◌, ◌≤◌, ◌<◌, ◌⊎◌, Bool, ◌&&◌, nat_le, List, length, Option, None, Some, IfSome, pos, ◌*ℤ◌, ◌≤ℤ◌}
+use Rattle.std.specs.Prelude.{ℕ, ◌≡◌, ◌+◌, ◌-◌, ◌*◌, ◌≤◌, ◌<◌, ◌⊎◌, Bool, ◌&&◌, nat_le, List, length, Option, None, Some, IfSome, pos, ◌*ℤ◌, ◌≤ℤ◌}
 use Rattle.std.specs.List.{AllAdjacentBelow, filter, last_or}
 use Rattle.std.specs.Option.{option_map}
 use Rattle.fixed_geometry.specs.Plane.{norm2_of}
-use Rattle.fixed_geometry.specs.Sizes.{IsBelow, IsWithin}
+use Rattle.fixed_geometry.specs.Sizes.{IsWithin}
 use Rattle.motion.specs.Between.{between}
 use Rattle.motion.specs.Displacement.{displacement}
 use Rattle.motion.specs.declared.leg.Leg.{Leg}
@@ -55,8 +55,8 @@ pub record Meets (earlier later : Leg) : Type 0 where
 abbrev pub AreJoined : ℕ → List Leg → Type 0
 AreJoined gap legs = AllAdjacentBelow (λ earlier later. Meets earlier later ⊎ (earlier.t2 + gap < later.t1)) legs (length legs)
 
--- From one time to another, at most a minute and at most `gap` seconds later, a vessel that is seen at both moves by less
--- than 2^25 in each component.
+-- From one time to another, at most `gap` seconds later, a vessel that is seen at both moves by at most 525,763 a second in
+-- each component (102.2 knots are 525,762.2), and by 2 more, since both places are rounded.
 abbrev pub MovesLittle : ℕ → List Leg → Type 0
-MovesLittle gap legs = (t u : ℕ) (before after : TickState) → t ≤ u → u ≤ t + 60 → u ≤ t + gap
-    → state_at t legs ≡ Some before → state_at u legs ≡ Some after → IsBelow (2 ^ 25) (displacement before.point after.point)
+MovesLittle gap legs = (t u : ℕ) (before after : TickState) → t ≤ u → u ≤ t + gap → state_at t legs ≡ Some before → state_at u legs ≡ Some after
+    → IsWithin ((u - t) * 525763 + 2) (displacement before.point after.point)

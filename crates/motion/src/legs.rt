@@ -80,8 +80,8 @@ impl Legs {
         }
     }
 
-    /// A law of the legs, which does nothing: where they meet or lie more than `gap` seconds apart, the vessel moves no
-    /// further from tick to tick than a step may say.
+    /// A law of the legs, which does nothing: where they meet or lie more than `gap` seconds apart, the vessel moves from one
+    /// time to another, at most `gap` seconds later, by at most 525,763 a second in each component, and by 2 more.
     pub fn moves_little(&self, gap: u64)
         requires { AreJoined gap self.now }
         ensures { MovesLittle gap self.now }

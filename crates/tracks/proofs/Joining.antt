@@ -7,6 +7,7 @@ use Rattle.std.proofs.lemmas.Bool.Decides.{nat_tests}
 use Rattle.std.proofs.lemmas.List.{append-nil, get_or_append_left}
 use Rattle.std.proofs.lemmas.List.Elements.{All-nil, All-push}
 use Rattle.std.proofs.Math.Seq.{get_or-append_seam}
+use Rattle.ais_messages.specs.MessageFields.{IsShipData}
 use Rattle.motion.specs.TickStates.{AreJoined, Meets}
 use Rattle.motion.specs.declared.leg.Leg.{Leg}
 use Rattle.motion.proofs.LastPassing.{last_or-at}
@@ -14,6 +15,7 @@ use Rattle.tracks.specs.JoinedReports.{joined, leg_between, legs_between, legs_f
 use Rattle.tracks.specs.Inner.Keeping.{EndsAt, IsKept, joined_after, vessel_with}
 use Rattle.tracks.specs.Standing.{IsAccepted, VesselValue, kept_points}
 use Rattle.tracks.specs.declared.accepted.Accepted.{Accepted}
+use Rattle.tracks.specs.declared.statics.Statics.{Statics}
 use Rattle.tracks.specs.declared.keeping.Keeping.{Keeping}
 use Rattle.tracks.specs.declared.keeping.Keeping.TheVariants.{Latest, Tracks}
 use Rattle.tracks.proofs.KeptReports.{kept_points-push, latest_alone}
@@ -68,7 +70,7 @@ all_adjacent-push {A} R (x ∷ xs) y all last k d lt =
 pub joined-some : (gap : ℕ) (latest now : Accepted) (leg : Leg) → joined gap latest now ≡ Some leg → leg ≡ leg_between latest now
 joined-some gap latest now leg e = grind arith
 
-joined-none : (gap : ℕ) (latest now : Accepted) → joined gap latest now ≡ None → latest.time + gap < now.time
+pub joined-none : (gap : ℕ) (latest now : Accepted) → joined gap latest now ≡ None → latest.time + gap < now.time
 joined-none gap latest now e = grind (arith, nat_tests)
 
 -- ---- what is kept
@@ -104,9 +106,13 @@ some_leg (Some latest) gap now leg e =
     let is = joined-some gap latest now leg e in
     (ap (λ (l : Leg). l.t2) is, ap (λ (l : Leg). l.p2) is)
 
+same_ship : (vessel new : VesselValue) → new.statics ≡ vessel.statics → IfSome vessel.statics.ship IsShipData → IfSome new.statics.ship IsShipData
+same_ship vessel new statics h = subst (λ (s : Statics). IfSome s.ship IsShipData) (sym statics) h
+
 pub kept_joined : (gap : ℕ) (vessel new : VesselValue) (now : Accepted) (leg : Leg) → IsKept Tracks gap vessel → IsAccepted now
-    → joined_after gap (last_or None vessel.points) now ≡ Some leg → new.points ≡ vessel.points ++ now ∷ [] → new.legs ≡ vessel.legs ++ leg ∷ [] → IsKept Tracks gap new
-kept_joined gap vessel new now leg h is e points legs =
+    → joined_after gap (last_or None vessel.points) now ≡ Some leg → new.points ≡ vessel.points ++ now ∷ [] → new.legs ≡ vessel.legs ++ leg ∷ []
+    → new.statics ≡ vessel.statics → IsKept Tracks gap new
+kept_joined gap vessel new now leg h is e points legs statics =
     let ends : IfSome (Some now) (λ latest. IfSome (Some leg) (EndsAt gap latest)) = inl (some_leg (last_or None vessel.points) gap now leg e) in
     record {
       points = subst (λ (xs : List Accepted). All IsAccepted xs) (sym points) (All-push IsAccepted vessel.points now h.points is);
@@ -117,6 +123,7 @@ kept_joined gap vessel new now leg h is e points legs =
       are_joined = subst (λ (xs : List Leg). AreJoined gap xs) (sym legs)
           (all_adjacent-push (λ earlier later. Meets earlier later ⊎ (earlier.t2 + gap < later.t1)) vessel.legs leg h.are_joined
           (with_leg gap (last_or None vessel.points) vessel.legs now leg h.ends e));
+      ship = same_ship vessel new statics h.ship;
     }
 
 -- ---- where no leg ends at the report
@@ -137,8 +144,9 @@ no_leg gap (x ∷ xs) legs now same ends e = past (last_or (Some x) xs) (last_or
     past (Some latest) some ends e = later gap latest now (last_or None legs) (joined-none gap latest now e) ends
 
 pub kept_apart : (gap : ℕ) (vessel new : VesselValue) (now : Accepted) → IsKept Tracks gap vessel → IsAccepted now
-    → joined_after gap (last_or None vessel.points) now ≡ None → new.points ≡ vessel.points ++ now ∷ [] → new.legs ≡ vessel.legs → IsKept Tracks gap new
-kept_apart gap vessel new now h is e points legs =
+    → joined_after gap (last_or None vessel.points) now ≡ None → new.points ≡ vessel.points ++ now ∷ [] → new.legs ≡ vessel.legs
+    → new.statics ≡ vessel.statics → IsKept Tracks gap new
+kept_apart gap vessel new now h is e points legs statics =
     let ends : IfSome (Some now) (λ latest. IfSome (last_or None vessel.legs) (EndsAt gap latest)) = no_leg gap vessel.points vessel.legs now h.legs h.ends e in
     record {
       points = subst (λ (xs : List Accepted). All IsAccepted xs) (sym points) (All-push IsAccepted vessel.points now h.points is);
@@ -147,6 +155,7 @@ kept_apart gap vessel new now h is e points legs =
           ∙ sym (legs_between-push gap vessel.points now) ∙ ap (legs_between gap) (sym points);
       ends = rw (points, legs, last_or-push) ends;
       are_joined = subst (λ (xs : List Leg). AreJoined gap xs) (sym legs) h.are_joined;
+      ship = same_ship vessel new statics h.ship;
     }
 
 -- ---- a vessel with one more accepted report
@@ -166,7 +175,7 @@ pub takes_joined : (gap : ℕ) (old inside new : VesselValue) (now : Accepted) (
     → new.statics ≡ inside.statics → HasTaken Tracks gap old new now
 takes_joined gap old inside new now leg same h is e points legs statics =
     let kept : IsKept Tracks gap inside = subst (IsKept Tracks gap) (sym same) h in
-    let new-kept = kept_joined gap inside new now leg kept is e points legs in
+    let new-kept = kept_joined gap inside new now leg kept is e points legs statics in
     subst (λ (v : VesselValue). HasTaken Tracks gap v new now) same (has_taken Tracks gap inside new now new-kept points statics)
 
 pub takes_apart : (gap : ℕ) (old inside new : VesselValue) (now : Accepted) → inside ≡ old → IsKept Tracks gap old → IsAccepted now
@@ -174,13 +183,14 @@ pub takes_apart : (gap : ℕ) (old inside new : VesselValue) (now : Accepted) �
     → new.statics ≡ inside.statics → HasTaken Tracks gap old new now
 takes_apart gap old inside new now same h is e points legs statics =
     let kept : IsKept Tracks gap inside = subst (IsKept Tracks gap) (sym same) h in
-    let new-kept = kept_apart gap inside new now kept is e points legs in
+    let new-kept = kept_apart gap inside new now kept is e points legs statics in
     subst (λ (v : VesselValue). HasTaken Tracks gap v new now) same (has_taken Tracks gap inside new now new-kept points statics)
 
 -- ---- a vessel of whom the latest report alone is kept
 
-kept_latest : (gap : ℕ) (old new : VesselValue) (now : Accepted) → IsKept Latest gap old → IsAccepted now → new.points ≡ now ∷ [] → new.legs ≡ old.legs → IsKept Latest gap new
-kept_latest gap old new now h is points legs =
+kept_latest : (gap : ℕ) (old new : VesselValue) (now : Accepted) → IsKept Latest gap old → IsAccepted now → new.points ≡ now ∷ [] → new.legs ≡ old.legs
+    → new.statics ≡ old.statics → IsKept Latest gap new
+kept_latest gap old new now h is points legs statics =
     let none : new.legs ≡ [] = legs ∙ h.legs ∙ latest_alone gap old.points h.no_others in
     let alone : new.points ≡ kept_points Latest new.points = points ∙ ap (kept_points Latest) (sym points) in
     let ends : IfSome (Some now) (λ latest. IfSome (last_or None []) (EndsAt gap latest)) = tt in
@@ -190,13 +200,14 @@ kept_latest gap old new now h is points legs =
       legs = none ∙ sym (latest_alone gap new.points alone);
       ends = rw (points, none) ends;
       are_joined = subst (λ (xs : List Leg). AreJoined gap xs) (sym legs) h.are_joined;
+      ship = same_ship old new statics h.ship;
     }
 
 takes_alone : (gap : ℕ) (old new : VesselValue) (now : Accepted) → IsKept Latest gap old → IsAccepted now → new ≡ record old { points = now ∷ [] }
     → HasTaken Latest gap old new now
 takes_alone gap old new now h is e =
     let points : new.points ≡ now ∷ [] = ap (λ (v : VesselValue). v.points) e in
-    has_taken Latest gap old new now (kept_latest gap old new now h is points (ap (λ (v : VesselValue). v.legs) e)) (points ∙ sym (kept_points-push old.points now))
+    has_taken Latest gap old new now (kept_latest gap old new now h is points (ap (λ (v : VesselValue). v.legs) e) (ap (λ (v : VesselValue). v.statics) e)) (points ∙ sym (kept_points-push old.points now))
     (ap (λ (v : VesselValue). v.statics) e)
 
 pub takes_latest : (keeping : Keeping) (gap : ℕ) (old new : VesselValue) (now : Accepted) → keeping ≡ Latest → IsKept keeping gap old → IsAccepted now

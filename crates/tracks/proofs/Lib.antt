@@ -10,3 +10,5 @@ pub mod OneList
 pub mod Settled
 pub mod EqualReports
 pub mod Seen
+pub mod LatestReport
+pub mod ForCallers

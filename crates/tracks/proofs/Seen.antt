@@ -1,5 +1,5 @@
 -- The vessels seen at a time.
-use Rattle.std.proofs.Common.{◌≡◌, ◌∙◌, ℕ, zero, suc, ◌+◌, ◌^◌, ◌<◌, ◌≤◌, true, false, nat_eq, List, [], ◌∷◌, ◌++◌, length, map, get_or, take, Some, None, refl, ap, arith}
+use Rattle.std.proofs.Common.{◌≡◌, ◌∙◌, ℕ, zero, suc, ◌+◌, ◌-◌, ◌*◌, ◌^◌, ◌<◌, ◌≤◌, true, false, nat_eq, List, [], ◌∷◌, ◌++◌, length, map, get_or, take, Some, None, refl, ap, arith}
 use Rattle.std.specs.Prelude.{Option}
 use Rattle.std.specs.List.{All, Contains, cons_option, filter_map}
 use Rattle.std.specs.List.Sorted.{IsStrictlyIncreasing}
@@ -7,7 +7,8 @@ use Rattle.std.specs.Option.{option_map, option_to_list}
 use Rattle.std.proofs.lemmas.Bool.Decides.{nat_tests}
 use Rattle.std.proofs.lemmas.List.{take_all, take_more}
 use Rattle.std.proofs.lemmas.List.Elements.{All-cons, All-contains, All-head, All-map, All-nil, All-tail, filter_map-append}
-use Rattle.fixed_geometry.specs.Sizes.{IsBelow}
+use Rattle.fixed_geometry.specs.Sizes.{IsBelow, IsWithin}
+use Rattle.fixed_geometry.specs.declared.point.Point.{Point}
 use Rattle.motion.specs.Displacement.{displacement}
 use Rattle.motion.specs.TickStates.{MovesLittle, state_at}
 use Rattle.motion.specs.declared.leg.Leg.{Leg}
@@ -124,4 +125,7 @@ pub seen_moves : (book : BookValue) → All (λ (m : ℕ). MovesLittle book.numb
 seen_moves book moves t u mmsi before after le minute within was is =
     let first = seen_state book t mmsi before moves was in
     let second = seen_state book u mmsi after moves is in
-    first.0 t u before after le minute within first.1 second.1
+    little (u - t) (displacement before.point after.point) (omega arith) (first.0 t u before after le within first.1 second.1)
+  where
+    little : (seconds : ℕ) (by : Point) → seconds ≤ 60 → IsWithin (seconds * 525763 + 2) by → IsBelow (2 ^ 25) by
+    little seconds by minute h = let x = h.x in let y = h.y in record { x = omega arith; y = omega arith }

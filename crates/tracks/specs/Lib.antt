@@ -8,6 +8,7 @@ pub use Rattle.ais_messages.specs.MessageFields
 pub mod AcceptedReports
 pub mod JoinedReports
 pub mod VesselsHeld
+pub mod Lengths
 pub mod FaultTexts
 pub mod Standing
 pub mod SeenVessels

@@ -1,9 +1,9 @@
 //! The book of vessels.
-ghost use Rattle.std.specs.Prelude.{ℕ, true, ◌≡◌, ◌+◌, ◌^◌, ◌<◌, ◌≤◌, ◌++◌, ◌∷◌, [], ◌↔◌, All, Contains, Err, IfOk, IfSome, IsOk, List, None, OnErr, OnOk, Some, length, map, slice_get, slice_index, vec_capacity, vec_len, if◌then◌else◌};
-ghost use Rattle.std.specs.List.{insert};
+ghost use Rattle.std.specs.Prelude.{ℕ, true, ◌≡◌, ◌+◌, ◌-◌, ◌*◌, ◌^◌, ◌<◌, ◌≤◌, ◌++◌, ◌∷◌, [], ◌↔◌, All, Contains, Err, IfOk, IfSome, IsOk, List, None, OnErr, OnOk, Some, length, map, slice_get, slice_index, vec_capacity, vec_len, if◌then◌else◌};
+ghost use Rattle.std.specs.List.{insert, last_or};
 ghost use Rattle.std.specs.List.Sorted.{IsStrictlyIncreasing};
 ghost use Rattle.std.specs.Option.{option_copied, option_to_list};
-ghost use Rattle.fixed_geometry.specs.Sizes.{IsBelow};
+ghost use Rattle.fixed_geometry.specs.Sizes.{IsBelow, IsWithin};
 ghost use Rattle.ais_messages.specs.MessageFields.{IsMessage, IsReport};
 ghost use Rattle.ais_messages.specs.declared.message.Message.TheVariants.{Position};
 ghost use Rattle.motion.specs.Displacement.{displacement};
@@ -11,9 +11,11 @@ ghost use Rattle.motion.specs.TickStates.{IsTickState, MovesLittle, state_at};
 ghost use Rattle.motion.specs.declared.leg.TickState.{TickState};
 ghost use Rattle.tracks.specs.AcceptedReports.{Numbers};
 ghost use Rattle.tracks.specs.Inner.Keeping.{IsKept, makes_held};
+ghost use Rattle.tracks.specs.Lengths.{length_of};
 ghost use Rattle.tracks.specs.SeenVessels.{seen_in, seen_of, sighting};
 ghost use Rattle.tracks.specs.Standing.{IsAccepted, IsNumbers, StandsFor, kept_legs, kept_points, legs_in, vessel_held};
 ghost use Rattle.tracks.specs.VesselsHeld.{Sent, accepted_of, entry_at, entry_of, held_of, is_held, legs_of, reported_in, sender_of, statics_of, with_number};
+ghost use Rattle.tracks.specs.declared.accepted.Accepted.{Accepted};
 ghost use Rattle.tracks.specs.declared.entry.BookFault.TheVariants.{TooManyVessels};
 ghost use Rattle.tracks.specs.declared.keeping.Keeping.TheVariants.{Tracks};
 
@@ -25,8 +27,8 @@ use crate::judging::judge;
 use crate::keeping::Keeping;
 use crate::parts::{position_report, sender, static_report};
 use crate::places::index_of;
-use crate::statics::Statics;
-use crate::vessel::Vessel;
+use crate::statics::{Statics, length_of};
+use crate::vessel::{Vessel, latest};
 use ais_messages::{Message, PositionReport};
 use fixed_geometry::Reference;
 use motion::{Legs, TickState};
@@ -318,6 +320,15 @@ impl Book {
         }
     }
 
+    /// The latest accepted report of a vessel, if she has one.
+    pub fn latest(&self, mmsi: u32) -> Option<&Accepted>
+        ensures value { self.now.keeping ≡ Tracks → (numbers : Numbers) (sent : List Sent) → StandsFor self.now numbers sent
+            → option_copied result ≡ last_or None (accepted_of numbers sent mmsi) }
+        ensures accepted { IfSome (option_copied result) IsAccepted }
+    {
+        latest(self.points(mmsi))
+    }
+
     /// The legs that are kept between the accepted reports of a vessel, or `None` where she is not held.
     pub fn legs(&self, mmsi: u32) -> Option<&Legs>
         ensures value { (numbers : Numbers) (sent : List Sent) → StandsFor self.now numbers sent
@@ -398,12 +409,38 @@ impl Book {
         }
     }
 
+    /// A law of the book, which does nothing: a vessel that is seen on a leg before her latest accepted report, at most the gap
+    /// before it, moves from there to that report's point by at most 525,763 a second in each component, and by 2 more.
+    pub fn comes_to_latest(&self, mmsi: u32)
+        requires { self.now.keeping ≡ Tracks }
+        ensures { (numbers : Numbers) (sent : List Sent) → StandsFor self.now numbers sent
+            → (latest : Accepted) → last_or None (accepted_of numbers sent mmsi) ≡ Some latest
+            → (t : ℕ) (before : TickState) → t < latest.time → latest.time ≤ t + numbers.gap
+            → state_at t (legs_of numbers sent mmsi) ≡ Some before
+            → IsWithin ((latest.time - t) * 525763 + 2) (displacement before.point latest.point) }
+    {
+        // The law holds of her legs.
+        let _ = self.legs(mmsi);
+    }
+
     /// What a vessel told of herself, or `None` where she is not held.
     pub fn statics(&self, mmsi: u32) -> Option<&Statics>
         ensures { (numbers : Numbers) (sent : List Sent) → StandsFor self.now numbers sent
             → option_copied result ≡ (if is_held numbers sent mmsi then Some (statics_of sent mmsi) else None) }
     {
         Some(self.vessel_of(mmsi)?.statics())
+    }
+
+    /// The length of a vessel that is held in metres, from bow to stern, at most 1022, and 0 where she told none.
+    pub fn length(&self, mmsi: u32) -> u32
+        ensures value { (numbers : Numbers) (sent : List Sent) → StandsFor self.now numbers sent → is_held numbers sent mmsi ≡ true
+            → result ≡ length_of (statics_of sent mmsi).ship }
+        ensures short { result ≤ 1022 }
+    {
+        match self.vessel_of(mmsi) {
+            Some(vessel) => length_of(vessel.statics().ship),
+            None => 0,
+        }
     }
 
     /// How many vessels are held.

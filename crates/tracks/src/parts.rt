@@ -1,6 +1,7 @@
 //! The parts of a message.
-ghost use Rattle.std.specs.Prelude.{◌≡◌};
+ghost use Rattle.std.specs.Prelude.{◌≡◌, IfSome};
 ghost use Rattle.std.specs.Option.{option_copied};
+ghost use Rattle.ais_messages.specs.MessageFields.{IsMessage, IsStatic};
 ghost use Rattle.tracks.specs.VesselsHeld.{report_in, sender_of, static_in};
 
 use ais_messages::{Message, PositionReport, StaticReport};
@@ -29,7 +30,8 @@ pub(crate) fn position_report(message: &Message) -> Option<&PositionReport>
 
 /// Its static report.
 pub(crate) fn static_report(message: &Message) -> Option<&StaticReport>
-    ensures { option_copied result ≡ static_in message.now }
+    ensures value { option_copied result ≡ static_in message.now }
+    ensures ranges { IsMessage message.now → IfSome (option_copied result) IsStatic }
 {
     match message {
         Message::Position(_) => None,

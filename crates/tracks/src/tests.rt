@@ -1,5 +1,6 @@
-ghost use Rattle.std.specs.Prelude.{◌≤◌, ◌<◌, IfOk, unsigned_abs};
+ghost use Rattle.std.specs.Prelude.{◌≡◌, ◌≤◌, ◌<◌, IfOk, unsigned_abs};
 ghost use Rattle.ais_messages.specs.MessageFields.{IsMessage, IsReport, IsStatic};
+ghost use Rattle.tracks.specs.declared.keeping.Keeping.TheVariants.{Tracks};
 
 use super::*;
 use ais_messages::{Decoded, Message, PositionReport, ShipData, StaticReport, decode};
@@ -53,6 +54,7 @@ fn hull(mmsi: u32, bow: u16) -> StaticReport
 fn book_of(alloc: Global, keeping: Keeping, max_speed: u16) -> Result<Book, Fail>
     requires some_speed { 1 ≤ max_speed }
     requires max_speed { max_speed ≤ 1022 }
+    ensures { IfOk result (λ book. book.keeping ≡ keeping) }
 {
     let reference = Reference::new(0, 0).ok_or("a reference")?;
     Ok(Book::new(alloc, keeping, reference, 900, max_speed))
@@ -62,6 +64,7 @@ fn book_of(alloc: Global, keeping: Keeping, max_speed: u16) -> Result<Book, Fail
 fn book(alloc: Global, max_speed: u16) -> Result<Book, Fail>
     requires some_speed { 1 ≤ max_speed }
     requires max_speed { max_speed ≤ 1022 }
+    ensures { IfOk result (λ book. book.keeping ≡ Tracks) }
 {
     book_of(alloc, Keeping::Tracks, max_speed)
 }
@@ -262,6 +265,7 @@ fn state(north: i64) -> TickState {
 #[test]
 fn vessels_seen_in_ascending_order(rt: HostRuntime) -> Result<(), Fail> {
     let mut book = book(rt.alloc(), 500)?;
+    book.comes_to_latest(OTHER);
     let north = Message::Position(report(OTHER, 10));
     let south = Message::Position(report(OTHER, 0));
     let still = Message::Position(report(OWN, 0));

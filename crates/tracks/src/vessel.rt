@@ -2,7 +2,7 @@
 ghost use Rattle.std.specs.Prelude.{◌≡◌, ◌≤◌, ◌<◌, ◌∷◌, [], All, None, IfOk, IfSome, OnOk, OnErr, Some};
 ghost use Rattle.std.specs.List.{last_or};
 ghost use Rattle.std.specs.Option.{option_copied};
-ghost use Rattle.ais_messages.specs.MessageFields.{IsMessage, IsReport};
+ghost use Rattle.ais_messages.specs.MessageFields.{IsMessage, IsReport, IsShipData};
 ghost use Rattle.motion.specs.TickStates.{IsLeg};
 ghost use Rattle.tracks.specs.AcceptedReports.{judged};
 ghost use Rattle.tracks.specs.JoinedReports.{direction_of, joined};
@@ -59,7 +59,7 @@ fn leg_between(gap: u32, from: &Accepted, to: &Accepted) -> Option<Leg>
 }
 
 /// The latest of her accepted reports.
-fn latest(points: &[Accepted]) -> Option<&Accepted>
+pub(crate) fn latest(points: &[Accepted]) -> Option<&Accepted>
     requires { All IsAccepted points.now }
     ensures value { option_copied result ≡ last_or None points.now }
     ensures accepted { IfSome (option_copied result) IsAccepted }
@@ -205,7 +205,8 @@ impl Vessel {
 
     /// Keeps what she tells of herself, over what she told before.
     fn keep(&mut self, report: &StaticReport)
-        ensures { self.new ≡ told self.old (Some report.now) }
+        ensures told { self.new ≡ told self.old (Some report.now) }
+        ensures ship { IfSome self.old.statics.ship IsShipData → IfSome report.now.ship IsShipData → IfSome self.new.statics.ship IsShipData }
     {
         if let Some(name) = &report.name {
             self.statics.name = Some(name.same());
@@ -241,7 +242,9 @@ impl Vessel {
 
     /// Keeps the static report of a message of hers, if it has one.
     fn keep_static(&mut self, message: &Message)
-        ensures { self.new ≡ told self.old (static_in message.now) }
+        requires { IsMessage message.now }
+        ensures told { self.new ≡ told self.old (static_in message.now) }
+        ensures ship { IfSome self.old.statics.ship IsShipData → IfSome self.new.statics.ship IsShipData }
     {
         if let Some(report) = static_report(message) {
             self.keep(report);

@@ -5,6 +5,7 @@ use Rattle.std.specs.Option.{option_or}
 use Rattle.fixed_geometry.specs.declared.point.Point.{Point}
 use Rattle.motion.specs.TickStates.{AreJoined}
 use Rattle.motion.specs.declared.leg.Leg.{Leg}
+use Rattle.ais_messages.specs.MessageFields.{IsShipData}
 use Rattle.ais_messages.specs.declared.message.StaticReport.{StaticReport}
 use Rattle.tracks.specs.AcceptedReports.{Numbers, Reported, distance2, judged, square}
 use Rattle.tracks.specs.JoinedReports.{joined, legs_between}
@@ -90,6 +91,7 @@ pub record IsKept (keeping : Keeping) (gap : ℕ) (vessel : VesselValue) : Type 
   pub legs : vessel.legs ≡ legs_between gap vessel.points
   pub ends : IfSome (last_or None vessel.points) (λ latest. IfSome (last_or None vessel.legs) (EndsAt gap latest))
   pub are_joined : AreJoined gap vessel.legs
+  pub ship : IfSome vessel.statics.ship IsShipData
 
 pub record IsBook (book : BookValue) : Type 0 where
   pub numbers : IsNumbers book.numbers
