@@ -269,8 +269,8 @@ fn ship(
     }
 }
 
-/// Latitude and longitude, where both are on the Earth.
-fn place(latitude: i32, longitude: i32) -> Option<(i32, i32)>
+/// A latitude and a longitude in 1/10000 minute, where both are on the Earth: at most 90 and 180 degrees in size.
+pub fn place(latitude: i32, longitude: i32) -> Option<(i32, i32)>
     ensures value { result ≡ place_of latitude longitude }
     ensures range { IfSome result (λ place. (unsigned_abs place.0 ≤ 54000000) × (unsigned_abs place.1 ≤ 108000000)) }
 {

@@ -10,7 +10,7 @@ mod encoding;
 mod message;
 mod text;
 
-pub use decoding::{decode, position};
+pub use decoding::{decode, place, position};
 pub use encoding::encode_position;
 pub use message::{Decoded, Message, MessageCause, PositionReport, ShipData, StaticReport};
 pub use text::{Text20, text6};

@@ -8,7 +8,7 @@ use Rattle.std.proofs.lemmas.Nat.{pow_pos}
 use Rattle.aivdm.specs.BitFields.{binary, number_of}
 use Rattle.aivdm.specs.PayloadBits.{bits_of, is_armour, six_bits}
 use Rattle.aivdm.specs.SentenceWriting.{fill_of}
-use Rattle.aivdm.specs.Inner.Armouring.{armour_of, payload_of}
+use Rattle.aivdm.specs.Armouring.{armour_of, payload_of}
 use Rattle.aivdm.proofs.Appended.{same_bits, below_power}
 use Rattle.aivdm.proofs.BitLists.{length-binary, number_of-binary, number_of-append, number_of-below}
 use Rattle.aivdm.proofs.Payloads.{bits_of-all, bits_of-cut, length-bits_of}

@@ -12,7 +12,7 @@ use Rattle.std.specs.Fmt.{decimal}
 use Rattle.std.specs.List.{AllByRecursion}
 use Rattle.std.specs.Str.{all_ascii_digits}
 use Rattle.aivdm.specs.Checksums.{sum_of, hexadecimal}
-use Rattle.aivdm.specs.Inner.Armouring.{payload_of}
+use Rattle.aivdm.specs.Armouring.{payload_of}
 use Rattle.aivdm.specs.LineReading.{SentenceText, summed, sentence_text, HasForm, HasSum, fields_of, IsSentenceLine}
 use Rattle.aivdm.specs.PayloadBits.{is_armour}
 use Rattle.aivdm.specs.SentenceWriting.{hexadecimal_digit, sum_text, tag_text, sentence_content, line_text, fill_of, IsWritten}

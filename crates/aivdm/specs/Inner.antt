@@ -1,5 +1,4 @@
 -- What no public clause cites: how the code cuts a line, and what its private types hold.
-pub mod Armouring
 pub mod KeptParts
 pub mod LineCuts
 pub mod OpenRuns

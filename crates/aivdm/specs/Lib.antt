@@ -1,3 +1,4 @@
+pub mod Armouring
 pub mod BitFields
 pub mod Checksums
 pub mod FragmentJoining

@@ -1,6 +1,7 @@
 -- The line that a message is written as.
 use Rattle.std.specs.Prelude.{ℕ, ◌≡◌, ◌+◌, ◌-◌, ◌/◌, ◌%◌, Bool, false, List, [], ◌∷◌, ◌++◌, length, replicate, codes, nat_lt, Option, Some, None, Ok, if◌then◌else◌}
 use Rattle.std.specs.Fmt.{decimal}
+use Rattle.aivdm.specs.Armouring.{payload_of}
 use Rattle.aivdm.specs.Checksums.{sum_of}
 use Rattle.aivdm.specs.LineReading.{IsReading}
 use Rattle.aivdm.specs.PayloadBits.{bits_of}
@@ -30,6 +31,10 @@ line_text stamp channel payload fill =
 -- how many bits fill up the last byte
 abbrev pub fill_of : List Bool → ℕ
 fill_of bits = (6 - length bits % 6) % 6
+
+-- the line that these bits are written as
+abbrev pub line_of : Option ℕ → List Bool → ℕ → List ℕ
+line_of stamp bits channel = line_text stamp channel (payload_of bits) (fill_of bits)
 
 -- The line is this message with this stamp. Its payload is the bits and zeros that fill it up; without them it is the bits.
 pub record IsWritten (stamp : Option ℕ) (bits : List Bool) (channel : ℕ) (line : List ℕ) : Type 0 where

@@ -3,8 +3,8 @@ ghost use Rattle.std.specs.Prelude.{◌≡◌, ◌+◌, ◌-◌, ◌*◌, ◌^�
 ghost use Rattle.std.specs.Char.{is_ascii_uppercase};
 ghost use Rattle.std.specs.Fmt.{decimal};
 ghost use Rattle.aivdm.specs.Checksums.{sum_of};
-ghost use Rattle.aivdm.specs.SentenceWriting.{fill_of, hexadecimal_digit, line_text, sentence_content, sum_text, tag_text, IsWritten};
-ghost use Rattle.aivdm.specs.Inner.Armouring.{armour_of, payload_of};
+ghost use Rattle.aivdm.specs.SentenceWriting.{fill_of, hexadecimal_digit, line_of, sentence_content, sum_text, tag_text, IsWritten};
+ghost use Rattle.aivdm.specs.Armouring.{armour_of, payload_of};
 
 use crate::bits::Bits;
 use crate::checksum::sum_of;
@@ -24,7 +24,8 @@ pub fn write_sentence(
     requires most { length bits.now ≤ 360 }
     requires letter { IsTrue (is_ascii_uppercase channel) }
     requires seconds { IfSome stamp (λ time. time < 100_000_000_000) }
-    ensures { IfOk result (λ line. IsWritten stamp bits.now channel line.items) }
+    ensures bytes { IfOk result (λ line. line.items ≡ line_of stamp bits.now channel) }
+    ensures written { IfOk result (λ line. IsWritten stamp bits.now channel line.items) }
 {
     write_line(alloc, stamp, bits, channel)
 }
@@ -36,7 +37,7 @@ fn write_line(
     bits: &Bits,
     channel: u8,
 ) -> Result<Vec<u8>, Memory>
-    ensures { IfOk result (λ line. line.items ≡ line_text stamp channel (payload_of bits.now) (fill_of bits.now)) }
+    ensures { IfOk result (λ line. line.items ≡ line_of stamp bits.now channel) }
 {
     let mut line = tag_block(alloc, stamp)?;
     let content = sentence_content(alloc, bits, channel)?;

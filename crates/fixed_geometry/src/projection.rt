@@ -47,6 +47,22 @@ impl Reference {
             longitude: lon,
         })
     }
+
+    /// The latitude of the origin, in ten thousandths of a minute, positive to the north.
+    pub fn lat(&self) -> i32
+        ensures value { result ≡ self.now.latitude }
+        ensures small { unsigned_abs result ≤ 45000000 }
+    {
+        self.latitude
+    }
+
+    /// The longitude of the origin, in ten thousandths of a minute, positive to the east.
+    pub fn lon(&self) -> i32
+        ensures value { result ≡ self.now.longitude }
+        ensures small { unsigned_abs result ≤ 108000000 }
+    {
+        self.longitude
+    }
 }
 
 /// The length of an arc of latitude, of which a minute is 1852 metres.

@@ -29,6 +29,7 @@ fn longitudes_are_shortened_and_brought_round(rt: HostRuntime) -> Result<(), Fai
         Some(Point { x: 370400, y: 0 })
     );
     assert!(rt; project(date_line, 1200001, 107999900).is_none());
+    assert_eq!(rt; (sixty_north.lat(), date_line.lon()), (36000000, 107999900));
     Ok(())
 }
 

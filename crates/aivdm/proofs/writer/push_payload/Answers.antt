@@ -1,6 +1,6 @@
 use Rattle.std.proofs.Common.{◌≡◌, ◌+◌, ◌*◌, ◌≤◌, ◌++◌, ◌∷◌, [], Bool, List, ℕ, length, take, drop, sym, ap, ◌∙◌, arith, append_assoc, drop-drop, length-drop}
 use Rattle.aivdm.specs.BitFields.{number_of}
-use Rattle.aivdm.specs.Inner.Armouring.{armour_of, payload_of}
+use Rattle.aivdm.specs.Armouring.{armour_of, payload_of}
 use Rattle.aivdm.proofs.Written.{payload_six}
 use Rattle.aivdm.proofs.writer.push_payload.Goals as goal
 

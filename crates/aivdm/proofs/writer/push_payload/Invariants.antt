@@ -1,5 +1,5 @@
 use Rattle.std.proofs.Common.{◌≡◌, ◌*◌, ◌++◌, drop}
-use Rattle.aivdm.specs.Inner.Armouring.{payload_of}
+use Rattle.aivdm.specs.Armouring.{payload_of}
 use Rattle.aivdm.proofs.writer.push_payload.Given as goal
 
 -- the bytes so far, and those for the bits that are left

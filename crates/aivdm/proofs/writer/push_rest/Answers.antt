@@ -1,6 +1,6 @@
 use Rattle.std.proofs.Common.{◌≡◌, ◌-◌, ◌*◌, ◌^◌, ◌++◌, ◌∷◌, [], List, ℕ, length, drop, sym, ap, ap₂, ◌∙◌, arith, append-nil, length-drop, take_all}
 use Rattle.aivdm.specs.BitFields.{number_of}
-use Rattle.aivdm.specs.Inner.Armouring.{armour_of, payload_of}
+use Rattle.aivdm.specs.Armouring.{armour_of, payload_of}
 use Rattle.aivdm.proofs.Steps.{then_on}
 use Rattle.aivdm.proofs.Written.{payload_none, payload_rest}
 use Rattle.aivdm.proofs.writer.push_rest.Goals as goal

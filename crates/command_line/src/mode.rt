@@ -1,0 +1,52 @@
+//! The modes by their names.
+ghost use Rattle.std.specs.Prelude.{◌≡◌, ◌≢◌, MatchOption, true};
+ghost use Rattle.std.specs.List.{list_any};
+ghost use Rattle.std.specs.Str.{bytes_eq};
+ghost use Rattle.command_line.specs.CommandLine.{AreModes, mode_text};
+ghost use Rattle.command_line.specs.declared.mode.Mode.{Mode};
+
+use clap::builder::PossibleValue;
+
+/// What the program is to do.
+#[derive(Clone, Copy, Debug, PartialEq, Eq)]
+pub enum Mode {
+    /// Positions out of a log, as points of the plane.
+    Points,
+    /// How the vessels of a log met, and which duties were broken or stayed undecided.
+    Audit,
+    /// The first plan of own ship that newly breaks no rule and enters no domain.
+    Plan,
+    /// A log of forty vessels that is made for the scenario, and the totals of its audit.
+    Drill,
+}
+
+/// The modes as values of an argument, each with its line of help.
+pub(crate) fn mode_values() -> [PossibleValue<'static>; 4]
+    ensures { AreModes result }
+{
+    [
+        PossibleValue::new("points").help("Write the positions of a log, as points of the plane"),
+        PossibleValue::new("audit").help(
+            "Tell how the vessels of a log met, and which duties were broken",
+        ),
+        PossibleValue::new("plan").help(
+            "Find own ship's first plan that newly breaks no rule and enters no domain",
+        ),
+        PossibleValue::new("drill").help(
+            "Make a log of forty vessels, and write the totals of its audit",
+        ),
+    ]
+}
+
+/// The mode of this name.
+pub(crate) fn mode_named(text: &str) -> Option<Mode>
+    ensures { MatchOption result ((mode : Mode) → text.now ≢ mode_text mode) (λ mode. text.now ≡ mode_text mode) }
+{
+    match text {
+        "points" => Some(Mode::Points),
+        "audit" => Some(Mode::Audit),
+        "plan" => Some(Mode::Plan),
+        "drill" => Some(Mode::Drill),
+        _ => None,
+    }
+}

@@ -1,0 +1,159 @@
+//! What the words ask for.
+ghost use Rattle.std.specs.Prelude.{◌≡◌, ◌⊎◌, ◌<◌, ◌^◌, ◌∷◌, IfOk, IfSome, codes, map, option_map};
+ghost use Rattle.std.specs.Borrow.{Bor};
+ghost use Rattle.clap.specs.Words.{first_of, found_of, rows_of};
+ghost use Rattle.command_line.specs.Requests.{AskFor, AskForNothing, Holds, IsPlain, named};
+ghost use Rattle.command_line.specs.Inner.Reading.{GivesNumber, GivesOptions, HoldsNone};
+ghost use Rattle.command_line.specs.declared.request.Request.{Request};
+
+use crate::colregs::colregs;
+use crate::mode::{Mode, mode_named, mode_values};
+use crate::number::number_in;
+use clap::ArgMatches;
+use clap::error::ErrorKind;
+use outside::{Memory, Word};
+use std::alloc::{AllocError, Global};
+
+/// The options, each of which counts in the modes that use it.
+#[derive(Clone, Copy, Debug, PartialEq, Eq)]
+pub struct Options {
+    /// The start of the window in place of the scenario's, in seconds since the Unix epoch, 0 to 9999999999.
+    pub start: Option<u64>,
+    /// The length of the window in place of the scenario's, in ticks, 1 to 20000.
+    pub ticks: Option<u32>,
+    /// The seed of a drill's log, 0 to 999999.
+    pub seed: u32,
+}
+
+/// What is asked for: a mode, with the scenario of a name.
+#[derive(Debug, Drop)]
+pub struct Request {
+    /// What to do.
+    pub mode: Mode,
+    /// The name of the scenario, which may be empty.
+    pub name: Word,
+    /// The options.
+    pub options: Options,
+}
+
+/// Why words ask for nothing.
+#[derive(Clone, Copy, Debug, PartialEq, Eq)]
+pub enum WordsFault {
+    /// They are no command line.
+    Usage,
+    /// There was no memory to read them.
+    Memory,
+}
+
+/// The text of an argument, where it has one.
+fn text_given<'a>(matches: &ArgMatches<'a>, name: &str) -> Option<&'a str>
+    ensures { option_map (λ text. text.now) result ≡ first_of name.now (rows_of (found_of matches.now)) }
+{
+    matches.get_str(name)
+}
+
+/// The number of an option, where it is given.
+fn number_given(
+    matches: &ArgMatches<'_>,
+    name: &str,
+    least: u64,
+    most: u64,
+) -> Result<Option<u64>, WordsFault>
+    ensures { GivesNumber (rows_of (found_of matches.now)) name.now least most result }
+{
+    match text_given(matches, name) {
+        Some(text) => match number_in(text, least, most) {
+            Some(number) => Ok(Some(number)),
+            None => Err(WordsFault::Usage),
+        },
+        None => Ok(None),
+    }
+}
+
+/// The same number, in 32 bits.
+fn narrow(number: Option<u64>) -> Option<u32>
+    requires { IfSome number (λ n. n < 2 ^ 32) }
+    ensures { result ≡ number }
+{
+    match number {
+        Some(number) => Some(number as u32),
+        None => None,
+    }
+}
+
+/// The options that the matches hold.
+fn options_in(matches: &ArgMatches<'_>) -> Result<Options, WordsFault>
+    ensures { GivesOptions (rows_of (found_of matches.now)) result }
+{
+    let start = number_given(matches, "start", 0, 9_999_999_999)?;
+    let ticks = narrow(number_given(matches, "ticks", 1, 20_000)?);
+    match number_given(matches, "seed", 0, 999_999)? {
+        Some(seed) => Ok(Options {
+            start,
+            ticks,
+            seed: seed as u32,
+        }),
+        None => Err(WordsFault::Usage),
+    }
+}
+
+/// The request that the matches hold.
+fn request_in(alloc: Global, matches: &ArgMatches<'_>) -> Result<Request, WordsFault>
+    ensures held { IfOk result (Holds (rows_of (found_of matches.now))) }
+    ensures unheld { result ≡ Err WordsFault.Usage → HoldsNone (rows_of (found_of matches.now)) }
+{
+    let Some(mode) = text_given(matches, "mode") else {
+        return Err(WordsFault::Usage);
+    };
+    let Some(mode) = mode_named(mode) else {
+        return Err(WordsFault::Usage);
+    };
+    let Some(name) = text_given(matches, "scenario") else {
+        return Err(WordsFault::Usage);
+    };
+    let options = options_in(matches)?;
+    match Word::new(alloc, name) {
+        Ok(name) => Ok(Request {
+            mode,
+            name,
+            options,
+        }),
+        Err(Memory) => Err(WordsFault::Memory),
+    }
+}
+
+/// The words behind the program's name, which `clap` reads too.
+fn named_words<'a>(alloc: Global, words: &'a [Word]) -> Result<Vec<&'a str>, AllocError>
+    ensures { IfOk result (λ texts. map (λ text. text.now) texts.items ≡ named words.entry.now) }
+{
+    let mut texts = Vec::new(alloc);
+    texts.push("colregs")?;
+    for word in words {
+        texts.push(word.text())?;
+    }
+    Ok(texts)
+}
+
+/// What the words behind the program's name ask for, as `clap` reads them by the command `colregs`: a mode and the name of a
+/// scenario, and options anywhere. Numbers are decimal digits without sign or leading zero.
+pub fn request_of(alloc: Global, words: &[Word]) -> Result<Request, WordsFault>
+    ensures asked { IfOk result (AskFor words.now) }
+    ensures refused { result ≡ Err WordsFault.Usage → AskForNothing words.now }
+    ensures accepted { (request : Request) → AskFor words.now request
+        → (result ≡ Ok request) ⊎ (result ≡ Err WordsFault.Memory) }
+    ensures plain { (request : Request) → IsPlain words.now request
+        → (result ≡ Ok request) ⊎ (result ≡ Err WordsFault.Memory) }
+{
+    let modes = mode_values();
+    let Ok(command) = colregs(alloc, modes.as_slice()) else {
+        return Err(WordsFault::Memory);
+    };
+    let Ok(texts) = named_words(alloc, words) else {
+        return Err(WordsFault::Memory);
+    };
+    match command.try_get_matches_from(texts.as_slice()) {
+        Ok(matches) => request_in(alloc, &matches),
+        Err(error) if error.kind() == ErrorKind::OutOfMemory => Err(WordsFault::Memory),
+        Err(_) => Err(WordsFault::Usage),
+    }
+}

@@ -1,0 +1,4 @@
+pub mod DrillFacts
+pub mod DrillLog
+pub mod Inner
+pub use Rattle.scenario.specs.ScenarioValues

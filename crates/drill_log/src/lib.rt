@@ -1,0 +1,16 @@
+//! The log of the drill: forty vessels that go straight on about the reference of a scenario, each with a report a minute, so that the
+//! audit can be seen at work without a log of one's own.
+//!
+//! A seed gives where the vessels start and how they go; the same scenario and the same seed give the same bytes. With the reference at
+//! 0 north and 0 east and the seed 1, vessel 200000001 starts at latitude 10547 and longitude 14188 in ten thousandths of a minute and
+//! makes 7.6 knots on course 308.4.
+#![tactic(auto)]
+
+pub mod laws;
+mod log;
+mod numbers;
+#[cfg(test)]
+mod tests;
+mod vessel;
+
+pub use log::drill_log;
