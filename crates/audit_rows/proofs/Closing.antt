@@ -1,5 +1,5 @@
 -- What one more mark does to the latest stretch and to the closed rows.
-use Rattle.std.proofs.Common.{◌≡◌, ℕ, ◌+◌, ◌-◌, ◌<◌, ◌≤◌, List, [], ◌∷◌, ◌++◌, length, sym, ap, subst, ◌∙◌, arith, length-append, ◌⊎◌, inl, inr, Some, None, min}
+use Rattle.std.proofs.Common.{◌≡◌, ℕ, ◌+◌, ◌-◌, ◌^◌, ◌<◌, ◌≤◌, List, [], ◌∷◌, ◌++◌, length, sym, ap, subst, ◌∙◌, arith, length-append, ◌⊎◌, inl, inr, Some, None, min}
 use Rattle.std.specs.Prelude.{Option, MatchOption}
 use Rattle.std.specs.Option.{IfSome}
 use Rattle.std.proofs.Math.Seq.{get_or-append_seam}
@@ -8,16 +8,18 @@ use Rattle.audit_rows.specs.declared.lane.Lane.{Lane}
 use Rattle.audit_rows.specs.declared.mark.Mark.{Mark}
 use Rattle.audit_rows.specs.declared.mark.Mark.TheVariants.{Nothing, Broken, Undecided, Engaged}
 use Rattle.audit_rows.specs.declared.row.Row.{Row}
+use Rattle.audit_rows.specs.declared.stretch.Opened.{Opened}
 use Rattle.audit_rows.specs.declared.stretch.Stretch.{Stretch}
-use Rattle.audit_rows.specs.declared.topic.Topic.{Topic}
 use Rattle.audit_rows.specs.Inner.Closed.{Closes, IsClosedOf}
-use Rattle.audit_rows.specs.Inner.Lanes.{EndsIn, IsLatest, IsWhole, Stands, row_of}
+use Rattle.audit_rows.specs.Inner.Lanes.{AreCountsBefore, EndsIn, IsLatest, IsWhole, Stands, ended, row_of, with_stretch}
 use Rattle.audit_rows.specs.Inner.Sorts.{join, sort_of}
 use Rattle.audit_rows.specs.Order.{last_of}
 use Rattle.audit_rows.specs.Rows.{IsRowOf, Tells, TellsOf}
-use Rattle.audit_rows.specs.Stretches.{HasKindAndLeast, distance_of, kind_of, mark_at}
+use Rattle.audit_rows.specs.MarkCounts.{AreCounts}
+use Rattle.audit_rows.specs.Stretches.{HasKindAndLeast, IsEngaged, distance_of, kind_of, mark_at}
 use Rattle.audit_rows.specs.Tracks.{Track, longer, next_step}
-use Rattle.audit_rows.proofs.Sorts.{told_sort, to_sort, from_sort, sort_join, is_told, told_by, nothing_told, is_nothing}
+use Rattle.audit_rows.proofs.MarkCounting.{counts_after, counts_first, counts_none, counts_same, counts_turned}
+use Rattle.audit_rows.proofs.Sorts.{join_still, told_sort, to_sort, from_sort, sort_join, is_told, told_by, nothing_told, is_nothing}
 use Rattle.audit_rows.proofs.Stretches.{closed_front, closed_further, mark_front, measures_alike, tells_front}
 
 mark_last : (xs : List Mark) (m : Mark) → mark_at (xs ++ m ∷ []) (length xs) ≡ m
@@ -230,7 +232,7 @@ now_closed track mark row (from, to, t) e other =
       omega arith,
     )
 
-stays : (track : Track) (mark : Mark) → ((row : Row) → IsRowOf track row → last_of row + 1 ≡ next_step track → (TellsOf row mark → ⊥) → ⊥)
+pub stays : (track : Track) (mark : Mark) → ((row : Row) → IsRowOf track row → last_of row + 1 ≡ next_step track → (TellsOf row mark → ⊥) → ⊥)
     → Closes track mark None
 stays track mark none = record {
   rows = λ row. (
@@ -282,48 +284,78 @@ end_closes track stretch h =
 
 -- ---- the lane
 
-pub latest_of : (lane : Lane) (track : Track) (stretch : Stretch) → Stands lane track → lane.latest ≡ Some stretch → IsLatest track stretch
-latest_of lane track stretch h e = subst (λ (o : Option Stretch). MatchOption o (track.marks ≡ []) (IsLatest track)) e h.latest
+pub latest_of : (lane : Lane) (track : Track) (opened : Opened) → Stands lane track → lane.latest ≡ Some opened → IsLatest track (ended opened (next_step track))
+latest_of lane track opened h e = subst (λ (o : Option Opened). MatchOption o (track.marks ≡ []) (λ (opened : Opened). IsLatest track (ended opened (next_step track)))) e h.latest
 
-none_yet : (lane : Lane) (track : Track) → Stands lane track → lane.latest ≡ None → track.marks ≡ []
-none_yet lane track h e = subst (λ (o : Option Stretch). MatchOption o (track.marks ≡ []) (IsLatest track)) e h.latest
+pub none_yet : (lane : Lane) (track : Track) → Stands lane track → lane.latest ≡ None → track.marks ≡ []
+none_yet lane track h e = subst (λ (o : Option Opened). MatchOption o (track.marks ≡ []) (λ (opened : Opened). IsLatest track (ended opened (next_step track)))) e h.latest
 
-pub stands_same : (lane : Lane) (track : Track) (mark : Mark) (stretch : Stretch) (step : ℕ) → Stands lane track → lane.latest ≡ Some stretch → step ≡ next_step track → sort_of stretch.mark ≡ sort_of mark
-    → Stands (record { topic = lane.topic; latest = Some (record { first = stretch.first; last = step; mark = join stretch.mark mark }) }) (longer track mark)
-stands_same lane track mark stretch step h e next same =
-    let l = latest_of lane track stretch h e in
+counts_before : (lane : Lane) (track : Track) (o : Option Opened) → Stands lane track → lane.latest ≡ o → AreCountsBefore lane.counts o (next_step track) track.marks
+counts_before lane track o h e = subst (λ (o : Option Opened). AreCountsBefore lane.counts o (next_step track) track.marks) e h.counts
+
+pub stands_same : (lane : Lane) (track : Track) (mark : Mark) (opened : Opened) → Stands lane track → lane.latest ≡ Some opened → sort_of opened.mark ≡ sort_of mark
+    → Stands (record { topic = lane.topic; latest = Some (record { first = opened.first; mark = join opened.mark mark }); counts = lane.counts }) (longer track mark)
+stands_same lane track mark opened h e same =
+    let l = latest_of lane track opened h e in
     let n = length_more track.marks mark in
+    let first = l.first in
+    let within = l.ends.within in
+    let next : next_step (longer track mark) ≡ next_step track + 1 = omega arith in
     record {
       topic = h.topic;
-      latest = record { from = l.from; first = l.first; last = omega arith; ends = same_sort_ends track.marks mark l.from stretch.mark l.ends same };
+      latest = record { from = l.from; first = l.first; last = omega arith; ends = same_sort_ends track.marks mark l.from opened.mark l.ends same };
+      counts = rw next (counts_same lane.counts opened mark (next_step track) track.marks (omega arith) same (counts_before lane track (Some opened) h e));
     }
 
-pub stands_other : (lane : Lane) (track : Track) (mark : Mark) (stretch : Stretch) (step : ℕ) → Stands lane track → lane.latest ≡ Some stretch → step ≡ next_step track → (sort_of stretch.mark ≡ sort_of mark → ⊥)
-    → Stands (record { topic = lane.topic; latest = Some (record { first = step; last = step; mark = mark }) }) (longer track mark)
-stands_other lane track mark stretch step h e next other =
-    let l = latest_of lane track stretch h e in
+-- A mark of the sort of the latest stretch leaves the lane as it is, unless it tells of an engagement.
+pub stands_still : (lane : Lane) (track : Track) (mark : Mark) (opened : Opened) → Stands lane track → lane.latest ≡ Some opened → sort_of opened.mark ≡ sort_of mark → ¬ IsEngaged mark
+    → Stands lane (longer track mark)
+stands_still lane track mark opened h e same other =
+    let joined = join_still opened.mark mark same other in
+    let there : Some (record { first = opened.first; mark = join opened.mark mark }) ≡ lane.latest = ap (λ (m : Mark). Some (record { first = opened.first; mark = m })) joined ∙ sym e in
+    subst (λ (o : Option Opened). Stands (record { topic = lane.topic; latest = o; counts = lane.counts }) (longer track mark)) there (stands_same lane track mark opened h e same)
+
+pub stands_other : (lane : Lane) (track : Track) (mark : Mark) (opened : Opened) (step : ℕ) → step < 2 ^ 32 → Stands lane track → lane.latest ≡ Some opened → step ≡ next_step track
+    → (sort_of opened.mark ≡ sort_of mark → ⊥)
+    → Stands (record { topic = lane.topic; latest = Some (record { first = step; mark = mark }); counts = with_stretch lane.counts opened step }) (longer track mark)
+stands_other lane track mark opened step small h e next other =
+    let l = latest_of lane track opened h e in
     let n = length_more track.marks mark in
     let within = l.ends.within in
+    let then : next_step (longer track mark) ≡ step + 1 = omega arith in
     record {
       topic = h.topic;
       latest = record { from = length track.marks; first = next; last = omega arith; ends = other_sort_ends track.marks mark (λ k e same. other (sym (l.ends.each k (omega arith) (omega arith)) ∙ same)) };
+      counts = rw then (counts_turned lane.counts opened mark step track.marks small (omega arith) (rw next (counts_before lane track (Some opened) h e)));
     }
 
 pub stands_first : (lane : Lane) (track : Track) (mark : Mark) (step : ℕ) → Stands lane track → lane.latest ≡ None → step ≡ next_step track
-    → Stands (record { topic = lane.topic; latest = Some (record { first = step; last = step; mark = mark }) }) (longer track mark)
+    → Stands (record { topic = lane.topic; latest = Some (record { first = step; mark = mark }); counts = lane.counts }) (longer track mark)
 stands_first lane track mark step h e next =
     let empty = ap length (none_yet lane track h e) in
     let n = length_more track.marks mark in
+    let then : next_step (longer track mark) ≡ step + 1 = omega arith in
     record {
       topic = h.topic;
       latest = record { from = length track.marks; first = next; last = omega arith; ends = other_sort_ends track.marks mark (λ k e same. absurd (omega arith)) };
+      counts = rw then (counts_first lane.counts mark step track.marks (rw next (counts_before lane track None h e)));
     }
 
-pub lane_closes : (lane : Lane) (track : Track) (mark : Mark) (stretch : Stretch) → Stands lane track → lane.latest ≡ Some stretch → (sort_of stretch.mark ≡ sort_of mark → ⊥) → Closes track mark (row_of lane.topic stretch)
-lane_closes lane track mark stretch h e other = subst (λ (t : Topic). Closes track mark (row_of t stretch)) (sym h.topic) (other_sort_closes track mark stretch (latest_of lane track stretch h e) other)
+pub lane_closes : (lane : Lane) (track : Track) (mark : Mark) (opened : Opened) (step : ℕ) → Stands lane track → lane.latest ≡ Some opened → step ≡ next_step track
+    → (sort_of opened.mark ≡ sort_of mark → ⊥) → Closes track mark (row_of lane.topic (ended opened step))
+lane_closes lane track mark opened step h e next other = rw (h.topic, next) (other_sort_closes track mark (ended opened (next_step track)) (latest_of lane track opened h e) other)
 
-pub lane_end_closes : (lane : Lane) (track : Track) (stretch : Stretch) → Stands lane track → lane.latest ≡ Some stretch → Closes track Nothing (row_of lane.topic stretch)
-lane_end_closes lane track stretch h e = subst (λ (t : Topic). Closes track Nothing (row_of t stretch)) (sym h.topic) (end_closes track stretch (latest_of lane track stretch h e))
+pub lane_end_closes : (lane : Lane) (track : Track) (opened : Opened) (step : ℕ) → Stands lane track → lane.latest ≡ Some opened → step ≡ next_step track
+    → Closes track Nothing (row_of lane.topic (ended opened step))
+lane_end_closes lane track opened step h e next = rw (h.topic, next) (end_closes track (ended opened (next_step track)) (latest_of lane track opened h e))
 
 pub lane_first_closes : (lane : Lane) (track : Track) (mark : Mark) → Stands lane track → lane.latest ≡ None → Closes track mark None
 lane_first_closes lane track mark h e = first_closes track mark (none_yet lane track h e)
+
+-- the counts of all marks
+pub lane_counts : (lane : Lane) (track : Track) (opened : Opened) (step : ℕ) → step < 2 ^ 32 → Stands lane track → lane.latest ≡ Some opened → step ≡ next_step track
+    → AreCounts (with_stretch lane.counts opened step) track.marks
+lane_counts lane track opened step small h e next = counts_after lane.counts opened step track.marks small (omega arith) (rw next (counts_before lane track (Some opened) h e))
+
+pub lane_counts_none : (lane : Lane) (track : Track) → Stands lane track → lane.latest ≡ None → AreCounts lane.counts track.marks
+lane_counts_none lane track h e = counts_none lane.counts (next_step track) track.marks (counts_before lane track None h e)

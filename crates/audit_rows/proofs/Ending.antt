@@ -15,7 +15,7 @@ use Rattle.audit_rows.specs.declared.row.Row.{Row}
 use Rattle.audit_rows.specs.Inner.Closed.{Closes, IsClosed, IsClosedOf}
 use Rattle.audit_rows.specs.Order.{last_of, place_cmp, place_of}
 use Rattle.audit_rows.specs.Rows.{AreRows, IsRow, IsRowOf}
-use Rattle.audit_rows.specs.Tracks.{Track, longer, marked, next_step}
+use Rattle.audit_rows.specs.Tracks.{EndAt, Track, longer, marked, next_step}
 use Rattle.audit_rows.specs.Inner.Queues.{Holds}
 use Rattle.audit_rows.proofs.Sorts.{tells_of_something}
 use Rattle.audit_rows.proofs.Stretches.{closed_further}
@@ -75,6 +75,11 @@ rows_of_ended entries tracks n bound given le h = record {
 
 -- ---- one track after the other
 
+pub end_there : (tracks : List Track) (i : ℕ) (track : Track) (end : ℕ) → EndAt end tracks → slice_get tracks i ≡ Some track → end ≡ next_step track
+end_there [] i track end h at = absurd (cc)
+end_there (t ∷ ts) zero track end h at = let same : t ≡ track = cc in subst (λ (z : Track). end ≡ next_step z) same h.0
+end_there (t ∷ ts) (suc i) track end h at = end_there ts i track end h.1 at
+
 stands_there : (lanes : List Lane) (tracks : List Track) (i : ℕ) (d : Lane) → AllZip Stands lanes tracks → i < length lanes → StandsAt tracks i (get_or lanes i d)
 stands_there [] tracks i d z lt = absurd (omega arith)
 stands_there (l ∷ ls) [] i d z lt = absurd z
@@ -88,7 +93,7 @@ as_many (l ∷ ls) [] z = absurd z
 as_many (l ∷ ls) (t ∷ ts) z = let n = as_many ls ts z.1 in omega arith
 
 module _ (lanes : List Lane) (tracks : List Track) (n bound : ℕ) (given : List Row) (d : Lane) (closed : Option Row) (old : List (Place × Row)) (z : AllZip Stands lanes tracks) (lt : n < length lanes)
-    (closes : (track : Track) → Stands (get_or lanes n d) track → Closes track Nothing closed) (h : Holds old (ended n tracks) bound given) where
+    (end : ℕ) (ends : EndAt end tracks) (closes : (track : Track) → Stands (get_or lanes n d) track → end ≡ next_step track → Closes track Nothing closed) (h : Holds old (ended n tracks) bound given) where
   there : StandsAt tracks n (get_or lanes n d)
   there = stands_there lanes tracks n d z lt
 
@@ -96,7 +101,7 @@ module _ (lanes : List Lane) (tracks : List Track) (n bound : ℕ) (given : List
   further es g = rw add-one (subst (λ (ts : List Track). Holds es ts bound given) (ended_more n tracks) g)
 
   pub end_quiet : closed ≡ None → Holds old (ended (n + 1) tracks) bound given
-  end_quiet none = further old (quiet old (ended n tracks) bound given n Nothing there.track closed h (ended_at n tracks ∙ there.at) (closes there.track there.stands) none)
+  end_quiet none = further old (quiet old (ended n tracks) bound given n Nothing there.track closed h (ended_at n tracks ∙ there.at) (closes there.track there.stands (end_there tracks n there.track end ends there.at)) none)
 
   pub end_closing : (row : Row) → closed ≡ Some row → IsStrictlySortedBy place_cmp (keys_of (inserted (place_of row) row old)) → Holds (inserted (place_of row) row old) (ended (n + 1) tracks) bound given
-  end_closing row is ordered = further (inserted (place_of row) row old) (closing old (ended n tracks) bound given n Nothing there.track closed h (ended_at n tracks ∙ there.at) (closes there.track there.stands) row is ordered)
+  end_closing row is ordered = further (inserted (place_of row) row old) (closing old (ended n tracks) bound given n Nothing there.track closed h (ended_at n tracks ∙ there.at) (closes there.track there.stands (end_there tracks n there.track end ends there.at)) row is ordered)

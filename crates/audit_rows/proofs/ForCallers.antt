@@ -15,6 +15,8 @@ use Rattle.audit_rows.proofs.Stretches.{closed_front, closed_further}
 -- the laws, and that rows below a settled bound are those of whatever the tracks become
 pub use Rattle.audit_rows.proofs.Fronts.{one_list, front_of_all, still_below}
 pub use Rattle.audit_rows.proofs.Tracks.{settled_by_reach}
+-- a mark that repeats the last one
+pub use Rattle.audit_rows.proofs.Repeats.{repeated}
 
 -- ---- the rows of tracks are those of each of them
 

@@ -3,6 +3,7 @@ mod StrictOrder
 mod Places
 mod Stretches
 mod Sorts
+mod MarkCounting
 mod Closing
 mod Tracks
 mod Pending
@@ -10,4 +11,5 @@ mod Popping
 mod Queues
 mod Ending
 mod Fronts
+mod Repeats
 mod Results

@@ -125,7 +125,7 @@ module _ (old : List (Place × Row)) (tracks : List Track) (bound : ℕ) (given 
 
 -- ---- the lanes
 
-next_of : (o : Option Track) (track : Track) (step : ℕ) → o ≡ Some track → IfSome o (λ t. step ≡ next_step t) → step ≡ next_step track
+pub next_of : (o : Option Track) (track : Track) (step : ℕ) → o ≡ Some track → IfSome o (λ t. step ≡ next_step t) → step ≡ next_step track
 next_of o track step e h = subst (λ (p : Option Track). IfSome p (λ t. step ≡ next_step t)) e h
 
 pub lanes_marked : (lanes : List Lane) (tracks : List Track) (i : ℕ) (lane after : Lane) (step : ℕ) (mark : Mark) → AllZip Stands lanes tracks → i < length lanes → get_or lanes i lane ≡ lane

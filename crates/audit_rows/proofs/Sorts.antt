@@ -13,7 +13,7 @@ use Rattle.audit_rows.specs.Inner.Lanes.{IsWhole, row_of_mark}
 use Rattle.audit_rows.specs.Inner.Sorts.{Sort, Nothing, Broken, Undecided, Engaged, join, sort_of}
 use Rattle.audit_rows.specs.Order.{first_of, last_of, topic_of}
 use Rattle.audit_rows.specs.Rows.{Measures, TellsOf}
-use Rattle.audit_rows.specs.Stretches.{HasKindAndLeast}
+use Rattle.audit_rows.specs.Stretches.{HasKindAndLeast, IsEngaged}
 
 -- the sort of marks that a row tells of
 abbrev pub told_sort : Row → Sort
@@ -56,6 +56,16 @@ sort_join (mark.Engaged kind least) mark.Nothing = refl
 sort_join (mark.Engaged kind least) mark.Broken = refl
 sort_join (mark.Engaged kind least) mark.Undecided = refl
 sort_join (mark.Engaged kind least) (mark.Engaged other distance) = refl
+
+-- A mark of the same sort leaves a mark as it is, unless it tells of an engagement.
+pub join_still : (a b : Mark) → sort_of a ≡ sort_of b → (IsEngaged b → ⊥) → join a b ≡ a
+join_still mark.Nothing b e other = refl
+join_still mark.Broken b e other = refl
+join_still mark.Undecided b e other = refl
+join_still (mark.Engaged kind least) mark.Nothing e other = refl
+join_still (mark.Engaged kind least) mark.Broken e other = refl
+join_still (mark.Engaged kind least) mark.Undecided e other = refl
+join_still (mark.Engaged kind least) (mark.Engaged class distance) e other = absurd (other tt)
 
 -- ---- one kind and one least distance
 

@@ -1,5 +1,5 @@
 -- What one more mark of one of many tracks does.
-use Rattle.std.proofs.Common.{◌≡◌, ℕ, zero, suc, ◌+◌, ◌-◌, ◌<◌, ◌≤◌, List, [], ◌∷◌, ◌++◌, length, get_or, refl, ap, sym, subst, ◌∙◌, arith, length-append, ◌⊎◌, inl, inr, Some}
+use Rattle.std.proofs.Common.{◌≡◌, ℕ, zero, suc, ◌+◌, ◌-◌, ◌<◌, ◌≤◌, List, [], ◌∷◌, ◌++◌, length, get_or, refl, ap, sym, subst, ◌∙◌, arith, length-append, ◌⊎◌, inl, inr, Some, None}
 use Rattle.std.specs.Prelude.{Option}
 use Rattle.std.proofs.Math.ListN.{set}
 use Rattle.std.specs.List.{AllByRecursion, AllZip, slice_get}
@@ -61,6 +61,11 @@ stands_at [] tracks i lane z lt e = absurd (omega arith)
 stands_at (l ∷ ls) [] i lane z lt e = absurd z
 stands_at (l ∷ ls) (t ∷ ts) zero lane z lt e = record { track = t; at = refl; stands = subst (λ (z : Lane). Stands z t) e z.0 }
 stands_at (l ∷ ls) (t ∷ ts) (suc i) lane z lt e = let r = stands_at ls ts i lane z.1 (omega arith) e in record { track = r.track; at = r.at; stands = r.stands }
+
+pub none_there : (tracks : List Track) (i : ℕ) → length tracks ≤ i → slice_get tracks i ≡ None
+none_there [] i le = refl
+none_there (t ∷ ts) zero le = absurd (omega arith)
+none_there (t ∷ ts) (suc i) le = none_there ts i (omega arith)
 
 pub zip_marked : (after : Lane) (mark : Mark) (lanes : List Lane) (tracks : List Track) (i : ℕ) → AllZip Stands lanes tracks
     → ((track : Track) → slice_get tracks i ≡ Some track → Stands after (longer track mark)) → AllZip Stands (set lanes i after) (marked tracks i mark)

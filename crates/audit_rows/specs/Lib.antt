@@ -1,5 +1,6 @@
 pub mod Tracks
 pub mod Stretches
 pub mod Order
+pub mod MarkCounts
 pub mod Rows
 pub mod Inner

@@ -1,9 +1,10 @@
 -- Tracks of marks, and how they grow.
-use Rattle.std.specs.Prelude.{ℕ, zero, suc, ◌≡◌, ◌+◌, ◌-◌, ◌≤◌, List, [], ◌∷◌, ◌++◌, length}
+use Rattle.std.specs.Prelude.{ℕ, zero, suc, ◌≡◌, ◌+◌, ◌-◌, ◌<◌, ◌≤◌, List, [], ◌∷◌, ◌++◌, length}
 use Rattle.std.specs.List.{AllByRecursion, slice_get}
 use Rattle.std.specs.Option.{IfSome}
 use Rattle.audit_rows.specs.declared.mark.Mark.{Mark}
 use Rattle.audit_rows.specs.declared.topic.Topic.{Topic}
+use Rattle.audit_rows.specs.Stretches.{IsEngaged, mark_at}
 
 -- the marks of one topic, one for each step from the first on
 pub record Track : Type 0 where
@@ -34,9 +35,19 @@ marked [] index mark = []
 marked (track ∷ tracks) zero mark = longer track mark ∷ tracks
 marked (track ∷ tracks) (suc index) mark = track ∷ marked tracks index mark
 
+-- The mark is that at the end of the track, and tells of no engagement.
+pub record Repeats (track : Track) (mark : Mark) : Type 0 where
+  pub some : 0 < length track.marks
+  pub same : mark_at track.marks (length track.marks - 1) ≡ mark
+  pub quiet : ¬ IsEngaged mark
+
 -- The next mark of the track at an index, if there is one, is for the step.
 abbrev pub IsNextAt : List Track → ℕ → ℕ → Type 0
 IsNextAt tracks index step = IfSome (slice_get tracks index) (λ track. step ≡ next_step track)
+
+-- The next mark of each track would be for this step.
+abbrev pub EndAt : ℕ → List Track → Type 0
+EndAt end tracks = AllByRecursion (λ track. end ≡ next_step track) tracks
 
 -- ---- what no further mark changes
 

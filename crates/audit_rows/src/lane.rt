@@ -2,19 +2,23 @@
 ghost use Rattle.std.specs.Prelude.{◌≡◌, ℕ, Some};
 ghost use Rattle.audit_rows.specs.declared.mark.Mark.TheVariants.{Nothing};
 ghost use Rattle.audit_rows.specs.Inner.Closed.{Closes};
-ghost use Rattle.audit_rows.specs.Inner.Lanes.{Stands};
+ghost use Rattle.audit_rows.specs.Inner.Lanes.{Stands, with_stretch};
+ghost use Rattle.audit_rows.specs.MarkCounts.{AreCounts};
 ghost use Rattle.audit_rows.specs.Tracks.{Track, begun, longer, next_step};
 
+use crate::counts::MarkCounts;
 use crate::mark::Mark;
 use crate::row::Row;
-use crate::stretch::Stretch;
+use crate::stretch::Opened;
 use crate::topic::Topic;
 
-/// Takes the marks of one track, one after the other. It keeps the stretch that they end in, whatever its sort.
+/// Takes the marks of one track, one after the other. It keeps the stretch that they end in, whatever its sort, and the counts of
+/// the marks before it.
 #[derive(Clone, Copy, Debug)]
 pub(crate) struct Lane {
     topic: Topic,
-    latest: Option<Stretch>,
+    latest: Option<Opened>,
+    counts: MarkCounts,
 }
 
 impl Lane {
@@ -25,6 +29,7 @@ impl Lane {
         Lane {
             topic,
             latest: None,
+            counts: MarkCounts::none(),
         }
     }
 
@@ -33,37 +38,58 @@ impl Lane {
     #[inline(always)]
     pub(crate) fn push(&mut self, step: u32, mark: Mark) -> Option<Row>
         ensures stands { (track : Track) → Stands self.old track → step ≡ next_step track → Stands self.new (longer track mark) }
-        ensures closes { (track : Track) → Stands self.old track → Closes track mark result }
+        ensures closes { (track : Track) → Stands self.old track → step ≡ next_step track → Closes track mark result }
     {
         let Some(stretch) = &mut self.latest else {
             self.turn(step, mark);
             return None;
         };
         if stretch.mark.is_like(mark) {
-            stretch.go_on(step, mark);
+            stretch.go_on(mark);
             return None;
         }
         let ended = *stretch;
+        self.count(ended, step);
         self.turn(step, mark);
-        ended.row(self.topic)
+        ended.ended(step).row(self.topic)
     }
 
     /// Begins a stretch with this mark.
     fn turn(&mut self, step: u32, mark: Mark)
-        ensures { self.new ≡ record self.old { latest = Some (record { first = step; last = step; mark = mark }) } }
+        ensures { self.new ≡ record self.old { latest = Some (record { first = step; mark = mark }) } }
     {
-        self.latest = Some(Stretch {
-            first: step,
-            last: step,
-            mark,
-        });
+        self.latest = Some(Opened { first: step, mark });
     }
 
-    /// The row of the stretch that the track's end ends.
-    pub(crate) fn end(&self) -> Option<Row>
-        ensures { (track : Track) → Stands self.now track → Closes track Nothing result }
+    /// Counts the marks of a stretch that ended before the step.
+    fn count(&mut self, stretch: Opened, step: u32)
+        ensures { self.new ≡ record self.old { counts = with_stretch self.old.counts stretch step } }
+    {
+        self.counts = self.counts.with(stretch.mark, stretch.length(step));
+    }
+
+    /// The row of the stretch that the track's end, before the step, ends.
+    pub(crate) fn end(&self, step: u32) -> Option<Row>
+        ensures { (track : Track) → Stands self.now track → step ≡ next_step track → Closes track Nothing result }
     {
         let stretch = self.latest?;
-        stretch.row(self.topic)
+        stretch.ended(step).row(self.topic)
+    }
+
+    /// What the track's marks are of.
+    pub(crate) fn topic(&self) -> Topic
+        ensures { (track : Track) → Stands self.now track → result ≡ track.topic }
+    {
+        self.topic
+    }
+
+    /// The counts of all marks of the track, whose next one would be for the step.
+    pub(crate) fn counts(&self, step: u32) -> MarkCounts
+        ensures { (track : Track) → Stands self.now track → step ≡ next_step track → AreCounts result track.marks }
+    {
+        match self.latest {
+            None => self.counts,
+            Some(stretch) => self.counts.with(stretch.mark, stretch.length(step)),
+        }
     }
 }

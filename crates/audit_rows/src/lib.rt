@@ -9,6 +9,7 @@
 //! meetings of the steps 0 to 1 and 3 to 3, and then the verdict of the steps 1 to 3. The first is decided by the mark of step 2.
 #![tactic(auto)]
 
+mod counts;
 mod lane;
 pub mod laws;
 mod mark;
@@ -18,6 +19,7 @@ mod row_queue;
 mod stretch;
 mod topic;
 
+pub use counts::MarkCounts;
 pub use mark::Mark;
 pub use row::Row;
 pub use row_queue::RowQueue;

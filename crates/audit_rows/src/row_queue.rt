@@ -1,13 +1,15 @@
 //! Many tracks at once, and their rows in one order.
 ghost use Rattle.std.specs.Prelude.{◌≡◌, ◌≤◌, ◌++◌, ◌∷◌, [], ℕ, List, length, IfOk, OnOk};
-ghost use Rattle.std.specs.List.{AllZip};
+ghost use Rattle.std.specs.List.{AllZip, slice_get};
 ghost use Rattle.std.specs.Map.{values_of};
 ghost use Rattle.audit_rows.specs.declared.row.Row.{Row};
 ghost use Rattle.audit_rows.specs.Inner.Lanes.{Stands};
 ghost use Rattle.audit_rows.specs.Inner.Queues.{ArePlaced, Holds, IsPopped, StandsFor};
+ghost use Rattle.audit_rows.specs.MarkCounts.{IsCountOf};
 ghost use Rattle.audit_rows.specs.Rows.{AreRows, AreRowsBelow};
-ghost use Rattle.audit_rows.specs.Tracks.{AreSettled, IsNew, IsNextAt, Track, begun, marked};
+ghost use Rattle.audit_rows.specs.Tracks.{AreSettled, EndAt, IsNew, IsNextAt, Track, begun, marked};
 
+use crate::counts::MarkCounts;
 use crate::lane::Lane;
 use crate::mark::Mark;
 use crate::place::Place;
@@ -49,12 +51,12 @@ fn pop_all(alloc: Global, pending: &mut BTreeMap<Place, Row>) -> Result<Vec<Row>
 }
 
 /// Adds the rows that the end of all tracks closes.
-fn end_all(lanes: &[Lane], pending: &mut BTreeMap<Place, Row>) -> Result<(), Memory>
-    ensures { OnOk result ((tracks : List Track) (bound : ℕ) (given : List Row) → AllZip Stands lanes.now tracks
+fn end_all(lanes: &[Lane], end: u32, pending: &mut BTreeMap<Place, Row>) -> Result<(), Memory>
+    ensures { OnOk result ((tracks : List Track) (bound : ℕ) (given : List Row) → AllZip Stands lanes.now tracks → EndAt end tracks
         → Holds pending.old.entries tracks bound given → AreRows tracks (given ++ values_of pending.new.entries)) }
 {
     for lane in lanes {
-        if let Some(row) = lane.end() {
+        if let Some(row) = lane.end(end) {
             pending.insert(row.place(), row)?;
         }
     }
@@ -122,12 +124,29 @@ impl RowQueue {
         pop_below(self.alloc, &mut self.pending, bound)
     }
 
-    /// Ends all tracks, and hands out the rows that are left.
-    pub fn finish(mut self) -> Result<Vec<Row>, Memory>
-        ensures { IfOk result (λ rows. (tracks : List Track) (bound : ℕ) (given : List Row) → StandsFor self tracks bound given
-            → AreRows tracks (given ++ rows.items)) }
+    /// How many tracks there are.
+    pub fn track_count(&self) -> usize
+        ensures { (tracks : List Track) (bound : ℕ) (given : List Row) → StandsFor self.now tracks bound given → result ≡ length tracks }
     {
-        end_all(&self.lanes, &mut self.pending)?;
+        self.lanes.len()
+    }
+
+    /// What the marks of the track at the index are of, and how many it has of each sort, where the next mark of each track would be
+    /// for the step. `None` where there is no such track.
+    pub fn counts(&self, index: usize, end: u32) -> Option<(Topic, MarkCounts)>
+        ensures { (tracks : List Track) (bound : ℕ) (given : List Row) → StandsFor self.now tracks bound given → EndAt end tracks
+            → IsCountOf result (slice_get tracks index) }
+    {
+        let lane = self.lanes.get(index)?;
+        Some((lane.topic(), lane.counts(end)))
+    }
+
+    /// Ends all tracks, whose next marks would be for the step, and hands out the rows that are left.
+    pub fn finish(mut self, end: u32) -> Result<Vec<Row>, Memory>
+        ensures { IfOk result (λ rows. (tracks : List Track) (bound : ℕ) (given : List Row) → StandsFor self tracks bound given
+            → EndAt end tracks → AreRows tracks (given ++ rows.items)) }
+    {
+        end_all(&self.lanes, end, &mut self.pending)?;
         pop_all(self.alloc, &mut self.pending)
     }
 }

@@ -1,11 +1,47 @@
 //! A stretch of marks of one sort.
-ghost use Rattle.std.specs.Prelude.{◌≡◌};
-ghost use Rattle.audit_rows.specs.Inner.Lanes.{row_of};
+ghost use Rattle.std.specs.Prelude.{◌≡◌, ◌-◌};
+ghost use Rattle.audit_rows.specs.Inner.Lanes.{ended, row_of};
 ghost use Rattle.audit_rows.specs.Inner.Sorts.{join};
 
 use crate::mark::Mark;
 use crate::row::Row;
 use crate::topic::Topic;
+
+/// A stretch that goes on, of marks of one sort, which are joined to one. Where it will end is not kept, so that a further mark of
+/// its sort, unless it tells of an engagement, leaves it as it is.
+#[derive(Clone, Copy, Debug)]
+pub(crate) struct Opened {
+    pub(crate) first: u32,
+    pub(crate) mark: Mark,
+}
+
+impl Opened {
+    /// Takes one mark more of its sort.
+    #[inline(always)]
+    pub(crate) fn go_on(&mut self, mark: Mark)
+        ensures { self.new ≡ record self.old { mark = join self.old.mark mark } }
+    {
+        self.mark = self.mark.join(mark);
+    }
+
+    /// The stretch, where the next mark, which is not of it, is for the step.
+    pub(crate) fn ended(self, step: u32) -> Stretch
+        ensures { result ≡ ended self step }
+    {
+        Stretch {
+            first: self.first,
+            last: step.saturating_sub(1),
+            mark: self.mark,
+        }
+    }
+
+    /// How many marks it has, where the next mark is for the step.
+    pub(crate) fn length(self, step: u32) -> u32
+        ensures { result ≡ step - self.first }
+    {
+        step.saturating_sub(self.first)
+    }
+}
 
 /// A stretch of marks of one sort, which are joined to one.
 #[derive(Clone, Copy, Debug)]
@@ -16,15 +52,6 @@ pub(crate) struct Stretch {
 }
 
 impl Stretch {
-    /// Takes one mark more of its sort, which is for the step.
-    #[inline(always)]
-    pub(crate) fn go_on(&mut self, step: u32, mark: Mark)
-        ensures { self.new ≡ record self.old { last = step; mark = join self.old.mark mark } }
-    {
-        self.last = step;
-        self.mark = self.mark.join(mark);
-    }
-
     /// Its row, if rows of the topic tell of such a stretch.
     pub(crate) fn row(&self, topic: Topic) -> Option<Row>
         ensures { result ≡ row_of topic self.now }

@@ -62,7 +62,7 @@ fn undecided_to_the_end_of_a_track(rt: HostRuntime) -> Result<(), Fail> {
         index,
         &[Mark::Broken, Mark::Undecided, Mark::Undecided],
     )?;
-    let rows = queue.finish()?;
+    let rows = queue.finish(3)?;
     let all = [verdict(PAIR, 3, false, 0, 0), verdict(PAIR, 3, true, 1, 2)];
     assert_eq!(rt; rows[..], all[..]);
     Ok(())
@@ -80,7 +80,7 @@ fn rows_that_end_together_in_their_order(rt: HostRuntime) -> Result<(), Fail> {
         let index = queue.begin(Topic::Meeting(pair))?;
         give(&mut queue, index, &[engaged(9), engaged(7)])?;
     }
-    let rows = queue.finish()?;
+    let rows = queue.finish(2)?;
     let all = [
         meeting(PAIR, 0, 1, 7),
         meeting(THIRD, 0, 1, 7),
@@ -107,7 +107,7 @@ fn kind_of_the_first_step_and_least_of_all(rt: HostRuntime) -> Result<(), Fail> 
         index,
         &[engaged(50), engaged(30), passing, Mark::Nothing],
     )?;
-    let rows = queue.finish()?;
+    let rows = queue.finish(4)?;
     assert_eq!(rt; rows[..], [meeting(PAIR, 0, 2, 30)][..]);
     Ok(())
 }
@@ -125,14 +125,42 @@ fn a_row_comes_at_its_bound(rt: HostRuntime) -> Result<(), Fail> {
     give(
         &mut queue,
         verdicts,
-        &[Mark::Broken, Mark::Undecided, Mark::Nothing],
+        &[Mark::Broken, Mark::Undecided, Mark::Nothing, Mark::Nothing],
     )?;
     let early = queue.rows_below(1)?;
     assert_eq!(rt; early[..], [verdict(PAIR, 0, false, 0, 0)][..]);
     let further = queue.rows_below(2)?;
     let both = [meeting(PAIR, 0, 1, 5), verdict(PAIR, 0, true, 1, 1)];
     assert_eq!(rt; further[..], both[..]);
-    let rest = queue.finish()?;
+    let rest = queue.finish(4)?;
     assert!(rt; rest.is_empty());
+    Ok(())
+}
+
+#[test]
+fn counts_of_a_track(rt: HostRuntime) -> Result<(), Fail> {
+    let mut queue = RowQueue::new(rt.alloc());
+    let topic = Topic::Verdict(PAIR, 0);
+    let index = queue.begin(topic)?;
+    give(
+        &mut queue,
+        index,
+        &[
+            Mark::Broken,
+            Mark::Nothing,
+            Mark::Undecided,
+            Mark::Broken,
+            Mark::Broken,
+            Mark::Undecided,
+        ],
+    )?;
+    let counts = MarkCounts {
+        all: 6,
+        nothing: 1,
+        broken: 3,
+        undecided: 2,
+    };
+    assert_eq!(rt; queue.counts(index, 6), Some((topic, counts)));
+    assert_eq!(rt; queue.track_count(), 1);
     Ok(())
 }

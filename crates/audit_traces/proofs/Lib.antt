@@ -5,6 +5,7 @@ mod Begun
 mod RowAnswers
 mod TraceTracks
 mod TraceKeeping
+mod Resting
 mod SeenVessels
 mod AddedPairs
 mod FoundPairs

@@ -1,6 +1,6 @@
 -- The answers to one row, one after the other, and the tracks that get their marks.
 use Rattle.std.proofs.Common.{◌≡◌, ℕ, ◌+◌, List, [], ◌∷◌, ◌++◌, length, append_assoc, refl, sym, ap, subst, ◌∙◌, arith, length-append, Result, Ok, Err}
-use Rattle.std.specs.Prelude.{OnOk, None, Some, true}
+use Rattle.std.specs.Prelude.{OnOk, None, Some}
 use Rattle.mtl_formulas.specs.declared.verdict.Verdict.{Verdict}
 use Rattle.mtl_monitor.specs.declared.program.Program.{Program}
 use Rattle.mtl_monitor.specs.declared.trace_state.TraceState.{TraceState}
@@ -9,13 +9,9 @@ use Rattle.audit_rows.specs.declared.row.Row.{Row}
 use Rattle.audit_rows.proofs.ForCallers.{marked_there, next_there}
 use Rattle.audit_traces.specs.ValueMarks.{mark_of}
 use Rattle.audit_traces.specs.Inner.RowAnswers.{Answer, AreAnswers, AwaitAll, Awaits, IsAnswer, MarksRule, MarksRules, answered, answered_all}
-use Rattle.audit_traces.specs.Tallies.{IsRuleAt, Keeps, is_of_rule}
+use Rattle.audit_traces.specs.Tallies.{Keeps}
 use Rattle.audit_traces.specs.declared.marks.Marks.{Marks}
 use Rattle.audit_traces.specs.declared.trace.AuditTrace.{AuditTrace}
-
-pub rule_there : (rule : ℕ) (before after : List Track) (track : Track) → is_of_rule rule track.topic ≡ true → IsRuleAt rule (before ++ track ∷ after) (length before)
-rule_there rule [] after track e = e
-rule_there rule (t ∷ ts) after track e = rule_there rule ts after track e
 
 -- What follows from what stands where a call ended well stands there too.
 pub on_ok : {A E P Q : Type 0} (r : Result A E) → (P → Q) → OnOk r P → OnOk r Q
@@ -25,21 +21,20 @@ on_ok (Err e) f p = tt
 -- ---- one rule
 
 -- what marking the track with a value's mark says
-abbrev pub MarkedBy : Marks → Marks → ℕ → ℕ → ℕ → Verdict → Type 0
-MarkedBy old new index rule step value = (rules bound : ℕ) (tracks : List Track) (given : List Row) → Keeps old rules tracks bound given
-    → IsNextAt tracks index step → IsRuleAt rule tracks index → Keeps new rules (marked tracks index (mark_of value)) bound given
+abbrev pub MarkedBy : Marks → Marks → ℕ → ℕ → Verdict → Type 0
+MarkedBy old new index step value = (rules bound : ℕ) (tracks : List Track) (given : List Row) → Keeps old rules tracks bound given
+    → IsNextAt tracks index step → Keeps new rules (marked tracks index (mark_of value)) bound given
 
 module _ (program : Program) (trace : AuditTrace) (index rule : ℕ) (old new : Marks) where
   pub with_mark : (position : ℕ) (value : Verdict) → IsAnswer program trace.values rule (Some (position, value))
-      → MarkedBy old new index rule (trace.start + position) value → MarksRule program trace index rule old new
+      → MarkedBy old new index (trace.start + position) value → MarksRule program trace index rule old new
   with_mark position value is by = record {
     answer = Some (position, value);
     is = is;
     keeps = λ rules bound before track after given e awaits keeps.
         let there : Keeps new rules (marked (before ++ track ∷ after) index (mark_of value)) bound given =
         by rules bound (before ++ track ∷ after) given keeps
-        (subst (λ (i : ℕ). IsNextAt (before ++ track ∷ after) i (trace.start + position)) (sym e) (next_there before after track (trace.start + position) awaits.0))
-        (subst (λ (i : ℕ). IsRuleAt rule (before ++ track ∷ after) i) (sym e) (rule_there rule before after track awaits.1)) in
+        (subst (λ (i : ℕ). IsNextAt (before ++ track ∷ after) i (trace.start + position)) (sym e) (next_there before after track (trace.start + position) awaits)) in
         subst (λ (tracks : List Track). Keeps new rules tracks bound given)
         (ap (λ (i : ℕ). marked (before ++ track ∷ after) i (mark_of value)) e ∙ marked_there before after track (mark_of value)) there;
   }
@@ -63,40 +58,37 @@ answers_then program values rule (x ∷ xs) answer all one =
     (all.0, answers_then program values (rule + 1) xs answer all.1 (subst (λ (k : ℕ). IsAnswer program values k answer) same one))
 
 -- the tracks of some answers, and then that of one more
-record Last (start rule : ℕ) (answers : List Answer) (answer : Answer) (tracks : List Track) : Type 0 where
+record Last (start : ℕ) (answers : List Answer) (answer : Answer) (tracks : List Track) : Type 0 where
   front : List Track
   track : Track
   is : tracks ≡ front ++ track ∷ []
-  await : AwaitAll start rule answers front
-  awaits : Awaits start (rule + length answers) answer track
+  await : AwaitAll start answers front
+  awaits : Awaits start answer track
   marks : answered_all (answers ++ answer ∷ []) tracks ≡ answered_all answers front ++ answered answer track ∷ []
   many : length (answered_all answers front) ≡ length answers
 
-last_of : (start rule : ℕ) (answers : List Answer) (answer : Answer) (tracks : List Track) → AwaitAll start rule (answers ++ answer ∷ []) tracks
-    → Last start rule answers answer tracks
-last_of start rule [] answer [] h = absurd h
-last_of start rule [] answer (t ∷ u ∷ ts) h = absurd h.1
-last_of start rule [] answer (t ∷ []) h =
-    let same : rule ≡ rule + 0 = omega arith in
-    record {
-      front = [];
-      track = t;
-      is = refl;
-      await = tt;
-      awaits = subst (λ (k : ℕ). Awaits start k answer t) same h.0;
-      marks = refl;
-      many = refl;
-    }
-last_of start rule (x ∷ xs) answer [] h = absurd h
-last_of start rule (x ∷ xs) answer (t ∷ ts) h =
-    let r = last_of start (rule + 1) xs answer ts h.1 in
-    let same : (rule + 1) + length xs ≡ rule + length (x ∷ xs) = omega arith in
+last_of : (start : ℕ) (answers : List Answer) (answer : Answer) (tracks : List Track) → AwaitAll start (answers ++ answer ∷ []) tracks
+    → Last start answers answer tracks
+last_of start [] answer [] h = absurd h
+last_of start [] answer (t ∷ u ∷ ts) h = absurd h.1
+last_of start [] answer (t ∷ []) h = record {
+  front = [];
+  track = t;
+  is = refl;
+  await = tt;
+  awaits = h.0;
+  marks = refl;
+  many = refl;
+}
+last_of start (x ∷ xs) answer [] h = absurd h
+last_of start (x ∷ xs) answer (t ∷ ts) h =
+    let r = last_of start xs answer ts h.1 in
     record {
       front = t ∷ r.front;
       track = r.track;
       is = ap (λ (us : List Track). t ∷ us) r.is;
       await = (h.0, r.await);
-      awaits = subst (λ (k : ℕ). Awaits start k answer r.track) same r.awaits;
+      awaits = r.awaits;
       marks = ap (λ (us : List Track). answered x t ∷ us) r.marks;
       many = let many = r.many in omega arith;
     }
@@ -121,7 +113,7 @@ module _ (program : Program) (trace : AuditTrace) (first : ℕ) where
         are = answers_then program trace.values 0 so_far.answers one.answer so_far.are
             (subst (λ (k : ℕ). IsAnswer program trace.values k one.answer) place one.is);
         keeps = λ rules bound before mine after given e await keeps.
-            let l = last_of trace.start 0 so_far.answers one.answer mine await in
+            let l = last_of trace.start so_far.answers one.answer mine await in
             let done = answered_all so_far.answers l.front in
             let regrouped : before ++ (mine ++ after) ≡ before ++ (l.front ++ l.track ∷ after) =
             ap (λ (ts : List Track). before ++ (ts ++ after)) l.is ∙ ap (λ (ts : List Track). before ++ ts) (append_assoc l.front (l.track ∷ []) after) in
@@ -130,7 +122,7 @@ module _ (program : Program) (trace : AuditTrace) (first : ℕ) where
             (subst (λ (ts : List Track). Keeps old rules ts bound given) regrouped keeps) in
             let there : first + n ≡ length (before ++ done) = (let m = l.many in omega (arith, length-append before done)) in
             let new_kept : Keeps new rules ((before ++ done) ++ answered one.answer l.track ∷ after) bound given =
-            one.keeps rules bound (before ++ done) l.track after given there (subst (λ (k : ℕ). Awaits trace.start k one.answer l.track) (sym place) l.awaits)
+            one.keeps rules bound (before ++ done) l.track after given there l.awaits
             (subst (λ (ts : List Track). Keeps now rules ts bound given) (sym (append_assoc before done (l.track ∷ after))) now_kept) in
             subst (λ (ts : List Track). Keeps new rules ts bound given)
             (append_assoc before done (answered one.answer l.track ∷ after)

@@ -1,26 +1,22 @@
 -- What the totals tell of the tracks and of the rows that were given.
-use Rattle.std.proofs.Common.{◌≡◌, ℕ, ◌+◌, Bool, true, false, cond, eqb, inl, inr, List, ◌++◌, length, refl, ap, sym, subst, ◌∙◌, arith, add-zero, Some, None}
+use Rattle.std.proofs.Common.{◌≡◌, ℕ, zero, suc, ◌+◌, ◌<◌, Bool, true, false, cond, eqb, inl, inr, List, [], ◌∷◌, ◌++◌, length, get_or, take, refl, ap, sym, subst, ◌∙◌, arith, add-one, Some, None}
 use Rattle.std.specs.Prelude.{Option, IsSomeAnd}
 use Rattle.std.specs.List.{filter, slice_get}
 use Rattle.std.proofs.Math.ListN.{set}
 use Rattle.std.proofs.lemmas.List.{length-set}
-use Rattle.std.proofs.lemmas.Bool.{eqb-true}
 use Rattle.std.proofs.lemmas.Bool.Decides.{eqb_tells}
 use Rattle.std.proofs.lemmas.Option.{slice_get_within}
-use Rattle.mtl_formulas.specs.declared.verdict.Verdict.{Verdict}
-use Rattle.mtl_formulas.specs.declared.verdict.Verdict.TheVariants.{No, Open, Yes}
-use Rattle.meetings.specs.declared.pair.Pair.{Pair}
 use Rattle.audit_rows.specs.declared.mark.Mark.{Mark}
 use Rattle.audit_rows.specs.declared.row.Row.{Row}
 use Rattle.audit_rows.specs.declared.topic.Topic.{Topic}
-use Rattle.audit_rows.specs.declared.topic.Topic.TheVariants as topic
-use Rattle.audit_rows.specs.Tracks.{Track, marked}
+use Rattle.audit_rows.specs.declared.counts.MarkCounts.{MarkCounts}
+use Rattle.audit_rows.specs.MarkCounts.{AreCounts, IsCountOf, is_any, is_broken, is_nothing, is_undecided, passing}
+use Rattle.audit_rows.specs.Tracks.{Track}
 use Rattle.audit_traces.specs.RuleCounts.{is_run_of, told}
-use Rattle.audit_traces.specs.Inner.Counting.{AddRuns, with_value}
-use Rattle.audit_traces.specs.Tallies.{AreTallies, IsMeetingAt, IsMeetingTopic, IsRuleAt, Tallies, begun_tracks, counted, is_broken, is_nothing, is_of_rule, is_undecided}
-use Rattle.audit_traces.specs.ValueMarks.{mark_of}
+use Rattle.audit_traces.specs.Inner.Counting.{AddRuns, with_counts}
+use Rattle.audit_traces.specs.Tallies.{AreTallies, Tallies, counted, is_of_rule, marks_in}
 use Rattle.audit_traces.specs.declared.total.Total.{Total}
-use Rattle.audit_traces.proofs.Counts.{added, counted_begun, counted_marked, length-filter_append}
+use Rattle.audit_traces.proofs.Counts.{counted_last, length-filter_append}
 use Rattle.audit_traces.proofs.Runs.{get_set_other, get_set_same, told_sum}
 
 -- what an item that is there has
@@ -41,105 +37,97 @@ some_is {X = X} o x P e h = subst (λ (z : Option X). IsSomeAnd z P) (sym e) h
 same_told : (rule : ℕ) (tracks later : List Track) (given : List Row) (total : Total) → ((test : Mark → Bool) → counted rule test later ≡ counted rule test tracks)
     → Tallies rule tracks given total → Tallies rule later given total
 same_told rule tracks later given total same t = record {
-  positions = t.positions ∙ ap told (sym (same (λ mark. true)));
+  positions = t.positions ∙ ap told (sym (same is_any));
   yes = t.yes ∙ ap told (sym (same is_nothing));
   no = t.no ∙ ap told (sym (same is_broken));
   undecided = t.undecided ∙ ap told (sym (same is_undecided));
   runs = t.runs;
 }
 
--- where each rule has the same marks
-still_told : (totals : List Total) (rules : ℕ) (tracks later : List Track) (given : List Row)
-    → ((rule : ℕ) (test : Mark → Bool) → counted rule test later ≡ counted rule test tracks) → AreTallies totals rules tracks given → AreTallies totals rules later given
-still_told totals rules tracks later given same h = (
-  h.0,
-  λ rule lt.
-      let f = found (slice_get totals rule) (Tallies rule tracks given) (h.1 rule lt) in
-      some_is (slice_get totals rule) f.item (Tallies rule later given) f.is (same_told rule tracks later given f.item (same rule) f.holds),
-)
+-- ---- one more track
 
-pub begun_told : (totals : List Total) (rules : ℕ) (tracks : List Track) (pair : Pair) (start : ℕ) (given : List Row)
-    → AreTallies totals rules tracks given → AreTallies totals rules (tracks ++ begun_tracks pair start rules) given
-begun_told totals rules tracks pair start given = still_told totals rules tracks (tracks ++ begun_tracks pair start rules) given (λ rule test. counted_begun rule test tracks pair start rules)
+sum_told : (total old new more : ℕ) → total ≡ told old → new ≡ old + more → told (total + more) ≡ told new
+sum_told total old new more e is = ap (λ (n : ℕ). told (n + more)) e ∙ (told_sum old more ∙ ap told (sym is))
 
--- ---- one more mark
+module _ (counts : MarkCounts) (track : Track) (are : AreCounts counts track.marks) (tracks : List Track) (given : List Row) where
+  abbrev later : List Track
+  later = tracks ++ track ∷ []
 
-of_no_rule : (rule : ℕ) (about : Topic) → IsMeetingTopic about → is_of_rule rule about ≡ false
-of_no_rule rule (topic.Meeting pair) h = refl
-of_no_rule rule (topic.Verdict pair other) h = absurd h
+  -- of another rule, or of none
+  other_told : (rule : ℕ) (total : Total) → is_of_rule rule track.topic ≡ false → Tallies rule tracks given total → Tallies rule later given total
+  other_told rule total e t = same_told rule tracks later given total (λ test.
+      let none : marks_in rule test track ≡ 0 = ap (λ (b : Bool). cond b (passing test track.marks) 0) e in omega (arith, counted_last rule test tracks track)) t
 
-adds_nothing : (n : ℕ) (of_rule passes : Bool) → of_rule ≡ false → n + added of_rule passes ≡ n
-adds_nothing n true passes e = absurd (cc)
-adds_nothing n false passes e = add-zero n
+  own_told : (rule : ℕ) (total : Total) → is_of_rule rule track.topic ≡ true → Tallies rule tracks given total → Tallies rule later given (with_counts counts total)
+  own_told rule total e t =
+      let more : (test : Mark → Bool) (n : ℕ) → n ≡ passing test track.marks → counted rule test later ≡ counted rule test tracks + n =
+      λ test n is. let all : marks_in rule test track ≡ passing test track.marks = ap (λ (b : Bool). cond b (passing test track.marks) 0) e in omega (arith, counted_last rule test tracks track) in
+      record {
+        positions = sum_told _ _ _ counts.all t.positions (more is_any counts.all are.all);
+        yes = sum_told _ _ _ counts.nothing t.yes (more is_nothing counts.nothing are.nothing);
+        no = sum_told _ _ _ counts.broken t.no (more is_broken counts.broken are.broken);
+        undecided = sum_told _ _ _ counts.undecided t.undecided (more is_undecided counts.undecided are.undecided);
+        runs = t.runs;
+      }
 
--- no mark of a meeting's track counts
-pub meeting_told : (totals : List Total) (rules : ℕ) (tracks : List Track) (index : ℕ) (mark : Mark) (given : List Row)
-    → IsMeetingAt tracks index → AreTallies totals rules tracks given → AreTallies totals rules (marked tracks index mark) given
-meeting_told totals rules tracks index mark given is =
-    let f = found (slice_get tracks index) (λ track. IsMeetingTopic track.topic) is in
-    still_told totals rules tracks (marked tracks index mark) given (λ rule test.
-    counted_marked rule test tracks index mark f.item f.is ∙ adds_nothing (counted rule test tracks) (is_of_rule rule f.item.topic) (test mark) (of_no_rule rule f.item.topic f.holds))
+  pub none_told : (totals : List Total) (rules : ℕ) → ((rule : ℕ) → rule < rules → is_of_rule rule track.topic ≡ false) → AreTallies totals rules tracks given → AreTallies totals rules later given
+  none_told totals rules none h = (
+    h.0,
+    λ rule lt.
+        let was = found (slice_get totals rule) (Tallies rule tracks given) (h.1 rule lt) in
+        some_is (slice_get totals rule) was.item (Tallies rule later given) was.is (other_told rule was.item (none rule lt) was.holds),
+  )
 
-step : (total old new : ℕ) → total ≡ told old → new ≡ old + 1 → told (total + 1) ≡ told new
-step total old new e more = ap (λ (n : ℕ). told (n + 1)) e ∙ (told_sum old 1 ∙ ap told (sym more))
+  pub rule_told : (totals : List Total) (rules rule : ℕ) (total : Total) → ((other : ℕ) → is_of_rule other track.topic ≡ eqb rule other) → slice_get totals rule ≡ Some total
+      → AreTallies totals rules tracks given → AreTallies (set totals rule (with_counts counts total)) rules later given
+  rule_told totals rules rule total of here h =
+      let after = with_counts counts total in
+      let new = set totals rule after in (
+        length-set totals rule after ∙ h.0,
+        λ other lt.
+            let was = found (slice_get totals other) (Tallies other tracks given) (h.1 other lt) in
+            elim (eqb_tells rule other) [
+              | inl (is_same, same) ↦ (
+                  let there : slice_get new other ≡ Some after =
+                  subst (λ (n : ℕ). slice_get new n ≡ Some after) same (get_set_same totals rule after (slice_get_within totals rule total here)) in
+                  let both : was.item ≡ total = let back : slice_get totals other ≡ Some total = ap (slice_get totals) (sym same) ∙ here in let some : Some was.item ≡ Some total = sym was.is ∙ back in cc in
+                  some_is (slice_get new other) after (Tallies other later given) there
+                  (own_told other total (of other ∙ is_same) (subst (Tallies other tracks given) both was.holds)))
+              | inr (is_other, apart) ↦ some_is (slice_get new other) was.item (Tallies other later given) (get_set_other totals rule other after apart ∙ was.is)
+                  (other_told other was.item (of other ∙ is_other) was.holds)
+            ],
+      )
 
-stay : (total old new : ℕ) → total ≡ told old → new ≡ old + 0 → total ≡ told new
-stay total old new e more = e ∙ ap told (omega arith)
+-- ---- the tracks one after the other
 
-value_told : (rule : ℕ) (tracks later : List Track) (given : List Row) (total : Total) (value : Verdict)
-    → ((test : Mark → Bool) → counted rule test later ≡ counted rule test tracks + cond (test (mark_of value)) 1 0) → Tallies rule tracks given total → Tallies rule later given (with_value value total)
-value_told rule tracks later given total Yes more t = record {
-  positions = step _ _ _ t.positions (more (λ mark. true));
-  yes = step _ _ _ t.yes (more is_nothing);
-  no = stay _ _ _ t.no (more is_broken);
-  undecided = stay _ _ _ t.undecided (more is_undecided);
-  runs = t.runs;
-}
-value_told rule tracks later given total No more t = record {
-  positions = step _ _ _ t.positions (more (λ mark. true));
-  yes = stay _ _ _ t.yes (more is_nothing);
-  no = step _ _ _ t.no (more is_broken);
-  undecided = stay _ _ _ t.undecided (more is_undecided);
-  runs = t.runs;
-}
-value_told rule tracks later given total Open more t = record {
-  positions = step _ _ _ t.positions (more (λ mark. true));
-  yes = stay _ _ _ t.yes (more is_nothing);
-  no = stay _ _ _ t.no (more is_broken);
-  undecided = step _ _ _ t.undecided (more is_undecided);
-  runs = t.runs;
-}
+pub record IsThere (tracks : List Track) (index : ℕ) : Type 0 where
+  pub track : Track
+  pub at : slice_get tracks index ≡ Some track
+  pub more : take (index + 1) tracks ≡ take index tracks ++ track ∷ []
 
-same_rule : (about : Topic) (rule other : ℕ) → is_of_rule rule about ≡ true → is_of_rule other about ≡ eqb rule other
-same_rule (topic.Meeting pair) rule other h = absurd (cc)
-same_rule (topic.Verdict pair own) rule other h = let same = eqb-true own rule h in ap (λ (n : ℕ). eqb n other) same
+pub there_at : (tracks : List Track) (index : ℕ) → index < length tracks → IsThere tracks index
+there_at [] index lt = absurd (omega arith)
+there_at (t ∷ ts) zero lt = record { track = t; at = refl; more = refl }
+there_at (t ∷ ts) (suc i) lt =
+    let r = there_at ts i (omega arith) in
+    record {
+      track = r.track;
+      at = r.at;
+      more = ap (λ (n : ℕ). take n (t ∷ ts)) (add-one (suc i)) ∙ ap (λ (us : List Track). t ∷ us) (ap (λ (n : ℕ). take n ts) (sym (add-one i)) ∙ r.more);
+    }
 
--- a rule's value counts for the rule
-pub rule_told : (totals : List Total) (rules : ℕ) (tracks : List Track) (index rule : ℕ) (total : Total) (value : Verdict) (given : List Row)
-    → slice_get totals rule ≡ Some total → IsRuleAt rule tracks index → AreTallies totals rules tracks given
-    → AreTallies (set totals rule (with_value value total)) rules (marked tracks index (mark_of value)) given
-rule_told totals rules tracks index rule total value given here is h =
-    let f = found (slice_get tracks index) (λ track. is_of_rule rule track.topic ≡ true) is in
-    let later = marked tracks index (mark_of value) in
-    let after = with_value value total in
-    let new = set totals rule after in
-    let counts : (other : ℕ) (b : Bool) → eqb rule other ≡ b → (test : Mark → Bool) → counted other test later ≡ counted other test tracks + added b (test (mark_of value)) =
-    λ other b e test. subst (λ (c : Bool). counted other test later ≡ counted other test tracks + added c (test (mark_of value))) (same_rule f.item.topic rule other f.holds ∙ e)
-    (counted_marked other test tracks index (mark_of value) f.item f.is) in (
-      length-set totals rule after ∙ h.0,
-      λ other lt.
-          let was = found (slice_get totals other) (Tallies other tracks given) (h.1 other lt) in
-          elim (eqb_tells rule other) [
-            | inl (is_same, same) ↦ (
-                let there : slice_get new other ≡ Some after =
-                subst (λ (n : ℕ). slice_get new n ≡ Some after) same (get_set_same totals rule after (slice_get_within totals rule total here)) in
-                let both : was.item ≡ total = let back : slice_get totals other ≡ Some total = ap (slice_get totals) (sym same) ∙ here in let some : Some was.item ≡ Some total = sym was.is ∙ back in cc in
-                some_is (slice_get new other) after (Tallies other later given) there
-                (value_told other tracks later given total value (counts other true is_same) (subst (Tallies other tracks given) both was.holds)))
-            | inr (is_other, apart) ↦ some_is (slice_get new other) was.item (Tallies other later given) (get_set_other totals rule other after apart ∙ was.is)
-                (same_told other tracks later given was.item (λ test. counts other false is_other test ∙ add-zero (counted other test tracks)) was.holds)
-          ],
-    )
+-- the counts of the track that is there
+pub counted_there : (counted : Option (Topic × MarkCounts)) (topic : Topic) (counts : MarkCounts) (track : Track) → counted ≡ Some (topic, counts)
+    → IsCountOf counted (Some track) → (topic ≡ track.topic) × AreCounts counts track.marks
+counted_there counted topic counts track e h = subst (λ (o : Option (Topic × MarkCounts)). IsSomeAnd o (λ pair. (pair.0 ≡ track.topic) × AreCounts pair.1 track.marks)) e h
+
+pub no_count : (counted : Option (Topic × MarkCounts)) (track : Track) → counted ≡ None → IsCountOf counted (Some track) → ⊥
+no_count counted track e h = subst (λ (o : Option (Topic × MarkCounts)). IsSomeAnd o (λ pair. (pair.0 ≡ track.topic) × AreCounts pair.1 track.marks)) e h
+
+pub at_index : (totals : List Total) (i : ℕ) (d : Total) → i < length totals → slice_get totals i ≡ Some (get_or totals i d)
+at_index [] i d lt = absurd (omega arith)
+at_index (t ∷ ts) zero d lt = refl
+at_index (t ∷ ts) (suc i) d lt = at_index ts i d (omega arith)
 
 -- ---- more rows
 

@@ -14,20 +14,16 @@ use Rattle.audit_rows.proofs.ForCallers.{marked_there, next_there}
 use Rattle.audit_traces.specs.Audited.{Numbers}
 use Rattle.audit_traces.specs.AuditTracks.{IsMeetingMark}
 use Rattle.audit_traces.specs.Inner.RowAnswers.{AwaitAll, MarksRules, answered_all}
-use Rattle.audit_traces.specs.Tallies.{IsMeetingAt, IsMeetingTopic, Keeps}
+use Rattle.audit_traces.specs.Tallies.{Keeps}
 use Rattle.audit_traces.specs.TraceKeeping.{AreRuleMarksSoFar, AreTracks, AreTracksSoFar, HasTracksOf, IsMeetingTrack, Known, StandsFor, Steps, formulas_of, watched}
 use Rattle.audit_traces.specs.declared.marks.Marks.{Marks}
 use Rattle.audit_traces.specs.declared.trace.AuditTrace.{AuditTrace}
 use Rattle.audit_traces.proofs.TraceTracks.{AreRuleMarksPast, all_brought, answers_all, ended_marks, fed_marks, first_tracks, marks_then, meeting_stays, whole_tracks}
 
-meeting_there : (before after : List Track) (track : Track) → IsMeetingTopic track.topic → IsMeetingAt (before ++ track ∷ after) (length before)
-meeting_there [] after track e = e
-meeting_there (t ∷ ts) after track e = meeting_there ts after track e
-
 -- Behind a trace's meeting the marks of its rules are marked.
 behind_meeting : (program : Program) (trace : AuditTrace) (first : ℕ) (old new : Marks) (marks : MarksRules program trace (first + 1) (count_of program) old new)
     (rules bound : ℕ) (before : List Track) (meeting : Track) (mine after : List Track) (given : List Row) → first ≡ length before
-    → AwaitAll trace.start 0 marks.answers mine → Keeps old rules (before ++ meeting ∷ (mine ++ after)) bound given
+    → AwaitAll trace.start marks.answers mine → Keeps old rules (before ++ meeting ∷ (mine ++ after)) bound given
     → Keeps new rules (before ++ meeting ∷ answered_all marks.answers mine ++ after) bound given
 behind_meeting program trace first old new marks rules bound before meeting mine after given e await keeps =
     let there : first + 1 ≡ length (before ++ meeting ∷ []) = omega (arith, length-append before (meeting ∷ [])) in
@@ -41,7 +37,7 @@ behind_meeting program trace first old new marks rules bound before meeting mine
 module _ (program : Program) (numbers : Numbers) (trace : AuditTrace) (known : Known) (seen : Option PairStep) (row : Atom → Verdict) (mark : Mark)
     (stands : StandsFor program numbers trace (watched known seen row))
     (is_mark : IsMeetingMark numbers.detect (known.steps ++ seen ∷ []) (length known.steps) mark) where
-  meeting_longer : (track : Track) → IsMeetingTrack numbers known track → IsMeetingTrack numbers (watched known seen row) (longer track mark)
+  pub meeting_longer : (track : Track) → IsMeetingTrack numbers known track → IsMeetingTrack numbers (watched known seen row) (longer track mark)
   meeting_longer track h =
       let count = h.marks.count in
       record {
@@ -57,7 +53,7 @@ module _ (program : Program) (numbers : Numbers) (trace : AuditTrace) (known : K
 
   pub stepped : (first step : ℕ) (old now new : Marks) → step ≡ known.start + length known.steps
       → ((rules bound : ℕ) (tracks : List Track) (given : List Row) → Keeps old rules tracks bound given
-      → IsNextAt tracks first step → IsMeetingAt tracks first → Keeps now rules (marked tracks first mark) bound given)
+      → IsNextAt tracks first step → Keeps now rules (marked tracks first mark) bound given)
       → MarksRules program trace (first + 1) (count_of program) now new
       → (before mine after : List Track) (bound : ℕ) (given : List Row) → AreTracksSoFar numbers known mine → first ≡ length before
       → Keeps old (length numbers.rules) (before ++ mine ++ after) bound given
@@ -74,8 +70,7 @@ module _ (program : Program) (numbers : Numbers) (trace : AuditTrace) (known : K
       subst (λ (ts : List Track). Keeps now rules ts bound given)
       (ap (λ (i : ℕ). marked all i mark) e ∙ marked_there before (mine ++ after) meeting mark)
       (meets rules bound all given (subst (λ (ts : List Track). Keeps old rules ts bound given) (append_assoc before (meeting ∷ mine) after) keeps)
-      (subst (λ (i : ℕ). IsNextAt all i step) (sym e) (next_there before (mine ++ after) meeting step next))
-      (subst (λ (i : ℕ). IsMeetingAt all i) (sym e) (meeting_there before (mine ++ after) meeting (subst IsMeetingTopic (sym of_meeting.topic) tt)))) in
+      (subst (λ (i : ℕ). IsNextAt all i step) (sym e) (next_there before (mine ++ after) meeting step next))) in
       let of_count = stands.values.of.count in
       let many : length marks.answers ≡ length (formulas_of numbers) = marks.many ∙ of_count in
       let answers = answers_all program trace.values (formulas_of numbers) (λ answer tree. IsFed answer tree (known.trace ++ row ∷ []))
@@ -89,7 +84,7 @@ module _ (program : Program) (numbers : Numbers) (trace : AuditTrace) (known : K
         mine = longer meeting mark ∷ answered_all marks.answers mine;
         tracks = (meeting_longer meeting of_meeting, brought);
         keeps = behind_meeting program trace first now new marks rules bound before (longer meeting mark) mine after given e
-            (subst (λ (start : ℕ). AwaitAll start 0 marks.answers mine) (sym stands.start) await) now_kept;
+            (subst (λ (start : ℕ). AwaitAll start marks.answers mine) (sym stands.start) await) now_kept;
       }
 
 -- ---- rows beyond the end
@@ -146,6 +141,6 @@ module _ (program : Program) (numbers : Numbers) (trace : AuditTrace) (known : K
             mine = meeting ∷ answered_all marks.answers mine;
             tracks = (tracks.0, brought);
             keeps = behind_meeting program trace first old new marks (length numbers.rules) bound before meeting mine after given e
-                (subst (λ (start : ℕ). AwaitAll start 0 marks.answers mine) (sym start) await)
+                (subst (λ (start : ℕ). AwaitAll start marks.answers mine) (sym start) await)
                 (subst (λ (ts : List Track). Keeps old (length numbers.rules) ts bound given) (append_assoc before (meeting ∷ mine) after) keeps);
           }

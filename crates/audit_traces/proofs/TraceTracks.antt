@@ -1,8 +1,7 @@
 -- The tracks of a trace as its steps come, and as rows pass beyond its end.
 use Rattle.std.proofs.Common.{◌≡◌, ℕ, suc, ◌+◌, ◌-◌, ◌<◌, ◌≤◌, min, ◌⊎◌, inl, inr, List, [], ◌∷◌, ◌++◌, length, append_assoc, append-nil, refl, sym, ap, subst, ◌∙◌, arith, length-append}
 use Rattle.std.proofs.Math.ListN.{get_or-append}
-use Rattle.std.proofs.lemmas.Bool.{eq-eqb}
-use Rattle.std.specs.Prelude.{Option, None, Some, IsSome, IsSomeAnd, true}
+use Rattle.std.specs.Prelude.{Option, None, Some, IsSome, IsSomeAnd}
 use Rattle.std.specs.List.{AllZip}
 use Rattle.mtl_formulas.specs.FormulaTree.{FormulaTree}
 use Rattle.mtl_formulas.specs.FormulaMeasures.{reach_of}
@@ -25,13 +24,11 @@ use Rattle.audit_rows.specs.Stretches.{mark_at}
 use Rattle.audit_rows.specs.Tracks.{Track}
 use Rattle.audit_rows.specs.declared.mark.Mark.{Mark}
 use Rattle.audit_rows.specs.declared.mark.Mark.TheVariants.{Nothing, Broken, Undecided, Engaged}
-use Rattle.audit_rows.specs.declared.topic.Topic.{Topic}
 use Rattle.audit_rows.specs.declared.topic.Topic.TheVariants as topic
 use Rattle.meetings.specs.declared.pair.Pair.{Pair}
 use Rattle.audit_traces.specs.AuditTracks.{IsLeast, IsMeetingMark}
 use Rattle.audit_traces.specs.ValueMarks.{mark_of}
 use Rattle.audit_traces.specs.Inner.RowAnswers.{Answer, AreAnswers, AwaitAll, Awaits, IsAnswer, answered, answered_all}
-use Rattle.audit_traces.specs.Tallies.{is_of_rule}
 use Rattle.audit_traces.specs.TraceKeeping.{AreRuleMarksSoFar, AreRuleMarksWhole, AreRuleTracks, IsRuleTrack, Known}
 
 -- ---- marks
@@ -194,8 +191,8 @@ module _ (program : Program) (values : TraceState) (formulas : List FormulaTree)
 module _ (AreMarks Others : FormulaTree → Trace → List Mark → Type 0) (old new : Known) (pair : old.pair ≡ new.pair) (start : old.start ≡ new.start)
     (Is : Answer → FormulaTree → Type 0)
     (brings : (tree : FormulaTree) (marks : List Mark) (answer : Answer) → AreMarks tree old.trace marks → Is answer tree → Brings Others answer tree new.trace marks) where
-  one_brought : (rule : ℕ) (tree : FormulaTree) (track : Track) (answer : Answer) → IsRuleTrack AreMarks old rule tree track → Is answer tree
-      → Awaits old.start rule answer track × IsRuleTrack Others new rule tree (answered answer track)
+  pub one_brought : (rule : ℕ) (tree : FormulaTree) (track : Track) (answer : Answer) → IsRuleTrack AreMarks old rule tree track → Is answer tree
+      → Awaits old.start answer track × IsRuleTrack Others new rule tree (answered answer track)
   one_brought rule tree track None h is = (
     tt,
     record {
@@ -208,7 +205,7 @@ module _ (AreMarks Others : FormulaTree → Trace → List Mark → Type 0) (old
       let b = brings tree track.marks (Some answer) h.marks is in
       let first = h.first in
       let place = b.0 in (
-        (omega arith, subst (λ (t : Topic). is_of_rule rule t ≡ true) (sym h.topic) (eq-eqb rule rule refl)),
+        omega arith,
         record {
           topic = h.topic ∙ ap (λ (p : Pair). topic.Verdict p rule) pair;
           first = h.first ∙ start;
@@ -217,7 +214,7 @@ module _ (AreMarks Others : FormulaTree → Trace → List Mark → Type 0) (old
       )
 
   pub all_brought : (rule : ℕ) (trees : List FormulaTree) (answers : List Answer) (tracks : List Track) → AllZip Is answers trees
-      → AreRuleTracks AreMarks old rule trees tracks → AwaitAll old.start rule answers tracks × AreRuleTracks Others new rule trees (answered_all answers tracks)
+      → AreRuleTracks AreMarks old rule trees tracks → AwaitAll old.start answers tracks × AreRuleTracks Others new rule trees (answered_all answers tracks)
   all_brought rule [] [] [] z h = (tt, tt)
   all_brought rule [] [] (track ∷ tracks) z h = absurd h
   all_brought rule [] (answer ∷ answers) tracks z h = absurd z

@@ -1,3 +1,4 @@
 pub mod Counting
+pub mod TrackCounts
 pub mod RowAnswers
 pub mod Pairing

@@ -1,11 +1,11 @@
 -- What the marks of all traces are kept as: a queue of rows and the totals of the rules. A total stands still at its type's end.
-use Rattle.std.specs.Prelude.{ℕ, zero, suc, ◌≡◌, ◌+◌, ◌<◌, ◌==◌, Bool, true, false, if◌then◌else◌, List, [], ◌∷◌, length, slice_get, IsSomeAnd}
+use Rattle.std.specs.Prelude.{ℕ, zero, suc, ◌≡◌, ◌+◌, ◌<◌, ◌==◌, Bool, false, if◌then◌else◌, List, [], ◌∷◌, length, slice_get, IsSomeAnd}
 use Rattle.std.specs.List.{AllByRecursion, filter, sum_by}
 use Rattle.meetings.specs.declared.pair.Pair.{Pair}
 use Rattle.audit_rows.specs.Inner.Queues as queue
+use Rattle.audit_rows.specs.MarkCounts.{is_any, is_broken, is_nothing, is_undecided, passing}
 use Rattle.audit_rows.specs.Tracks.{Track, begun}
 use Rattle.audit_rows.specs.declared.mark.Mark.{Mark}
-use Rattle.audit_rows.specs.declared.mark.Mark.TheVariants.{Nothing, Broken, Undecided, Engaged}
 use Rattle.audit_rows.specs.declared.row.Row.{Row}
 use Rattle.audit_rows.specs.declared.topic.Topic.{Topic}
 use Rattle.audit_rows.specs.declared.topic.Topic.TheVariants.{Meeting, Verdict}
@@ -17,33 +17,15 @@ abbrev pub is_of_rule : ℕ → Topic → Bool
 is_of_rule rule (Meeting pair) = false
 is_of_rule rule (Verdict pair other) = other == rule
 
-abbrev pub is_nothing : Mark → Bool
-is_nothing Nothing = true
-is_nothing Broken = false
-is_nothing Undecided = false
-is_nothing (Engaged kind least) = false
-
-abbrev pub is_broken : Mark → Bool
-is_broken Nothing = false
-is_broken Broken = true
-is_broken Undecided = false
-is_broken (Engaged kind least) = false
-
-abbrev pub is_undecided : Mark → Bool
-is_undecided Nothing = false
-is_undecided Broken = false
-is_undecided Undecided = true
-is_undecided (Engaged kind least) = false
-
 -- how many marks of the rule's tracks pass the test
 abbrev pub marks_in : ℕ → (Mark → Bool) → Track → ℕ
-marks_in rule test track = if is_of_rule rule track.topic then length (filter test track.marks) else 0
+marks_in rule test track = if is_of_rule rule track.topic then passing test track.marks else 0
 
 abbrev pub counted : ℕ → (Mark → Bool) → List Track → ℕ
 counted rule test tracks = sum_by (marks_in rule test) tracks
 
 pub record Tallies (rule : ℕ) (tracks : List Track) (given : List Row) (total : Total) : Type 0 where
-  pub positions : total.positions ≡ told (counted rule (λ mark. true) tracks)
+  pub positions : total.positions ≡ told (counted rule is_any tracks)
   pub yes : total.yes ≡ told (counted rule is_nothing tracks)
   pub no : total.no ≡ told (counted rule is_broken tracks)
   pub undecided : total.undecided ≡ told (counted rule is_undecided tracks)
@@ -57,10 +39,11 @@ abbrev pub AreTallies : List Total → ℕ → List Track → List Row → Type 
 AreTallies totals rules tracks given =
     (length totals ≡ rules) × ((rule : ℕ) → rule < rules → IsSomeAnd (slice_get totals rule) (Tallies rule tracks given))
 
--- The marks stand for these tracks of so many rules, of whose rows those were given that end below the bound.
+-- The marks stand for these tracks of so many rules, of whose rows those were given that end below the bound. The totals have the
+-- runs of the rows that were given, and the positions of no track yet.
 pub record Keeps (marks : Marks) (rules : ℕ) (tracks : List Track) (bound : ℕ) (given : List Row) : Type 0 where
   pub queue : queue.StandsFor marks.queue tracks bound given
-  pub totals : AreTallies marks.totals.items rules tracks given
+  pub totals : AreTallies marks.totals.items rules [] given
 
 -- ---- as traces begin and marks come
 
@@ -79,14 +62,3 @@ begun_rules pair start rule (suc count) = begun (Verdict pair rule) start ∷ be
 
 abbrev pub begun_tracks : Pair → ℕ → ℕ → List Track
 begun_tracks pair start rules = begun (Meeting pair) start ∷ begun_rules pair start 0 rules
-
--- The track at an index is a meeting's, or the rule's.
-abbrev pub IsMeetingTopic : Topic → Type 0
-IsMeetingTopic (Meeting pair) = Unit {0}
-IsMeetingTopic (Verdict pair rule) = ⊥
-
-abbrev pub IsMeetingAt : List Track → ℕ → Type 0
-IsMeetingAt tracks index = IsSomeAnd (slice_get tracks index) (λ track. IsMeetingTopic track.topic)
-
-abbrev pub IsRuleAt : ℕ → List Track → ℕ → Type 0
-IsRuleAt rule tracks index = IsSomeAnd (slice_get tracks index) (λ track. is_of_rule rule track.topic ≡ true)

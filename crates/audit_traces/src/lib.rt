@@ -3,6 +3,7 @@
 #![tactic(auto)]
 
 mod contact_pairs;
+mod counting;
 pub mod laws;
 mod marks;
 mod sightings;

@@ -1,28 +1,17 @@
 //! The marks of all traces: the rows that they make, and the totals.
 ghost use Rattle.std.specs.Prelude.{◌≡◌, ◌≤◌, ◌^◌, ◌∷◌, [], length};
-ghost use Rattle.audit_traces.specs.ValueMarks.{mark_of};
 ghost use Rattle.audit_traces.specs.Inner.Counting.{AddRuns};
 
+use crate::counting::take_tracks;
 use crate::total::Total;
 use audit_rows::{Mark, Row, RowQueue, Topic};
 use meetings::Pair;
-use mtl_formulas::Verdict;
 use outside::Memory;
 use std::alloc::Global;
 
-/// What a rule's track has at a position where its formula has this value.
-fn mark_of(value: Verdict) -> Mark
-    ensures { result ≡ mark_of value }
-{
-    match value {
-        Verdict::Yes => Mark::Nothing,
-        Verdict::No => Mark::Broken,
-        Verdict::Open => Mark::Undecided,
-    }
-}
-
-/// The tracks of all traces, each a meeting's or a rule's, by their indexes in the queue, with the totals of the rules. It
-/// stands for the tracks, and for the rows that it has given, which end below a bound. After an `Err` it may only be dropped.
+/// The tracks of all traces, each a meeting's or a rule's, by their indexes in the queue, with the totals of the rules, in which
+/// the positions are counted at the end alone. It stands for the tracks, and for the rows that it has given, which end below a
+/// bound. After an `Err` it may only be dropped.
 #[derive(Drop)]
 pub struct Marks {
     queue: RowQueue,
@@ -33,9 +22,9 @@ pub struct Marks {
 impl Marks {
     ghost use Rattle.std.specs.Prelude.{◌<◌, ◌++◌, ℕ, List, IfOk, OnOk};
     ghost use Rattle.audit_rows.specs.Rows.{AreRows, AreRowsBelow};
-    ghost use Rattle.audit_rows.specs.Tracks.{AreSettled, IsNextAt, Track, marked};
+    ghost use Rattle.audit_rows.specs.Tracks.{AreSettled, EndAt, IsNextAt, Track, marked};
     ghost use Rattle.audit_rows.specs.declared.row.Row.{Row};
-    ghost use Rattle.audit_traces.specs.Tallies.{AreTallies, IsMeetingAt, IsRuleAt, IsUnknown, Keeps, begun_tracks, rules_of};
+    ghost use Rattle.audit_traces.specs.Tallies.{AreTallies, IsUnknown, Keeps, begun_tracks, rules_of};
 
     /// No tracks yet, of so many rules: at most 2^32, since a row names its rule by 32 bits.
     pub fn new(alloc: Global, rules: usize) -> Result<Marks, Memory>
@@ -63,30 +52,14 @@ impl Marks {
         Ok(())
     }
 
-    /// Takes the next mark of a meeting's track, which is for the step.
-    pub fn mark_meeting(&mut self, index: usize, step: u32, mark: Mark) -> Result<(), Memory>
+    /// Takes the next mark of the track at the index, which is for the step.
+    #[inline(always)]
+    pub fn mark(&mut self, index: usize, step: u32, mark: Mark) -> Result<(), Memory>
         ensures as_many { rules_of self.new ≡ rules_of self.old }
         ensures keeps { OnOk result ((rules bound : ℕ) (tracks : List Track) (given : List Row) → Keeps self.old rules tracks bound given
-            → IsNextAt tracks index step → IsMeetingAt tracks index → Keeps self.new rules (marked tracks index mark) bound given) }
+            → IsNextAt tracks index step → Keeps self.new rules (marked tracks index mark) bound given) }
     {
         self.queue.mark(index, step, mark)
-    }
-
-    /// Takes the value of a rule's formula at the next position of its track, which is that of the step.
-    pub fn mark_rule(
-        &mut self,
-        index: usize,
-        rule: usize,
-        step: u32,
-        value: Verdict,
-    ) -> Result<(), Memory>
-        requires { rule < rules_of self.old }
-        ensures as_many { rules_of self.new ≡ rules_of self.old }
-        ensures keeps { OnOk result ((rules bound : ℕ) (tracks : List Track) (given : List Row) → Keeps self.old rules tracks bound given
-            → IsNextAt tracks index step → IsRuleAt rule tracks index → Keeps self.new rules (marked tracks index (mark_of value)) bound given) }
-    {
-        self.totals[rule].take(value);
-        self.queue.mark(index, step, mark_of(value))
     }
 
     /// Hands out the further rows that end below the bound, up to which the tracks must be settled. The bound may not sink.
@@ -102,15 +75,16 @@ impl Marks {
         Ok(rows)
     }
 
-    /// Ends all tracks: the rows that are left, and the totals.
-    pub fn finish(self) -> Result<(Vec<Row>, Vec<Total>), Memory>
-        ensures rows { IfOk result (λ end. (rules bound : ℕ) (tracks : List Track) (given : List Row) → Keeps self rules tracks bound given
-            → AreRows tracks (given ++ end.0.items)) }
-        ensures totals { IfOk result (λ end. (rules bound : ℕ) (tracks : List Track) (given : List Row) → Keeps self rules tracks bound given
-            → AreTallies end.1.items rules tracks (given ++ end.0.items)) }
+    /// Ends all tracks, whose next marks would be for the step: the rows that are left, and the totals.
+    pub fn finish(self, end: u32) -> Result<(Vec<Row>, Vec<Total>), Memory>
+        ensures rows { IfOk result (λ last. (rules bound : ℕ) (tracks : List Track) (given : List Row) → Keeps self rules tracks bound given
+            → EndAt end tracks → AreRows tracks (given ++ last.0.items)) }
+        ensures totals { IfOk result (λ last. (rules bound : ℕ) (tracks : List Track) (given : List Row) → Keeps self rules tracks bound given
+            → EndAt end tracks → AreTallies last.1.items rules tracks (given ++ last.0.items)) }
     {
         let Marks { queue, mut totals } = self;
-        let rows = queue.finish()?;
+        take_tracks(&mut totals, &queue, end);
+        let rows = queue.finish(end)?;
         take_runs(&mut totals, &rows);
         Ok((rows, totals))
     }

@@ -2,7 +2,6 @@
 use super::{Marks, Total};
 use audit_rows::{Mark, Row};
 use meetings::Pair;
-use mtl_formulas::Verdict;
 use sectors::Class;
 use std::test::Fail;
 
@@ -47,17 +46,17 @@ fn engaged(least: u64) -> Mark {
 fn a_trace_gives_its_rows_as_they_are_decided_and_its_total(rt: HostRuntime) -> Result<(), Fail> {
     let mut marks = Marks::new(rt.alloc(), 1)?;
     marks.begin(PAIR)?;
-    marks.mark_meeting(0, 0, engaged(300))?;
-    marks.mark_meeting(0, 1, engaged(200))?;
-    marks.mark_meeting(0, 2, Mark::Nothing)?;
-    marks.mark_meeting(0, 3, engaged(400))?;
-    marks.mark_rule(1, 0, 0, Verdict::Yes)?;
-    marks.mark_rule(1, 0, 1, Verdict::No)?;
-    marks.mark_rule(1, 0, 2, Verdict::No)?;
+    marks.mark(0, 0, engaged(300))?;
+    marks.mark(0, 1, engaged(200))?;
+    marks.mark(0, 2, Mark::Nothing)?;
+    marks.mark(0, 3, engaged(400))?;
+    marks.mark(1, 0, Mark::Nothing)?;
+    marks.mark(1, 1, Mark::Broken)?;
+    marks.mark(1, 2, Mark::Broken)?;
     let early = marks.rows_below(2)?;
     assert_eq!(rt; early.as_slice(), [meeting(0, 1, 200)].as_slice());
-    marks.mark_rule(1, 0, 3, Verdict::Open)?;
-    let (late, totals) = marks.finish()?;
+    marks.mark(1, 3, Mark::Undecided)?;
+    let (late, totals) = marks.finish(4)?;
     assert_eq!(rt;
         late.as_slice(),
         [
@@ -86,18 +85,25 @@ fn each_rule_has_one_total_over_the_traces_of_all_pairs(rt: HostRuntime) -> Resu
     let mut marks = Marks::new(rt.alloc(), 2)?;
     marks.begin(PAIR)?;
     marks.begin(REVERSE)?;
-    marks.mark_rule(1, 0, 5, Verdict::No)?;
-    marks.mark_rule(2, 1, 5, Verdict::Yes)?;
-    marks.mark_rule(4, 0, 5, Verdict::No)?;
-    marks.mark_rule(4, 0, 6, Verdict::Yes)?;
-    marks.mark_rule(5, 1, 5, Verdict::Open)?;
-    let (rows, totals) = marks.finish()?;
+    for index in [0, 3] {
+        marks.mark(index, 5, Mark::Nothing)?;
+        marks.mark(index, 6, Mark::Nothing)?;
+    }
+    marks.mark(1, 5, Mark::Broken)?;
+    marks.mark(1, 6, Mark::Nothing)?;
+    marks.mark(2, 5, Mark::Nothing)?;
+    marks.mark(2, 6, Mark::Nothing)?;
+    marks.mark(4, 5, Mark::Broken)?;
+    marks.mark(4, 6, Mark::Nothing)?;
+    marks.mark(5, 5, Mark::Undecided)?;
+    marks.mark(5, 6, Mark::Undecided)?;
+    let (rows, totals) = marks.finish(7)?;
     assert_eq!(rt;
         rows.as_slice(),
         [
             verdict(PAIR, 0, false, 5, 5),
             verdict(REVERSE, 0, false, 5, 5),
-            verdict(REVERSE, 1, true, 5, 5),
+            verdict(REVERSE, 1, true, 5, 6),
         ]
         .as_slice()
     );
@@ -105,17 +111,17 @@ fn each_rule_has_one_total_over_the_traces_of_all_pairs(rt: HostRuntime) -> Resu
         totals.as_slice(),
         [
             Total {
-                positions: 3,
-                yes: 1,
+                positions: 4,
+                yes: 2,
                 no: 2,
                 undecided: 0,
                 runs: 2,
             },
             Total {
-                positions: 2,
-                yes: 1,
+                positions: 4,
+                yes: 2,
                 no: 0,
-                undecided: 1,
+                undecided: 2,
                 runs: 0,
             },
         ]

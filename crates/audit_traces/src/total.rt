@@ -1,8 +1,8 @@
 //! What a rule comes to over all traces.
 ghost use Rattle.std.specs.Prelude.{◌≡◌};
-ghost use Rattle.audit_traces.specs.Inner.Counting.{with_run, with_value};
+ghost use Rattle.audit_traces.specs.Inner.Counting.{with_counts, with_run};
 
-use mtl_formulas::Verdict;
+use audit_rows::MarkCounts;
 
 /// How many positions of all traces there are, how many of them by the value of a rule's formula, and how often it is broken.
 #[derive(Clone, Copy, Debug, Default, PartialEq, Eq)]
@@ -20,16 +20,14 @@ pub struct Total {
 }
 
 impl Total {
-    /// Counts a position at which the rule's formula has this value. A count stands still at its type's end.
-    pub(crate) fn take(&mut self, value: Verdict)
-        ensures { self.new ≡ with_value value self.old }
+    /// Counts the positions of a track of the rule. A count stands still at its type's end.
+    pub(crate) fn take(&mut self, counts: MarkCounts)
+        ensures { self.new ≡ with_counts counts self.old }
     {
-        self.positions = self.positions.saturating_add(1);
-        match value {
-            Verdict::Yes => self.yes = self.yes.saturating_add(1),
-            Verdict::No => self.no = self.no.saturating_add(1),
-            Verdict::Open => self.undecided = self.undecided.saturating_add(1),
-        }
+        self.positions = self.positions.saturating_add(u64::from(counts.all));
+        self.yes = self.yes.saturating_add(u64::from(counts.nothing));
+        self.no = self.no.saturating_add(u64::from(counts.broken));
+        self.undecided = self.undecided.saturating_add(u64::from(counts.undecided));
     }
 
     /// Counts a maximal stretch of broken positions.

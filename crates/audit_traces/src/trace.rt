@@ -5,12 +5,14 @@ ghost use Rattle.encounters.specs.Standing.{IsStateAfter};
 ghost use Rattle.encounters.specs.declared.detect.Detect.{Detect};
 ghost use Rattle.encounters.specs.declared.pair_step.PairStep.{PairStep};
 ghost use Rattle.audit_traces.specs.AuditTracks.{IsMeetingMark};
+ghost use Rattle.audit_traces.specs.ValueMarks.{mark_of};
 
 use crate::marks::Marks;
 use audit_rows::Mark;
 use closest_approach::least;
 use encounters::{Act, Detect, EngagementState, PairStep};
 use meetings::{Follower, Pair};
+use mtl_formulas::Verdict;
 use mtl_monitor::{Program, TraceState};
 use outside::Memory;
 use std::alloc::Global;
@@ -29,6 +31,17 @@ fn meeting_mark(state: &EngagementState, seen: Option<&PairStep>) -> Mark
     }
 }
 
+/// What a rule's track has at a position where its formula has this value.
+fn mark_of(value: Verdict) -> Mark
+    ensures { result ≡ mark_of value }
+{
+    match value {
+        Verdict::Yes => Mark::Nothing,
+        Verdict::No => Mark::Broken,
+        Verdict::Open => Mark::Undecided,
+    }
+}
+
 /// One trace: its pair, its first step, the engagement, and the values of the rules' formulas so far. It stands for the steps
 /// so far and what they answer to the atoms.
 #[derive(Drop)]
@@ -41,10 +54,11 @@ pub struct AuditTrace {
 }
 
 impl AuditTrace {
-    ghost use Rattle.std.specs.Prelude.{◌+◌, ◌≤◌, ℕ, IfOk, IfSome, OnOk};
+    ghost use Rattle.std.specs.Prelude.{◌+◌, ◌≤◌, ℕ, true, IfOk, IfSome, OnOk};
     ghost use Rattle.encounters.specs.Directions.{HaveDirections};
     ghost use Rattle.encounters.specs.Risk.{IsDetect};
-    ghost use Rattle.mtl_monitor.specs.Following.{Fits, IsProgramOf, count_of, fed_of};
+    ghost use Rattle.mtl_formulas.specs.FormulaTree.{FormulaTree};
+    ghost use Rattle.mtl_monitor.specs.Following.{Fits, IsProgramOf, count_of, fed_of, greatest_reach};
     ghost use Rattle.mtl_monitor.specs.declared.program.Program.{Program};
     ghost use Rattle.audit_rows.specs.Tracks.{Track};
     ghost use Rattle.audit_rows.specs.declared.row.Row.{Row};
@@ -96,12 +110,11 @@ impl AuditTrace {
         requires fits { Fits program.now self.now.values }
         requires few { fed_of self.now.values ≤ 2 ^ 31 }
         requires formula { rule < count_of program.now }
-        requires total { rule < rules_of marks.old }
         ensures as_many { rules_of marks.new ≡ rules_of marks.old }
         ensures marks { OnOk result (MarksRule program.now self.now index rule marks.old marks.new) }
     {
         match self.values.answer(program, rule) {
-            Some((position, value)) => marks.mark_rule(index, rule, self.start + position, value),
+            Some((position, value)) => marks.mark(index, self.start + position, mark_of(value)),
             None => Ok(()),
         }
     }
@@ -110,7 +123,6 @@ impl AuditTrace {
     fn mark_rules(&self, program: &Program, marks: &mut Marks, first: usize) -> Result<(), Memory>
         requires fits { Fits program.now self.now.values }
         requires few { fed_of self.now.values ≤ 2 ^ 31 }
-        requires totals { rules_of marks.old ≡ count_of program.now }
         requires room { first + count_of program.now < 2 ^ 64 }
         ensures as_many { rules_of marks.new ≡ rules_of marks.old }
         ensures marks { OnOk result (MarksRules program.now self.now first (count_of program.now) marks.old marks.new) }
@@ -121,8 +133,15 @@ impl AuditTrace {
         Ok(())
     }
 
+    /// Whether each formula has answered to a row before that of the step.
+    fn has_answered(&self, program: &Program, step: u32) -> bool
+        ensures { result ≡ true → (formulas : List FormulaTree) → IsProgramOf program.now formulas → self.now.start + greatest_reach formulas < step }
+    {
+        program.reach() < step.saturating_sub(self.start)
+    }
+
     /// Takes the next step, which is seen, or is not: its tracks, of which the meeting's is the one at this index, get the marks that
-    /// it decides.
+    /// it decides. Where no formula's value changes, its rules' marks are those before, so that nothing is to be done for them.
     pub fn step(
         &mut self,
         program: &Program,
@@ -145,8 +164,11 @@ impl AuditTrace {
             → Steps program.now numbers self.new known (option_copied seen.entry) marks.new before after bound given) }
     {
         let row = self.follower.step(seen);
-        self.values.feed(program, &row);
-        marks.mark_meeting(first, step, meeting_mark(&self.follower.state(), seen))?;
+        let changes = self.values.feed(program, &row);
+        marks.mark(first, step, meeting_mark(&self.follower.state(), seen))?;
+        if !changes && self.has_answered(program, step) {
+            return Ok(());
+        }
         self.mark_rules(program, marks, first + 1)
     }
 

@@ -91,7 +91,7 @@ fn an_engagement_that_ends_at_the_last_step(rt: HostRuntime) -> Result<(), Fail>
     trace.step(&program, head_on(-9_260_000).as_ref(), 6, &mut marks, 0)?;
     trace.step(&program, head_on(-11_112_000).as_ref(), 7, &mut marks, 0)?;
     trace.end(&program, &mut marks, 0)?;
-    let (rows, totals) = marks.finish()?;
+    let (rows, totals) = marks.finish(8)?;
     assert_eq!(rt;
         rows.as_slice(),
         [
@@ -150,7 +150,7 @@ fn a_trace_of_no_steps_has_no_rows(rt: HostRuntime) -> Result<(), Fail> {
     marks.begin(PAIR)?;
     let mut trace = AuditTrace::new(alloc, &program, PAIR, 5, DETECT, ACT, 10)?;
     trace.end(&program, &mut marks, 0)?;
-    let (rows, _totals) = marks.finish()?;
+    let (rows, _totals) = marks.finish(5)?;
     assert_eq!(rt; rows.len(), 0);
     Ok(())
 }

@@ -13,6 +13,7 @@ mod SightingFacts
 mod UnderWay
 mod Beginning
 mod NextTick
+mod AtTheEnd
 mod OneValue
 mod Stepping
 mod TotalsOf

@@ -22,7 +22,8 @@ use Rattle.audit_traces.specs.AuditTracks.{IsTraceOf}
 use Rattle.auditor.specs.Inner.AuditKeeping.{AreKnown, AreTracksOfAll, pairs_of}
 use Rattle.auditor.specs.Inner.TracesKept.{AreEnded}
 use Rattle.audit_traces.specs.RuleCounts.{told}
-use Rattle.audit_traces.specs.Tallies.{Tallies, counted, is_broken, is_nothing, is_of_rule, is_undecided, marks_in}
+use Rattle.audit_rows.specs.MarkCounts.{is_broken, is_nothing, is_undecided}
+use Rattle.audit_traces.specs.Tallies.{Tallies, counted, is_of_rule, marks_in}
 use Rattle.audit_traces.specs.TraceKeeping.{AreRuleMarksWhole, AreRuleTracks, AreTracks, Known}
 use Rattle.audit_traces.specs.ValueMarks.{mark_of}
 use Rattle.audit_traces.specs.declared.total.Total.{Total}

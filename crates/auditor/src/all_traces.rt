@@ -301,11 +301,12 @@ impl AllTraces {
         self.marks.rows_below(bound)
     }
 
-    /// Ends all traces: the rows that were not given yet, and the totals of the rules.
-    pub fn end(self) -> Result<(Vec<Row>, Vec<Total>), Memory>
+    /// Ends all traces, whose next steps would be the one with this number: the rows that were not given yet, and the totals of the
+    /// rules.
+    pub fn end(self, end: u32) -> Result<(Vec<Row>, Vec<Total>), Memory>
         requires { AreReady self 20000 }
-        ensures { IfOk result (λ end. (numbers : Numbers) (knowns : List Known) (bound : ℕ) (given : List Row) → Holds self numbers knowns bound given
-            → AreEnded numbers knowns (given ++ end.0.items) end.1.items) }
+        ensures { IfOk result (λ last. (numbers : Numbers) (knowns : List Known) (bound : ℕ) (given : List Row) → Holds self numbers knowns bound given
+            → All (IsAtStep end) knowns → AreEnded numbers knowns (given ++ last.0.items) last.1.items) }
     {
         let AllTraces {
             program,
@@ -314,6 +315,6 @@ impl AllTraces {
             ..
         } = self;
         end_each(&mut traces, &program, &mut marks)?;
-        marks.finish()
+        marks.finish(end)
     }
 }

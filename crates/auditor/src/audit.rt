@@ -225,7 +225,7 @@ impl Audit {
         ensures totals { IfOk result (λ end. (numbers : Numbers) (ticks : List Sighting) (given : List Row) → StandsFor self numbers ticks given
             → AreTotals numbers ticks (given ++ end.rows.items) end.totals.items) }
     {
-        let (rows, totals) = self.traces.end()?;
+        let (rows, totals) = self.traces.end(self.last_tick)?;
         Ok(AuditEnd { rows, totals })
     }
 }

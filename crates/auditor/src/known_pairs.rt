@@ -26,5 +26,24 @@ pub fn add(pairs: &mut BTreeSet<Pair>, pair: Pair) -> Result<(), Memory>
 pub fn is_chosen(subjects: &[u32], pair: Pair) -> bool
     ensures { IsTrue result ↔ ((subjects.now ≡ []) ⊎ Contains subjects.now pair.subject ⊎ Contains subjects.now pair.other) }
 {
-    subjects.is_empty() || subjects.contains(&pair.subject) || subjects.contains(&pair.other)
+    subjects.is_empty() || has_one(subjects, pair)
+}
+
+/// Whether one of a pair is among these. They are few, so that each is compared in line.
+fn has_one(subjects: &[u32], pair: Pair) -> bool
+    ensures { IsTrue result ↔ (Contains subjects.now pair.subject ⊎ Contains subjects.now pair.other) }
+{
+    for mmsi in subjects {
+        if is_one(pair, *mmsi) {
+            return true;
+        }
+    }
+    false
+}
+
+/// Whether a vessel is one of a pair.
+fn is_one(pair: Pair, mmsi: u32) -> bool
+    ensures { IsTrue result ↔ ((mmsi ≡ pair.subject) ⊎ (mmsi ≡ pair.other)) }
+{
+    mmsi == pair.subject || mmsi == pair.other
 }

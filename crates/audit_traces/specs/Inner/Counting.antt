@@ -1,17 +1,19 @@
 -- How a total counts. Each of its numbers stands still at its type's end.
 use Rattle.std.specs.Prelude.{ℕ, ◌≡◌, ◌+◌, List, Some, length, slice_get}
 use Rattle.std.specs.List.{filter}
-use Rattle.mtl_formulas.specs.declared.verdict.Verdict.{Verdict}
-use Rattle.mtl_formulas.specs.declared.verdict.Verdict.TheVariants.{No, Open, Yes}
+use Rattle.audit_rows.specs.declared.counts.MarkCounts.{MarkCounts}
 use Rattle.audit_rows.specs.declared.row.Row.{Row}
 use Rattle.audit_traces.specs.RuleCounts.{is_run_of, told}
 use Rattle.audit_traces.specs.declared.total.Total.{Total}
 
--- with one more position, at which the rule's formula has the value
-abbrev pub with_value : Verdict → Total → Total
-with_value Yes total = record total { positions = told (total.positions + 1); yes = told (total.yes + 1) }
-with_value No total = record total { positions = told (total.positions + 1); no = told (total.no + 1) }
-with_value Open total = record total { positions = told (total.positions + 1); undecided = told (total.undecided + 1) }
+-- with the positions of a track more
+abbrev pub with_counts : MarkCounts → Total → Total
+with_counts counts total = record total {
+  positions = told (total.positions + counts.all);
+  yes = told (total.yes + counts.nothing);
+  no = told (total.no + counts.broken);
+  undecided = told (total.undecided + counts.undecided);
+}
 
 abbrev pub with_run : Total → Total
 with_run total = record total { runs = told (total.runs + 1) }

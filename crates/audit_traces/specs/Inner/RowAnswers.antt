@@ -1,5 +1,5 @@
 -- What the answers to one row bring to the tracks of a trace's rules.
-use Rattle.std.specs.Prelude.{ℕ, ◌≡◌, ◌+◌, List, [], ◌∷◌, ◌++◌, length, Option, Some, None, true}
+use Rattle.std.specs.Prelude.{ℕ, ◌≡◌, ◌+◌, List, [], ◌∷◌, ◌++◌, length, Option, Some, None}
 use Rattle.mtl_formulas.specs.FormulaTree.{FormulaTree}
 use Rattle.mtl_formulas.specs.declared.verdict.Verdict.{Verdict}
 use Rattle.mtl_monitor.specs.Following.{Closes, Follows, IsEnded, IsFed, formula_at, past_of}
@@ -9,7 +9,7 @@ use Rattle.mtl_monitor.specs.declared.trace_state.TraceState.{TraceState}
 use Rattle.audit_rows.specs.Tracks.{Track, longer, next_step}
 use Rattle.audit_rows.specs.declared.row.Row.{Row}
 use Rattle.audit_traces.specs.ValueMarks.{mark_of}
-use Rattle.audit_traces.specs.Tallies.{Keeps, is_of_rule}
+use Rattle.audit_traces.specs.Tallies.{Keeps}
 use Rattle.audit_traces.specs.declared.marks.Marks.{Marks}
 use Rattle.audit_traces.specs.declared.trace.AuditTrace.{AuditTrace}
 
@@ -39,16 +39,16 @@ answered_all [] tracks = tracks
 answered_all (answer ∷ answers) [] = []
 answered_all (answer ∷ answers) (track ∷ tracks) = answered answer track ∷ answered_all answers tracks
 
--- The answer is for the next position of the rule's track, in a trace that begins at this step.
-abbrev pub Awaits : ℕ → ℕ → Answer → Track → Type 0
-Awaits start rule None track = Unit {0}
-Awaits start rule (Some answer) track = (start + answer.0 ≡ next_step track) × (is_of_rule rule track.topic ≡ true)
+-- The answer is for the next position of the track, in a trace that begins at this step.
+abbrev pub Awaits : ℕ → Answer → Track → Type 0
+Awaits start None track = Unit {0}
+Awaits start (Some answer) track = start + answer.0 ≡ next_step track
 
-abbrev pub AwaitAll : ℕ → ℕ → List Answer → List Track → Type 0
-AwaitAll start rule [] [] = Unit {0}
-AwaitAll start rule [] (track ∷ tracks) = ⊥
-AwaitAll start rule (answer ∷ answers) [] = ⊥
-AwaitAll start rule (answer ∷ answers) (track ∷ tracks) = Awaits start rule answer track × AwaitAll start (rule + 1) answers tracks
+abbrev pub AwaitAll : ℕ → List Answer → List Track → Type 0
+AwaitAll start [] [] = Unit {0}
+AwaitAll start [] (track ∷ tracks) = ⊥
+AwaitAll start (answer ∷ answers) [] = ⊥
+AwaitAll start (answer ∷ answers) (track ∷ tracks) = Awaits start answer track × AwaitAll start answers tracks
 
 -- ---- what marking brings to the marks
 
@@ -57,7 +57,7 @@ pub record MarksRule (program : Program) (trace : AuditTrace) (index rule : ℕ)
   pub answer : Answer
   pub is : IsAnswer program trace.values rule answer
   pub keeps : (rules bound : ℕ) (before : List Track) (track : Track) (after : List Track) (given : List Row) → index ≡ length before
-      → Awaits trace.start rule answer track → Keeps old rules (before ++ track ∷ after) bound given
+      → Awaits trace.start answer track → Keeps old rules (before ++ track ∷ after) bound given
       → Keeps new rules (before ++ answered answer track ∷ after) bound given
 
 -- So have the tracks of so many rules, from the index on.
@@ -66,5 +66,5 @@ pub record MarksRules (program : Program) (trace : AuditTrace) (first count : �
   pub many : length answers ≡ count
   pub are : AreAnswers program trace.values 0 answers
   pub keeps : (rules bound : ℕ) (before mine after : List Track) (given : List Row) → first ≡ length before
-      → AwaitAll trace.start 0 answers mine → Keeps old rules (before ++ (mine ++ after)) bound given
+      → AwaitAll trace.start answers mine → Keeps old rules (before ++ (mine ++ after)) bound given
       → Keeps new rules (before ++ (answered_all answers mine ++ after)) bound given

@@ -6,7 +6,7 @@ use Rattle.audit_rows.specs.Inner.Queues.{Holds, StandsFor}
 use Rattle.audit_rows.specs.Tracks.{Track, marked}
 use Rattle.audit_rows.proofs.Ending.{as_many}
 use Rattle.audit_rows.proofs.Pending.{entries_after, keys_in_order}
-use Rattle.audit_rows.proofs.Queues.{closing, lanes_marked, quiet}
+use Rattle.audit_rows.proofs.Queues.{closing, lanes_marked, next_of, quiet}
 use Rattle.audit_rows.proofs.Tracks.{none_marked, stands_at}
 use Rattle.audit_rows.proofs.row_queue.RowQueue.mark.Goals as goal
 
@@ -31,7 +31,7 @@ returns-in_default-push c = λ tracks bound given h next.
     let at = stands_at lanes tracks i lane h.lanes there (sym c.in-Some.ensures.value) in
     record {
       lanes = lanes_marked lanes tracks i lane c.push.new.self c.args.step c.args.mark h.lanes there (sym c.in-Some.ensures.value) next c.push.ensures.stands;
-      holds = quiet c.args.self.now.pending.entries tracks bound given i c.args.mark at.track c.push.result h.holds at.at (c.push.ensures.closes at.track at.stands) c.in_default-push.is;
+      holds = quiet c.args.self.now.pending.entries tracks bound given i c.args.mark at.track c.push.result h.holds at.at (c.push.ensures.closes at.track at.stands (next_of _ at.track c.args.step at.at next)) c.in_default-push.is;
     }
 
 pub returns-in_ok-insert : goal.returns-in_ok-insert
@@ -49,6 +49,6 @@ returns-in_ok-insert c = λ tracks bound given h next.
     record {
       lanes = lanes_marked lanes tracks i lane c.push.new.self c.args.step c.args.mark h.lanes there (sym c.in-Some.ensures.value) next c.push.ensures.stands;
       holds = subst (λ (es : List (Place × Row)). Holds es (marked tracks i c.args.mark) bound given) (sym entries)
-          (closing old tracks bound given i c.args.mark at.track c.push.result h.holds at.at (c.push.ensures.closes at.track at.stands) row c.in-Some-push.is
+          (closing old tracks bound given i c.args.mark at.track c.push.result h.holds at.at (c.push.ensures.closes at.track at.stands (next_of _ at.track c.args.step at.at next)) row c.in-Some-push.is
           (keys_in_order old _ row c.in_ok-insert.ensures.ordered entries));
     }

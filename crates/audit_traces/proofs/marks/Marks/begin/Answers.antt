@@ -5,7 +5,6 @@ use Rattle.audit_rows.specs.Inner.Queues.{StandsFor}
 use Rattle.audit_rows.specs.Tracks.{Track}
 use Rattle.audit_traces.specs.Tallies.{begun_tracks}
 use Rattle.audit_traces.proofs.Begun.{begun_more, new_of_pair, new_rule}
-use Rattle.audit_traces.proofs.Totals.{begun_told}
 use Rattle.audit_traces.proofs.marks.Marks.begin.Goals as goal
 
 pub loop-rule-init : goal.loop-rule-init
@@ -34,5 +33,5 @@ returns-clause-keeps c = λ rules_there start bound tracks given h new le.
     let all : c.loop-rule.rule ≡ rules_there = omega arith in
     record {
       queue = subst (λ (n : ℕ). StandsFor c.loop-rule.self.queue (tracks ++ begun_tracks pair start n) bound given) all (c.loop-rule.invariant.stands start bound tracks given h.queue new le);
-      totals = rw c.loop-rule.invariant.totals (begun_told items rules_there tracks pair start given h.totals);
+      totals = rw c.loop-rule.invariant.totals h.totals;
     }

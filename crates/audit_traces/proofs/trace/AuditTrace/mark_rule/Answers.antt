@@ -3,10 +3,10 @@ use Rattle.audit_traces.proofs.RowAnswers.{on_ok, with_mark, with_none}
 use Rattle.audit_traces.proofs.trace.AuditTrace.mark_rule.Goals as goal
 
 pub returns-in-Some-clause-marks : goal.returns-in-Some-clause-marks
-returns-in-Some-clause-marks c = on_ok c.mark_rule.result
-    (with_mark c.args.program.now c.args.self.now c.args.index c.args.rule c.args.marks.now c.mark_rule.new.self c.in-Some.position c.in-Some.value
+returns-in-Some-clause-marks c = on_ok c.mark.result
+    (with_mark c.args.program.now c.args.self.now c.args.index c.args.rule c.args.marks.now c.mark.new.self c.in-Some.position c.in-Some.value
     (record { fed = c.in-Some.ensures.fed; ended = c.in-Some.ensures.ended }))
-    c.mark_rule.ensures.keeps
+    (rw c.mark_of.ensures at c.mark.ensures.keeps)
 
 pub returns-in-None-clause-marks : goal.returns-in-None-clause-marks
 returns-in-None-clause-marks c = with_none c.args.program.now c.args.self.now c.args.index c.args.rule c.args.marks.now c.args.marks.now refl
