@@ -1,5 +1,5 @@
 -- The whole report of an audit, and why there is none.
-use Rattle.std.proofs.Common.{ℕ, ◌≡◌, ◌≢◌, ◌++◌, false, List, append_assoc, ap, ap₂, sym, subst, ◌∙◌}
+use Rattle.std.proofs.Common.{ℕ, ◌≡◌, ◌++◌, false, refl, List, append_assoc, ap, ap₂, sym, subst, ◌∙◌}
 use Rattle.std.specs.Prelude.{Result, Ok, Err, IfErr, IsErrAnd}
 use Rattle.audit_rows.specs.declared.row.Row.{Row}
 use Rattle.audit_traces.specs.declared.total.Total.{Total}
@@ -10,9 +10,10 @@ use Rattle.scenario.specs.declared.values.Scenario.{Scenario}
 use Rattle.tracks.specs.VesselsHeld.{Sent}
 use Rattle.colregs_program.specs.AuditReport.{audit_numbers, sightings_of, stretch_rows, total_rows, vessel_rows}
 use Rattle.colregs_program.specs.Endings.{greatest_traces}
-use Rattle.colregs_program.specs.Inner.LogFaults.{EndingCause}
-use Rattle.colregs_program.specs.declared.log_fault.EndingFault.{EndingFault}
-use Rattle.colregs_program.specs.declared.log_fault.EndingFault.TheVariants as ending
+use Rattle.auditor.specs.declared.fault.AuditFault.{AuditFault}
+use Rattle.auditor.specs.declared.fault.AuditFault.TheVariants as audit
+use Rattle.colregs_program.specs.Inner.LogFaults.{EndingCause, auditing_fault}
+use Rattle.colregs_program.proofs.Meeting.{too_many_traces}
 use Rattle.colregs_program.specs.declared.request.Mode.TheVariants as mode
 
 -- the fault that a `?` hands on has its cause
@@ -20,12 +21,10 @@ pub err_cause : {T E : Type 0} (r : Result T E) (x : E) (P : E → Type 0) → I
 err_cause (Ok v) x P is cause = tt
 err_cause (Err e) x P is cause = subst P (sym is) cause
 
-pub audit_cause : {T : Type 0} (scenario : Scenario) (log : List ℕ) (fault : EndingFault) (r : Result T EndingFault) → r ≡ Err fault → r ≢ Err ending.TooManyVessels
-    → is_crowded scenario (lines_of log) ≡ false → (r ≡ Err ending.TooManyPairs → HaveMoreThan greatest_traces (audit_numbers scenario) (sightings_of scenario log))
-    → EndingCause mode.Audit scenario log fault
-audit_cause scenario log ending.TooManyVessels r was not calm many = absurd (not was)
-audit_cause scenario log ending.TooManyPairs r was not calm many = (calm, many was)
-audit_cause scenario log ending.Memory r was not calm many = tt
+pub audit_cause : (scenario : Scenario) (log : List ℕ) (fault : AuditFault) → is_crowded scenario (lines_of log) ≡ false
+    → (fault ≡ audit.TooManyPairs → HaveMoreThan greatest_traces (audit_numbers scenario) (sightings_of scenario log)) → EndingCause mode.Audit scenario log (auditing_fault fault)
+audit_cause scenario log audit.TooManyPairs calm many = too_many_traces scenario log calm (many refl)
+audit_cause scenario log audit.Memory calm many = tt
 
 -- the rows one after the other
 pub whole_text : (scenario : Scenario) (messages : List Sent) (rows : List Row) (totals totals' : List Total) (counts counts' : List ℕ) → totals ≡ totals' → counts ≡ counts'

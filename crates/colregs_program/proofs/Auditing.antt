@@ -37,7 +37,8 @@ use Rattle.tracks.specs.AcceptedReports.{Numbers as BookNumbers}
 use Rattle.tracks.specs.SeenVessels.{seen_in, seen_of}
 use Rattle.tracks.specs.Standing.{BookValue, StandsFor as BookStandsFor}
 use Rattle.tracks.specs.VesselsHeld.{Sent}
-use Rattle.colregs_program.specs.AuditReport.{audit_numbers, sighted, stretch_fields, stretch_rows, time_of_tick}
+use Rattle.scenario.specs.Ticks.{time_of_tick}
+use Rattle.colregs_program.specs.AuditReport.{audit_numbers, sighted, stretch_fields, stretch_rows}
 use Rattle.colregs_program.specs.Endings.{greatest_traces}
 use Rattle.colregs_program.specs.Inner.AuditWriting.{AreOfRules, AuditedUpTo, IsOfRules, seen_before, seen_first}
 use Rattle.colregs_program.specs.Inner.LogFaults.{auditing_fault}
@@ -162,15 +163,6 @@ module _ (scenario : Scenario) (book : BookValue) (first : ReportText) where
     written = λ front has. subst (HasText text') (rows_on scenario.rules front up.given rows) (writes _ (up.written front has));
     few = λ some. few (audit_numbers scenario) up.ticks up.given up.stands;
   }
-
--- the fault that is that of too many pairs
-pub pairs_fault : (fault : AuditFault) → ending.TooManyPairs ≡ auditing_fault fault → fault ≡ audit_fault.TooManyPairs
-pairs_fault audit_fault.TooManyPairs is = refl
-pairs_fault audit_fault.Memory is = cc is
-
-pub not_vessels : (fault : AuditFault) → ending.TooManyVessels ≡ auditing_fault fault → ⊥
-not_vessels audit_fault.TooManyPairs is = cc is
-not_vessels audit_fault.Memory is = cc is
 
 -- the fault that a `?` hands on
 pub same_fault : {T E : Type 0} (r : Result T E) (x t : E) → IsErrAnd r (λ e. e ≡ x) → r ≡ Err t → t ≡ x

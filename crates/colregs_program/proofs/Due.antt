@@ -22,40 +22,37 @@ usage_due words files log (status.Limit which.Log most) refused is = cc (refused
 usage_due words files log (status.Limit which.Vessels most) refused is = cc (refused, is.3.accepted)
 usage_due words files log (status.Limit which.Pairs most) refused is = cc (refused, is.3.accepted)
 usage_due words files log (status.Scenario key why) refused is = cc (refused, is.1)
+usage_due words files log (status.Limit which.Targets most) refused is = cc (refused, is.3.accepted)
+usage_due words files log (status.OwnUnready why) refused is = cc (refused, is.3.accepted)
+usage_due words files log status.NoManoeuvre refused is = cc (refused, is.3.accepted)
 usage_due words files log status.Done refused is = cc (refused, is.3.accepted)
 usage_due words files log status.ReadFault refused is = absurd is
 usage_due words files log status.WriteFault refused is = absurd is
 usage_due words files log status.Memory refused is = absurd is
 
--- the answer to what is met in a log
-abbrev pub answer_to : Option Status → Status
-answer_to None = status.Done
-answer_to (Some refusal) = refusal
-
 -- the answer that is due where setting up comes to this
 abbrev pub Follows : Option (List ℕ) → Mode → Status → Result Scenario SetUpFault → Type 0
-Follows log mode due (Ok scenario) =
-    (bytes : List ℕ) × (met : Option Status) × (log ≡ Some bytes) × IsMet mode scenario bytes met × (answer_to met ≡ due)
+Follows log mode due (Ok scenario) = (bytes : List ℕ) × (log ≡ Some bytes) × IsMet mode scenario bytes due
 Follows log mode due (Err why) = answer_of why ≡ due
 
 -- what setting up is to come to, where an answer is due
 pub record SetUpDue (files : Option Files) (log : Option (List ℕ)) (request : Request) (due : Status) : Type 0 where
   pub came : Result Scenario SetUpFault
-  pub is : IsSetUpDue files request.name came
+  pub is : IsSetUpDue request.mode files request.name came
   pub follows : Follows log request.mode due came
 
 -- P holds of what the words ask for
 of_request : (words : List (List ℕ)) (request : Request) (P : Request → Type 0) → request_of words ≡ Some request → Requested words P → P request
 of_request words request P accepted asked = let same : asked.0 ≡ request = cc (asked.1, accepted) in subst P same asked.2
 
-of_meeting : (words : List (List ℕ)) (files : Option Files) (log : Option (List ℕ)) (request : Request) (refusal : Option Status)
-    → request_of words ≡ Some request → Meets words files log refusal → SetUpDue files log request (answer_to refusal)
-of_meeting words files log request refusal accepted meets =
+of_meeting : (words : List (List ℕ)) (files : Option Files) (log : Option (List ℕ)) (request : Request) (due : Status)
+    → request_of words ≡ Some request → Meets words files log due → SetUpDue files log request due
+of_meeting words files log request due accepted meets =
     let same : meets.0 ≡ request = cc (meets.3.accepted, accepted) in
-    subst (λ (r : Request). SetUpDue files log r (answer_to refusal)) same (record {
+    subst (λ (r : Request). SetUpDue files log r due) same (record {
       came = Ok meets.1;
       is = meets.3.lies;
-      follows = (meets.2, refusal, meets.3.gives, meets.4, refl);
+      follows = (meets.2, meets.3.gives, meets.4);
     })
 
 pub set_up_due : (words : List (List ℕ)) (files : Option Files) (log : Option (List ℕ)) (request : Request) (due : Status)
@@ -73,15 +70,16 @@ set_up_due words files log request (status.Limit which.Scenario most) accepted i
 }
 set_up_due words files log request (status.Scenario key why) accepted is = record {
   came = Err (fault.Refused key why);
-  is = of_request words request (λ r. IsSetUpDue files r.name (Err (fault.Refused key why))) accepted is;
+  is = of_request words request (λ r. IsSetUpDue r.mode files r.name (Err (fault.Refused key why))) accepted is;
   follows = refl;
 }
-set_up_due words files log request (status.Limit which.Log most) accepted is = of_meeting words files log request (Some (status.Limit which.Log most)) accepted is
-set_up_due words files log request (status.Limit which.Vessels most) accepted is =
-    of_meeting words files log request (Some (status.Limit which.Vessels most)) accepted is
-set_up_due words files log request (status.Limit which.Pairs most) accepted is =
-    of_meeting words files log request (Some (status.Limit which.Pairs most)) accepted is
-set_up_due words files log request status.Done accepted is = of_meeting words files log request None accepted is
+set_up_due words files log request (status.Limit which.Log most) accepted is = of_meeting words files log request (status.Limit which.Log most) accepted is
+set_up_due words files log request (status.Limit which.Vessels most) accepted is = of_meeting words files log request (status.Limit which.Vessels most) accepted is
+set_up_due words files log request (status.Limit which.Pairs most) accepted is = of_meeting words files log request (status.Limit which.Pairs most) accepted is
+set_up_due words files log request (status.Limit which.Targets most) accepted is = of_meeting words files log request (status.Limit which.Targets most) accepted is
+set_up_due words files log request (status.OwnUnready why) accepted is = of_meeting words files log request (status.OwnUnready why) accepted is
+set_up_due words files log request status.NoManoeuvre accepted is = of_meeting words files log request status.NoManoeuvre accepted is
+set_up_due words files log request status.Done accepted is = of_meeting words files log request status.Done accepted is
 set_up_due words files log request status.ReadFault accepted is = absurd is
 set_up_due words files log request status.WriteFault accepted is = absurd is
 set_up_due words files log request status.Memory accepted is = absurd is

@@ -2,7 +2,10 @@ pub mod AuditText
 pub mod Auditing
 pub mod Due
 pub mod Meeting
+pub mod OneManoeuvre
 pub mod OneEnding
+pub mod PlanText
+pub mod Seeking
 pub mod OutcomeRows
 pub mod Refusals
 pub mod SettingUp

@@ -13,7 +13,8 @@ use Rattle.audit_traces.specs.declared.total.Total.{Total}
 use Rattle.rule_set.specs.NamedTrees.{NamedTree, rule_at}
 use Rattle.tracks.specs.AcceptedReports.{Numbers}
 use Rattle.tracks.specs.VesselsHeld.{Sent, held_of, is_held, senders_of}
-use Rattle.colregs_program.specs.AuditReport.{held_fields, kind_of, length_of, told_fields, total_rows}
+use Rattle.tracks.specs.Lengths.{length_of}
+use Rattle.colregs_program.specs.AuditReport.{held_fields, kind_of, told_fields, total_rows}
 
 -- the first rows of a list, and one more
 pub rows_push : {X : Type 0} (f : X → List ℕ) (xs : List X) (k : ℕ) (d : X) → k < length xs

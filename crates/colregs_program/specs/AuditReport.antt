@@ -1,6 +1,6 @@
 -- The report of `audit`: the meetings and the verdicts in their order, the vessels, what each rule comes to, and then how many lines
 -- came to each outcome.
-use Rattle.std.specs.Prelude.{ℕ, ◌≡◌, ◌+◌, ◌*◌, flat_map, length, map, List, [], ◌++◌, ◌∷◌, Option, Some, None}
+use Rattle.std.specs.Prelude.{ℕ, ◌≡◌, ◌+◌, flat_map, length, map, List, [], ◌++◌, ◌∷◌, Option, Some, None}
 use Rattle.std.specs.List.{range_with_len}
 use Rattle.ais_messages.specs.declared.message.ShipData.{ShipData}
 use Rattle.audit_report.specs.CsvRows.{row_of}
@@ -16,8 +16,9 @@ use Rattle.judged_lines.specs.LogLines.{lines_of}
 use Rattle.judged_lines.specs.SentLines.{sent}
 use Rattle.rule_set.specs.NamedTrees.{NamedTree, rule_at}
 use Rattle.scenario.specs.declared.values.Scenario.{Scenario}
-use Rattle.scenario.specs.declared.values.Window.{Window}
+use Rattle.scenario.specs.Ticks.{time_of_tick}
 use Rattle.tracks.specs.AcceptedReports.{Numbers}
+use Rattle.tracks.specs.Lengths.{length_of}
 use Rattle.tracks.specs.SeenVessels.{seen_of}
 use Rattle.tracks.specs.VesselsHeld.{Sent, accepted_of, held_of, legs_of, statics_of}
 use Rattle.tracks.specs.declared.statics.Statics.{Statics}
@@ -34,10 +35,6 @@ audit_numbers scenario = record {
   subjects = scenario.subjects;
   rules = scenario.rules;
 }
-
--- the time of a tick
-abbrev pub time_of_tick : Window → ℕ → ℕ
-time_of_tick window k = window.start + k * window.tick
 
 -- the vessels that are seen at each tick of the window, by the messages
 abbrev pub sighted : Scenario → List Sent → List Sighting
@@ -61,11 +58,6 @@ stretch_rows rules rows = flat_map (λ r. row_of (stretch_fields rules r)) rows
 abbrev pub kind_of : Option ShipData → ℕ
 kind_of None = 0
 kind_of (Some ship) = ship.kind
-
--- her length in metres, from bow to stern, 0 where she told none
-abbrev pub length_of : Option ShipData → ℕ
-length_of None = 0
-length_of (Some ship) = ship.bow + ship.stern
 
 abbrev pub told_fields : ℕ → Statics → ℕ → ℕ → Fields
 told_fields mmsi statics reports legs = vessel_fields mmsi statics.name (kind_of statics.ship) (length_of statics.ship) reports legs

@@ -1,6 +1,8 @@
 -- What a run writes to standard error: a line that names the fault.
 use Rattle.std.specs.Prelude.{ℕ, codes, Bool, true, false, List, [], ◌∷◌, ◌++◌}
 use Rattle.std.specs.Fmt.{decimal}
+use Rattle.own_ship.specs.declared.readiness.Unready.{Unready}
+use Rattle.own_ship.specs.declared.readiness.Unready.TheVariants as unready
 use Rattle.scenario_keys.specs.ScenarioTexts.{fault_text}
 use Rattle.colregs_program.specs.declared.status.Which.{Which}
 use Rattle.colregs_program.specs.declared.status.Which.TheVariants as which
@@ -15,21 +17,31 @@ limited which.Scenario = codes "scenario"
 limited which.Log = codes "log"
 limited which.Vessels = codes "vessels"
 limited which.Pairs = codes "pairs"
+limited which.Targets = codes "targets"
+
+-- what own ship lacks
+abbrev pub lacks : Unready → List ℕ
+lacks (unready.NoPoint time) = codes "point"
+lacks (unready.NoCourse time) = codes "course"
+lacks (unready.NoSpeed time) = codes "speed"
 
 -- the line of a fault; nothing where the run is finished
 abbrev pub fault_line : Status → List ℕ
 fault_line status.Done = []
-fault_line status.Usage = line (codes "usage: points|audit SCENARIO")
+fault_line status.NoManoeuvre = []
+fault_line status.Usage = line (codes "usage: points|audit|plan SCENARIO")
 fault_line (status.Scenario key cause) = line (codes "scenario: " ++ fault_text key cause)
 fault_line status.ShelfFault = line (codes "scenario: not read")
 fault_line status.ReadFault = line (codes "log: not read")
 fault_line status.WriteFault = line (codes "report: not written")
 fault_line (status.Limit which most) = line (codes "limit: " ++ limited which ++ codes " " ++ decimal most)
 fault_line status.Memory = line (codes "memory")
+fault_line (status.OwnUnready why) = line (codes "own: no " ++ lacks why)
 
 -- the exit status
 abbrev pub number_of : Status → ℕ
 number_of status.Done = 0
+number_of status.NoManoeuvre = 1
 number_of status.Usage = 2
 number_of (status.Scenario key cause) = 3
 number_of status.ShelfFault = 4
@@ -37,14 +49,17 @@ number_of status.ReadFault = 5
 number_of status.WriteFault = 6
 number_of (status.Limit which most) = 7
 number_of status.Memory = 8
+number_of (status.OwnUnready why) = 9
 
 -- whether a fault's line is made of the fault's own numbers or names, which takes memory
 abbrev pub is_made : Status → Bool
 is_made (status.Limit which most) = true
 is_made (status.Scenario key cause) = true
 is_made status.Done = false
+is_made status.NoManoeuvre = false
 is_made status.Usage = false
 is_made status.ShelfFault = false
 is_made status.ReadFault = false
 is_made status.WriteFault = false
 is_made status.Memory = false
+is_made (status.OwnUnready why) = false

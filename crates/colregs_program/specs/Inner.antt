@@ -1,5 +1,6 @@
 -- Definitions that proofs need and no public clause cites.
 pub mod AuditWriting
+pub mod PlanWriting
 pub mod LineBytes
 pub mod LogFaults
 pub mod SetUps

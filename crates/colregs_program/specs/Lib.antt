@@ -1,6 +1,7 @@
 pub mod OutcomeRows
 pub mod PointsReport
 pub mod AuditReport
+pub mod PlanReport
 pub mod Requests
 pub mod Endings
 pub mod Answers

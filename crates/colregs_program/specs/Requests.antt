@@ -1,5 +1,5 @@
 -- What the words of a command line ask for. The program's own name is none of them.
-use Rattle.std.specs.Prelude.{ℕ, ◌==◌, Bool, false, not, bytes_eq, codes, List, [], ◌∷◌, Option, Some, None, if◌then◌else◌}
+use Rattle.std.specs.Prelude.{ℕ, ◌==◌, Bool, true, false, not, bytes_eq, codes, List, [], ◌∷◌, Option, Some, None, if◌then◌else◌}
 use Rattle.colregs_program.specs.declared.request.Mode.{Mode}
 use Rattle.colregs_program.specs.declared.request.Mode.TheVariants as mode
 
@@ -17,7 +17,14 @@ abbrev pub mode_named : List ℕ → Option Mode
 mode_named word =
     if bytes_eq word (codes "points") then Some mode.Points
     else if bytes_eq word (codes "audit") then Some mode.Audit
+    else if bytes_eq word (codes "plan") then Some mode.Plan
     else None
+
+-- Own ship is needed where she is planned for.
+abbrev pub needs_own : Mode → Bool
+needs_own mode.Points = false
+needs_own mode.Audit = false
+needs_own mode.Plan = true
 
 abbrev pub request_by : Option Mode → List ℕ → Option Request
 request_by None name = None

@@ -1,8 +1,9 @@
 //! The report of `audit`.
-ghost use Rattle.std.specs.Prelude.{◌≡◌, ◌≢◌, IfErr, IfOk, OnOk};
+ghost use Rattle.std.specs.Prelude.{◌≡◌, ◌≢◌, false, IfErr, IfOk, OnOk};
 ghost use Rattle.scenario.specs.ScenarioValues.{IsInRange};
 ghost use Rattle.colregs_program.specs.AuditReport.{IsAuditReport};
-ghost use Rattle.colregs_program.specs.Inner.LogFaults.{EndingCause, IsCalm};
+ghost use Rattle.colregs_program.specs.Endings.{IsAnswerTo};
+ghost use Rattle.colregs_program.specs.Inner.LogFaults.{EndingCause, finished};
 ghost use Rattle.colregs_program.specs.declared.request.Mode.TheVariants.{Audit};
 
 use crate::log_fault::EndingFault;
@@ -24,7 +25,7 @@ pub(crate) fn audit_report(
 ) -> Result<Vec<u8>, EndingFault>
     requires { IsInRange scenario.now }
     ensures report { IfOk result (λ report. IsAuditReport scenario.now log.now report.items) }
-    ensures calm { OnOk result (IsCalm Audit scenario.now log.now) }
+    ensures answer { OnOk result (IsAnswerTo Audit scenario.now log.now (finished false)) }
     ensures cause { IfErr result (EndingCause Audit scenario.now log.now) }
 {
     let mut judge = Judge::new(alloc, Keeping::Tracks, scenario);

@@ -4,6 +4,7 @@ ghost use Rattle.scenario_keys.specs.declared.key.Key.{Key};
 ghost use Rattle.colregs_program.specs.FaultLines.{fault_line, is_made};
 
 use crate::status::{Status, Which};
+use own_ship::Unready;
 use scenario::{Cause, Key, ScenarioFault};
 use std::alloc::{AllocError, Global};
 
@@ -23,8 +24,8 @@ impl FaultLine {
         ensures memory { OnErr result (IsTrue (is_made status.now)) }
     {
         let text = match status {
-            Status::Done => "",
-            Status::Usage => "usage: points|audit SCENARIO\n",
+            Status::Done | Status::NoManoeuvre => "",
+            Status::Usage => "usage: points|audit|plan SCENARIO\n",
             Status::Scenario(key, cause) => {
                 return Ok(FaultLine::Made(refusal_line(alloc, *key, *cause)?));
             }
@@ -35,6 +36,9 @@ impl FaultLine {
                 return Ok(FaultLine::Made(limit_line(alloc, *which, *most)?));
             }
             Status::Memory => "memory\n",
+            Status::OwnUnready(Unready::NoPoint(_)) => "own: no point\n",
+            Status::OwnUnready(Unready::NoCourse(_)) => "own: no course\n",
+            Status::OwnUnready(Unready::NoSpeed(_)) => "own: no speed\n",
         };
         Ok(FaultLine::Fixed(text))
     }
@@ -64,5 +68,6 @@ fn limit_line(alloc: Global, which: Which, most: u64) -> Result<String, AllocErr
         Which::Log => format!(in alloc; "limit: log {most}\n"),
         Which::Vessels => format!(in alloc; "limit: vessels {most}\n"),
         Which::Pairs => format!(in alloc; "limit: pairs {most}\n"),
+        Which::Targets => format!(in alloc; "limit: targets {most}\n"),
     }
 }

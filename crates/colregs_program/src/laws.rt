@@ -1,5 +1,5 @@
 //! Laws of reports, which stand over the definitions alone.
-ghost use Rattle.std.specs.Prelude.{◌≡◌, ℕ, List, Option};
+ghost use Rattle.std.specs.Prelude.{◌≡◌, ℕ, List};
 ghost use Rattle.scenario.specs.declared.values.Scenario.{Scenario};
 ghost use Rattle.colregs_program.specs.Endings.{IsEnding, IsMet};
 ghost use Rattle.colregs_program.specs.declared.request.Mode.{Mode};
@@ -11,8 +11,8 @@ pub fn one_ending()
         IsEnding mode scenario log text → IsEnding mode scenario log other → text ≡ other }
 {}
 
-/// At most one refusal, or none, is met in a log.
-pub fn one_refusal()
-    ensures { (mode : Mode) (scenario : Scenario) (log : List ℕ) (met other : Option Status) →
-        IsMet mode scenario log met → IsMet mode scenario log other → met ≡ other }
+/// One answer at most is met in a log.
+pub fn one_answer()
+    ensures { (mode : Mode) (scenario : Scenario) (log : List ℕ) (answer other : Status) →
+        IsMet mode scenario log answer → IsMet mode scenario log other → answer ≡ other }
 {}

@@ -10,6 +10,7 @@ mod fault_line;
 pub mod laws;
 mod log_fault;
 mod outcome_rows;
+mod plan;
 mod points;
 mod program;
 mod report;
@@ -22,6 +23,7 @@ mod ticks;
 mod totals;
 mod vessels;
 
+pub use own_ship::Unready;
 pub use program::run;
 pub use request::Mode;
 pub use scenario::{Cause, Key, LogNumbers, Scenario, Window};

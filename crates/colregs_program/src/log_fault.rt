@@ -2,6 +2,7 @@
 use crate::status::{Status, Which};
 use auditor::AuditFault;
 use outside::Memory;
+use own_ship::{PrepareFault, Unready};
 use tracks::BookFault;
 
 /// The greatest number of vessels that are held.
@@ -10,6 +11,9 @@ const GREATEST_HELD: u64 = 4096;
 /// The greatest number of traces.
 const GREATEST_TRACES: u64 = 4096;
 
+/// The greatest number of targets.
+const GREATEST_TARGETS: u64 = 64;
+
 /// Why there is no report on a log that was read.
 #[derive(Clone, Copy, Debug, PartialEq, Eq)]
 pub(crate) enum EndingFault {
@@ -17,6 +21,10 @@ pub(crate) enum EndingFault {
     TooManyVessels,
     /// A tick begins a 4097th trace.
     TooManyPairs,
+    /// Own ship cannot be planned for.
+    OwnUnready(Unready),
+    /// More than 64 vessels are targets.
+    TooManyTargets,
     Memory,
 }
 
@@ -59,6 +67,38 @@ impl From<AuditFault> for EndingFault {
     }
 }
 
+impl From<PrepareFault> for EndingFault {
+    ghost use Rattle.std.specs.Prelude.{◌≡◌};
+    ghost use Rattle.colregs_program.specs.Inner.LogFaults.{preparing_fault};
+
+    ghost from_gives = { λ fault made. made ≡ preparing_fault fault };
+
+    fn from(fault: PrepareFault) -> EndingFault {
+        match fault {
+            PrepareFault::Unready(why) => EndingFault::OwnUnready(why),
+            PrepareFault::TooManyTargets => EndingFault::TooManyTargets,
+            PrepareFault::Memory => EndingFault::Memory,
+        }
+    }
+}
+
+impl From<EndingFault> for Status {
+    ghost use Rattle.std.specs.Prelude.{◌≡◌};
+    ghost use Rattle.colregs_program.specs.Inner.LogFaults.{answer_of};
+
+    ghost from_gives = { λ fault status. status ≡ answer_of fault };
+
+    fn from(fault: EndingFault) -> Status {
+        match fault {
+            EndingFault::TooManyVessels => Status::Limit(Which::Vessels, GREATEST_HELD),
+            EndingFault::TooManyPairs => Status::Limit(Which::Pairs, GREATEST_TRACES),
+            EndingFault::OwnUnready(why) => Status::OwnUnready(why),
+            EndingFault::TooManyTargets => Status::Limit(Which::Targets, GREATEST_TARGETS),
+            EndingFault::Memory => Status::Memory,
+        }
+    }
+}
+
 /// Why there is no report on a log.
 #[derive(Clone, Copy, Debug, PartialEq, Eq)]
 pub(crate) enum LogFault {
@@ -66,41 +106,32 @@ pub(crate) enum LogFault {
     NotRead,
     /// The log is longer than this many bytes.
     TooLong(u64),
-    /// A line makes more than 4096 vessels held.
-    TooManyVessels,
-    /// A tick begins a 4097th trace.
-    TooManyPairs,
-    Memory,
+    /// There is no report on what was read, or no memory to read it.
+    Unreported(EndingFault),
 }
 
 impl From<EndingFault> for LogFault {
     ghost use Rattle.std.specs.Prelude.{◌≡◌};
-    ghost use Rattle.colregs_program.specs.Inner.LogFaults.{log_fault};
+    ghost use Rattle.colregs_program.specs.declared.log_fault.LogFault.TheVariants.{Unreported};
 
-    ghost from_gives = { λ fault made. made ≡ log_fault fault };
+    ghost from_gives = { λ fault made. made ≡ Unreported fault };
 
     fn from(fault: EndingFault) -> LogFault {
-        match fault {
-            EndingFault::TooManyVessels => LogFault::TooManyVessels,
-            EndingFault::TooManyPairs => LogFault::TooManyPairs,
-            EndingFault::Memory => LogFault::Memory,
-        }
+        LogFault::Unreported(fault)
     }
 }
 
 impl From<LogFault> for Status {
     ghost use Rattle.std.specs.Prelude.{◌≡◌};
-    ghost use Rattle.colregs_program.specs.Inner.LogFaults.{answer_of};
+    ghost use Rattle.colregs_program.specs.Inner.LogFaults.{log_answer};
 
-    ghost from_gives = { λ fault status. status ≡ answer_of fault };
+    ghost from_gives = { λ fault status. status ≡ log_answer fault };
 
     fn from(fault: LogFault) -> Status {
         match fault {
             LogFault::NotRead => Status::ReadFault,
             LogFault::TooLong(most) => Status::Limit(Which::Log, most),
-            LogFault::TooManyVessels => Status::Limit(Which::Vessels, GREATEST_HELD),
-            LogFault::TooManyPairs => Status::Limit(Which::Pairs, GREATEST_TRACES),
-            LogFault::Memory => Status::Memory,
+            LogFault::Unreported(why) => why.into(),
         }
     }
 }

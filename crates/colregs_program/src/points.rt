@@ -1,5 +1,5 @@
 //! The report of `points`.
-ghost use Rattle.std.specs.Prelude.{◌≡◌, ◌++◌, [], ℕ, List, Err, IfErr, IfOk, IsTrue, OnOk};
+ghost use Rattle.std.specs.Prelude.{◌≡◌, ◌++◌, [], ℕ, List, false, Err, IfErr, IfOk, IsTrue, OnOk};
 ghost use Rattle.audit_report.specs.ReportTexts.{HasText};
 ghost use Rattle.judged_lines.specs.JudgedLines.{is_crowded, judged_lines};
 ghost use Rattle.judged_lines.specs.LogLines.{lines_of};
@@ -7,7 +7,8 @@ ghost use Rattle.judged_lines.specs.Standing.{StandsFor};
 ghost use Rattle.scenario.specs.ScenarioValues.{IsInRange};
 ghost use Rattle.scenario.specs.declared.values.Scenario.{Scenario};
 ghost use Rattle.tracks.specs.declared.entry.BookFault.TheVariants.{TooManyVessels};
-ghost use Rattle.colregs_program.specs.Inner.LogFaults.{EndingCause, IsCalm};
+ghost use Rattle.colregs_program.specs.Endings.{IsAnswerTo};
+ghost use Rattle.colregs_program.specs.Inner.LogFaults.{EndingCause, finished};
 ghost use Rattle.colregs_program.specs.PointsReport.{point_rows, report_of, rows_of_line};
 ghost use Rattle.colregs_program.specs.declared.request.Mode.TheVariants.{Points};
 
@@ -67,7 +68,7 @@ pub(crate) fn points_report(
 ) -> Result<Vec<u8>, EndingFault>
     requires { IsInRange scenario.now }
     ensures report { IfOk result (λ report. report.items ≡ report_of scenario.now log.now) }
-    ensures calm { OnOk result (IsCalm Points scenario.now log.now) }
+    ensures answer { OnOk result (IsAnswerTo Points scenario.now log.now (finished false)) }
     ensures cause { IfErr result (EndingCause Points scenario.now log.now) }
 {
     let mut judge = Judge::new(alloc, Keeping::Latest, scenario);

@@ -1,5 +1,5 @@
 //! The top call.
-ghost use Rattle.std.specs.Prelude.{⊤, ◌≡◌, ◌≢◌, ◌↔◌, ◌<◌, ◌≤◌, ◌⊎◌, ℕ, List, length, IfSome, IsTrue, None, Some, is_some, false, if◌then◌else◌};
+ghost use Rattle.std.specs.Prelude.{⊤, ◌≡◌, ◌≢◌, ◌↔◌, ◌<◌, ◌≤◌, ◌⊎◌, ℕ, List, length, IfSome, IsTrue, None, is_some, false, if◌then◌else◌};
 ghost use Rattle.std.specs.Io.KnownBytes.{Appends, Consumes, IsAtEnd, Keeps};
 ghost use Rattle.outside.specs.Causes.{one_more, Rose};
 ghost use Rattle.outside.specs.Shelves.{IsMissing};
@@ -10,10 +10,11 @@ ghost use Rattle.scenario.specs.ScenarioReading.{IsRefused};
 ghost use Rattle.scenario_keys.specs.declared.key.Key.{Key};
 ghost use Rattle.scenario_keys.specs.declared.cause.Cause.{Cause};
 ghost use Rattle.colregs_program.specs.Answers.{greatest_scenario, Holds, IsBeforeLog, IsDue, Requested, Runs};
-ghost use Rattle.colregs_program.specs.Endings.{IsEnding, IsMet};
+ghost use Rattle.colregs_program.specs.Endings.{IsEnding, IsFinished, IsMet};
 ghost use Rattle.colregs_program.specs.FaultLines.{fault_line, is_made};
-ghost use Rattle.colregs_program.specs.Requests.{request_of};
+ghost use Rattle.colregs_program.specs.Requests.{needs_own, request_of};
 ghost use Rattle.colregs_program.specs.Told.{Gains};
+ghost use Rattle.own_ship.specs.declared.readiness.Unready.{Unready};
 ghost use Rattle.colregs_program.specs.declared.status.Status.{Status};
 ghost use Rattle.colregs_program.specs.declared.status.Which.TheVariants as which;
 
@@ -56,7 +57,9 @@ fn tell<E: Sink>(alloc: Global, status: Status, err: &mut E) -> Status
 /// `points SCENARIO` reads the scenario of that name from the shelf and the whole log, and writes the report of `points`
 /// to `out`: a row for each accepted report in the order of the log, and then how many lines came to each outcome. `audit SCENARIO`
 /// writes the report of `audit`: a row for each meeting and for each stretch on which a rule is broken or undecided, in their order,
-/// then the vessels, what each rule comes to, and the outcomes. What `err` gets names the fault, and nothing else is written.
+/// then the vessels, what each rule comes to, and the outcomes. `plan SCENARIO` takes the last tick as now and writes the report of
+/// `plan`: own ship and the vessels near her, the legs of the first of her plans that newly breaks no rule and enters no domain, or
+/// that there is none, and the outcomes. What `err` gets names the fault, and nothing else is written.
 pub fn run<H: Shelf, S: Source, K: Sink, E: Sink>(
     alloc: Global,
     words: &[Word],
@@ -65,11 +68,12 @@ pub fn run<H: Shelf, S: Source, K: Sink, E: Sink>(
     out: &mut K,
     err: &mut E,
 ) -> Status
-    // A finished run: the log was read to its end, and `out` gained exactly the report, however the reads were cut.
-    ensures report { result ≡ Status.Done → Runs words.now (H.files shelf.old) (λ request scenario.
-        IfSome (S.left log.old) (λ bytes. IsMet request.mode scenario bytes None
+    // The headline: for every scenario and log, however the reads are cut, a finished run has read the log to its end, and `out` gained
+    // exactly the report, which is that of the answer: `NoManoeuvre` comes exactly where every plan fails. A printed plan is safe.
+    ensures headline { IsTrue (IsFinished result) → Runs words.now (H.files shelf.old) (λ request scenario.
+        IfSome (S.left log.old) (λ bytes. IsMet request.mode scenario bytes result
         × (text : List ℕ) × IsEnding request.mode scenario bytes text × Appends (K.contents out.old) (K.contents out.new) text)) }
-    ensures read { result ≡ Status.Done → IsAtEnd (S.left log.new) }
+    ensures read { IsTrue (IsFinished result) → IsAtEnd (S.left log.new) }
 
     // Completeness: the answer that words, shelf and log call for comes, where no call fails. Memory alone is free.
     ensures due { (due : Status) → IsDue words.now (H.files shelf.old) (S.left log.old) due
@@ -86,7 +90,7 @@ pub fn run<H: Shelf, S: Source, K: Sink, E: Sink>(
         × Requested words.now (λ request. Holds (H.files shelf.old) request.name (λ text. most < length text)) }
     ensures refused { (key : Key) (cause : Cause) → result ≡ Status.Scenario key cause
         → Requested words.now (λ request. Holds (H.files shelf.old) request.name (λ text.
-        (length text ≤ greatest_scenario) × IsRefused false text key cause)) }
+        (length text ≤ greatest_scenario) × IsRefused (needs_own request.mode) text key cause)) }
     ensures read_fault { result ≡ Status.ReadFault → (S.faults log.new ≡ one_more (S.faults log.old))
         × Runs words.now (H.files shelf.old) (λ _ scenario.
         StopsAt scenario.log.max_bytes 0 (S.left log.old) (S.left log.new) read.Failed) }
@@ -95,14 +99,20 @@ pub fn run<H: Shelf, S: Source, K: Sink, E: Sink>(
         × Runs words.now (H.files shelf.old) (λ _ scenario. most ≡ scenario.log.max_bytes) }
     ensures vessel_limit { (most : ℕ) → result ≡ Status.Limit which.Vessels most → IsAtEnd (S.left log.new)
         × Runs words.now (H.files shelf.old) (λ request scenario.
-        IfSome (S.left log.old) (λ bytes. IsMet request.mode scenario bytes (Some (Status.Limit which.Vessels most)))) }
+        IfSome (S.left log.old) (λ bytes. IsMet request.mode scenario bytes (Status.Limit which.Vessels most))) }
     ensures pair_limit { (most : ℕ) → result ≡ Status.Limit which.Pairs most → IsAtEnd (S.left log.new)
         × Runs words.now (H.files shelf.old) (λ request scenario.
-        IfSome (S.left log.old) (λ bytes. IsMet request.mode scenario bytes (Some (Status.Limit which.Pairs most)))) }
+        IfSome (S.left log.old) (λ bytes. IsMet request.mode scenario bytes (Status.Limit which.Pairs most))) }
+    ensures own_unready { (why : Unready) → result ≡ Status.OwnUnready why → IsAtEnd (S.left log.new)
+        × Runs words.now (H.files shelf.old) (λ request scenario.
+        IfSome (S.left log.old) (λ bytes. IsMet request.mode scenario bytes (Status.OwnUnready why))) }
+    ensures target_limit { (most : ℕ) → result ≡ Status.Limit which.Targets most → IsAtEnd (S.left log.new)
+        × Runs words.now (H.files shelf.old) (λ request scenario.
+        IfSome (S.left log.old) (λ bytes. IsMet request.mode scenario bytes (Status.Limit which.Targets most))) }
     ensures write_fault { result ≡ Status.WriteFault → (K.faults out.new ≡ one_more (K.faults out.old))
         × IsAtEnd (S.left log.new)
         × Runs words.now (H.files shelf.old) (λ request scenario.
-        IfSome (S.left log.old) (λ bytes. IsMet request.mode scenario bytes None
+        IfSome (S.left log.old) (λ bytes. (answer : Status) × IsTrue (IsFinished answer) × IsMet request.mode scenario bytes answer
         × (text : List ℕ) × IsEnding request.mode scenario bytes text × AppendsPart (K.contents out.old) (K.contents out.new) text)) }
 
     // What is asked for and what is written then.
@@ -110,7 +120,7 @@ pub fn run<H: Shelf, S: Source, K: Sink, E: Sink>(
         ≡ (if is_some (request_of words.now) then one_more (H.fetches shelf.old) else H.fetches shelf.old) }
     ensures untouched { IsTrue (IsBeforeLog result)
         → Keeps (S.left log.old) (S.left log.new) × (S.faults log.new ≡ S.faults log.old) }
-    ensures unwritten { result ≢ Status.Done → result ≢ Status.WriteFault
+    ensures unwritten { IsFinished result ≡ false → result ≢ Status.WriteFault
         → Keeps (K.contents out.old) (K.contents out.new) × (K.faults out.new ≡ K.faults out.old) }
     ensures line { Gains (record { bytes = E.contents err.old; faults = E.faults err.old })
         (record { bytes = E.contents err.new; faults = E.faults err.new }) (fault_line result) }
@@ -118,7 +128,7 @@ pub fn run<H: Shelf, S: Source, K: Sink, E: Sink>(
     let Some(request) = request_of(words) else {
         return tell(alloc, Status::Usage, err);
     };
-    let scenario = match set_up(alloc, request.name, shelf) {
+    let scenario = match set_up(alloc, request.mode, request.name, shelf) {
         Ok(scenario) => scenario,
         Err(fault) => return tell(alloc, fault.into(), err),
     };
@@ -126,8 +136,11 @@ pub fn run<H: Shelf, S: Source, K: Sink, E: Sink>(
         Ok(report) => report,
         Err(fault) => return tell(alloc, fault.into(), err),
     };
-    if !put_all(out, report.as_slice()) {
+    if !put_all(out, report.text.as_slice()) {
         return tell(alloc, Status::WriteFault, err);
+    }
+    if report.is_none {
+        return Status::NoManoeuvre;
     }
     Status::Done
 }

@@ -1,33 +1,56 @@
 //! The report on a log that is read whole.
-ghost use Rattle.std.specs.Prelude.{◌≡◌, ◌≤◌, length, None, IfErr, IfOk, IfSome, OnOk};
+ghost use Rattle.std.specs.Prelude.{◌≡◌, ◌≤◌, false, length, IfErr, IfOk, IfSome, IsSome, IsTrue, OnOk};
 ghost use Rattle.std.specs.Io.KnownBytes.{IsAtEnd};
 ghost use Rattle.scenario.specs.ScenarioValues.{IsInRange};
-ghost use Rattle.colregs_program.specs.Endings.{IsEnding, IsMet};
-ghost use Rattle.colregs_program.specs.Inner.LogFaults.{EndingCause, IsCalm, LogCause};
+ghost use Rattle.colregs_program.specs.Endings.{IsAnswerTo, IsEnding, IsMet};
+ghost use Rattle.colregs_program.specs.Requests.{needs_own};
+ghost use Rattle.colregs_program.specs.Inner.LogFaults.{EndingCause, LogCause, finished};
 
 use crate::audit::audit_report;
 use crate::log_fault::{EndingFault, LogFault};
+use crate::plan::plan_report;
 use crate::points::points_report;
 use crate::request::Mode;
 use outside::{ReadFault, Source, read_whole};
 use scenario::Scenario;
 use std::alloc::Global;
 
+/// A report, and whether it is one without a manoeuvre.
+#[derive(Drop)]
+pub(crate) struct Report {
+    pub(crate) text: Vec<u8>,
+    pub(crate) is_none: bool,
+}
+
+impl Report {
+    /// The report of a mode that seeks no manoeuvre.
+    fn without_search(text: Vec<u8>) -> Report
+        ensures { result ≡ record { text = text; is_none = false } }
+    {
+        Report {
+            text,
+            is_none: false,
+        }
+    }
+}
+
 /// What the request comes to on a log.
-fn ending(
+fn report_of(
     alloc: Global,
     mode: Mode,
-    scenario: &Scenario,
+    scenario: Scenario,
     log: &[u8],
-) -> Result<Vec<u8>, EndingFault>
-    requires { IsInRange scenario.now }
-    ensures ending { IfOk result (λ ending. IsEnding mode scenario.now log.now ending.items) }
-    ensures calm { OnOk result (IsCalm mode scenario.now log.now) }
-    ensures cause { IfErr result (EndingCause mode scenario.now log.now) }
+) -> Result<Report, EndingFault>
+    requires in_range { IsInRange scenario }
+    requires own { IsTrue (needs_own mode) → IsSome scenario.own }
+    ensures ending { IfOk result (λ report. IsEnding mode scenario log.now report.text.items) }
+    ensures answer { IfOk result (λ report. IsAnswerTo mode scenario log.now (finished report.is_none)) }
+    ensures cause { IfErr result (EndingCause mode scenario log.now) }
 {
     match mode {
-        Mode::Points => points_report(alloc, scenario, log),
-        Mode::Audit => audit_report(alloc, scenario, log),
+        Mode::Points => Ok(Report::without_search(points_report(alloc, &scenario, log)?)),
+        Mode::Audit => Ok(Report::without_search(audit_report(alloc, &scenario, log)?)),
+        Mode::Plan => plan_report(alloc, scenario, log),
     }
 }
 
@@ -49,46 +72,29 @@ fn log_bytes<S: Source>(
         Ok(bytes) => Ok(bytes),
         Err(ReadFault::Failed) => Err(LogFault::NotRead),
         Err(ReadFault::TooLong) => Err(LogFault::TooLong(most)),
-        Err(ReadFault::Memory) => Err(LogFault::Memory),
+        Err(ReadFault::Memory) => Err(LogFault::Unreported(EndingFault::Memory)),
     }
 }
 
 /// Reads the log to its end, and gives what the request comes to on it.
-fn report_of<S: Source>(
-    alloc: Global,
-    mode: Mode,
-    scenario: &Scenario,
-    log: &mut S,
-) -> Result<Vec<u8>, LogFault>
-    requires { IsInRange scenario.now }
-    ensures report { IfOk result (λ report. IfSome (S.left log.old) (λ bytes. IsMet mode scenario.now bytes None
-        × IsEnding mode scenario.now bytes report.items)) }
-    ensures end { OnOk result (IsAtEnd (S.left log.new)) }
-    ensures calm { OnOk result (S.faults log.new ≡ S.faults log.old) }
-    ensures cause { IfErr result (LogCause mode scenario.now
-        (S.left log.old) (S.left log.new) (S.faults log.old) (S.faults log.new)) }
-{
-    let bytes = log_bytes(alloc, mode, scenario, log)?;
-    match ending(alloc, mode, scenario, bytes.as_slice()) {
-        Ok(report) => Ok(report),
-        Err(fault) => Err(fault.into()),
-    }
-}
-
-/// The same for a scenario that nobody needs any more, so that it is put away here.
 pub(crate) fn report_on<S: Source>(
     alloc: Global,
     mode: Mode,
     scenario: Scenario,
     log: &mut S,
-) -> Result<Vec<u8>, LogFault>
-    requires { IsInRange scenario }
-    ensures report { IfOk result (λ report. IfSome (S.left log.old) (λ bytes. IsMet mode scenario bytes None
-        × IsEnding mode scenario bytes report.items)) }
+) -> Result<Report, LogFault>
+    requires in_range { IsInRange scenario }
+    requires own { IsTrue (needs_own mode) → IsSome scenario.own }
+    ensures report { IfOk result (λ report. IfSome (S.left log.old) (λ bytes. IsMet mode scenario bytes (finished report.is_none)
+        × IsEnding mode scenario bytes report.text.items)) }
     ensures end { OnOk result (IsAtEnd (S.left log.new)) }
     ensures calm { OnOk result (S.faults log.new ≡ S.faults log.old) }
     ensures cause { IfErr result (LogCause mode scenario
         (S.left log.old) (S.left log.new) (S.faults log.old) (S.faults log.new)) }
 {
-    report_of(alloc, mode, &scenario, log)
+    let bytes = log_bytes(alloc, mode, &scenario, log)?;
+    match report_of(alloc, mode, scenario, bytes.as_slice()) {
+        Ok(report) => Ok(report),
+        Err(fault) => Err(fault.into()),
+    }
 }

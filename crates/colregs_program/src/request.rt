@@ -11,6 +11,20 @@ pub enum Mode {
     Points,
     /// How the vessels of a log met, and which duties were broken or stayed undecided.
     Audit,
+    /// One manoeuvre of own ship that newly breaks no duty and enters no domain, if there is one.
+    Plan,
+}
+
+impl Mode {
+    ghost use Rattle.std.specs.Prelude.{◌≡◌};
+    ghost use Rattle.colregs_program.specs.Requests.{needs_own};
+
+    /// Whether the scenario has to tell of own ship.
+    pub(crate) fn needs_own(self) -> bool
+        ensures { result ≡ needs_own self }
+    {
+        self == Mode::Plan
+    }
 }
 
 /// What is asked for: a mode, with the scenario of a name.
@@ -35,6 +49,7 @@ fn mode_named(word: &Word) -> Option<Mode>
     match word.text() {
         "points" => Some(Mode::Points),
         "audit" => Some(Mode::Audit),
+        "plan" => Some(Mode::Plan),
         _ => None,
     }
 }

@@ -1,12 +1,14 @@
 //! The scenario of a run, from the shelf.
-ghost use Rattle.std.specs.Prelude.{◌≡◌, ◌⊎◌, ◌≤◌, ◌^◌, length, IfOk, IfErr, OnOk, Result, Err, Some};
+ghost use Rattle.std.specs.Prelude.{◌≡◌, ◌⊎◌, ◌≤◌, ◌^◌, length, IfOk, IfErr, IsSome, IsTrue, OnOk, Result, Err, Some};
 ghost use Rattle.outside.specs.Causes.{one_more};
 ghost use Rattle.scenario.specs.ScenarioValues.{IsInRange};
 ghost use Rattle.scenario.specs.declared.values.Scenario.{Scenario};
 ghost use Rattle.colregs_program.specs.Answers.{Holds, IsScenario};
+ghost use Rattle.colregs_program.specs.Requests.{needs_own};
 ghost use Rattle.colregs_program.specs.Inner.SetUps.{IsSetUpDue, SetUpCause};
 ghost use Rattle.colregs_program.specs.declared.set_up.SetUpFault.{SetUpFault};
 
+use crate::request::Mode;
 use crate::status::{Status, Which};
 use outside::{Fetched, Shelf, Word};
 use scenario::{Cause, Key, Scenario, ScenarioFault, read};
@@ -29,6 +31,7 @@ pub(crate) enum SetUpFault {
 
 impl From<ScenarioFault> for SetUpFault {
     ghost use Rattle.std.specs.Prelude.{◌≡◌};
+    ghost use Rattle.colregs_program.specs.Requests.{needs_own};
     ghost use Rattle.colregs_program.specs.Inner.SetUps.{set_up_fault};
 
     ghost from_gives = { λ fault made. made ≡ set_up_fault fault };
@@ -43,6 +46,7 @@ impl From<ScenarioFault> for SetUpFault {
 
 impl From<SetUpFault> for Status {
     ghost use Rattle.std.specs.Prelude.{◌≡◌};
+    ghost use Rattle.colregs_program.specs.Requests.{needs_own};
     ghost use Rattle.colregs_program.specs.Inner.SetUps.{answer_of};
 
     ghost from_gives = { λ fault status. status ≡ answer_of fault };
@@ -57,21 +61,23 @@ impl From<SetUpFault> for Status {
     }
 }
 
-/// The scenario under a name.
+/// The scenario under a name, with own ship where the mode needs her.
 pub(crate) fn set_up<H: Shelf>(
     alloc: Global,
+    mode: Mode,
     name: &Word,
     shelf: &mut H,
 ) -> Result<Scenario, SetUpFault>
-    ensures scenario { IfOk result (λ scenario. Holds (H.files shelf.old) name.now (λ text. IsScenario text scenario)) }
+    ensures scenario { IfOk result (λ scenario. Holds (H.files shelf.old) name.now (λ text. IsScenario mode text scenario)) }
     ensures in_range { IfOk result IsInRange }
-    ensures cause { IfErr result (SetUpCause (H.files shelf.old) name.now (H.faults shelf.old) (H.faults shelf.new)) }
-    ensures due { (due : Result Scenario SetUpFault) → IsSetUpDue (H.files shelf.old) name.now due
+    ensures own { IfOk result (λ scenario. IsTrue (needs_own mode) → IsSome scenario.own) }
+    ensures cause { IfErr result (SetUpCause mode (H.files shelf.old) name.now (H.faults shelf.old) (H.faults shelf.new)) }
+    ensures due { (due : Result Scenario SetUpFault) → IsSetUpDue mode (H.files shelf.old) name.now due
         → (H.faults shelf.new ≡ one_more (H.faults shelf.old)) ⊎ ((result ≡ due) ⊎ (result ≡ Err SetUpFault.Memory)) }
     ensures fetched { H.fetches shelf.new ≡ one_more (H.fetches shelf.old) }
 {
     match shelf.fetch(alloc, name, GREATEST_SCENARIO) {
-        Fetched::Bytes(text) => match read(alloc, text.as_slice(), false) {
+        Fetched::Bytes(text) => match read(alloc, text.as_slice(), mode.needs_own()) {
             Ok(scenario) => Ok(scenario),
             Err(fault) => Err(fault.into()),
         },

@@ -2,6 +2,7 @@
 ghost use Rattle.std.specs.Prelude.{◌≡◌};
 ghost use Rattle.colregs_program.specs.FaultLines.{number_of};
 
+use own_ship::Unready;
 use scenario::{Cause, Key};
 
 /// What is limited.
@@ -15,6 +16,8 @@ pub enum Which {
     Vessels,
     /// The ordered pairs of vessels whose traces have begun, at most 4096.
     Pairs,
+    /// The vessels near own ship, at most 64.
+    Targets,
 }
 
 /// How a run ends. Standard error gets a line that names each fault.
@@ -22,6 +25,8 @@ pub enum Which {
 pub enum Status {
     /// The log was read to its end, and the whole report is written.
     Done,
+    /// The same, where every plan of own ship fails.
+    NoManoeuvre,
     /// The words are not accepted.
     Usage,
     /// The scenario is refused at this key, the first with a fault, for this cause.
@@ -36,6 +41,8 @@ pub enum Status {
     Limit(Which, u64),
     /// Memory ran out.
     Memory,
+    /// Own ship cannot be planned for: this is what she lacks.
+    OwnUnready(Unready),
 }
 
 impl Status {
@@ -45,6 +52,7 @@ impl Status {
     {
         match self {
             Status::Done => 0,
+            Status::NoManoeuvre => 1,
             Status::Usage => 2,
             Status::Scenario(..) => 3,
             Status::ShelfFault => 4,
@@ -52,6 +60,7 @@ impl Status {
             Status::WriteFault => 6,
             Status::Limit(..) => 7,
             Status::Memory => 8,
+            Status::OwnUnready(_) => 9,
         }
     }
 }

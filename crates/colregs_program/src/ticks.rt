@@ -1,35 +1,25 @@
 //! The audit of a window's ticks, and the rows of the stretches that it finds.
-ghost use Rattle.std.specs.Prelude.{◌≡◌, ◌≢◌, ◌≤◌, ◌++◌, ℕ, List, IfOk, OnOk, Err};
+ghost use Rattle.std.specs.Prelude.{◌≡◌, ◌++◌, ℕ, List, IfOk, OnOk, Err};
 ghost use Rattle.audit_report.specs.ReportRows.{fields_of};
 ghost use Rattle.audit_report.specs.ReportTexts.{HasText};
 ghost use Rattle.auditor.specs.Standing.{HaveMoreThan};
 ghost use Rattle.judged_lines.specs.JudgedLines.{numbers_of};
-ghost use Rattle.scenario.specs.ScenarioValues.{IsInRange, IsWindow};
+ghost use Rattle.scenario.specs.ScenarioValues.{IsInRange};
 ghost use Rattle.tracks.specs.Standing.{StandsFor as BookStandsFor};
 ghost use Rattle.tracks.specs.VesselsHeld.{Sent};
 ghost use Rattle.tracks.specs.declared.keeping.Keeping.TheVariants.{Tracks};
-ghost use Rattle.colregs_program.specs.AuditReport.{audit_numbers, sighted, stretch_fields, stretch_rows, time_of_tick};
+ghost use Rattle.colregs_program.specs.AuditReport.{audit_numbers, sighted, stretch_fields, stretch_rows};
 ghost use Rattle.colregs_program.specs.Endings.{greatest_traces};
 ghost use Rattle.colregs_program.specs.Inner.AuditWriting.{AreOfRules, IsAudited, IsOfRules};
-ghost use Rattle.colregs_program.specs.declared.log_fault.EndingFault.TheVariants.{TooManyPairs, TooManyVessels};
+ghost use Rattle.auditor.specs.declared.fault.AuditFault.TheVariants.{TooManyPairs};
 
-use crate::log_fault::EndingFault;
 use audit_report::{ReportRow, ReportText};
-use auditor::{Audit, Row, Total};
+use auditor::{Audit, AuditFault, Row, Total};
 use outside::Memory;
 use rule_set::RuleSet;
-use scenario::{Scenario, Window};
+use scenario::Scenario;
 use std::alloc::Global;
 use tracks::Book;
-
-/// The time of a tick.
-fn time_of(window: &Window, tick: u32) -> u64
-    requires window { IsWindow window.now }
-    requires tick { tick ≤ window.now.ticks }
-    ensures { result ≡ time_of_tick window.now tick }
-{
-    window.start + u64::from(tick) * u64::from(window.tick)
-}
 
 /// The row of a stretch.
 fn row_of<'a>(rules: &'a RuleSet, row: &Row) -> ReportRow<'a>
@@ -84,7 +74,7 @@ pub(crate) fn write_audit(
     scenario: &Scenario,
     book: &Book,
     text: &mut ReportText,
-) -> Result<Vec<Total>, EndingFault>
+) -> Result<Vec<Total>, AuditFault>
     requires in_range { IsInRange scenario.now }
     requires keeping { book.now.keeping ≡ Tracks }
     requires numbers { book.now.numbers ≡ numbers_of scenario.now }
@@ -94,7 +84,6 @@ pub(crate) fn write_audit(
         → HaveMoreThan greatest_traces (audit_numbers scenario.now) (sighted scenario.now messages) → ⊥) }
     ensures many { result ≡ Err TooManyPairs → (messages : List Sent) → BookStandsFor book.now (numbers_of scenario.now) messages
         → HaveMoreThan greatest_traces (audit_numbers scenario.now) (sighted scenario.now messages) }
-    ensures pairs_alone { result ≢ Err TooManyVessels }
 {
     let mut audit = Audit::new(
         alloc,
@@ -107,7 +96,7 @@ pub(crate) fn write_audit(
     book.moves_little();
     let mut seen = Vec::new(alloc);
     for tick in 0..scenario.window.ticks + 1 {
-        book.look(time_of(&scenario.window, tick), &mut seen)?;
+        book.look(scenario.window.time(tick), &mut seen)?;
         let rows = audit.step(seen.as_slice())?;
         write_stretches(text, &scenario.rules, rows.as_slice())?;
     }

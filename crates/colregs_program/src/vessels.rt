@@ -7,7 +7,7 @@ ghost use Rattle.tracks.specs.AcceptedReports.{Numbers};
 ghost use Rattle.tracks.specs.Standing.{StandsFor as BookStandsFor};
 ghost use Rattle.tracks.specs.VesselsHeld.{Sent, is_held, legs_of, statics_of};
 ghost use Rattle.tracks.specs.declared.keeping.Keeping.TheVariants.{Tracks};
-ghost use Rattle.colregs_program.specs.AuditReport.{held_fields, kind_of, length_of, vessel_rows};
+ghost use Rattle.colregs_program.specs.AuditReport.{held_fields, kind_of, vessel_rows};
 
 use ais_messages::{ShipData, Text20};
 use audit_report::{ReportRow, ReportText};
@@ -20,16 +20,6 @@ fn kind_of(ship: Option<ShipData>) -> u8
 {
     match ship {
         Some(ship) => ship.kind,
-        None => 0,
-    }
-}
-
-/// Her length in metres, 0 where she told none.
-fn length_of(ship: Option<ShipData>) -> u32
-    ensures { result ≡ length_of ship }
-{
-    match ship {
-        Some(ship) => u32::from(ship.bow) + u32::from(ship.stern),
         None => 0,
     }
 }
@@ -63,7 +53,7 @@ fn ship_told(book: &Book, mmsi: u32) -> Option<ShipData>
 }
 
 /// Writes the row of a vessel that is held.
-fn write_vessel(text: &mut ReportText, book: &Book, mmsi: u32) -> Result<(), Memory>
+pub(crate) fn write_vessel(text: &mut ReportText, book: &Book, mmsi: u32) -> Result<(), Memory>
     requires { book.now.keeping ≡ Tracks }
     ensures { OnOk result ((numbers : Numbers) (messages : List Sent) (front : List ℕ) → BookStandsFor book.now numbers messages
         → is_held numbers messages mmsi ≡ true → HasText text.old front
@@ -74,7 +64,7 @@ fn write_vessel(text: &mut ReportText, book: &Book, mmsi: u32) -> Result<(), Mem
         mmsi,
         name: name_told(book, mmsi),
         kind: kind_of(ship),
-        length: length_of(ship),
+        length: book.length(mmsi),
         reports: book.points(mmsi).len() as u64,
         legs: count_legs(book, mmsi),
     })

@@ -103,7 +103,7 @@ GoesOn-unheard numbers judge came taken messages stands book few = record {
 
 untimely_is : (times : LineTimes) (scenario : Scenario) (before : List (List ℕ)) (time : ℕ) → KeepsTimes times scenario before
     → untimely_by times time ≡ untimely scenario (clock_of scenario before) time
-untimely_is times scenario before time keeps = rw (keeps.window, keeps.log, keeps.clock) refl
+untimely_is times scenario before time keeps = rw (keeps.window, keeps.log, keeps.behind, keeps.clock) refl
 
 heard_same : (times : LineTimes) (scenario : Scenario) (before : List (List ℕ)) (time : ℕ) (body : Result SentenceFields LineCause) → KeepsTimes times scenario before
     → heard_by times time body ≡ heard_in scenario (clock_of scenario before) time body

@@ -3,7 +3,7 @@ use Rattle.std.proofs.Common.{◌≡◌, ℕ, max, Bool, true, false, List, [], 
 use Rattle.std.specs.List.{filter_map, last_or}
 use Rattle.std.proofs.lemmas.Grind.{common_steps}
 use Rattle.std.proofs.lemmas.List.Elements.{filter-append, filter_map-append}
-use Rattle.judged_lines.specs.LineTimes.{clock_of, greatest, is_in_window, stamp_of, stamps_of, time_of}
+use Rattle.judged_lines.specs.LineTimes.{clock_of, greatest, is_in_window, reach_behind, stamp_of, stamps_of, time_of}
 use Rattle.judged_lines.specs.Inner.Times.{KeepsTimes, at_least, clock_behind, nearest_of, times_behind}
 use Rattle.judged_lines.specs.declared.line_times.LineTimes.{LineTimes}
 use Rattle.scenario.specs.declared.values.Scenario.{Scenario}
@@ -40,7 +40,7 @@ greatest-push (x ∷ xs) y = one_more x y (greatest xs) (greatest (xs ++ y ∷ [
 
 clock-push : (scenario : Scenario) (stamps : List ℕ) (stamp : ℕ) (within : Bool) → is_in_window scenario stamp ≡ within
     → greatest (filter (is_in_window scenario) (stamps ++ stamp ∷ []))
-    ≡ clock_behind scenario.window scenario.log.gap (greatest (filter (is_in_window scenario) stamps)) stamp
+    ≡ clock_behind scenario.window scenario.log.gap (reach_behind scenario.own scenario.log.gap) (greatest (filter (is_in_window scenario) stamps)) stamp
 clock-push scenario stamps stamp true within =
     let test : ℕ → Bool = is_in_window scenario in
     let more : filter test (stamps ++ stamp ∷ []) ≡ filter test stamps ++ stamp ∷ [] =
@@ -62,14 +62,16 @@ kept times scenario before lines None keeps more =
     record {
       window = keeps.window;
       log = keeps.log;
+      behind = keeps.behind;
       nearest = keeps.nearest ∙ ap (last_or None) (sym same);
       clock = keeps.clock ∙ ap (λ (l : List ℕ). greatest (filter (is_in_window scenario) l)) (sym same);
     }
 kept times scenario before lines (Some stamp) keeps more = record {
   window = keeps.window;
   log = keeps.log;
+  behind = keeps.behind;
   nearest = sym (ap (last_or None) more ∙ last_or-push None (stamps_of before) stamp);
-  clock = rw (keeps.window, keeps.log, keeps.clock) (
+  clock = rw (keeps.window, keeps.log, keeps.behind, keeps.clock) (
       sym (ap (λ (l : List ℕ). greatest (filter (is_in_window scenario) l)) more
       ∙ clock-push scenario (stamps_of before) stamp (is_in_window scenario stamp) refl)
       );
@@ -88,7 +90,8 @@ time_is times scenario before line keeps =
     rw (keeps.nearest, keeps.window) (sym (ap (λ (o : Option ℕ). unwrap_or o scenario.window.start) last))
 
 -- no line came yet
-pub KeepsTimes-none : (times : LineTimes) (scenario : Scenario) → times.window ≡ scenario.window → times.log ≡ scenario.log → times.nearest ≡ None
+pub KeepsTimes-none : (times : LineTimes) (scenario : Scenario) → times.window ≡ scenario.window → times.log ≡ scenario.log
+    → times.behind ≡ reach_behind scenario.own scenario.log.gap → times.nearest ≡ None
     → times.clock ≡ None → KeepsTimes times scenario []
 unfolding clock_of greatest
-KeepsTimes-none times scenario window log nearest clock = record { window = window; log = log; nearest = nearest; clock = clock }
+KeepsTimes-none times scenario window log behind nearest clock = record { window = window; log = log; behind = behind; nearest = nearest; clock = clock }

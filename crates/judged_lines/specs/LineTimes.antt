@@ -1,9 +1,11 @@
 -- The times of a log's lines. A stamp is the time of a line's tag block (NMEA 0183 4.10), in seconds since 1970.
-use Rattle.std.specs.Prelude.{ℕ, ◌+◌, ◌*◌, max, Bool, false, ◌&&◌, nat_le, nat_lt, List, [], ◌∷◌, filter, Option, Some, None, unwrap_or}
+use Rattle.std.specs.Prelude.{ℕ, ◌+◌, max, Bool, false, ◌&&◌, nat_le, nat_lt, List, [], ◌∷◌, filter, Option, Some, None, unwrap_or}
 use Rattle.std.specs.List.{filter_map, last_or}
 use Rattle.aivdm.specs.ReadingOf.{reading_of}
+use Rattle.scenario.specs.declared.own_part.OwnPart.{OwnPart}
 use Rattle.scenario.specs.declared.values.Scenario.{Scenario}
 use Rattle.scenario.specs.declared.values.Window.{Window}
+use Rattle.scenario.specs.Ticks.{end_of}
 
 abbrev pub stamp_of : List ℕ → Option ℕ
 stamp_of line = (reading_of line).stamp
@@ -15,16 +17,17 @@ stamps_of lines = filter_map stamp_of lines
 unfoldable pub time_of : Scenario → List (List ℕ) → ℕ
 time_of scenario lines = unwrap_or (last_or None (stamps_of lines)) scenario.window.start
 
--- the time of the last tick
-abbrev pub end_of : Window → ℕ
-end_of window = window.start + window.ticks * window.tick
+-- how far the window of lines reaches behind the last tick: a gap, and not at all where own ship is planned for, whose now that tick is
+abbrev pub reach_behind : Option OwnPart → ℕ → ℕ
+reach_behind None gap = gap
+reach_behind (Some own) gap = 0
 
--- The window of lines reaches a gap before the first tick, and a gap behind the last.
-abbrev pub lies_in : Window → ℕ → ℕ → Bool
-lies_in window gap time = nat_le window.start (time + gap) && nat_le time (end_of window + gap)
+-- The window of lines reaches so far before the first tick and behind the last.
+abbrev pub lies_in : Window → ℕ → ℕ → ℕ → Bool
+lies_in window before behind time = nat_le window.start (time + before) && nat_le time (end_of window + behind)
 
 abbrev pub is_in_window : Scenario → ℕ → Bool
-is_in_window scenario time = lies_in scenario.window scenario.log.gap time
+is_in_window scenario time = lies_in scenario.window scenario.log.gap (reach_behind scenario.own scenario.log.gap) time
 
 unfoldable pub greatest : List ℕ → Option ℕ
 greatest [] = None

@@ -1,18 +1,28 @@
 //! The times of a log's lines.
 ghost use Rattle.std.specs.Prelude.{◌≡◌, unwrap_or};
-ghost use Rattle.judged_lines.specs.LineTimes.{is_late, lies_in};
+ghost use Rattle.judged_lines.specs.LineTimes.{is_late, lies_in, reach_behind};
 
 use crate::outcome::LineOutcome;
 use scenario::{LogNumbers, Scenario, Window};
 
-/// Whether a time lies in the window of lines: from a gap before the first tick to a gap behind the last.
-fn lies_in(window: &Window, gap: u32, time: u64) -> bool
-    ensures { result ≡ lies_in window.now gap time }
+/// How far the window of lines reaches behind the last tick, in seconds: a gap, and not at all where own ship is planned for.
+fn reach_behind(scenario: &Scenario) -> u32
+    ensures { result ≡ reach_behind scenario.now.own scenario.now.log.gap }
 {
-    let gap = u64::from(gap);
+    match scenario.own {
+        Some(_) => 0,
+        None => scenario.log.gap,
+    }
+}
+
+/// Whether a time lies in the window of lines, which reaches so many seconds before the first tick and behind the last.
+fn lies_in(window: &Window, before: u32, behind: u32, time: u64) -> bool
+    ensures { result ≡ lies_in window.now before behind time }
+{
     let length = u64::from(window.ticks) * u64::from(window.tick);
-    let last = window.start.saturating_add(length).saturating_add(gap);
-    window.start <= time.saturating_add(gap) && time <= last
+    let end = window.start.saturating_add(length);
+    let last = end.saturating_add(u64::from(behind));
+    window.start <= time.saturating_add(u64::from(before)) && time <= last
 }
 
 /// Whether the clock is past a time by more than the slack.
@@ -30,6 +40,8 @@ fn is_late(slack: u32, clock: Option<u64>, time: u64) -> bool
 pub(crate) struct LineTimes {
     window: Window,
     log: LogNumbers,
+    /// How far the window of lines reaches behind the last tick.
+    behind: u32,
     /// The stamp of the last line that has one.
     nearest: Option<u64>,
     /// The greatest stamp that lies in the window of lines.
@@ -47,6 +59,7 @@ impl LineTimes {
         LineTimes {
             window: scenario.window,
             log: scenario.log,
+            behind: reach_behind(scenario),
             nearest: None,
             clock: None,
         }
@@ -67,7 +80,7 @@ impl LineTimes {
     pub(crate) fn untimely(&self, time: u64) -> Option<LineOutcome>
         ensures { result ≡ untimely_by self.now time }
     {
-        if !lies_in(&self.window, self.log.gap, time) {
+        if !lies_in(&self.window, self.log.gap, self.behind, time) {
             return Some(LineOutcome::Outside);
         }
         if is_late(self.log.slack, self.clock, time) {
@@ -78,9 +91,9 @@ impl LineTimes {
 
     /// The clock behind a stamp.
     fn clock_behind(&self, stamp: u64) -> Option<u64>
-        ensures { result ≡ clock_behind self.now.window self.now.log.gap self.now.clock stamp }
+        ensures { result ≡ clock_behind self.now.window self.now.log.gap self.now.behind self.now.clock stamp }
     {
-        if !lies_in(&self.window, self.log.gap, stamp) {
+        if !lies_in(&self.window, self.log.gap, self.behind, stamp) {
             return self.clock;
         }
         match self.clock {

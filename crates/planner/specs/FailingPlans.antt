@@ -27,7 +27,7 @@ module _ (situation : Situation) (plan : List ℕ) (last : ℕ) (target : Target
   abbrev pub BeginsAt : ℕ → Type 0
   BeginsAt start = BeginsTrace (own_at situation plan) (target_at situation target) situation.detect.watch last start
 
-  -- What its steps answer to the atoms: a list of steps has at most one list of rows (`meetings::laws::at_most_one_row`).
+  -- What its steps answer to the atoms: a list of steps has exactly one list of rows (`meetings::laws::there_are_rows`, `at_most_one_row`).
   abbrev pub AreTraceRows : ℕ → Trace → Type 0
   AreTraceRows start rows =
       AreRows situation.detect situation.act situation.tick (steps_from (own_at situation plan) (target_at situation target) start (last - start)) rows

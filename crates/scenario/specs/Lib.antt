@@ -3,6 +3,7 @@ pub mod KeyFaults
 pub mod RuleValues
 pub mod DocumentFaults
 pub mod ScenarioValues
+pub mod Ticks
 pub mod ScenarioReading
 pub mod Inner
 pub use Rattle.scenario_keys.specs.ScenarioKeys

@@ -31,6 +31,20 @@ pub struct Window {
     pub ticks: u32,
 }
 
+impl Window {
+    ghost use Rattle.std.specs.Prelude.{◌≡◌};
+    ghost use Rattle.scenario.specs.ScenarioValues.{IsWindow};
+    ghost use Rattle.scenario.specs.Ticks.{time_of_tick};
+
+    /// The time of a tick, in seconds since the Unix epoch, also of one behind the last.
+    pub fn time(&self, tick: u32) -> u64
+        requires { IsWindow self.now }
+        ensures { result ≡ time_of_tick self.now tick }
+    {
+        self.start + u64::from(tick) * u64::from(self.tick)
+    }
+}
+
 /// The numbers by which a log's lines are judged.
 #[derive(Clone, Copy, Debug, PartialEq, Eq)]
 pub struct LogNumbers {

@@ -18,7 +18,8 @@ use Rattle.scenario.specs.declared.values.Window.{Window}
 use Rattle.tracks.specs.SeenVessels.{seen_in, seen_of}
 use Rattle.tracks.specs.Standing.{BookValue, StandsFor as BookStandsFor}
 use Rattle.tracks.specs.VesselsHeld.{Sent}
-use Rattle.colregs_program.specs.AuditReport.{audit_numbers, sighted, stretch_rows, time_of_tick}
+use Rattle.scenario.specs.Ticks.{time_of_tick}
+use Rattle.colregs_program.specs.AuditReport.{audit_numbers, sighted, stretch_rows}
 use Rattle.colregs_program.specs.Endings.{greatest_traces}
 
 -- A verdict is of one of the rules.

@@ -1,5 +1,5 @@
 -- Why there is no report on a log.
-use Rattle.std.specs.Prelude.{ℕ, ◌≡◌, IsTrue, List, Option, IfSome, Some, false}
+use Rattle.std.specs.Prelude.{ℕ, ◌≡◌, List, Option, IfSome, Bool, true, false}
 use Rattle.std.specs.Io.KnownBytes.{IsAtEnd}
 use Rattle.outside.specs.Causes.{one_more}
 use Rattle.outside.specs.WholeReading.{StopsAt}
@@ -7,11 +7,13 @@ use Rattle.outside.specs.declared.whole.ReadFault.TheVariants as read
 use Rattle.scenario.specs.declared.values.Scenario.{Scenario}
 use Rattle.auditor.specs.declared.fault.AuditFault.{AuditFault}
 use Rattle.auditor.specs.declared.fault.AuditFault.TheVariants as audit
+use Rattle.own_ship.specs.PlanSituations.{greatest_targets}
+use Rattle.own_ship.specs.declared.preparation.PrepareFault.{PrepareFault}
+use Rattle.own_ship.specs.declared.preparation.PrepareFault.TheVariants as prepare
 use Rattle.tracks.specs.declared.entry.BookFault.{BookFault}
 use Rattle.tracks.specs.declared.entry.BookFault.TheVariants as book
-use Rattle.judged_lines.specs.JudgedLines.{greatest_held, is_crowded}
-use Rattle.judged_lines.specs.LogLines.{lines_of}
-use Rattle.colregs_program.specs.Endings.{HasManyTraces, IsMet, greatest_traces}
+use Rattle.judged_lines.specs.JudgedLines.{greatest_held}
+use Rattle.colregs_program.specs.Endings.{IsAnswerTo, IsMet, greatest_traces}
 use Rattle.colregs_program.specs.declared.log_fault.LogFault.{LogFault}
 use Rattle.colregs_program.specs.declared.log_fault.LogFault.TheVariants as fault
 use Rattle.colregs_program.specs.declared.log_fault.EndingFault.{EndingFault}
@@ -33,36 +35,49 @@ abbrev pub auditing_fault : AuditFault → EndingFault
 auditing_fault audit.TooManyPairs = ending.TooManyPairs
 auditing_fault audit.Memory = ending.Memory
 
--- No line makes more vessels held than can be, and no more traces begin.
-pub record IsCalm (mode : Mode) (scenario : Scenario) (log : List ℕ) : Type 0 where
-  pub calm : is_crowded scenario (lines_of log) ≡ false
-  pub few : ¬ HasManyTraces mode scenario log
+-- the fault of a log in which own ship was to be planned for
+abbrev pub preparing_fault : PrepareFault → EndingFault
+preparing_fault (prepare.Unready why) = ending.OwnUnready why
+preparing_fault prepare.TooManyTargets = ending.TooManyTargets
+preparing_fault prepare.Memory = ending.Memory
+
+-- the answer of a run that ends with this fault
+abbrev pub answer_of : EndingFault → Status
+answer_of ending.TooManyVessels = status.Limit which.Vessels greatest_held
+answer_of ending.TooManyPairs = status.Limit which.Pairs greatest_traces
+answer_of (ending.OwnUnready why) = status.OwnUnready why
+answer_of ending.TooManyTargets = status.Limit which.Targets greatest_targets
+answer_of ending.Memory = status.Memory
+
+-- the answer of a run that is finished, with a manoeuvre or without one
+abbrev pub finished : Bool → Status
+finished true = status.NoManoeuvre
+finished false = status.Done
+
+-- P holds of the answer, but for want of memory.
+abbrev pub UnlessMemory : EndingFault → (Status → Type 0) → Type 0
+UnlessMemory ending.TooManyVessels P = P (answer_of ending.TooManyVessels)
+UnlessMemory ending.TooManyPairs P = P (answer_of ending.TooManyPairs)
+UnlessMemory (ending.OwnUnready why) P = P (status.OwnUnready why)
+UnlessMemory ending.TooManyTargets P = P (answer_of ending.TooManyTargets)
+UnlessMemory ending.Memory P = Unit {0}
 
 -- what the fault says of the log
 abbrev pub EndingCause : Mode → Scenario → List ℕ → EndingFault → Type 0
-EndingCause mode scenario log ending.TooManyVessels = IsTrue (is_crowded scenario (lines_of log))
-EndingCause mode scenario log ending.TooManyPairs = (is_crowded scenario (lines_of log) ≡ false) × HasManyTraces mode scenario log
-EndingCause mode scenario log ending.Memory = Unit {0}
+EndingCause mode scenario log fault = UnlessMemory fault (IsAnswerTo mode scenario log)
 
 -- ---- a log that is read
 
-abbrev pub log_fault : EndingFault → LogFault
-log_fault ending.TooManyVessels = fault.TooManyVessels
-log_fault ending.TooManyPairs = fault.TooManyPairs
-log_fault ending.Memory = fault.Memory
-
 -- the answer of a run that ends with this fault
-abbrev pub answer_of : LogFault → Status
-answer_of fault.NotRead = status.ReadFault
-answer_of (fault.TooLong most) = status.Limit which.Log most
-answer_of fault.TooManyVessels = status.Limit which.Vessels greatest_held
-answer_of fault.TooManyPairs = status.Limit which.Pairs greatest_traces
-answer_of fault.Memory = status.Memory
+abbrev pub log_answer : LogFault → Status
+log_answer fault.NotRead = status.ReadFault
+log_answer (fault.TooLong most) = status.Limit which.Log most
+log_answer (fault.Unreported why) = answer_of why
 
 -- The log was read to its end, and this is met in it.
-pub record MeetsAtEnd (mode : Mode) (scenario : Scenario) (left left' : Option (List ℕ)) (refusal : Status) : Type 0 where
+pub record MeetsAtEnd (mode : Mode) (scenario : Scenario) (left left' : Option (List ℕ)) (answer : Status) : Type 0 where
   pub end : IsAtEnd left'
-  pub met : IfSome left (λ bytes. IsMet mode scenario bytes (Some refusal))
+  pub met : IfSome left (λ bytes. IsMet mode scenario bytes answer)
 
 -- what the fault says of what was taken of the log, and of its count of faults
 abbrev pub LogCause : Mode → Scenario → Option (List ℕ) → Option (List ℕ) → ℕ → ℕ → LogFault → Type 0
@@ -70,8 +85,5 @@ LogCause mode scenario left left' before now fault.NotRead =
     (now ≡ one_more before) × StopsAt scenario.log.max_bytes 0 left left' read.Failed
 LogCause mode scenario left left' before now (fault.TooLong limit) =
     (now ≡ before) × (limit ≡ scenario.log.max_bytes) × StopsAt scenario.log.max_bytes 0 left left' read.TooLong
-LogCause mode scenario left left' before now fault.TooManyVessels =
-    (now ≡ before) × MeetsAtEnd mode scenario left left' (status.Limit which.Vessels greatest_held)
-LogCause mode scenario left left' before now fault.TooManyPairs =
-    (now ≡ before) × MeetsAtEnd mode scenario left left' (status.Limit which.Pairs greatest_traces)
-LogCause mode scenario left left' before now fault.Memory = now ≡ before
+LogCause mode scenario left left' before now (fault.Unreported why) =
+    (now ≡ before) × UnlessMemory why (MeetsAtEnd mode scenario left left')

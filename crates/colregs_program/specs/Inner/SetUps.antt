@@ -7,6 +7,8 @@ use Rattle.scenario.specs.declared.values.Scenario.{Scenario}
 use Rattle.scenario_keys.specs.declared.fault.ScenarioFault.{ScenarioFault}
 use Rattle.scenario_keys.specs.declared.fault.ScenarioFault.TheVariants as refusal
 use Rattle.colregs_program.specs.Answers.{Holds, LiesUnder, IsScenario, greatest_scenario}
+use Rattle.colregs_program.specs.Requests.{needs_own}
+use Rattle.colregs_program.specs.declared.request.Mode.{Mode}
 use Rattle.colregs_program.specs.declared.set_up.SetUpFault.{SetUpFault}
 use Rattle.colregs_program.specs.declared.set_up.SetUpFault.TheVariants as fault
 use Rattle.colregs_program.specs.declared.status.Status.{Status}
@@ -26,18 +28,18 @@ answer_of (fault.Refused key cause) = status.Scenario key cause
 answer_of fault.Memory = status.Memory
 
 -- what the fault says of the bytes under the name, and of the shelf's count of faults
-abbrev pub SetUpCause : Option Files → List ℕ → ℕ → ℕ → SetUpFault → Type 0
-SetUpCause files name before now fault.NotHad = (now ≡ one_more before) ⊎ IsMissing files name
-SetUpCause files name before now fault.TooLong = Holds files name (λ text. greatest_scenario < length text)
-SetUpCause files name before now (fault.Refused key cause) =
-    Holds files name (λ text. (length text ≤ greatest_scenario) × IsRefused false text key cause)
-SetUpCause files name before now fault.Memory = Unit {0}
+abbrev pub SetUpCause : Mode → Option Files → List ℕ → ℕ → ℕ → SetUpFault → Type 0
+SetUpCause mode files name before now fault.NotHad = (now ≡ one_more before) ⊎ IsMissing files name
+SetUpCause mode files name before now fault.TooLong = Holds files name (λ text. greatest_scenario < length text)
+SetUpCause mode files name before now (fault.Refused key cause) =
+    Holds files name (λ text. (length text ≤ greatest_scenario) × IsRefused (needs_own mode) text key cause)
+SetUpCause mode files name before now fault.Memory = Unit {0}
 
 -- what the bytes under the name call for, where the shelf tells them
-abbrev pub IsSetUpDue : Option Files → List ℕ → Result Scenario SetUpFault → Type 0
-IsSetUpDue files name (Ok scenario) = LiesUnder files name (λ text. IsScenario text scenario)
-IsSetUpDue files name (Err fault.NotHad) = IsMissing files name
-IsSetUpDue files name (Err fault.TooLong) = LiesUnder files name (λ text. greatest_scenario < length text)
-IsSetUpDue files name (Err (fault.Refused key cause)) =
-    LiesUnder files name (λ text. (length text ≤ greatest_scenario) × IsRefused false text key cause)
-IsSetUpDue files name (Err fault.Memory) = ⊥
+abbrev pub IsSetUpDue : Mode → Option Files → List ℕ → Result Scenario SetUpFault → Type 0
+IsSetUpDue mode files name (Ok scenario) = LiesUnder files name (λ text. IsScenario mode text scenario)
+IsSetUpDue mode files name (Err fault.NotHad) = IsMissing files name
+IsSetUpDue mode files name (Err fault.TooLong) = LiesUnder files name (λ text. greatest_scenario < length text)
+IsSetUpDue mode files name (Err (fault.Refused key cause)) =
+    LiesUnder files name (λ text. (length text ≤ greatest_scenario) × IsRefused (needs_own mode) text key cause)
+IsSetUpDue mode files name (Err fault.Memory) = ⊥

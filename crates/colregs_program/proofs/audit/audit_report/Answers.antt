@@ -1,9 +1,10 @@
-use Rattle.std.proofs.Common.{[], ◌∙◌, length, ap}
+use Rattle.std.proofs.Common.{[], ◌∙◌, length, ap, Err}
 use Rattle.judged_lines.specs.JudgedLines.{judged_lines, numbers_of}
 use Rattle.judged_lines.specs.LogLines.{lines_of}
 use Rattle.judged_lines.specs.SentLines.{sent}
 use Rattle.colregs_program.specs.AuditReport.{rows_behind, sightings_of}
 use Rattle.colregs_program.proofs.AuditText.{audit_cause, err_cause, whole_text}
+use Rattle.colregs_program.proofs.Meeting.{audit_done}
 use Rattle.colregs_program.proofs.OutcomeRows.{count_rows-from_counts}
 use Rattle.colregs_program.proofs.audit.audit_report.Goals as goal
 
@@ -16,8 +17,7 @@ returns-in_err-totals-clause-cause c =
     let messages = sent scenario (lines_of log) in
     let book = c.book.ensures.stands scenario (lines_of log) stands in
     err_cause _ _ _ c.from_residual-in_err-totals.ensures.1
-    (audit_cause scenario log c.in_err-totals.field-0.0 c.write_audit.result c.in_err-totals.was c.write_audit.ensures.pairs_alone stands.calm
-    (λ err. c.write_audit.ensures.many err messages book))
+    (audit_cause scenario log c.in_err-totals.field-0.0 stands.calm (λ pairs. c.write_audit.ensures.many (c.in_err-totals.was ∙ ap Err pairs) messages book))
 
 pub write_totals-requires : goal.write_totals-requires
 write_totals-requires c =
@@ -48,10 +48,10 @@ returns-clause-report c =
       is = c.in_ok-into_bytes.ensures _ counts ∙ whole_text scenario messages audited.rows _ _ _ _ c.as_slice.ensures.value outcomes;
     }
 
-pub returns-clause-calm : goal.returns-clause-calm
+pub returns-clause-answer : goal.returns-clause-answer
 unfolding sightings_of
-returns-clause-calm c =
+returns-clause-answer c =
     let scenario = c.args.scenario.now in
     let lines = lines_of c.args.log.now in
     let stands = c.in_ok-judge_log.ensures.lines scenario c.new-judge.ensures.stands in
-    record { calm = stands.calm; few = λ many. c.in_ok-totals.ensures.few (sent scenario lines) (c.book.ensures.stands scenario lines stands) many }
+    audit_done scenario c.args.log.now stands.calm (λ many. c.in_ok-totals.ensures.few (sent scenario lines) (c.book.ensures.stands scenario lines stands) many)

@@ -2,6 +2,7 @@ use Rattle.std.proofs.Common.{◌++◌, ap, ◌∙◌}
 use Rattle.judged_lines.specs.JudgedLines.{judged_lines}
 use Rattle.judged_lines.specs.LogLines.{lines_of}
 use Rattle.colregs_program.specs.PointsReport.{point_rows, report_of}
+use Rattle.colregs_program.proofs.Meeting.{points_done}
 use Rattle.colregs_program.proofs.OutcomeRows.{count_rows-from_counts}
 use Rattle.colregs_program.proofs.points.points_report.Goals as goal
 
@@ -17,6 +18,6 @@ returns c =
     record {
       report = c.in_ok-into_bytes.ensures _ rows
           ∙ ap (λ text. point_rows lines ++ text) (count_rows-from_counts c.counts.result.now lines c.all_outcomes.result.now c.all_outcomes.ensures counts);
-      calm = record { calm = stands.calm; few = λ many. many };
+      answer = points_done scenario c.args.log.now stands.calm;
       cause = tt;
     }

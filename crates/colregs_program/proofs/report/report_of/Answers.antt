@@ -1,15 +1,17 @@
-use Rattle.std.proofs.Common.{ℕ, List, None, subst}
-use Rattle.colregs_program.specs.Endings.{IsEnding, IsMet}
-use Rattle.colregs_program.specs.Inner.LogFaults.{IsCalm}
-use Rattle.colregs_program.proofs.Meeting.{met_none, told}
+use Rattle.std.proofs.Common.{ap, sym, subst, subst₂, Bool}
+use Rattle.std.specs.Prelude.{IfOk}
+use Rattle.colregs_program.specs.Endings.{IsAnswerTo}
+use Rattle.colregs_program.specs.Inner.LogFaults.{finished}
+use Rattle.colregs_program.specs.declared.report.Report.{Report}
+use Rattle.colregs_program.specs.declared.request.Mode.{Mode}
 use Rattle.colregs_program.proofs.report.report_of.Goals as goal
 
-pub returns-in-Ok-clause-report : goal.returns-in-Ok-clause-report
-returns-in-Ok-clause-report g c =
-    let mode = c.args.mode in
-    let scenario = c.args.scenario.now in
-    let bytes = c.in_ok-bytes.bytes.items in
-    told (λ (log : List ℕ). IsMet mode scenario log None × IsEnding mode scenario log c.in-Ok.report.items) _ bytes c.in_ok-bytes.ensures.all (
-      met_none mode scenario bytes c.in_ok-bytes.ensures.short (subst (IsCalm mode scenario) c.as_slice.ensures.value c.in-Ok.ensures.calm),
-      subst (λ (log : List ℕ). IsEnding mode scenario log c.in-Ok.report.items) c.as_slice.ensures.value c.in-Ok.ensures.ending,
-    )
+pub returns-in_ok-audit_report-in-Audit-clause-answer : goal.returns-in_ok-audit_report-in-Audit-clause-answer
+returns-in_ok-audit_report-in-Audit-clause-answer c =
+    subst₂ (λ (m : Mode) (b : Bool). IsAnswerTo m c.args.scenario c.args.log.now (finished b)) (sym c.in-Audit.is)
+    (sym (ap (λ (r : Report). r.is_none) c.without_search-in-Audit.ensures)) c.in_ok-audit_report-in-Audit.ensures.answer
+
+pub returns-in-Plan-clause-answer : goal.returns-in-Plan-clause-answer
+returns-in-Plan-clause-answer c =
+    subst (λ (m : Mode). IfOk c.plan_report.result (λ report. IsAnswerTo m c.args.scenario c.args.log.now (finished report.is_none))) (sym c.in-Plan.is)
+    c.plan_report.ensures.answer

@@ -12,22 +12,22 @@ use Rattle.judged_lines.specs.JudgedLines.{numbers_of}
 use Rattle.colregs_program.specs.AuditReport.{audit_numbers, stretch_rows}
 use Rattle.colregs_program.specs.Endings.{greatest_traces}
 use Rattle.colregs_program.specs.Inner.AuditWriting.{AreOfRules, seen_first}
-use Rattle.colregs_program.proofs.Auditing.{audited_on, last_of_rules, many_now, moves_on, pairs_fault, rows_of_rules, rows_of_rules_below, rows_on, same_fault}
+use Rattle.colregs_program.proofs.Auditing.{audited_on, last_of_rules, many_now, moves_on, rows_of_rules, rows_of_rules_below, rows_on, same_fault}
 use Rattle.colregs_program.proofs.ticks.write_audit.Goals as goal
 
 pub step-requires-clause-moves : goal.step-requires-clause-moves
 step-requires-clause-moves c =
     moves_on c.args.book.now c.args.scenario.now c.loop-tick.tick _ _ c.moves_little.ensures c.requires.in_range c.requires.numbers c.loop-tick.invariant.up.latest
-    (c.as_slice-in-loop-tick.ensures.value ∙ c.in_ok-look.ensures.kept ∙ ap (seen_in c.args.book.now) c.time_of.ensures)
+    (c.as_slice-in-loop-tick.ensures.value ∙ c.in_ok-look.ensures.kept ∙ ap (seen_in c.args.book.now) c.time.ensures)
 
 pub returns-in_err-rows-clause-many : goal.returns-in_err-rows-clause-many
 returns-in_err-rows-clause-many c = λ told messages stands.
     let scenario = c.args.scenario.now in
     let up = c.loop-tick.invariant.up in
-    let fault = pairs_fault c.in_err-rows.field-0.0 (same_fault c.from_residual-in_err-rows.result _ _ c.from_residual-in_err-rows.ensures.1 told) in
+    let fault = sym (same_fault c.from_residual-in_err-rows.result _ _ c.from_residual-in_err-rows.ensures.1 told) in
     let err : c.step.result ≡ Err audit_fault.TooManyPairs = c.in_err-rows.was ∙ ap (λ (e : AuditFault). Err e) fault in
     many_now scenario messages c.loop-tick.tick up.ticks c.as_slice-in-loop-tick.result.now (omega (arith, c.loop-tick-test.true)) (up.seen messages stands)
-    (c.as_slice-in-loop-tick.ensures.value ∙ c.in_ok-look.ensures.value c.requires.keeping (numbers_of scenario) messages stands ∙ ap (seen_of (numbers_of scenario) messages) c.time_of.ensures)
+    (c.as_slice-in-loop-tick.ensures.value ∙ c.in_ok-look.ensures.value c.requires.keeping (numbers_of scenario) messages stands ∙ ap (seen_of (numbers_of scenario) messages) c.time.ensures)
     (c.step.ensures.many err (audit_numbers scenario) up.ticks up.given up.stands)
 
 pub write_stretches-requires : goal.write_stretches-requires
@@ -49,9 +49,9 @@ loop-tick-preserved c =
       last = rows.last_tick ∙ so_far.last;
       up = audited_on scenario c.args.book.now c.args.text.now c.loop-tick.text c.write_stretches.new.text c.loop-tick.audit c.step.new.self c.loop-tick.tick
           c.as_slice-in-loop-tick.result.now c.in_ok-rows.rows.items so_far.up rows.latest
-          (c.as_slice-in-loop-tick.ensures.value ∙ c.in_ok-look.ensures.kept ∙ ap (seen_in c.args.book.now) c.time_of.ensures)
+          (c.as_slice-in-loop-tick.ensures.value ∙ c.in_ok-look.ensures.kept ∙ ap (seen_in c.args.book.now) c.time.ensures)
           (λ messages stands. c.as_slice-in-loop-tick.ensures.value ∙ c.in_ok-look.ensures.value c.requires.keeping (numbers_of scenario) messages stands
-          ∙ ap (seen_of (numbers_of scenario) messages) c.time_of.ensures)
+          ∙ ap (seen_of (numbers_of scenario) messages) c.time.ensures)
           rows.stands rows.few
           (λ front has. subst (λ (rs : List Row). HasText c.write_stretches.new.text (front ++ stretch_rows scenario.rules rs)) c.as_slice-in-loop-tick-2.ensures.value
           (c.in_ok-write_stretches.ensures front has));

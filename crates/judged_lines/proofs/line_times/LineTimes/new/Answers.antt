@@ -3,4 +3,4 @@ use Rattle.judged_lines.proofs.Timing.{KeepsTimes-none}
 use Rattle.judged_lines.proofs.line_times.LineTimes.new.Goals as goal
 
 pub returns : goal.returns
-returns c = KeepsTimes-none _ _ refl refl refl refl
+returns c = KeepsTimes-none _ _ refl refl c.reach_behind.ensures refl refl

@@ -1,0 +1,6 @@
+pub mod Lists
+pub mod Moving
+pub mod Tracking
+pub mod Nearness
+pub mod Vessels
+pub mod Situated

@@ -1,0 +1,2 @@
+-- Definitions that proofs need and no public clause cites.
+pub mod Facts

@@ -1,0 +1,13 @@
+pub use Rattle.fixed_geometry.specs.Plane
+pub use Rattle.motion.specs.TickStates
+pub use Rattle.scenario.specs.Ticks
+pub use Rattle.tracks.specs.Standing
+pub use Rattle.tracks.specs.VesselsHeld
+pub use Rattle.planner.specs.Prediction
+pub use Rattle.planner.specs.Situations
+pub mod Readiness
+pub mod KnownStates
+pub mod NearVessels
+pub mod PlanSituations
+pub mod Preparing
+pub mod Inner

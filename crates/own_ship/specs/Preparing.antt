@@ -1,0 +1,26 @@
+-- What preparing a plan of own ship comes to.
+use Rattle.std.specs.Prelude.{◌≡◌, ◌≤◌, ◌<◌, List, length, All, true, Ok}
+use Rattle.planner.specs.Situations.{IsSituation}
+use Rattle.scenario.specs.declared.own_part.OwnPart.{OwnPart}
+use Rattle.scenario.specs.declared.values.Scenario.{Scenario}
+use Rattle.tracks.specs.AcceptedReports.{Numbers}
+use Rattle.tracks.specs.VesselsHeld.{Sent, is_held}
+use Rattle.own_ship.specs.PlanSituations.{greatest_targets, own_readiness, situation_of, targets_near, vessels_near}
+use Rattle.own_ship.specs.declared.near.Near.{Near}
+use Rattle.own_ship.specs.declared.preparation.Prepared.{Prepared}
+use Rattle.own_ship.specs.declared.readiness.Ready.{Ready}
+
+-- She is ready, and more than 64 vessels are her targets.
+abbrev pub HasManyTargets : Numbers → List Sent → Scenario → OwnPart → Type 0
+HasManyTargets numbers messages scenario own = (ready : Ready) × (own_readiness numbers messages scenario own ≡ Ok ready)
+    × (greatest_targets < length (targets_near numbers messages scenario own ready))
+
+-- Own ship is ready, and has not too many targets: this is the situation in which her plan is sought.
+pub record IsPrepared (numbers : Numbers) (messages : List Sent) (scenario : Scenario) (own : OwnPart) (prepared : Prepared) : Type 0 where
+  pub is_ready : own_readiness numbers messages scenario own ≡ Ok prepared.ready
+  pub near : prepared.near.items ≡ vessels_near numbers messages scenario own prepared.ready
+  -- each of them is held, for whoever writes of her
+  pub held : All (λ (vessel : Near). is_held numbers messages vessel.mmsi ≡ true) prepared.near.items
+  pub few : length (targets_near numbers messages scenario own prepared.ready) ≤ greatest_targets
+  pub situation : prepared.situation ≡ situation_of numbers messages scenario own prepared.ready
+  pub sound : IsSituation prepared.situation
