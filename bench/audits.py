@@ -3,8 +3,8 @@
 
 Both programs take `audit SCENARIO` and a log on standard input. Each seed makes one scenario and one log: a fleet whose vessels meet
 head on, cross, overtake or pass, of which some alter course, slow down, are lost for a while or tell of themselves, with damaged lines
-between; numbers, formulas and subjects of the scenario's own; and a window that may cut the log at either end. Where the bytes on
-standard output or the statuses differ, the seed is told and its files are kept in the folder `--keep`.
+between; numbers, formulas and subjects of the scenario's own; and a window that may cut the log at either end. Where the statuses or
+what the programs wrote differ, the seed is told and its files are kept in the folder `--keep`.
 """
 import argparse
 import math
@@ -14,7 +14,7 @@ import subprocess
 import sys
 
 from harbour import damage
-from sentences import armour, position_report, sentence, tagged, voyage
+from sentences import armour, extended, position_report, sentence, tagged, voyage
 
 START = 1700000000
 ATOMS = ["true", "false", "seen", "risk", "engaged", "begin", "overtaking", "overtaken", "head_on", "crossing_gives",
@@ -48,10 +48,13 @@ def formula(draw, tick, depth):
     return "(%s %s%s %s)" % (formula(draw, tick, depth - 1), draw.choice("US"), bounds(draw, tick), formula(draw, tick, depth - 1))
 
 
-def scenario(draw, fleet, span):
-    tick = draw.choice([1, 2, 5, 7, 10, 10, 15, 30, 60])
-    ticks = max(1, min(400, draw.choice([span, span, span // 2, span * 2]) // tick))
-    start = START + draw.choice([0, 0, 0, -60, 37, span // 3])
+def formulas(draw, tick):
+    for k in range(draw.choice([0, 0, 1, 2, 5])):
+        yield from ["[[formula]]", 'name = "u%d"' % (k + 1), 'text = "%s"' % formula(draw, tick, draw.randrange(1, 4))]
+
+
+def keys(draw, fleet, start, tick, ticks):
+    """The lines of a scenario, all but its formulas."""
     times = [draw.randrange(0, 12) * tick for _ in range(5)]
     four = draw.random() < 0.3
     lines = ["version = %d" % (2 if four else 1)]
@@ -74,9 +77,14 @@ def scenario(draw, fleet, span):
                   "safe_crossing = %d" % draw.choice([100, 400]), "safe_other = %d" % draw.choice([100, 400])]
     else:
         lines += ["safe = %d" % draw.choice([100, 200, 700])]
-    for k in range(draw.choice([0, 0, 1, 2, 5])):
-        lines += ["[[formula]]", 'name = "u%d"' % (k + 1), 'text = "%s"' % formula(draw, tick, draw.randrange(1, 4))]
-    return "\n".join(lines) + "\n"
+    return lines
+
+
+def scenario(draw, fleet, span):
+    tick = draw.choice([1, 2, 5, 7, 10, 10, 15, 30, 60])
+    ticks = max(1, min(400, draw.choice([span, span, span // 2, span * 2]) // tick))
+    start = START + draw.choice([0, 0, 0, -60, 37, span // 3])
+    return "\n".join(keys(draw, fleet, start, tick, ticks) + list(formulas(draw, tick))) + "\n"
 
 
 def meeting_fleet(draw, span):
@@ -115,7 +123,7 @@ def reports(draw, vessel, span, latitude):
         heading = course // 10 if vessel["heading"] else 511
         bits = position_report(vessel["kind"], vessel["mmsi"], north, east, speed if draw.random() < 0.97 else 1023,
                                course if draw.random() < 0.97 else 3600, heading, elapsed % 60)
-        payload, fill = armour(bits)
+        payload, fill = armour(extended(bits, *vessel["ship"]) if "ship" in vessel else bits)
         yield elapsed, [tagged(START + elapsed, sentence(1, 1, "", "AB"[elapsed % 2], payload, fill))]
 
 
@@ -126,34 +134,51 @@ def voyages(draw, fleet):
             yield 7 * k, [tagged(START + 7 * k, sentence(2, 1, k % 10, "A", payload[:56], 0)), sentence(2, 2, k % 10, "A", payload[56:], fill)]
 
 
+def text_of(draw, lines):
+    """The log of lines with their times: most in order, and some later than that."""
+    ordered = sorted(lines, key=lambda entry: entry[0] + (draw.choice([0, 0, 0, 15, 70]) if draw.random() < 0.05 else 0))
+    return "".join(line + "\n" for _, texts in ordered for line in texts)
+
+
+def latitude_of(scenario):
+    return int(scenario.split("lat = ")[1].split("\n")[0])
+
+
 def make(seed):
     draw = random.Random(seed)
     span = draw.choice([200, 400, 900, 1500])
     fleet = list(meeting_fleet(draw, span))
     text = scenario(draw, fleet, span)
-    latitude = int(text.split("lat = ")[1].split("\n")[0])
-    lines = [entry for vessel in fleet for entry in reports(draw, vessel, span, latitude)] + list(voyages(draw, fleet))
+    lines = [entry for vessel in fleet for entry in reports(draw, vessel, span, latitude_of(text))] + list(voyages(draw, fleet))
     if draw.random() < 0.5:
         lines += list(damage())
-    ordered = sorted(lines, key=lambda entry: entry[0] + (draw.choice([0, 0, 0, 15, 70]) if draw.random() < 0.05 else 0))
-    return text, "".join(line + "\n" for _, texts in ordered for line in texts)
+    return text, text_of(draw, lines)
 
 
-def run(program, folder, log):
-    done = subprocess.run([program, "audit", "scenario.toml"], input=log.encode(), cwd=folder, stdout=subprocess.PIPE, stderr=subprocess.PIPE)
-    return done.returncode, done.stdout
+def run(program, mode, folder, log):
+    """The status, and what went to standard output and to standard error."""
+    done = subprocess.run([program, mode, "scenario.toml"], input=log.encode(), cwd=folder, stdout=subprocess.PIPE, stderr=subprocess.PIPE)
+    return done.returncode, done.stdout, done.stderr
 
 
-def main():
-    parser = argparse.ArgumentParser(description=__doc__, formatter_class=argparse.RawDescriptionHelpFormatter)
+def kind_of(row):
+    fields = row.split(",")
+    return " ".join(fields[:1] + (fields[3:5] if fields[0] == "verdict" else fields[3:4] if fields[0] == "meeting" else []))
+
+
+def words(description, kept):
+    parser = argparse.ArgumentParser(description=description, formatter_class=argparse.RawDescriptionHelpFormatter)
     parser.add_argument("program")
     parser.add_argument("other")
     parser.add_argument("--first", type=int, default=1)
     parser.add_argument("--count", type=int, default=300)
-    parser.add_argument("--keep", default="audits-kept")
-    args = parser.parse_args()
+    parser.add_argument("--keep", default=kept)
+    return parser.parse_args()
+
+
+def compared(args, mode, make):
+    """Each seed with what both programs made of its files; these are kept where the two differ, in status, report or the line of a fault."""
     program, other = os.path.abspath(args.program), os.path.abspath(args.other)
-    same, statuses, kinds = 0, {}, {}
     for seed in range(args.first, args.first + args.count):
         text, log = make(seed)
         folder = os.path.join(args.keep, str(seed))
@@ -161,19 +186,24 @@ def main():
         for name, content in (("scenario.toml", text), ("log", log)):
             with open(os.path.join(folder, name), "w") as out:
                 out.write(content)
-        mine, theirs = run(program, folder, log), run(other, folder, log)
-        statuses[mine[0]] = statuses.get(mine[0], 0) + 1
-        for row in mine[1].decode().split("\n"):
-            fields = row.split(",")
-            kind = " ".join(fields[:1] + (fields[3:5] if fields[0] == "verdict" else fields[3:4] if fields[0] == "meeting" else []))
-            kinds[kind] = kinds.get(kind, 0) + 1
+        mine, theirs = run(program, mode, folder, log), run(other, mode, folder, log)
         if mine == theirs:
-            same += 1
-            os.remove(os.path.join(folder, "log"))
-            os.remove(os.path.join(folder, "scenario.toml"))
+            for name in ("log", "scenario.toml"):
+                os.remove(os.path.join(folder, name))
             os.rmdir(folder)
         else:
-            print("seed %d differs: statuses %d and %d" % (seed, mine[0], theirs[0]))
+            print("seed %d differs: statuses %d and %d" % (seed, mine[0], theirs[0]), *(repr(done[2]) for done in (mine, theirs) if done[2]))
+        yield seed, mine, theirs
+
+
+def main():
+    args = words(__doc__, "audits-kept")
+    same, statuses, kinds = 0, {}, {}
+    for _, mine, theirs in compared(args, "audit", make):
+        same += mine == theirs
+        statuses[mine[0]] = statuses.get(mine[0], 0) + 1
+        for row in mine[1].decode().split("\n"):
+            kinds[kind_of(row)] = kinds.get(kind_of(row), 0) + 1
     print("%d of %d the same; statuses %s" % (same, args.count, statuses))
     for kind in sorted(kinds):
         if kind:

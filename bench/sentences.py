@@ -45,6 +45,23 @@ def text(words, characters):
     return "".join(bits(ord(c) - 64 if ord(c) >= 64 else ord(c), 6) for c in padded)
 
 
+def extended(report, name, kind, bow, stern, port, starboard):
+    """The bits of a message 19, out of those of a message 18."""
+    hull = bits(kind, 8) + bits(bow, 9) + bits(stern, 9) + bits(port, 6) + bits(starboard, 6)
+    return bits(19, 6) + report[6:139] + bits(0, 4) + text(name, 20) + hull + bits(0, 11)
+
+
+def name_part(mmsi, name):
+    """The bits of a message 24, part 0."""
+    return bits(24, 6) + bits(0, 2) + bits(mmsi, 30) + bits(0, 2) + text(name, 20)
+
+
+def hull_part(mmsi, kind, bow, stern, port, starboard):
+    """The bits of a message 24, part 1."""
+    hull = bits(bow, 9) + bits(stern, 9) + bits(port, 6) + bits(starboard, 6)
+    return bits(24, 6) + bits(0, 2) + bits(mmsi, 30) + bits(1, 2) + bits(kind, 8) + bits(0, 42) + text("", 7) + hull + bits(0, 6)
+
+
 def voyage(mmsi, name, kind, bow, stern, port, starboard):
     head = bits(5, 6) + bits(0, 2) + bits(mmsi, 30) + bits(0, 2) + bits(0, 30) + text("", 7) + text(name, 20)
     hull = bits(kind, 8) + bits(bow, 9) + bits(stern, 9) + bits(port, 6) + bits(starboard, 6)

@@ -83,7 +83,16 @@ def harbour_of_twenty():
     ]
 
 
+def giving_way():
+    return [
+        vessel("OAK", 200000031, 0, -1297, 0, 14, hull=(110, 40, 12, 12)),
+        vessel("PINE", 200000032, 4075, 3000, 270, 12, kind=80, hull=(140, 40, 14, 14)),
+        vessel("WILLOW", 200000033, 700, 800, 10, 5, kind=52, hull=(25, 8, 5, 5)),
+    ]
+
+
 ENCOUNTERS = {"head_on": head_on, "crossing": crossing, "overtaking": overtaking, "harbour_of_twenty": harbour_of_twenty}
+PLANS = {"giving_way": giving_way}
 
 
 def toward(now, aim, most):
@@ -137,8 +146,10 @@ def statics(fleet, start):
 def log(name):
     with open(os.path.join(HERE, name + ".toml"), "rb") as source:
         scenario = tomllib.load(source)
-    window, fleet = scenario["window"], ENCOUNTERS[name]()
-    start, seconds = window["start"], window["ticks"] * window["tick"] + max(ship["period"] for ship in fleet)
+    window, fleet = scenario["window"], {**ENCOUNTERS, **PLANS}[name]()
+    start, seconds = window["start"], window["ticks"] * window["tick"]
+    if name in ENCOUNTERS:      # the last step needs a report behind it; a plan has none of the time to come
+        seconds += max(ship["period"] for ship in fleet)
     entries = [entry for ship in fleet for entry in reports(ship, seconds, scenario["reference"], start)]
     entries += statics(fleet, start)
     return "".join(line + "\n" for _, lines in sorted(entries, key=lambda entry: entry[0]) for line in lines)

@@ -8,11 +8,11 @@ import sys
 import tomllib
 
 
-def run(program, mode, scenario, log):
-    """The report of the program; where it ends with another status than 0, its line on standard error."""
+def run(program, mode, scenario, log, good=(0,)):
+    """The report of the program; where it ends with another status than a good one, its line on standard error."""
     with open(log, "rb") as source:
         done = subprocess.run([os.path.abspath(program), mode, scenario], stdin=source, stdout=subprocess.PIPE, stderr=subprocess.PIPE)
-    if done.returncode != 0:
+    if done.returncode not in good:
         sys.exit("%s %s: status %d, %s" % (mode, scenario, done.returncode, done.stderr.decode().strip()))
     return done.stdout.decode()
 
@@ -30,11 +30,11 @@ class Case:
 
     def __init__(self, scenario, points, audit):
         with open(scenario, "rb") as source:
-            values = tomllib.load(source)
-        window = values["window"]
+            self.values = tomllib.load(source)
+        window = self.values["window"]
         self.start, self.tick, self.steps = window["start"], window["tick"], window["ticks"]
-        self.gap = values["log"]["gap"]
-        self.reference = values["reference"]
+        self.gap = self.values["log"]["gap"]
+        self.reference = self.values["reference"]
         self.names, self.meetings, self.verdicts, self.rules = {}, [], [], []
         for row in rows(audit):
             self.take(row)
@@ -51,6 +51,10 @@ class Case:
         elif row[0] == "verdict":
             subject, other, first, last = whole(row[1:3] + row[5:7])
             self.verdicts.append({"pair": (subject, other), "rule": row[3], "value": row[4], "first": first, "last": last})
+
+    def extent(self):
+        """What the picture is to hold."""
+        return [place for places in self.places.values() for place in places if place]
 
     def reports(self, points):
         told = {}

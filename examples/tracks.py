@@ -22,8 +22,8 @@ def seen_parts(places):
 class Chart:
     """The plane on paper, north up, one scale for both axes."""
 
-    def __init__(self, case, title):
-        every = [place for places in case.places.values() for place in places if place]
+    def __init__(self, case, title, legend=3):
+        every = case.extent()
         if not every:
             sys.exit("draw: no vessel is seen in the scenario's window")
         xs, ys = [x for x, _ in every], [y for _, y in every]
@@ -35,7 +35,7 @@ class Chart:
         self.left, self.top, self.right, self.bottom = 60, 58, 60 + wide * self.scale, 58 + high * self.scale
         self.rules = [rule for rule in case.rules if any(v["rule"] == rule for v in case.verdicts)]
         self.case, self.title = case, title
-        rows = 3 + math.ceil(len(self.rules) / self.columns())
+        rows = legend + math.ceil(len(self.rules) / self.columns())
         self.picture = Picture(self.right + 20, self.bottom + 46 + 17 * rows, title)
         self.labels = Labels(self.picture, (self.left + 2, self.top + 2, self.right - 2, self.bottom - 2))
 
@@ -50,12 +50,14 @@ class Chart:
         return [self.at(place) for place in places if place]
 
 
-def draw_frame(chart):
-    picture, case = chart.picture, chart.case
+def window_words(case):
+    return "%s, %s to %s UTC." % (date(case.start), clock(case.start), clock(case.start + case.steps * case.tick))
+
+
+def draw_frame(chart, words):
+    picture = chart.picture
     picture.words(chart.left, 24, chart.title, 16, weight="bold")
-    picture.words(chart.left, 43, "%s, %s to %s UTC. Distances from the reference, %s." % (
-        date(case.start), clock(case.start), clock(case.start + case.steps * case.tick),
-        place_words(case.reference)), 11, "#555555")
+    picture.words(chart.left, 43, words + " Distances from the reference, %s." % place_words(chart.case.reference), 11, "#555555")
     apart = nice(70 / chart.scale)
     for vertical in (True, False):
         low, high = (chart.west, chart.west + (chart.right - chart.left) / chart.scale) if vertical else (
@@ -248,7 +250,7 @@ def draw_legend(chart, minutes):
 
 def tracks(case, title):
     chart = Chart(case, title)
-    draw_frame(chart)
+    draw_frame(chart, window_words(case))
     draw_scale(chart)
     draw_tracks(chart)
     placed = draw_stretches(chart)

@@ -1,0 +1,187 @@
+#!/usr/bin/env python3
+"""Makes scenarios and logs, plans by two programs on each, and compares what they write: plans.py PROGRAM OTHER [--first SEED] [--count N]
+
+Both programs take `plan SCENARIO` and a log on standard input. Each seed makes one scenario and one log. Own ship is about to meet other
+vessels: they cross from either side, come from ahead, are overtaken or overtake, run beside her or lie still; some alter before now, some
+are predicted to alter, and some are lost. The length of a vessel is told by a message 5, 19 or 24, or by none. The plans are from one to
+some thousands, of one to eight legs; own ship may be slow to turn; and in some seeds she is not ready, too many vessels are near, or the
+scenario is refused. Where the statuses or what the programs wrote differ, the seed is told and its files are kept in the folder `--keep`.
+"""
+import math
+import random
+import sys
+
+from audits import ATOMS, NAMES, START, compared, formula, keys, latitude_of, reports, text_of, words
+from harbour import damage
+from sentences import armour, hull_part, name_part, position_report, sentence, tagged, voyage
+
+POSITIONS = 20000000    # plans, their positions and their targets multiplied out are at most so many
+MEETINGS = {            # course against own ship's in tenths of a degree, and speed by own ship's, from and to
+    "from starboard": (2250, 3150, 0.5, 1.6), "from port": (450, 1350, 0.5, 1.6), "head on": (1740, 1860, 0.5, 1.6),
+    "overtaken": (-200, 200, 0.2, 0.7), "overtaking": (-200, 200, 1.3, 2.2), "beside": (-60, 60, 0.9, 1.1), "any": (0, 3599, 0, 2),
+}
+UNREADY = ["no report", "too old", "no course", "no speed"]
+TAME = ["engaged -> clear(150)", "risk -> F[0,{0}] !risk", "(ahead & close(600)) -> false", "engaged -> !(ahead & close(900))",
+        "(begin & crossing_gives) -> F[0,{0}] (alters | !engaged)", "(engaged & crossing_stands) -> (!to_port | O[0,{0}] close(500))",
+        "(close(400) & opening) -> other_on_port", "(engaged U[0,{0}] clear(200)) | !risk | true", "H[0,{0}] (!close(250) | opening)"]
+FAULTS = [("legs = ", "legs = 9 #"), ("courses = [", "courses = [1801, "), ("speeds = [", "speeds = [0.5, "), ("leg_ticks = ", "leg_ticks = 7201 #"),
+          ("tail = ", "tail = -1 #"), ("range = ", "ranges = "), ("base = ", "base = 100001 #"), ("[own]", "[ours]"),
+          ("[own]", "[[predict]]\nmmsi = 200000000\nchanges = [[0, 3600, 0]]\n[own]"), ("[own]", "own = 1\n[ours]"),
+          ("[own]", "[[predict]]\nmmsi = 200000000\nchanges = [[60, 0, 0], [60, 1, 0]]\n[own]"), ("tail = ", "tail = 7200 #")]
+
+
+def velocity(course, speed):
+    angle, way = math.radians(course / 10), speed / 36000 * 1852
+    return way * math.sin(angle), way * math.cos(angle)
+
+
+def vessel(draw, mmsi, course, speed, now, place):
+    """One who is at a place now, where she goes straight until then."""
+    return {
+        "mmsi": mmsi, "course": course % 3600, "speed": speed, "meets": now, "off": place, "kind": draw.choice([1, 1, 2, 3, 18]),
+        "period": draw.choice([5, 10, 20, 30]), "phase": 0 if now < 60 else draw.randrange(0, 10),
+        "alters": now * draw.uniform(0.1, 1) if draw.random() < 0.15 else None, "turn": draw.choice([-400, -150, -60, 60, 150, 400]),
+        "slows": draw.choice([0, 0, -60]), "lost": (now * draw.uniform(0.3, 1), draw.choice([40, 400])) if draw.random() < 0.1 else None,
+        "heading": draw.random() < 0.9, "hull": draw.choice(["none", "5", "5", "19", "24", "24 name", "24 size"]),
+        "size": (draw.choice([30, 60, 70, 80]), draw.choice([0, 10, 40, 80, 150, 250]), draw.choice([0, 5, 10, 30, 100]), 10, 10),
+    }
+
+
+def target(draw, own, now):
+    """One whose least distance from own ship comes some minutes after now, where both go on."""
+    least, most, slow, fast = MEETINGS[draw.choice(["from starboard"] * 3 + list(MEETINGS))]
+    course = (own["course"] + draw.randint(least, most)) % 3600
+    speed = 0 if draw.random() < 0.05 else min(300, round(max(own["speed"], 60) * draw.uniform(slow, fast)))
+    mine, hers = velocity(own["course"], own["speed"]), velocity(course, speed)
+    until, miss = draw.choice([60, 200, 300, 300, 400, 600, 900]) * draw.uniform(0.7, 1.4), draw.choice([0, 0, 100, 200, 400, 1000])
+    place = tuple((a - b) * until + draw.gauss(0, miss) for a, b in zip(mine, hers))
+    return vessel(draw, 200000000 + draw.randrange(0, 5) * 100000000 + draw.randrange(0, 1000000), course, speed, now, place)
+
+
+def statics(draw, ship, k, now):
+    """What tells of a vessel's name and size, at some time before now; what a message 19 tells stands in her reports."""
+    name, at = draw.choice(NAMES), min(3 * k, now)
+    size = (ship["mmsi"],) + ship["size"]
+    if ship["hull"] == "5":
+        payload, fill = armour(voyage(ship["mmsi"], name, *ship["size"]))
+        yield at, [tagged(START + at, sentence(2, 1, k % 10, "A", payload[:56], 0)), sentence(2, 2, k % 10, "A", payload[56:], fill)]
+    if ship["hull"] in ("24", "24 name"):
+        yield at, [tagged(START + at, sentence(1, 1, "", "A", *armour(name_part(ship["mmsi"], name))))]
+    if ship["hull"] in ("24", "24 size"):
+        yield at, [tagged(START + at, sentence(1, 1, "", "B", *armour(hull_part(*size))))]
+
+
+def blind_report(own, now, latitude, what):
+    """A last report of own ship that tells no course, or no speed."""
+    north = round(latitude + own["off"][1] / 1852 * 10000)
+    east = round(own["off"][0] / 1852 * 10000 / math.cos(math.radians(latitude / 600000)))
+    bits = position_report(1, own["mmsi"], north, east, 1023 if what == "no speed" else own["speed"],
+                           3600 if what == "no course" else own["course"], 511, 0)
+    return now, [tagged(START + now, sentence(1, 1, "", "A", *armour(bits)))]
+
+
+def lattice(draw, tick, targets):
+    """The lines of own ship's plans: few enough that a run stays short."""
+    courses = draw.choice([[0], [0, 300, 600], [0, 300, 600, 900, -300, -600], [0, 100, -100, 200, -200, 300, 400, 600, 900], [0, 200, -200],
+                           [0, 150, 300, 450, 600, 900],
+                           [draw.randrange(-1800, 1801) for _ in range(draw.randrange(1, 8))], [0] + list(range(-1500, 1501, 300))])
+    speeds = draw.choice([[0], [0], [0, -50], [0, -50], [0, -30, -60, -90], [0, -1022], [0, 30], [draw.randrange(-120, 60) for _ in range(2)]])
+    legs, seconds = draw.choice([1, 1, 2, 2, 3, 4, 8]), draw.choice([tick, 60, 120, 180, 180, 300, 300, 600])
+    leg_ticks, tail = max(1, seconds // tick), draw.choice([0, 0, 1, 10, 30])
+    while legs > 1 and ((len(courses) * len(speeds)) ** legs > 6000 or legs * leg_ticks * tick > 3600 or
+                        (len(courses) * len(speeds)) ** legs * (legs * leg_ticks + tail) * targets > POSITIONS):
+        legs -= 1
+    lines = ["courses = %s" % courses, "speeds = %s" % speeds, "legs = %d" % legs, "leg_ticks = %d" % leg_ticks, "tail = %d" % tail,
+             "base = %d" % draw.choice([0, 0, 50, 100, 150, 300]), "lengths = %d" % draw.choice([0, 0, 1, 2, 4]),
+             "range = %d" % draw.choice([5000, 20000, 50000, 50000])]
+    if draw.random() < 0.35:
+        lines.append("turn_rate = %d" % draw.choice([1, 10, 30, 100, 300]))
+    if draw.random() < 0.35:
+        lines.append("speed_rate = %d" % draw.choice([1, 5, 20, 100]))
+    return lines
+
+
+def changes(draw, fleet, tick):
+    """What is predicted of vessels: of some in the log, or of one that is not."""
+    ships = draw.sample(fleet, min(len(fleet), draw.choice([0, 0, 0, 1, 2])))
+    if draw.random() < 0.1:
+        ships.append({"mmsi": 799999999, "course": 0, "speed": 0})
+    for ship in ships:
+        after = sorted(draw.sample(range(0, 60), draw.choice([1, 1, 2, 4])))
+        yield from ["[[predict]]", "mmsi = %d" % ship["mmsi"], "changes = %s" % [
+            [k * tick, (ship["course"] + draw.choice([0, 150, 400, -150, -400])) % 3600,
+             max(0, ship["speed"] + draw.choice([0, 0, -30, 40]))] for k in after]]
+
+
+def added(draw, tick):
+    """Formulas that a plan may keep, for the most part."""
+    for k in range(draw.choice([0, 0, 0, 1, 2])):
+        text = draw.choice(TAME).format(draw.choice([1, 3, 8]) * tick)
+        if draw.random() < 0.2:
+            text = formula(draw, tick, 2)
+        elif draw.random() < 0.2:
+            text = "(%s & engaged & risk) -> %s" % (draw.choice(ATOMS), text)
+        yield from ["[[formula]]", 'name = "u%d"' % (k + 1), 'text = "%s"' % text]
+
+
+def lenient(draw, lines):
+    """The scenario with less asked by its rules, so that the domains decide."""
+    near = draw.choice([1, 50])
+    return ["%s = %d" % (line.split(" = ")[0], near) if line.startswith(("safe", "overtake")) else line for line in lines]
+
+
+def make(seed):
+    draw = random.Random(seed)
+    tick, back = draw.choice([1, 2, 5, 10, 10, 10, 15, 30, 60]), draw.choice([0, 0, 0, 37])
+    ticks = max(1, draw.choice([tick, 60, 200, 400, 900]) // tick)
+    now = ticks * tick + back
+    unready = draw.choice(UNREADY) if draw.random() < 0.05 else None
+    own = vessel(draw, 300000000 + draw.randrange(1000), draw.randrange(3600), draw.choice([60, 120, 120, 180, 240]), now, (0, 0))
+    own["lost"] = (0 if now < 700 else 30, now + 100) if unready == "too old" else None
+    crowd = draw.random() < 0.01
+    fleet = [target(draw, own, now) for _ in range(70 if crowd else draw.choice([0] + [1] * 12 + [2] * 6 + [3, 3, 5]))]
+    lines = keys(draw, fleet or [own], START + back, tick, ticks)
+    lines = (lenient(draw, lines) if draw.random() < 0.5 else lines) + list(added(draw, tick))
+    lines += ["[own]", "mmsi = %d" % (own["mmsi"] + (unready == "no report"))] + lattice(draw, tick, max(1, len(fleet)))
+    text = "\n".join(lines + list(changes(draw, fleet, tick))) + "\n"
+    if draw.random() < 0.02:
+        text = text.replace(*draw.choice(FAULTS), 1)
+    return text, log(draw, [own] + fleet, now, latitude_of(text), unready)
+
+
+def log(draw, fleet, now, latitude, unready):
+    lines, until = [], now + draw.choice([0, 1, 1, 60])
+    for k, ship in enumerate(fleet):
+        if ship["hull"] == "19":
+            ship["kind"], ship["ship"] = 18, (draw.choice(NAMES),) + ship["size"]
+        lines += list(reports(draw, ship, until, latitude)) + list(statics(draw, ship, k, now))
+    if unready in ("no course", "no speed"):
+        lines = [line for line in lines if line[0] < now] + [blind_report(fleet[0], now, latitude, unready)]
+    if draw.random() < 0.3:
+        lines += list(damage())
+    return text_of(draw, lines)
+
+
+def choice(report):
+    """What was answered: the first plan, a later one, none, or nothing."""
+    rows = [row.split(",") for row in report.decode().split("\n")]
+    return next(("none" if row[0] == "none" else "plan 0" if row[1] == "0" else "a later plan" for row in rows if row[0] in ("plan", "none")), "")
+
+
+def main():
+    args = words(__doc__, "plans-kept")
+    same, statuses, choices = 0, {}, {}
+    for _, mine, theirs in compared(args, "plan", make):
+        same += mine == theirs
+        statuses[mine[0]] = statuses.get(mine[0], 0) + 1
+        choices[choice(mine[1])] = choices.get(choice(mine[1]), 0) + 1
+    print("%d of %d the same" % (same, args.count))
+    for status, meaning in ((0, "a plan"), (1, "none"), (9, "own ship is not ready")):
+        print("%8d ended with %d, %s" % (statuses.pop(status, 0), status, meaning))
+    print("%8d ended with others: %s" % (sum(statuses.values()), dict(sorted(statuses.items()))))
+    print("%8d of the plans are the first of all, %d a later one" % (choices.get("plan 0", 0), choices.get("a later plan", 0)))
+    return 0 if same == args.count else 1
+
+
+if __name__ == "__main__":
+    sys.exit(main())
