@@ -1,7 +1,7 @@
-//! The worked rows of `points`, `audit` and `plan`, by whole runs in memory, and each fault by its number.
+//! The worked rows of `points` and `audit`, by whole runs in memory, and each fault by its number.
 ghost use Rattle.outside.specs.Calls.{AreCallNumbers};
 
-use crate::{Cause, Key, Status, Unready, Which, run};
+use crate::{Cause, Key, Status, Which, run};
 use judged_lines::laws;
 use outside::{MemorySink, MemorySource, PlainShelf, PlainSource, Source, Taken, Word};
 use std::alloc::Global;
@@ -396,74 +396,5 @@ fn two_vessels_meet_head_on_and_neither_alters(rt: HostRuntime) -> Result<(), Fa
             .bytes()
             .ends_with(b"lines,static,1,,,,\nlines,point,4,,,,\n")
     );
-    Ok(())
-}
-
-/// Own ship's part of a scenario.
-const OWN: &str = "
-[own]
-mmsi = 369190000
-courses = [0, 300, 600]
-speeds = [0]
-legs = 1
-leg_ticks = 30
-tail = 10
-base = 300
-lengths = 0
-range = 50000
-";
-
-/// Runs `plan` at tick 1 on the first lines of the two vessels that meet head on, with own ship's part of a scenario.
-fn plan_for(alloc: Global, own: &str) -> Result<Ended, Fail> {
-    let placed = SCENARIO.replace(alloc, "lat = 28549600\nlon = -73407500", "lat = 0\nlon = 0")?;
-    let near = placed.replace(alloc, "ticks = 40", "ticks = 1")?;
-    let scenario = format!(in alloc; "{near}{own}")?;
-    let (front, _) = HEAD_ON.split_at(260);
-    let mut log = PlainSource::new(front.to_vec(alloc)?, 64);
-    run_mode(alloc, "plan", scenario.as_str(), &mut log)
-}
-
-#[test]
-fn first_plan_that_passes_turns_to_starboard(rt: HostRuntime) -> Result<(), Fail> {
-    let ended = plan_for(rt.alloc(), OWN)?;
-    assert_eq!(rt; ended.status, Status::Done);
-    assert!(rt;
-        ended.out.bytes().starts_with(
-            b"vessel,369190000,MT.MITCHELL,99,180,1,0
-vessel,477553000,,0,0,1,0
-plan,1,0,300,180,1,41
-lines,empty,0,,,,
-"
-        )
-    );
-    Ok(())
-}
-
-#[test]
-fn no_plan_where_own_ship_may_not_turn(rt: HostRuntime) -> Result<(), Fail> {
-    let own = OWN.replace(rt.alloc(), "courses = [0, 300, 600]", "courses = [0]")?;
-    let ended = plan_for(rt.alloc(), own.as_str())?;
-    assert_eq!(rt; ended.status, Status::NoManoeuvre);
-    assert_eq!(rt; ended.status.number(), 1);
-    assert!(rt;
-        ended.out.bytes().starts_with(
-            b"vessel,369190000,MT.MITCHELL,99,180,1,0
-vessel,477553000,,0,0,1,0
-none,1,,,,,
-lines,empty,0,,,,
-"
-        )
-    );
-    Ok(())
-}
-
-#[test]
-fn own_ship_without_a_report(rt: HostRuntime) -> Result<(), Fail> {
-    let own = OWN.replace(rt.alloc(), "mmsi = 369190000", "mmsi = 369190001")?;
-    let ended = plan_for(rt.alloc(), own.as_str())?;
-    assert_eq!(rt; ended.status, Status::OwnUnready(Unready::NoPoint(None)));
-    assert_eq!(rt; ended.status.number(), 9);
-    assert!(rt; ended.out.bytes().is_empty());
-    assert_eq!(rt; ended.err.bytes(), b"own: no point\n".as_slice());
     Ok(())
 }
