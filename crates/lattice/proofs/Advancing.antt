@@ -62,3 +62,12 @@ unfolding own_state direction_after speed_after
 state_before_a_step grid plan tick k direction speed start reached so_far less turns hastens =
     let begins : begun_at grid k ≡ suc k = omega arith in
     rw (so_far.point, turns, so_far.direction, hastens, so_far.speed, begins) refl
+
+-- the state at the last planned tick, with which no further step begins
+
+pub last_state : (grid : Grid) (plan : List ℕ) (tick k : ℕ) (start reached : UnderWay) → HasAdvanced grid plan tick start k reached → positions_of grid ≡ k →
+    record { point = reached.point; direction = Some reached.direction; speed = Some reached.speed } ≡ own_state grid plan tick start.point start.direction start.speed k
+unfolding own_state
+last_state grid plan tick k start reached so_far e =
+    let ended : begun_at grid k ≡ k = omega arith in
+    rw (so_far.point, so_far.direction, so_far.speed, ended) refl

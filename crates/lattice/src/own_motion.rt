@@ -1,9 +1,10 @@
 //! Own ship's motion under a plan.
-ghost use Rattle.std.specs.Prelude.{◌≡◌, ◌+◌, ◌-◌, ◌*◌, ◌<◌, ◌≤◌, ◌+ℤ◌, ◌-ℤ◌, ◌*ℤ◌, ℕ, pos, slice_index, unsigned_abs, IfSome, IsSome};
+ghost use Rattle.std.specs.Prelude.{◌≡◌, ◌+◌, ◌-◌, ◌*◌, ◌<◌, ◌≤◌, ◌+ℤ◌, ◌-ℤ◌, ◌*ℤ◌, ℕ, pos, length, get_or, slice_index, unsigned_abs, IfSome, IsSome};
 ghost use Rattle.fixed_geometry.specs.Sizes.{IsWithin};
 ghost use Rattle.fixed_geometry.specs.Velocity.{velocity_of};
 ghost use Rattle.motion.specs.Displacement.{displacement};
 ghost use Rattle.motion.specs.TickStates.{IsTickState};
+ghost use Rattle.motion.specs.declared.leg.TickState.{TickState};
 ghost use Rattle.lattice.specs.Grids.{choices_of, positions_of};
 ghost use Rattle.lattice.specs.OwnMotion.{choice_in_force, direction_after, hastened, leg_in_force, ordered_course, ordered_speed, own_state, point_after, point_by, speed_after, turned};
 ghost use Rattle.lattice.specs.PlanNumbers.{IsPlan};
@@ -131,6 +132,8 @@ impl Lattice {
         ensures moved { (step : ℕ) → steps ≡ step + 1 → IsWithin (tick * 525763)
             (displacement (point_after self.now plan.now tick start.point start.direction start.speed step) result.point) }
         ensures within { IsUnderWay 7900640400 result }
+        ensures near_x { unsigned_abs result.point.x ≤ unsigned_abs start.point.x + steps * (tick * 525763) }
+        ensures near_y { unsigned_abs result.point.y ≤ unsigned_abs start.point.y + steps * (tick * 525763) }
     {
         let mut reached = start;
         for step in 0..steps {
@@ -139,32 +142,113 @@ impl Lattice {
         reached
     }
 
+    /// Her state at a tick, and where she is once its step is over: at the last planned tick no more steps begin.
+    #[inline(always)]
+    fn tick_on(
+        &self,
+        plan: &Plan,
+        start: UnderWay,
+        reached: UnderWay,
+        tick: u32,
+        k: u32,
+    ) -> (TickState, UnderWay)
+        requires plan { IsPlan (choices_of self.now) self.now.legs plan.now }
+        requires tick { tick ≤ 15026 }
+        requires planned { k ≤ positions_of self.now }
+        requires start { IsUnderWay 7900640400 start }
+        requires reached { IsUnderWay 7900640400 reached }
+        ensures value { HasAdvanced self.now plan.now tick start k reached → result.0 ≡ own_state self.now plan.now tick start.point start.direction start.speed k }
+        ensures state { IsTickState 7900640400 result.0 }
+        ensures point { result.0.point ≡ reached.point }
+        ensures advanced { HasAdvanced self.now plan.now tick start k reached → k < positions_of self.now → HasAdvanced self.now plan.now tick start (k + 1) result.1 }
+        ensures moved { IsWithin (tick * 525763) (displacement reached.point result.1.point) }
+        ensures below { result.1.direction < 3600 }
+        ensures small { result.1.speed ≤ 1022 }
+        ensures near_x { unsigned_abs result.1.point.x ≤ unsigned_abs reached.point.x + tick * 525763 }
+        ensures near_y { unsigned_abs result.1.point.y ≤ unsigned_abs reached.point.y + tick * 525763 }
+    {
+        let next = if k < self.positions() {
+            self.stepped(plan, start, reached, tick, k)
+        } else {
+            reached
+        };
+        let state = TickState {
+            point: reached.point,
+            direction: Some(next.direction),
+            speed: Some(next.speed),
+        };
+        (state, next)
+    }
+
     /// Her state `k` ticks after now.
-    #[tactic(auto, unfolding(crate::specs::OwnMotion::own_state))]
     fn state_at(&self, plan: &Plan, start: UnderWay, tick: u32, k: u32) -> TickState
         requires plan { IsPlan (choices_of self.now) self.now.legs plan.now }
         requires planned { k ≤ positions_of self.now }
-        requires near { k * (tick * 525763) ≤ 7900640400 }
-        requires start { IsUnderWay (7900640400 - k * (tick * 525763)) start }
+        requires near { positions_of self.now * (tick * 525763) ≤ 7900640400 }
+        requires start { IsUnderWay (7900640400 - positions_of self.now * (tick * 525763)) start }
         ensures value { result ≡ own_state self.now plan.now tick start.point start.direction start.speed k }
         ensures moved { (step : ℕ) → k ≡ step + 1 → IsWithin (tick * 525763)
             (displacement (point_after self.now plan.now tick start.point start.direction start.speed step) result.point) }
         ensures state { IsTickState 7900640400 result }
     {
+        let _some = self.positions();
         let reached = self.advanced(plan, start, tick, k);
-        if k < self.positions() {
-            TickState {
-                point: reached.point,
-                direction: Some(self.direction_in(plan, start.direction, reached.direction, k)),
-                speed: Some(self.speed_in(plan, start.speed, reached.speed, k)),
-            }
-        } else {
-            TickState {
-                point: reached.point,
-                direction: Some(reached.direction),
-                speed: Some(reached.speed),
-            }
+        self.tick_on(plan, start, reached, tick, k).0
+    }
+
+    /// The same at each tick from this one on.
+    fn fill(&self, plan: &Plan, start: UnderWay, tick: u32, first: u32, path: &mut [TickState])
+        requires plan { IsPlan (choices_of self.now) self.now.legs plan.now }
+        requires begun { first ≤ positions_of self.now }
+        requires planned { first + length path.old ≤ positions_of self.now + 1 }
+        requires near { positions_of self.now * (tick * 525763) ≤ 7900640400 }
+        requires start { IsUnderWay (7900640400 - positions_of self.now * (tick * 525763)) start }
+        ensures count { length path.new ≡ length path.old }
+        ensures value { (j : ℕ) (d : TickState) → j < length path.new
+            → get_or path.new j d ≡ own_state self.now plan.now tick start.point start.direction start.speed (first + j) }
+        ensures moved { (j : ℕ) (d : TickState) → j + 1 < length path.new
+            → IsWithin (tick * 525763) (displacement (get_or path.new j d).point (get_or path.new (j + 1) d).point) }
+        ensures states { (j : ℕ) (d : TickState) → j < length path.new → IsTickState 7900640400 (get_or path.new j d) }
+    {
+        let _some = self.positions();
+        let mut reached = self.advanced(plan, start, tick, first);
+        for j in 0..path.len() {
+            let (state, next) = self.tick_on(plan, start, reached, tick, first + j as u32);
+            path[j] = state;
+            reached = next;
         }
+    }
+
+    /// Own ship's states at the ticks from `first` on, as many as there are places, each as `own_motion` gives it: each is found from
+    /// the one before.
+    pub fn fill_motion(
+        &self,
+        start: &TickState,
+        plan: &Plan,
+        tick: u32,
+        first: u32,
+        path: &mut [TickState],
+    )
+        requires plan { IsPlan (choices_of self.now) self.now.legs plan.now }
+        requires course { IsSome start.now.direction }
+        requires speed { IsSome start.now.speed }
+        requires begun { first ≤ positions_of self.now }
+        requires planned { first + length path.old ≤ positions_of self.now + 1 }
+        requires near { positions_of self.now * tick * 525763 ≤ 7900640400 }
+        requires start { IsTickState (7900640400 - positions_of self.now * tick * 525763) start.now }
+        ensures count { length path.new ≡ length path.old }
+        ensures value { IfSome start.now.direction (λ course. IfSome start.now.speed (λ speed. (j : ℕ) (d : TickState) → j < length path.new
+            → get_or path.new j d ≡ own_state self.now plan.now tick start.now.point course speed (first + j))) }
+        ensures moved { (j : ℕ) (d : TickState) → j + 1 < length path.new
+            → IsWithin (tick * 525763) (displacement (get_or path.new j d).point (get_or path.new (j + 1) d).point) }
+        ensures states { (j : ℕ) (d : TickState) → j < length path.new → IsTickState 7900640400 (get_or path.new j d) }
+    {
+        let start = UnderWay {
+            point: start.point,
+            direction: start.direction.unwrap(),
+            speed: start.speed.unwrap(),
+        };
+        self.fill(plan, start, tick, first, path);
     }
 
     /// Own ship's state `k` ticks of `tick` seconds after now, under a plan of this lattice. `start` has her point, her course

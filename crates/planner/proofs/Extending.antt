@@ -113,36 +113,38 @@ module _ (s : Situation) (W : List ℕ) (from steps : ℕ) (from_now : now_of s 
     enters = e.enters;
   })) h
 
-  pub breaks_fails : Some_ (BreaksARule s W (from + steps)) s.targets → FailsBy s (from + steps) W
-  breaks_fails h = some_weaker (BreaksARule s W (from + steps)) (FailsTowards s W (from + steps)) s.targets (λ T b. inr b) h
-
   -- neither on the way here, nor from here on
-  pub none_fails : StaysOut s W from → (¬ Some_ (λ (T : Target). EntersAlong s W T from steps) s.targets) → (¬ Some_ (BreaksARule s W (from + steps)) s.targets) → ¬ FailsBy s (from + steps) W
-  none_fails outside along breaks (k, h) = by k h
+  pub still_out : StaysOut s W from → (¬ Some_ (λ (T : Target). EntersAlong s W T from steps) s.targets) → StaysOut s W (from + steps)
+  still_out outside along (k, h) = one (slice_get s.targets k) (λ P p. (k, p)) h
     where
-      at : (T : Target) → FailsTowards s W (from + steps) T → (EntersDomain s W from T ⊎ EntersAlong s W T from steps) ⊎ BreaksARule s W (from + steps) T
-      at T (inr b) = inr b
-      at T (inl e) = let planned = e.planned in elim (cases_lt e.step from) [
-        | inl before ↦ inl (inl (record { step = e.step; from_now = e.from_now; planned = before; enters = e.enters }))
-        | inr after ↦ (let there : e.step ≡ from + (e.step - from) = omega arith in inl (inr (record {
+      at : (T : Target) → EntersDomain s W (from + steps) T → EntersDomain s W from T ⊎ EntersAlong s W T from steps
+      at T e = let planned = e.planned in elim (cases_lt e.step from) [
+        | inl before ↦ inl (record { step = e.step; from_now = e.from_now; planned = before; enters = e.enters })
+        | inr after ↦ (let there : e.step ≡ from + (e.step - from) = omega arith in inr (record {
           ahead = e.step - from;
           within = omega arith;
           enters = subst (λ (i : ℕ). IsSomeAnd (step_at (own_at s W) (target_at s T) i) (λ pair. ¬ IsSeparated pair.step T.radius)) there e.enters;
-        })))
+        }))
       ]
 
-      one : (k : ℕ) (o : Option Target) → ((P : Target → Type 0) → IsSomeAnd o P → Some_ P s.targets) → IsSomeAnd o (FailsTowards s W (from + steps)) → ⊥
-      one k None f h = h
-      one k (Some T) f h = elim (at T h) [
-        | inl entered ↦ elim entered [
-          | inl before ↦ outside (f (EntersDomain s W from) before)
-          | inr after ↦ along (f (λ (T : Target). EntersAlong s W T from steps) after)
-        ]
-        | inr b ↦ breaks (f (BreaksARule s W (from + steps)) b)
+      one : (o : Option Target) → ((P : Target → Type 0) → IsSomeAnd o P → Some_ P s.targets) → IsSomeAnd o (EntersDomain s W (from + steps)) → ⊥
+      one None f h = h
+      one (Some T) f h = elim (at T h) [
+        | inl before ↦ outside (f (EntersDomain s W from) before)
+        | inr after ↦ along (f (λ (T : Target). EntersAlong s W T from steps) after)
       ]
 
-      by : (k : ℕ) → IsSomeAnd (slice_get s.targets k) (FailsTowards s W (from + steps)) → ⊥
-      by k h = one k (slice_get s.targets k) (λ P p. (k, p)) h
+module _ (s : Situation) (W : List ℕ) (at : ℕ) where
+  pub breaks_fails : Some_ (BreaksARule s W at) s.targets → FailsBy s at W
+  breaks_fails h = some_weaker (BreaksARule s W at) (FailsTowards s W at) s.targets (λ T b. inr b) h
+
+  pub none_fails : StaysOut s W at → (¬ Some_ (BreaksARule s W at) s.targets) → ¬ FailsBy s at W
+  none_fails outside breaks (k, h) = one (slice_get s.targets k) (λ P p. (k, p)) h
+    where
+      one : (o : Option Target) → ((P : Target → Type 0) → IsSomeAnd o P → Some_ P s.targets) → IsSomeAnd o (FailsTowards s W at) → ⊥
+      one None f h = h
+      one (Some T) f (inl e) = outside (f (EntersDomain s W at) e)
+      one (Some T) f (inr b) = breaks (f (BreaksARule s W at) b)
 
 -- ---- from a prefix to the plan that is followed, and back to the longer prefix
 
@@ -184,6 +186,19 @@ module _ (basis : Basis) (leg number : ℕ) (W : List ℕ) (some : 1 ≤ basis.s
       (λ T. enters_too basis.situation W (plan_of (choices_of basis.situation.lattice) leg (number / choices_of basis.situation.lattice)) (told_by basis.situation.lattice leg) (λ step lt. sym (same_front step lt))
       (reached basis.situation leg) (within leg) T (reached basis.situation leg) (same_tick (reached basis.situation leg))) h)
 
+  pub out_prefix : StaysOut basis.situation W (reached basis.situation (leg + 1))
+      → StaysOut basis.situation (plan_of (choices_of basis.situation.lattice) (leg + 1) number) (reached basis.situation (leg + 1))
+  out_prefix outside h = outside (some_weaker (EntersDomain basis.situation (plan_of (choices_of basis.situation.lattice) (leg + 1) number) (reached basis.situation (leg + 1)))
+      (EntersDomain basis.situation W (reached basis.situation (leg + 1))) basis.situation.targets
+      (λ T. enters_too basis.situation (plan_of (choices_of basis.situation.lattice) (leg + 1) number) W (told_by basis.situation.lattice (leg + 1)) same_prefix
+      (reached basis.situation (leg + 1)) (within (leg + 1)) T (reached basis.situation (leg + 1)) (same_tick (reached basis.situation (leg + 1)))) h)
+
+  pub to_front : FailsBy basis.situation (reached basis.situation leg) W → PrefixFails basis.situation (plan_of (choices_of basis.situation.lattice) leg (number / choices_of basis.situation.lattice))
+  to_front h = subst (λ (n : ℕ). FailsBy basis.situation (reached basis.situation n) (plan_of (choices_of basis.situation.lattice) leg (number / choices_of basis.situation.lattice)))
+      (sym (length-plan_of (choices_of basis.situation.lattice) leg (number / choices_of basis.situation.lattice)))
+      (fails_too basis.situation W (plan_of (choices_of basis.situation.lattice) leg (number / choices_of basis.situation.lattice)) (told_by basis.situation.lattice leg) (λ step lt. sym (same_front step lt))
+      (reached basis.situation leg) (within leg) (reached basis.situation leg) (same_tick (reached basis.situation leg)) (from_now leg) h)
+
   long : length (plan_of (choices_of basis.situation.lattice) (leg + 1) number) ≡ leg + 1
   long = length-plan_of (choices_of basis.situation.lattice) (leg + 1) number
 
@@ -205,12 +220,6 @@ ends_there s leg first length_of lt e f =
 
 pub begins_there : (s : Situation) (leg first : ℕ) → leg < s.lattice.legs → first ≡ leg * s.lattice.leg_ticks → now_of s + first ≡ reached s leg
 begins_there s leg first lt e = ap (λ (k : ℕ). now_of s + k) (e ∙ sym (leg_begins s.lattice leg lt))
-
--- A prefix that passes enters no domain.
-pub out_of_passing : (s : Situation) (c leg n : ℕ) → (¬ PrefixFails s (plan_of c leg n)) → StaysOut s (plan_of c leg n) (reached s leg)
-out_of_passing s c leg n passes h =
-    passes (subst (λ (k : ℕ). FailsBy s (reached s k) (plan_of c leg n)) (sym (length-plan_of c leg n))
-    (some_weaker (EntersDomain s (plan_of c leg n) (reached s leg)) (FailsTowards s (plan_of c leg n) (reached s leg)) s.targets (λ T e. inl e) h))
 
 -- Nothing was entered before now.
 pub out_at_now : (s : Situation) (X : List ℕ) → 1 ≤ s.lattice.legs → StaysOut s X (reached s 0)

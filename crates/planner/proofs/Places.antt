@@ -1,5 +1,5 @@
 -- What is kept of each target, one after the other.
-use Rattle.std.proofs.Common.{◌≡◌, ◌≢◌, ◌∙◌, ℕ, ◌+◌, ◌<◌, ◌≤◌, inl, inr, List, ◌++◌, length, take, drop, get_or, set, refl, sym, ap, subst, arith, Bool, true, false}
+use Rattle.std.proofs.Common.{◌≡◌, ◌≢◌, ◌∙◌, ℕ, ◌+◌, ◌<◌, ◌≤◌, inl, inr, List, [], ◌∷◌, ◌++◌, length, take, drop, get_or, set, refl, sym, ap, subst, arith, Bool, true, false}
 use Rattle.std.proofs.lemmas.Bool.{cases_lt}
 use Rattle.std.proofs.lemmas.List.{get_or-set_other, get_or-set_same}
 use Rattle.std.proofs.Math.Seq.{take-append_seam}
@@ -25,10 +25,6 @@ done_set {X} P xs k y inside before here j w lt = elim (cases_lt j k) [
 pub waiting_set : {X : Type 0} (xs ys : List X) (k : ℕ) (y : X) → ((j : ℕ) (w : X) → k ≤ j → get_or xs j w ≡ get_or ys j w) → (j : ℕ) (w : X) → k + 1 ≤ j → get_or (set xs k y) j w ≡ get_or ys j w
 waiting_set xs ys k y same j w le = let other : j ≢ k = omega arith in get_or-set_other xs k j y w other ∙ same j w (omega arith)
 
-pub true_unless : (b : Bool) → (b ≡ false → ⊥) → b ≡ true
-true_unless true h = refl
-true_unless false h = absurd (h refl)
-
 pub fed_step : (b : Bool) (old new k : ℕ) → (b ≡ true → new ≡ old + 1) → (b ≡ false → new ≡ old) → old ≤ k → new ≤ k + 1
 fed_step true old new k fed unfed le = let e = fed refl in omega arith
 fed_step false old new k fed unfed le = let e = unfed refl in omega arith
@@ -44,6 +40,11 @@ copied basis plan at from new copies stands = λ k t a w cut lt is_cut tells.
     (copies k w w lt).stands basis.program basis.situation plan (get_or basis.situation.targets k t) cut at (stands k t a w cut lt is_cut tells)
 
 -- ---- one target
+
+-- an element of a list that has one, where any serves
+pub an_element : {X : Type 0} (xs : List X) (k : ℕ) → k < length xs → X
+an_element [] k lt = absurd (omega arith)
+an_element (x ∷ xs) k lt = x
 
 pub rules_few : (basis : Basis) → IsBasis basis → (k : ℕ) (A : Already) → A ≡ get_or basis.already.items k A → k < length basis.situation.targets → (T : Target) → A.rules ≤ 17
 rules_few basis is k A is_already lt T =

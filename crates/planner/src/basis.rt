@@ -1,5 +1,5 @@
 //! What stays the same while plans are tried.
-ghost use Rattle.std.specs.Prelude.{ℕ, ◌≡◌, ◌+◌, ◌-◌, ◌*◌, ◌^◌, ◌<◌, ◌≤◌, IfOk, [], map, take};
+ghost use Rattle.std.specs.Prelude.{ℕ, ◌≡◌, ◌+◌, ◌-◌, ◌*◌, ◌^◌, ◌<◌, ◌≤◌, ◌↔◌, IfOk, IsTrue, [], map, take};
 ghost use Rattle.lattice.specs.Grids.{choices_of, positions_of};
 ghost use Rattle.lattice.specs.PlanNumbers.{plan_of, IsPlan};
 ghost use Rattle.mtl_monitor.specs.Following.{count_of, IsProgramOf};
@@ -93,6 +93,15 @@ impl Basis {
         ensures { result ≡ leg * self.now.situation.lattice.leg_ticks }
     {
         u32::from(leg) * self.situation.lattice.leg_ticks()
+    }
+
+    /// Whether no leg follows it.
+    pub(crate) fn is_last(&self, leg: u8) -> bool
+        requires { leg < self.now.situation.lattice.legs }
+        ensures { IsTrue result ↔ (leg + 1 ≡ self.now.situation.lattice.legs) }
+    {
+        let legs = self.situation.lattice.legs();
+        leg + 1 == legs
     }
 
     /// How many ticks it lasts, with the tail after the last one.

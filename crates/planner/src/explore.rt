@@ -7,7 +7,7 @@ ghost use Rattle.planner.specs.Inner.Walk.{AllFailFrom, IsFirst};
 ghost use Rattle.planner.specs.Prefixes.{reached, PrefixFails};
 
 use crate::basis::Basis;
-use crate::level::Level;
+use crate::level::{Extended, Level};
 
 /// The number of the first plan that extends a prefix and does not fail. `number` is that of the prefix, which has so many legs, and
 /// `below` has places for each leg that is left.
@@ -36,12 +36,17 @@ pub(crate) fn explore(
     let Some((to, rest)) = below.split_first_mut() else {
         return Some(number);
     };
+    let mut ended = false;
     for choice in 0..choices {
         let extended = number * choices + choice;
-        if !to.extend(basis, from, leg, extended) {
-            if let Some(found) = explore(basis, to, rest, leg + 1, extended, choices) {
-                return Some(found);
+        match to.extend(basis, from, leg, extended, &mut ended) {
+            Extended::Passes => {
+                if let Some(found) = explore(basis, to, rest, leg + 1, extended, choices) {
+                    return Some(found);
+                }
             }
+            Extended::Fails => {}
+            Extended::FailedBefore => return None,
         }
     }
     None

@@ -1,5 +1,5 @@
 //! What is kept after a prefix of the legs of a plan.
-ghost use Rattle.std.specs.Prelude.{ℕ, ◌≡◌, ◌+◌, ◌-◌, ◌*◌, ◌/◌, ◌<◌, ◌≤◌, ◌^◌, ◌↔◌, IfOk, IsTrue, List, false, true, length, get_or, All};
+ghost use Rattle.std.specs.Prelude.{ℕ, ◌≡◌, ◌+◌, ◌-◌, ◌*◌, ◌/◌, ◌<◌, ◌≤◌, ◌^◌, ◌↔◌, IfOk, IsSome, IsTrue, List, false, true, length, get_or, All};
 ghost use Rattle.lattice.specs.Grids.{choices_of, positions_of};
 ghost use Rattle.lattice.specs.PlanNumbers.{plan_of, IsPlan};
 ghost use Rattle.mtl_monitor.specs.Following.{count_of, AreOfOneProgram, Fits, HasRoom, IsProgramOf};
@@ -10,7 +10,8 @@ ghost use Rattle.planner.specs.Inner.Levels.{lasts, AreEarly, HasPlaces, HasTarg
 ghost use Rattle.planner.specs.Inner.Paths.{EntersAlong, IsPath, IsTrack};
 ghost use Rattle.planner.specs.Inner.Watching.{IsCopyOf, IsCutAtNow, IsEarly, IsReady, Stands};
 ghost use Rattle.planner.specs.Prefixes.{reached, PrefixFails};
-ghost use Rattle.planner.specs.Situations.{now_of, IsSituation, IsTarget};
+ghost use Rattle.planner.specs.Situations.{end_of, now_of, IsSituation, IsTarget};
+ghost use Rattle.planner.specs.declared.level.Extended.TheVariants as Extended;
 ghost use Rattle.planner.specs.declared.situation.Target.{Target};
 ghost use Rattle.planner.specs.declared.watched.Watched.{Watched};
 
@@ -32,6 +33,8 @@ pub(crate) struct Level {
     watched: Vec<Watched>,
     /// Where traces are ended, for a look at what they would come to.
     ending: TraceState,
+    /// The index of the target whose domain was entered last.
+    entered: usize,
 }
 
 /// Where a path is before it is followed.
@@ -92,50 +95,43 @@ fn follow(
     false
 }
 
-/// The same, and whether some position is newly broken if the trace ends with the path.
-fn breaks_towards(
-    situation: &Situation,
-    program: &Program,
-    target: &Target,
-    already: &Already,
-    path: &[TickState],
-    first: u32,
-    watched: &mut Watched,
-    ending: &mut TraceState,
-) -> bool
+/// The first target whose domain own ship enters on a path, by its index.
+fn entered(situation: &Situation, path: &[TickState], first: u32) -> Option<usize>
     requires situation { IsSituation situation.now }
-    requires target { IsTarget situation.now target.now }
     requires track { IsTrack path.now }
     requires planned { first + length path.now ≤ positions_of situation.now.lattice + 1 }
     requires some { 1 ≤ length path.now }
-    requires rules { already.now.rules ≤ 17 }
-    requires program { count_of program.now ≤ 17 }
-    requires of_rules { IsProgramOf program.now (formulas_of situation.now) }
-    requires ready { IsReady program.now watched.old }
-    requires early { IsEarly (now_of situation.now + first) watched.old }
-    requires fits { Fits program.now ending.old }
-    requires room { HasRoom program.now ending.old }
-    ensures ready { IsReady program.now watched.new }
-    ensures fits { Fits program.now ending.new }
-    ensures room { HasRoom program.now ending.new }
-    ensures early { result ≡ false → IsEarly (now_of situation.now + first + (length path.now - 1)) watched.new }
-    ensures stands { result ≡ false → (plan : List ℕ) (cut : Trace) → IsPath situation.now plan first path.now
-        → IsCutAtNow situation.now target.now cut → Tells (formulas_of situation.now) cut already.now
-        → Stands program.now situation.now plan target.now cut (now_of situation.now + first) watched.old
-        → Stands program.now situation.now plan target.now cut (now_of situation.now + first + (length path.now - 1)) watched.new }
-    ensures breaks { (plan : List ℕ) (cut : Trace) → IsPath situation.now plan first path.now
-        → IsCutAtNow situation.now target.now cut → Tells (formulas_of situation.now) cut already.now
-        → Stands program.now situation.now plan target.now cut (now_of situation.now + first) watched.old
-        → (IsTrue result ↔ BreaksARule situation.now plan (now_of situation.now + first + (length path.now - 1)) target.now) }
+    ensures { (plan : List ℕ) → IsPath situation.now plan first path.now
+        → (IsSome result ↔ Some_ (λ (target : Target). EntersAlong situation.now plan target (now_of situation.now + first) (length path.now - 1)) situation.now.targets) }
 {
-    if follow(situation, program, target, already, path, first, watched) {
-        return true;
+    let targets = situation.targets.as_slice();
+    for index in 0..targets.len() {
+        if situation.enters_along(path, &targets[index], first) {
+            return Some(index);
+        }
     }
-    watched.ends_newly_broken(program, already, ending)
+    None
 }
 
-/// Whether own ship enters some target's domain on a path.
-fn enters(situation: &Situation, path: &[TickState], first: u32) -> bool
+/// Whether own ship enters the domain of the target with this index on a path, if there is one.
+fn enters_one(situation: &Situation, path: &[TickState], first: u32, index: usize) -> bool
+    requires situation { IsSituation situation.now }
+    requires track { IsTrack path.now }
+    requires planned { first + length path.now ≤ positions_of situation.now.lattice + 1 }
+    requires some { 1 ≤ length path.now }
+    ensures { IsTrue result → (plan : List ℕ) → IsPath situation.now plan first path.now
+        → Some_ (λ (target : Target). EntersAlong situation.now plan target (now_of situation.now + first) (length path.now - 1)) situation.now.targets }
+{
+    let targets = situation.targets.as_slice();
+    if index < targets.len() {
+        return situation.enters_along(path, &targets[index], first);
+    }
+    false
+}
+
+/// Whether own ship enters some target's domain on a path. The target whose domain was entered last is asked first: plans that
+/// begin alike mostly fail for the same one.
+fn enters(situation: &Situation, path: &[TickState], first: u32, latest: &mut usize) -> bool
     requires situation { IsSituation situation.now }
     requires track { IsTrack path.now }
     requires planned { first + length path.now ≤ positions_of situation.now.lattice + 1 }
@@ -143,12 +139,16 @@ fn enters(situation: &Situation, path: &[TickState], first: u32) -> bool
     ensures { (plan : List ℕ) → IsPath situation.now plan first path.now
         → (IsTrue result ↔ Some_ (λ (target : Target). EntersAlong situation.now plan target (now_of situation.now + first) (length path.now - 1)) situation.now.targets) }
 {
-    for target in situation.targets.as_slice() {
-        if situation.enters_along(path, target, first) {
-            return true;
-        }
+    if enters_one(situation, path, first, *latest) {
+        return true;
     }
-    false
+    match entered(situation, path, first) {
+        Some(index) => {
+            *latest = index;
+            true
+        }
+        None => false,
+    }
 }
 
 /// Takes over what is kept of each target after other legs.
@@ -163,35 +163,25 @@ fn copy_all(watched: &mut [Watched], others: &[Watched])
     }
 }
 
-/// Follows a path towards all targets.
-fn breaks(
-    basis: &Basis,
-    path: &[TickState],
-    first: u32,
-    watched: &mut [Watched],
-    ending: &mut TraceState,
-) -> bool
+/// Follows a path towards all targets. Tells whether some row decides a position as newly broken.
+fn follow_all(basis: &Basis, path: &[TickState], first: u32, watched: &mut [Watched]) -> bool
     requires basis { IsBasis basis.now }
     requires targets { HasTargets basis.now watched.old }
-    requires fits { Fits basis.now.program ending.old }
-    requires room { HasRoom basis.now.program ending.old }
     requires track { IsTrack path.now }
     requires planned { first + length path.now ≤ positions_of basis.now.situation.lattice + 1 }
     requires some { 1 ≤ length path.now }
     requires early { AreEarly (now_of basis.now.situation + first) watched.old }
     ensures targets { HasTargets basis.now watched.new }
-    ensures fits { Fits basis.now.program ending.new }
-    ensures room { HasRoom basis.now.program ending.new }
     ensures early { result ≡ false → AreEarly (now_of basis.now.situation + first + (length path.now - 1)) watched.new }
     ensures stands { result ≡ false → (plan : List ℕ) → IsPath basis.now.situation plan first path.now
         → StandsAt basis.now plan (now_of basis.now.situation + first) watched.old
         → StandsAt basis.now plan (now_of basis.now.situation + first + (length path.now - 1)) watched.new }
-    ensures breaks { (plan : List ℕ) → IsPath basis.now.situation plan first path.now
+    ensures breaks { result ≡ true → (plan : List ℕ) → IsPath basis.now.situation plan first path.now
         → StandsAt basis.now plan (now_of basis.now.situation + first) watched.old
-        → (IsTrue result ↔ Some_ (BreaksARule basis.now.situation plan (now_of basis.now.situation + first + (length path.now - 1))) basis.now.situation.targets) }
+        → Some_ (BreaksARule basis.now.situation plan (now_of basis.now.situation + first + (length path.now - 1))) basis.now.situation.targets }
 {
     for k in 0..watched.len() {
-        if breaks_towards(
+        if follow(
             &basis.situation,
             &basis.program,
             &basis.situation.targets.as_slice()[k],
@@ -199,7 +189,6 @@ fn breaks(
             path,
             first,
             &mut watched[k],
-            ending,
         ) {
             return true;
         }
@@ -207,17 +196,52 @@ fn breaks(
     false
 }
 
-/// Follows a plan in one leg, from what is kept after the legs before it. Tells whether the plan fails up to the leg's end: own ship's
-/// path and the domains are tested before the rules.
+/// Whether some position is newly broken towards some target if the traces end here.
+fn ends_broken(basis: &Basis, watched: &[Watched], ending: &mut TraceState) -> bool
+    requires basis { IsBasis basis.now }
+    requires targets { HasTargets basis.now watched.now }
+    requires early { AreEarly (end_of basis.now.situation) watched.now }
+    requires fits { Fits basis.now.program ending.old }
+    requires room { HasRoom basis.now.program ending.old }
+    ensures fits { Fits basis.now.program ending.new }
+    ensures room { HasRoom basis.now.program ending.new }
+    ensures breaks { (plan : List ℕ) (at : ℕ) → now_of basis.now.situation ≤ at → StandsAt basis.now plan at watched.now
+        → (IsTrue result ↔ Some_ (BreaksARule basis.now.situation plan at) basis.now.situation.targets) }
+{
+    for k in 0..watched.len() {
+        if watched[k].ends_newly_broken(&basis.program, &basis.already[k], ending) {
+            return true;
+        }
+    }
+    false
+}
+
+/// What a beginning of a plan with one more leg comes to.
+#[derive(Clone, Copy, Debug, PartialEq, Eq)]
+pub(crate) enum Extended {
+    /// Nothing in the leg makes it fail. Whether it fails where the traces end is seen at the last leg alone.
+    Passes,
+    /// It fails.
+    Fails,
+    /// The beginning failed before that leg: some position is newly broken where the traces end there.
+    FailedBefore,
+}
+
+/// Follows a plan in one leg, from what is kept after the legs before it. Own ship's path and the domains are tested before the
+/// rules. Where the traces end before the leg is looked at once, for the first leg there that enters no domain: `ended` says whether
+/// it was.
 fn follow_leg(
     basis: &Basis,
     plan: &Plan,
     first: u32,
+    is_last: bool,
     from: &[Watched],
     path: &mut [TickState],
     watched: &mut [Watched],
     ending: &mut TraceState,
-) -> bool
+    entered: &mut usize,
+    ended: &mut bool,
+) -> Extended
     requires basis { IsBasis basis.now }
     requires plan { IsPlan (choices_of basis.now.situation.lattice) basis.now.situation.lattice.legs plan.now }
     requires planned { first + length path.old ≤ positions_of basis.now.situation.lattice + 1 }
@@ -230,18 +254,37 @@ fn follow_leg(
     ensures targets { HasTargets basis.now watched.new }
     ensures fits { Fits basis.now.program ending.new }
     ensures room { HasRoom basis.now.program ending.new }
-    ensures early { result ≡ false → AreEarly (now_of basis.now.situation + first + (length path.old - 1)) watched.new }
-    ensures stands { result ≡ false → StandsAt basis.now plan.now (now_of basis.now.situation + first) from.now
+    ensures early { result ≡ Extended.Passes → AreEarly (now_of basis.now.situation + first + (length path.old - 1)) watched.new }
+    ensures stands { result ≡ Extended.Passes → StandsAt basis.now plan.now (now_of basis.now.situation + first) from.now
         → StandsAt basis.now plan.now (now_of basis.now.situation + first + (length path.old - 1)) watched.new }
-    ensures fails { StandsAt basis.now plan.now (now_of basis.now.situation + first) from.now → StaysOut basis.now.situation plan.now (now_of basis.now.situation + first)
-        → (IsTrue result ↔ FailsBy basis.now.situation (now_of basis.now.situation + first + (length path.old - 1)) plan.now) }
+    ensures outside { result ≡ Extended.Passes → StaysOut basis.now.situation plan.now (now_of basis.now.situation + first)
+        → StaysOut basis.now.situation plan.now (now_of basis.now.situation + first + (length path.old - 1)) }
+    ensures passes { result ≡ Extended.Passes → is_last ≡ true → StandsAt basis.now plan.now (now_of basis.now.situation + first) from.now
+        → StaysOut basis.now.situation plan.now (now_of basis.now.situation + first)
+        → ¬ FailsBy basis.now.situation (now_of basis.now.situation + first + (length path.old - 1)) plan.now }
+    ensures fails { result ≡ Extended.Fails → StandsAt basis.now plan.now (now_of basis.now.situation + first) from.now
+        → FailsBy basis.now.situation (now_of basis.now.situation + first + (length path.old - 1)) plan.now }
+    ensures failed_before { result ≡ Extended.FailedBefore → StandsAt basis.now plan.now (now_of basis.now.situation + first) from.now
+        → FailsBy basis.now.situation (now_of basis.now.situation + first) plan.now }
 {
     basis.situation.fill_path(plan, first, path);
-    if enters(&basis.situation, path, first) {
-        return true;
+    if enters(&basis.situation, path, first, entered) {
+        return Extended::Fails;
+    }
+    if !*ended {
+        if ends_broken(basis, from, ending) {
+            return Extended::FailedBefore;
+        }
+        *ended = true;
     }
     copy_all(watched, from);
-    breaks(basis, path, first, watched, ending)
+    if follow_all(basis, path, first, watched) {
+        return Extended::Fails;
+    }
+    if is_last && ends_broken(basis, watched, ending) {
+        return Extended::Fails;
+    }
+    Extended::Passes
 }
 
 impl Level {
@@ -257,6 +300,7 @@ impl Level {
             path: Vec::new(alloc),
             watched,
             ending: TraceState::new(alloc, program)?,
+            entered: 0,
         })
     }
 
@@ -276,12 +320,20 @@ impl Level {
             path: path_of(alloc, ticks as usize + 1)?,
             watched,
             ending: TraceState::new(alloc, &basis.program)?,
+            entered: 0,
         })
     }
 
-    /// Becomes the state after one more leg. Tells whether the longer prefix fails: own ship's path and the domains are tested before
-    /// the rules. The number is that of the longer prefix.
-    pub(crate) fn extend(&mut self, basis: &Basis, from: &Level, leg: u8, number: u32) -> bool
+    /// Becomes the state after one more leg. The number is that of the longer prefix. `ended` says whether it was looked at already where
+    /// the traces end before the leg.
+    pub(crate) fn extend(
+        &mut self,
+        basis: &Basis,
+        from: &Level,
+        leg: u8,
+        number: u32,
+        ended: &mut bool,
+    ) -> Extended
         requires basis { IsBasis basis.now }
         requires leg { leg < basis.now.situation.lattice.legs }
         requires number { number < choices_of basis.now.situation.lattice ^ (leg + 1) }
@@ -293,20 +345,29 @@ impl Level {
         requires outside { StaysOut basis.now.situation (plan_of (choices_of basis.now.situation.lattice) leg (number / choices_of basis.now.situation.lattice))
             (reached basis.now.situation leg) }
         ensures places { HasPlaces basis.now leg self.new }
-        ensures early { result ≡ false → AreEarly (reached basis.now.situation (leg + 1)) self.new.watched.items }
-        ensures stands { result ≡ false → StandsAt basis.now (plan_of (choices_of basis.now.situation.lattice) (leg + 1) number)
+        ensures early { result ≡ Extended.Passes → AreEarly (reached basis.now.situation (leg + 1)) self.new.watched.items }
+        ensures stands { result ≡ Extended.Passes → StandsAt basis.now (plan_of (choices_of basis.now.situation.lattice) (leg + 1) number)
             (reached basis.now.situation (leg + 1)) self.new.watched.items }
-        ensures fails { IsTrue result ↔ PrefixFails basis.now.situation (plan_of (choices_of basis.now.situation.lattice) (leg + 1) number) }
+        ensures outside { result ≡ Extended.Passes → StaysOut basis.now.situation (plan_of (choices_of basis.now.situation.lattice) (leg + 1) number)
+            (reached basis.now.situation (leg + 1)) }
+        ensures passes { result ≡ Extended.Passes → leg + 1 ≡ basis.now.situation.lattice.legs
+            → ¬ PrefixFails basis.now.situation (plan_of (choices_of basis.now.situation.lattice) (leg + 1) number) }
+        ensures fails { result ≡ Extended.Fails → PrefixFails basis.now.situation (plan_of (choices_of basis.now.situation.lattice) (leg + 1) number) }
+        ensures failed_before { result ≡ Extended.FailedBefore
+            → PrefixFails basis.now.situation (plan_of (choices_of basis.now.situation.lattice) leg (number / choices_of basis.now.situation.lattice)) }
     {
         let plan = basis.first_plan(leg + 1, number);
         follow_leg(
             basis,
             &plan,
             basis.leg_begins(leg),
+            basis.is_last(leg),
             &from.watched,
             &mut self.path,
             &mut self.watched,
             &mut self.ending,
+            &mut self.entered,
+            ended,
         )
     }
 }

@@ -21,12 +21,13 @@ impl Situation {
         requires situation { IsSituation self.now }
         requires plan { IsPlan (choices_of self.now.lattice) self.now.lattice.legs plan.now }
         requires planned { first + length path.old ≤ positions_of self.now.lattice + 1 }
+        requires some { 1 ≤ length path.old }
+        ensures count { length path.new ≡ length path.old }
         ensures path { IsPath self.now plan.now first path.new }
         ensures track { IsTrack path.new }
     {
-        for j in 0..path.len() {
-            path[j] = self.own_ahead(plan, first + j as u32);
-        }
+        self.lattice
+            .fill_motion(&self.start, plan, self.tick, first, path);
     }
 
     /// The step of a path that begins at a tick, counted from now, and of a target, so many ticks later.

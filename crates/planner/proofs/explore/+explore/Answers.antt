@@ -3,13 +3,12 @@ use Rattle.lattice.specs.Grids.{choices_of}
 use Rattle.lattice.specs.PlanNumbers.{plan_of}
 use Rattle.planner.specs.Inner.Levels.{ArePlaces, StandsAt, StaysOut}
 use Rattle.planner.specs.Inner.Walk.{AllFailFrom}
-use Rattle.planner.specs.Prefixes.{reached}
+use Rattle.planner.specs.Prefixes.{PrefixFails, reached}
 use Rattle.planner.specs.declared.level.Level.{Level}
 use Rattle.planner.proofs.Blocks.{all_tried, block_fails, found, next_room, none_before, none_fail, not_found, prefix_room}
-use Rattle.planner.proofs.Extending.{out_of_passing}
 use Rattle.planner.proofs.Walking.{first_alone, join_places, next_number, number_before, split_places}
 use Rattle.planner.proofs.explore.+explore.Goals as goal
-use Rattle.planner.proofs.explore.+explore.Goals.{then-not-extend+in_default-explore, else-not-extend}
+use Rattle.planner.proofs.explore.+explore.Goals.{in-Passes+in_default-explore, in-Fails}
 
 pub returns-in_default-clause-answer : goal.returns-in_default-clause-answer
 returns-in_default-clause-answer t c =
@@ -95,12 +94,12 @@ explore-requires t c =
                 (
                   c.extend.ensures.places.targets,
                   (
-                    c.extend.ensures.early c.if-not-extend.true,
+                    c.extend.ensures.early c.in-Passes.is,
                     (
-                      c.extend.ensures.stands c.if-not-extend.true,
+                      c.extend.ensures.stands c.in-Passes.is,
                       (
-                        out_of_passing s C (c.args.leg + 1) ext (λ h. let t = c.extend.ensures.fails.1 h in let f = c.if-not-extend.true in cc),
-                        λ none h. let t = c.extend.ensures.fails.1 h in let f = c.if-not-extend.true in cc,
+                        c.extend.ensures.outside c.in-Passes.is,
+                        λ none. let count = c.loop-choice.invariant.places.count in c.extend.ensures.passes c.in-Passes.is (omega arith),
                       ),
                     ),
                   ),
@@ -135,24 +134,24 @@ loop-choice-preserved t c =
     let long = c.loop-choice.invariant.left in
     let so_far = c.loop-choice.invariant.fail in
     let whole = c.requires.places.count in
-    elim c.if-not-extend.branch [
-      | then-not-extend+in_default-explore w ↦ record {
+    elim c.match-extend.branch [
+      | in-Passes+in_default-explore w ↦ record {
         place = c.extend.ensures.places;
         places = subst (ArePlaces c.args.basis.now (c.args.leg + 1)) (sym w.rest-is) w.in_default-explore.ensures.places;
         left = let after = w.in_default-explore.ensures.places.count in let before = c.loop-choice.invariant.places.count in omega (arith, ap length w.rest-is);
         fail = let after = w.in_default-explore.ensures.places.count in
             let before = c.loop-choice.invariant.places.count in
-            let as_long : left ≡ length c.if-not-extend.rest = omega (arith, ap length w.rest-is) in
+            let as_long : left ≡ length c.match-extend.rest = omega (arith, ap length w.rest-is) in
             subst (λ (n : ℕ). AllFailFrom s (c.args.number * C ^ length c.args.below.now) ((c.args.number * C + (c.loop-choice.choice + 1)) * C ^ n)) as_long
             (not_found s some c.args.number c.loop-choice.choice left (length c.args.below.now) ext long is so_far w.in_default-explore.ensures.answer);
       }
-      | else-not-extend w ↦ record {
+      | in-Fails w ↦ record {
         place = c.extend.ensures.places;
         places = subst (ArePlaces c.args.basis.now (c.args.leg + 1)) (sym w.rest-is) c.loop-choice.invariant.places;
         left = omega (arith, ap length w.rest-is);
         fail = subst (λ (xs : List Level). AllFailFrom s (c.args.number * C ^ length c.args.below.now) ((c.args.number * C + (c.loop-choice.choice + 1)) * C ^ length xs)) (sym w.rest-is)
             (not_found s some c.args.number c.loop-choice.choice left (length c.args.below.now) ext long is so_far
-            (block_fails s some (c.args.leg + 1) left ext (omega arith) (omega arith) (c.extend.ensures.fails.0 w.if-not-extend.false)));
+            (block_fails s some (c.args.leg + 1) left ext (omega arith) (omega arith) (c.extend.ensures.fails w.in-Fails.is)));
       }
     ]
 
@@ -167,3 +166,16 @@ returns-clause-answer t c =
 
 pub returns-clause-places : goal.returns-clause-places
 returns-clause-places t c = join_places c.args.basis.now c.args.leg c.loop-choice.to c.loop-choice.rest c.loop-choice.invariant.place c.loop-choice.invariant.places
+
+pub returns-in-FailedBefore-clause-places : goal.returns-in-FailedBefore-clause-places
+returns-in-FailedBefore-clause-places t c = join_places c.args.basis.now c.args.leg c.extend.new.self c.loop-choice.rest c.extend.ensures.places c.loop-choice.invariant.places
+
+pub returns-in-FailedBefore-clause-answer : goal.returns-in-FailedBefore-clause-answer
+returns-in-FailedBefore-clause-answer t c =
+    let s = c.args.basis.now.situation in
+    let C = choices_of s.lattice in
+    let count = c.requires.places.count in
+    let lt : c.loop-choice.choice < C = subst (λ (n : ℕ). c.loop-choice.choice < n) c.requires.choices c.loop-choice-test.true in
+    let before = number_before C c.args.number c.loop-choice.choice (c.args.number * c.args.choices + c.loop-choice.choice) lt (ap (λ (n : ℕ). c.args.number * n + c.loop-choice.choice) c.requires.choices) in
+    block_fails s c.requires.basis.is_situation.some_leg c.args.leg (length c.args.below.now) c.args.number (omega arith) (omega arith)
+    (subst (λ (n : ℕ). PrefixFails s (plan_of C c.args.leg n)) before (c.extend.ensures.failed_before c.in-FailedBefore.is))

@@ -6,7 +6,7 @@ use Rattle.planner.specs.Inner.Levels.{StandsAt, StaysOut}
 use Rattle.planner.specs.Prefixes.{reached}
 use Rattle.planner.specs.Situations.{now_of}
 use Rattle.planner.specs.declared.watched.Watched.{Watched}
-use Rattle.planner.proofs.Extending.{begins_there, ends_there, from_prefix, level_front, level_prefix, out_front, to_prefix}
+use Rattle.planner.proofs.Extending.{begins_there, ends_there, from_prefix, level_front, level_prefix, out_front, out_prefix, to_front, to_prefix}
 use Rattle.planner.proofs.Places.{written}
 use Rattle.planner.proofs.level.Level.extend.Goals as goal
 
@@ -29,8 +29,20 @@ returns-clause-stands c = λ e.
     (level_prefix basis c.args.leg c.args.number W some c.first_plan-plan.ensures.begins new
     (subst (λ (n : ℕ). StandsAt basis W n new) end (c.follow_leg.ensures.stands e from)))
 
-pub returns-clause-fails : goal.returns-clause-fails
-returns-clause-fails c =
+pub returns-clause-outside : goal.returns-clause-outside
+returns-clause-outside c = λ e.
+    let basis = c.args.basis.now in
+    let s = basis.situation in
+    let W = c.first_plan-plan.result in
+    let some = c.requires.basis.is_situation.some_leg in
+    let at = begins_there s c.args.leg c.leg_begins.result c.requires.leg c.leg_begins.ensures in
+    let end = ends_there s c.args.leg c.leg_begins.result (length c.deref_mut.result.now) c.requires.leg c.leg_begins.ensures (ap length c.deref_mut.ensures.value ∙ c.requires.places.path) in
+    let outside : StaysOut s W (now_of s + c.leg_begins.result) =
+    subst (λ (n : ℕ). StaysOut s W n) (sym at) (out_front basis c.args.leg c.args.number W some c.first_plan-plan.ensures.begins c.requires.outside) in
+    out_prefix basis c.args.leg c.args.number W some c.first_plan-plan.ensures.begins (subst (λ (n : ℕ). StaysOut s W n) end (c.follow_leg.ensures.outside e outside))
+
+pub returns-clause-passes : goal.returns-clause-passes
+returns-clause-passes c = λ e last f.
     let basis = c.args.basis.now in
     let s = basis.situation in
     let W = c.first_plan-plan.result in
@@ -42,7 +54,30 @@ returns-clause-fails c =
     subst (λ (n : ℕ). StandsAt basis W n c.deref.result.now) (sym at) (subst (λ (xs : List Watched). StandsAt basis W (reached s c.args.leg) xs) (sym c.deref.ensures.value) front) in
     let outside : StaysOut s W (now_of s + c.leg_begins.result) =
     subst (λ (n : ℕ). StaysOut s W n) (sym at) (out_front basis c.args.leg c.args.number W some c.first_plan-plan.ensures.begins c.requires.outside) in
-    let h = c.follow_leg.ensures.fails from outside in (
-      λ t. to_prefix basis c.args.leg c.args.number W some c.first_plan-plan.ensures.begins (subst (λ (n : ℕ). FailsBy s n W) end (h.0 t)),
-      λ f. h.1 (subst (λ (n : ℕ). FailsBy s n W) (sym end) (from_prefix basis c.args.leg c.args.number W some c.first_plan-plan.ensures.begins f)),
-    )
+    c.follow_leg.ensures.passes e (c.is_last.ensures.1 last) from outside
+    (subst (λ (n : ℕ). FailsBy s n W) (sym end) (from_prefix basis c.args.leg c.args.number W some c.first_plan-plan.ensures.begins f))
+
+pub returns-clause-fails : goal.returns-clause-fails
+returns-clause-fails c = λ e.
+    let basis = c.args.basis.now in
+    let s = basis.situation in
+    let W = c.first_plan-plan.result in
+    let some = c.requires.basis.is_situation.some_leg in
+    let at = begins_there s c.args.leg c.leg_begins.result c.requires.leg c.leg_begins.ensures in
+    let end = ends_there s c.args.leg c.leg_begins.result (length c.deref_mut.result.now) c.requires.leg c.leg_begins.ensures (ap length c.deref_mut.ensures.value ∙ c.requires.places.path) in
+    let front = level_front basis c.args.leg c.args.number W some c.first_plan-plan.ensures.begins c.args.from.now.watched.items c.requires.stands in
+    let from : StandsAt basis W (now_of s + c.leg_begins.result) c.deref.result.now =
+    subst (λ (n : ℕ). StandsAt basis W n c.deref.result.now) (sym at) (subst (λ (xs : List Watched). StandsAt basis W (reached s c.args.leg) xs) (sym c.deref.ensures.value) front) in
+    to_prefix basis c.args.leg c.args.number W some c.first_plan-plan.ensures.begins (subst (λ (n : ℕ). FailsBy s n W) end (c.follow_leg.ensures.fails e from))
+
+pub returns-clause-failed_before : goal.returns-clause-failed_before
+returns-clause-failed_before c = λ e.
+    let basis = c.args.basis.now in
+    let s = basis.situation in
+    let W = c.first_plan-plan.result in
+    let some = c.requires.basis.is_situation.some_leg in
+    let at = begins_there s c.args.leg c.leg_begins.result c.requires.leg c.leg_begins.ensures in
+    let front = level_front basis c.args.leg c.args.number W some c.first_plan-plan.ensures.begins c.args.from.now.watched.items c.requires.stands in
+    let from : StandsAt basis W (now_of s + c.leg_begins.result) c.deref.result.now =
+    subst (λ (n : ℕ). StandsAt basis W n c.deref.result.now) (sym at) (subst (λ (xs : List Watched). StandsAt basis W (reached s c.args.leg) xs) (sym c.deref.ensures.value) front) in
+    to_front basis c.args.leg c.args.number W some c.first_plan-plan.ensures.begins (subst (λ (n : ℕ). FailsBy s n W) at (c.follow_leg.ensures.failed_before e from))

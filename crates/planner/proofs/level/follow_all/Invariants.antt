@@ -1,8 +1,6 @@
 use Rattle.std.proofs.Common.{◌≡◌, ℕ, ◌+◌, ◌-◌, ◌<◌, ◌≤◌, List, length, get_or}
 use Rattle.std.specs.List.{All}
-use Rattle.mtl_monitor.specs.Following.{Fits, HasRoom}
 use Rattle.mtl_monitor.specs.Traces.{Trace}
-use Rattle.planner.specs.FailingPlans.{BreaksARule}
 use Rattle.planner.specs.Inner.Breaking.{Tells, formulas_of}
 use Rattle.planner.specs.Inner.Levels.{StandsAt}
 use Rattle.planner.specs.Inner.Paths.{IsPath}
@@ -11,20 +9,16 @@ use Rattle.planner.specs.Situations.{now_of}
 use Rattle.planner.specs.declared.already.Already.{Already}
 use Rattle.planner.specs.declared.situation.Target.{Target}
 use Rattle.planner.specs.declared.watched.Watched.{Watched}
-use Rattle.planner.proofs.level.breaks.Given as goal
+use Rattle.planner.proofs.level.follow_all.Given as goal
 
 abbrev pub invariant-loop-k : goal.invariant-loop-k
 invariant-loop-k l = record {
   count : length l.watched ≡ length l.fn.watched;
   ready : All (IsReady l.basis.program) l.watched;
-  fits : Fits l.basis.program l.ending;
-  room : HasRoom l.basis.program l.ending;
   early : (j : ℕ) (w : Watched) → j < l.k → IsEarly (now_of l.basis.situation + l.first + (length l.path - 1)) (get_or l.watched j w);
   waiting : (j : ℕ) (w : Watched) → l.k ≤ j → get_or l.watched j w ≡ get_or l.fn.watched j w;
   stands : (plan : List ℕ) → IsPath l.basis.situation plan l.first l.path → StandsAt l.basis plan (now_of l.basis.situation + l.first) l.fn.watched
       → (j : ℕ) (t : Target) (a : Already) (w : Watched) (cut : Trace) → j < l.k → IsCutAtNow l.basis.situation (get_or l.basis.situation.targets j t) cut
       → Tells (formulas_of l.basis.situation) cut (get_or l.basis.already.items j a)
       → Stands l.basis.program l.basis.situation plan (get_or l.basis.situation.targets j t) cut (now_of l.basis.situation + l.first + (length l.path - 1)) (get_or l.watched j w);
-  passes : (plan : List ℕ) → IsPath l.basis.situation plan l.first l.path → StandsAt l.basis plan (now_of l.basis.situation + l.first) l.fn.watched
-      → (j : ℕ) (t : Target) → j < l.k → ¬ BreaksARule l.basis.situation plan (now_of l.basis.situation + l.first + (length l.path - 1)) (get_or l.basis.situation.targets j t);
 }

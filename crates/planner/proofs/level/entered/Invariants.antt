@@ -2,8 +2,8 @@ use Rattle.std.proofs.Common.{ℕ, ◌+◌, ◌-◌, ◌<◌, List, length, get_
 use Rattle.planner.specs.Inner.Paths.{EntersAlong, IsPath}
 use Rattle.planner.specs.Situations.{now_of}
 use Rattle.planner.specs.declared.situation.Target.{Target}
-use Rattle.planner.proofs.level.enters.Given as goal
+use Rattle.planner.proofs.level.entered.Given as goal
 
-abbrev pub invariant-loop-target : goal.invariant-loop-target
-invariant-loop-target l = (plan : List ℕ) → IsPath l.situation plan l.first l.path → (i : ℕ) (d : Target) → i < l.target-index
+abbrev pub invariant-loop-index : goal.invariant-loop-index
+invariant-loop-index l = (plan : List ℕ) → IsPath l.situation plan l.first l.path → (i : ℕ) (d : Target) → i < l.index
     → ¬ EntersAlong l.situation plan (get_or l.situation.targets i d) (now_of l.situation + l.first) (length l.path - 1)

@@ -1,4 +1,4 @@
-use Rattle.std.proofs.Common.{◌≡◌, ℕ, ◌+◌, ◌-◌, ◌<◌, List, length, get_or, refl, sym, ap, subst, ◌∙◌, arith}
+use Rattle.std.proofs.Common.{◌≡◌, ℕ, ◌+◌, ◌-◌, ◌<◌, List, length, get_or, sym, ap, subst, ◌∙◌, arith}
 use Rattle.std.proofs.lemmas.List.{get_or_default, length-set}
 use Rattle.std.proofs.lemmas.List.Elements.{All-set}
 use Rattle.mtl_monitor.specs.Traces.{Trace}
@@ -9,27 +9,27 @@ use Rattle.planner.specs.Situations.{now_of}
 use Rattle.planner.specs.declared.already.Already.{Already}
 use Rattle.planner.specs.declared.situation.Target.{Target}
 use Rattle.planner.specs.declared.watched.Watched.{Watched}
-use Rattle.planner.proofs.FlatList.{none_some, none_so_far_of, some_here}
+use Rattle.planner.proofs.FlatList.{some_here}
 use Rattle.planner.proofs.Places.{done_set, rules_few, stands_here, told_here, waiting_set}
-use Rattle.planner.proofs.level.breaks.Goals as goal
+use Rattle.planner.proofs.level.follow_all.Goals as goal
 
-pub breaks_towards-requires-clause-rules : goal.breaks_towards-requires-clause-rules
-breaks_towards-requires-clause-rules c =
+pub follow-requires-clause-rules : goal.follow-requires-clause-rules
+follow-requires-clause-rules c =
     let count = c.requires.targets.count in
     let long = c.loop-k.invariant.count in
     let lt = c.loop-k-test.true in
     rules_few c.args.basis.now c.requires.basis c.loop-k.k c.index.result.now c.index.ensures (omega arith) c.index-as_slice-k.result
 
-pub returns-then-breaks_towards-clause-targets : goal.returns-then-breaks_towards-clause-targets
-returns-then-breaks_towards-clause-targets c =
+pub returns-then-follow-clause-targets : goal.returns-then-follow-clause-targets
+returns-then-follow-clause-targets c =
     let count = c.requires.targets.count in
     record {
-      count = length-set c.loop-k.watched c.loop-k.k c.breaks_towards.new.watched ∙ (c.loop-k.invariant.count ∙ count);
-      ready = All-set (IsReady c.args.basis.now.program) c.loop-k.watched c.loop-k.k c.breaks_towards.new.watched c.breaks_towards.ensures.ready c.loop-k.invariant.ready;
+      count = length-set c.loop-k.watched c.loop-k.k c.follow.new.watched ∙ (c.loop-k.invariant.count ∙ count);
+      ready = All-set (IsReady c.args.basis.now.program) c.loop-k.watched c.loop-k.k c.follow.new.watched c.follow.ensures.ready c.loop-k.invariant.ready;
     }
 
-pub returns-then-breaks_towards-clause-breaks : goal.returns-then-breaks_towards-clause-breaks
-returns-then-breaks_towards-clause-breaks c = λ plan is stands.
+pub returns-then-follow-clause-breaks : goal.returns-then-follow-clause-breaks
+returns-then-follow-clause-breaks c = λ e plan is stands.
     let s = c.args.basis.now.situation in
     let k = c.loop-k.k in
     let count = c.requires.targets.count in
@@ -44,11 +44,8 @@ returns-then-breaks_towards-clause-breaks c = λ plan is stands.
     let is_watched : W ≡ get_or c.args.watched.now k W = get_or_default c.loop-k.watched k c.index-watched-k.result W within ∙ c.loop-k.invariant.waiting k W (omega arith) in
     let told = told_here c.args.basis.now c.requires.basis k T A is_target c.index.ensures inside in
     let was = stands_here c.args.basis.now plan _ c.args.watched.now k T A W is_target c.index.ensures is_watched inside stands told.cut told.is_cut told.tells in
-    let breaks = (c.breaks_towards.ensures.breaks plan told.cut is told.is_cut told.tells was).0 c.if-breaks_towards.true in
-    let P = BreaksARule s plan (now_of s + c.args.first + (length c.args.path.now - 1)) in (
-      λ t. some_here P s.targets k T inside (subst P is_target breaks),
-      λ t. refl,
-    )
+    let P = BreaksARule s plan (now_of s + c.args.first + (length c.args.path.now - 1)) in
+    some_here P s.targets k T inside (subst P is_target (c.follow.ensures.breaks c.if-follow.true plan told.cut is told.is_cut told.tells was))
 
 pub loop-k-preserved : goal.loop-k-preserved
 loop-k-preserved c =
@@ -63,17 +60,14 @@ loop-k-preserved c =
     let A = c.index.result.now in
     let within : k < length c.loop-k.watched = omega arith in
     let W = get_or c.loop-k.watched k c.index-watched-k.result in
-    let next = c.breaks_towards.new.watched in
+    let next = c.follow.new.watched in
     let is_target : T ≡ get_or s.targets k T = c.index-as_slice-k.is ∙ ap (λ (xs : List Target). get_or xs k T) c.as_slice.ensures in
     let is_watched : W ≡ get_or c.args.watched.now k W = get_or_default c.loop-k.watched k c.index-watched-k.result W within ∙ c.loop-k.invariant.waiting k W (omega arith) in
-    let told = told_here c.args.basis.now c.requires.basis k T A is_target c.index.ensures inside in
     record {
       count = length-set c.loop-k.watched k next ∙ long;
-      ready = All-set (IsReady c.args.basis.now.program) c.loop-k.watched k next c.breaks_towards.ensures.ready c.loop-k.invariant.ready;
-      fits = c.breaks_towards.ensures.fits;
-      room = c.breaks_towards.ensures.room;
+      ready = All-set (IsReady c.args.basis.now.program) c.loop-k.watched k next c.follow.ensures.ready c.loop-k.invariant.ready;
       early = done_set (λ (i : ℕ) (x : Watched). IsEarly (now_of s + c.args.first + (length c.args.path.now - 1)) x) c.loop-k.watched k next within c.loop-k.invariant.early
-          (c.breaks_towards.ensures.early c.if-breaks_towards.false);
+          (c.follow.ensures.early c.if-follow.false);
       waiting = waiting_set c.loop-k.watched c.args.watched.now k next c.loop-k.invariant.waiting;
       stands = λ plan is stands j t a w cut below is_cut tells.
           done_set (λ (i : ℕ) (x : Watched). (t : Target) (a : Already) (cut : Trace) → IsCutAtNow s (get_or s.targets i t) cut → Tells (formulas_of s) cut (get_or c.args.basis.now.already.items i a)
@@ -85,13 +79,9 @@ loop-k-preserved c =
           let is_cut' = subst (λ (x : Target). IsCutAtNow s x cut) same_target is_cut in
           let tells' = subst (λ (x : Already). Tells (formulas_of s) cut x) same_already tells in
           subst (λ (x : Target). Stands c.args.basis.now.program s plan x cut (now_of s + c.args.first + (length c.args.path.now - 1)) next) (sym same_target)
-          (c.breaks_towards.ensures.stands c.if-breaks_towards.false plan cut is is_cut' tells'
+          (c.follow.ensures.stands c.if-follow.false plan cut is is_cut' tells'
           (stands_here c.args.basis.now plan _ c.args.watched.now k T A W is_target c.index.ensures is_watched inside stands cut is_cut' tells')))
           j w below t a cut is_cut tells;
-      passes = λ plan is stands j t below.
-          let was = stands_here c.args.basis.now plan _ c.args.watched.now k T A W is_target c.index.ensures is_watched inside stands told.cut told.is_cut told.tells in
-          none_so_far_of (BreaksARule s plan (now_of s + c.args.first + (length c.args.path.now - 1))) s.targets k T inside is_target (c.loop-k.invariant.passes plan is stands)
-          (λ b. let t = (c.breaks_towards.ensures.breaks plan told.cut is told.is_cut told.tells was).1 b in let f = c.if-breaks_towards.false in cc) j t below;
     }
 
 pub returns-clause-stands : goal.returns-clause-stands
@@ -100,10 +90,3 @@ returns-clause-stands c = λ e plan is stands k t a w cut inside is_cut tells.
     let long = c.loop-k.invariant.count in
     let over = c.loop-k-test.false in
     c.loop-k.invariant.stands plan is stands k t a w cut (omega arith) is_cut tells
-
-pub returns-clause-breaks : goal.returns-clause-breaks
-returns-clause-breaks c = λ plan is stands. (
-  λ t. cc,
-  λ h. absurd (none_some (BreaksARule c.args.basis.now.situation plan (now_of c.args.basis.now.situation + c.args.first + (length c.args.path.now - 1))) c.args.basis.now.situation.targets
-      (λ k d inside. let count = c.requires.targets.count in let long = c.loop-k.invariant.count in let over = c.loop-k-test.false in c.loop-k.invariant.passes plan is stands k d (omega arith)) h),
-)

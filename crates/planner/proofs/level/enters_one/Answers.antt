@@ -1,0 +1,14 @@
+use Rattle.std.proofs.Common.{◌+◌, ◌-◌, ◌<◌, List, length, get_or, ap, subst, ◌∙◌}
+use Rattle.planner.specs.Inner.Paths.{EntersAlong}
+use Rattle.planner.specs.Situations.{now_of}
+use Rattle.planner.specs.declared.situation.Target.{Target}
+use Rattle.planner.proofs.FlatList.{some_here}
+use Rattle.planner.proofs.level.enters_one.Goals as goal
+
+pub returns-then-index-targets : goal.returns-then-index-targets
+returns-then-index-targets c = λ t plan is.
+    let T = c.index-targets-index.result in
+    let Enters : Target → Type 0 = λ target. EntersAlong c.args.situation.now plan target (now_of c.args.situation.now + c.args.first) (length c.args.path.now - 1) in
+    some_here Enters c.args.situation.now.targets c.args.index T
+    (subst (λ (xs : List Target). c.args.index < length xs) c.as_slice-targets.ensures c.if-index-targets.true)
+    (subst Enters (c.index-targets-index.is ∙ ap (λ (xs : List Target). get_or xs c.args.index T) c.as_slice-targets.ensures) ((c.enters_along.ensures plan is).0 t))
