@@ -1,5 +1,5 @@
 -- A state that follows some rows follows them with the next, and can be closed; and its answers are right.
-use Rattle.std.proofs.Common.{◌≡◌, ℕ, ◌+◌, ◌-◌, ◌<◌, ◌≤◌, refl, ap, sym, ◌∙◌, arith, zero, suc, Bool, true, false, inl, inr, List, [], ◌∷◌, ◌++◌, length, Option, Some, None, append_assoc, length-append}
+use Rattle.std.proofs.Common.{◌≡◌, ◌≢◌, ℕ, ◌+◌, ◌-◌, ◌<◌, ◌≤◌, refl, ap, sym, ◌∙◌, arith, Bool, true, false, inl, inr, List, [], ◌∷◌, ◌++◌, length, Option, Some, None, append_assoc, length-append}
 use Rattle.std.specs.Prelude.{not, nat_lt, slice_get}
 use Rattle.std.proofs.lemmas.Bool.Decides.{nat_tests}
 use Rattle.std.proofs.lemmas.List.{length_push, append-nil}
@@ -15,15 +15,16 @@ use Rattle.mtl_monitor.specs.declared.program.Program.{Program}
 use Rattle.mtl_monitor.specs.declared.trace_state.TraceState.{TraceState}
 use Rattle.mtl_monitor.specs.Traces.{Trace, value_in}
 use Rattle.mtl_monitor.specs.Inner.Steps.{value_at}
-use Rattle.mtl_monitor.specs.Inner.Quiet.{HaveRuns, Answers, AreAnswered, AreQuiet, flag_at, MayRest, Walk, Walked}
+use Rattle.mtl_monitor.specs.Inner.Quiet.{HaveRuns, Answers, AreAnswered, AreQuiet, flag_at, MayRest, Walked}
 use Rattle.mtl_monitor.specs.Inner.Reading.{atom_at, IsListed, AreRead}
 use Rattle.mtl_monitor.specs.declared.node.AtomNode.{AtomNode}
 use Rattle.mtl_monitor.specs.declared.node.Kept.{Kept}
 use Rattle.mtl_monitor.specs.declared.node.ProgramNode.{ProgramNode}
 use Rattle.mtl_monitor.specs.declared.node.Operator.{Operator}
 use Rattle.mtl_monitor.specs.declared.node.Operator.TheVariants as op
-use Rattle.mtl_monitor.proofs.Walks.{Walk-begins, Walk-stays}
-use Rattle.mtl_monitor.specs.Inner.Standing.{root_at, AllBelow, IsRow, EndsAt, KeepAll, GiveAll, Passes}
+use Rattle.mtl_monitor.proofs.QuietNodes.{IsQuiet-ended, GoesOn-fed, GoesOn-ended}
+use Rattle.mtl_monitor.proofs.Walks.{Walk-begins, Walk-reached}
+use Rattle.mtl_monitor.specs.Inner.Standing.{late_at, root_at, AllBelow, IsRow, EndsAt, KeepAll, GiveAll, Passes}
 use Rattle.mtl_monitor.specs.Following.{Follows, Closes, IsEnded, formula_at}
 use Rattle.mtl_monitor.specs.Monitoring.{IsNext}
 
@@ -55,6 +56,7 @@ IsRow-beyond rows i h a = sym (ap (answer_at (λ r. r) rows a) (slice_get_past r
 pub Closes-Follows : (p : Program) (s : TraceState) (formulas : List FormulaTree) (rows : Trace) → Follows p s formulas rows → Closes p s formulas rows
 Closes-Follows p s formulas rows h =
     let all : KeepAll (rows ++ []) h.trees p.nodes.items s.states.items (length rows) = h.keeps [] in
+    let fed : s.fed ≡ s.passed = h.all_fed ∙ sym h.all_passed in
     record {
       trees = h.trees;
       of = h.of;
@@ -62,12 +64,15 @@ Closes-Follows p s formulas rows h =
       all_passed = omega (arith, h.all_passed);
       keeps = rw h.all_passed (rw (append-nil rows) at all);
       gives = λ some. rw h.all_passed (rw (append-nil rows) at (h.gives (omega (arith, h.all_passed)) []));
+      quiet = λ k inside flag. rw fed (IsQuiet-ended _ _ _ _ _ _ (h.quiet k inside flag));
+      runs = h.runs;
+      still = h.still;
     }
 
 module _ (p : Program) (s s' : TraceState) (formulas : List FormulaTree) (rows : Trace) where
   module _ (r : Atom → Verdict) (h : Follows p s formulas rows) (fed : s'.fed ≡ s.passed + 1) (passed : s'.passed ≡ s.passed + 1)
       (q : Passes p.nodes.items s.states.items s'.states.items s'.values.items r s.passed (s.passed + 1))
-      (quiet : AreQuiet p.nodes.items s'.states.items s'.values.items s'.moving.items (s.passed + 1)) (runs : HaveRuns s'.states.items)
+      (quiet : AreQuiet p.nodes.items s'.states.items s'.values.items s'.moving.items (s.passed + 1) ((s.passed + 1) + 1)) (runs : HaveRuns s'.states.items)
       (still : s'.still ≡ true → (k : ℕ) → k < length p.nodes.items → flag_at s'.moving.items k ≡ false) where
     row_is : (more : Trace) → IsRow (rows ++ r ∷ more) r s.passed
     row_is more = rw h.all_passed (IsRow-next rows more r)
@@ -103,8 +108,10 @@ module _ (p : Program) (s s' : TraceState) (formulas : List FormulaTree) (rows :
 
   -- a row beyond the end
   pub Closes-next : Closes p s formulas rows → s'.fed ≡ s.fed → s'.passed ≡ s.passed + 1
-      → Passes p.nodes.items s.states.items s'.states.items s'.values.items beyond s.passed s.fed → Closes p s' formulas rows
-  Closes-next h fed passed q =
+      → Passes p.nodes.items s.states.items s'.states.items s'.values.items beyond s.passed s.fed
+      → AreQuiet p.nodes.items s'.states.items s'.values.items s'.moving.items (s.passed + 1) s.fed → HaveRuns s'.states.items
+      → (s'.still ≡ true → (k : ℕ) → k < length p.nodes.items → flag_at s'.moving.items k ≡ false) → Closes p s' formulas rows
+  Closes-next h fed passed q quiet runs still =
       let last : (s.passed + 1) - 1 ≡ s.passed = omega arith in
       let row : IsRow rows beyond s.passed = IsRow-beyond rows s.passed h.all_passed in
       let end : EndsAt rows s.passed s.fed = λ j below. rw h.all_fed refl in
@@ -115,6 +122,9 @@ module _ (p : Program) (s s' : TraceState) (formulas : List FormulaTree) (rows :
         all_passed = omega (arith, passed, h.all_passed);
         keeps = rw passed (q.kept rows h.trees h.of.sound.program row end h.keeps);
         gives = λ some. rw (passed, last) (q.given rows h.trees h.of.sound.program row end h.keeps);
+        quiet = rw (passed, fed) quiet;
+        runs = runs;
+        still = still;
       }
 
 pub not_false : (b : Bool) → not b ≡ false → b ≡ true
@@ -134,18 +144,20 @@ answered_one atoms values r (op.Window kind width from a) k read at = tt
 answered_one atoms values r (op.Since width lower from a b) k read at = tt
 answered_one atoms values r (op.Until from full lower a behind b) k read at = tt
 
-module _ (nodes : List ProgramNode) (states : List Kept) (values : List Verdict) (moving : List Bool) (r : Atom → Verdict) (i : ℕ)
-    (all_rest : (k : ℕ) → k < length nodes → flag_at moving k ≡ false) (s : length states ≡ length nodes) (v : length values ≡ length nodes) (m : length moving ≡ length nodes) where
-  stay : (k : ℕ) → k ≤ length nodes → Walk nodes states values moving r i (i + 1) false false states values moving false true k
-  stay zero inside = Walk-begins nodes states values moving r i (i + 1) false false s v m
-  stay (suc k) inside =
-      let next : suc k ≡ k + 1 = omega arith in
-      let before : Walk nodes states values moving r i (i + 1) false false states values moving false true k = stay k (omega arith) in
-      rw next (Walk-stays nodes states values moving r i (i + 1) false false states values moving false true k (omega arith) before refl (all_rest k (omega arith)) true (λ h. h))
-
+module _ (nodes : List ProgramNode) (states : List Kept) (values : List Verdict) (moving : List Bool) (r : Atom → Verdict) (i end : ℕ)
+    (all_rest : (k : ℕ) → k < length nodes → flag_at moving k ≡ false) (uncrossed : (k : ℕ) → k < length nodes → i ≢ end + late_at nodes k) (s : length states ≡ length nodes) (v : length values ≡ length nodes) (m : length moving ≡ length nodes) where
   -- All nodes rest.
-  pub Walked-still : Walked nodes states states values values moving moving r i (i + 1) false true
-  Walked-still = record { warm = false; spread' = false; warmth = λ h. cc; walk = stay (length nodes) (omega arith) }
+  pub Walked-still : Walked nodes states states values values moving moving r i end false true
+  Walked-still =
+      record {
+        warm = false;
+        spread' = false;
+        warmth = λ h. cc;
+        walk =
+            Walk-reached nodes states values moving r i end false false states values moving false true 0 (length nodes)
+            (record { after = omega arith; inside = omega arith; stay = λ j h from. record { rests = all_rest j h; uncrossed = uncrossed j h } }) (λ h. refl)
+            (Walk-begins nodes states values moving r i end false false s v m);
+      }
 
 module _ (p : Program) (s s' : TraceState) (formulas : List FormulaTree) (rows : Trace) (below : AllBelow p.nodes.items) where
   pub Follows-walked : (r : Atom → Verdict) (changed : Bool) → Follows p s formulas rows → s'.fed ≡ s.passed + 1 → s'.passed ≡ s.passed + 1
@@ -158,26 +170,31 @@ module _ (p : Program) (s s' : TraceState) (formulas : List FormulaTree) (rows :
         kept = λ trace trees program answers ends keeps. record { each = (w.walk.midway trace trees program answers ends rest keeps).passed };
         given = λ trace trees program answers ends keeps. record { each = (w.walk.midway trace trees program answers ends rest keeps).gave };
       })
-      (λ k inside flag. w.walk.quiet w.warmth refl h.runs rest below k inside flag) (w.walk.runs h.runs) w.walk.all_still
+      (λ k inside flag. w.walk.quiet w.warmth _ (GoesOn-fed s.passed) h.runs rest below k inside flag) (w.walk.runs h.runs) w.walk.all_still
     where
       answered : changed ≡ false → AreAnswered p.nodes.items s.values.items r
       answered none k inside = answered_one p.atoms.items s.values.items r _ k (read none) (h.of.listed k inside)
 
       rest : MayRest p.nodes.items s.states.items s.values.items s.moving.items r s.passed (s.passed + 1) w.warm changed
-      rest none = (refl, h.quiet, answered none)
+      rest none = (h.quiet, answered none)
 
-  pub Closes-walked : Closes p s formulas rows → s'.fed ≡ s.fed → s'.passed ≡ s.passed + 1
-      → Walked p.nodes.items s.states.items s'.states.items s.values.items s'.values.items s.moving.items s'.moving.items beyond s.passed s.fed true s'.still
+  pub Closes-walked : (changed : Bool) → Closes p s formulas rows → s'.fed ≡ s.fed → s'.passed ≡ s.passed + 1
+      → (changed ≡ false → AreRead p.atoms.items s.values.items beyond)
+      → Walked p.nodes.items s.states.items s'.states.items s.values.items s'.values.items s.moving.items s'.moving.items beyond s.passed s.fed changed s'.still
       → Closes p s' formulas rows
-  Closes-walked h fed passed w =
+  Closes-walked changed h fed passed read w =
       Closes-next p s s' formulas rows h fed passed
       (record {
-        kept = λ trace trees program answers ends keeps. record { each = (w.walk.midway trace trees program answers ends all keeps).passed };
-        given = λ trace trees program answers ends keeps. record { each = (w.walk.midway trace trees program answers ends all keeps).gave };
+        kept = λ trace trees program answers ends keeps. record { each = (w.walk.midway trace trees program answers ends rest keeps).passed };
+        given = λ trace trees program answers ends keeps. record { each = (w.walk.midway trace trees program answers ends rest keeps).gave };
       })
+      (λ k inside flag. w.walk.quiet w.warmth _ (GoesOn-ended s.passed s.fed) h.runs rest below k inside flag) (w.walk.runs h.runs) w.walk.all_still
     where
-      all : MayRest p.nodes.items s.states.items s.values.items s.moving.items beyond s.passed s.fed w.warm true
-      all none = cc
+      answered : changed ≡ false → AreAnswered p.nodes.items s.values.items beyond
+      answered none k inside = answered_one p.atoms.items s.values.items beyond _ k (read none) (h.of.listed k inside)
+
+      rest : MayRest p.nodes.items s.states.items s.values.items s.moving.items beyond s.passed s.fed w.warm changed
+      rest none = (h.quiet, answered none)
 
 -- the answers to the last row that passed
 module _ (p : Program) (s : TraceState) (formulas : List FormulaTree) (rows : Trace) (k : ℕ) (root : Operand) (v : Verdict)

@@ -99,6 +99,9 @@ module _ (p q : Program) (e : AreEqual p q) where
         all_passed = h.all_passed;
         keeps = rw e.nodes h.keeps;
         gives = rw e.nodes h.gives;
+        quiet = rw e.nodes h.quiet;
+        runs = h.runs;
+        still = rw e.nodes h.still;
       }
 
   pub Fits-equal : (s : TraceState) → Fits q s → Fits p s

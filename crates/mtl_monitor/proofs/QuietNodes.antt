@@ -1,6 +1,7 @@
 -- What is quiet at a row is quiet at the next, and so are nodes that have just been passed without a move.
-use Rattle.std.proofs.Common.{◌≡◌, ℕ, ◌+◌, ◌-◌, ◌<◌, ◌≤◌, refl, ap, ap₂, ◌∙◌, arith, true, false, List}
+use Rattle.std.proofs.Common.{◌≡◌, ◌≢◌, ℕ, ◌+◌, ◌-◌, ◌<◌, ◌≤◌, refl, sym, ap, ap₂, ◌∙◌, arith, true, false, inl, inr, List}
 use Rattle.std.specs.Prelude.{nat_lt}
+use Rattle.std.proofs.lemmas.Bool.{cases_lt}
 use Rattle.std.proofs.lemmas.Bool.Decides.{nat_tests}
 use Rattle.mtl_formulas.specs.declared.atom.Atom.{Atom}
 use Rattle.mtl_formulas.specs.declared.verdict.Verdict.{Verdict}
@@ -12,7 +13,7 @@ use Rattle.mtl_monitor.specs.declared.node.Kept.{Kept}
 use Rattle.mtl_monitor.specs.declared.node.Kept.TheVariants as kinds
 use Rattle.mtl_monitor.specs.Inner.Steps.{value_at, given, kept}
 use Rattle.mtl_monitor.specs.Inner.Standing.{OperandsBelow}
-use Rattle.mtl_monitor.specs.Inner.Quiet.{IsAwake, Answers, IsQuiet}
+use Rattle.mtl_monitor.specs.Inner.Quiet.{IsAwake, Answers, GoesOn, IsQuiet}
 
 lt-true : (m n : ℕ) → m < n → nat_lt m n ≡ true
 lt-true m n h = grind (arith, nat_tests)
@@ -21,22 +22,25 @@ lt-false : (m n : ℕ) → n ≤ m → nat_lt m n ≡ false
 lt-false m n h = grind (arith, nat_tests)
 
 module _ (values : List Verdict) (i : ℕ) where
-  given-later : (row : Atom → Verdict) (o : Operator) (s : Kept) (late : ℕ) → IsAwake o i → late ≤ i → given o s late values row (i + 1) ((i + 1) + 1) ≡ given o s late values row i (i + 1)
-  given-later row (op.Late cells from a) (kinds.Ring b r) late awake warm =
+  -- on one side of the trace's end
+  given-later : (row : Atom → Verdict) (o : Operator) (s : Kept) (late end next : ℕ) → IsAwake o i → late ≤ i → nat_lt ((i + 1) - late) next ≡ nat_lt (i - late) end
+      → given o s late values row (i + 1) next ≡ given o s late values row i end
+  given-later row (op.Late cells from a) (kinds.Ring b r) late end next awake warm side =
       rw (lt-false (i + 1) from (omega arith), lt-false i from awake)
-  given-later row (op.Window kind width from a) (kinds.Window s) late awake warm =
-      rw (lt-false (i + 1) from (omega arith), lt-false i from awake, lt-true ((i + 1) - late) ((i + 1) + 1) (omega arith), lt-true (i - late) (i + 1) (omega arith))
-  given-later row (op.Since width lower from a b) (kinds.Since hits bars) late awake warm =
-      rw (
-        lt-false (i + 1) from (omega arith),
-        lt-false i from awake,
-        lt-false (i + 1) late (omega arith),
-        lt-false i late warm,
-        lt-true ((i + 1) - late) ((i + 1) + 1) (omega arith),
-        lt-true (i - late) (i + 1) (omega arith),
-      )
-  given-later row (op.Until from full lower a behind b) s late awake warm = absurd awake
-  given-later row _ _ late awake warm = refl
+  given-later row (op.Window kind width from a) (kinds.Window s) late end next awake warm side =
+      rw (lt-false (i + 1) from (omega arith), lt-false i from awake, side)
+  given-later row (op.Since width lower from a b) (kinds.Since hits bars) late end next awake warm side =
+      rw (lt-false (i + 1) from (omega arith), lt-false i from awake, lt-false (i + 1) late (omega arith), lt-false i late warm, side)
+  given-later row (op.Until from full lower a behind b) s late end next awake warm side = absurd awake
+  given-later row _ _ late end next awake warm side = refl
+
+  given-ended : (row : Atom → Verdict) (o : Operator) (s : Kept) (late end next : ℕ) → nat_lt (i - late) next ≡ nat_lt (i - late) end
+      → given o s late values row i next ≡ given o s late values row i end
+  given-ended row (op.Late cells from a) (kinds.Ring b r) late end next side = refl
+  given-ended row (op.Window kind width from a) (kinds.Window s) late end next side = rw side
+  given-ended row (op.Since width lower from a b) (kinds.Since hits bars) late end next side = rw side
+  given-ended row (op.Until from full lower a behind b) (kinds.Until s bars) late end next side = rw side
+  given-ended row _ _ late end next side = refl
 
   kept-later : (o : Operator) (s : Kept) (late : ℕ) → IsAwake o i → late ≤ i → kept o s late values (i + 1) ≡ kept o s late values i
   kept-later (op.Late cells from a) (kinds.Ring b r) late awake warm =
@@ -55,48 +59,64 @@ module _ (values : List Verdict) (i : ℕ) where
   awake-later (op.Until from full lower a behind b) h = h
   awake-later _ h = tt
 
-  pub IsQuiet-later : (o : Operator) (s : Kept) (late : ℕ) (v : Verdict) → IsQuiet o s late values v i → IsQuiet o s late values v (i + 1)
-  IsQuiet-later o s late v h =
+  -- What was fed is the whole trace.
+  pub IsQuiet-ended : (o : Operator) (s : Kept) (late : ℕ) (v : Verdict) → IsQuiet o s late values v i (i + 1) → IsQuiet o s late values v i i
+  IsQuiet-ended o s late v h =
+      record {
+        awake = h.awake;
+        ready = h.ready;
+        gives = λ uncrossed row answers.
+            given-ended row o s late (i + 1) i (lt-true (i - late) i (omega (arith, h.ready)) ∙ sym (lt-true (i - late) (i + 1) (omega arith))) ∙ h.gives (omega arith) row answers;
+        keeps = h.keeps;
+      }
+
+  pub IsQuiet-later : (o : Operator) (s : Kept) (late : ℕ) (v : Verdict) (end next : ℕ) → GoesOn i end next → i ≢ end + late
+      → IsQuiet o s late values v i end → IsQuiet o s late values v (i + 1) next
+  IsQuiet-later o s late v end next onward here h =
       record {
         awake = awake-later o h.awake;
         ready = omega (arith, h.ready);
-        gives = λ row answers. given-later row o s late h.awake h.ready ∙ h.gives row answers;
+        gives = λ uncrossed row answers. given-later row o s late end next h.awake h.ready (onward late h.ready uncrossed) ∙ h.gives here row answers;
         keeps = kept-later o s late h.awake h.ready ∙ h.keeps;
       }
 
   -- the value that a node gives does not depend on the row, but for its atom
-  same_given : (o : Operator) (s : Kept) (late : ℕ) (row other : Atom → Verdict) → Answers o other (given o s late values row i (i + 1))
-      → given o s late values other i (i + 1) ≡ given o s late values row i (i + 1)
-  same_given (op.Atom a) s late row other h = h
-  same_given (op.Not a) s late row other h = refl
-  same_given (op.Pair kind a b) s late row other h = refl
-  same_given (op.Late cells from a) kinds.Plain late row other h = refl
-  same_given (op.Late cells from a) (kinds.Ring b r) late row other h = refl
-  same_given (op.Late cells from a) (kinds.Window w) late row other h = refl
-  same_given (op.Late cells from a) (kinds.Since w x) late row other h = refl
-  same_given (op.Late cells from a) (kinds.Until w x) late row other h = refl
-  same_given (op.Window kind width from a) kinds.Plain late row other h = refl
-  same_given (op.Window kind width from a) (kinds.Ring b r) late row other h = refl
-  same_given (op.Window kind width from a) (kinds.Window w) late row other h = refl
-  same_given (op.Window kind width from a) (kinds.Since w x) late row other h = refl
-  same_given (op.Window kind width from a) (kinds.Until w x) late row other h = refl
-  same_given (op.Since width lower from a b) kinds.Plain late row other h = refl
-  same_given (op.Since width lower from a b) (kinds.Ring d q) late row other h = refl
-  same_given (op.Since width lower from a b) (kinds.Window w) late row other h = refl
-  same_given (op.Since width lower from a b) (kinds.Since w x) late row other h = refl
-  same_given (op.Since width lower from a b) (kinds.Until w x) late row other h = refl
-  same_given (op.Until from full lower a behind b) kinds.Plain late row other h = refl
-  same_given (op.Until from full lower a behind b) (kinds.Ring d q) late row other h = refl
-  same_given (op.Until from full lower a behind b) (kinds.Window w) late row other h = refl
-  same_given (op.Until from full lower a behind b) (kinds.Since w x) late row other h = refl
-  same_given (op.Until from full lower a behind b) (kinds.Until w x) late row other h = refl
+  same_given : (o : Operator) (s : Kept) (late end : ℕ) (row other : Atom → Verdict) → Answers o other (given o s late values row i end)
+      → given o s late values other i end ≡ given o s late values row i end
+  same_given (op.Atom a) s late end row other h = h
+  same_given (op.Not a) s late end row other h = refl
+  same_given (op.Pair kind a b) s late end row other h = refl
+  same_given (op.Late cells from a) kinds.Plain late end row other h = refl
+  same_given (op.Late cells from a) (kinds.Ring b r) late end row other h = refl
+  same_given (op.Late cells from a) (kinds.Window w) late end row other h = refl
+  same_given (op.Late cells from a) (kinds.Since w x) late end row other h = refl
+  same_given (op.Late cells from a) (kinds.Until w x) late end row other h = refl
+  same_given (op.Window kind width from a) kinds.Plain late end row other h = refl
+  same_given (op.Window kind width from a) (kinds.Ring b r) late end row other h = refl
+  same_given (op.Window kind width from a) (kinds.Window w) late end row other h = refl
+  same_given (op.Window kind width from a) (kinds.Since w x) late end row other h = refl
+  same_given (op.Window kind width from a) (kinds.Until w x) late end row other h = refl
+  same_given (op.Since width lower from a b) kinds.Plain late end row other h = refl
+  same_given (op.Since width lower from a b) (kinds.Ring d q) late end row other h = refl
+  same_given (op.Since width lower from a b) (kinds.Window w) late end row other h = refl
+  same_given (op.Since width lower from a b) (kinds.Since w x) late end row other h = refl
+  same_given (op.Since width lower from a b) (kinds.Until w x) late end row other h = refl
+  same_given (op.Until from full lower a behind b) kinds.Plain late end row other h = refl
+  same_given (op.Until from full lower a behind b) (kinds.Ring d q) late end row other h = refl
+  same_given (op.Until from full lower a behind b) (kinds.Window w) late end row other h = refl
+  same_given (op.Until from full lower a behind b) (kinds.Since w x) late end row other h = refl
+  same_given (op.Until from full lower a behind b) (kinds.Until w x) late end row other h = refl
 
   -- a node that was passed and has kept what it kept
-  pub IsQuiet-passed : (o : Operator) (s : Kept) (late : ℕ) (row : Atom → Verdict) → IsAwake o i → late ≤ i → kept o s late values i ≡ s
-      → IsQuiet o s late values (given o s late values row i (i + 1)) (i + 1)
-  IsQuiet-passed o s late row awake ready still =
-      IsQuiet-later o s late (given o s late values row i (i + 1))
-      (record { awake = awake; ready = ready; gives = λ other answers. same_given o s late row other answers; keeps = still })
+  pub IsQuiet-passed : (o : Operator) (s : Kept) (late : ℕ) (row : Atom → Verdict) (end next : ℕ) → GoesOn i end next → IsAwake o i → late ≤ i → kept o s late values i ≡ s
+      → IsQuiet o s late values (given o s late values row i end) (i + 1) next
+  IsQuiet-passed o s late row end next onward awake ready still =
+      record {
+        awake = awake-later o awake;
+        ready = omega (arith, ready);
+        gives = λ uncrossed other answers. given-later other o s late end next awake ready (onward late ready uncrossed) ∙ same_given o s late end row other answers;
+        keeps = kept-later o s late awake ready ∙ still;
+      }
 
 -- what a node gives and keeps depends on its operands' values alone
 module _ (values others : List Verdict) (i : ℕ) where
@@ -120,11 +140,21 @@ module _ (values others : List Verdict) (i : ℕ) where
   kept-same _ _ k late below same = refl
 
   pub IsQuiet-same : (o : Operator) (s : Kept) (k late : ℕ) (v : Verdict) → OperandsBelow k o → ((j : ℕ) → j < k → value_at others j ≡ value_at values j)
-      → IsQuiet o s late values v i → IsQuiet o s late others v i
-  IsQuiet-same o s k late v below same h =
+      → (end : ℕ) → IsQuiet o s late values v i end → IsQuiet o s late others v i end
+  IsQuiet-same o s k late v below same end h =
       record {
         awake = h.awake;
         ready = h.ready;
-        gives = λ row answers. given-same o s k late (i + 1) row below same ∙ h.gives row answers;
+        gives = λ uncrossed row answers. given-same o s k late end row below same ∙ h.gives uncrossed row answers;
         keeps = kept-same o s k late below same ∙ h.keeps;
       }
+
+-- while rows are fed, and once the trace is over
+pub GoesOn-fed : (i : ℕ) → GoesOn i (i + 1) ((i + 1) + 1)
+GoesOn-fed i late ready uncrossed = lt-true ((i + 1) - late) ((i + 1) + 1) (omega arith) ∙ sym (lt-true (i - late) (i + 1) (omega arith))
+
+pub GoesOn-ended : (i end : ℕ) → GoesOn i end end
+GoesOn-ended i end late ready uncrossed = elim (cases_lt (i - late) end) [
+  | inl inside ↦ lt-true ((i + 1) - late) end (omega arith) ∙ sym (lt-true (i - late) end inside)
+  | inr past ↦ lt-false ((i + 1) - late) end (omega arith) ∙ sym (lt-false (i - late) end past)
+]

@@ -1,5 +1,5 @@
 -- A walk through the nodes, of which those that are quiet may be left as they are.
-use Rattle.std.proofs.Common.{◌≡◌, ◌≢◌, ℕ, ◌+◌, ◌<◌, refl, sym, ◌∙◌, arith, Bool, true, false, inl, inr, List, length, get_or-set_other, get_or-set_same, below_more}
+use Rattle.std.proofs.Common.{◌≡◌, ◌≢◌, ℕ, zero, suc, ◌+◌, ◌-◌, ◌<◌, refl, subst, sym, ◌∙◌, arith, Bool, true, false, inl, inr, List, length, get_or-set_other, get_or-set_same, below_more}
 use Rattle.std.proofs.lemmas.Bool.Decides.{eqb_tells}
 use Rattle.std.proofs.lemmas.List.{length-set, set-get_or}
 use Rattle.mtl_formulas.specs.declared.atom.Atom.{Atom}
@@ -12,7 +12,7 @@ use Rattle.mtl_monitor.specs.declared.node.Kept.TheVariants as kinds
 use Rattle.mtl_monitor.specs.Traces.{Trace}
 use Rattle.mtl_monitor.specs.Inner.Steps.{value_at, given, kept}
 use Rattle.mtl_monitor.specs.Inner.Standing.{tree_at, node_at, late_at, state_at, IsRow, EndsAt, IsProgram, Midway, OperandsBelow, AllBelow}
-use Rattle.mtl_monitor.specs.Inner.Quiet.{HaveRuns, IsWarm, IsQuiet, flag_at, Moves, Steps, MayRest, Walk}
+use Rattle.mtl_monitor.specs.Inner.Quiet.{HaveRuns, IsWarm, IsQuiet, GoesOn, flag_at, Moves, IsReached, MayRest, Walk}
 use Rattle.mtl_monitor.proofs.NodeRows.{Keeps-row, IsGiven-row}
 use Rattle.mtl_monitor.proofs.Rows.{Midway-next}
 use Rattle.mtl_monitor.proofs.Shapes.{HaveShapes-next, IsCounted-kept}
@@ -49,7 +49,7 @@ module _ (nodes : List ProgramNode) (states : List Kept) (values : List Verdict)
         unspread = λ h. (h, refl);
         midway = λ trace trees program answers ends rest keeps.
             record { passed = λ j h. absurd (omega arith); gave = λ j h. absurd (omega arith); waiting = λ j after h. keeps.each j h };
-        quiet = λ warmth ends runs rest below j h flag. absurd (omega arith);
+        quiet = λ warmth next onward runs rest below j h flag. absurd (omega arith);
         runs = λ h. h;
         shapes = λ h. h;
         all_still = λ h j before. absurd (omega arith);
@@ -58,9 +58,9 @@ module _ (nodes : List ProgramNode) (states : List Kept) (values : List Verdict)
   module _ (states' : List Kept) (values' : List Verdict) (moving' : List Bool) (spread' still : Bool) (k : ℕ) (inside : k < length nodes)
       (w : Walk nodes states values moving row i end warm spread states' values' moving' spread' still k) where
     -- a quiet node is left
-    pub Walk-stays : spread' ≡ false → flag_at moving' k ≡ false → (still' : Bool) → (still' ≡ true → still ≡ true)
+    pub Walk-stays : spread' ≡ false → flag_at moving' k ≡ false → i ≢ end + late_at nodes k → (still' : Bool) → (still' ≡ true → still ≡ true)
         → Walk nodes states values moving row i end warm spread states' values' moving' spread' still' (k + 1)
-    Walk-stays none rests still' stiller =
+    Walk-stays none rests here still' stiller =
         record {
           states_fit = w.states_fit;
           values_fit = w.values_fit;
@@ -70,22 +70,22 @@ module _ (nodes : List ProgramNode) (states : List Kept) (values : List Verdict)
           unspread = w.unspread;
           midway = λ trace trees program answers ends rest keeps.
               let allowed = rest (w.unspread none).0 in
-              let was : IsQuiet (node_at nodes k).operator (state_at states' k) (late_at nodes k) values' (value_at values' k) i = was_quiet rest in
+              let was : IsQuiet (node_at nodes k).operator (state_at states' k) (late_at nodes k) values' (value_at values' k) i end = was_quiet rest in
               let found : given (node_at nodes k).operator (state_at states' k) (late_at nodes k) values' row i end ≡ value_at values' k =
-              rw allowed.0 (was.gives row (rw (w.unspread none).1 (allowed.2 k inside))) in
+              was.gives here row (rw (w.unspread none).1 (allowed.1 k inside)) in
               Midway-stays trace trees nodes states' values' i k row end program inside answers ends found was.keeps (w.midway trace trees program answers ends rest keeps);
-          quiet = λ warmth ends runs rest below.
-              below_more _ _ (w.quiet warmth ends runs rest below)
-              (λ flag. IsQuiet-later values' i (node_at nodes k).operator (state_at states' k) (late_at nodes k) (value_at values' k) (was_quiet rest));
+          quiet = λ warmth next onward runs rest below.
+              below_more _ _ (w.quiet warmth next onward runs rest below)
+              (λ flag. IsQuiet-later values' i (node_at nodes k).operator (state_at states' k) (late_at nodes k) (value_at values' k) end next onward here (was_quiet rest));
           runs = w.runs;
           shapes = w.shapes;
           all_still = λ h. below_more _ _ (w.all_still (stiller h)) rests;
         }
       where
-        was_quiet : MayRest nodes states values moving row i end warm spread → IsQuiet (node_at nodes k).operator (state_at states' k) (late_at nodes k) values' (value_at values' k) i
+        was_quiet : MayRest nodes states values moving row i end warm spread → IsQuiet (node_at nodes k).operator (state_at states' k) (late_at nodes k) values' (value_at values' k) i end
         was_quiet rest =
             let start = w.unspread none in
-            rw (start.1, w.states_ahead k (omega arith)) ((rest start.0).1 k inside (sym (w.moving_ahead k (omega arith)) ∙ rests))
+            rw (start.1, w.states_ahead k (omega arith)) ((rest start.0).0 k inside (sym (w.moving_ahead k (omega arith)) ∙ rests))
 
     -- a node is passed
     module _ (states'' : List Kept) (values'' : List Verdict) (moving'' : List Bool) (changed : Bool)
@@ -114,16 +114,16 @@ module _ (nodes : List ProgramNode) (states : List Kept) (values : List Verdict)
       same_below : (j : ℕ) → j < k → value_at values'' j ≡ value_at values' j
       same_below j h = other_value j (omega arith)
 
-      passed_quiet : (warm ≡ true → IsWarm nodes i) → end ≡ i + 1 → HaveRuns states → AllBelow nodes → flag_at moving'' k ≡ false
-          → IsQuiet (node_at nodes k).operator (state_at states'' k) (late_at nodes k) values'' (value_at values'' k) (i + 1)
-      passed_quiet warmth ends runs below flag =
+      passed_quiet : (warm ≡ true → IsWarm nodes i) → (next : ℕ) → GoesOn i end next → HaveRuns states → AllBelow nodes → flag_at moving'' k ≡ false
+          → IsQuiet (node_at nodes k).operator (state_at states'' k) (late_at nodes k) values'' (value_at values'' k) (i + 1) next
+      passed_quiet warmth next onward runs below flag =
           let rests = m.rests (sym this_flag ∙ flag) in
           let is_warm = warmth rests.0 k inside in
           let still : m.keeps ≡ state_at states' k = rests.2 (w.runs runs k) in
-          let value : value_at values'' k ≡ given (node_at nodes k).operator (state_at states' k) (late_at nodes k) values' row i (i + 1) = rw (← ends) (this_value ∙ m.value_is) in
+          let value : value_at values'' k ≡ given (node_at nodes k).operator (state_at states' k) (late_at nodes k) values' row i end = this_value ∙ m.value_is in
           rw (this_state, still, value)
-          (IsQuiet-same values' values'' (i + 1) (node_at nodes k).operator (state_at states' k) k (late_at nodes k) _ (below k inside) same_below
-          (IsQuiet-passed values' i (node_at nodes k).operator (state_at states' k) (late_at nodes k) row (is_warm.0 rests.1) is_warm.1 (sym m.kept_is ∙ still)))
+          (IsQuiet-same values' values'' (i + 1) (node_at nodes k).operator (state_at states' k) k (late_at nodes k) _ (below k inside) same_below next
+          (IsQuiet-passed values' i (node_at nodes k).operator (state_at states' k) (late_at nodes k) row end next onward (is_warm.0 rests.1) is_warm.1 (sym m.kept_is ∙ still)))
 
       pub Walk-moves : (spread'' : Bool) → (spread'' ≡ false → (spread' ≡ false) × (changed ≡ false)) → (still' : Bool) → (still' ≡ true → (still ≡ true) × (flag_at moving'' k ≡ false))
           → Walk nodes states values moving row i end warm spread states'' values'' moving'' spread'' still' (k + 1)
@@ -139,9 +139,9 @@ module _ (nodes : List ProgramNode) (states : List Kept) (values : List Verdict)
                 rw (m.states_are, m.values_are)
                 (Midway-next trace trees nodes states' values' i k row end kinds.Plain m.keeps m.value program inside w.states_fit w.values_fit answers ends m.value_is m.kept_is
                 (w.midway trace trees program answers ends rest keeps));
-            quiet = λ warmth ends runs rest below.
-                below_more _ _ (λ j h flag. quiet_before j h (w.quiet warmth ends runs rest below j h (sym (other_flag j (omega arith)) ∙ flag)) (below j (omega arith)))
-                (passed_quiet warmth ends runs below);
+            quiet = λ warmth next onward runs rest below.
+                below_more _ _ (λ j h flag. quiet_before next j h (w.quiet warmth next onward runs rest below j h (sym (other_flag j (omega arith)) ∙ flag)) (below j (omega arith)))
+                (passed_quiet warmth next onward runs below);
             runs = λ h. runs_after (w.runs h);
             shapes = λ h. rw m.states_are (HaveShapes-next nodes states' k (late_at nodes k) values' i kinds.Plain m.keeps inside m.kept_is (w.shapes h));
             all_still = λ h. below_more _ _ (λ j b. other_flag j (omega arith) ∙ w.all_still (stiller h).0 j b) (stiller h).1;
@@ -150,14 +150,14 @@ module _ (nodes : List ProgramNode) (states : List Kept) (values : List Verdict)
           same_values : changed ≡ false → values'' ≡ values'
           same_values h = rw (m.values_are, m.same h) (set-get_or values' k Open)
 
-          quiet_before : (j : ℕ) → j < k
-              → IsQuiet (node_at nodes j).operator (state_at states' j) (late_at nodes j) values' (value_at values' j) (i + 1)
+          quiet_before : (next j : ℕ) → j < k
+              → IsQuiet (node_at nodes j).operator (state_at states' j) (late_at nodes j) values' (value_at values' j) (i + 1) next
               → OperandsBelow j (node_at nodes j).operator
-              → IsQuiet (node_at nodes j).operator (state_at states'' j) (late_at nodes j) values'' (value_at values'' j) (i + 1)
-          quiet_before j h was below =
+              → IsQuiet (node_at nodes j).operator (state_at states'' j) (late_at nodes j) values'' (value_at values'' j) (i + 1) next
+          quiet_before next j h was below =
               let other : j ≢ k = omega arith in
               rw (other_state j other, other_value j other)
-              (IsQuiet-same values' values'' (i + 1) (node_at nodes j).operator (state_at states' j) j (late_at nodes j) (value_at values' j) below (λ l lower. other_value l (omega arith)) was)
+              (IsQuiet-same values' values'' (i + 1) (node_at nodes j).operator (state_at states' j) j (late_at nodes j) (value_at values' j) below (λ l lower. other_value l (omega arith)) next was)
 
           runs_after : HaveRuns states' → HaveRuns states''
           runs_after h j = elim (eqb_tells j k) [
@@ -167,18 +167,26 @@ module _ (nodes : List ProgramNode) (states : List Kept) (values : List Verdict)
             | inr other ↦ rw (other_state j other.1) (h j)
           ]
 
-  -- one step of the walk
-  pub Walk-next : (states' states'' : List Kept) (values' values'' : List Verdict) (moving' moving'' : List Bool) (spread' spread'' still still' : Bool) (k : ℕ) → k < length nodes
-      → Steps nodes states' states'' values' values'' moving' moving'' row i end k warm spread' spread'' → (still' ≡ true → (still ≡ true) × (flag_at moving'' k ≡ false))
+  -- all nodes up to an index are left
+  pub Walk-on : (states' : List Kept) (values' : List Verdict) (moving' : List Bool) (spread' still : Bool) (start count : ℕ)
+      → IsReached nodes moving' i end start (start + count) → (start < start + count → spread' ≡ false)
+      → Walk nodes states values moving row i end warm spread states' values' moving' spread' still start
+      → Walk nodes states values moving row i end warm spread states' values' moving' spread' still (start + count)
+  Walk-on states' values' moving' spread' still start zero reached none w = let here : start + zero ≡ start = omega arith in rw here w
+  Walk-on states' values' moving' spread' still start (suc count) reached none w =
+      let next : start + suc count ≡ (start + count) + 1 = omega arith in
+      let here = reached.stay (start + count) (omega arith) (omega arith) in
+      let before : IsReached nodes moving' i end start (start + count) =
+      record { after = omega arith; inside = omega (arith, reached.inside); stay = λ j h from. reached.stay j (omega arith) from } in
+      rw next
+      (Walk-stays states' values' moving' spread' still (start + count) (omega (arith, reached.inside))
+      (Walk-on states' values' moving' spread' still start count before (λ h. none (omega arith)) w) (none (omega arith)) here.rests here.uncrossed still (λ h. h))
+
+  pub Walk-reached : (states' : List Kept) (values' : List Verdict) (moving' : List Bool) (spread' still : Bool) (start k : ℕ)
+      → IsReached nodes moving' i end start k → (start < k → spread' ≡ false)
+      → Walk nodes states values moving row i end warm spread states' values' moving' spread' still start
       → Walk nodes states values moving row i end warm spread states' values' moving' spread' still k
-      → Walk nodes states values moving row i end warm spread states'' values'' moving'' spread'' still' (k + 1)
-  Walk-next states' states'' values' values'' moving' moving'' spread' spread'' still still' k inside step stiller w = by_step step
-    where
-      by_step : Steps nodes states' states'' values' values'' moving' moving'' row i end k warm spread' spread''
-          → Walk nodes states values moving row i end warm spread states'' values'' moving'' spread'' still' (k + 1)
-      by_step (inl s) =
-          let none : spread'' ≡ spread' = s.after ∙ sym s.unspread in
-          rw (s.states_are, s.values_are, s.moving_are, none)
-          (Walk-stays states' values' moving' spread' still k inside w s.unspread s.rests still' (λ h. (stiller h).0))
-      by_step (inr (changed, m)) =
-          Walk-moves states' values' moving' spread' still k inside w states'' values'' moving'' changed m.0 spread'' m.1 still' stiller
+  Walk-reached states' values' moving' spread' still start k reached none w =
+      let sum : start + (k - start) ≡ k = omega (arith, reached.after) in
+      subst (λ (n : ℕ). Walk nodes states values moving row i end warm spread states' values' moving' spread' still n) sum
+      (Walk-on states' values' moving' spread' still start (k - start) (rw sum reached) (λ h. none (omega arith)) w)

@@ -86,7 +86,7 @@ pub record Follows (p : Program) (s : TraceState) (formulas : List FormulaTree) 
   pub all_passed : s.passed ≡ length rows
   pub keeps : (more : Trace) → KeepAll (rows ++ more) trees p.nodes.items s.states.items (length rows)
   pub gives : 0 < length rows → (more : Trace) → GiveAll (rows ++ more) trees p.nodes.items s.values.items (length rows - 1)
-  pub quiet : AreQuiet p.nodes.items s.states.items s.values.items s.moving.items s.passed
+  pub quiet : AreQuiet p.nodes.items s.states.items s.values.items s.moving.items s.passed (s.passed + 1)
   pub runs : HaveRuns s.states.items
   pub still : s.still ≡ true → (k : ℕ) → k < length p.nodes.items → flag_at s.moving.items k ≡ false
 
@@ -98,6 +98,9 @@ pub record Closes (p : Program) (s : TraceState) (formulas : List FormulaTree) (
   pub all_passed : length rows ≤ s.passed
   pub keeps : KeepAll rows trees p.nodes.items s.states.items s.passed
   pub gives : 0 < s.passed → GiveAll rows trees p.nodes.items s.values.items (s.passed - 1)
+  pub quiet : AreQuiet p.nodes.items s.states.items s.values.items s.moving.items s.passed s.fed
+  pub runs : HaveRuns s.states.items
+  pub still : s.still ≡ true → (k : ℕ) → k < length p.nodes.items → flag_at s.moving.items k ≡ false
 
 -- A formula's answer to the last of these rows: the value at the position that lies its reach before, which no further rows change.
 -- None where there is no such position.

@@ -1,10 +1,10 @@
 //! One row through the nodes.
-ghost use Rattle.std.specs.Prelude.{◌≡◌, ◌<◌, ◌≤◌, ◌+◌, Bool, true, false, nat_lt, if◌then◌else◌, length, min};
+ghost use Rattle.std.specs.Prelude.{◌≡◌, ◌≢◌, ◌<◌, ◌≤◌, ◌+◌, ℕ, Bool, true, false, nat_lt, if◌then◌else◌, length, min};
 ghost use Rattle.mtl_formulas.specs.declared.verdict.Verdict.TheVariants.{Open};
 ghost use Rattle.mtl_monitor.specs.Inner.Countdown.{left_value};
 ghost use Rattle.mtl_monitor.specs.Inner.Steps.{value_at, same_verdict, sensed, ring_value, ring_after, run_after, window_after, hits_under, bars_after, hits_after, before_after, window_read, HasValidAtom, given, kept};
 ghost use Rattle.mtl_monitor.specs.Inner.Standing.{AllValid, AllBelow, OperandsBelow};
-ghost use Rattle.mtl_monitor.specs.Inner.Quiet.{IsRun, IsCounted, CanRest, flag_at, Moves, Steps, Walk};
+ghost use Rattle.mtl_monitor.specs.Inner.Quiet.{IsRun, IsCounted, CanRest, flag_at, Moves, CanStay, IsReached, Walk};
 
 use crate::left::Left;
 use crate::lookahead::Lookahead;
@@ -237,33 +237,56 @@ fn pass_at<A: Atoms>(
     changed
 }
 
-/// Passes row `i` through the node at index `k`, if that can change anything. Says whether any value has changed so far.
-fn advance<A: Atoms>(
+/// How late those nodes are whose position at row `i` is the first beyond the trace's end, so that their value may turn to Open.
+fn crossing(i: u32, end: u32) -> u32
+    ensures { (late : ℕ) → late ≢ result → i ≢ end + late }
+{
+    if i >= end { i - end } else { u32::MAX }
+}
+
+/// The first node from `start` on that may not be left where it is, or the number of nodes.
+fn next_moving(nodes: &[ProgramNode], start: usize, moving: &[bool], i: u32, end: u32) -> usize
+    requires start { start ≤ length nodes.now }
+    requires moving { length moving.now ≡ length nodes.now }
+    ensures { IsReached nodes.now moving.now i end start result }
+{
+    let crossing = crossing(i, end);
+    for k in start..nodes.len() {
+        if moving[k] {
+            return k;
+        }
+        if nodes[k].late == crossing {
+            return k;
+        }
+    }
+    nodes.len()
+}
+
+/// The first node from `start` on that is to be passed, where a value before it has changed or not; or the number of nodes.
+fn next_passed(
     nodes: &[ProgramNode],
-    k: usize,
-    states: &mut [Kept],
-    values: &mut [Verdict],
-    moving: &mut [bool],
-    row: &A,
+    start: usize,
+    moving: &[bool],
     i: u32,
     end: u32,
-    warm: bool,
     spread: bool,
-) -> bool
-    requires valid { AllValid nodes.now }
-    requires below { AllBelow nodes.now }
-    requires inside { k < length nodes.now }
-    requires states { length states.old ≡ length nodes.now }
-    requires values { length values.old ≡ length nodes.now }
-    requires moving { length moving.old ≡ length nodes.now }
-    ensures { Steps nodes.now states.old states.new values.old values.new moving.old moving.new
-        (A.answer row.now) i end k warm spread result }
+) -> usize
+    requires start { start ≤ length nodes.now }
+    requires moving { length moving.now ≡ length nodes.now }
+    ensures reached { IsReached nodes.now moving.now i end start result }
+    ensures unspread { start < result → spread ≡ false }
 {
-    if !spread && !moving[k] {
-        return false;
+    if spread {
+        return start;
     }
-    let changed = pass_at(nodes, k, states, values, moving, row, i, end, warm);
-    spread || changed
+    next_moving(nodes, start, moving, i, end)
+}
+
+/// Whether any value has changed, this one among them.
+fn has_spread(so_far: bool, changed: bool) -> bool
+    ensures { result ≡ false → (so_far ≡ false) × (changed ≡ false) }
+{
+    so_far || changed
 }
 
 /// Whether this node too is not said to move.
@@ -274,8 +297,8 @@ fn rests(still: bool, moving: &[bool], k: usize) -> bool
     still && !moving[k]
 }
 
-/// Passes row `i` through all nodes, if `spread`, and else through those that are said to move and all that follow a changed
-/// value. Says whether none is said to move after it.
+/// Passes row `i` through all nodes, if `spread`, and else through those that are said to move or cross the trace's end, and
+/// all that follow a changed value. Says whether none is said to move after it.
 pub(crate) fn pass_all<A: Atoms>(
     nodes: &[ProgramNode],
     states: &mut [Kept],
@@ -297,9 +320,12 @@ pub(crate) fn pass_all<A: Atoms>(
 {
     let mut so_far = spread;
     let mut still = true;
-    for k in 0..nodes.len() {
-        so_far = advance(nodes, k, states, values, moving, row, i, end, warm, so_far);
+    let mut k = next_passed(nodes, 0, moving, i, end, so_far);
+    while k < nodes.len() {
+        let changed = pass_at(nodes, k, states, values, moving, row, i, end, warm);
+        so_far = has_spread(so_far, changed);
         still = rests(still, moving, k);
+        k = next_passed(nodes, k + 1, moving, i, end, so_far);
     }
     still
 }

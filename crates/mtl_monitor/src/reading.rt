@@ -63,6 +63,7 @@ fn awake_row(node: &ProgramNode) -> u32
 }
 
 /// Whether the row answers an atom with its node's value.
+#[inline(always)]
 fn is_answered<A: Atoms>(at: AtomNode, values: &[Verdict], row: &A) -> bool
     requires inside { at.index < length values.now }
     requires valid { IsValidAtom at.atom }

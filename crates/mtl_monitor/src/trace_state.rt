@@ -26,8 +26,8 @@ impl Atoms for Beyond {
 
 /// The state of a program over one trace, whose rows come one by one.
 ///
-/// A node that a further equal row would leave as it is rests until an operand's value changes; where all nodes rest, a row
-/// that answers the atoms as the row before is only counted.
+/// A node that a further equal row would leave as it is rests until an operand's value changes, or the trace's end comes to its
+/// position; where all nodes rest, a row of the trace that answers the atoms as the row before is only counted.
 #[derive(Drop)]
 pub struct TraceState {
     pub(crate) states: Vec<Kept>,
@@ -140,8 +140,9 @@ impl TraceState {
             Closes program.now self.old formulas rows → Closes program.now self.new formulas rows }
     {
         let i = self.passed;
+        let same = self.is_answered(program, &Beyond);
         self.passed = i + 1;
-        self.pass(program, &Beyond, i, self.fed, true);
+        self.pass(program, &Beyond, i, self.fed, !same);
     }
 
     /// Passes rows beyond the trace's end until so many rows have passed, those of the trace among them.

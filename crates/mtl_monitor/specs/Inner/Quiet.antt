@@ -1,5 +1,5 @@
 -- Nodes that a further equal row would leave as they are, and so need not be passed.
-use Rattle.std.specs.Prelude.{◌≡◌, ℕ, ◌+◌, ◌-◌, ◌<◌, ◌≤◌, Bool, true, false, List, length, get_or, set, ◌⊎◌}
+use Rattle.std.specs.Prelude.{◌≡◌, ◌≢◌, ℕ, ◌+◌, ◌-◌, ◌<◌, ◌≤◌, nat_lt, Bool, true, false, List, length, get_or, set}
 use Rattle.std.specs.Coded.{le_prop}
 use Rattle.circular_buffer.specs.Buffer.{Buffer}
 use Rattle.mtl_formulas.specs.declared.atom.Atom.{Atom}
@@ -59,20 +59,25 @@ abbrev pub Answers : Operator → (Atom → Verdict) → Verdict → Type 0
 Answers (op.Atom a) row v = row a ≡ v
 Answers _ row v = Unit {0}
 
--- At row i the node gives this value again and keeps what it kept, if the row answers its atom so.
-pub record IsQuiet (o : Operator) (s : Kept) (late : ℕ) (values : List Verdict) (v : Verdict) (i : ℕ) : Type 0 where
+-- At row i the node gives this value again and keeps what it kept, if the row answers its atom so. Where its position is the first
+-- beyond the end, its value may turn to Open.
+pub record IsQuiet (o : Operator) (s : Kept) (late : ℕ) (values : List Verdict) (v : Verdict) (i end : ℕ) : Type 0 where
   pub awake : IsAwake o i
   pub ready : late ≤ i
-  pub gives : (row : Atom → Verdict) → Answers o row v → given o s late values row i (i + 1) ≡ v
+  pub gives : i ≢ end + late → (row : Atom → Verdict) → Answers o row v → given o s late values row i end ≡ v
   pub keeps : kept o s late values i ≡ s
 
 abbrev pub flag_at : List Bool → ℕ → Bool
 flag_at moving k = get_or moving k true
 
 -- The nodes that are not said to move are quiet.
-abbrev pub AreQuiet : List ProgramNode → List Kept → List Verdict → List Bool → ℕ → Type 0
-AreQuiet nodes states values moving i = (k : ℕ) → k < length nodes → flag_at moving k ≡ false
-    → IsQuiet (node_at nodes k).operator (state_at states k) (late_at nodes k) values (value_at values k) i
+abbrev pub AreQuiet : List ProgramNode → List Kept → List Verdict → List Bool → ℕ → ℕ → Type 0
+AreQuiet nodes states values moving i end = (k : ℕ) → k < length nodes → flag_at moving k ≡ false
+    → IsQuiet (node_at nodes k).operator (state_at states k) (late_at nodes k) values (value_at values k) i end
+
+-- From row i to the next a node's position stays on its side of the end, unless it is then the first beyond it.
+abbrev pub GoesOn : ℕ → ℕ → ℕ → Type 0
+GoesOn i end next = (late : ℕ) → late ≤ i → i + 1 ≢ next + late → nat_lt ((i + 1) - late) next ≡ nat_lt (i - late) end
 
 -- The row answers each atom as the row before.
 abbrev pub AreAnswered : List ProgramNode → List Verdict → (Atom → Verdict) → Type 0
@@ -91,25 +96,21 @@ pub record Moves (nodes : List ProgramNode) (states states' : List Kept) (values
   pub rests : flag ≡ false → (warm ≡ true) × CanRest (node_at nodes k).operator × (IsCounted (state_at states k) → keeps ≡ state_at states k)
   pub same : changed ≡ false → value ≡ value_at values k
 
--- A quiet node is left as it is where no value has changed before it.
-pub record Stays (states states' : List Kept) (values values' : List Verdict) (moving moving' : List Bool) (k : ℕ) (spread spread' : Bool) : Type 0 where
-  pub states_are : states' ≡ states
-  pub values_are : values' ≡ values
-  pub moving_are : moving' ≡ moving
-  pub unspread : spread ≡ false
-  pub after : spread' ≡ false
+-- The node at index k may be left as it is where no value has changed before it.
+pub record CanStay (nodes : List ProgramNode) (moving : List Bool) (i end k : ℕ) : Type 0 where
   pub rests : flag_at moving k ≡ false
+  pub uncrossed : i ≢ end + late_at nodes k
 
--- One step of the walk, after which `spread'` says whether any value has changed.
-abbrev pub Steps : List ProgramNode → List Kept → List Kept → List Verdict → List Verdict → List Bool → List Bool → (Atom → Verdict) → ℕ → ℕ → ℕ → Bool → Bool → Bool → Type 0
-Steps nodes states states' values values' moving moving' row i end k warm spread spread' =
-    Stays states states' values values' moving moving' k spread spread'
-    ⊎ (changed : Bool) × (Moves nodes states states' values values' moving moving' row i end k warm changed × (spread' ≡ false → (spread ≡ false) × (changed ≡ false)))
+-- From one index on to another all nodes may be left.
+pub record IsReached (nodes : List ProgramNode) (moving : List Bool) (i end start k : ℕ) : Type 0 where
+  pub after : start ≤ k
+  pub inside : k ≤ length nodes
+  pub stay : (j : ℕ) → j < k → start ≤ j → CanStay nodes moving i end j
 
 module _ (nodes : List ProgramNode) (states : List Kept) (values : List Verdict) (moving : List Bool) (row : Atom → Verdict) (i end : ℕ) (warm spread : Bool) where
   -- What was quiet may be left: no atom has changed.
   abbrev pub MayRest : Type 0
-  MayRest = spread ≡ false → (end ≡ i + 1) × AreQuiet nodes states values moving i × AreAnswered nodes values row
+  MayRest = spread ≡ false → AreQuiet nodes states values moving i end × AreAnswered nodes values row
 
   -- Row i has passed the nodes before index k, or left them where they are quiet.
   pub record Walk (states' : List Kept) (values' : List Verdict) (moving' : List Bool) (spread' still : Bool) (k : ℕ) : Type 0 where
@@ -121,9 +122,9 @@ module _ (nodes : List ProgramNode) (states : List Kept) (values : List Verdict)
     pub unspread : spread' ≡ false → (spread ≡ false) × (values' ≡ values)
     pub midway : (trace : Trace) (trees : List FormulaTree) → IsProgram nodes trees → IsRow trace row i → EndsAt trace i end → MayRest
         → KeepAll trace trees nodes states i → Midway trace trees nodes states' values' i k
-    pub quiet : (warm ≡ true → IsWarm nodes i) → end ≡ i + 1 → HaveRuns states → MayRest → AllBelow nodes
+    pub quiet : (warm ≡ true → IsWarm nodes i) → (next : ℕ) → GoesOn i end next → HaveRuns states → MayRest → AllBelow nodes
         → (j : ℕ) → j < k → flag_at moving' j ≡ false
-        → IsQuiet (node_at nodes j).operator (state_at states' j) (late_at nodes j) values' (value_at values' j) (i + 1)
+        → IsQuiet (node_at nodes j).operator (state_at states' j) (late_at nodes j) values' (value_at values' j) (i + 1) next
     pub runs : HaveRuns states → HaveRuns states'
     pub shapes : HaveShapes nodes states → HaveShapes nodes states'
     pub all_still : still ≡ true → (j : ℕ) → j < k → flag_at moving' j ≡ false

@@ -1,4 +1,4 @@
-use Rattle.std.proofs.Common.{◌≡◌, ◌+◌, refl, true, false}
+use Rattle.std.proofs.Common.{◌≡◌, ◌+◌, refl, true, false, arith}
 use Rattle.std.specs.Prelude.{not}
 use Rattle.mtl_monitor.specs.Inner.Quiet.{Walked}
 use Rattle.mtl_monitor.proofs.Feeding.{Follows-walked, Walked-still, not_false}
@@ -11,7 +11,7 @@ returns-then-self-clause-follows g c = λ formulas rows h.
     let r = g.A.Atoms.answer c.args.row.now in
     let still : s.still ≡ true = c.if-self.true in
     let walked : Walked p.nodes.items s.states.items s.states.items s.values.items s.values.items s.moving.items s.moving.items r s.passed (s.passed + 1) false s.still =
-    rw still (Walked-still p.nodes.items s.states.items s.values.items s.moving.items r s.passed (h.still still) c.requires.fits.states c.requires.fits.values c.requires.fits.moving) in
+    rw still (Walked-still p.nodes.items s.states.items s.values.items s.moving.items r s.passed (s.passed + 1) (h.still still) (λ k inside. omega arith) c.requires.fits.states c.requires.fits.values c.requires.fits.moving) in
     Follows-walked p s _ formulas rows p.below r false h refl refl (λ none. c.is_answered-same.ensures c.if-same.true) walked
 
 pub returns-clause-follows : goal.returns-clause-follows
