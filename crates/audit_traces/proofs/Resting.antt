@@ -13,10 +13,10 @@ use Rattle.mtl_monitor.specs.declared.program.Program.{Program}
 use Rattle.mtl_monitor.specs.declared.trace_state.TraceState.{TraceState}
 use Rattle.encounters.specs.declared.pair_step.PairStep.{PairStep}
 use Rattle.audit_rows.specs.Stretches.{IsEngaged}
-use Rattle.audit_rows.specs.Tracks.{IsNextAt, Repeats, Track, longer, marked, next_step}
+use Rattle.audit_rows.specs.Tracks.{Repeats, Track, longer}
 use Rattle.audit_rows.specs.declared.mark.Mark.{Mark}
 use Rattle.audit_rows.specs.declared.row.Row.{Row}
-use Rattle.audit_rows.proofs.ForCallers.{marked_there, next_there, repeated}
+use Rattle.audit_rows.proofs.ForCallers.{repeated}
 use Rattle.audit_traces.specs.Audited.{Numbers}
 use Rattle.audit_traces.specs.AuditTracks.{IsMeetingMark}
 use Rattle.audit_traces.specs.ValueMarks.{mark_of}
@@ -24,7 +24,7 @@ use Rattle.audit_traces.specs.Tallies.{Keeps}
 use Rattle.audit_traces.specs.TraceKeeping.{AreRuleMarksSoFar, AreRuleTracks, AreTracksSoFar, IsRuleTrack, Known, StandsFor, Steps, formulas_of, watched}
 use Rattle.audit_traces.specs.declared.marks.Marks.{Marks}
 use Rattle.audit_traces.specs.declared.trace.AuditTrace.{AuditTrace}
-use Rattle.audit_traces.proofs.TraceKeeping.{meeting_longer}
+use Rattle.audit_traces.proofs.TraceKeeping.{MarksMeeting, meeting_longer}
 use Rattle.audit_traces.proofs.TraceTracks.{fed_marks, one_brought}
 
 -- ---- values
@@ -140,26 +140,18 @@ module _ (program : Program) (numbers : Numbers) (trace : AuditTrace) (known : K
     (is_mark : IsMeetingMark numbers.detect (known.steps ++ seen ∷ []) (length known.steps) mark)
     (old : TraceState) (was : Follows program old (formulas_of numbers) known.trace) (same : GivesTheSame program old trace.values)
     (reach : greatest_reach (formulas_of numbers) < length known.trace) where
-  pub rested : (first step : ℕ) (marks now : Marks) → step ≡ known.start + length known.steps
-      → ((rules bound : ℕ) (tracks : List Track) (given : List Row) → Keeps marks rules tracks bound given
-      → IsNextAt tracks first step → Keeps now rules (marked tracks first mark) bound given)
+  pub rested : (first : ℕ) (marks now : Marks) → MarksMeeting numbers known first mark marks now
       → (before mine after : List Track) (bound : ℕ) (given : List Row) → AreTracksSoFar numbers known mine → first ≡ length before
       → Keeps marks (length numbers.rules) (before ++ mine ++ after) bound given
       → Steps program numbers trace known seen now before after bound given
-  rested first step marks now at meets before [] after bound given tracks e keeps = absurd tracks
-  rested first step marks now at meets before (meeting ∷ mine) after bound given tracks e keeps =
+  rested first marks now meets before [] after bound given tracks e keeps = absurd tracks
+  rested first marks now meets before (meeting ∷ mine) after bound given tracks e keeps =
       let (of_meeting, of_rules) = tracks in
-      let first_step = of_meeting.first in
-      let count = of_meeting.marks.count in
-      let next : step ≡ next_step meeting = omega arith in
       let rules = length numbers.rules in
-      let all = before ++ meeting ∷ (mine ++ after) in
       let then = longer meeting mark in
       let now_kept : Keeps now rules (before ++ then ∷ (mine ++ after)) bound given =
-      subst (λ (ts : List Track). Keeps now rules ts bound given)
-      (ap (λ (i : ℕ). marked all i mark) e ∙ marked_there before (mine ++ after) meeting mark)
-      (meets rules bound all given (subst (λ (ts : List Track). Keeps marks rules ts bound given) (append_assoc before (meeting ∷ mine) after) keeps)
-      (subst (λ (i : ℕ). IsNextAt all i step) (sym e) (next_there before (mine ++ after) meeting step next))) in
+      meets.keeps rules bound before (mine ++ after) meeting given e of_meeting
+      (subst (λ (ts : List Track). Keeps marks rules ts bound given) (append_assoc before (meeting ∷ mine) after) keeps) in
       let rest = all_rest known seen row now rules bound given after (before ++ then ∷ []) 0 (formulas_of numbers) mine
       (all_still program old trace.values (formulas_of numbers) known.trace row was stands.values same reach) of_rules
       (subst (λ (ts : List Track). Keeps now rules ts bound given) (sym (append_assoc before (then ∷ []) (mine ++ after))) now_kept) in

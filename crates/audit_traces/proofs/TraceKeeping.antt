@@ -1,16 +1,18 @@
 -- What a step and a row beyond the end come to, among the tracks of other traces.
-use Rattle.std.proofs.Common.{◌≡◌, ℕ, ◌+◌, List, [], ◌∷◌, ◌++◌, length, append_assoc, refl, sym, ap, subst, ◌∙◌, arith, length-append}
+use Rattle.std.proofs.Common.{◌≡◌, ℕ, ◌+◌, ◌<◌, Bool, true, List, [], ◌∷◌, ◌++◌, length, append_assoc, refl, sym, subst, ◌∙◌, arith, length-append}
 use Rattle.std.specs.Prelude.{Option}
 use Rattle.mtl_formulas.specs.declared.atom.Atom.{Atom}
 use Rattle.mtl_formulas.specs.declared.verdict.Verdict.{Verdict}
 use Rattle.mtl_monitor.specs.Following.{Closes, IsEnded, IsFed, count_of, formula_at, greatest_reach, past_of}
 use Rattle.mtl_monitor.specs.declared.program.Program.{Program}
+use Rattle.encounters.specs.Standing.{IsStateAfter}
+use Rattle.encounters.specs.declared.engagement_state.EngagementState.{EngagementState}
+use Rattle.encounters.specs.declared.engagement_state.EngagementState.TheVariants.{Apart}
 use Rattle.encounters.specs.declared.pair_step.PairStep.{PairStep}
 use Rattle.audit_rows.specs.Stretches.{mark_at}
-use Rattle.audit_rows.specs.Tracks.{IsNextAt, Track, longer, marked, next_step}
+use Rattle.audit_rows.specs.Tracks.{Repeats, Track, longer, next_step}
 use Rattle.audit_rows.specs.declared.mark.Mark.{Mark}
 use Rattle.audit_rows.specs.declared.row.Row.{Row}
-use Rattle.audit_rows.proofs.ForCallers.{marked_there, next_there}
 use Rattle.audit_traces.specs.Audited.{Numbers}
 use Rattle.audit_traces.specs.AuditTracks.{IsMeetingMark}
 use Rattle.audit_traces.specs.Inner.RowAnswers.{AwaitAll, MarksRules, answered_all}
@@ -18,7 +20,7 @@ use Rattle.audit_traces.specs.Tallies.{Keeps}
 use Rattle.audit_traces.specs.TraceKeeping.{AreRuleMarksSoFar, AreTracks, AreTracksSoFar, HasTracksOf, IsMeetingTrack, Known, StandsFor, Steps, formulas_of, watched}
 use Rattle.audit_traces.specs.declared.marks.Marks.{Marks}
 use Rattle.audit_traces.specs.declared.trace.AuditTrace.{AuditTrace}
-use Rattle.audit_traces.proofs.TraceTracks.{AreRuleMarksPast, all_brought, answers_all, ended_marks, fed_marks, first_tracks, marks_then, meeting_stays, whole_tracks}
+use Rattle.audit_traces.proofs.TraceTracks.{AreRuleMarksPast, all_brought, answers_all, apart_repeats, ended_marks, fed_marks, first_tracks, marks_then, meeting_stays, whole_tracks}
 
 -- Behind a trace's meeting the marks of its rules are marked.
 behind_meeting : (program : Program) (trace : AuditTrace) (first : ℕ) (old new : Marks) (marks : MarksRules program trace (first + 1) (count_of program) old new)
@@ -33,6 +35,30 @@ behind_meeting program trace first old new marks rules bound before meeting mine
     (subst (λ (ts : List Track). Keeps old rules ts bound given) (sym (append_assoc before (meeting ∷ []) (mine ++ after))) keeps))
 
 -- ---- a step
+
+-- The meeting's track, where it is the one at the index, has one mark more.
+pub record MarksMeeting (numbers : Numbers) (known : Known) (first : ℕ) (mark : Mark) (old new : Marks) : Type 0 where
+  pub keeps : (rules bound : ℕ) (before after : List Track) (track : Track) (given : List Row) → first ≡ length before → IsMeetingTrack numbers known track
+      → Keeps old rules (before ++ track ∷ after) bound given → Keeps new rules (before ++ longer track mark ∷ after) bound given
+
+-- So it has where the mark is taken, or is left out since the vessels were apart and are.
+pub meeting_marked : (numbers : Numbers) (known : Known) (seen : Option PairStep) (mark : Mark) (was is : EngagementState) (apart : Bool) (first step : ℕ) (old new : Marks)
+    → step ≡ known.start + length known.steps → IsStateAfter numbers.detect known.steps was → IsStateAfter numbers.detect (known.steps ++ seen ∷ []) is
+    → IsMeetingMark numbers.detect (known.steps ++ seen ∷ []) (length known.steps) mark
+    → (apart ≡ true → was ≡ Apart) → (apart ≡ true → is ≡ Apart) → (apart ≡ true → known.start < step)
+    → ((rules bound : ℕ) (before after : List Track) (track : Track) (given : List Row) → Keeps old rules (before ++ track ∷ after) bound given → first ≡ length before
+    → step ≡ next_step track → (apart ≡ true → Repeats track mark) → Keeps new rules (before ++ longer track mark ∷ after) bound given)
+    → MarksMeeting numbers known first mark old new
+meeting_marked numbers known seen mark was is apart first step old new at before_is after_is is_mark was_apart is_apart later by = record {
+  keeps = λ rules bound before after track given e meeting keeps.
+      let first_step = meeting.first in
+      let count = meeting.marks.count in
+      let next : step ≡ next_step track = omega arith in
+      by rules bound before after track given keeps e next
+      (λ rests.
+      let some = later rests in
+      apart_repeats numbers.detect known.steps seen was is (was_apart rests) (is_apart rests) (omega arith) before_is after_is mark is_mark track count meeting.marks.each);
+}
 
 module _ (program : Program) (numbers : Numbers) (trace : AuditTrace) (known : Known) (seen : Option PairStep) (row : Atom → Verdict) (mark : Mark)
     (stands : StandsFor program numbers trace (watched known seen row))
@@ -51,26 +77,18 @@ module _ (program : Program) (numbers : Numbers) (trace : AuditTrace) (known : K
         };
       }
 
-  pub stepped : (first step : ℕ) (old now new : Marks) → step ≡ known.start + length known.steps
-      → ((rules bound : ℕ) (tracks : List Track) (given : List Row) → Keeps old rules tracks bound given
-      → IsNextAt tracks first step → Keeps now rules (marked tracks first mark) bound given)
+  pub stepped : (first : ℕ) (old now new : Marks) → MarksMeeting numbers known first mark old now
       → MarksRules program trace (first + 1) (count_of program) now new
       → (before mine after : List Track) (bound : ℕ) (given : List Row) → AreTracksSoFar numbers known mine → first ≡ length before
       → Keeps old (length numbers.rules) (before ++ mine ++ after) bound given
       → Steps program numbers trace known seen new before after bound given
-  stepped first step old now new at meets marks before [] after bound given tracks e keeps = absurd tracks
-  stepped first step old now new at meets marks before (meeting ∷ mine) after bound given tracks e keeps =
+  stepped first old now new meets marks before [] after bound given tracks e keeps = absurd tracks
+  stepped first old now new meets marks before (meeting ∷ mine) after bound given tracks e keeps =
       let (of_meeting, of_rules) = tracks in
-      let first_step = of_meeting.first in
-      let count = of_meeting.marks.count in
-      let next : step ≡ next_step meeting = omega arith in
       let rules = length numbers.rules in
-      let all = before ++ meeting ∷ (mine ++ after) in
       let now_kept : Keeps now rules (before ++ longer meeting mark ∷ (mine ++ after)) bound given =
-      subst (λ (ts : List Track). Keeps now rules ts bound given)
-      (ap (λ (i : ℕ). marked all i mark) e ∙ marked_there before (mine ++ after) meeting mark)
-      (meets rules bound all given (subst (λ (ts : List Track). Keeps old rules ts bound given) (append_assoc before (meeting ∷ mine) after) keeps)
-      (subst (λ (i : ℕ). IsNextAt all i step) (sym e) (next_there before (mine ++ after) meeting step next))) in
+      meets.keeps rules bound before (mine ++ after) meeting given e of_meeting
+      (subst (λ (ts : List Track). Keeps old rules ts bound given) (append_assoc before (meeting ∷ mine) after) keeps) in
       let of_count = stands.values.of.count in
       let many : length marks.answers ≡ length (formulas_of numbers) = marks.many ∙ of_count in
       let answers = answers_all program trace.values (formulas_of numbers) (λ answer tree. IsFed answer tree (known.trace ++ row ∷ []))

@@ -13,18 +13,19 @@ use Rattle.mtl_monitor.specs.declared.program.Program.{Program}
 use Rattle.mtl_monitor.specs.declared.trace_state.TraceState.{TraceState}
 use Rattle.sectors.specs.declared.class.Class.{Class}
 use Rattle.motion.specs.declared.leg.TickState.{TickState}
-use Rattle.encounters.specs.Engagement.{IsState}
+use Rattle.encounters.specs.Engagement.{IsEngaged, IsState}
 use Rattle.encounters.specs.Standing.{IsStateAfter}
 use Rattle.encounters.specs.declared.engagement_state.EngagementState.{EngagementState}
 use Rattle.encounters.specs.declared.detect.Detect.{Detect}
 use Rattle.encounters.specs.declared.engagement_state.EngagementState.TheVariants as state
 use Rattle.encounters.specs.declared.pair_step.PairStep.{PairStep}
 use Rattle.encounters.proofs.ForCallers.{seen_at-front, seen_at-last, state_over_more}
-use Rattle.audit_rows.specs.Stretches.{mark_at}
-use Rattle.audit_rows.specs.Tracks.{Track}
+use Rattle.audit_rows.specs.Stretches.{IsEngaged as IsEngagedMark, mark_at}
+use Rattle.audit_rows.specs.Tracks.{Repeats, Track}
 use Rattle.audit_rows.specs.declared.mark.Mark.{Mark}
 use Rattle.audit_rows.specs.declared.mark.Mark.TheVariants.{Nothing, Broken, Undecided, Engaged}
 use Rattle.audit_rows.specs.declared.topic.Topic.TheVariants as topic
+use Rattle.meetings.specs.SinceBeginning.{kind_of}
 use Rattle.meetings.specs.declared.pair.Pair.{Pair}
 use Rattle.audit_traces.specs.AuditTracks.{IsLeast, IsMeetingMark}
 use Rattle.audit_traces.specs.ValueMarks.{mark_of}
@@ -81,6 +82,37 @@ module _ (detect : Detect) (steps : List (Option PairStep)) (seen : Option PairS
   unseen_mark e = λ engaged.
       let some : IsSome {T = PairStep} None = subst (λ (o : Option PairStep). IsSome o) (seen_at-last steps seen ∙ e) (engaged.seen (length steps) engaged.until (omega arith)) in
       cc
+
+-- ---- the meeting's marks where the vessels are apart
+
+module _ (detect : Detect) (steps : List (Option PairStep)) (i : ℕ) (apart : ¬ IsEngaged detect steps i) where
+  no_kind : (kind : Class) (state : EngagementState) → IsState detect steps i state → kind_of state ≡ Some kind → ⊥
+  no_kind kind state.Apart is e = cc
+  no_kind kind (state.Engaged of age a b) is e = apart (is.begins.engaged i is.begins.until (omega arith))
+
+  pub mark_where_apart : (mark : Mark) → IsMeetingMark detect steps i mark → mark ≡ Nothing
+  mark_where_apart Nothing h = refl
+  mark_where_apart Broken h = absurd h
+  mark_where_apart Undecided h = absurd h
+  mark_where_apart (Engaged kind least) h = absurd (no_kind kind h.0.0 h.0.1.0 h.0.1.1)
+
+-- Where they were apart at the last step and are at the next, its mark repeats the last one.
+pub apart_repeats : (detect : Detect) (steps : List (Option PairStep)) (seen : Option PairStep) (was is : EngagementState) → was ≡ state.Apart → is ≡ state.Apart
+    → 0 < length steps → IsStateAfter detect steps was → IsStateAfter detect (steps ++ seen ∷ []) is
+    → (mark : Mark) → IsMeetingMark detect (steps ++ seen ∷ []) (length steps) mark → (track : Track) → length track.marks ≡ length steps
+    → ((i : ℕ) → i < length track.marks → IsMeetingMark detect steps i (mark_at track.marks i)) → Repeats track mark
+apart_repeats detect steps seen was is e f some before after mark is_mark track count each =
+    let was_apart : ¬ IsEngaged detect steps (length steps - 1) = subst (λ (s : EngagementState). IsStateAfter detect steps s) e before in
+    let is_apart : ¬ IsEngaged detect (steps ++ seen ∷ []) (length steps) =
+    at_last_step detect steps seen state.Apart (subst (λ (s : EngagementState). IsStateAfter detect (steps ++ seen ∷ []) s) f after) in
+    let last : length track.marks - 1 ≡ length steps - 1 = omega arith in
+    let is_nothing = mark_where_apart detect (steps ++ seen ∷ []) (length steps) is_apart mark is_mark in
+    record {
+      some = omega arith;
+      same = mark_where_apart detect steps (length steps - 1) was_apart (mark_at track.marks (length track.marks - 1))
+          (subst (λ (i : ℕ). IsMeetingMark detect steps i (mark_at track.marks (length track.marks - 1))) last (each (length track.marks - 1) (omega arith))) ∙ sym is_nothing;
+      quiet = subst (λ (m : Mark). ¬ IsEngagedMark m) (sym is_nothing) (λ h. h);
+    }
 
 -- ---- a rule's marks
 

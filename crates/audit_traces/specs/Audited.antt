@@ -8,7 +8,7 @@ use Rattle.encounters.specs.Directions.{HasDirection}
 use Rattle.encounters.specs.declared.act.Act.{Act}
 use Rattle.encounters.specs.declared.detect.Detect.{Detect}
 use Rattle.encounters.specs.declared.pair_step.PairStep.{PairStep}
-use Rattle.meetings.specs.Traces.{BeginsTrace, IsShortMove, steps_from}
+use Rattle.meetings.specs.Traces.{BeginsTrace, IsShortMove, step_between, steps_from}
 use Rattle.meetings.specs.declared.pair.Pair.{Pair}
 use Rattle.motion.specs.declared.leg.TickState.{TickState}
 use Rattle.rule_set.specs.NamedTrees.{NamedTree}
@@ -48,6 +48,10 @@ last_sighting ticks = get_or ticks (length ticks - 1) []
 -- From one tick to the next each vessel that is seen at both moves no further than a step may say.
 abbrev pub MoveLittle : Sighting → Sighting → Type 0
 MoveLittle before after = (mmsi : ℕ) → IsShortMove (state_in mmsi before) (state_in mmsi after)
+
+-- the step of a pair from the one sighting to the next
+abbrev pub step_of : Pair → Sighting → Sighting → Option PairStep
+step_of pair before seen = step_between (state_in pair.subject before) (state_in pair.other before) (state_in pair.subject seen) (state_in pair.other seen)
 
 -- Two vessels, of which one is a subject; where there are no subjects, any two.
 pub record IsAudited (subjects : List ℕ) (pair : Pair) : Type 0 where

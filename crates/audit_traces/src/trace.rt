@@ -1,23 +1,29 @@
 //! One trace.
-ghost use Rattle.std.specs.Prelude.{◌≡◌, ◌<◌, ◌^◌, ◌∷◌, ◌++◌, [], List, length, Option};
+ghost use Rattle.std.specs.Prelude.{◌≡◌, ◌<◌, ◌^◌, ◌∷◌, ◌++◌, [], ℕ, List, length, Option, true, OnOk};
 ghost use Rattle.std.specs.Option.{option_copied};
 ghost use Rattle.encounters.specs.Standing.{IsStateAfter};
 ghost use Rattle.encounters.specs.declared.detect.Detect.{Detect};
 ghost use Rattle.encounters.specs.declared.pair_step.PairStep.{PairStep};
+ghost use Rattle.audit_rows.specs.Tracks.{Repeats, Track, longer, next_step};
+ghost use Rattle.audit_rows.specs.declared.row.Row.{Row};
 ghost use Rattle.audit_traces.specs.AuditTracks.{IsMeetingMark};
+ghost use Rattle.audit_traces.specs.Tallies.{Keeps, rules_of};
 ghost use Rattle.audit_traces.specs.ValueMarks.{mark_of};
 
 use crate::marks::Marks;
+use crate::sightings::state_near;
 use audit_rows::Mark;
 use closest_approach::least;
 use encounters::{Act, Detect, EngagementState, PairStep};
-use meetings::{Follower, Pair};
+use meetings::{Follower, Pair, step_between};
+use motion::TickState;
 use mtl_formulas::Verdict;
 use mtl_monitor::{Program, TraceState};
 use outside::Memory;
 use std::alloc::Global;
 
 /// What the meeting's track has at a step: the kind of the engagement, and the least distance within the step.
+#[inline(always)]
 fn meeting_mark(state: &EngagementState, seen: Option<&PairStep>) -> Mark
     ensures { (detect : Detect) (steps : List (Option PairStep)) → IsStateAfter detect (steps ++ option_copied seen.entry ∷ []) state.now
         → IsMeetingMark detect (steps ++ option_copied seen.entry ∷ []) (length steps) result }
@@ -42,11 +48,34 @@ fn mark_of(value: Verdict) -> Mark
     }
 }
 
+/// Takes the next mark of the track at the index, which is for the step. Nothing is to be done for a mark that repeats the last.
+#[inline(always)]
+fn mark_or_repeat(
+    marks: &mut Marks,
+    index: usize,
+    step: u32,
+    mark: Mark,
+    repeats: bool,
+) -> Result<(), Memory>
+    ensures as_many { rules_of marks.new ≡ rules_of marks.old }
+    ensures keeps { OnOk result ((rules bound : ℕ) (before after : List Track) (track : Track) (given : List Row)
+        → Keeps marks.old rules (before ++ track ∷ after) bound given → index ≡ length before → step ≡ next_step track
+        → (repeats ≡ true → Repeats track mark) → Keeps marks.new rules (before ++ longer track mark ∷ after) bound given) }
+{
+    if repeats {
+        return Ok(());
+    }
+    marks.mark(index, step, mark)
+}
+
 /// One trace: its pair, its first step, the engagement, and the values of the rules' formulas so far. It stands for the steps
 /// so far and what they answer to the atoms.
 #[derive(Drop)]
 pub struct AuditTrace {
     pair: Pair,
+    /// Where the subject and the other were found last among those seen. Nothing rests on it but how fast they are found.
+    subject_place: usize,
+    other_place: usize,
     start: u32,
     follower: Follower,
     values: TraceState,
@@ -54,17 +83,15 @@ pub struct AuditTrace {
 }
 
 impl AuditTrace {
-    ghost use Rattle.std.specs.Prelude.{◌+◌, ◌≤◌, ℕ, true, IfOk, IfSome, OnOk};
+    ghost use Rattle.std.specs.Prelude.{◌+◌, ◌≤◌, IfOk, IfSome};
+    ghost use Rattle.encounters.specs.declared.engagement_state.EngagementState.TheVariants.{Apart};
     ghost use Rattle.encounters.specs.Directions.{HaveDirections};
     ghost use Rattle.encounters.specs.Risk.{IsDetect};
     ghost use Rattle.mtl_formulas.specs.FormulaTree.{FormulaTree};
     ghost use Rattle.mtl_monitor.specs.Following.{Fits, IsProgramOf, count_of, fed_of, greatest_reach};
     ghost use Rattle.mtl_monitor.specs.declared.program.Program.{Program};
-    ghost use Rattle.audit_rows.specs.Tracks.{Track};
-    ghost use Rattle.audit_rows.specs.declared.row.Row.{Row};
-    ghost use Rattle.audit_traces.specs.Audited.{Numbers};
+    ghost use Rattle.audit_traces.specs.Audited.{AreAscending, ArePlaced, MoveLittle, Numbers, step_of};
     ghost use Rattle.audit_traces.specs.Inner.RowAnswers.{MarksRule, MarksRules};
-    ghost use Rattle.audit_traces.specs.Tallies.{Keeps, rules_of};
     ghost use Rattle.audit_traces.specs.TraceKeeping.{AreTracksSoFar, HasTracksOf, IsReady, Known, StandsFor, Steps, formulas_of, opened, steps_of};
 
     /// The trace of a pair that begins at a step, of which there are none yet.
@@ -86,6 +113,8 @@ impl AuditTrace {
     {
         Ok(AuditTrace {
             pair,
+            subject_place: 0,
+            other_place: 0,
             start,
             follower: Follower::new(detect, act, tick),
             values: TraceState::new(alloc, program)?,
@@ -97,6 +126,35 @@ impl AuditTrace {
         ensures { (program : Program) (numbers : Numbers) (known : Known) → StandsFor program numbers self.now known → result ≡ known.pair }
     {
         self.pair
+    }
+
+    /// Its next step, from the one sighting to the next: `None` where either vessel is not seen at either. It still stands for the
+    /// steps so far, and only remembers where the vessels are.
+    #[inline(always)]
+    pub fn next_step(
+        &mut self,
+        before: &[(u32, TickState)],
+        seen: &[(u32, TickState)],
+    ) -> Option<PairStep>
+        requires before_ascending { AreAscending before.now }
+        requires before_placed { ArePlaced before.now }
+        requires ascending { AreAscending seen.now }
+        requires placed { ArePlaced seen.now }
+        requires moves { MoveLittle before.now seen.now }
+        ensures step { (program : Program) (numbers : Numbers) (known : Known) → StandsFor program numbers self.old known
+            → result ≡ step_of known.pair before.now seen.now }
+        ensures directions { IfSome result HaveDirections }
+        ensures ready { (program : Program) → IsReady program self.old → IsReady program self.new }
+        ensures steps { steps_of self.new ≡ steps_of self.old }
+        ensures stands { (program : Program) (numbers : Numbers) (known : Known) → StandsFor program numbers self.old known
+            → StandsFor program numbers self.new known }
+    {
+        let Pair { subject, other } = self.pair;
+        let a0 = state_near(before, subject, &mut self.subject_place);
+        let b0 = state_near(before, other, &mut self.other_place);
+        let a1 = state_near(seen, subject, &mut self.subject_place);
+        let b1 = state_near(seen, other, &mut self.other_place);
+        step_between(a0, b0, a1, b1)
     }
 
     /// Marks the position that the last row has decided for a rule, if there is one: the rule's track has this index.
@@ -134,14 +192,29 @@ impl AuditTrace {
     }
 
     /// Whether each formula has answered to a row before that of the step.
+    #[inline(always)]
     fn has_answered(&self, program: &Program, step: u32) -> bool
         ensures { result ≡ true → (formulas : List FormulaTree) → IsProgramOf program.now formulas → self.now.start + greatest_reach formulas < step }
     {
         program.reach() < step.saturating_sub(self.start)
     }
 
+    /// Whether the trace has a step before this one, and the vessels were apart there and still are.
+    #[inline(always)]
+    fn stays_apart(&self, was: &EngagementState, is: &EngagementState, step: u32) -> bool
+        ensures was { result ≡ true → was.now ≡ Apart }
+        ensures is { result ≡ true → is.now ≡ Apart }
+        ensures later { result ≡ true → self.now.start < step }
+    {
+        match (was, is) {
+            (EngagementState::Apart, EngagementState::Apart) => self.start < step,
+            _ => false,
+        }
+    }
+
     /// Takes the next step, which is seen, or is not: its tracks, of which the meeting's is the one at this index, get the marks that
     /// it decides. Where no formula's value changes, its rules' marks are those before, so that nothing is to be done for them.
+    /// Nor is it for the meeting's where the vessels stay apart.
     pub fn step(
         &mut self,
         program: &Program,
@@ -163,9 +236,12 @@ impl AuditTrace {
             → AreTracksSoFar numbers known mine → first ≡ length before → Keeps marks.old (length numbers.rules) (before ++ mine ++ after) bound given
             → Steps program.now numbers self.new known (option_copied seen.entry) marks.new before after bound given) }
     {
+        let was = self.follower.state();
         let row = self.follower.step(seen);
         let changes = self.values.feed(program, &row);
-        marks.mark(first, step, meeting_mark(&self.follower.state(), seen))?;
+        let is = self.follower.state();
+        let apart = self.stays_apart(&was, &is, step);
+        mark_or_repeat(marks, first, step, meeting_mark(&is, seen), apart)?;
         if !changes && self.has_answered(program, step) {
             return Ok(());
         }

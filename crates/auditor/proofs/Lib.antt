@@ -9,7 +9,6 @@ mod RowsOf
 mod Growing
 mod Taking
 mod Results
-mod SightingFacts
 mod UnderWay
 mod Beginning
 mod NextTick

@@ -15,9 +15,9 @@ use Rattle.rule_set.specs.NamedTrees.{NamedTree, rule_at}
 use Rattle.audit_rows.specs.Tracks.{AreSettled, Track, next_step}
 use Rattle.audit_rows.specs.declared.row.Row.{Row}
 use Rattle.audit_rows.proofs.ForCallers.{settled_by_reach}
-use Rattle.audit_traces.specs.Audited.{Begins, Numbers, Sighting, state_at, trace_steps, last_sighting}
+use Rattle.audit_traces.specs.Audited.{Begins, Numbers, Sighting, state_at, trace_steps, last_sighting, step_of}
 use Rattle.auditor.specs.Inner.AuditKeeping.{AreAllTracks, AreKnown, IsKnown, pairs_of}
-use Rattle.auditor.specs.Inner.TracesKept.{AreBegun, AreKnownOn, AreTooMany, HaveBoth, IsAtStep, IsFollowed, IsFresh, IsNextTick, IsOpened, MayBegin, step_of, swapped}
+use Rattle.auditor.specs.Inner.TracesKept.{AreBegun, AreKnownOn, AreTooMany, HaveBoth, IsAtStep, IsFollowed, IsFresh, IsNextTick, IsOpened, MayBegin, swapped}
 use Rattle.auditor.specs.Standing.{HaveMoreThan, settled_by}
 use Rattle.audit_traces.specs.TraceKeeping.{AreRuleMarksSoFar, AreTracksSoFar, Known, StandsFor, formulas_of}
 use Rattle.auditor.specs.declared.all_traces.AllTraces.{AllTraces}

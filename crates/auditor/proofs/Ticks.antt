@@ -8,8 +8,8 @@ use Rattle.encounters.specs.declared.pair_step.PairStep.{PairStep}
 use Rattle.meetings.specs.Traces.{AreInContact, IsContactAt, step_at, steps_from}
 use Rattle.meetings.specs.declared.pair.Pair.{Pair}
 use Rattle.meetings.proofs.ForCallers.{steps_from-last}
-use Rattle.audit_traces.specs.Audited.{Begins, IsAudited, Numbers, Sighting, state_at, state_in, trace_steps, last_sighting}
-use Rattle.auditor.specs.Inner.TracesKept.{step_of, swapped}
+use Rattle.audit_traces.specs.Audited.{Begins, IsAudited, Numbers, Sighting, state_at, state_in, trace_steps, last_sighting, step_of}
+use Rattle.auditor.specs.Inner.TracesKept.{swapped}
 
 -- ---- the two orders of a pair
 

@@ -11,9 +11,9 @@ use Rattle.rule_set.specs.NamedTrees.{NamedTree}
 use Rattle.audit_rows.specs.Tracks.{Track}
 use Rattle.audit_rows.specs.declared.mark.Mark.{Mark}
 use Rattle.audit_rows.specs.declared.row.Row.{Row}
-use Rattle.audit_traces.specs.Audited.{Numbers, Sighting}
+use Rattle.audit_traces.specs.Audited.{Numbers, Sighting, step_of}
 use Rattle.auditor.specs.Inner.AuditKeeping.{AreAllTracks, AreTracksOfAll}
-use Rattle.auditor.specs.Inner.TracesKept.{AreFinished, AreStepped, IsAtStep, IsFollowed, step_of}
+use Rattle.auditor.specs.Inner.TracesKept.{AreFinished, AreStepped, IsAtStep, IsFollowed}
 use Rattle.audit_traces.specs.Tallies.{Keeps}
 use Rattle.audit_traces.specs.TraceKeeping.{AreRuleMarksSoFar, AreRuleMarksWhole, AreRuleTracks, AreTracks, AreTracksSoFar, HasTracksOf, Known, StandsFor, Steps, formulas_of, watched}
 use Rattle.audit_traces.specs.declared.marks.Marks.{Marks}

@@ -8,9 +8,9 @@ ghost use Rattle.meetings.specs.declared.pair.Pair.{Pair};
 ghost use Rattle.audit_rows.specs.Rows.{AreRowsBelow};
 ghost use Rattle.audit_rows.specs.Tracks.{AreSettled, Track};
 ghost use Rattle.audit_rows.specs.declared.row.Row.{Row};
-ghost use Rattle.audit_traces.specs.Audited.{AreAscending, ArePlaced, IsAudited, MoveLittle, Numbers, Sighting};
+ghost use Rattle.audit_traces.specs.Audited.{AreAscending, ArePlaced, IsAudited, MoveLittle, Numbers, Sighting, step_of};
 ghost use Rattle.auditor.specs.Inner.AuditKeeping.{AreAllTracks, pairs_of};
-ghost use Rattle.auditor.specs.Inner.TracesKept.{AreBegun, AreEnded, AreFinished, AreFollowed, AreReady, AreSettledKnowns, AreStepped, AreTooMany, HaveRowsBelow, Holds, IsAtStep, IsReady, IsTaken, MayBegin, MayTake, step_of, traces_of};
+ghost use Rattle.auditor.specs.Inner.TracesKept.{AreBegun, AreEnded, AreFinished, AreFollowed, AreReady, AreSettledKnowns, AreStepped, AreTooMany, HaveRowsBelow, Holds, IsAtStep, IsReady, IsTaken, MayBegin, MayTake, traces_of};
 ghost use Rattle.audit_traces.specs.Tallies.{Keeps, rules_of};
 ghost use Rattle.audit_traces.specs.TraceKeeping.{AreTracksSoFar, Known, StandsFor, Steps, formulas_of, opened};
 ghost use Rattle.auditor.specs.declared.fault.AuditFault.TheVariants.{TooManyPairs};
@@ -18,9 +18,9 @@ ghost use Rattle.auditor.specs.declared.fault.AuditFault.TheVariants.{TooManyPai
 use crate::fault::AuditFault;
 use crate::known_pairs::{add, is_among, is_chosen};
 use audit_rows::Row;
-use audit_traces::{AuditTrace, Marks, Total, contacts, state_of};
+use audit_traces::{AuditTrace, Marks, Total, contacts};
 use encounters::{Act, Detect};
-use meetings::{Pair, step_between};
+use meetings::Pair;
 use motion::TickState;
 use mtl_monitor::Program;
 use outside::Memory;
@@ -56,13 +56,7 @@ fn follow_one(
         → Keeps marks.old (length numbers.rules) (front ++ mine ++ back) bound given
         → Steps program.now numbers trace.new known (step_of known.pair before.now seen.now) marks.new front back bound given) }
 {
-    let pair = trace.pair();
-    let seen_step = step_between(
-        state_of(before, pair.subject),
-        state_of(before, pair.other),
-        state_of(seen, pair.subject),
-        state_of(seen, pair.other),
-    );
+    let seen_step = trace.next_step(before, seen);
     trace.step(program, seen_step.as_ref(), step, marks, first)
 }
 

@@ -34,6 +34,7 @@ fn is_beyond(step: &Step, distance: u64) -> bool
 
 /// Whether there is risk of collision (Rule 7) at a step that is seen: the vessels are at most `watch` apart, and come nearer
 /// than `risk` at some instant within the horizon, where both go on as they do.
+#[inline(always)]
 pub fn risk(detect: &Detect, step: &Step) -> bool
     requires { IsDetect detect.now }
     ensures { IsTrue result ↔ HasRisk detect.now step.now }

@@ -138,6 +138,7 @@ impl Engagement {
     /// engaged where some step had risk, all since are seen, and none after it is past and clear; the kind is the class at the
     /// engagement's beginning (Rule 13 (d): a later change of bearing does not make an overtaking vessel a crossing one).
     /// Directions are below 3600.
+    #[inline(always)]
     pub fn step(&mut self, seen: Option<&PairStep>) -> EngagementState
         requires { IfSome (option_copied seen) HaveDirections }
         ensures state { (detect : Detect) (steps : List (Option PairStep)) → length steps < 2 ^ 31 → StandsFor self.old detect steps

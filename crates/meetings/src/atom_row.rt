@@ -82,6 +82,7 @@ fn lasts(steps: u32, tick: u32, seconds: u32) -> bool
 
 impl AtomRow {
     /// Open where the step is not seen.
+    #[inline(never)]
     fn clear(&self, m: u32) -> Verdict
         requires { m ≤ 100000 }
         ensures { result ≡ seen_as (λ step. told (is_separated step (metres m))) self.now.step }
@@ -112,6 +113,7 @@ impl AtomRow {
         }
     }
 
+    #[inline(never)]
     fn other_on_port(&self) -> Verdict
         ensures { result ≡ seen_as (on_port self.now.direction) self.now.step }
     {
@@ -124,6 +126,7 @@ impl AtomRow {
         }
     }
 
+    #[inline(never)]
     fn ahead(&self) -> Verdict
         ensures { result ≡ seen_as (ahead self.now.other_direction) self.now.step }
     {
@@ -161,11 +164,13 @@ impl AtomRow {
     }
 }
 
+// All atoms are asked at each position. So the choice among them is in line, and those that reckon more are calls of their own.
 impl Atoms for AtomRow {
     ghost use Rattle.meetings.specs.Answers.{answer_of};
 
     ghost answer = { answer_of };
 
+    #[inline(always)]
     fn value(&self, atom: Atom) -> Verdict {
         match atom {
             Atom::Always => Verdict::Yes,

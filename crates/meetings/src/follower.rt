@@ -58,6 +58,7 @@ impl Follower {
 
     /// The row of the next step, which is seen, or is not. Over fewer than 2^31 steps its answers are the atoms' values at
     /// that step. Directions are below 3600.
+    #[inline(always)]
     pub fn step(&mut self, seen: Option<&PairStep>) -> AtomRow
         requires { IfSome (option_copied seen) HaveDirections }
         ensures row { (detect : Detect) (act : Act) (tick : ℕ) (steps : List (Option PairStep)) → length steps < 2 ^ 31

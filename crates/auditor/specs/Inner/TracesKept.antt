@@ -1,16 +1,15 @@
 -- What is kept of all traces, and how it grows.
-use Rattle.std.specs.Prelude.{ℕ, ◌≡◌, ◌≢◌, ◌+◌, ◌≤◌, ◌↔◌, ◌⊎◌, Option, List, [], ◌∷◌, ◌++◌, length, All}
+use Rattle.std.specs.Prelude.{ℕ, ◌≡◌, ◌≢◌, ◌+◌, ◌≤◌, ◌↔◌, ◌⊎◌, List, [], ◌∷◌, ◌++◌, length, All}
 use Rattle.std.specs.List.{AllPairs, AllZip, Contains}
 use Rattle.mtl_monitor.specs.Following.{IsProgramOf, count_of}
 use Rattle.mtl_monitor.specs.declared.program.Program.{Program}
 use Rattle.encounters.specs.Risk.{IsDetect}
-use Rattle.encounters.specs.declared.pair_step.PairStep.{PairStep}
-use Rattle.meetings.specs.Traces.{AreInContact, step_between}
+use Rattle.meetings.specs.Traces.{AreInContact}
 use Rattle.meetings.specs.declared.pair.Pair.{Pair}
 use Rattle.audit_rows.specs.Rows.{AreRows, AreRowsBelow}
 use Rattle.audit_rows.specs.Tracks.{AreSettled, Track}
 use Rattle.audit_rows.specs.declared.row.Row.{Row}
-use Rattle.audit_traces.specs.Audited.{Begins, IsAudited, Numbers, Sighting, state_in}
+use Rattle.audit_traces.specs.Audited.{Begins, IsAudited, Numbers, Sighting, state_in, step_of}
 use Rattle.auditor.specs.Inner.AuditKeeping.{AreAllTracks, AreKnown, AreTracksOfAll, IsKnown, pairs_of}
 use Rattle.audit_traces.specs.Tallies.{AreTallies, Keeps, rules_of}
 use Rattle.audit_traces.specs.TraceKeeping.{AreRuleMarksWhole, Known, formulas_of}
@@ -52,9 +51,6 @@ pub record Holds (kept : AllTraces) (numbers : Numbers) (knowns : List Known) (b
   pub marks : Keeps kept.marks (length numbers.rules) tracks bound given
 
 -- ---- a step of each trace
-
-abbrev pub step_of : Pair → Sighting → Sighting → Option PairStep
-step_of pair before seen = step_between (state_in pair.subject before) (state_in pair.other before) (state_in pair.subject seen) (state_in pair.other seen)
 
 -- The trace is the same with its step from the one sighting to the next.
 pub record IsFollowed (before seen : Sighting) (known after : Known) : Type 0 where

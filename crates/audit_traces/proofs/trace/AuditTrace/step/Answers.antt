@@ -5,7 +5,7 @@ use Rattle.meetings.proofs.ForCallers.{rows_then}
 use Rattle.audit_traces.specs.TraceKeeping.{formulas_of}
 use Rattle.audit_traces.proofs.RowAnswers.{on_ok}
 use Rattle.audit_traces.proofs.Resting.{rested}
-use Rattle.audit_traces.proofs.TraceKeeping.{stepped}
+use Rattle.audit_traces.proofs.TraceKeeping.{meeting_marked, stepped}
 use Rattle.audit_traces.proofs.trace.AuditTrace.step.Goals as goal
 
 pub returns-clause-stands : goal.returns-clause-stands
@@ -17,6 +17,14 @@ returns-clause-stands c = on_ok c.mark_rules.result
     let fed = stands.values.all_fed in
     let short : length known.steps < 2 ^ 31 = omega (arith, c.requires.few) in
     let follows = c.step-row.ensures.follows numbers.detect numbers.act numbers.tick known.steps short stands.follows in
+    let was = c.state-was.ensures numbers.detect numbers.act numbers.tick known.steps stands.follows in
+    let is = c.state-is.ensures numbers.detect numbers.act numbers.tick (known.steps ++ seen ∷ []) follows in
+    let is_mark = c.meeting_mark.ensures numbers.detect known.steps is in
+    let begins = stands.start in
+    let apart = c.stays_apart-apart.ensures in
+    let meets = meeting_marked numbers known seen c.meeting_mark.result c.state-was.result c.state-is.result c.stays_apart-apart.result c.args.first c.args.step
+    c.args.marks.now c.mark_or_repeat.new.marks at was is is_mark apart.was apart.is (λ rests. let later = apart.later rests in omega arith)
+    c.in_ok-mark_or_repeat.ensures.keeps in
     stepped c.args.program.now numbers _ known seen row c.meeting_mark.result
     (record {
       pair = stands.pair;
@@ -26,8 +34,7 @@ returns-clause-stands c = on_ok c.mark_rules.result
           (c.step-row.ensures.row numbers.detect numbers.act numbers.tick known.steps short stands.follows);
       values = c.feed-changes.ensures.follows (formulas_of numbers) known.trace stands.values;
     })
-    (c.meeting_mark.ensures numbers.detect known.steps (c.state.ensures numbers.detect numbers.act numbers.tick (known.steps ++ seen ∷ []) follows))
-    c.args.first c.args.step c.args.marks.now c.mark.new.self c.mark_rules.new.marks at c.in_ok-mark.ensures.keeps marks
+    is_mark c.args.first c.args.marks.now c.mark_or_repeat.new.marks c.mark_rules.new.marks meets marks
     before mine after bound given tracks e keeps)
     c.mark_rules.ensures.marks
 
@@ -39,8 +46,15 @@ returns-then-has_answered-clause-stands c = λ numbers known before mine after b
     let fed = stands.values.all_fed in
     let short : length known.steps < 2 ^ 31 = omega (arith, c.requires.few) in
     let follows = c.step-row.ensures.follows numbers.detect numbers.act numbers.tick known.steps short stands.follows in
+    let was = c.state-was.ensures numbers.detect numbers.act numbers.tick known.steps stands.follows in
+    let is = c.state-is.ensures numbers.detect numbers.act numbers.tick (known.steps ++ seen ∷ []) follows in
+    let is_mark = c.meeting_mark.ensures numbers.detect known.steps is in
+    let begins = stands.start in
+    let apart = c.stays_apart-apart.ensures in
+    let meets = meeting_marked numbers known seen c.meeting_mark.result c.state-was.result c.state-is.result c.stays_apart-apart.result c.args.first c.args.step
+    c.args.marks.now c.mark_or_repeat.new.marks at was is is_mark apart.was apart.is (λ rests. let later = apart.later rests in omega arith)
+    c.in_ok-mark_or_repeat.ensures.keeps in
     let reach = c.has_answered.ensures c.if-has_answered.true (formulas_of numbers) (record { trees = stands.values.trees; of = stands.values.of }) in
-    let start = stands.start in
     rested c.args.program.now numbers _ known seen row c.meeting_mark.result
     (record {
       pair = stands.pair;
@@ -50,6 +64,5 @@ returns-then-has_answered-clause-stands c = λ numbers known before mine after b
           (c.step-row.ensures.row numbers.detect numbers.act numbers.tick known.steps short stands.follows);
       values = c.feed-changes.ensures.follows (formulas_of numbers) known.trace stands.values;
     })
-    (c.meeting_mark.ensures numbers.detect known.steps (c.state.ensures numbers.detect numbers.act numbers.tick (known.steps ++ seen ∷ []) follows))
-    _ stands.values (c.feed-changes.ensures.same c.if-not-changes.true) (omega arith)
-    c.args.first c.args.step c.args.marks.now c.mark.new.self at c.in_ok-mark.ensures.keeps before mine after bound given tracks e keeps
+    is_mark _ stands.values (c.feed-changes.ensures.same c.if-not-changes.true) (omega arith)
+    c.args.first c.args.marks.now c.mark_or_repeat.new.marks meets before mine after bound given tracks e keeps

@@ -1,13 +1,13 @@
 -- What holds of each vessel that is seen holds of the state of any.
-use Rattle.std.proofs.Common.{◌≡◌, ℕ, ◌^◌, true, false, cond, [], ◌∷◌}
-use Rattle.std.specs.Prelude.{All, IfSome, Option, Some, ◌==◌}
+use Rattle.std.proofs.Common.{ℕ, ◌^◌, true, false, cond, [], ◌∷◌}
+use Rattle.std.specs.Prelude.{All, IfSome, Some, ◌==◌}
 use Rattle.std.specs.List.{find}
 use Rattle.std.specs.Option.{option_map}
 use Rattle.std.proofs.lemmas.List.Elements.{All-head, All-tail, All-weaker}
 use Rattle.fixed_geometry.specs.Sizes.{IsBelow}
 use Rattle.motion.specs.declared.leg.TickState.{TickState}
 use Rattle.encounters.specs.Directions.{HasDirection}
-use Rattle.meetings.specs.Traces.{IsPlaced, step_between}
+use Rattle.meetings.specs.Traces.{IsPlaced}
 use Rattle.audit_traces.specs.Audited.{ArePlaced, Sighting, state_in}
 
 state_has : (P : TickState → Type 0) (mmsi : ℕ) (seen : Sighting) → All (λ (v : ℕ × TickState). P v.1) seen → IfSome (state_in mmsi seen) P
@@ -25,6 +25,3 @@ placed_state mmsi seen all = state_has (λ s. IsBelow (2 ^ 33) s.point) mmsi see
 pub directed_state : (mmsi : ℕ) (seen : Sighting) → ArePlaced seen → IfSome (state_in mmsi seen) HasDirection
 directed_state mmsi seen all = state_has HasDirection mmsi seen
     (All-weaker (λ (v : ℕ × TickState). IsBelow (2 ^ 33) v.1.point × HasDirection v.1) (λ (v : ℕ × TickState). HasDirection v.1) (λ v h. h.1) seen all)
-
-pub same_step : (a b c d a' b' c' d' : Option TickState) → a ≡ a' → b ≡ b' → c ≡ c' → d ≡ d' → step_between a b c d ≡ step_between a' b' c' d'
-same_step a b c d a' b' c' d' p q r s = λ i. step_between (p i) (q i) (r i) (s i)
