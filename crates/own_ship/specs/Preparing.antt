@@ -4,11 +4,16 @@ use Rattle.planner.specs.Situations.{IsSituation}
 use Rattle.scenario.specs.declared.own_part.OwnPart.{OwnPart}
 use Rattle.scenario.specs.declared.values.Scenario.{Scenario}
 use Rattle.tracks.specs.AcceptedReports.{Numbers}
+use Rattle.tracks.specs.Standing.{BookValue, StandsFor}
 use Rattle.tracks.specs.VesselsHeld.{Sent, is_held}
 use Rattle.own_ship.specs.PlanSituations.{greatest_targets, own_readiness, situation_of, targets_near, vessels_near}
 use Rattle.own_ship.specs.declared.near.Near.{Near}
 use Rattle.own_ship.specs.declared.preparation.Prepared.{Prepared}
 use Rattle.own_ship.specs.declared.readiness.Ready.{Ready}
+
+-- A book that stands for numbers and messages, whichever they are.
+abbrev pub StandsForSome : BookValue → Type 0
+StandsForSome book = (numbers : Numbers) × (messages : List Sent) × StandsFor book numbers messages
 
 -- She is ready, and more than 64 vessels are her targets.
 abbrev pub HasManyTargets : Numbers → List Sent → Scenario → OwnPart → Type 0

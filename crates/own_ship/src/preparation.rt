@@ -9,9 +9,9 @@ ghost use Rattle.tracks.specs.VesselsHeld.{Sent};
 ghost use Rattle.tracks.specs.declared.keeping.Keeping.TheVariants.{Tracks};
 ghost use Rattle.own_ship.specs.NearVessels.{near_of, others_of, point_now};
 ghost use Rattle.own_ship.specs.PlanSituations.{greatest_targets, metre, own_readiness};
-ghost use Rattle.own_ship.specs.Preparing.{HasManyTargets, IsPrepared};
+ghost use Rattle.own_ship.specs.Preparing.{HasManyTargets, IsPrepared, StandsForSome};
 ghost use Rattle.own_ship.specs.Readiness.{readiness_of};
-ghost use Rattle.own_ship.specs.Inner.Facts.{HasMany, IsFresh, IsNear, IsReady, IsSetting, IsSized, StandsForSome, own_near};
+ghost use Rattle.own_ship.specs.Inner.Facts.{HasMany, IsFresh, IsNear, IsReady, IsSetting, IsSized, own_near};
 ghost use Rattle.own_ship.specs.declared.preparation.PrepareFault.{PrepareFault};
 ghost use Rattle.own_ship.specs.declared.readiness.Unready.{Unready};
 

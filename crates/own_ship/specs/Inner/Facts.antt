@@ -23,6 +23,7 @@ use Rattle.tracks.specs.declared.keeping.Keeping.TheVariants.{Tracks}
 use Rattle.own_ship.specs.KnownStates.{known_state}
 use Rattle.own_ship.specs.NearVessels.{near_of, others_of, point_now}
 use Rattle.own_ship.specs.PlanSituations.{greatest_targets, metre}
+use Rattle.own_ship.specs.Preparing.{StandsForSome}
 use Rattle.own_ship.specs.Readiness.{latest_of, readiness_of}
 use Rattle.own_ship.specs.declared.near.Near.{Near}
 use Rattle.own_ship.specs.declared.readiness.Ready.{Ready}
@@ -38,10 +39,6 @@ pub record IsReady (ready : Ready) : Type 0 where
 pub record IsFresh (now : ℕ) (report : Accepted) : Type 0 where
   pub before : report.time ≤ now
   pub fresh : now ≤ report.time + 3600
-
--- A book that stands for numbers and messages, whichever they are.
-abbrev pub StandsForSome : BookValue → Type 0
-StandsForSome book = (numbers : Numbers) × (messages : List Sent) × StandsFor book numbers messages
 
 -- the legs of a vessel, none where she is not held
 abbrev pub legs_known : Option (List Leg) → List Leg
