@@ -2,7 +2,8 @@
 #![tactic(auto)]
 
 use colregs_program::{Status, run};
-use outside::{FileShelf, Memory, StdSink, StdSource, Word};
+use command_line::{Told, told_text, told_word};
+use outside::{FileShelf, Memory, StdSink, StdSource, Word, put_all};
 use std::alloc::AllocError;
 use std::process::ExitCode;
 use std::{env, io};
@@ -44,6 +45,19 @@ fn words(rt: &HostRuntime) -> Result<Vec<Word>, WordsFault> {
     Ok(words)
 }
 
+/// Writes what the program tells of itself to standard output.
+fn tell(rt: &HostRuntime, told: Told) -> Status {
+    let Ok(text) = told_text(rt.alloc(), told) else {
+        let _ = eprintln!(rt; "memory");
+        return Status::Memory;
+    };
+    if !put_all(&mut StdSink::new(rt.stdout()), text.as_bytes()) {
+        let _ = eprintln!(rt; "report: not written");
+        return Status::WriteFault;
+    }
+    Status::Done
+}
+
 fn main(rt: HostRuntime) -> ExitCode {
     let words = match words(&rt) {
         Ok(words) => words,
@@ -52,6 +66,9 @@ fn main(rt: HostRuntime) -> ExitCode {
             return ExitCode::from(NO_WORDS);
         }
     };
+    if let Some(told) = told_word(words.as_slice()) {
+        return ExitCode::from(tell(&rt, told).number());
+    }
     let Ok(files) = rt.clone() else {
         return ExitCode::from(Status::Memory.number());
     };

@@ -13,8 +13,8 @@ use Rattle.colregs_program.specs.Endings.{greatest_traces}
 use Rattle.auditor.specs.declared.fault.AuditFault.{AuditFault}
 use Rattle.auditor.specs.declared.fault.AuditFault.TheVariants as audit
 use Rattle.colregs_program.specs.Inner.LogFaults.{EndingCause, auditing_fault}
-use Rattle.colregs_program.proofs.Meeting.{too_many_traces}
-use Rattle.colregs_program.specs.declared.request.Mode.TheVariants as mode
+use Rattle.colregs_program.proofs.Meeting.{too_many_drilled, too_many_traces}
+use Rattle.command_line.specs.declared.mode.Mode.TheVariants as mode
 
 -- the fault that a `?` hands on has its cause
 pub err_cause : {T E : Type 0} (r : Result T E) (x : E) (P : E → Type 0) → IsErrAnd r (λ e. e ≡ x) → P x → IfErr r P
@@ -25,6 +25,11 @@ pub audit_cause : (scenario : Scenario) (log : List ℕ) (fault : AuditFault) �
     → (fault ≡ audit.TooManyPairs → HaveMoreThan greatest_traces (audit_numbers scenario) (sightings_of scenario log)) → EndingCause mode.Audit scenario log (auditing_fault fault)
 audit_cause scenario log audit.TooManyPairs calm many = too_many_traces scenario log calm (many refl)
 audit_cause scenario log audit.Memory calm many = tt
+
+pub drill_cause : (scenario : Scenario) (log : List ℕ) (fault : AuditFault) → is_crowded scenario (lines_of log) ≡ false
+    → (fault ≡ audit.TooManyPairs → HaveMoreThan greatest_traces (audit_numbers scenario) (sightings_of scenario log)) → EndingCause mode.Drill scenario log (auditing_fault fault)
+drill_cause scenario log audit.TooManyPairs calm many = too_many_drilled scenario log calm (many refl)
+drill_cause scenario log audit.Memory calm many = tt
 
 -- the rows one after the other
 pub whole_text : (scenario : Scenario) (messages : List Sent) (rows : List Row) (totals totals' : List Total) (counts counts' : List ℕ) → totals ≡ totals' → counts ≡ counts'

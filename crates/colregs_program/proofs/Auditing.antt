@@ -1,5 +1,5 @@
 -- Ticks audited one after the other, and the rows of their stretches written.
-use Rattle.std.proofs.Common.{ℕ, zero, suc, ◌≡◌, ◌+◌, ◌<◌, ◌≤◌, ◌*◌, ◌^◌, List, [], ◌∷◌, ◌++◌, length, take, drop, append_assoc, refl, sym, ap, ap₂, subst, ◌∙◌, arith}
+use Rattle.std.proofs.Common.{ℕ, zero, suc, ◌≡◌, ◌+◌, ◌<◌, ◌≤◌, ◌*◌, ◌^◌, List, [], ◌∷◌, ◌++◌, length, take, drop, append_assoc, sym, ap, ap₂, subst, ◌∙◌, arith}
 use Rattle.std.specs.Prelude.{All, Result, Err, IsErrAnd}
 use Rattle.std.proofs.Math.ListN.{get_or}
 use Rattle.std.specs.List.{Contains}
@@ -25,8 +25,6 @@ use Rattle.audit_traces.specs.Audited.{MoveLittle, Numbers, Sighting}
 use Rattle.auditor.specs.AuditRows.{AreAuditRows, AreAuditRowsBelow, IsAuditRow}
 use Rattle.auditor.specs.Standing.{HaveMoreThan, StandsFor, latest_of}
 use Rattle.auditor.specs.declared.audit.Audit.{Audit}
-use Rattle.auditor.specs.declared.fault.AuditFault.{AuditFault}
-use Rattle.auditor.specs.declared.fault.AuditFault.TheVariants as audit_fault
 use Rattle.auditor.proofs.ForCallers.{more_stay}
 use Rattle.judged_lines.specs.JudgedLines.{numbers_of}
 use Rattle.rule_set.specs.NamedTrees.{NamedTree}
@@ -41,8 +39,6 @@ use Rattle.scenario.specs.Ticks.{time_of_tick}
 use Rattle.colregs_program.specs.AuditReport.{audit_numbers, sighted, stretch_fields, stretch_rows}
 use Rattle.colregs_program.specs.Endings.{greatest_traces}
 use Rattle.colregs_program.specs.Inner.AuditWriting.{AreOfRules, AuditedUpTo, IsOfRules, seen_before, seen_first}
-use Rattle.colregs_program.specs.Inner.LogFaults.{auditing_fault}
-use Rattle.colregs_program.specs.declared.log_fault.EndingFault.TheVariants as ending
 use Rattle.colregs_program.proofs.Sighted.{little, little_first}
 use Rattle.colregs_program.proofs.VesselRows.{rows_push}
 

@@ -1,12 +1,14 @@
 -- The answer that words, shelf and log call for, step by step.
-use Rattle.std.proofs.Common.{ℕ, ◌≡◌, ◌<◌, List, length, Option, None, Some, Result, Ok, Err, refl, ap, sym, subst}
+use Rattle.std.proofs.Common.{ℕ, ◌≡◌, ◌<◌, List, length, Option, Some, Result, Ok, Err, refl, ap, sym, subst}
 use Rattle.outside.specs.Shelves.{Files, IsMissing}
 use Rattle.scenario.specs.declared.values.Scenario.{Scenario}
 use Rattle.colregs_program.specs.Answers.{IsDue, LiesUnder, Meets, Requested, greatest_scenario}
 use Rattle.colregs_program.specs.Endings.{IsMet}
-use Rattle.colregs_program.specs.Requests.{Request, request_of}
+use Rattle.command_line.specs.Requests.{AskFor, AskForNothing}
+use Rattle.command_line.specs.declared.request.Request.{Request}
+use Rattle.command_line.proofs.Asked.{asked_or_nothing, one_asked}
+use Rattle.colregs_program.specs.AskedScenarios.{log_of}
 use Rattle.colregs_program.specs.Inner.SetUps.{IsSetUpDue, answer_of}
-use Rattle.colregs_program.specs.declared.request.Mode.{Mode}
 use Rattle.colregs_program.specs.declared.set_up.SetUpFault.{SetUpFault}
 use Rattle.colregs_program.specs.declared.set_up.SetUpFault.TheVariants as fault
 use Rattle.colregs_program.specs.declared.status.Status.{Status}
@@ -14,41 +16,41 @@ use Rattle.colregs_program.specs.declared.status.Status.TheVariants as status
 use Rattle.colregs_program.specs.declared.status.Which.TheVariants as which
 
 pub usage_due : (words : List (List ℕ)) (files : Option Files) (log : Option (List ℕ)) (due : Status)
-    → request_of words ≡ None → IsDue words files log due → due ≡ status.Usage
+    → AskForNothing words → IsDue words files log due → due ≡ status.Usage
 usage_due words files log status.Usage refused is = refl
-usage_due words files log status.ShelfFault refused is = cc (refused, is.1)
-usage_due words files log (status.Limit which.Scenario most) refused is = cc (refused, is.1.1)
-usage_due words files log (status.Limit which.Log most) refused is = cc (refused, is.3.accepted)
-usage_due words files log (status.Limit which.Vessels most) refused is = cc (refused, is.3.accepted)
-usage_due words files log (status.Limit which.Pairs most) refused is = cc (refused, is.3.accepted)
-usage_due words files log (status.Scenario key why) refused is = cc (refused, is.1)
-usage_due words files log (status.Limit which.Targets most) refused is = cc (refused, is.3.accepted)
-usage_due words files log (status.OwnUnready why) refused is = cc (refused, is.3.accepted)
-usage_due words files log status.NoManoeuvre refused is = cc (refused, is.3.accepted)
-usage_due words files log status.Done refused is = cc (refused, is.3.accepted)
+usage_due words files log status.ShelfFault refused is = absurd (asked_or_nothing words is.0 is.1 refused)
+usage_due words files log (status.Limit which.Scenario most) refused is = absurd (asked_or_nothing words is.1.0 is.1.1 refused)
+usage_due words files log (status.Limit which.Log most) refused is = absurd (asked_or_nothing words is.0 is.3.asked refused)
+usage_due words files log (status.Limit which.Vessels most) refused is = absurd (asked_or_nothing words is.0 is.3.asked refused)
+usage_due words files log (status.Limit which.Pairs most) refused is = absurd (asked_or_nothing words is.0 is.3.asked refused)
+usage_due words files log (status.Scenario key why) refused is = absurd (asked_or_nothing words is.0 is.1 refused)
+usage_due words files log (status.Limit which.Targets most) refused is = absurd (asked_or_nothing words is.0 is.3.asked refused)
+usage_due words files log (status.OwnUnready why) refused is = absurd (asked_or_nothing words is.0 is.3.asked refused)
+usage_due words files log status.NoManoeuvre refused is = absurd (asked_or_nothing words is.0 is.3.asked refused)
+usage_due words files log status.Done refused is = absurd (asked_or_nothing words is.0 is.3.asked refused)
 usage_due words files log status.ReadFault refused is = absurd is
 usage_due words files log status.WriteFault refused is = absurd is
 usage_due words files log status.Memory refused is = absurd is
 
 -- the answer that is due where setting up comes to this
-abbrev pub Follows : Option (List ℕ) → Mode → Status → Result Scenario SetUpFault → Type 0
-Follows log mode due (Ok scenario) = (bytes : List ℕ) × (log ≡ Some bytes) × IsMet mode scenario bytes due
-Follows log mode due (Err why) = answer_of why ≡ due
+abbrev pub Follows : Option (List ℕ) → Request → Status → Result Scenario SetUpFault → Type 0
+Follows given request due (Ok scenario) = (bytes : List ℕ) × (log_of request scenario given ≡ Some bytes) × IsMet request.mode scenario bytes due
+Follows given request due (Err why) = answer_of why ≡ due
 
 -- what setting up is to come to, where an answer is due
 pub record SetUpDue (files : Option Files) (log : Option (List ℕ)) (request : Request) (due : Status) : Type 0 where
   pub came : Result Scenario SetUpFault
-  pub is : IsSetUpDue request.mode files request.name came
-  pub follows : Follows log request.mode due came
+  pub is : IsSetUpDue request files came
+  pub follows : Follows log request due came
 
 -- P holds of what the words ask for
-of_request : (words : List (List ℕ)) (request : Request) (P : Request → Type 0) → request_of words ≡ Some request → Requested words P → P request
-of_request words request P accepted asked = let same : asked.0 ≡ request = cc (asked.1, accepted) in subst P same asked.2
+of_request : (words : List (List ℕ)) (request : Request) (P : Request → Type 0) → AskFor words request → Requested words P → P request
+of_request words request P accepted asked = subst P (one_asked words asked.0 request asked.1 accepted) asked.2
 
 of_meeting : (words : List (List ℕ)) (files : Option Files) (log : Option (List ℕ)) (request : Request) (due : Status)
-    → request_of words ≡ Some request → Meets words files log due → SetUpDue files log request due
+    → AskFor words request → Meets words files log due → SetUpDue files log request due
 of_meeting words files log request due accepted meets =
-    let same : meets.0 ≡ request = cc (meets.3.accepted, accepted) in
+    let same : meets.0 ≡ request = one_asked words meets.0 request meets.3.asked accepted in
     subst (λ (r : Request). SetUpDue files log r due) same (record {
       came = Ok meets.1;
       is = meets.3.lies;
@@ -56,8 +58,8 @@ of_meeting words files log request due accepted meets =
     })
 
 pub set_up_due : (words : List (List ℕ)) (files : Option Files) (log : Option (List ℕ)) (request : Request) (due : Status)
-    → request_of words ≡ Some request → IsDue words files log due → SetUpDue files log request due
-set_up_due words files log request status.Usage accepted is = cc (accepted, is)
+    → AskFor words request → IsDue words files log due → SetUpDue files log request due
+set_up_due words files log request status.Usage accepted is = absurd (asked_or_nothing words request accepted is)
 set_up_due words files log request status.ShelfFault accepted is = record {
   came = Err fault.NotHad;
   is = of_request words request (λ r. IsMissing files r.name) accepted is;
@@ -70,7 +72,7 @@ set_up_due words files log request (status.Limit which.Scenario most) accepted i
 }
 set_up_due words files log request (status.Scenario key why) accepted is = record {
   came = Err (fault.Refused key why);
-  is = of_request words request (λ r. IsSetUpDue r.mode files r.name (Err (fault.Refused key why))) accepted is;
+  is = of_request words request (λ r. IsSetUpDue r files (Err (fault.Refused key why))) accepted is;
   follows = refl;
 }
 set_up_due words files log request (status.Limit which.Log most) accepted is = of_meeting words files log request (status.Limit which.Log most) accepted is

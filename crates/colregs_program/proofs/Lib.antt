@@ -1,3 +1,7 @@
+pub mod DrillLines
+pub mod DrillVessels
+pub mod FewDifferent
+pub mod AskedLogs
 pub mod AuditText
 pub mod Auditing
 pub mod Due

@@ -1,18 +1,20 @@
 -- What is met in a log.
 use Rattle.std.proofs.Common.{ℕ, ◌≡◌, ◌≤◌, ◌<◌, inl, inr, false, IsTrue, List, length, Option, None, Some, IfSome, refl, sym, subst, ◌∙◌, arith}
-use Rattle.std.specs.Io.KnownBytes.{IsAtEnd}
+use Rattle.command_line.specs.declared.request.Request.{Request}
 use Rattle.own_ship.specs.PlanSituations.{greatest_targets}
 use Rattle.own_ship.specs.declared.readiness.Unready.{Unready}
 use Rattle.scenario.specs.declared.values.Scenario.{Scenario}
 use Rattle.judged_lines.specs.JudgedLines.{greatest_held, is_crowded}
 use Rattle.judged_lines.specs.LogLines.{lines_of}
 use Rattle.colregs_program.specs.Endings.{First, HasManyTargets, HasManyTraces, HasNoManoeuvre, IsAnswerTo, IsMet, Unless, greatest_traces, unready_of}
+use Rattle.colregs_program.specs.Answers.{IsReadBy}
+use Rattle.colregs_program.specs.AskedScenarios.{log_of}
 use Rattle.colregs_program.specs.Inner.LogFaults.{EndingCause, LogCause, MeetsAtEnd, answer_of}
 use Rattle.colregs_program.specs.declared.log_fault.EndingFault.{EndingFault}
 use Rattle.colregs_program.specs.declared.log_fault.EndingFault.TheVariants as ending
 use Rattle.colregs_program.specs.declared.log_fault.LogFault.TheVariants.{Unreported}
-use Rattle.colregs_program.specs.declared.request.Mode.{Mode}
-use Rattle.colregs_program.specs.declared.request.Mode.TheVariants as mode
+use Rattle.command_line.specs.declared.mode.Mode.{Mode}
+use Rattle.command_line.specs.declared.mode.Mode.TheVariants as mode
 use Rattle.colregs_program.specs.declared.status.Status.{Status}
 use Rattle.colregs_program.specs.declared.status.Status.TheVariants as status
 use Rattle.colregs_program.specs.declared.status.Which.TheVariants as which
@@ -83,6 +85,12 @@ module _ (scenario : Scenario) (log : List ℕ) (calm : is_crowded scenario (lin
   pub audit_done : ¬ HasManyTraces mode.Audit scenario log → IsAnswerTo mode.Audit scenario log status.Done
   audit_done few = inr (not_crowded scenario log calm, inr (few, inr (λ x. x, inr (λ x. x, refl))))
 
+  pub too_many_drilled : HasManyTraces mode.Drill scenario log → IsAnswerTo mode.Drill scenario log (status.Limit which.Pairs greatest_traces)
+  too_many_drilled many = inr (not_crowded scenario log calm, inl (many, refl))
+
+  pub drill_done : ¬ HasManyTraces mode.Drill scenario log → IsAnswerTo mode.Drill scenario log status.Done
+  drill_done few = inr (not_crowded scenario log calm, inr (few, inr (λ x. x, inr (λ x. x, refl))))
+
   behind_lines : (answer : Status) → behind_traces mode.Plan scenario log answer → IsAnswerTo mode.Plan scenario log answer
   behind_lines answer is = inr (not_crowded scenario log calm, inr (λ x. x, is))
 
@@ -104,19 +112,23 @@ module _ (scenario : Scenario) (log : List ℕ) (calm : is_crowded scenario (lin
     pub a_manoeuvre : ¬ HasManyTargets mode.Plan scenario log → ¬ HasNoManoeuvre mode.Plan scenario log → IsAnswerTo mode.Plan scenario log status.Done
     a_manoeuvre few some = behind_readiness status.Done (inr (few, inr (some, refl)))
 
--- ---- in a log that was read
+-- ---- in the log of a request
 
--- what holds of the bytes that were read holds of those that the log tells
+-- what holds of the bytes that were had holds of those that the log tells
 pub told : (P : List ℕ → Type 0) (left : Option (List ℕ)) (bytes : List ℕ) → IfSome left (λ told. told ≡ bytes) → P bytes → IfSome left P
 told P None bytes same p = tt
 told P (Some all) bytes same p = subst P (sym same) p
 
-module _ (mode : Mode) (scenario : Scenario) (left left' : Option (List ℕ)) (before now : ℕ) (bytes : List ℕ) (same : IfSome left (λ told. told ≡ bytes))
-    (short : length bytes ≤ scenario.log.max_bytes) (end : IsAtEnd left') (still : now ≡ before) where
-  at_end : (answer : Status) → IsAnswerTo mode scenario bytes answer → MeetsAtEnd mode scenario left left' answer
-  at_end answer is = record { end = end; met = told (λ b. IsMet mode scenario b answer) left bytes same (met_in mode scenario bytes answer short is) }
+module _ (request : Request) (scenario : Scenario) (left left' : Option (List ℕ)) (before now : ℕ) (bytes : List ℕ)
+    (same : IfSome (log_of request scenario left) (λ told. told ≡ bytes)) (short : length bytes ≤ scenario.log.max_bytes)
+    (end : IsReadBy request.mode left') (still : now ≡ before) where
+  at_end : (answer : Status) → IsAnswerTo request.mode scenario bytes answer → MeetsAtEnd request scenario left left' answer
+  at_end answer is = record {
+    end = end;
+    met = told (λ b. IsMet request.mode scenario b answer) (log_of request scenario left) bytes same (met_in request.mode scenario bytes answer short is);
+  }
 
-  pub cause_of : (fault : EndingFault) → EndingCause mode scenario bytes fault → LogCause mode scenario left left' before now (Unreported fault)
+  pub cause_of : (fault : EndingFault) → EndingCause request.mode scenario bytes fault → LogCause request scenario left left' before now (Unreported fault)
   cause_of ending.TooManyVessels cause = (still, at_end (answer_of ending.TooManyVessels) cause)
   cause_of ending.TooManyPairs cause = (still, at_end (answer_of ending.TooManyPairs) cause)
   cause_of (ending.OwnUnready why) cause = (still, at_end (status.OwnUnready why) cause)

@@ -8,11 +8,12 @@ use Rattle.scenario.specs.declared.values.Scenario.{Scenario}
 use Rattle.colregs_program.specs.AuditReport.{IsAuditReport, audit_numbers, rows_behind, sightings_of, stretch_rows}
 use Rattle.own_ship.specs.declared.readiness.Ready.{Ready}
 use Rattle.scenario.specs.declared.own_part.OwnPart.{OwnPart}
+use Rattle.colregs_program.specs.DrillReport.{IsDrillReport, drill_text}
 use Rattle.colregs_program.specs.Endings.{IsEnding}
 use Rattle.colregs_program.specs.PlanReport.{IsManoeuvre, IsOwn, IsPlanReport, plan_text, situation_on}
 use Rattle.colregs_program.proofs.OneManoeuvre.{one_manoeuvre}
-use Rattle.colregs_program.specs.declared.request.Mode.{Mode}
-use Rattle.colregs_program.specs.declared.request.Mode.TheVariants as mode
+use Rattle.command_line.specs.declared.mode.Mode.{Mode}
+use Rattle.command_line.specs.declared.mode.Mode.TheVariants as mode
 
 one_audit_report : (scenario : Scenario) (log text other : List ℕ) → IsAuditReport scenario log text → IsAuditReport scenario log other → text ≡ other
 one_audit_report scenario log text other a b =
@@ -24,6 +25,15 @@ one_audit_report scenario log text other a b =
     a.is
     ∙ ap₂ (λ (rs : List Row) (ts : List Total). stretch_rows scenario.rules rs ++ rows_behind scenario log ts) rows totals
     ∙ sym b.is
+
+one_drill_report : (scenario : Scenario) (log text other : List ℕ) → IsDrillReport scenario log text → IsDrillReport scenario log other → text ≡ other
+one_drill_report scenario log text other a b =
+    let numbers = audit_numbers scenario in
+    let ticks = sightings_of scenario log in
+    let rows : a.rows ≡ b.rows = one_list_of_rows numbers ticks a.rows b.rows a.are_rows b.are_rows in
+    let totals : a.totals ≡ b.totals =
+    one_list_of_totals numbers ticks a.rows a.totals b.totals a.are_totals (subst (λ (rs : List Row). AreTotals numbers ticks rs b.totals) (sym rows) b.are_totals) in
+    a.is ∙ ap (drill_text scenario log) totals ∙ sym b.is
 
 -- Own ship is one, and what she is planned from.
 one_own : (scenario : Scenario) (log : List ℕ) (own own' : OwnPart) (ready ready' : Ready) → IsOwn scenario log own ready → IsOwn scenario log own' ready' → own ≡ own'
@@ -49,3 +59,4 @@ pub one_ending : (mode : Mode) (scenario : Scenario) (log text other : List ℕ)
 one_ending mode.Points scenario log text other a b = a ∙ sym b
 one_ending mode.Audit scenario log text other a b = one_audit_report scenario log text other a b
 one_ending mode.Plan scenario log text other a b = one_plan_report scenario log text other a b
+one_ending mode.Drill scenario log text other a b = one_drill_report scenario log text other a b

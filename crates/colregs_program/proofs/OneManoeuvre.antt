@@ -1,6 +1,5 @@
 -- There is one manoeuvre.
 use Rattle.std.proofs.Common.{ℕ, ◌≡◌, ◌∙◌, ◌+◌, ◌^◌, ◌<◌, inl, inr, List, length, Option, None, Some, refl, ap, sym, subst, arith}
-use Rattle.std.specs.Int.Digits.{AllBelowBase}
 use Rattle.std.proofs.lemmas.Bool.{cases_lt}
 use Rattle.std.proofs.lemmas.Int.Digits.{number_lt}
 use Rattle.lattice.specs.Grids.{choices_of, plans_of}

@@ -1,5 +1,5 @@
 -- What was sought for own ship, and what is told of it.
-use Rattle.std.proofs.Common.{ℕ, ◌≡◌, ◌∙◌, ◌++◌, ◌<◌, ◌≤◌, inl, inr, List, [], length, refl, ap, ap₂, sym, subst, subst₂, append_assoc, arith, Bool, true, false}
+use Rattle.std.proofs.Common.{ℕ, ◌≡◌, ◌∙◌, ◌++◌, ◌<◌, ◌≤◌, List, length, refl, ap, ap₂, sym, subst, subst₂, append_assoc, arith, Bool, true, false}
 use Rattle.std.specs.Prelude.{Option, None, Some, Result, Ok, Err, IfSome, IsSome, is_none, is_some, not}
 use Rattle.audit_report.specs.ReportTexts.{HasText}
 use Rattle.audit_report.specs.declared.report_text.ReportText.{ReportText}
@@ -20,11 +20,10 @@ use Rattle.scenario.specs.declared.own_part.OwnPart.{OwnPart}
 use Rattle.scenario.specs.declared.values.Scenario.{Scenario}
 use Rattle.tracks.specs.VesselsHeld.{Sent}
 use Rattle.colregs_program.specs.Endings.{HasManyTargets, HasNoManoeuvre, IsAnswerTo, lack_of, lack_where, unready_of}
-use Rattle.colregs_program.specs.PlanReport.{IsManoeuvre, IsOwn, IsPlanReport, manoeuvre_rows, messages_of, near_rows, situation_on}
+use Rattle.colregs_program.specs.PlanReport.{IsManoeuvre, IsOwn, manoeuvre_rows, messages_of, near_rows, situation_on}
 use Rattle.colregs_program.specs.Inner.LogFaults.{EndingCause, finished, preparing_fault}
 use Rattle.colregs_program.specs.Inner.PlanWriting.{IsSought, SoughtCause}
-use Rattle.colregs_program.specs.declared.request.Mode.TheVariants as mode
-use Rattle.colregs_program.specs.declared.status.Status.{Status}
+use Rattle.command_line.specs.declared.mode.Mode.TheVariants as mode
 use Rattle.colregs_program.proofs.Meeting.{a_manoeuvre, no_manoeuvre, own_unready, too_many_targets}
 use Rattle.colregs_program.proofs.OneManoeuvre.{each_fails}
 

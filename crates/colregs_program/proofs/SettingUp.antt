@@ -1,20 +1,24 @@
 -- What the bytes under a name call for is what setting up gives.
-use Rattle.std.proofs.Common.{ℕ, ◌≡◌, ◌≤◌, ◌<◌, ◌⊎◌, inl, inr, List, length, Option, None, Some, Result, Ok, Err, Vec, false, true, refl, ap, subst, arith, Bool, IsTrue}
+use Rattle.std.proofs.Common.{ℕ, ◌≡◌, ◌≤◌, ◌<◌, ◌⊎◌, inl, inr, List, length, Option, None, Some, Result, Ok, Err, Vec, false, true, refl, ap, sym, subst, arith, Bool, IsTrue}
 use Rattle.std.specs.declared.alloc.Global.{Global}
 use Rattle.outside.specs.Shelves.{Files, Fetches, content_of}
 use Rattle.outside.specs.declared.shelf.Fetched.TheVariants as fetched
-use Rattle.std.specs.Prelude.{IsSome}
+use Rattle.std.specs.Prelude.{IfSome, IsSome, unwrap_or}
 use Rattle.scenario.specs.ScenarioReading.{IsRefused, Means}
-use Rattle.scenario.specs.ScenarioValues.{scenario_with}
+use Rattle.scenario.specs.ScenarioValues.{IsInRange, scenario_with}
 use Rattle.scenario_keys.specs.declared.key.Key.{Key}
 use Rattle.scenario_keys.specs.declared.cause.Cause.{Cause}
 use Rattle.scenario.specs.declared.values.Scenario.{Scenario}
 use Rattle.scenario_keys.specs.declared.fault.ScenarioFault.{ScenarioFault}
 use Rattle.scenario_keys.specs.declared.fault.ScenarioFault.TheVariants as refusal
 use Rattle.colregs_program.specs.Answers.{greatest_scenario, LiesUnder}
-use Rattle.colregs_program.specs.Requests.{needs_own}
-use Rattle.colregs_program.specs.Inner.SetUps.{IsSetUpDue, set_up_fault}
-use Rattle.colregs_program.specs.declared.request.Mode.{Mode}
+use Rattle.colregs_program.specs.AskedScenarios.{with_options}
+use Rattle.colregs_program.specs.Modes.{needs_own}
+use Rattle.colregs_program.specs.Inner.SetUps.{AreOptions, IsSetUpDue, set_up_fault}
+use Rattle.command_line.specs.Requests.{AskFor}
+use Rattle.command_line.specs.declared.request.Options.{Options}
+use Rattle.command_line.specs.declared.request.Request.{Request}
+use Rattle.command_line.proofs.ForCallers.{seed_in_range, start_in_range, ticks_in_range}
 use Rattle.colregs_program.specs.declared.set_up.SetUpFault.{SetUpFault}
 use Rattle.colregs_program.specs.declared.set_up.SetUpFault.TheVariants as fault
 
@@ -26,36 +30,80 @@ of_found held name bytes P found lies =
     let one : lies.1 ≡ bytes = cc (there, found) in
     subst P one lies.4
 
+-- ---- the values that are given
+
+or_within : (P : ℕ → Type 0) (o : Option ℕ) (n : ℕ) → IfSome o P → P n → P (unwrap_or o n)
+or_within P None n given own = own
+or_within P (Some m) n given own = given
+
+-- in place of values in their ranges they are in the same
+pub in_range : (options : Options) (scenario : Scenario) → AreOptions options → IsInRange scenario → IsInRange (with_options options scenario)
+in_range options scenario are range =
+    let ticks : (1 ≤ unwrap_or options.ticks scenario.window.ticks) × (unwrap_or options.ticks scenario.window.ticks ≤ 20000) =
+    or_within (λ (n : ℕ). (1 ≤ n) × (n ≤ 20000)) options.ticks scenario.window.ticks are.ticks (range.window.ticks_from, range.window.ticks_to) in
+    record {
+      window = record {
+        start = or_within (λ (n : ℕ). n ≤ 9999999999) options.start scenario.window.start are.start range.window.start;
+        tick_from = range.window.tick_from;
+        tick_to = range.window.tick_to;
+        ticks_from = ticks.0;
+        ticks_to = ticks.1;
+      };
+      log = range.log;
+      detect = range.detect;
+      act = range.act;
+      rules = range.rules;
+      subjects = range.subjects;
+      few_subjects = range.few_subjects;
+      own = range.own;
+    }
+
+less : (o : Option ℕ) (least most : ℕ) → IfSome o (λ n. (least ≤ n) × (n ≤ most)) → IfSome o (λ n. n ≤ most)
+less None least most lies = tt
+less (Some n) least most lies = lies.1
+
+-- what words ask for is in range
+pub options_in_range : (words : List (List ℕ)) (request : Request) → AskFor words request → AreOptions request.options
+options_in_range words request asked = record {
+  start = less request.options.start 0 9999999999 (start_in_range words request asked);
+  ticks = ticks_in_range words request asked;
+  seed = seed_in_range words request asked;
+}
+
+-- ---- what is due
+
 -- what a scenario that was read comes to
-abbrev pub made : Result Scenario ScenarioFault → Result Scenario SetUpFault
-made (Ok scenario) = Ok scenario
-made (Err refused) = Err (set_up_fault refused)
+abbrev pub made : Options → Result Scenario ScenarioFault → Result Scenario SetUpFault
+made options (Ok scenario) = Ok (with_options options scenario)
+made options (Err refused) = Err (set_up_fault refused)
 
-made_or : (got due : Result Scenario ScenarioFault) → (got ≡ due) ⊎ (got ≡ Err refusal.Memory) → (made got ≡ made due) ⊎ (made got ≡ Err fault.Memory)
-made_or got due (inl same) = inl (ap made same)
-made_or got due (inr memory) = inr (ap made memory)
+made_or : (options : Options) (got due : Result Scenario ScenarioFault) → (got ≡ due) ⊎ (got ≡ Err refusal.Memory)
+    → (made options got ≡ made options due) ⊎ (made options got ≡ Err fault.Memory)
+made_or options got due (inl same) = inl (ap (made options) same)
+made_or options got due (inr memory) = inr (ap (made options) memory)
 
-pub due-from_read : (mode : Mode) (files : Option Files) (name : List ℕ) (v : Vec ℕ Global) (got : Result Scenario ScenarioFault)
-    → Fetches files name greatest_scenario (fetched.Bytes v)
-    → ((scenario : Scenario) → Means (needs_own mode) v.items scenario → (got ≡ Ok scenario) ⊎ (got ≡ Err refusal.Memory))
-    → ((key : Key) (why : Cause) → IsRefused (needs_own mode) v.items key why → (got ≡ Err (refusal.Fault key why)) ⊎ (got ≡ Err refusal.Memory))
-    → (due : Result Scenario SetUpFault) → IsSetUpDue mode files name due → (made got ≡ due) ⊎ (made got ≡ Err fault.Memory)
-due-from_read mode None name v got fetch meant told (Ok scenario) due = cc due.2
-due-from_read mode None name v got fetch meant told (Err fault.NotHad) due = absurd due
-due-from_read mode None name v got fetch meant told (Err fault.TooLong) due = cc due.2
-due-from_read mode None name v got fetch meant told (Err (fault.Refused key why)) due = cc due.2
-due-from_read mode None name v got fetch meant told (Err fault.Memory) due = absurd due
-due-from_read mode (Some held) name v got fetch meant told (Ok scenario) due =
-    let is = of_found held name v.items _ fetch.0 due in
-    made_or got (Ok scenario) (meant scenario is.means)
-due-from_read mode (Some held) name v got fetch meant told (Err fault.NotHad) due = cc (due, fetch.0)
-due-from_read mode (Some held) name v got fetch meant told (Err fault.TooLong) due =
-    let long : greatest_scenario < length v.items = of_found held name v.items (λ text. greatest_scenario < length text) fetch.0 due in
+pub due-from_read : (request : Request) (files : Option Files) (v : Vec ℕ Global) (got : Result Scenario ScenarioFault)
+    → Fetches files request.name greatest_scenario (fetched.Bytes v)
+    → ((scenario : Scenario) → Means (needs_own request.mode) v.items scenario → (got ≡ Ok scenario) ⊎ (got ≡ Err refusal.Memory))
+    → ((key : Key) (why : Cause) → IsRefused (needs_own request.mode) v.items key why → (got ≡ Err (refusal.Fault key why)) ⊎ (got ≡ Err refusal.Memory))
+    → (due : Result Scenario SetUpFault) → IsSetUpDue request files due → (made request.options got ≡ due) ⊎ (made request.options got ≡ Err fault.Memory)
+due-from_read request None v got fetch meant told (Ok scenario) due = cc due.2
+due-from_read request None v got fetch meant told (Err fault.NotHad) due = absurd due
+due-from_read request None v got fetch meant told (Err fault.TooLong) due = cc due.2
+due-from_read request None v got fetch meant told (Err (fault.Refused key why)) due = cc due.2
+due-from_read request None v got fetch meant told (Err fault.Memory) due = absurd due
+due-from_read request (Some held) v got fetch meant told (Ok scenario) due =
+    let is = of_found held request.name v.items _ fetch.0 due in
+    subst (λ (s : Scenario). (made request.options got ≡ Ok s) ⊎ (made request.options got ≡ Err fault.Memory)) (sym is.values)
+    (made_or request.options got (Ok is.told) (meant is.told is.means))
+due-from_read request (Some held) v got fetch meant told (Err fault.NotHad) due = cc (due, fetch.0)
+due-from_read request (Some held) v got fetch meant told (Err fault.TooLong) due =
+    let long : greatest_scenario < length v.items = of_found held request.name v.items (λ text. greatest_scenario < length text) fetch.0 due in
     absurd (omega (arith, long, fetch.1))
-due-from_read mode (Some held) name v got fetch meant told (Err (fault.Refused key why)) due =
-    let is = of_found held name v.items (λ text. (length text ≤ greatest_scenario) × IsRefused (needs_own mode) text key why) fetch.0 due in
-    made_or got (Err (refusal.Fault key why)) (told key why is.1)
-due-from_read mode (Some held) name v got fetch meant told (Err fault.Memory) due = absurd due
+due-from_read request (Some held) v got fetch meant told (Err (fault.Refused key why)) due =
+    let is = of_found held request.name v.items (λ text. (length text ≤ greatest_scenario) × IsRefused (needs_own request.mode) text key why) fetch.0 due in
+    made_or request.options got (Err (refusal.Fault key why)) (told key why is.1)
+due-from_read request (Some held) v got fetch meant told (Err fault.Memory) due = absurd due
 
 -- where own ship is needed, the scenario has her
 pub own_needed : (need : Bool) (text : List ℕ) (scenario : Scenario) → IsTrue need → Means need text scenario → IsSome scenario.own

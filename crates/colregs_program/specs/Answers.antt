@@ -1,11 +1,15 @@
 -- When a run gives which answer.
-use Rattle.std.specs.Prelude.{ℕ, ◌≡◌, ◌≤◌, ◌<◌, ◌^◌, Bool, true, false, List, length, Option, Some, None}
+use Rattle.std.specs.Prelude.{ℕ, ◌≡◌, ◌≤◌, ◌<◌, ◌^◌, Bool, true, false, IsTrue, List, length, Option, Some, None, IfSome}
+use Rattle.std.specs.Io.KnownBytes.{IsAtEnd}
 use Rattle.outside.specs.Shelves.{Files, IsMissing, content_of}
+use Rattle.command_line.specs.Requests.{AskFor, AskForNothing}
+use Rattle.command_line.specs.declared.mode.Mode.{Mode}
+use Rattle.command_line.specs.declared.request.Request.{Request}
 use Rattle.scenario.specs.ScenarioReading.{IsRefused, Means}
 use Rattle.scenario.specs.declared.values.Scenario.{Scenario}
 use Rattle.colregs_program.specs.Endings.{IsMet}
-use Rattle.colregs_program.specs.Requests.{Request, needs_own, request_of}
-use Rattle.colregs_program.specs.declared.request.Mode.{Mode}
+use Rattle.colregs_program.specs.AskedScenarios.{log_of, with_options}
+use Rattle.colregs_program.specs.Modes.{needs_own, reads_log}
 use Rattle.colregs_program.specs.declared.status.Status.{Status}
 use Rattle.colregs_program.specs.declared.status.Status.TheVariants as status
 use Rattle.colregs_program.specs.declared.status.Which.TheVariants as which
@@ -14,9 +18,9 @@ use Rattle.colregs_program.specs.declared.status.Which.TheVariants as which
 abbrev pub greatest_scenario : ℕ
 greatest_scenario = 2 ^ 20
 
--- The words are accepted, and P holds of what they ask for.
+-- The words ask for a request, and P holds of it.
 abbrev pub Requested : List (List ℕ) → (Request → Type 0) → Type 0
-Requested words P = (request : Request) × (request_of words ≡ Some request) × P request
+Requested words P = (request : Request) × AskFor words request × P request
 
 -- The shelf tells its files, and P holds of the bytes that lie under the name.
 abbrev pub LiesUnder : Option Files → List ℕ → (List ℕ → Type 0) → Type 0
@@ -27,23 +31,33 @@ abbrev pub Holds : Option Files → List ℕ → (List ℕ → Type 0) → Type 
 Holds None name P = Unit {0}
 Holds (Some held) name P = (text : List ℕ) × (content_of name held ≡ Some text) × P text
 
--- The bytes are those of a scenario with these values, with own ship where the mode needs her.
-pub record IsScenario (mode : Mode) (text : List ℕ) (scenario : Scenario) : Type 0 where
+-- The bytes are those of a scenario, with own ship where the mode needs her, and with the options in place its values are these.
+pub record IsScenario (request : Request) (text : List ℕ) (scenario : Scenario) : Type 0 where
   pub short : length text ≤ greatest_scenario
-  pub means : Means (needs_own mode) text scenario
+  pub told : Scenario
+  pub means : Means (needs_own request.mode) text told
+  pub values : scenario ≡ with_options request.options told
 
--- The words are accepted, the bytes under the name are those of a scenario, where the shelf tells them, and P holds of
--- what is asked for and of the scenario's values.
-abbrev pub Runs : List (List ℕ) → Option Files → (Request → Scenario → Type 0) → Type 0
-Runs words files P =
-    Requested words (λ request. Holds files request.name (λ text. (scenario : Scenario) × IsScenario request.mode text scenario × P request scenario))
+-- The words ask for a request of which Q holds; and where the shelf tells its files, the bytes under the request's name are those of
+-- a scenario, and P holds of the request and of the scenario's values.
+abbrev pub Runs : List (List ℕ) → Option Files → (Request → Type 0) → (Request → Scenario → Type 0) → Type 0
+Runs words files Q P =
+    Requested words (λ request. Q request × Holds files request.name (λ text. (scenario : Scenario) × IsScenario request text scenario × P request scenario))
 
--- The words are accepted, the shelf tells a scenario under the name, and the log tells its bytes.
-pub record IsReady (words : List (List ℕ)) (files : Option Files) (log : Option (List ℕ))
+-- A mode that reads the log has read it to its end.
+abbrev pub IsReadBy : Mode → Option (List ℕ) → Type 0
+IsReadBy mode left = IsTrue (reads_log mode) → IsAtEnd left
+
+-- The request meets this answer in its log, where that is told.
+abbrev pub MetIn : Request → Scenario → Option (List ℕ) → Status → Type 0
+MetIn request scenario given answer = IfSome (log_of request scenario given) (λ bytes. IsMet request.mode scenario bytes answer)
+
+-- The words ask for a request, the shelf tells a scenario under its name, and its log is told.
+pub record IsReady (words : List (List ℕ)) (files : Option Files) (given : Option (List ℕ))
     (request : Request) (scenario : Scenario) (bytes : List ℕ) : Type 0 where
-  pub accepted : request_of words ≡ Some request
-  pub lies : LiesUnder files request.name (λ text. IsScenario request.mode text scenario)
-  pub gives : log ≡ Some bytes
+  pub asked : AskFor words request
+  pub lies : LiesUnder files request.name (λ text. IsScenario request text scenario)
+  pub gives : log_of request scenario given ≡ Some bytes
 
 -- A run that is ready meets this answer in the log.
 abbrev pub Meets : List (List ℕ) → Option Files → Option (List ℕ) → Status → Type 0
@@ -54,7 +68,7 @@ Meets words files log answer =
 -- The answer that words, shelf and log call for, where the shelf and the log tell what they hold: the first that stands in
 -- the way of a run; and where nothing does, `NoManoeuvre` where every plan fails, and `Done` else.
 abbrev pub IsDue : List (List ℕ) → Option Files → Option (List ℕ) → Status → Type 0
-IsDue words files log status.Usage = request_of words ≡ None
+IsDue words files log status.Usage = AskForNothing words
 IsDue words files log status.ShelfFault = Requested words (λ request. IsMissing files request.name)
 IsDue words files log (status.Limit which.Scenario most) =
     (most ≡ greatest_scenario) × Requested words (λ request. LiesUnder files request.name (λ text. greatest_scenario < length text))
@@ -87,3 +101,20 @@ IsBeforeLog status.Done = false
 IsBeforeLog status.ReadFault = false
 IsBeforeLog status.WriteFault = false
 IsBeforeLog status.Memory = false
+
+-- A drill gives these answers alone: its forty vessels meet no limit but that of its log.
+abbrev pub IsOfDrill : Status → Bool
+IsOfDrill status.Done = true
+IsOfDrill status.Usage = true
+IsOfDrill (status.Scenario key cause) = true
+IsOfDrill status.ShelfFault = true
+IsOfDrill status.WriteFault = true
+IsOfDrill (status.Limit which.Scenario most) = true
+IsOfDrill (status.Limit which.Log most) = true
+IsOfDrill status.Memory = true
+IsOfDrill (status.Limit which.Vessels most) = false
+IsOfDrill (status.Limit which.Pairs most) = false
+IsOfDrill (status.Limit which.Targets most) = false
+IsOfDrill (status.OwnUnready why) = false
+IsOfDrill status.NoManoeuvre = false
+IsOfDrill status.ReadFault = false

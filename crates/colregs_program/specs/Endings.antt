@@ -10,10 +10,11 @@ use Rattle.planner.specs.LeastPlans.{AllFail}
 use Rattle.scenario.specs.declared.own_part.OwnPart.{OwnPart}
 use Rattle.scenario.specs.declared.values.Scenario.{Scenario}
 use Rattle.colregs_program.specs.AuditReport.{IsAuditReport, audit_numbers, sightings_of}
+use Rattle.colregs_program.specs.DrillReport.{IsDrillReport}
 use Rattle.colregs_program.specs.PlanReport.{IsOwn, IsPlanReport, messages_of, situation_on}
 use Rattle.colregs_program.specs.PointsReport.{report_of}
-use Rattle.colregs_program.specs.declared.request.Mode.{Mode}
-use Rattle.colregs_program.specs.declared.request.Mode.TheVariants as mode
+use Rattle.command_line.specs.declared.mode.Mode.{Mode}
+use Rattle.command_line.specs.declared.mode.Mode.TheVariants as mode
 use Rattle.colregs_program.specs.declared.status.Status.{Status}
 use Rattle.colregs_program.specs.declared.status.Status.TheVariants as status
 use Rattle.colregs_program.specs.declared.status.Which.TheVariants as which
@@ -23,6 +24,7 @@ abbrev pub IsEnding : Mode → Scenario → List ℕ → List ℕ → Type 0
 IsEnding mode.Points scenario log text = text ≡ report_of scenario log
 IsEnding mode.Audit scenario log text = IsAuditReport scenario log text
 IsEnding mode.Plan scenario log text = IsPlanReport scenario log text
+IsEnding mode.Drill scenario log text = IsDrillReport scenario log text
 
 -- ---- what stands in the way of a report
 
@@ -35,6 +37,7 @@ abbrev pub HasManyTraces : Mode → Scenario → List ℕ → Type 0
 HasManyTraces mode.Points scenario log = ⊥
 HasManyTraces mode.Audit scenario log = HaveMoreThan greatest_traces (audit_numbers scenario) (sightings_of scenario log)
 HasManyTraces mode.Plan scenario log = ⊥
+HasManyTraces mode.Drill scenario log = HaveMoreThan greatest_traces (audit_numbers scenario) (sightings_of scenario log)
 
 -- what own ship lacks
 abbrev pub lack_of : Result Ready Unready → Option Unready
@@ -50,6 +53,7 @@ abbrev pub unready_of : Mode → Scenario → List ℕ → Option Unready
 unready_of mode.Points scenario log = None
 unready_of mode.Audit scenario log = None
 unready_of mode.Plan scenario log = lack_where scenario log scenario.own
+unready_of mode.Drill scenario log = None
 
 -- P holds of own ship, who is ready.
 abbrev pub OfOwn : Scenario → List ℕ → (OwnPart → Ready → Type 0) → Type 0
@@ -61,12 +65,14 @@ HasManyTargets mode.Points scenario log = ⊥
 HasManyTargets mode.Audit scenario log = ⊥
 HasManyTargets mode.Plan scenario log = OfOwn scenario log (λ own ready.
     greatest_targets < length (targets_near (numbers_of scenario) (messages_of scenario log) scenario own ready))
+HasManyTargets mode.Drill scenario log = ⊥
 
 -- Every plan of hers fails.
 abbrev pub HasNoManoeuvre : Mode → Scenario → List ℕ → Type 0
 HasNoManoeuvre mode.Points scenario log = ⊥
 HasNoManoeuvre mode.Audit scenario log = ⊥
 HasNoManoeuvre mode.Plan scenario log = OfOwn scenario log (λ own ready. AllFail (situation_on scenario log own ready))
+HasNoManoeuvre mode.Drill scenario log = ⊥
 
 -- ---- the answer
 

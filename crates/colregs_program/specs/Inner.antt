@@ -4,3 +4,4 @@ pub mod PlanWriting
 pub mod LineBytes
 pub mod LogFaults
 pub mod SetUps
+pub mod WordsFaults

@@ -1,8 +1,10 @@
 pub mod OutcomeRows
 pub mod PointsReport
 pub mod AuditReport
+pub mod DrillReport
 pub mod PlanReport
-pub mod Requests
+pub mod Modes
+pub mod AskedScenarios
 pub mod Endings
 pub mod Answers
 pub mod Told

@@ -1,6 +1,6 @@
 -- The report of `plan`: own ship and the vessels near her, the legs of the first plan that does not fail or that there is none, and then
 -- how many lines came to each outcome.
-use Rattle.std.specs.Prelude.{ℕ, ◌≡◌, ◌+◌, ◌*◌, nat_lt, flat_map, List, [], ◌++◌, Option, Some, None, MatchOption, Result, Ok, Err, slice_index, if◌then◌else◌}
+use Rattle.std.specs.Prelude.{ℕ, ◌≡◌, ◌+◌, ◌*◌, nat_lt, flat_map, List, ◌++◌, Option, Some, None, MatchOption, Ok, slice_index, if◌then◌else◌}
 use Rattle.std.specs.List.{range_with_len}
 use Rattle.audit_report.specs.CsvRows.{row_of}
 use Rattle.audit_report.specs.ReportRows.{Fields, no_plan_fields, plan_fields}
@@ -13,7 +13,6 @@ use Rattle.lattice.specs.PlanNumbers.{number_of}
 use Rattle.own_ship.specs.PlanSituations.{own_readiness, situation_of, vessels_near}
 use Rattle.own_ship.specs.declared.near.Near.{Near}
 use Rattle.own_ship.specs.declared.readiness.Ready.{Ready}
-use Rattle.own_ship.specs.declared.readiness.Unready.{Unready}
 use Rattle.planner.specs.LeastPlans.{AllFail, IsLeast}
 use Rattle.planner.specs.declared.situation.Situation.{Situation}
 use Rattle.scenario.specs.declared.own_part.OwnPart.{OwnPart}

@@ -4,7 +4,7 @@ ghost use Rattle.scenario.specs.ScenarioValues.{IsInRange};
 ghost use Rattle.colregs_program.specs.AuditReport.{IsAuditReport};
 ghost use Rattle.colregs_program.specs.Endings.{IsAnswerTo};
 ghost use Rattle.colregs_program.specs.Inner.LogFaults.{EndingCause, finished};
-ghost use Rattle.colregs_program.specs.declared.request.Mode.TheVariants.{Audit};
+ghost use Rattle.command_line.specs.declared.mode.Mode.TheVariants.{Audit};
 
 use crate::log_fault::EndingFault;
 use crate::outcome_rows::{all_outcomes, write_counts};

@@ -2,7 +2,7 @@
 ghost use Rattle.std.specs.Prelude.{◌≡◌, ℕ, List};
 ghost use Rattle.scenario.specs.declared.values.Scenario.{Scenario};
 ghost use Rattle.colregs_program.specs.Endings.{IsEnding, IsMet};
-ghost use Rattle.colregs_program.specs.declared.request.Mode.{Mode};
+ghost use Rattle.command_line.specs.declared.mode.Mode.{Mode};
 ghost use Rattle.colregs_program.specs.declared.status.Status.{Status};
 
 /// A request has at most one report on a log.

@@ -2,19 +2,22 @@
 //!
 //! `run` reads the scenario from a shelf and the log from a source, judges the log's lines in their order, and writes
 //! the report to a sink. What it writes is the report that `specs/Endings.antt` defines from the bytes of the
-//! scenario and the log, however the reads are cut.
+//! scenario and the log, however the reads are cut. A drill makes its own log, and reads none.
 #![tactic(auto)]
 
 mod audit;
+mod drill;
 mod fault_line;
 pub mod laws;
 mod log_fault;
+mod modes;
 mod outcome_rows;
 mod plan;
+#[cfg(test)]
+mod plan_tests;
 mod points;
 mod program;
 mod report;
-mod request;
 mod set_up;
 mod status;
 #[cfg(test)]
@@ -23,8 +26,8 @@ mod ticks;
 mod totals;
 mod vessels;
 
+pub use command_line::Mode;
 pub use own_ship::Unready;
 pub use program::run;
-pub use request::Mode;
 pub use scenario::{Cause, Key, LogNumbers, Scenario, Window};
 pub use status::{Status, Which};

@@ -15,7 +15,7 @@ ghost use Rattle.colregs_program.specs.Endings.{IsAnswerTo};
 ghost use Rattle.colregs_program.specs.PlanReport.{IsPlanReport, first_tick, last_tick, leg_rows, manoeuvre_rows, near_rows};
 ghost use Rattle.colregs_program.specs.Inner.LogFaults.{EndingCause, finished};
 ghost use Rattle.colregs_program.specs.Inner.PlanWriting.{IsSought, SoughtCause};
-ghost use Rattle.colregs_program.specs.declared.request.Mode.TheVariants as mode;
+ghost use Rattle.command_line.specs.declared.mode.Mode.TheVariants as mode;
 
 use crate::log_fault::EndingFault;
 use crate::outcome_rows::{all_outcomes, write_counts};

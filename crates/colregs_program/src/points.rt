@@ -10,7 +10,7 @@ ghost use Rattle.tracks.specs.declared.entry.BookFault.TheVariants.{TooManyVesse
 ghost use Rattle.colregs_program.specs.Endings.{IsAnswerTo};
 ghost use Rattle.colregs_program.specs.Inner.LogFaults.{EndingCause, finished};
 ghost use Rattle.colregs_program.specs.PointsReport.{point_rows, report_of, rows_of_line};
-ghost use Rattle.colregs_program.specs.declared.request.Mode.TheVariants.{Points};
+ghost use Rattle.command_line.specs.declared.mode.Mode.TheVariants.{Points};
 
 use crate::log_fault::EndingFault;
 use crate::outcome_rows::{all_outcomes, write_counts};

@@ -1,6 +1,6 @@
 //! The top call.
-ghost use Rattle.std.specs.Prelude.{⊤, ◌≡◌, ◌≢◌, ◌↔◌, ◌<◌, ◌≤◌, ◌⊎◌, ℕ, List, length, IfSome, IsTrue, None, is_some, false, if◌then◌else◌};
-ghost use Rattle.std.specs.Io.KnownBytes.{Appends, Consumes, IsAtEnd, Keeps};
+ghost use Rattle.std.specs.Prelude.{◌≡◌, ◌≢◌, ◌<◌, ◌≤◌, ◌⊎◌, ℕ, List, length, IfSome, IsTrue, false};
+ghost use Rattle.std.specs.Io.KnownBytes.{Appends, Keeps};
 ghost use Rattle.outside.specs.Causes.{one_more, Rose};
 ghost use Rattle.outside.specs.Shelves.{IsMissing};
 ghost use Rattle.outside.specs.Streams.{AppendsPart};
@@ -9,10 +9,14 @@ ghost use Rattle.outside.specs.declared.whole.ReadFault.TheVariants as read;
 ghost use Rattle.scenario.specs.ScenarioReading.{IsRefused};
 ghost use Rattle.scenario_keys.specs.declared.key.Key.{Key};
 ghost use Rattle.scenario_keys.specs.declared.cause.Cause.{Cause};
-ghost use Rattle.colregs_program.specs.Answers.{greatest_scenario, Holds, IsBeforeLog, IsDue, Requested, Runs};
+ghost use Rattle.command_line.specs.Requests.{AskFor, AskForNothing};
+ghost use Rattle.command_line.specs.declared.mode.Mode.TheVariants.{Drill};
+ghost use Rattle.command_line.specs.declared.request.Request.{Request};
+ghost use Rattle.colregs_program.specs.Answers.{greatest_scenario, Holds, IsBeforeLog, IsDue, IsOfDrill, IsReadBy, MetIn, Requested, Runs};
+ghost use Rattle.colregs_program.specs.AskedScenarios.{log_of};
 ghost use Rattle.colregs_program.specs.Endings.{IsEnding, IsFinished, IsMet};
 ghost use Rattle.colregs_program.specs.FaultLines.{fault_line, is_made};
-ghost use Rattle.colregs_program.specs.Requests.{needs_own, request_of};
+ghost use Rattle.colregs_program.specs.Modes.{needs_own, reads_log};
 ghost use Rattle.colregs_program.specs.Told.{Gains};
 ghost use Rattle.own_ship.specs.declared.readiness.Unready.{Unready};
 ghost use Rattle.colregs_program.specs.declared.status.Status.{Status};
@@ -20,9 +24,9 @@ ghost use Rattle.colregs_program.specs.declared.status.Which.TheVariants as whic
 
 use crate::fault_line::FaultLine;
 use crate::report::report_on;
-use crate::request::request_of;
 use crate::set_up::set_up;
 use crate::status::Status;
+use command_line::request_of;
 use outside::{Shelf, Sink, Source, Word, put_all};
 use std::alloc::Global;
 
@@ -52,14 +56,16 @@ fn tell<E: Sink>(alloc: Global, status: Status, err: &mut E) -> Status
     }
 }
 
-/// Runs the program with these words, which do not hold its own name.
+/// Runs the program with these words, which do not hold its own name, and which `clap` reads by the command `colregs`.
 ///
 /// `points SCENARIO` reads the scenario of that name from the shelf and the whole log, and writes the report of `points`
 /// to `out`: a row for each accepted report in the order of the log, and then how many lines came to each outcome. `audit SCENARIO`
 /// writes the report of `audit`: a row for each meeting and for each stretch on which a rule is broken or undecided, in their order,
 /// then the vessels, what each rule comes to, and the outcomes. `plan SCENARIO` takes the last tick as now and writes the report of
 /// `plan`: own ship and the vessels near her, the legs of the first of her plans that newly breaks no rule and enters no domain, or
-/// that there is none, and the outcomes. What `err` gets names the fault, and nothing else is written.
+/// that there is none, and the outcomes. `drill SCENARIO` makes the log of forty vessels in place of reading one, audits it, and writes what
+/// each rule comes to, and the outcomes. `--start` and `--ticks` stand in place of the scenario's own start and length of the window. What
+/// `err` gets names the fault, and nothing else is written.
 pub fn run<H: Shelf, S: Source, K: Sink, E: Sink>(
     alloc: Global,
     words: &[Word],
@@ -68,12 +74,12 @@ pub fn run<H: Shelf, S: Source, K: Sink, E: Sink>(
     out: &mut K,
     err: &mut E,
 ) -> Status
-    // The headline: for every scenario and log, however the reads are cut, a finished run has read the log to its end, and `out` gained
-    // exactly the report, which is that of the answer: `NoManoeuvre` comes exactly where every plan fails. A printed plan is safe.
-    ensures headline { IsTrue (IsFinished result) → Runs words.now (H.files shelf.old) (λ request scenario.
-        IfSome (S.left log.old) (λ bytes. IsMet request.mode scenario bytes result
+    // The headline: for every scenario and log, however the reads are cut, a finished run has read the log to its end, unless it is a drill,
+    // which makes its log, and `out` gained exactly the report, which is that of the answer: `NoManoeuvre` comes exactly where every plan
+    // fails. A printed plan is safe.
+    ensures headline { IsTrue (IsFinished result) → Runs words.now (H.files shelf.old) (λ request. IsReadBy request.mode (S.left log.new))
+        (λ request scenario. IfSome (log_of request scenario (S.left log.old)) (λ bytes. IsMet request.mode scenario bytes result
         × (text : List ℕ) × IsEnding request.mode scenario bytes text × Appends (K.contents out.old) (K.contents out.new) text)) }
-    ensures read { IsTrue (IsFinished result) → IsAtEnd (S.left log.new) }
 
     // Completeness: the answer that words, shelf and log call for comes, where no call fails. Memory alone is free.
     ensures due { (due : Status) → IsDue words.now (H.files shelf.old) (S.left log.old) due
@@ -83,7 +89,8 @@ pub fn run<H: Shelf, S: Source, K: Sink, E: Sink>(
         → (result ≡ due) ⊎ (result ≡ Status.Memory) }
 
     // When each other answer comes.
-    ensures usage { (result ≡ Status.Usage) ↔ (request_of words.now ≡ None) }
+    ensures usage { result ≡ Status.Usage → AskForNothing words.now }
+    ensures no_usage { (request : Request) → AskFor words.now request → result ≢ Status.Usage }
     ensures shelf_fault { result ≡ Status.ShelfFault → Requested words.now (λ request.
         (H.faults shelf.new ≡ one_more (H.faults shelf.old)) ⊎ IsMissing (H.files shelf.old) request.name) }
     ensures scenario_limit { (most : ℕ) → result ≡ Status.Limit which.Scenario most → (most ≡ greatest_scenario)
@@ -92,47 +99,52 @@ pub fn run<H: Shelf, S: Source, K: Sink, E: Sink>(
         → Requested words.now (λ request. Holds (H.files shelf.old) request.name (λ text.
         (length text ≤ greatest_scenario) × IsRefused (needs_own request.mode) text key cause)) }
     ensures read_fault { result ≡ Status.ReadFault → (S.faults log.new ≡ one_more (S.faults log.old))
-        × Runs words.now (H.files shelf.old) (λ _ scenario.
-        StopsAt scenario.log.max_bytes 0 (S.left log.old) (S.left log.new) read.Failed) }
-    ensures log_limit { (most : ℕ) → result ≡ Status.Limit which.Log most
-        → StopsAt most 0 (S.left log.old) (S.left log.new) read.TooLong
-        × Runs words.now (H.files shelf.old) (λ _ scenario. most ≡ scenario.log.max_bytes) }
-    ensures vessel_limit { (most : ℕ) → result ≡ Status.Limit which.Vessels most → IsAtEnd (S.left log.new)
-        × Runs words.now (H.files shelf.old) (λ request scenario.
-        IfSome (S.left log.old) (λ bytes. IsMet request.mode scenario bytes (Status.Limit which.Vessels most))) }
-    ensures pair_limit { (most : ℕ) → result ≡ Status.Limit which.Pairs most → IsAtEnd (S.left log.new)
-        × Runs words.now (H.files shelf.old) (λ request scenario.
-        IfSome (S.left log.old) (λ bytes. IsMet request.mode scenario bytes (Status.Limit which.Pairs most))) }
-    ensures own_unready { (why : Unready) → result ≡ Status.OwnUnready why → IsAtEnd (S.left log.new)
-        × Runs words.now (H.files shelf.old) (λ request scenario.
-        IfSome (S.left log.old) (λ bytes. IsMet request.mode scenario bytes (Status.OwnUnready why))) }
-    ensures target_limit { (most : ℕ) → result ≡ Status.Limit which.Targets most → IsAtEnd (S.left log.new)
-        × Runs words.now (H.files shelf.old) (λ request scenario.
-        IfSome (S.left log.old) (λ bytes. IsMet request.mode scenario bytes (Status.Limit which.Targets most))) }
+        × Runs words.now (H.files shelf.old) (λ request. IsTrue (reads_log request.mode))
+        (λ _ scenario. StopsAt scenario.log.max_bytes 0 (S.left log.old) (S.left log.new) read.Failed) }
+    ensures log_limit { (most : ℕ) → result ≡ Status.Limit which.Log most → Runs words.now (H.files shelf.old)
+        (λ request. IsTrue (reads_log request.mode) → StopsAt most 0 (S.left log.old) (S.left log.new) read.TooLong)
+        (λ request scenario. (most ≡ scenario.log.max_bytes) × MetIn request scenario (S.left log.old) (Status.Limit which.Log most)) }
+    ensures vessel_limit { (most : ℕ) → result ≡ Status.Limit which.Vessels most
+        → Runs words.now (H.files shelf.old) (λ request. IsReadBy request.mode (S.left log.new))
+        (λ request scenario. MetIn request scenario (S.left log.old) (Status.Limit which.Vessels most)) }
+    ensures pair_limit { (most : ℕ) → result ≡ Status.Limit which.Pairs most
+        → Runs words.now (H.files shelf.old) (λ request. IsReadBy request.mode (S.left log.new))
+        (λ request scenario. MetIn request scenario (S.left log.old) (Status.Limit which.Pairs most)) }
+    ensures own_unready { (why : Unready) → result ≡ Status.OwnUnready why
+        → Runs words.now (H.files shelf.old) (λ request. IsReadBy request.mode (S.left log.new))
+        (λ request scenario. MetIn request scenario (S.left log.old) (Status.OwnUnready why)) }
+    ensures target_limit { (most : ℕ) → result ≡ Status.Limit which.Targets most
+        → Runs words.now (H.files shelf.old) (λ request. IsReadBy request.mode (S.left log.new))
+        (λ request scenario. MetIn request scenario (S.left log.old) (Status.Limit which.Targets most)) }
     ensures write_fault { result ≡ Status.WriteFault → (K.faults out.new ≡ one_more (K.faults out.old))
-        × IsAtEnd (S.left log.new)
-        × Runs words.now (H.files shelf.old) (λ request scenario.
-        IfSome (S.left log.old) (λ bytes. (answer : Status) × IsTrue (IsFinished answer) × IsMet request.mode scenario bytes answer
+        × Runs words.now (H.files shelf.old) (λ request. IsReadBy request.mode (S.left log.new))
+        (λ request scenario. IfSome (log_of request scenario (S.left log.old)) (λ bytes. (answer : Status) × IsTrue (IsFinished answer)
+        × IsMet request.mode scenario bytes answer
         × (text : List ℕ) × IsEnding request.mode scenario bytes text × AppendsPart (K.contents out.old) (K.contents out.new) text)) }
+    ensures drill { (request : Request) → AskFor words.now request → request.mode ≡ Drill → IsTrue (IsOfDrill result) }
 
     // What is asked for and what is written then.
-    ensures fetched { H.fetches shelf.new
-        ≡ (if is_some (request_of words.now) then one_more (H.fetches shelf.old) else H.fetches shelf.old) }
+    ensures unfetched { AskForNothing words.now → H.fetches shelf.new ≡ H.fetches shelf.old }
+    ensures fetched { (request : Request) → AskFor words.now request → (H.fetches shelf.new ≡ one_more (H.fetches shelf.old))
+        ⊎ ((result ≡ Status.Memory) × (H.fetches shelf.new ≡ H.fetches shelf.old)) }
     ensures untouched { IsTrue (IsBeforeLog result)
+        → Keeps (S.left log.old) (S.left log.new) × (S.faults log.new ≡ S.faults log.old) }
+    ensures unread { (request : Request) → AskFor words.now request → request.mode ≡ Drill
         → Keeps (S.left log.old) (S.left log.new) × (S.faults log.new ≡ S.faults log.old) }
     ensures unwritten { IsFinished result ≡ false → result ≢ Status.WriteFault
         → Keeps (K.contents out.old) (K.contents out.new) × (K.faults out.new ≡ K.faults out.old) }
     ensures line { Gains (record { bytes = E.contents err.old; faults = E.faults err.old })
         (record { bytes = E.contents err.new; faults = E.faults err.new }) (fault_line result) }
 {
-    let Some(request) = request_of(words) else {
-        return tell(alloc, Status::Usage, err);
+    let request = match request_of(alloc, words) {
+        Ok(request) => request,
+        Err(fault) => return tell(alloc, fault.into(), err),
     };
-    let scenario = match set_up(alloc, request.mode, request.name, shelf) {
+    let scenario = match set_up(alloc, &request, shelf) {
         Ok(scenario) => scenario,
         Err(fault) => return tell(alloc, fault.into(), err),
     };
-    let report = match report_on(alloc, request.mode, scenario, log) {
+    let report = match report_on(alloc, &request, scenario, log) {
         Ok(report) => report,
         Err(fault) => return tell(alloc, fault.into(), err),
     };

@@ -4,13 +4,15 @@ ghost use Rattle.outside.specs.Causes.{one_more};
 ghost use Rattle.scenario.specs.ScenarioValues.{IsInRange};
 ghost use Rattle.scenario.specs.declared.values.Scenario.{Scenario};
 ghost use Rattle.colregs_program.specs.Answers.{Holds, IsScenario};
-ghost use Rattle.colregs_program.specs.Requests.{needs_own};
-ghost use Rattle.colregs_program.specs.Inner.SetUps.{IsSetUpDue, SetUpCause};
+ghost use Rattle.colregs_program.specs.AskedScenarios.{with_options};
+ghost use Rattle.colregs_program.specs.Modes.{needs_own};
+ghost use Rattle.colregs_program.specs.Inner.SetUps.{AreOptions, IsSetUpDue, SetUpCause};
 ghost use Rattle.colregs_program.specs.declared.set_up.SetUpFault.{SetUpFault};
 
-use crate::request::Mode;
+use crate::modes::needs_own;
 use crate::status::{Status, Which};
-use outside::{Fetched, Shelf, Word};
+use command_line::{Options, Request};
+use outside::{Fetched, Shelf};
 use scenario::{Cause, Key, Scenario, ScenarioFault, read};
 use std::alloc::Global;
 
@@ -31,7 +33,6 @@ pub(crate) enum SetUpFault {
 
 impl From<ScenarioFault> for SetUpFault {
     ghost use Rattle.std.specs.Prelude.{◌≡◌};
-    ghost use Rattle.colregs_program.specs.Requests.{needs_own};
     ghost use Rattle.colregs_program.specs.Inner.SetUps.{set_up_fault};
 
     ghost from_gives = { λ fault made. made ≡ set_up_fault fault };
@@ -46,7 +47,6 @@ impl From<ScenarioFault> for SetUpFault {
 
 impl From<SetUpFault> for Status {
     ghost use Rattle.std.specs.Prelude.{◌≡◌};
-    ghost use Rattle.colregs_program.specs.Requests.{needs_own};
     ghost use Rattle.colregs_program.specs.Inner.SetUps.{answer_of};
 
     ghost from_gives = { λ fault status. status ≡ answer_of fault };
@@ -61,24 +61,37 @@ impl From<SetUpFault> for Status {
     }
 }
 
-/// The scenario under a name, with own ship where the mode needs her.
+/// The scenario with the values that are given in place of its own.
+fn with_options(mut scenario: Scenario, options: Options) -> Scenario
+    ensures { result ≡ with_options options scenario }
+{
+    if let Some(start) = options.start {
+        scenario.window.start = start;
+    }
+    if let Some(ticks) = options.ticks {
+        scenario.window.ticks = ticks;
+    }
+    scenario
+}
+
+/// The scenario of a request, with own ship where its mode needs her.
 pub(crate) fn set_up<H: Shelf>(
     alloc: Global,
-    mode: Mode,
-    name: &Word,
+    request: &Request,
     shelf: &mut H,
 ) -> Result<Scenario, SetUpFault>
-    ensures scenario { IfOk result (λ scenario. Holds (H.files shelf.old) name.now (λ text. IsScenario mode text scenario)) }
+    requires { AreOptions request.now.options }
+    ensures scenario { IfOk result (λ scenario. Holds (H.files shelf.old) request.now.name (λ text. IsScenario request.now text scenario)) }
     ensures in_range { IfOk result IsInRange }
-    ensures own { IfOk result (λ scenario. IsTrue (needs_own mode) → IsSome scenario.own) }
-    ensures cause { IfErr result (SetUpCause mode (H.files shelf.old) name.now (H.faults shelf.old) (H.faults shelf.new)) }
-    ensures due { (due : Result Scenario SetUpFault) → IsSetUpDue mode (H.files shelf.old) name.now due
+    ensures own { IfOk result (λ scenario. IsTrue (needs_own request.now.mode) → IsSome scenario.own) }
+    ensures cause { IfErr result (SetUpCause request.now (H.files shelf.old) (H.faults shelf.old) (H.faults shelf.new)) }
+    ensures due { (due : Result Scenario SetUpFault) → IsSetUpDue request.now (H.files shelf.old) due
         → (H.faults shelf.new ≡ one_more (H.faults shelf.old)) ⊎ ((result ≡ due) ⊎ (result ≡ Err SetUpFault.Memory)) }
     ensures fetched { H.fetches shelf.new ≡ one_more (H.fetches shelf.old) }
 {
-    match shelf.fetch(alloc, name, GREATEST_SCENARIO) {
-        Fetched::Bytes(text) => match read(alloc, text.as_slice(), mode.needs_own()) {
-            Ok(scenario) => Ok(scenario),
+    match shelf.fetch(alloc, &request.name, GREATEST_SCENARIO) {
+        Fetched::Bytes(text) => match read(alloc, text.as_slice(), needs_own(request.mode)) {
+            Ok(scenario) => Ok(with_options(scenario, request.options)),
             Err(fault) => Err(fault.into()),
         },
         Fetched::TooLong => Err(SetUpFault::TooLong),

@@ -2,6 +2,7 @@
 ghost use Rattle.std.specs.Prelude.{◌≡◌};
 ghost use Rattle.colregs_program.specs.FaultLines.{number_of};
 
+use command_line::WordsFault;
 use own_ship::Unready;
 use scenario::{Cause, Key};
 
@@ -23,7 +24,7 @@ pub enum Which {
 /// How a run ends. Standard error gets a line that names each fault.
 #[derive(Clone, Copy, Debug, PartialEq, Eq)]
 pub enum Status {
-    /// The log was read to its end, and the whole report is written.
+    /// The whole report is written, and the log that it is of was read to its end.
     Done,
     /// The same, where every plan of own ship fails.
     NoManoeuvre,
@@ -61,6 +62,20 @@ impl Status {
             Status::Limit(..) => 7,
             Status::Memory => 8,
             Status::OwnUnready(_) => 9,
+        }
+    }
+}
+
+impl From<WordsFault> for Status {
+    ghost use Rattle.std.specs.Prelude.{◌≡◌};
+    ghost use Rattle.colregs_program.specs.Inner.WordsFaults.{answer_of};
+
+    ghost from_gives = { λ fault status. status ≡ answer_of fault };
+
+    fn from(fault: WordsFault) -> Status {
+        match fault {
+            WordsFault::Usage => Status::Usage,
+            WordsFault::Memory => Status::Memory,
         }
     }
 }

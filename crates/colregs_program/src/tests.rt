@@ -71,20 +71,23 @@ lines,point,1,,,,
 
 /// What a run ended with, and what it wrote.
 #[derive(Drop)]
-struct Ended {
-    status: Status,
-    out: MemorySink,
-    err: MemorySink,
+pub(crate) struct Ended {
+    pub(crate) status: Status,
+    pub(crate) out: MemorySink,
+    pub(crate) err: MemorySink,
 }
 
-/// Runs a mode with `scenario.toml` on this scenario and log.
-fn run_mode<S: Source>(
+/// Runs the program with these words, where this scenario lies under `scenario.toml`, on a log.
+pub(crate) fn run_words<S: Source>(
     alloc: Global,
-    mode: &str,
+    texts: &[&str],
     scenario: &str,
     log: &mut S,
 ) -> Result<Ended, Fail> {
-    let words = vec![in alloc; Word::new(alloc, mode)?, Word::new(alloc, "scenario.toml")?]?;
+    let mut words = Vec::new(alloc);
+    for text in texts {
+        words.push(Word::new(alloc, text)?)?;
+    }
     let file = (
         Word::new(alloc, "scenario.toml")?,
         scenario.as_bytes().to_vec(alloc)?,
@@ -98,7 +101,7 @@ fn run_mode<S: Source>(
 
 /// Runs `points`.
 fn points<S: Source>(alloc: Global, scenario: &str, log: &mut S) -> Result<Ended, Fail> {
-    run_mode(alloc, "points", scenario, log)
+    run_words(alloc, &["points", "scenario.toml"], scenario, log)
 }
 
 /// How `points` ends on this scenario and log, which write nothing, and what standard error gets.
@@ -107,6 +110,11 @@ fn refused(alloc: Global, scenario: &str, log: &[u8], fails: Vec<u64>) -> Result
 {
     let mut log = MemorySource::new(log.to_vec(alloc)?, 100, fails);
     points(alloc, scenario, &mut log)
+}
+
+/// The scenario about the place at 0 north and 0 east.
+pub(crate) fn about_zero(alloc: Global) -> Result<String, Fail> {
+    Ok(SCENARIO.replace(alloc, "lat = 28549600\nlon = -73407500", "lat = 0\nlon = 0")?)
 }
 
 /// So many comment marks.
@@ -243,11 +251,7 @@ lines,point,1,,,,
 
 #[test]
 fn parts_of_two_keys_and_times_out_of_order(rt: HostRuntime) -> Result<(), Fail> {
-    let scenario = SCENARIO.replace(
-        rt.alloc(),
-        "lat = 28549600\nlon = -73407500",
-        "lat = 0\nlon = 0",
-    )?;
+    let scenario = about_zero(rt.alloc())?;
     let mut log = PlainSource::new(PARTS_AND_TIMES.to_vec(rt.alloc())?, 50);
     let ended = points(rt.alloc(), scenario.as_str(), &mut log)?;
     assert_eq!(rt; ended.status, Status::Done);
@@ -300,7 +304,7 @@ fn shelf_without_the_name(rt: HostRuntime) -> Result<(), Fail> {
     assert_eq!(rt; status.number(), 2);
     assert!(rt;
         err.bytes()
-            .ends_with(b"usage: points|audit|plan SCENARIO\n")
+            .ends_with(b"usage: points|audit|plan|drill SCENARIO\n")
     );
     Ok(())
 }
@@ -381,13 +385,14 @@ lines,empty,0,,,,
 // Neither alters: each breaks the rule on nearly reciprocal courses, and they pass too near.
 #[test]
 fn two_vessels_meet_head_on_and_neither_alters(rt: HostRuntime) -> Result<(), Fail> {
-    let scenario = SCENARIO.replace(
-        rt.alloc(),
-        "lat = 28549600\nlon = -73407500",
-        "lat = 0\nlon = 0",
-    )?;
+    let scenario = about_zero(rt.alloc())?;
     let mut log = PlainSource::new(HEAD_ON.to_vec(rt.alloc())?, 64);
-    let ended = run_mode(rt.alloc(), "audit", scenario.as_str(), &mut log)?;
+    let ended = run_words(
+        rt.alloc(),
+        &["audit", "scenario.toml"],
+        scenario.as_str(),
+        &mut log,
+    )?;
     assert_eq!(rt; ended.status, Status::Done);
     assert!(rt; ended.out.bytes().starts_with(HEAD_ON_AUDITED));
     assert!(rt;
@@ -396,5 +401,93 @@ fn two_vessels_meet_head_on_and_neither_alters(rt: HostRuntime) -> Result<(), Fa
             .bytes()
             .ends_with(b"lines,static,1,,,,\nlines,point,4,,,,\n")
     );
+    Ok(())
+}
+
+const HEAD_ON_TO_TICK_FOUR: &[u8] = b"verdict,369190000,477553000,r14a,open,0,0
+verdict,477553000,369190000,r14a,open,0,0
+meeting,369190000,477553000,head_on,0,3,29632578
+meeting,477553000,369190000,head_on,0,3,29632578
+vessel,369190000,MT.MITCHELL,99,180,2,1
+";
+
+// The window of the scenario is longer.
+#[test]
+fn audit_of_four_ticks_wherever_the_option_stands(rt: HostRuntime) -> Result<(), Fail> {
+    let scenario = about_zero(rt.alloc())?;
+    for texts in [
+        ["--ticks", "4", "audit", "scenario.toml"],
+        ["audit", "--ticks", "4", "scenario.toml"],
+        ["audit", "scenario.toml", "--ticks", "4"],
+    ] {
+        let mut log = PlainSource::new(HEAD_ON.to_vec(rt.alloc())?, 64);
+        let ended = run_words(rt.alloc(), &texts, scenario.as_str(), &mut log)?;
+        assert_eq!(rt; ended.status, Status::Done);
+        assert!(rt; ended.out.bytes().starts_with(HEAD_ON_TO_TICK_FOUR));
+    }
+    Ok(())
+}
+
+#[test]
+fn ticks_out_of_range(rt: HostRuntime) -> Result<(), Fail> {
+    let texts = ["audit", "scenario.toml", "--ticks", "0"];
+    let mut log = PlainSource::new(HEAD_ON.to_vec(rt.alloc())?, 64);
+    let ended = run_words(rt.alloc(), &texts, SCENARIO, &mut log)?;
+    assert_eq!(rt; ended.status, Status::Usage);
+    assert_eq!(rt;
+        ended.err.bytes(),
+        b"usage: points|audit|plan|drill SCENARIO\n".as_slice()
+    );
+    Ok(())
+}
+
+const DRILLED: &[u8] = b"total,r8b,48304,48304,0,0,0
+total,r8d,48304,48134,170,0,24
+total,r13,48304,48273,31,0,2
+total,r14a,48304,48294,10,0,10
+total,r14b,48304,48304,0,0,0
+total,r14p,48304,48254,50,0,5
+total,r15,48304,48297,7,0,7
+total,r16,48304,48268,36,0,36
+total,r17a,48304,48304,0,0,0
+total,r17b,48304,48194,110,0,12
+total,r17c,48304,48304,0,0,0
+lines,empty,0,,,,
+";
+
+// The rows come from another program. A log that is given is not read: this one fails at the first read.
+#[test]
+fn drill_of_forty_vessels(rt: HostRuntime) -> Result<(), Fail> {
+    let scenario = about_zero(rt.alloc())?;
+    let mut log = MemorySource::new(Vec::new(rt.alloc()), 1, vec![in rt.alloc(); 0]?);
+    let ended = run_words(
+        rt.alloc(),
+        &["drill", "scenario.toml"],
+        scenario.as_str(),
+        &mut log,
+    )?;
+    assert_eq!(rt; ended.status, Status::Done);
+    assert!(rt; ended.out.bytes().starts_with(DRILLED));
+    assert!(rt;
+        ended
+            .out
+            .bytes()
+            .ends_with(b"lines,static,0,,,,\nlines,point,280,,,,\n")
+    );
+    Ok(())
+}
+
+#[test]
+fn drill_log_longer_than_the_scenario_allows(rt: HostRuntime) -> Result<(), Fail> {
+    let scenario = format!(in rt.alloc(); "{SCENARIO}max_bytes = 18199\n")?;
+    let mut log = PlainSource::new(Vec::new(rt.alloc()), 1);
+    let ended = run_words(
+        rt.alloc(),
+        &["drill", "scenario.toml"],
+        scenario.as_str(),
+        &mut log,
+    )?;
+    assert_eq!(rt; ended.status, Status::Limit(Which::Log, 18199));
+    assert!(rt; ended.out.bytes().is_empty());
     Ok(())
 }

@@ -1,6 +1,5 @@
 -- Why there is no report on a log.
-use Rattle.std.specs.Prelude.{ℕ, ◌≡◌, List, Option, IfSome, Bool, true, false}
-use Rattle.std.specs.Io.KnownBytes.{IsAtEnd}
+use Rattle.std.specs.Prelude.{ℕ, ◌≡◌, ◌<◌, List, length, Option, Bool, true, false, IsTrue}
 use Rattle.outside.specs.Causes.{one_more}
 use Rattle.outside.specs.WholeReading.{StopsAt}
 use Rattle.outside.specs.declared.whole.ReadFault.TheVariants as read
@@ -12,13 +11,17 @@ use Rattle.own_ship.specs.declared.preparation.PrepareFault.{PrepareFault}
 use Rattle.own_ship.specs.declared.preparation.PrepareFault.TheVariants as prepare
 use Rattle.tracks.specs.declared.entry.BookFault.{BookFault}
 use Rattle.tracks.specs.declared.entry.BookFault.TheVariants as book
+use Rattle.drill_log.specs.DrillLog.{drill_log_of}
 use Rattle.judged_lines.specs.JudgedLines.{greatest_held}
-use Rattle.colregs_program.specs.Endings.{IsAnswerTo, IsMet, greatest_traces}
+use Rattle.colregs_program.specs.Answers.{IsReadBy, MetIn}
+use Rattle.colregs_program.specs.Endings.{IsAnswerTo, greatest_traces}
+use Rattle.colregs_program.specs.Modes.{reads_log}
 use Rattle.colregs_program.specs.declared.log_fault.LogFault.{LogFault}
 use Rattle.colregs_program.specs.declared.log_fault.LogFault.TheVariants as fault
 use Rattle.colregs_program.specs.declared.log_fault.EndingFault.{EndingFault}
 use Rattle.colregs_program.specs.declared.log_fault.EndingFault.TheVariants as ending
-use Rattle.colregs_program.specs.declared.request.Mode.{Mode}
+use Rattle.command_line.specs.declared.mode.Mode.{Mode}
+use Rattle.command_line.specs.declared.request.Request.{Request}
 use Rattle.colregs_program.specs.declared.status.Status.{Status}
 use Rattle.colregs_program.specs.declared.status.Status.TheVariants as status
 use Rattle.colregs_program.specs.declared.status.Which.TheVariants as which
@@ -66,7 +69,7 @@ UnlessMemory ending.Memory P = Unit {0}
 abbrev pub EndingCause : Mode → Scenario → List ℕ → EndingFault → Type 0
 EndingCause mode scenario log fault = UnlessMemory fault (IsAnswerTo mode scenario log)
 
--- ---- a log that is read
+-- ---- the log of a request
 
 -- the answer of a run that ends with this fault
 abbrev pub log_answer : LogFault → Status
@@ -74,16 +77,34 @@ log_answer fault.NotRead = status.ReadFault
 log_answer (fault.TooLong most) = status.Limit which.Log most
 log_answer (fault.Unreported why) = answer_of why
 
--- The log was read to its end, and this is met in it.
-pub record MeetsAtEnd (mode : Mode) (scenario : Scenario) (left left' : Option (List ℕ)) (answer : Status) : Type 0 where
-  pub end : IsAtEnd left'
-  pub met : IfSome left (λ bytes. IsMet mode scenario bytes answer)
+-- A log that is read was read to its end, and this is met in the log of the request.
+pub record MeetsAtEnd (request : Request) (scenario : Scenario) (left left' : Option (List ℕ)) (answer : Status) : Type 0 where
+  pub end : IsReadBy request.mode left'
+  pub met : MetIn request scenario left answer
 
--- what the fault says of what was taken of the log, and of its count of faults
-abbrev pub LogCause : Mode → Scenario → Option (List ℕ) → Option (List ℕ) → ℕ → ℕ → LogFault → Type 0
-LogCause mode scenario left left' before now fault.NotRead =
-    (now ≡ one_more before) × StopsAt scenario.log.max_bytes 0 left left' read.Failed
-LogCause mode scenario left left' before now (fault.TooLong limit) =
-    (now ≡ before) × (limit ≡ scenario.log.max_bytes) × StopsAt scenario.log.max_bytes 0 left left' read.TooLong
-LogCause mode scenario left left' before now (fault.Unreported why) =
-    (now ≡ before) × UnlessMemory why (MeetsAtEnd mode scenario left left')
+-- The log is longer than the scenario allows: one byte more was taken of a log that is read.
+pub record IsTooLong (request : Request) (scenario : Scenario) (left left' : Option (List ℕ)) (most : ℕ) : Type 0 where
+  pub limit : most ≡ scenario.log.max_bytes
+  pub met : MetIn request scenario left (status.Limit which.Log most)
+  pub stops : IsTrue (reads_log request.mode) → StopsAt most 0 left left' read.TooLong
+
+-- what the fault says of what was taken of a log that is read, and of its count of faults
+abbrev pub ReadCause : Scenario → Option (List ℕ) → Option (List ℕ) → ℕ → ℕ → LogFault → Type 0
+ReadCause scenario left left' before now fault.NotRead = (now ≡ one_more before) × StopsAt scenario.log.max_bytes 0 left left' read.Failed
+ReadCause scenario left left' before now (fault.TooLong most) =
+    (now ≡ before) × (most ≡ scenario.log.max_bytes) × StopsAt scenario.log.max_bytes 0 left left' read.TooLong
+ReadCause scenario left left' before now (fault.Unreported why) = (now ≡ before) × (why ≡ ending.Memory)
+
+-- what the fault says of a log that is made
+abbrev pub MakeCause : Scenario → ℕ → LogFault → Type 0
+MakeCause scenario seed fault.NotRead = ⊥
+MakeCause scenario seed (fault.TooLong most) = (most ≡ scenario.log.max_bytes) × (scenario.log.max_bytes < length (drill_log_of scenario seed))
+MakeCause scenario seed (fault.Unreported why) = why ≡ ending.Memory
+
+-- what the fault says of the log, of what was taken of one that is read, and of its count of faults
+abbrev pub LogCause : Request → Scenario → Option (List ℕ) → Option (List ℕ) → ℕ → ℕ → LogFault → Type 0
+LogCause request scenario left left' before now fault.NotRead =
+    IsTrue (reads_log request.mode) × (now ≡ one_more before) × StopsAt scenario.log.max_bytes 0 left left' read.Failed
+LogCause request scenario left left' before now (fault.TooLong most) = (now ≡ before) × IsTooLong request scenario left left' most
+LogCause request scenario left left' before now (fault.Unreported why) =
+    (now ≡ before) × UnlessMemory why (MeetsAtEnd request scenario left left')

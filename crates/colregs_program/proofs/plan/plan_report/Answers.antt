@@ -1,4 +1,4 @@
-use Rattle.std.proofs.Common.{[], ◌∙◌, ap}
+use Rattle.std.proofs.Common.{[], ◌∙◌}
 use Rattle.judged_lines.specs.JudgedLines.{judged_lines, numbers_of}
 use Rattle.judged_lines.specs.LogLines.{lines_of}
 use Rattle.judged_lines.specs.SentLines.{sent}

@@ -1,9 +1,8 @@
 use Rattle.std.proofs.Common.{ℕ, ◌≡◌, ◌∙◌, List, ◌++◌, ap, sym, subst, append_assoc, true}
-use Rattle.std.proofs.lemmas.List.{get_or_default, take_all}
+use Rattle.std.proofs.lemmas.List.{take_all}
 use Rattle.audit_report.specs.CsvRows.{row_of}
 use Rattle.audit_report.specs.ReportTexts.{HasText}
 use Rattle.own_ship.specs.declared.near.Near.{Near}
-use Rattle.tracks.specs.VesselsHeld.{is_held}
 use Rattle.colregs_program.specs.AuditReport.{held_fields}
 use Rattle.colregs_program.specs.PlanReport.{near_rows}
 use Rattle.colregs_program.proofs.VesselRows.{rows_push}

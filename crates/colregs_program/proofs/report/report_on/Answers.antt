@@ -6,21 +6,21 @@ use Rattle.colregs_program.proofs.report.report_on.Goals as goal
 
 pub returns-in-Ok-clause-report : goal.returns-in-Ok-clause-report
 returns-in-Ok-clause-report g c =
-    let mode = c.args.mode in
+    let request = c.args.request.now in
     let scenario = c.args.scenario in
     let bytes = c.in_ok-bytes.bytes.items in
     let answer = finished c.in-Ok.report.is_none in
-    told (λ (log : List ℕ). IsMet mode scenario log answer × IsEnding mode scenario log c.in-Ok.report.text.items) _ bytes c.in_ok-bytes.ensures.all (
-      met_in mode scenario bytes answer c.in_ok-bytes.ensures.short (subst (λ (log : List ℕ). IsAnswerTo mode scenario log answer) c.as_slice.ensures.value c.in-Ok.ensures.answer),
-      subst (λ (log : List ℕ). IsEnding mode scenario log c.in-Ok.report.text.items) c.as_slice.ensures.value c.in-Ok.ensures.ending,
+    told (λ (log : List ℕ). IsMet request.mode scenario log answer × IsEnding request.mode scenario log c.in-Ok.report.text.items) _ bytes c.in_ok-bytes.ensures.all (
+      met_in request.mode scenario bytes answer c.in_ok-bytes.ensures.short (subst (λ (log : List ℕ). IsAnswerTo request.mode scenario log answer) c.as_slice.ensures.value c.in-Ok.ensures.answer),
+      subst (λ (log : List ℕ). IsEnding request.mode scenario log c.in-Ok.report.text.items) c.as_slice.ensures.value c.in-Ok.ensures.ending,
     )
 
 pub returns-clause-cause : goal.returns-clause-cause
 returns-clause-cause g c =
-    let mode = c.args.mode in
+    let request = c.args.request.now in
     let scenario = c.args.scenario in
-    let read = c.in_ok-bytes.ensures in
-    subst (LogCause mode scenario (g.S.Source.left c.args.log.now) (g.S.Source.left c.log_bytes.new.log) (g.S.Source.faults c.args.log.now) (g.S.Source.faults c.log_bytes.new.log))
+    let had = c.in_ok-bytes.ensures in
+    subst (LogCause request scenario (g.S.Source.left c.args.log.now) (g.S.Source.left c.log_bytes.new.log) (g.S.Source.faults c.args.log.now) (g.S.Source.faults c.log_bytes.new.log))
     (sym c.into.ensures)
-    (cause_of mode scenario _ _ _ _ c.in_ok-bytes.bytes.items read.all read.short read.end read.calm c.in-Err.fault
-    (subst (λ (log : List ℕ). EndingCause mode scenario log c.in-Err.fault) c.as_slice.ensures.value c.in-Err.ensures.cause))
+    (cause_of request scenario _ _ _ _ c.in_ok-bytes.bytes.items had.all had.short had.end had.calm c.in-Err.fault
+    (subst (λ (log : List ℕ). EndingCause request.mode scenario log c.in-Err.fault) c.as_slice.ensures.value c.in-Err.ensures.cause))

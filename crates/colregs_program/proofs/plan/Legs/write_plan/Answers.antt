@@ -1,4 +1,4 @@
-use Rattle.std.proofs.Common.{ℕ, ◌≡◌, ◌∙◌, ◌+◌, List, ◌++◌, flat_map, refl, subst, arith}
+use Rattle.std.proofs.Common.{ℕ, ◌≡◌, List, ◌++◌, flat_map, refl, subst, arith}
 use Rattle.std.specs.List.{range_with_len}
 use Rattle.audit_report.specs.CsvRows.{row_of}
 use Rattle.audit_report.specs.ReportTexts.{HasText}

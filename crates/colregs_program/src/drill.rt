@@ -1,0 +1,39 @@
+//! The report of `drill`.
+ghost use Rattle.std.specs.Prelude.{◌≡◌, false, IfErr, IfOk, OnOk};
+ghost use Rattle.scenario.specs.ScenarioValues.{IsInRange};
+ghost use Rattle.colregs_program.specs.DrillReport.{IsDrillReport};
+ghost use Rattle.colregs_program.specs.Endings.{IsAnswerTo};
+ghost use Rattle.colregs_program.specs.Inner.LogFaults.{EndingCause, finished};
+ghost use Rattle.command_line.specs.declared.mode.Mode.TheVariants.{Drill};
+
+use crate::log_fault::EndingFault;
+use crate::outcome_rows::{all_outcomes, write_counts};
+use crate::ticks::write_audit;
+use crate::totals::write_totals;
+use audit_report::ReportText;
+use judged_lines::{Judge, judge_log};
+use scenario::Scenario;
+use std::alloc::Global;
+use tracks::Keeping;
+
+/// The report on a log.
+pub(crate) fn drill_report(
+    alloc: Global,
+    scenario: &Scenario,
+    log: &[u8],
+) -> Result<Vec<u8>, EndingFault>
+    requires { IsInRange scenario.now }
+    ensures report { IfOk result (λ report. IsDrillReport scenario.now log.now report.items) }
+    ensures answer { OnOk result (IsAnswerTo Drill scenario.now log.now (finished false)) }
+    ensures cause { IfErr result (EndingCause Drill scenario.now log.now) }
+{
+    let mut judge = Judge::new(alloc, Keeping::Tracks, scenario);
+    judge_log(&mut judge, log)?;
+    // The audit's rows are not told, and its totals come last.
+    let mut untold = ReportText::new(alloc);
+    let totals = write_audit(alloc, scenario, judge.book(), &mut untold)?;
+    let mut text = ReportText::new(alloc);
+    write_totals(&mut text, &scenario.rules, totals.as_slice())?;
+    write_counts(&mut text, judge.counts(), all_outcomes())?;
+    Ok(text.into_bytes()?)
+}
