@@ -1,5 +1,5 @@
 -- Bearings, and the angles between two directions, in tenths of a degree.
-use Rattle.std.specs.Prelude.{ℕ, zero, suc, ◌+◌, Bool, ◌&&◌, if◌then◌else◌, Option, Some, None, ℤ, pos, neg_ℤ, ◌-ℤ◌, ◌*ℤ◌, int_lt, int_le, unsigned_abs}
+use Rattle.std.specs.Prelude.{ℕ, zero, suc, ◌+◌, Bool, ◌&&◌, if◌then◌else◌, Option, Some, None, ℤ, pos, neg_ℤ, ◌-ℤ◌, ◌*ℤ◌, int_lt, int_le, nat_le, unsigned_abs}
 use Rattle.std.specs.Int.{int_rem_euclid}
 use Rattle.fixed_geometry.specs.Circle.{shorter_arc}
 use Rattle.fixed_geometry.specs.Compass.{sine_of, cosine_of}
@@ -30,6 +30,10 @@ bearing_of r =
 -- the bearing b as it is seen from a vessel in direction d: (b - d) mod 3600
 unfoldable pub relative_of : ℕ → ℕ → ℕ
 relative_of b d = unsigned_abs (int_rem_euclid (pos b -ℤ pos d) (pos 3600))
+
+-- whether the bearing b lies to port of direction d, neither right ahead nor right astern
+abbrev pub lies_to_port : ℕ → ℕ → Bool
+lies_to_port d b = nat_le 1801 (relative_of b d) && nat_le (relative_of b d) 3599
 
 -- the turn from direction d to direction e, from -1799 to 1800: positive to starboard
 unfoldable pub swing_of : ℕ → ℕ → ℤ

@@ -1,6 +1,7 @@
 //! Bearings, and the angles between two directions.
-ghost use Rattle.std.specs.Prelude.{pos, ◌≡◌, ◌+◌, ◌<◌, ◌≤◌, ◌^◌, ◌≤ℤ◌, ◌↔◌, IsNone, IfSome, unsigned_abs};
-ghost use Rattle.fixed_geometry.specs.Bearing.{bearing_of, has_turned, quarter_angle, relative_of, swing_of};
+ghost use Rattle.std.specs.Prelude.{pos, ◌≡◌, ◌+◌, ◌<◌, ◌≤◌, ◌^◌, ◌≤ℤ◌, ◌↔◌, None, IsNone, IfSome, nat_le, option_map, unsigned_abs};
+ghost use Rattle.fixed_geometry.specs.Bearing.{bearing_of, has_turned, lies_to_port, quarter_angle, relative_of, swing_of};
+ghost use Rattle.fixed_geometry.specs.Inner.Quarters.{IsInQuarter, IsOfAQuarter};
 ghost use Rattle.fixed_geometry.specs.Sizes.{IsWithin};
 
 use crate::compass::quarter;
@@ -40,6 +41,53 @@ fn quarter_angle(n: i64, e: i64) -> u16
     low
 }
 
+/// A vector by the quarter of the circle that it lies in.
+#[derive(Drop)]
+struct Quartered {
+    /// Where the quarter begins: 0, 900, 1800 or 2700.
+    start: u16,
+    /// The component along the quarter's beginning.
+    ahead: i64,
+    /// The component along its end.
+    starboard: i64,
+}
+
+/// The quarter of a vector. `None` where it has no length.
+fn by_quarter(r: Point) -> Option<Quartered>
+    requires { IsWithin (2 ^ 62) r }
+    ensures some { IfSome result (IsInQuarter r) }
+    ensures nowhere { IsNone result → bearing_of r ≡ None }
+    ensures none { IsNone result ↔ (r ≡ record { x = pos 0; y = pos 0 }) }
+{
+    if r.y > 0 && r.x >= 0 {
+        Some(Quartered {
+            start: 0,
+            ahead: r.y,
+            starboard: r.x,
+        })
+    } else if r.x > 0 && r.y <= 0 {
+        Some(Quartered {
+            start: 900,
+            ahead: r.x,
+            starboard: -r.y,
+        })
+    } else if r.y < 0 && r.x <= 0 {
+        Some(Quartered {
+            start: 1800,
+            ahead: -r.y,
+            starboard: -r.x,
+        })
+    } else if r.x < 0 && r.y >= 0 {
+        Some(Quartered {
+            start: 2700,
+            ahead: -r.x,
+            starboard: r.y,
+        })
+    } else {
+        None
+    }
+}
+
 /// The bearing of a vector by the compass, below 3600: the greatest whole tenth of a degree clockwise from north that it has
 /// reached. `None` where it has no length. Components are at most 2^62 in size.
 pub fn bearing(r: Point) -> Option<u16>
@@ -48,16 +96,42 @@ pub fn bearing(r: Point) -> Option<u16>
     ensures none { IsNone result ↔ (r ≡ record { x = pos 0; y = pos 0 }) }
     ensures below { IfSome result (λ b. b < 3600) }
 {
-    if r.y > 0 && r.x >= 0 {
-        Some(quarter_angle(r.y, r.x))
-    } else if r.x > 0 && r.y <= 0 {
-        Some(900 + quarter_angle(r.x, -r.y))
-    } else if r.y < 0 && r.x <= 0 {
-        Some(1800 + quarter_angle(-r.y, -r.x))
-    } else if r.x < 0 && r.y >= 0 {
-        Some(2700 + quarter_angle(-r.x, r.y))
+    let Quartered {
+        start,
+        ahead,
+        starboard,
+    } = by_quarter(r)?;
+    Some(start + quarter_angle(ahead, starboard))
+}
+
+impl Quartered {
+    /// Whether the vector's bearing is `k` tenths of a degree or more, by one comparison at most.
+    fn has_reached(&self, k: u16) -> bool
+        requires { IsOfAQuarter self.now }
+        ensures { result ≡ nat_le k (self.now.start + quarter_angle self.now.ahead self.now.starboard) }
+    {
+        if k <= self.start {
+            true
+        } else if k >= self.start + 900 {
+            false
+        } else {
+            has_turned(self.ahead, self.starboard, k - self.start)
+        }
+    }
+}
+
+/// Whether a vector's bearing lies on the port side of a vessel that points in a direction, neither right ahead nor right
+/// astern: by two comparisons, without the bearing itself. `None` where it has no length.
+pub fn to_port(r: Point, direction: u16) -> Option<bool>
+    requires small { IsWithin (2 ^ 62) r }
+    requires direction { direction < 3600 }
+    ensures { result ≡ option_map (lies_to_port direction) (bearing_of r) }
+{
+    let way = by_quarter(r)?;
+    if direction < 1800 {
+        Some(!way.has_reached(direction) || way.has_reached(direction + 1801))
     } else {
-        None
+        Some(way.has_reached(direction - 1799) && !way.has_reached(direction))
     }
 }
 

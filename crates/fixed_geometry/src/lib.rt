@@ -17,7 +17,7 @@ mod projection;
 mod rounding;
 mod velocities;
 
-pub use bearings::{bearing, relative, swing};
+pub use bearings::{bearing, relative, swing, to_port};
 pub use compass::unit;
 pub use point::{Point, dot, isqrt, norm2, turn};
 pub use projection::{Reference, project};

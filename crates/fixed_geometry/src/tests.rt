@@ -57,6 +57,19 @@ fn bearings_are_clockwise_from_north(rt: HostRuntime) {
     for (x, y, k) in rows {
         assert_eq!(rt; bearing(Point { x, y }), k, "{x} {y}");
     }
+    for (direction, port) in [
+        (0, false),
+        (1799, false),
+        (1800, false),
+        (1801, true),
+        (3599, true),
+    ] {
+        assert_eq!(rt;
+            to_port(Point { x: 0, y: -1 }, direction),
+            Some(port),
+            "{direction}"
+        );
+    }
     assert_eq!(rt; relative(100, 3500), 200);
     assert_eq!(rt; swing(3500, 100), 200);
     assert_eq!(rt; swing(1800, 0), 1800);

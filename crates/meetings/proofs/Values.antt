@@ -3,7 +3,7 @@ use Rattle.std.proofs.Common.{◌≡◌, ℕ, zero, suc, ◌*◌, ◌≤◌, IsT
 use Rattle.std.specs.Prelude.{Bool, true, false, ◌==◌, ◌↔◌, Option, None, Some, IsSomeAnd, IsSome, is_some, nat_le}
 use Rattle.std.proofs.lemmas.Int.{ints}
 use Rattle.std.proofs.lemmas.Option.{same_Some}
-use Rattle.fixed_geometry.specs.Bearing.{bearing_of}
+use Rattle.fixed_geometry.specs.Bearing.{bearing_of, lies_to_port}
 use Rattle.motion.specs.Steps.{RelativeMove}
 use Rattle.sectors.specs.declared.class.Class.{Class}
 use Rattle.sectors.specs.declared.class.Class.TheVariants as class
@@ -19,7 +19,7 @@ use Rattle.closest_approach.specs.Separation.{IsSeparated}
 use Rattle.meetings.specs.Ahead.{crosses_ahead}
 use Rattle.meetings.specs.Answers.{Kept, answer_of}
 use Rattle.meetings.specs.Atoms.{AreAnswers, IsClose, IsOnPort, Tells, WhereKnown, metres}
-use Rattle.meetings.specs.Inner.Tests.{ahead, class_index, direction_of, is_age, is_close, is_first, is_kind, is_on_port, is_opening, is_separated, meeting_of, on_port, on_port_by, other_direction_of, seen_as, step_of, told}
+use Rattle.meetings.specs.Inner.Tests.{ahead, class_index, direction_of, is_age, is_close, is_first, is_kind, is_opening, is_separated, meeting_of, on_port, on_port_by, other_direction_of, seen_as, step_of, told}
 use Rattle.meetings.specs.SinceBeginning.{age_of, changes_at, kind_of}
 use Rattle.meetings.proofs.SeparatedByEnds.{separated_exactly}
 
@@ -100,7 +100,7 @@ close m (Some pair) = tells (IsClose m pair) (is_close (metres m) pair.step) (λ
 port_by : (direction bearing : Option ℕ) → WhereKnown direction (λ d. WhereKnown bearing (λ b. Tells (IsOnPort d b))) (on_port_by direction bearing)
 port_by None bearing = refl
 port_by (Some d) None = refl
-port_by (Some d) (Some b) = tells (IsOnPort d b) (is_on_port d b) (λ h. (grind (arith, h), grind (arith, h))) (λ h. grind (arith, h.0, h.1))
+port_by (Some d) (Some b) = tells (IsOnPort d b) (lies_to_port d b) (λ h. (grind (arith, h), grind (arith, h))) (λ h. grind (arith, h.0, h.1))
 
 port : (seen : Option PairStep) → WhereKnown seen (λ pair. WhereKnown pair.a.direction (λ d. WhereKnown (bearing_of pair.step.p) (λ b. Tells (IsOnPort d b))))
     (seen_as (on_port (direction_of seen)) (step_of seen))

@@ -1,12 +1,11 @@
-//! Crossing ahead of a vessel, and on which side of her another is.
+//! Crossing ahead of a vessel.
 ghost use Rattle.std.specs.Prelude.{◌≡◌, ◌^◌, ◌<◌, ◌≤◌, ◌-ℤ◌, unsigned_abs};
 ghost use Rattle.fixed_geometry.specs.Plane.{dot_of, turn_of};
 ghost use Rattle.fixed_geometry.specs.Sizes.{IsBelow, IsWithin};
 ghost use Rattle.sectors.specs.Class.{opposite};
 ghost use Rattle.meetings.specs.Ahead.{crosses, crosses_ahead, crosses_ahead_along, crosses_ahead_by, end_of, has_sign_of};
-ghost use Rattle.meetings.specs.Inner.Tests.{is_on_port};
 
-use fixed_geometry::{Point, dot, relative, turn, unit};
+use fixed_geometry::{Point, dot, turn, unit};
 use motion::Step;
 
 fn crosses(g0: i64, g1: i64) -> bool
@@ -91,14 +90,4 @@ pub(crate) fn crosses_ahead(direction: u16, step: &Step) -> bool
     let first = along(u, opposite(step.p()));
     let second = along(u, opposite(end(step)));
     crosses_ahead_by(first, second)
-}
-
-/// Whether a bearing is on the port side of a vessel that points in a direction, neither right ahead nor right astern.
-pub(crate) fn is_on_port(direction: u16, bearing: u16) -> bool
-    requires direction { direction < 3600 }
-    requires bearing { bearing < 3600 }
-    ensures { result ≡ is_on_port direction bearing }
-{
-    let seen = relative(bearing, direction);
-    1801 <= seen && seen <= 3599
 }

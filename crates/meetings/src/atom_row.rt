@@ -3,10 +3,10 @@ ghost use Rattle.std.specs.Prelude.{◌≡◌, ◌*◌, ◌≤◌, nat_le};
 ghost use Rattle.meetings.specs.Atoms.{metres};
 ghost use Rattle.meetings.specs.Inner.Tests.{ahead, is_age, is_close, is_first, is_kind, is_opening, is_separated, on_port, seen_as, told};
 
-use crate::ahead::{crosses_ahead, is_on_port};
+use crate::ahead::crosses_ahead;
 use closest_approach::separated;
 use encounters::{Changes, opening};
-use fixed_geometry::{bearing, norm2};
+use fixed_geometry::{norm2, to_port};
 use motion::Step;
 use mtl_formulas::{Atom, Atoms, Verdict};
 use sectors::Class;
@@ -118,9 +118,9 @@ impl AtomRow {
         ensures { result ≡ seen_as (on_port self.now.direction) self.now.step }
     {
         match (&self.step, self.direction) {
-            (Some(step), Some(direction)) => match bearing(step.p()) {
+            (Some(step), Some(direction)) => match to_port(step.p(), direction) {
                 None => Verdict::Open,
-                Some(bearing) => told(is_on_port(direction, bearing)),
+                Some(port) => told(port),
             },
             _ => Verdict::Open,
         }

@@ -1,6 +1,6 @@
 -- The tests that answer the atoms.
 use Rattle.std.specs.Prelude.{ℕ, ◌*◌, Bool, true, false, ◌&&◌, ◌||◌, ◌==◌, nat_le, Option, Some, None, pos, neg_ℤ, ◌*ℤ◌, int_le, int_lt}
-use Rattle.fixed_geometry.specs.Bearing.{bearing_of, relative_of}
+use Rattle.fixed_geometry.specs.Bearing.{bearing_of, lies_to_port}
 use Rattle.fixed_geometry.specs.Plane.{dot_of, norm2_of, turn_of}
 use Rattle.motion.specs.Steps.{RelativeMove}
 use Rattle.sectors.specs.declared.class.Class.{Class}
@@ -29,14 +29,11 @@ is_opening step = int_le (pos 0) (dot_of step.p step.w)
 abbrev pub is_close : ℕ → RelativeMove → Bool
 is_close r step = int_lt (norm2_of step.p) (pos (r * r))
 
-abbrev pub is_on_port : ℕ → ℕ → Bool
-is_on_port direction bearing = nat_le 1801 (relative_of bearing direction) && nat_le (relative_of bearing direction) 3599
-
 -- Open where the direction or the bearing is absent
 abbrev pub on_port_by : Option ℕ → Option ℕ → Verdict
 on_port_by None bearing = Open
 on_port_by (Some direction) None = Open
-on_port_by (Some direction) (Some bearing) = told (is_on_port direction bearing)
+on_port_by (Some direction) (Some bearing) = told (lies_to_port direction bearing)
 
 abbrev pub on_port : Option ℕ → RelativeMove → Verdict
 on_port direction step = on_port_by direction (bearing_of step.p)
