@@ -1,0 +1,25 @@
+//! Laws of settled ticks and decided rows, which stand over the definitions alone.
+ghost use Rattle.std.specs.Prelude.{ℕ, ◌≡◌, ◌+◌, ◌-◌, ◌<◌, ◌≤◌, ◌↔◌, ◌++◌, [], get_or, length, List};
+ghost use Rattle.audit_rows.specs.Order.{last_of};
+ghost use Rattle.audit_rows.specs.declared.row.Row.{Row};
+ghost use Rattle.audit_traces.specs.Audited.{Numbers, Sighting};
+ghost use Rattle.auditor.specs.AuditRows.{AreAuditRows, AreAuditRowsBelow, IsAuditRow};
+ghost use Rattle.auditor.specs.Standing.{reach_of, settled_by};
+ghost use Rattle.judged_lines.specs.JudgedLines.{numbers_of};
+ghost use Rattle.judged_lines.specs.SentLines.{sent};
+ghost use Rattle.scenario.specs.Ticks.{time_of_tick};
+ghost use Rattle.scenario.specs.declared.values.Scenario.{Scenario};
+ghost use Rattle.settling.specs.DecidedRows.{AreDecided};
+ghost use Rattle.settling.specs.SettledTicks.{IsSettled};
+ghost use Rattle.settling.specs.Sightings.{audit_numbers, seen_first, sighted};
+ghost use Rattle.tracks.specs.SeenVessels.{seen_of};
+
+/// A tick that is settled stays so, whatever lines follow.
+pub fn settled_ticks_stay()
+    ensures { (scenario : Scenario) (lines more : List (List ℕ)) (i : ℕ) → IsSettled scenario lines i → IsSettled scenario (lines ++ more) i }
+{}
+
+/// The settled ticks are the first ones: with a tick each earlier one is settled.
+pub fn settled_ticks_are_first()
+    ensures { (scenario : Scenario) (lines : List (List ℕ)) (i j : ℕ) → IsSettled scenario lines i → j ≤ i → IsSettled scenario lines j }
+{}

@@ -1,0 +1,8 @@
+//! What the front of a growing log already decides of an audit.
+//!
+//! A tick is settled once the clock of the lines is past it by more than the gap and the slack: the vessels seen then are the same
+//! whatever lines follow. A row is decided once enough ticks behind its last step are settled, and the rows that are decided are the
+//! front of the report's. All this stands over the definitions alone: the crate has no code.
+#![tactic(auto)]
+
+pub mod laws;
