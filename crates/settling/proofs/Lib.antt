@@ -1,1 +1,2 @@
 mod SettledTicks
+mod SeenStays

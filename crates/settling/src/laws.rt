@@ -23,3 +23,10 @@ pub fn settled_ticks_stay()
 pub fn settled_ticks_are_first()
     ensures { (scenario : Scenario) (lines : List (List ℕ)) (i j : ℕ) → IsSettled scenario lines i → j ≤ i → IsSettled scenario lines j }
 {}
+
+/// The vessels that are seen at a settled tick, and their states there, are the same whatever lines follow.
+pub fn what_is_settled_stays()
+    ensures { (scenario : Scenario) (lines more : List (List ℕ)) (i : ℕ) → IsSettled scenario lines i →
+        seen_of (numbers_of scenario) (sent scenario (lines ++ more)) (time_of_tick scenario.window i)
+        ≡ seen_of (numbers_of scenario) (sent scenario lines) (time_of_tick scenario.window i) }
+{}
