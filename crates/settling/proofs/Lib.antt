@@ -1,2 +1,5 @@
 mod SettledTicks
 mod SeenStays
+mod SomeMarks
+mod MoreMarks
+mod SameRows

@@ -14,6 +14,8 @@ ghost use Rattle.settling.specs.SettledTicks.{IsSettled};
 ghost use Rattle.settling.specs.Sightings.{audit_numbers, seen_first, sighted};
 ghost use Rattle.tracks.specs.SeenVessels.{seen_of};
 
+use meetings::laws::at_most_one_value;
+
 /// A tick that is settled stays so, whatever lines follow.
 pub fn settled_ticks_stay()
     ensures { (scenario : Scenario) (lines more : List (List ℕ)) (i : ℕ) → IsSettled scenario lines i → IsSettled scenario (lines ++ more) i }
@@ -30,3 +32,13 @@ pub fn what_is_settled_stays()
         seen_of (numbers_of scenario) (sent scenario (lines ++ more)) (time_of_tick scenario.window i)
         ≡ seen_of (numbers_of scenario) (sent scenario lines) (time_of_tick scenario.window i) }
 {}
+
+/// Whether a row is an audit's depends on the ticks alone up to the farthest rule's reach and two behind its last step.
+pub fn rows_look_so_far_ahead()
+    ensures { (numbers : Numbers) (ticks others : List Sighting) (row : Row) →
+        last_of row + reach_of numbers + 2 < length ticks → last_of row + reach_of numbers + 2 < length others →
+        ((k : ℕ) → k ≤ last_of row + reach_of numbers + 2 → get_or ticks k [] ≡ get_or others k []) →
+        IsAuditRow numbers ticks row → IsAuditRow numbers others row }
+{
+    at_most_one_value();
+}
