@@ -3,3 +3,5 @@ mod SeenStays
 mod SomeMarks
 mod MoreMarks
 mod SameRows
+mod Fronts
+mod DecidedRows
