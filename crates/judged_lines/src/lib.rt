@@ -15,6 +15,6 @@ mod whole_log;
 
 pub use judge::Judge;
 pub use judged::Judged;
-pub use log_lines::{LogLine, first_line};
+pub use log_lines::{LogLine, first_line, first_line_feed, strip_carriage_return};
 pub use outcome::LineOutcome;
 pub use whole_log::judge_log;

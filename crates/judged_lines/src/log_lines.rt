@@ -5,14 +5,14 @@ ghost use Rattle.judged_lines.specs.LogLines.{is_line_feed, lines_of, without_ca
 use memchr::memchr;
 
 /// Where the first line feed stands.
-fn first_line_feed(rest: &[u8]) -> Option<usize>
+pub fn first_line_feed(rest: &[u8]) -> Option<usize>
     ensures { result ≡ position is_line_feed rest.now }
 {
     memchr(b'\n', rest)
 }
 
 /// The part without the carriage return at its end, if it has one.
-fn strip_carriage_return(part: &[u8]) -> &[u8]
+pub fn strip_carriage_return(part: &[u8]) -> &[u8]
     ensures { result.now ≡ without_carriage_return part.now }
 {
     match part {

@@ -1,0 +1,3 @@
+pub mod GrowingLog
+pub mod Standing
+pub use Rattle.judged_lines.specs.LogLines

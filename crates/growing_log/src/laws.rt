@@ -1,0 +1,22 @@
+//! Laws of a log's lines, which stand over the definitions alone.
+ghost use Rattle.std.specs.Prelude.{◌≡◌, ◌++◌, ◌∷◌, [], ℕ, List, false};
+ghost use Rattle.std.specs.List.{All};
+ghost use Rattle.judged_lines.specs.LogLines.{is_line_feed, lines_of, without_carriage_return};
+ghost use Rattle.growing_log.specs.GrowingLog.{ended_lines, open_lines, open_part};
+
+/// The lines of a log are those that are ended, and then the open part, where it has a byte.
+pub fn lines_are_ended_or_open()
+    ensures { (log : List ℕ) → lines_of log ≡ ended_lines log ++ open_lines (open_part log) }
+{}
+
+/// Bytes without a line feed go on with the open part.
+pub fn a_part_goes_on()
+    ensures ended { (log part : List ℕ) → All (λ byte. is_line_feed byte ≡ false) part → ended_lines (log ++ part) ≡ ended_lines log }
+    ensures open { (log part : List ℕ) → All (λ byte. is_line_feed byte ≡ false) part → open_part (log ++ part) ≡ open_part log ++ part }
+{}
+
+/// A line feed ends the open part, and a new one begins.
+pub fn a_line_feed_ends()
+    ensures ended { (log : List ℕ) → ended_lines (log ++ 10 ∷ []) ≡ ended_lines log ++ without_carriage_return (open_part log) ∷ [] }
+    ensures open { (log : List ℕ) → open_part (log ++ 10 ∷ []) ≡ [] }
+{}
