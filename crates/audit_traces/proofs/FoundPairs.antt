@@ -1,7 +1,6 @@
 -- The pairs that a search through vessels finds, and those of the vessels in contact.
 use Rattle.std.proofs.Common.{ℕ, zero, suc, ◌≡◌, ◌+◌, ◌^◌, ◌<◌, ◌≤◌, inl, inr, List, [], ◌∷◌, length, get_or, drop, Option, Some, None, refl, ap, sym, subst, ◌∙◌, drop-cons, add-one, arith}
 use Rattle.std.proofs.lemmas.List.{drop_all}
-use Rattle.std.proofs.lemmas.List.Elements.{Contains-get_or}
 use Rattle.std.proofs.lemmas.List.Sorted.{All-permutation, Contains-permutation, IsPermutation-sym}
 use Rattle.std.specs.List.{Contains}
 use Rattle.std.specs.List.Sorted.{IsPermutation}
@@ -11,14 +10,13 @@ use Rattle.meetings.specs.Traces.{AreInContact, IsContact}
 use Rattle.meetings.specs.declared.pair.Pair.{Pair}
 use Rattle.motion.specs.declared.leg.TickState.{TickState}
 use Rattle.audit_traces.specs.Audited.{Sighting, AreAscending, ArePlaced, state_in}
-use Rattle.audit_traces.specs.Contacts.{AreContacts}
 use Rattle.audit_traces.specs.Inner.Pairing.{AreAdded, AreJoined, HasPair, HasPairWith, MakePair}
 use Rattle.audit_traces.proofs.AddedPairs.{IsUnderWay, ended, gone_on}
 use Rattle.audit_traces.proofs.SeenVessels.{present, seen_in}
 
 -- ---- one more vessel
 
-cut : (vessels : Sighting) (k : ℕ) (d : ℕ × TickState) → k < length vessels → drop k vessels ≡ get_or vessels k d ∷ drop (k + 1) vessels
+pub cut : (vessels : Sighting) (k : ℕ) (d : ℕ × TickState) → k < length vessels → drop k vessels ≡ get_or vessels k d ∷ drop (k + 1) vessels
 cut vessels k d lt = rw (add-one, drop-cons vessels k d)
 
 pub with_next : (watch : ℕ) (v : ℕ × TickState) (others : Sighting) (k : ℕ) (d : ℕ × TickState) (before now after : List Pair) → k < length others
@@ -40,12 +38,12 @@ with_all watch v others k before now le way =
 -- ---- two vessels that are among them
 
 -- Two of the vessels are in contact and make the pair, in the order of their MMSIs.
-record JoinsTwo (watch : ℕ) (vessels : Sighting) (pair : Pair) : Type 0 where
-  first : ℕ × TickState
-  second : ℕ × TickState
-  has_first : Contains vessels first
-  has_second : Contains vessels second
-  joined : AreJoined watch first second pair
+pub record JoinsTwo (watch : ℕ) (vessels : Sighting) (pair : Pair) : Type 0 where
+  pub first : ℕ × TickState
+  pub second : ℕ × TickState
+  pub has_first : Contains vessels first
+  pub has_second : Contains vessels second
+  pub joined : AreJoined watch first second pair
 
 pub record JoinsOne (watch : ℕ) (v : ℕ × TickState) (others : Sighting) (pair : Pair) : Type 0 where
   pub one : ℕ × TickState
@@ -63,18 +61,22 @@ joins_one watch v [] pair h = absurd h
 joins_one watch v (u ∷ others) pair (inl h) = record { one = u; has = here u others; pairs = h }
 joins_one watch v (u ∷ others) pair (inr h) = let rest = joins_one watch v others pair h in record { one = rest.one; has = later u rest.one others rest.has; pairs = rest.pairs }
 
-in_one_order : (watch : ℕ) (v : ℕ × TickState) (others : Sighting) (pair : Pair) (u : ℕ × TickState) → Contains others u → MakePair watch v u pair → JoinsTwo watch (v ∷ others) pair
-in_one_order watch v others pair u has (inl joined) = record { first = v; second = u; has_first = here v others; has_second = later v u others has; joined = joined }
-in_one_order watch v others pair u has (inr joined) = record { first = u; second = v; has_first = later v u others has; has_second = here v others; joined = joined }
+-- Two of the vessels make a pair, whichever comes first.
+pub in_either_order : (watch : ℕ) (vessels : Sighting) (pair : Pair) (v u : ℕ × TickState) → Contains vessels v → Contains vessels u → MakePair watch v u pair → JoinsTwo watch vessels pair
+in_either_order watch vessels pair v u has_v has_u (inl joined) = record { first = v; second = u; has_first = has_v; has_second = has_u; joined = joined }
+in_either_order watch vessels pair v u has_v has_u (inr joined) = record { first = u; second = v; has_first = has_u; has_second = has_v; joined = joined }
 
-joins_two : (watch : ℕ) (vessels : Sighting) (pair : Pair) → HasPair watch vessels pair → JoinsTwo watch vessels pair
+in_one_order : (watch : ℕ) (v : ℕ × TickState) (others : Sighting) (pair : Pair) (u : ℕ × TickState) → Contains others u → MakePair watch v u pair → JoinsTwo watch (v ∷ others) pair
+in_one_order watch v others pair u has h = in_either_order watch (v ∷ others) pair v u (here v others) (later v u others has) h
+
+pub joins_two : (watch : ℕ) (vessels : Sighting) (pair : Pair) → HasPair watch vessels pair → JoinsTwo watch vessels pair
 joins_two watch [] pair h = absurd h
 joins_two watch (v ∷ others) pair (inl h) = let found = joins_one watch v others pair h in in_one_order watch v others pair found.one found.has found.pairs
 joins_two watch (v ∷ others) pair (inr h) =
     let rest = joins_two watch others pair h in
     record { first = rest.first; second = rest.second; has_first = later v rest.first others rest.has_first; has_second = later v rest.second others rest.has_second; joined = rest.joined }
 
-has_with : (watch : ℕ) (v : ℕ × TickState) (others : Sighting) (pair : Pair) (k : ℕ) (u : ℕ × TickState) → k < length others → get_or others k u ≡ u → MakePair watch v u pair
+pub has_with : (watch : ℕ) (v : ℕ × TickState) (others : Sighting) (pair : Pair) (k : ℕ) (u : ℕ × TickState) → k < length others → get_or others k u ≡ u → MakePair watch v u pair
     → HasPairWith watch v others pair
 has_with watch v [] pair k u lt is h = absurd (omega arith)
 has_with watch v (w ∷ others) pair zero u lt is h = inl (subst (λ (x : ℕ × TickState). MakePair watch v x pair) (sym is) h)
@@ -98,20 +100,20 @@ has_two watch (v ∷ others) pair (suc i) (suc j) a b lt lt' is is' h = inr (has
 in_contact : (watch : ℕ) (x y : Option TickState) (a b : TickState) → x ≡ Some a → y ≡ Some b → IsContact watch a b → AreInContact watch x y
 in_contact watch x y a b e f h = subst (λ (z : Option TickState). AreInContact watch z y) (sym e) (subst (λ (z : Option TickState). AreInContact watch (Some a) z) (sym f) h)
 
-record AreStates (watch : ℕ) (x y : Option TickState) : Type 0 where
-  a : TickState
-  b : TickState
-  x_is : x ≡ Some a
-  y_is : y ≡ Some b
-  near : IsContact watch a b
+pub record AreStates (watch : ℕ) (x y : Option TickState) : Type 0 where
+  pub a : TickState
+  pub b : TickState
+  pub x_is : x ≡ Some a
+  pub y_is : y ≡ Some b
+  pub near : IsContact watch a b
 
-states : (watch : ℕ) (x y : Option TickState) → AreInContact watch x y → AreStates watch x y
+pub states : (watch : ℕ) (x y : Option TickState) → AreInContact watch x y → AreStates watch x y
 states watch (Some a) (Some b) h = record { a = a; b = b; x_is = refl; y_is = refl; near = h }
 states watch (Some a) None h = absurd h
 states watch None (Some b) h = absurd h
 states watch None None h = absurd h
 
-is_contact : (watch : ℕ) (seen vessels : Sighting) (pair : Pair) → AreAscending seen → IsPermutation seen vessels → JoinsTwo watch vessels pair
+pub is_contact : (watch : ℕ) (seen vessels : Sighting) (pair : Pair) → AreAscending seen → IsPermutation seen vessels → JoinsTwo watch vessels pair
     → (pair.subject < pair.other) × AreInContact watch (state_in pair.subject seen) (state_in pair.other seen)
 is_contact watch seen vessels pair up same two =
     let back = IsPermutation-sym seen vessels same in
@@ -122,7 +124,7 @@ is_contact watch seen vessels pair up same two =
     let second = present pair.other seen two.second up (Contains-permutation vessels seen two.second back two.has_second) (sym other) in
     (omega arith, in_contact watch (state_in pair.subject seen) (state_in pair.other seen) two.first.1 two.second.1 first second two.joined.near)
 
-is_found : (watch : ℕ) (seen vessels : Sighting) (pair : Pair) → IsPermutation seen vessels → pair.subject < pair.other
+pub is_found : (watch : ℕ) (seen vessels : Sighting) (pair : Pair) → IsPermutation seen vessels → pair.subject < pair.other
     → AreInContact watch (state_in pair.subject seen) (state_in pair.other seen) → HasPair watch vessels pair
 is_found watch seen vessels pair same less h =
     let both = states watch (state_in pair.subject seen) (state_in pair.other seen) h in
@@ -133,13 +135,3 @@ is_found watch seen vessels pair same less h =
 
 pub still_placed : (seen vessels : Sighting) → IsPermutation seen vessels → ArePlaced seen → ArePlaced vessels
 still_placed seen vessels same placed = All-permutation (λ (vessel : ℕ × TickState). IsBelow (2 ^ 33) vessel.1.point × HasDirection vessel.1) seen vessels same placed
-
--- What was found among the vessels seen, in any order, are the contacts.
-pub are_contacts : (watch : ℕ) (seen vessels : Sighting) (pairs : List Pair) → AreAscending seen → IsPermutation seen vessels → AreAdded [] (HasPair watch vessels) pairs → AreContacts watch seen pairs
-are_contacts watch seen vessels pairs up same added = record {
-  sound = λ k d lt. elim (added.sound (get_or pairs k d) (Contains-get_or pairs k d lt)) [
-    | inl old ↦ absurd (let none = old.1 in omega arith)
-    | inr new ↦ is_contact watch seen vessels (get_or pairs k d) up same (joins_two watch vessels (get_or pairs k d) new)
-  ];
-  complete = λ pair less h. added.complete pair (inr (is_found watch seen vessels pair same less h));
-}

@@ -7,6 +7,7 @@ mod TraceTracks
 mod TraceKeeping
 mod Resting
 mod SeenVessels
+mod SubjectPairs
 mod SightingFacts
 mod AddedPairs
 mod FoundPairs

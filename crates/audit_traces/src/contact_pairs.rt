@@ -1,11 +1,12 @@
-//! Which of the vessels seen at a tick are in contact: a sweep over them from west to east, in which each is tested against
-//! those alone that lie at most the watch distance further to the east.
+//! Which of the vessels seen at a tick are in contact: a sweep over them from west to east, in which each, or each subject where
+//! there are some, is tested against those alone that lie at most the watch distance further to the east.
 ghost use Rattle.std.specs.Prelude.{◌≡◌, ◌<◌, ◌≤◌, ◌^◌, [], Some, IfOk, IfSome, IsTrue, ◌↔◌, ◌-ℤ◌, ◌≤ℤ◌, pos, IsPermutation};
+ghost use Rattle.std.specs.List.{Contains};
 ghost use Rattle.fixed_geometry.specs.Sizes.{IsBelow};
 ghost use Rattle.meetings.specs.declared.pair.Pair.{Pair};
 ghost use Rattle.audit_traces.specs.Audited.{AreAscending, ArePlaced};
 ghost use Rattle.audit_traces.specs.Contacts.{AreContacts};
-ghost use Rattle.audit_traces.specs.Inner.Pairing.{AreWestToEast, AreJoined, MakePair, HasPairWith, HasPair, AreAdded};
+ghost use Rattle.audit_traces.specs.Inner.Pairing.{AreWestToEast, AreJoined, MakePair, HasPairWith, HasPair, HasPairOf, HasSubjectPair, AreAdded};
 
 use meetings::{Pair, contact};
 use motion::TickState;
@@ -112,6 +113,52 @@ fn pairs_among(alloc: Global, vessels: &[(u32, TickState)], watch: u64) -> Resul
     Ok(pairs)
 }
 
+/// Whether a vessel is among these.
+fn is_one_of(subjects: &[u32], vessel: &(u32, TickState)) -> bool
+    ensures { IsTrue result ↔ Contains subjects.now vessel.now.0 }
+{
+    subjects.contains(&vessel.0)
+}
+
+/// Adds the pairs of a vessel with all, if she is among the subjects.
+fn add_pairs_of(
+    pairs: &mut Vec<Pair>,
+    subjects: &[u32],
+    vessel: &(u32, TickState),
+    vessels: &[(u32, TickState)],
+    watch: u64,
+) -> Result<(), Memory>
+    requires vessel { IsBelow (2 ^ 33) vessel.now.1.point }
+    requires vessels { ArePlaced vessels.now }
+    requires order { AreWestToEast vessels.now }
+    requires watch { watch ≤ 1000000000 }
+    ensures { IfOk result (λ _. AreAdded pairs.old.items (HasPairOf watch subjects.now vessel.now vessels.now) pairs.new.items) }
+{
+    if !is_one_of(subjects, vessel) {
+        return Ok(());
+    }
+    add_pairs(pairs, vessel, vessels, watch)
+}
+
+/// The pairs of vessels that stand from west to east in which one of the subjects is: each of these is tested against all.
+fn pairs_with(
+    alloc: Global,
+    subjects: &[u32],
+    vessels: &[(u32, TickState)],
+    watch: u64,
+) -> Result<Vec<Pair>, Memory>
+    requires placed { ArePlaced vessels.now }
+    requires order { AreWestToEast vessels.now }
+    requires watch { watch ≤ 1000000000 }
+    ensures { IfOk result (λ pairs. AreAdded [] (HasSubjectPair watch subjects.now vessels.now vessels.now) pairs.items) }
+{
+    let mut pairs = Vec::new(alloc);
+    for vessel in vessels {
+        add_pairs_of(&mut pairs, subjects, vessel, vessels, watch)?;
+    }
+    Ok(pairs)
+}
+
 /// The vessels in the order of their eastings.
 fn west_to_east(alloc: Global, seen: &[(u32, TickState)]) -> Result<Vec<(u32, TickState)>, Memory>
     ensures same { IfOk result (λ vessels. IsPermutation seen.now vessels.items) }
@@ -122,15 +169,23 @@ fn west_to_east(alloc: Global, seen: &[(u32, TickState)]) -> Result<Vec<(u32, Ti
     Ok(vessels)
 }
 
-/// The pairs of vessels that are at most `watch` apart, the one with the lesser MMSI first, in no certain order: tenths of a
-/// millimetre, at most 10^9. The vessels ascend by their MMSIs, and their components are below 2^33 in size. The only error
+/// The pairs of vessels that are at most `watch` apart, the one with the lesser MMSI first, in no certain order: those of which
+/// one is a subject, or all where there are no subjects. `watch` is tenths of a millimetre, at most 10^9. The vessels ascend by their MMSIs, and their components are below 2^33 in size. The only error
 /// is want of memory.
-pub fn contacts(alloc: Global, seen: &[(u32, TickState)], watch: u64) -> Result<Vec<Pair>, Memory>
+pub fn contacts(
+    alloc: Global,
+    subjects: &[u32],
+    seen: &[(u32, TickState)],
+    watch: u64,
+) -> Result<Vec<Pair>, Memory>
     requires ascending { AreAscending seen.now }
     requires placed { ArePlaced seen.now }
     requires watch { watch ≤ 1000000000 }
-    ensures { IfOk result (λ pairs. AreContacts watch seen.now pairs.items) }
+    ensures { IfOk result (λ pairs. AreContacts subjects.now watch seen.now pairs.items) }
 {
     let vessels = west_to_east(alloc, seen)?;
-    pairs_among(alloc, &vessels, watch)
+    if subjects.is_empty() {
+        return pairs_among(alloc, &vessels, watch);
+    }
+    pairs_with(alloc, subjects, &vessels, watch)
 }

@@ -46,9 +46,23 @@ fn fleet(alloc: Global, points: &[(i32, i32)]) -> Result<Vec<(u32, TickState)>, 
 fn vessels_exactly_the_watch_distance_apart_are_in_contact(rt: HostRuntime) -> Result<(), Fail> {
     let points = [(3001, 4000), (0, 0), (3000, 4000), (-5000, 0), (-5001, 0)];
     let seen = fleet(rt.alloc(), &points)?;
-    let mut pairs = contacts(rt.alloc(), &seen, 5000)?;
+    let mut pairs = contacts(rt.alloc(), &[], &seen, 5000)?;
     pairs.sort_unstable();
     let expected = [(10, 30), (20, 30), (20, 40), (40, 50)];
+    assert_eq!(rt; pairs.len(), expected.len());
+    for (pair, expected) in pairs.iter().zip(&expected) {
+        assert_eq!(rt; (pair.subject, pair.other), *expected);
+    }
+    Ok(())
+}
+
+#[test]
+fn of_the_others_none_but_those_near_a_subject_are_found(rt: HostRuntime) -> Result<(), Fail> {
+    let points = [(3001, 4000), (0, 0), (3000, 4000), (-5000, 0), (-5001, 0)];
+    let seen = fleet(rt.alloc(), &points)?;
+    let mut pairs = contacts(rt.alloc(), &[30, 50], &seen, 5000)?;
+    pairs.sort_unstable();
+    let expected = [(10, 30), (20, 30), (40, 50)];
     assert_eq!(rt; pairs.len(), expected.len());
     for (pair, expected) in pairs.iter().zip(&expected) {
         assert_eq!(rt; (pair.subject, pair.other), *expected);
@@ -94,7 +108,7 @@ fn the_sweep_finds_what_all_against_all_finds(rt: HostRuntime) -> Result<(), Fai
     let mut points = [(0, 0); 100];
     scatter(&mut points);
     let seen = fleet(rt.alloc(), &points)?;
-    let mut found = contacts(rt.alloc(), &seen, 2000000)?;
+    let mut found = contacts(rt.alloc(), &[], &seen, 2000000)?;
     found.sort_unstable();
     let expected = all_against_all(rt.alloc(), &seen, 2000000)?;
     assert!(rt; expected.len() > 100);

@@ -72,16 +72,16 @@ module _ (kept : AllTraces) (numbers : Numbers) (seen : Sighting) (start : ℕ) 
   three : (m n : ℕ) → m ≢ n → (m < n) ⊎ (n < m)
   three m n ne = grind arith
 
-  pub begun_all : (pairs : List Pair) → AreContacts numbers.detect.watch seen pairs → AreBegunSo kept numbers seen start before bound given pairs → AreBegun kept numbers seen start before bound given
+  pub begun_all : (pairs : List Pair) → AreContacts numbers.subjects numbers.detect.watch seen pairs → AreBegunSo kept numbers seen start before bound given pairs → AreBegun kept numbers seen start before bound given
   begun_all pairs contacts b = record {
     after = b.after;
     holds = b.holds;
     once = b.once;
     grew = b.grew;
     all = λ pair audited near. elim (three pair.subject pair.other audited.two) [
-      | inl lt ↦ b.all pair (contacts.complete pair lt near) audited
+      | inl lt ↦ b.all pair (contacts.complete pair lt audited near) audited
       | inr gt ↦ b.both (swapped pair) (b.all (swapped pair)
-          (contacts.complete (swapped pair) gt (contact_back numbers.detect.watch (state_in pair.subject seen) (state_in pair.other seen) near))
+          (contacts.complete (swapped pair) gt (audited_back numbers.subjects pair audited) (contact_back numbers.detect.watch (state_in pair.subject seen) (state_in pair.other seen) near))
           (audited_back numbers.subjects pair audited))
     ];
   }

@@ -277,7 +277,7 @@ impl AllTraces {
             → MayBegin numbers subjects.now knowns start bound
             → AreTooMany numbers seen.now (pairs_of knowns) start knowns }
     {
-        let pairs = contacts(self.alloc, seen, self.detect.watch)?;
+        let pairs = contacts(self.alloc, subjects, seen, self.detect.watch)?;
         for pair in pairs.as_slice() {
             self.take(subjects, *pair, start)?;
         }

@@ -7,7 +7,7 @@ use Rattle.fixed_geometry.specs.declared.point.Point.{Point}
 use Rattle.motion.specs.Displacement.{displacement}
 use Rattle.lattice.specs.Grids.{Grid, positions_of}
 use Rattle.lattice.specs.OwnMotion.{begun_at, choice_in_force, direction_after, hastened, ordered_course, ordered_speed, own_state, point_after, point_by, speed_after, turned}
-use Rattle.lattice.specs.Inner.UnderWays.{HasAdvanced}
+use Rattle.lattice.specs.UnderWays.{HasAdvanced}
 use Rattle.lattice.specs.declared.under_way.UnderWay.{UnderWay}
 
 pub begun : (grid : Grid) (plan : List ℕ) (tick : ℕ) (start : UnderWay) → HasAdvanced grid plan tick start 0 start

@@ -6,4 +6,4 @@ pub use Rattle.fixed_geometry.specs.Sizes
 pub use Rattle.fixed_geometry.specs.Velocity
 pub use Rattle.motion.specs.Displacement
 pub use Rattle.motion.specs.TickStates
-pub mod Inner
+pub mod UnderWays

@@ -17,3 +17,4 @@ mod under_way;
 
 pub use lattice::Lattice;
 pub use plan::Plan;
+pub use under_way::UnderWay;

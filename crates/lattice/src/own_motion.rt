@@ -8,7 +8,7 @@ ghost use Rattle.motion.specs.declared.leg.TickState.{TickState};
 ghost use Rattle.lattice.specs.Grids.{choices_of, positions_of};
 ghost use Rattle.lattice.specs.OwnMotion.{choice_in_force, direction_after, hastened, leg_in_force, ordered_course, ordered_speed, own_state, point_after, point_by, speed_after, turned};
 ghost use Rattle.lattice.specs.PlanNumbers.{IsPlan};
-ghost use Rattle.lattice.specs.Inner.UnderWays.{HasAdvanced, IsUnderWay};
+ghost use Rattle.lattice.specs.UnderWays.{HasAdvanced, IsReached, IsUnderWay};
 
 use crate::lattice::Lattice;
 use crate::orders::{hastened, turned};
@@ -196,13 +196,34 @@ impl Lattice {
         self.tick_on(plan, start, reached, tick, k).0
     }
 
-    /// The same at each tick from this one on.
-    fn fill(&self, plan: &Plan, start: UnderWay, tick: u32, first: u32, path: &mut [TickState])
+    /// Where she is and how she heads and moves after `steps` planned steps.
+    fn reached_by(&self, plan: &Plan, start: UnderWay, tick: u32, steps: u32) -> UnderWay
+        requires plan { IsPlan (choices_of self.now) self.now.legs plan.now }
+        requires planned { steps ≤ positions_of self.now }
+        requires near { positions_of self.now * (tick * 525763) ≤ 7900640400 }
+        requires start { IsUnderWay (7900640400 - positions_of self.now * (tick * 525763)) start }
+        ensures { IsReached self.now plan.now tick start steps result }
+    {
+        let _some = self.positions();
+        self.advanced(plan, start, tick, steps)
+    }
+
+    /// The same at each tick from this one on, where she has reached a place.
+    fn fill(
+        &self,
+        plan: &Plan,
+        start: UnderWay,
+        tick: u32,
+        first: u32,
+        reached: UnderWay,
+        path: &mut [TickState],
+    )
         requires plan { IsPlan (choices_of self.now) self.now.legs plan.now }
         requires begun { first ≤ positions_of self.now }
         requires planned { first + length path.old ≤ positions_of self.now + 1 }
         requires near { positions_of self.now * (tick * 525763) ≤ 7900640400 }
         requires start { IsUnderWay (7900640400 - positions_of self.now * (tick * 525763)) start }
+        requires reached { IsReached self.now plan.now tick start first reached }
         ensures count { length path.new ≡ length path.old }
         ensures value { (j : ℕ) (d : TickState) → j < length path.new
             → get_or path.new j d ≡ own_state self.now plan.now tick start.point start.direction start.speed (first + j) }
@@ -211,7 +232,7 @@ impl Lattice {
         ensures states { (j : ℕ) (d : TickState) → j < length path.new → IsTickState 7900640400 (get_or path.new j d) }
     {
         let _some = self.positions();
-        let mut reached = self.advanced(plan, start, tick, first);
+        let mut reached = reached;
         for j in 0..path.len() {
             let (state, next) = self.tick_on(plan, start, reached, tick, first + j as u32);
             path[j] = state;
@@ -219,14 +240,34 @@ impl Lattice {
         }
     }
 
+    /// Where own ship is, and how she heads and moves, after so many planned steps. `start` is as for `own_motion`.
+    pub fn motion_after(&self, start: &TickState, plan: &Plan, tick: u32, steps: u32) -> UnderWay
+        requires plan { IsPlan (choices_of self.now) self.now.legs plan.now }
+        requires course { IsSome start.now.direction }
+        requires speed { IsSome start.now.speed }
+        requires planned { steps ≤ positions_of self.now }
+        requires near { positions_of self.now * tick * 525763 ≤ 7900640400 }
+        requires start { IsTickState (7900640400 - positions_of self.now * tick * 525763) start.now }
+        ensures { IfSome start.now.direction (λ course. IfSome start.now.speed (λ speed.
+            IsReached self.now plan.now tick (record { point = start.now.point; direction = course; speed = speed }) steps result)) }
+    {
+        let start = UnderWay {
+            point: start.point,
+            direction: start.direction.unwrap(),
+            speed: start.speed.unwrap(),
+        };
+        self.reached_by(plan, start, tick, steps)
+    }
+
     /// Own ship's states at the ticks from `first` on, as many as there are places, each as `own_motion` gives it: each is found from
-    /// the one before.
+    /// the one before. `reached` is as `motion_after` gives it for `first` steps.
     pub fn fill_motion(
         &self,
         start: &TickState,
         plan: &Plan,
         tick: u32,
         first: u32,
+        reached: UnderWay,
         path: &mut [TickState],
     )
         requires plan { IsPlan (choices_of self.now) self.now.legs plan.now }
@@ -236,6 +277,8 @@ impl Lattice {
         requires planned { first + length path.old ≤ positions_of self.now + 1 }
         requires near { positions_of self.now * tick * 525763 ≤ 7900640400 }
         requires start { IsTickState (7900640400 - positions_of self.now * tick * 525763) start.now }
+        requires reached { IfSome start.now.direction (λ course. IfSome start.now.speed (λ speed.
+            IsReached self.now plan.now tick (record { point = start.now.point; direction = course; speed = speed }) first reached)) }
         ensures count { length path.new ≡ length path.old }
         ensures value { IfSome start.now.direction (λ course. IfSome start.now.speed (λ speed. (j : ℕ) (d : TickState) → j < length path.new
             → get_or path.new j d ≡ own_state self.now plan.now tick start.now.point course speed (first + j))) }
@@ -248,7 +291,7 @@ impl Lattice {
             direction: start.direction.unwrap(),
             speed: start.speed.unwrap(),
         };
-        self.fill(plan, start, tick, first, path);
+        self.fill(plan, start, tick, first, reached, path);
     }
 
     /// Own ship's state `k` ticks of `tick` seconds after now, under a plan of this lattice. `start` has her point, her course

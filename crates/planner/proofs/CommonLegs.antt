@@ -9,6 +9,8 @@ use Rattle.fixed_geometry.specs.Velocity.{velocity_of}
 use Rattle.fixed_geometry.specs.declared.point.Point.{Point}
 use Rattle.lattice.specs.Grids.{Grid, positions_of}
 use Rattle.lattice.specs.OwnMotion.{begun_at, choice_in_force, direction_after, hastened, leg_in_force, ordered_course, ordered_speed, own_state, point_after, point_by, speed_after, turned}
+use Rattle.lattice.specs.UnderWays.{IsReached}
+use Rattle.lattice.specs.declared.under_way.UnderWay.{UnderWay}
 use Rattle.meetings.specs.Traces.{AreInContact, IsContactAt, step_at, step_between, steps_from}
 use Rattle.motion.specs.declared.leg.TickState.{TickState}
 use Rattle.planner.specs.Prefixes.{told_by}
@@ -55,6 +57,20 @@ module _ (grid : Grid) (X Y : List ℕ) (n : ℕ) (same : (step : ℕ) → step 
       let v = same_speed speed (begun_at grid k) begun in
       let q = same_point tick p course speed k (omega arith) in
       rw (q, d, v) refl
+
+  -- where she is after the steps in common
+  pub same_reached : (tick : ℕ) (start own : UnderWay) (k : ℕ) → k ≤ n → IsReached grid X tick start k own → IsReached grid Y tick start k own
+  same_reached tick start own k le h = record {
+    advanced = record {
+      point = h.advanced.point ∙ same_point tick start.point start.direction start.speed k le;
+      direction = h.advanced.direction ∙ same_direction start.direction k le;
+      speed = h.advanced.speed ∙ same_speed start.speed k le;
+    };
+    direction = h.direction;
+    speed = h.speed;
+    near_x = h.near_x;
+    near_y = h.near_y;
+  }
 
 -- ---- the legs in force
 

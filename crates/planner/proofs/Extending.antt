@@ -9,6 +9,7 @@ use Rattle.encounters.specs.declared.pair_step.PairStep.{PairStep}
 use Rattle.lattice.specs.Grids.{Grid, choices_of, positions_of}
 use Rattle.lattice.specs.OwnMotion.{choice_in_force}
 use Rattle.lattice.specs.PlanNumbers.{plan_of}
+use Rattle.lattice.specs.declared.under_way.UnderWay.{UnderWay}
 use Rattle.lattice.proofs.Digits.{length-plan_of}
 use Rattle.meetings.specs.Standing as meetings
 use Rattle.meetings.specs.Traces.{step_at}
@@ -16,7 +17,7 @@ use Rattle.mtl_monitor.specs.Traces.{Trace}
 use Rattle.mtl_monitor.specs.declared.program.Program.{Program}
 use Rattle.planner.specs.FailingPlans.{BreaksARule, EntersDomain, FailsBy, FailsTowards, Some_}
 use Rattle.planner.specs.Inner.Levels.{StandsAt, StaysOut, lasts}
-use Rattle.planner.specs.Inner.Paths.{EntersAlong}
+use Rattle.planner.specs.Inner.Paths.{EntersAlong, HasReached, start_of}
 use Rattle.planner.specs.Inner.Watching.{Stands, StandsFor}
 use Rattle.planner.specs.Prefixes.{PrefixFails, reached, told_by}
 use Rattle.planner.specs.Situations.{now_of, own_at, target_at}
@@ -25,7 +26,7 @@ use Rattle.planner.specs.declared.situation.Situation.{Situation}
 use Rattle.planner.specs.declared.situation.Target.{Target}
 use Rattle.planner.specs.declared.watched.Watched.{Watched}
 use Rattle.planner.proofs.Blocks.{shared}
-use Rattle.planner.proofs.CommonLegs.{same_contact, same_steps, when_less, when_not_less}
+use Rattle.planner.proofs.CommonLegs.{in_force, same_contact, same_reached, same_steps, when_less, when_not_less}
 use Rattle.planner.proofs.FlatList.{none_some}
 use Rattle.planner.proofs.Lifting.{begins_too, enters_too, fails_too, rows_too, some_weaker}
 
@@ -65,6 +66,24 @@ shares_front c leg number W e i lt =
     let long = length-plan_of c leg (number / c) in
     sym (get_or_append_left (plan_of c leg (number / c)) (number % c ∷ []) 0 i (omega arith))
     ∙ (ap (λ (ds : List ℕ). slice_index ds i) (sym (prefix_front c leg number)) ∙ shares_prefix c leg number W e i (omega arith))
+
+-- ---- where own ship is after a prefix
+
+pub reached_prefix : (s : Situation) (leg number : ℕ) (W : List ℕ) (own : UnderWay) → leg < s.lattice.legs → take leg W ≡ plan_of (choices_of s.lattice) leg number
+    → HasReached s W (leg * s.lattice.leg_ticks) own → HasReached s (plan_of (choices_of s.lattice) leg number) (leg * s.lattice.leg_ticks) own
+reached_prefix s leg number W own lt e h =
+    let X = plan_of (choices_of s.lattice) leg number in
+    let alike : (i : ℕ) → i < leg → slice_index W i ≡ slice_index X i = λ i less. sym (get_or-take leg W i 0 less) ∙ ap (λ (ds : List ℕ). slice_index ds i) e in
+    let told = leg_begins s.lattice leg lt in
+    same_reached s.lattice W X (told_by s.lattice leg) (in_force s.lattice W X leg alike (omega arith) (inr lt)) s.tick (start_of s) own (leg * s.lattice.leg_ticks) (omega arith) h
+
+pub reached_front : (s : Situation) (leg number : ℕ) (W : List ℕ) (own : UnderWay) → leg < s.lattice.legs → take (leg + 1) W ≡ plan_of (choices_of s.lattice) (leg + 1) number
+    → HasReached s (plan_of (choices_of s.lattice) leg (number / choices_of s.lattice)) (leg * s.lattice.leg_ticks) own → HasReached s W (leg * s.lattice.leg_ticks) own
+reached_front s leg number W own lt e h =
+    let X = plan_of (choices_of s.lattice) leg (number / choices_of s.lattice) in
+    let told = leg_begins s.lattice leg lt in
+    same_reached s.lattice X W (told_by s.lattice leg) (in_force s.lattice X W leg (shares_front (choices_of s.lattice) leg number W e) (omega arith) (inr lt)) s.tick (start_of s) own
+    (leg * s.lattice.leg_ticks) (omega arith) h
 
 -- ---- what is kept stands for each plan that has the legs in common
 

@@ -11,7 +11,7 @@ ghost use Rattle.rule_set.specs.NamedTrees.{NamedTree};
 use crate::already::Already;
 use crate::situation::{Situation, Target};
 use crate::watched::Watched;
-use lattice::Plan;
+use lattice::{Plan, UnderWay};
 use mtl_monitor::Program;
 use outside::Memory;
 use rule_set::RuleSet;
@@ -73,6 +73,7 @@ pub(crate) fn watched_at_now(
 
 impl Basis {
     ghost use Rattle.planner.specs.Inner.Levels.{lasts, IsBasis};
+    ghost use Rattle.planner.specs.Inner.Paths.{HasReached};
 
     /// The first of the plans that begin with the legs of this number: so many legs.
     pub(crate) fn first_plan(&self, legs: u8, number: u32) -> Plan
@@ -93,6 +94,17 @@ impl Basis {
         ensures { result ≡ leg * self.now.situation.lattice.leg_ticks }
     {
         u32::from(leg) * self.situation.lattice.leg_ticks()
+    }
+
+    /// Where own ship is, and how she heads and moves, where a leg begins after the legs of this number.
+    pub(crate) fn own_at_leg(&self, leg: u8, number: u32) -> UnderWay
+        requires basis { IsBasis self.now }
+        requires leg { leg < self.now.situation.lattice.legs }
+        requires number { number < choices_of self.now.situation.lattice ^ leg }
+        ensures { HasReached self.now.situation (plan_of (choices_of self.now.situation.lattice) leg number) (leg * self.now.situation.lattice.leg_ticks) result }
+    {
+        let plan = self.first_plan(leg, number);
+        self.situation.own_after(&plan, self.leg_begins(leg))
     }
 
     /// Whether no leg follows it.

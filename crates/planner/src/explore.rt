@@ -36,10 +36,11 @@ pub(crate) fn explore(
     let Some((to, rest)) = below.split_first_mut() else {
         return Some(number);
     };
+    let own = basis.own_at_leg(leg, number);
     let mut ended = false;
     for choice in 0..choices {
         let extended = number * choices + choice;
-        match to.extend(basis, from, leg, extended, &mut ended) {
+        match to.extend(basis, from, own, leg, extended, &mut ended) {
             Extended::Passes => {
                 if let Some(found) = explore(basis, to, rest, leg + 1, extended, choices) {
                     return Some(found);

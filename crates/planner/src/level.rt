@@ -7,7 +7,7 @@ ghost use Rattle.mtl_monitor.specs.Traces.{Trace};
 ghost use Rattle.planner.specs.FailingPlans.{BreaksARule, FailsBy, Some_};
 ghost use Rattle.planner.specs.Inner.Breaking.{formulas_of, Tells};
 ghost use Rattle.planner.specs.Inner.Levels.{lasts, AreEarly, HasPlaces, HasTargets, IsBasis, StandsAt, StaysOut};
-ghost use Rattle.planner.specs.Inner.Paths.{EntersAlong, IsPath, IsTrack};
+ghost use Rattle.planner.specs.Inner.Paths.{EntersAlong, HasReached, IsPath, IsTrack};
 ghost use Rattle.planner.specs.Inner.Watching.{IsCopyOf, IsCutAtNow, IsEarly, IsReady, Stands};
 ghost use Rattle.planner.specs.Prefixes.{reached, PrefixFails};
 ghost use Rattle.planner.specs.Situations.{end_of, now_of, IsSituation, IsTarget};
@@ -20,7 +20,7 @@ use crate::basis::Basis;
 use crate::situation::{Situation, Target};
 use crate::watched::Watched;
 use fixed_geometry::Point;
-use lattice::Plan;
+use lattice::{Plan, UnderWay};
 use motion::TickState;
 use mtl_monitor::{Program, TraceState};
 use outside::Memory;
@@ -227,13 +227,14 @@ pub(crate) enum Extended {
     FailedBefore,
 }
 
-/// Follows a plan in one leg, from what is kept after the legs before it. Own ship's path and the domains are tested before the
+/// Follows a plan in one leg, from what is kept after the legs before it, and from where own ship is then. Her path and the domains are tested before the
 /// rules. Where the traces end before the leg is looked at once, for the first leg there that enters no domain: `ended` says whether
 /// it was.
 fn follow_leg(
     basis: &Basis,
     plan: &Plan,
     first: u32,
+    own: UnderWay,
     is_last: bool,
     from: &[Watched],
     path: &mut [TickState],
@@ -246,6 +247,7 @@ fn follow_leg(
     requires plan { IsPlan (choices_of basis.now.situation.lattice) basis.now.situation.lattice.legs plan.now }
     requires planned { first + length path.old ≤ positions_of basis.now.situation.lattice + 1 }
     requires some { 1 ≤ length path.old }
+    requires own { HasReached basis.now.situation plan.now first own }
     requires from { HasTargets basis.now from.now }
     requires early { AreEarly (now_of basis.now.situation + first) from.now }
     requires targets { HasTargets basis.now watched.old }
@@ -267,7 +269,7 @@ fn follow_leg(
     ensures failed_before { result ≡ Extended.FailedBefore → StandsAt basis.now plan.now (now_of basis.now.situation + first) from.now
         → FailsBy basis.now.situation (now_of basis.now.situation + first) plan.now }
 {
-    basis.situation.fill_path(plan, first, path);
+    basis.situation.fill_path(plan, first, own, path);
     if enters(&basis.situation, path, first, entered) {
         return Extended::Fails;
     }
@@ -324,12 +326,13 @@ impl Level {
         })
     }
 
-    /// Becomes the state after one more leg. The number is that of the longer prefix. `ended` says whether it was looked at already where
+    /// Becomes the state after one more leg, where own ship is at `own` after those before. The number is that of the longer prefix. `ended` says whether it was looked at already where
     /// the traces end before the leg.
     pub(crate) fn extend(
         &mut self,
         basis: &Basis,
         from: &Level,
+        own: UnderWay,
         leg: u8,
         number: u32,
         ended: &mut bool,
@@ -338,6 +341,8 @@ impl Level {
         requires leg { leg < basis.now.situation.lattice.legs }
         requires number { number < choices_of basis.now.situation.lattice ^ (leg + 1) }
         requires places { HasPlaces basis.now leg self.old }
+        requires own { HasReached basis.now.situation (plan_of (choices_of basis.now.situation.lattice) leg (number / choices_of basis.now.situation.lattice))
+            (leg * basis.now.situation.lattice.leg_ticks) own }
         requires from { HasTargets basis.now from.now.watched.items }
         requires early { AreEarly (reached basis.now.situation leg) from.now.watched.items }
         requires stands { StandsAt basis.now (plan_of (choices_of basis.now.situation.lattice) leg (number / choices_of basis.now.situation.lattice))
@@ -361,6 +366,7 @@ impl Level {
             basis,
             &plan,
             basis.leg_begins(leg),
+            own,
             basis.is_last(leg),
             &from.watched,
             &mut self.path,

@@ -5,29 +5,41 @@ ghost use Rattle.encounters.specs.Directions.{HaveDirections};
 ghost use Rattle.lattice.specs.Grids.{choices_of, positions_of};
 ghost use Rattle.lattice.specs.PlanNumbers.{IsPlan};
 ghost use Rattle.meetings.specs.Traces.{IsContactAt, step_at};
-ghost use Rattle.planner.specs.Inner.Paths.{EntersAlong, IsPath, IsTrack};
+ghost use Rattle.planner.specs.Inner.Paths.{EntersAlong, HasReached, IsPath, IsTrack};
 ghost use Rattle.planner.specs.Situations.{now_of, own_at, target_at, IsSituation, IsTarget};
 
 use crate::situation::{Situation, Target};
 use closest_approach::separated;
 use encounters::PairStep;
-use lattice::Plan;
+use lattice::{Plan, UnderWay};
 use meetings::{contact, step_between};
 use motion::TickState;
 
 impl Situation {
-    /// Fills in own ship's states under a plan at the ticks from this one on, counted from now.
-    pub(crate) fn fill_path(&self, plan: &Plan, first: u32, path: &mut [TickState])
+    /// Where own ship is, and how she heads and moves, so many steps after now.
+    pub(crate) fn own_after(&self, plan: &Plan, steps: u32) -> UnderWay
+        requires situation { IsSituation self.now }
+        requires plan { IsPlan (choices_of self.now.lattice) self.now.lattice.legs plan.now }
+        requires planned { steps ≤ positions_of self.now.lattice }
+        ensures { HasReached self.now plan.now steps result }
+    {
+        self.lattice
+            .motion_after(&self.start, plan, self.tick, steps)
+    }
+
+    /// Fills in own ship's states under a plan at the ticks from this one on, counted from now. `own` is where she is there.
+    pub(crate) fn fill_path(&self, plan: &Plan, first: u32, own: UnderWay, path: &mut [TickState])
         requires situation { IsSituation self.now }
         requires plan { IsPlan (choices_of self.now.lattice) self.now.lattice.legs plan.now }
         requires planned { first + length path.old ≤ positions_of self.now.lattice + 1 }
         requires some { 1 ≤ length path.old }
+        requires own { HasReached self.now plan.now first own }
         ensures count { length path.new ≡ length path.old }
         ensures path { IsPath self.now plan.now first path.new }
         ensures track { IsTrack path.new }
     {
         self.lattice
-            .fill_motion(&self.start, plan, self.tick, first, path);
+            .fill_motion(&self.start, plan, self.tick, first, own, path);
     }
 
     /// The step of a path that begins at a tick, counted from now, and of a target, so many ticks later.

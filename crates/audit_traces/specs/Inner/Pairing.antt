@@ -30,6 +30,16 @@ abbrev pub HasPair : ℕ → List (ℕ × TickState) → Pair → Type 0
 HasPair watch [] pair = ⊥
 HasPair watch (a ∷ others) pair = HasPairWith watch a others pair ⊎ HasPair watch others pair
 
+-- A is a subject, and makes the pair with one of the others.
+pub record HasPairOf (watch : ℕ) (subjects : List ℕ) (a : ℕ × TickState) (others : List (ℕ × TickState)) (pair : Pair) : Type 0 where
+  pub subject : Contains subjects a.0
+  pub makes : HasPairWith watch a others pair
+
+-- One of the vessels is a subject, and makes the pair with one of the others.
+abbrev pub HasSubjectPair : ℕ → List ℕ → List (ℕ × TickState) → List (ℕ × TickState) → Pair → Type 0
+HasSubjectPair watch subjects [] others pair = ⊥
+HasSubjectPair watch subjects (a ∷ vessels) others pair = HasPairOf watch subjects a others pair ⊎ HasSubjectPair watch subjects vessels others pair
+
 -- The pairs after a call are those before it, and those of a kind.
 pub record AreAdded (before : List Pair) (IsNew : Pair → Type 0) (after : List Pair) : Type 0 where
   pub sound : (pair : Pair) → Contains after pair → Contains before pair ⊎ IsNew pair

@@ -2,6 +2,7 @@ use Rattle.std.proofs.Common.{◌≡◌, ℕ, ◌+◌, ◌*◌, ◌^◌, ◌<◌
 use Rattle.lattice.specs.Grids.{choices_of}
 use Rattle.lattice.specs.PlanNumbers.{plan_of}
 use Rattle.planner.specs.Inner.Levels.{ArePlaces, StandsAt, StaysOut}
+use Rattle.planner.specs.Inner.Paths.{HasReached}
 use Rattle.planner.specs.Inner.Walk.{AllFailFrom}
 use Rattle.planner.specs.Prefixes.{PrefixFails, reached}
 use Rattle.planner.specs.declared.level.Level.{Level}
@@ -53,6 +54,14 @@ extend-requires-clause-number t c =
     let C = choices_of c.args.basis.now.situation.lattice in
     let lt : c.loop-choice.choice < C = subst (λ (n : ℕ). c.loop-choice.choice < n) c.requires.choices c.loop-choice-test.true in
     subst (λ (n : ℕ). c.args.number * n + c.loop-choice.choice < C ^ (c.args.leg + 1)) (sym c.requires.choices) (next_number C c.args.leg c.args.number c.loop-choice.choice c.requires.number lt)
+
+pub extend-requires-clause-own : goal.extend-requires-clause-own
+extend-requires-clause-own t c =
+    let s = c.args.basis.now.situation in
+    let C = choices_of s.lattice in
+    let lt : c.loop-choice.choice < C = subst (λ (n : ℕ). c.loop-choice.choice < n) c.requires.choices c.loop-choice-test.true in
+    let before = number_before C c.args.number c.loop-choice.choice (c.args.number * c.args.choices + c.loop-choice.choice) lt (ap (λ (n : ℕ). c.args.number * n + c.loop-choice.choice) c.requires.choices) in
+    subst (λ (n : ℕ). HasReached s (plan_of C c.args.leg n) (c.args.leg * s.lattice.leg_ticks) c.own_at_leg-own.result) (sym before) c.own_at_leg-own.ensures
 
 pub extend-requires-clause-stands : goal.extend-requires-clause-stands
 extend-requires-clause-stands t c =

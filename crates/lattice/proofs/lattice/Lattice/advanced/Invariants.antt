@@ -2,7 +2,7 @@ use Rattle.std.proofs.Common.{◌≡◌, ℕ, ◌+◌, ◌*◌, ◌<◌, ◌≤�
 use Rattle.fixed_geometry.specs.Sizes.{IsWithin}
 use Rattle.motion.specs.Displacement.{displacement}
 use Rattle.lattice.specs.OwnMotion.{point_after}
-use Rattle.lattice.specs.Inner.UnderWays.{HasAdvanced}
+use Rattle.lattice.specs.UnderWays.{HasAdvanced}
 use Rattle.lattice.proofs.lattice.Lattice.advanced.Given as goal
 
 abbrev pub invariant-loop-step : goal.invariant-loop-step

@@ -5,7 +5,7 @@ use Rattle.motion.specs.TickStates.{IsTickState}
 use Rattle.motion.specs.declared.leg.TickState.{TickState}
 use Rattle.lattice.specs.Grids.{positions_of}
 use Rattle.lattice.specs.OwnMotion.{own_state}
-use Rattle.lattice.specs.Inner.UnderWays.{HasAdvanced}
+use Rattle.lattice.specs.UnderWays.{HasAdvanced}
 use Rattle.lattice.proofs.lattice.Lattice.fill.Given as goal
 
 abbrev pub invariant-loop-j : goal.invariant-loop-j

@@ -2,13 +2,32 @@ use Rattle.std.proofs.Common.{ℕ, ◌+◌, List, length, sym, ap, subst, ◌∙
 use Rattle.lattice.specs.Grids.{choices_of}
 use Rattle.lattice.specs.PlanNumbers.{plan_of}
 use Rattle.planner.specs.FailingPlans.{FailsBy}
-use Rattle.planner.specs.Inner.Levels.{StandsAt, StaysOut}
+use Rattle.planner.specs.Inner.Levels.{AreEarly, StandsAt, StaysOut}
+use Rattle.planner.specs.Inner.Paths.{HasReached}
 use Rattle.planner.specs.Prefixes.{reached}
 use Rattle.planner.specs.Situations.{now_of}
 use Rattle.planner.specs.declared.watched.Watched.{Watched}
-use Rattle.planner.proofs.Extending.{begins_there, ends_there, from_prefix, level_front, level_prefix, out_front, out_prefix, to_front, to_prefix}
+use Rattle.planner.proofs.Extending.{begins_there, ends_there, from_prefix, level_front, level_prefix, out_front, out_prefix, reached_front, to_front, to_prefix}
 use Rattle.planner.proofs.Places.{written}
 use Rattle.planner.proofs.level.Level.extend.Goals as goal
+
+pub follow_leg-requires-clause-own : goal.follow_leg-requires-clause-own
+follow_leg-requires-clause-own c =
+    let s = c.args.basis.now.situation in
+    let W = c.first_plan-plan.result in
+    subst (λ (n : ℕ). HasReached s W n c.args.own) (sym c.leg_begins.ensures)
+    (reached_front s c.args.leg c.args.number W c.args.own c.requires.leg c.first_plan-plan.ensures.begins c.requires.own)
+
+pub returns-clause-early : goal.returns-clause-early
+returns-clause-early c = λ e.
+    let s = c.args.basis.now.situation in
+    let end = ends_there s c.args.leg c.leg_begins.result (length c.deref_mut.result.now) c.requires.leg c.leg_begins.ensures (ap length c.deref_mut.ensures.value ∙ c.requires.places.path) in
+    let new = c.follow_leg.new.watched in
+    let of_new = c.follow_leg.ensures.targets.count in
+    let of_old = c.requires.places.targets.count in
+    subst (λ (xs : List Watched). AreEarly (reached s (c.args.leg + 1)) xs)
+    (sym (written new c.args.self.now.watched.items c.args.self.now.watched.len (of_new ∙ sym of_old) c.args.self.now.watched.ok.0))
+    (subst (λ (n : ℕ). AreEarly n new) end (c.follow_leg.ensures.early e))
 
 pub returns-clause-stands : goal.returns-clause-stands
 returns-clause-stands c = λ e.

@@ -1,5 +1,5 @@
 -- A vessel under way, and how she has advanced.
-use Rattle.std.specs.Prelude.{ℕ, ◌≡◌, ◌<◌, ◌≤◌, List}
+use Rattle.std.specs.Prelude.{ℕ, ◌≡◌, ◌+◌, ◌*◌, ◌<◌, ◌≤◌, List, unsigned_abs}
 use Rattle.fixed_geometry.specs.Sizes.{IsWithin}
 use Rattle.lattice.specs.Grids.{Grid}
 use Rattle.lattice.specs.OwnMotion.{direction_after, point_after, speed_after}
@@ -14,3 +14,11 @@ pub record HasAdvanced (grid : Grid) (plan : List ℕ) (tick : ℕ) (start : Und
   pub point : reached.point ≡ point_after grid plan tick start.point start.direction start.speed steps
   pub direction : reached.direction ≡ direction_after grid plan start.direction steps
   pub speed : reached.speed ≡ speed_after grid plan start.speed steps
+
+-- She is where so many steps lead, and no farther than they can.
+pub record IsReached (grid : Grid) (plan : List ℕ) (tick : ℕ) (start : UnderWay) (steps : ℕ) (reached : UnderWay) : Type 0 where
+  pub advanced : HasAdvanced grid plan tick start steps reached
+  pub direction : reached.direction < 3600
+  pub speed : reached.speed ≤ 1022
+  pub near_x : unsigned_abs reached.point.x ≤ unsigned_abs start.point.x + steps * (tick * 525763)
+  pub near_y : unsigned_abs reached.point.y ≤ unsigned_abs start.point.y + steps * (tick * 525763)

@@ -1,2 +1,0 @@
--- Definitions that no public clause cites.
-pub mod UnderWays
