@@ -134,6 +134,21 @@ impl Engagement {
         }
     }
 
+    /// Its numbers.
+    pub fn detect(&self) -> Detect
+        ensures value { result ≡ self.now.detect }
+        ensures numbers { IsDetect result }
+    {
+        self.detect
+    }
+
+    /// The state at the latest step; apart before the first.
+    pub fn state(&self) -> EngagementState
+        ensures { (detect : Detect) (steps : List (Option PairStep)) → StandsFor self.now detect steps → IsStateAfter detect steps result }
+    {
+        self.latest
+    }
+
     /// The state at the next step, which is seen, or is not. Over fewer than 2^31 steps it is the definition's: the vessels are
     /// engaged where some step had risk, all since are seen, and none after it is past and clear; the kind is the class at the
     /// engagement's beginning (Rule 13 (d): a later change of bearing does not make an overtaking vessel a crossing one).

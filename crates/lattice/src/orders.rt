@@ -82,7 +82,7 @@ impl Lattice {
         ensures value { result ≡ course_change self.now choice }
         ensures small { unsigned_abs result ≤ 1800 }
     {
-        self.courses[usize::from(choice) / self.speeds.len()]
+        self.courses[usize::from(choice / self.speeds.len() as u16)]
     }
 
     /// The change of speed that a choice makes.
@@ -91,7 +91,7 @@ impl Lattice {
         ensures value { result ≡ speed_change self.now choice }
         ensures small { unsigned_abs result ≤ 1022 }
     {
-        self.speeds[usize::from(choice) % self.speeds.len()]
+        self.speeds[usize::from(choice % self.speeds.len() as u16)]
     }
 
     /// The course that a choice orders.

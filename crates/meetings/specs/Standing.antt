@@ -3,27 +3,22 @@ use Rattle.std.specs.Prelude.{ℕ, ◌≡◌, List, map, Option}
 use Rattle.encounters.specs.Standing as encounters
 use Rattle.encounters.specs.declared.act.Act.{Act}
 use Rattle.encounters.specs.declared.detect.Detect.{Detect}
-use Rattle.encounters.specs.declared.engagement_state.EngagementState.{EngagementState}
 use Rattle.encounters.specs.declared.pair_step.PairStep.{PairStep}
 use Rattle.meetings.specs.Answers.{Kept, answer_of}
 use Rattle.meetings.specs.Atoms.{AreRows}
 use Rattle.meetings.specs.declared.pair.Pair.{Pair}
 
--- what a follower keeps: its numbers, the engagement, and the state at the latest step
+-- what a follower keeps: its numbers, and the engagement
 pub record Following : Type 0 where
-  pub detect : Detect
   pub act : Act
   pub tick : ℕ
   pub engagement : encounters.Kept
-  pub latest : EngagementState
 
 -- A follower follows these steps, by these numbers.
 pub record Follows (following : Following) (numbers : Detect) (act : Act) (tick : ℕ) (steps : List (Option PairStep)) : Type 0 where
-  pub by_detect : following.detect ≡ numbers
   pub by_act : following.act ≡ act
   pub by_tick : following.tick ≡ tick
   pub engagement : encounters.StandsFor following.engagement numbers steps
-  pub latest : encounters.IsStateAfter numbers steps following.latest
 
 -- what a trace keeps: its pair, what follows the pair, and the rows so far
 pub record Traced : Type 0 where

@@ -20,25 +20,19 @@ use std::marker::Model;
 /// so far.
 #[derive(Clone, Copy, Debug)]
 pub struct Follower {
-    detect: Detect,
     act: Act,
     tick: u32,
     engagement: Engagement,
-    /// The state at the latest step.
-    latest: EngagementState,
 }
 
 impl Model for Follower {
-    ghost use Rattle.encounters.specs.Risk.{IsDetect};
     ghost use Rattle.meetings.specs.Standing.{Following};
 
     ghost Value = { Following };
 
-    ghost view = { λ f. record { detect = f.detect; act = f.act; tick = f.tick; engagement = f.engagement; latest = f.latest } };
+    ghost view = { λ f. record { act = f.act; tick = f.tick; engagement = f.engagement } };
 
-    ghost invariant = { λ f. IsDetect f.detect };
-
-    ghost inverse = { λ f. record { detect = f.detect; act = f.act; tick = f.tick; engagement = f.engagement; latest = f.latest } };
+    ghost inverse = { λ f. record { act = f.act; tick = f.tick; engagement = f.engagement } };
 }
 
 impl Follower {
@@ -48,11 +42,9 @@ impl Follower {
         ensures { Follows result detect act tick [] }
     {
         Follower {
-            detect,
             act,
             tick,
             engagement: Engagement::new(detect),
-            latest: EngagementState::Apart,
         }
     }
 
@@ -68,9 +60,9 @@ impl Follower {
             → Follows self.old detect act tick steps
             → Follows self.new detect act tick (steps ++ option_copied seen.entry ∷ []) }
     {
+        let detect = self.engagement.detect();
         let state = self.engagement.step(seen);
-        self.latest = state;
-        atoms_at(&self.detect, &state, seen, &self.act, self.tick)
+        atoms_at(&detect, &state, seen, &self.act, self.tick)
     }
 
     /// The state of the engagement at the latest step; apart before the first.
@@ -78,6 +70,6 @@ impl Follower {
         ensures { (detect : Detect) (act : Act) (tick : ℕ) (steps : List (Option PairStep)) →
             Follows self.now detect act tick steps → IsStateAfter detect steps result }
     {
-        self.latest
+        self.engagement.state()
     }
 }
