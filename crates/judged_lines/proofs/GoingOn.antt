@@ -1,12 +1,13 @@
 -- The judge, behind one line more.
-use Rattle.std.proofs.Common.{◌≡◌, ℕ, ◌+◌, ◌-◌, ◌^◌, ◌<◌, ◌≤◌, Bool, true, false, nat_lt, min, List, [], ◌∷◌, ◌++◌, append-nil, length, slice_index, slice_set, Option, unwrap_or, Result, Ok, Err, OnOk, IfOk, refl, ap, sym, subst, ◌∙◌, arith}
+use Rattle.std.proofs.Common.{◌≡◌, ℕ, ◌+◌, ◌-◌, ◌^◌, ◌<◌, ◌≤◌, Bool, true, false, nat_lt, min, List, [], ◌∷◌, ◌++◌, append-nil, length, slice_index, slice_set, Option, None, unwrap_or, Result, Ok, Err, OnOk, IfOk, refl, ap, sym, subst, ◌∙◌, arith}
 use Rattle.std.proofs.lemmas.Bool.Decides.{nat_tests}
 use Rattle.aivdm.specs.FragmentJoining.{Taken, joined_of}
 use Rattle.aivdm.specs.OpenMessages.{StandsFor as JoinerStandsFor}
-use Rattle.aivdm.specs.ReadingOf.{reading_of}
-use Rattle.aivdm.specs.Sentences.{SentenceFields}
+use Rattle.aivdm.specs.ReadingOf.{dropped, reading_of}
+use Rattle.aivdm.specs.Sentences.{LineContent, SentenceFields}
 use Rattle.aivdm.specs.declared.joiner.Joined.{Joined}
 use Rattle.aivdm.specs.declared.sentence.LineCause.{LineCause}
+use Rattle.aivdm.specs.declared.sentence.LineCause.TheVariants as line_cause
 use Rattle.ais_messages.specs.declared.message.Decoded.{Decoded}
 use Rattle.scenario.specs.declared.values.Scenario.{Scenario}
 use Rattle.tracks.specs.AcceptedReports.{Numbers}
@@ -24,6 +25,7 @@ use Rattle.judged_lines.specs.declared.judged.Judged.{Judged}
 use Rattle.judged_lines.specs.declared.judged.Judged.TheVariants as judged
 use Rattle.judged_lines.specs.declared.line_times.LineTimes.{LineTimes}
 use Rattle.judged_lines.specs.declared.outcome.LineOutcome.{LineOutcome}
+use Rattle.judged_lines.specs.declared.outcome.LineOutcome.TheVariants as outcome
 use Rattle.judged_lines.proofs.Counting.{AreCounts-push}
 use Rattle.judged_lines.proofs.OneOutcome.{each_after-length}
 use Rattle.judged_lines.proofs.Pushing.{calm-push, heard-push, judged-push, sent-push}
@@ -176,7 +178,27 @@ stands_on old noted new came line scenario before few stands judges is =
       counts = subst (AreCounts (counted old.counts came)) judged_more counts;
     })
 
--- a line that makes more vessels held
+-- ---- a line that is longer than a line may be
+
+long_is_dropped : (line : List ℕ) → 1024 < length line → reading_of line ≡ dropped line_cause.Long
+unfolding reading_of
+long_is_dropped line long = grind (arith, nat_tests)
+
+pub long_has_no_stamp : (line : List ℕ) → 1024 < length line → None ≡ stamp_of line
+long_has_no_stamp line long = sym (ap (λ (content : LineContent). content.stamp) (long_is_dropped line long))
+
+-- The judge does not look at it.
+pub judges_long : (old : Judge) (line : List ℕ) → 1024 < length line → Judges old old (judged.Without outcome.Long) line
+judges_long old line long = record {
+  time = unwrap_or (nearest_of (stamp_of line) old.times.nearest) old.times.window.start;
+  body = Err line_cause.Long;
+  timed = refl;
+  said = sym (ap (λ (content : LineContent). content.body) (long_is_dropped line long));
+  on = λ numbers taken messages joiner book few. GoesOn-unheard numbers old outcome.Long taken messages joiner book few;
+}
+
+-- ---- a line that makes more vessels held
+
 pub crowded_by : (old : Judge) (line : List ℕ) (scenario : Scenario) (before : List (List ℕ)) (time : ℕ) (body : Result SentenceFields LineCause) → StandsFor old scenario before
     → time ≡ unwrap_or (nearest_of (stamp_of line) old.times.nearest) old.times.window.start → body ≡ (reading_of line).body
     → ((numbers : Numbers) (taken : List Taken) (messages : List Sent) → JoinerStandsFor old.joiner taken → BookStandsFor old.book numbers messages

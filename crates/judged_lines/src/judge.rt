@@ -14,6 +14,7 @@ ghost use Rattle.tracks.specs.Standing.{StandsFor as BookStandsFor};
 ghost use Rattle.tracks.specs.VesselsHeld.{Sent, entry_of, held_of};
 ghost use Rattle.tracks.specs.declared.entry.BookFault.TheVariants.{TooManyVessels};
 ghost use Rattle.judged_lines.specs.JudgedLines.{greatest_held, held_behind, judged_entry, judged_line, judged_lines, numbers_of};
+ghost use Rattle.judged_lines.specs.LineTimes.{clock_of};
 ghost use Rattle.judged_lines.specs.SentLines.{sent, sent_decoded, sent_heard};
 
 use crate::judged::Judged;
@@ -125,6 +126,14 @@ impl Judge {
             → BookStandsFor result.now (numbers_of scenario) (sent scenario lines) }
     {
         &self.book
+    }
+
+    /// The clock behind the lines so far.
+    pub fn clock(&self) -> Option<u64>
+        ensures { (scenario : Scenario) (lines : List (List ℕ)) → StandsFor self.now scenario lines
+            → result ≡ clock_of scenario lines }
+    {
+        self.times.clock()
     }
 
     /// Counts one line more, as far as a count goes.
@@ -273,5 +282,19 @@ impl Judge {
         self.times.pass(reading.stamp);
         self.count(judged.outcome());
         Ok(judged)
+    }
+
+    /// Takes the next line, of which it is only known that it is longer than a line may be, and gives what it comes to: such a line
+    /// is read no further, and has no stamp.
+    pub fn take_long(&mut self) -> Judged
+        ensures judged { (scenario : Scenario) (before : List (List ℕ)) (line : List ℕ) → 1024 < length line
+            → StandsFor self.old scenario before → result ≡ judged_line scenario before line }
+        ensures stands { (scenario : Scenario) (before : List (List ℕ)) (line : List ℕ) → 1024 < length line → length before + 1 < 2 ^ 64
+            → StandsFor self.old scenario before → StandsFor self.new scenario (before ++ line ∷ []) }
+        ensures keeping { keeping_of self.new ≡ keeping_of self.old }
+    {
+        self.times.pass(None);
+        self.count(LineOutcome::Long);
+        Judged::Without(LineOutcome::Long)
     }
 }

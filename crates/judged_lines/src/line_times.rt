@@ -89,6 +89,13 @@ impl LineTimes {
         None
     }
 
+    /// The clock: the greatest stamp so far that lies in the window of lines.
+    pub(crate) fn clock(&self) -> Option<u64>
+        ensures { result ≡ self.now.clock }
+    {
+        self.clock
+    }
+
     /// The clock behind a stamp.
     fn clock_behind(&self, stamp: u64) -> Option<u64>
         ensures { result ≡ clock_behind self.now.window self.now.log.gap self.now.behind self.now.clock stamp }
