@@ -101,7 +101,7 @@ pub own_plain : All IsPlain own_rows
 unfolding own_rows
 own_plain = all_plain own_rows refl
 
-none_told : (basis : Basis) (document : Members) (list : List Row) → All IsPlain list → All (λ row. None ≡ fault_of basis document row) list →
+pub none_told : (basis : Basis) (document : Members) (list : List Row) → All IsPlain list → All (λ row. None ≡ fault_of basis document row) list →
     All (λ row. IsTold basis document row None) list
 none_told basis document [] plain all = all_none (λ row. IsTold basis document row None)
 none_told basis document (row ∷ list) plain all =
@@ -174,7 +174,7 @@ formulas_none need_own document h k =
     let weights = row 34 (codes "") (codes "formulas") kind.Formulas in
     All-cons P names (texts ∷ weights ∷ []) h (All-cons P texts (weights ∷ []) refl (All-cons P weights [] k (all_none P)))
 
-formulas_some : (need_own : Bool) (document : Members) (found : Key × Cause) → IsFormulaFault (tick_of document) (formula_tables document) (Some found)
+pub formulas_some : (need_own : Bool) (document : Members) (found : Key × Cause) → IsFormulaFault (tick_of document) (formula_tables document) (Some found)
     ⊎ (IsFormulaFault (tick_of document) (formula_tables document) None × IsWeightFault (tick_of document) (rule_numbers_of document) (formula_tables document) (Some found)) →
     IsFound (IsTold (basis_of need_own document) document) formula_rows (Some found)
 unfolding formula_rows fault_of

@@ -147,7 +147,7 @@ pub uncaused : (row : ℕ) (cause : Option Cause) → fault_by row cause ≡ Non
 uncaused row None h = refl
 uncaused row (Some cause) h = cc
 
-number_uncaused : (basis : Basis) (row : ℕ) (name : List ℕ) (of : Range) (table : Result Members Cause) → fault_in basis row name (kind.Number of) table ≡ None →
+pub number_uncaused : (basis : Basis) (row : ℕ) (name : List ℕ) (of : Range) (table : Result Members Cause) → fault_in basis row name (kind.Number of) table ≡ None →
     number_cause (bounds_of basis.tick of) (found_in name table) ≡ None
 number_uncaused basis row name of (Err cause) h = cc
 number_uncaused basis row name of (Ok table) h = uncaused row (number_cause (bounds_of basis.tick of) (get_member name table)) h

@@ -3,3 +3,12 @@ pub mod Held
 pub mod Single
 pub mod ListsHeld
 pub mod PlansHeld
+pub mod Members
+pub mod Migrations
+pub mod Shallow
+pub mod Kept
+pub mod KnownLists
+pub mod MovedKeys
+pub mod MovedValues
+pub mod MovedFaults
+pub mod SameScenario

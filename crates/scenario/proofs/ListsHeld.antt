@@ -30,7 +30,7 @@ use Rattle.scenario.proofs.Held.{faultless_at}
 
 -- no element passes where none is first
 
-no_position : {A : Type 0} (p : A → Bool) (l : List A) → position p l ≡ None → length l ≤ position_or_len p l
+pub no_position : {A : Type 0} (p : A → Bool) (l : List A) → position p l ≡ None → length l ≤ position_or_len p l
 no_position p l h = grind (arith, nat_tests)
 
 ahead_true : (p : Data → Bool) (d : Data) (l : List Data) → p d ≡ true → length (d ∷ l) ≤ position_or_len p (d ∷ l) → ⊥
@@ -55,15 +55,15 @@ all_by p q P h (d ∷ l) m n =
 
 -- the parts of a list's test
 
-first_two : {A : Type 0} (a b : Option A) (rest : List (Option A)) → first_of (a ∷ b ∷ rest) ≡ None → (a ≡ None) × (first_of (b ∷ rest) ≡ None)
+pub first_two : {A : Type 0} (a b : Option A) (rest : List (Option A)) → first_of (a ∷ b ∷ rest) ≡ None → (a ≡ None) × (first_of (b ∷ rest) ≡ None)
 first_two None b rest h = (refl, h)
 first_two (Some a) b rest h = cc
 
-first_one : {A : Type 0} (a : Option A) → first_of (a ∷ []) ≡ None → a ≡ None
+pub first_one : {A : Type 0} (a : Option A) → first_of (a ∷ []) ≡ None → a ≡ None
 first_one None h = refl
 first_one (Some a) h = cc
 
-no_item : (c : Cause) (p : Option ℕ) → at_item c p ≡ None → p ≡ None
+pub no_item : (c : Cause) (p : Option ℕ) → at_item c p ≡ None → p ≡ None
 no_item c None h = refl
 no_item c (Some p) h = cc
 
@@ -86,13 +86,13 @@ pub record ListHolds (fewest most : ℕ) (low high : ℤ) (list : List Data) : T
   pub to : length list ≤ most
   pub all : All (IsWithin low high) list
 
-length_held : (fewest most n : ℕ) → length_fault fewest most n ≡ None → (fewest ≤ n) × (n ≤ most)
+pub length_held : (fewest most n : ℕ) → length_fault fewest most n ≡ None → (fewest ≤ n) × (n ≤ most)
 length_held fewest most n h =
     cases_of (nat_le fewest n && nat_le n most) ((fewest ≤ n) × (n ≤ most))
     (λ e. (let (a, b) = and_parts (nat_le fewest n) (nat_le n most) e in (grind (arith, nat_tests), grind (arith, nat_tests))))
     (λ e. (let f : length_fault fewest most n ≡ Some (0, cause.Range) = rw e in cc))
 
-elements_held : (range : ListRange) (list : List Data) → elements_fault range list ≡ None → ListHolds range.fewest range.most range.low range.high list
+pub elements_held : (range : ListRange) (list : List Data) → elements_fault range list ≡ None → ListHolds range.fewest range.most range.low range.high list
 unfolding elements_fault
 elements_held range list h =
     let (a, b) = first_two (at_item cause.Type_ (position is_no_integer list)) (length_fault range.fewest range.most (length list)) (at_item cause.Range (position (is_out_of_range range) list) ∷ []) h in
@@ -141,7 +141,7 @@ array_held range (Some found) h =
           record { from = omega arith; to = held.to; all = held.all })
     ] h
 
-list_uncaused : (basis : Basis) (row : ℕ) (name : List ℕ) (range : ListRange) (table : Result Members Cause) → fault_in basis row name (kind.Numbers range) table ≡ None →
+pub list_uncaused : (basis : Basis) (row : ℕ) (name : List ℕ) (range : ListRange) (table : Result Members Cause) → fault_in basis row name (kind.Numbers range) table ≡ None →
     list_fault range (found_in name table) ≡ None
 list_uncaused basis row name range (Err cause) h = cc
 list_uncaused basis row name range (Ok table) h = unlisted row (list_fault range (get_member name table)) h
@@ -169,7 +169,7 @@ list_held_by need_own document table name range is faultless =
 ≤ℤ_trans : (x y z : ℤ) → x ≤ℤ y → y ≤ℤ z → x ≤ℤ z
 ≤ℤ_trans x y z h k = omega (arith, ints)
 
-nat_le-true : (m n : ℕ) → nat_le m n ≡ true → m ≤ n
+pub nat_le-true : (m n : ℕ) → nat_le m n ≡ true → m ≤ n
 nat_le-true m n h = grind (arith, nat_tests)
 
 wider_element : (low high least most : ℤ) (n : Option ℤ) → low ≤ℤ least → most ≤ℤ high → MatchOption n ⊥ (λ n. (least ≤ℤ n) × (n ≤ℤ most)) →
@@ -253,7 +253,7 @@ few_found most (Some found) h =
       | Some items ↦ λ e. few_tables most (elements items) e
     ] h
 
-tables_uncaused : (basis : Basis) (row : ℕ) (name : List ℕ) (most : ℕ) (table : Result Members Cause) → fault_in basis row name (kind.Tables most) table ≡ None →
+pub tables_uncaused : (basis : Basis) (row : ℕ) (name : List ℕ) (most : ℕ) (table : Result Members Cause) → fault_in basis row name (kind.Tables most) table ≡ None →
     tables_fault most (found_in name table) ≡ None
 tables_uncaused basis row name most (Err cause) h = cc
 tables_uncaused basis row name most (Ok table) h = unlisted row (tables_fault most (get_member name table)) h

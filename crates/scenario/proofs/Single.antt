@@ -36,19 +36,19 @@ one_by kind.PredictedChanges basis document row a b h k = h ∙ sym k
 one_told : (basis : Basis) (document : Members) (row : Row) (a b : Option (Key × Cause)) → IsTold basis document row a → IsTold basis document row b → a ≡ b
 one_told basis document row a b h k = one_by row.kind basis document row a b h k
 
-faultless_or_not : (need_own : Bool) (document : Members) (found : Key × Cause) → IsFaultless need_own document → IsFirstFault need_own document found → ⊥
+pub faultless_or_not : (need_own : Bool) (document : Members) (found : Key × Cause) → IsFaultless need_own document → IsFirstFault need_own document found → ⊥
 unfolding IsFaultless IsFirstFault
 faultless_or_not need_own document found h k =
     never_both (IsTold (basis_of need_own document) document) (one_told (basis_of need_own document) document) rows found h k
 
-one_fault : (need_own : Bool) (document : Members) (a b : Key × Cause) → IsFirstFault need_own document a → IsFirstFault need_own document b → a ≡ b
+pub one_fault : (need_own : Bool) (document : Members) (a b : Key × Cause) → IsFirstFault need_own document a → IsFirstFault need_own document b → a ≡ b
 unfolding IsFirstFault
 one_fault need_own document a b h k =
     one_first (IsTold (basis_of need_own document) document) (one_told (basis_of need_own document) document) rows a b h k
 
 -- so do the bytes of a scenario
 
-one_document : (bytes : List ℕ) (a b : Members) → Reads bytes a → Reads bytes b → a ≡ b
+pub one_document : (bytes : List ℕ) (a b : Members) → Reads bytes a → Reads bytes b → a ≡ b
 one_document bytes a b h k = let e = sym h.tree ∙ k.tree in cc
 
 one_meaning : (need_own : Bool) (bytes : List ℕ) (a b : Scenario) → Means need_own bytes a → Means need_own bytes b → a ≡ b

@@ -5,6 +5,7 @@ pub mod DocumentFaults
 pub mod ScenarioValues
 pub mod Ticks
 pub mod ScenarioReading
+pub mod Migration
 pub mod Inner
 pub use Rattle.scenario_keys.specs.ScenarioKeys
 pub use Rattle.scenario_keys.specs.ScenarioTexts

@@ -8,6 +8,9 @@ mod basis;
 mod first;
 mod integers;
 mod listed;
+mod migration;
+#[cfg(test)]
+mod migration_tests;
 mod own_part;
 mod plan_sizes;
 mod reading;
@@ -19,6 +22,7 @@ mod subjects;
 mod tests;
 mod values;
 
+pub use migration::migrate;
 pub use own_part::OwnPart;
 pub use predictions::{Change, Changes, Predict, Predictions};
 pub use reading::read;

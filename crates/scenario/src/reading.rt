@@ -6,7 +6,7 @@ ghost use Rattle.scenario_keys.specs.declared.key.Key.{Key};
 ghost use Rattle.scenario_keys.specs.declared.cause.Cause.{Cause};
 ghost use Rattle.scenario.specs.DocumentFaults.{IsFaultless, IsFirstFault};
 ghost use Rattle.scenario.specs.RuleValues.{AreRulesOf};
-ghost use Rattle.scenario.specs.ScenarioReading.{IsRefused, Means};
+ghost use Rattle.scenario.specs.ScenarioReading.{IsNoToml, IsRefused, Means, Reads};
 ghost use Rattle.scenario.specs.ScenarioValues.{scenario_of, IsInRange};
 ghost use Rattle.scenario.specs.declared.values.Scenario.{Scenario};
 
@@ -19,7 +19,11 @@ use std::alloc::Global;
 use toml::Table;
 
 /// The values of a document, or its first fault.
-fn values_of(alloc: Global, document: &Table, need_own: bool) -> Result<Scenario, ScenarioFault>
+pub(crate) fn values_of(
+    alloc: Global,
+    document: &Table,
+    need_own: bool,
+) -> Result<Scenario, ScenarioFault>
     ensures faultless { IfOk result (λ _. IsFaultless need_own (table_view document.now)) }
     ensures rules { IfOk result (λ s. AreRulesOf (table_view document.now) s.rules) }
     ensures values { IfOk result (λ s. s ≡ scenario_of need_own (table_view document.now) s.rules) }
@@ -37,17 +41,25 @@ fn values_of(alloc: Global, document: &Table, need_own: bool) -> Result<Scenario
     Ok(scenario_in(alloc, document, rules, need_own)?)
 }
 
+/// The document that bytes are.
+pub(crate) fn document_of(alloc: Global, bytes: &[u8]) -> Result<Table, ScenarioFault>
+    ensures reads { IfOk result (λ t. Reads bytes.now (table_view t)) }
+    ensures refused { IfErr result (IfFault (λ told. IsNoToml bytes.now told.0 told.1)) }
+{
+    match toml::table_from_slice(alloc, bytes) {
+        Ok(document) => Ok(document),
+        Err(error) if error.is_memory() => Err(ScenarioFault::Memory),
+        Err(_) => Err(ScenarioFault::Fault(Key { row: 0, item: 0 }, Cause::NotToml)),
+    }
+}
+
 /// Reads a scenario, without the rest of the contract of `read`.
 fn reading(alloc: Global, bytes: &[u8], need_own: bool) -> Result<Scenario, ScenarioFault>
     ensures values { IfOk result (Means need_own bytes.now) }
     ensures in_range { IfOk result IsInRange }
     ensures refused { IfErr result (IfFault (λ told. IsRefused need_own bytes.now told.0 told.1)) }
 {
-    let document = match toml::table_from_slice(alloc, bytes) {
-        Ok(document) => document,
-        Err(error) if error.is_memory() => return Err(ScenarioFault::Memory),
-        Err(_) => return Err(ScenarioFault::Fault(Key { row: 0, item: 0 }, Cause::NotToml)),
-    };
+    let document = document_of(alloc, bytes)?;
     values_of(alloc, &document, need_own)
 }
 

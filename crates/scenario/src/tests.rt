@@ -11,7 +11,7 @@ use std::alloc::{AllocError, Global};
 pub(crate) const GOOD: &str =
     "version = 1\n[window]\nstart = 1700000000\ntick = 10\nticks = 40\n[reference]\nlat = 0\nlon = -7\n[log]\ngap = 600\nslack = 60\nmax_speed = 500\n[detect]\nwatch = 5000\nrisk = 501\nclear = 1000\nhorizon = 610\ndoubt = 0\nahead = 100\nreciprocal = 101\n[act]\nsteady_turn = 50\napparent_turn = 200\nsteady_speed = 11\napparent_speed = 51\n[rules]\nsafe = 201\novertake = 202\nclose = 300\nt8 = 60\nta = 70\ntl = 20\ntw = 110\nte = 620\n";
 
-const DETECT: Detect = Detect {
+pub(crate) const DETECT: Detect = Detect {
     watch: 50_000_000,
     risk: 5_010_000,
     clear: 10_000_000,
@@ -23,7 +23,7 @@ const DETECT: Detect = Detect {
     },
 };
 
-const ACT: Act = Act {
+pub(crate) const ACT: Act = Act {
     steady_turn: 50,
     apparent_turn: 200,
     steady_speed: 11,
@@ -31,7 +31,7 @@ const ACT: Act = Act {
 };
 
 /// Whether the rule at an index has this name and, printed at a tick of 10 seconds, this text.
-fn is_rule(
+pub(crate) fn is_rule(
     alloc: Global,
     rules: &RuleSet,
     k: usize,

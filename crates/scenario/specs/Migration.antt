@@ -1,0 +1,194 @@
+-- The scenario of version 2 that a scenario of version 1 becomes.
+use Rattle.std.specs.Prelude.{◌≡◌, ◌⊎◌, ◌≤◌, ◌<◌, ◌==◌, ◌&&◌, ◌++◌, ℕ, pos, codes, bytes_eq, List, [], ◌∷◌, map, Bool, true, false, is_some, if◌then◌else◌, Option, Some, None}
+use Rattle.std.specs.Cmp.Lexicographic.{slice_cmp}
+use Rattle.std.specs.Ordering.{match_ordering, nat_cmp}
+use Rattle.toml.specs.Data.{Data, integer, array, Items, Members, no_members, member, as_array, get_member}
+use Rattle.toml.specs.Data as toml
+use Rattle.toml.specs.Text.{IsDocumentText}
+use Rattle.toml.specs.View.{items_of}
+use Rattle.rule_set.specs.NamedTrees.{rules_of, NamedTree}
+use Rattle.rule_set.specs.declared.numbers.RuleNumbers.{RuleNumbers}
+use Rattle.rule_set.specs.declared.numbers.Safe.TheVariants as safe
+use Rattle.added_rules.specs.ScenarioRules.{greatest_weight, total_weight}
+use Rattle.scenario_keys.specs.KeyValues.{found_in, member_at, table_at}
+use Rattle.scenario_keys.specs.ListFaults.{elements}
+use Rattle.scenario_keys.specs.ScenarioKeys.{rows, Row}
+use Rattle.scenario_keys.specs.declared.rows.Kind.{Kind}
+use Rattle.scenario_keys.specs.declared.rows.Kind.TheVariants as kind
+use Rattle.scenario_keys.specs.declared.rows.When.{When}
+use Rattle.scenario_keys.specs.declared.rows.When.TheVariants as when
+use Rattle.scenario_keys.specs.declared.key.Key.{Key}
+use Rattle.scenario_keys.specs.declared.cause.Cause.{Cause}
+use Rattle.scenario_keys.specs.declared.cause.Cause.TheVariants as cause
+use Rattle.scenario.specs.DocumentFaults.{IsFaultless, IsFirstFault}
+use Rattle.scenario.specs.KeyFaults.{is_version_two}
+use Rattle.scenario.specs.ScenarioReading.{IsNoToml, IsRefused, Means, Reads}
+use Rattle.scenario.specs.declared.values.Scenario.{Scenario}
+
+-- members in the order of their names, and one more, in the place of one of its name
+
+abbrev pub with_member : List ℕ → Data → Members → Members
+with_member name found no_members = member name found no_members
+with_member name found (member other here rest) =
+    match_ordering
+    (slice_cmp nat_cmp name other)
+    (member name found (member other here rest))
+    (member other found rest)
+    (member other here (with_member name found rest))
+
+abbrev pub with_found : List ℕ → Option Data → Members → Members
+with_found name None members = members
+with_found name (Some found) members = with_member name found members
+
+-- of a table of `formula` its name and its text, and of one of `predict` its ship and its changes
+
+abbrev pub two_of : List ℕ → List ℕ → Data → Data
+two_of first second here = toml.table (with_found second (member_at second here) (with_found first (member_at first here) no_members))
+
+abbrev pub known_members : List ℕ → Data → Data
+known_members list here =
+    if bytes_eq list (codes "formula")
+    then two_of (codes "name") (codes "text") here
+    else two_of (codes "mmsi") (codes "changes") here
+
+-- what is kept of what stands at a key: all of it, but of a list of tables the known members
+
+abbrev pub kept_array : List ℕ → Data → Option Items → Data
+kept_array name found None = found
+kept_array name found (Some tables) = array (items_of (map (known_members name) (elements tables)))
+
+abbrev pub kept_by : Kind → List ℕ → Data → Data
+kept_by (kind.Tables most) name found = kept_array name found (as_array found)
+kept_by _ name found = found
+
+abbrev pub kept : Row → Option Data → Option Data
+kept row None = None
+kept row (Some found) = Some (kept_by row.kind row.name found)
+
+-- what stands at a key of a table
+abbrev pub found_at : List ℕ → List ℕ → Members → Option Data
+found_at table name document = found_in name (table_at table document)
+
+-- whether the document has own ship; her keys count then
+unfoldable pub has_own : Members → Bool
+has_own document = is_some (get_member (codes "own") document)
+
+-- What a key holds in version 2: each of the safe distances what `rules.safe` holds, `version` 2, and any other what it held. The
+-- keys that count for own ship alone are left out where the document has none.
+
+abbrev pub new_value_when : When → Row → Members → Option Data
+new_value_when when.InVersionTwo row document = found_at (codes "rules") (codes "safe") document
+new_value_when when.ForOwnShip row document =
+    if has_own document then kept row (found_at row.table row.name document) else None
+new_value_when _ row document = if row.number == 1 then Some (integer (pos 2)) else kept row (found_at row.table row.name document)
+
+unfoldable pub new_value : Members → Row → Option Data
+new_value document row = new_value_when row.when row document
+
+-- the rows that are of one key, and not of several or of what stands in a list
+
+abbrev pub is_key : Kind → Bool
+is_key (kind.Number range) = true
+is_key (kind.Numbers range) = true
+is_key (kind.Tables most) = true
+is_key _ = false
+
+abbrev pub is_key_of : List ℕ → Row → Bool
+is_key_of table row = is_key row.kind && bytes_eq row.table table
+
+-- the keys of a table, with what they hold in version 2, put to what is there
+
+abbrev pub with_key : Members → List ℕ → Row → Members → Members
+with_key document table row members =
+    if is_key_of table row then with_found row.name (new_value document row) members else members
+
+abbrev pub with_keys : Members → List ℕ → List Row → Members → Members
+with_keys document table [] members = members
+with_keys document table (row ∷ rest) members = with_keys document table rest (with_key document table row members)
+
+unfoldable pub keys_of : Members → List ℕ → Members
+keys_of document table = with_keys document table rows no_members
+
+-- the tables in which keys stand, those of them that the document has
+
+abbrev pub table_names : List (List ℕ)
+table_names =
+    codes "window" ∷ codes "reference" ∷ codes "log" ∷ codes "detect" ∷ codes "act" ∷ codes "rules" ∷ codes "own" ∷ []
+
+abbrev pub with_table : Members → List ℕ → Members → Members
+with_table document name members =
+    if is_some (get_member name document) then with_member name (toml.table (keys_of document name)) members else members
+
+abbrev pub with_tables : Members → List (List ℕ) → Members → Members
+with_tables document [] members = members
+with_tables document (name ∷ rest) members = with_tables document rest (with_table document name members)
+
+-- The document of version 2: the keys of the table of keys that the document of version 1 has, and nothing else.
+unfoldable pub migrated : Members → Members
+migrated document = with_tables document table_names (keys_of document (codes ""))
+
+-- The text is that of the document of version 2, and is read as it. The document of version 1 has no fault.
+pub record IsMigrated (bytes text : List ℕ) : Type 0 where
+  pub document : Members
+  pub reads : Reads bytes document
+  pub version_one : is_version_two document ≡ false
+  pub faultless : IsFaultless (has_own document) document
+  pub printed : IsDocumentText false (migrated document) text
+  pub read_again : Reads text (migrated document)
+
+-- The bytes are of version 2: that is a fault of `version`, whatever else they hold.
+pub record IsOfVersionTwo (bytes : List ℕ) (key : Key) (why : Cause) : Type 0 where
+  pub document : Members
+  pub reads : Reads bytes document
+  pub version_two : is_version_two document ≡ true
+  pub at : key ≡ record { row = 1; item = 0 }
+  pub because : why ≡ cause.Range
+
+-- The first fault of the keys of another document, where own ship's keys count if the document has her.
+pub record HasFirstFault (bytes : List ℕ) (key : Key) (why : Cause) : Type 0 where
+  pub document : Members
+  pub reads : Reads bytes document
+  pub version_one : is_version_two document ≡ false
+  pub first : IsFirstFault (has_own document) document (key, why)
+
+abbrev pub IsNotMigrated : List ℕ → Key → Cause → Type 0
+IsNotMigrated bytes key why = IsNoToml bytes key why ⊎ (IsOfVersionTwo bytes key why ⊎ HasFirstFault bytes key why)
+
+-- The second scenario is the first one, but that the rules have the safe distance of the first for each kind of encounter.
+pub record HasSafePerKind (scenario other : Scenario) : Type 0 where
+  pub tick : ℕ
+  pub numbers : RuleNumbers
+  pub metres : ℕ
+  pub added : List NamedTree
+  pub one : numbers.safe ≡ safe.One metres
+  pub rules : scenario.rules ≡ rules_of tick numbers ++ added
+  pub per_kind :
+      other.rules ≡ rules_of tick (record {
+        safe = safe.PerKind metres metres metres metres;
+        overtake = numbers.overtake;
+        close = numbers.close;
+        t8 = numbers.t8;
+        ta = numbers.ta;
+        tl = numbers.tl;
+        tw = numbers.tw;
+        te = numbers.te;
+      }) ++ added
+  pub rest :
+      other ≡ record {
+        window = scenario.window;
+        reference = scenario.reference;
+        log = scenario.log;
+        detect = scenario.detect;
+        act = scenario.act;
+        rules = other.rules;
+        subjects = scenario.subjects;
+        own = scenario.own;
+      }
+
+-- The text means that scenario, where its rules are light enough together, and else it is refused for their weight.
+pub record MeansTheSame (need_own : Bool) (scenario : Scenario) (text : List ℕ) : Type 0 where
+  pub other : Scenario
+  pub same : HasSafePerKind scenario other
+  pub meaning :
+      (total_weight other.rules ≤ greatest_weight) × Means need_own text other
+      ⊎ (greatest_weight < total_weight other.rules) × IsRefused need_own text (record { row = 34; item = 0 }) cause.Product
