@@ -8,13 +8,14 @@ use Rattle.judged_lines.specs.JudgedLines.{is_crowded, numbers_of}
 use Rattle.judged_lines.specs.LogLines.{lines_of}
 use Rattle.scenario.specs.declared.values.Scenario.{Scenario}
 use Rattle.tracks.specs.VesselsHeld.{Sent}
-use Rattle.colregs_program.specs.AuditReport.{audit_numbers, sightings_of, stretch_rows, total_rows, vessel_rows}
+use Rattle.colregs_program.specs.AuditReport.{sightings_of, stretch_rows, total_rows, vessel_rows}
 use Rattle.colregs_program.specs.Endings.{greatest_traces}
 use Rattle.auditor.specs.declared.fault.AuditFault.{AuditFault}
 use Rattle.auditor.specs.declared.fault.AuditFault.TheVariants as audit
 use Rattle.colregs_program.specs.Inner.LogFaults.{EndingCause, auditing_fault}
 use Rattle.colregs_program.proofs.Meeting.{too_many_drilled, too_many_traces}
 use Rattle.command_line.specs.declared.mode.Mode.TheVariants as mode
+use Rattle.settling.specs.Sightings.{audit_numbers}
 
 -- the fault that a `?` hands on has its cause
 pub err_cause : {T E : Type 0} (r : Result T E) (x : E) (P : E → Type 0) → IsErrAnd r (λ e. e ≡ x) → P x → IfErr r P

@@ -36,11 +36,12 @@ use Rattle.tracks.specs.SeenVessels.{seen_in, seen_of}
 use Rattle.tracks.specs.Standing.{BookValue, StandsFor as BookStandsFor}
 use Rattle.tracks.specs.VesselsHeld.{Sent}
 use Rattle.scenario.specs.Ticks.{time_of_tick}
-use Rattle.colregs_program.specs.AuditReport.{audit_numbers, sighted, stretch_fields, stretch_rows}
+use Rattle.colregs_program.specs.AuditReport.{stretch_fields, stretch_rows}
 use Rattle.colregs_program.specs.Endings.{greatest_traces}
-use Rattle.colregs_program.specs.Inner.AuditWriting.{AreOfRules, AuditedUpTo, IsOfRules, seen_before, seen_first}
+use Rattle.colregs_program.specs.Inner.AuditWriting.{AreOfRules, AuditedUpTo, IsOfRules, seen_before}
 use Rattle.colregs_program.proofs.Sighted.{little, little_first}
 use Rattle.colregs_program.proofs.VesselRows.{rows_push}
+use Rattle.settling.specs.Sightings.{audit_numbers, seen_first, sighted}
 
 -- ---- rows tell of rules that are there
 

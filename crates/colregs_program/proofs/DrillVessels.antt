@@ -41,13 +41,14 @@ use Rattle.colregs_program.specs.declared.log_fault.EndingFault.TheVariants as e
 use Rattle.colregs_program.specs.declared.log_fault.LogFault.{LogFault}
 use Rattle.colregs_program.specs.declared.log_fault.LogFault.TheVariants as fault
 use Rattle.colregs_program.proofs.AskedLogs.{log_made}
-use Rattle.colregs_program.specs.AuditReport.{audit_numbers, sighted, sightings_of}
+use Rattle.colregs_program.specs.AuditReport.{sightings_of}
 use Rattle.colregs_program.specs.Endings.{HasManyTraces, IsMet, greatest_traces}
 use Rattle.colregs_program.specs.declared.status.Status.{Status}
 use Rattle.colregs_program.specs.declared.status.Status.TheVariants as status
 use Rattle.colregs_program.specs.declared.status.Which.TheVariants as which
 use Rattle.colregs_program.proofs.DrillLines.{InFleet, IsFleetLine, fleet_lines}
 use Rattle.colregs_program.proofs.FewDifferent.{few_between}
+use Rattle.settling.specs.Sightings.{audit_numbers, sighted}
 
 -- ---- the messages
 

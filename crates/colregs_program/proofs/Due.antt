@@ -1,8 +1,12 @@
 -- The answer that words, shelf and log call for, step by step.
-use Rattle.std.proofs.Common.{ℕ, ◌≡◌, ◌<◌, List, length, Option, Some, Result, Ok, Err, refl, ap, sym, subst}
+use Rattle.std.proofs.Common.{ℕ, ◌≡◌, ◌≤◌, ◌<◌, inl, inr, IsTrue, List, length, Option, Some, Result, Ok, Err, refl, ap, sym, subst}
 use Rattle.outside.specs.Shelves.{Files, IsMissing}
 use Rattle.scenario.specs.declared.values.Scenario.{Scenario}
-use Rattle.colregs_program.specs.Answers.{IsDue, LiesUnder, Meets, Requested, greatest_scenario}
+use Rattle.colregs_program.specs.Answers.{CanMigrate, IsDue, IsRefusedBy, LiesUnder, Meets, Requested, greatest_scenario}
+use Rattle.colregs_program.specs.Modes.{reports}
+use Rattle.colregs_program.specs.Inner.Migrating.{IsMigrationDue}
+use Rattle.command_line.specs.declared.mode.Mode.{Mode}
+use Rattle.command_line.specs.declared.mode.Mode.TheVariants as mode
 use Rattle.colregs_program.specs.Endings.{IsMet}
 use Rattle.command_line.specs.Requests.{AskFor, AskForNothing}
 use Rattle.command_line.specs.declared.request.Request.{Request}
@@ -27,7 +31,8 @@ usage_due words files log (status.Scenario key why) refused is = absurd (asked_o
 usage_due words files log (status.Limit which.Targets most) refused is = absurd (asked_or_nothing words is.0 is.3.asked refused)
 usage_due words files log (status.OwnUnready why) refused is = absurd (asked_or_nothing words is.0 is.3.asked refused)
 usage_due words files log status.NoManoeuvre refused is = absurd (asked_or_nothing words is.0 is.3.asked refused)
-usage_due words files log status.Done refused is = absurd (asked_or_nothing words is.0 is.3.asked refused)
+usage_due words files log status.Done refused (inl is) = absurd (asked_or_nothing words is.0 is.3.asked refused)
+usage_due words files log status.Done refused (inr is) = absurd (asked_or_nothing words is.0 is.1 refused)
 usage_due words files log status.ReadFault refused is = absurd is
 usage_due words files log status.WriteFault refused is = absurd is
 usage_due words files log status.Memory refused is = absurd is
@@ -58,30 +63,63 @@ of_meeting words files log request due accepted meets =
     })
 
 pub set_up_due : (words : List (List ℕ)) (files : Option Files) (log : Option (List ℕ)) (request : Request) (due : Status)
-    → AskFor words request → IsDue words files log due → SetUpDue files log request due
-set_up_due words files log request status.Usage accepted is = absurd (asked_or_nothing words request accepted is)
-set_up_due words files log request status.ShelfFault accepted is = record {
+    → AskFor words request → IsTrue (reports request.mode) → IsDue words files log due → SetUpDue files log request due
+set_up_due words files log request status.Usage accepted reports is = absurd (asked_or_nothing words request accepted is)
+set_up_due words files log request status.ShelfFault accepted reports is = record {
   came = Err fault.NotHad;
   is = of_request words request (λ r. IsMissing files r.name) accepted is;
   follows = refl;
 }
-set_up_due words files log request (status.Limit which.Scenario most) accepted is = record {
+set_up_due words files log request (status.Limit which.Scenario most) accepted reports is = record {
   came = Err fault.TooLong;
   is = of_request words request (λ r. LiesUnder files r.name (λ text. greatest_scenario < length text)) accepted is.1;
   follows = ap (status.Limit which.Scenario) (sym is.0);
 }
-set_up_due words files log request (status.Scenario key why) accepted is = record {
+set_up_due words files log request (status.Scenario key why) accepted reports is = record {
   came = Err (fault.Refused key why);
   is = of_request words request (λ r. IsSetUpDue r files (Err (fault.Refused key why))) accepted is;
   follows = refl;
 }
-set_up_due words files log request (status.Limit which.Log most) accepted is = of_meeting words files log request (status.Limit which.Log most) accepted is
-set_up_due words files log request (status.Limit which.Vessels most) accepted is = of_meeting words files log request (status.Limit which.Vessels most) accepted is
-set_up_due words files log request (status.Limit which.Pairs most) accepted is = of_meeting words files log request (status.Limit which.Pairs most) accepted is
-set_up_due words files log request (status.Limit which.Targets most) accepted is = of_meeting words files log request (status.Limit which.Targets most) accepted is
-set_up_due words files log request (status.OwnUnready why) accepted is = of_meeting words files log request (status.OwnUnready why) accepted is
-set_up_due words files log request status.NoManoeuvre accepted is = of_meeting words files log request status.NoManoeuvre accepted is
-set_up_due words files log request status.Done accepted is = of_meeting words files log request status.Done accepted is
-set_up_due words files log request status.ReadFault accepted is = absurd is
-set_up_due words files log request status.WriteFault accepted is = absurd is
-set_up_due words files log request status.Memory accepted is = absurd is
+set_up_due words files log request (status.Limit which.Log most) accepted reports is = of_meeting words files log request (status.Limit which.Log most) accepted is
+set_up_due words files log request (status.Limit which.Vessels most) accepted reports is = of_meeting words files log request (status.Limit which.Vessels most) accepted is
+set_up_due words files log request (status.Limit which.Pairs most) accepted reports is = of_meeting words files log request (status.Limit which.Pairs most) accepted is
+set_up_due words files log request (status.Limit which.Targets most) accepted reports is = of_meeting words files log request (status.Limit which.Targets most) accepted is
+set_up_due words files log request (status.OwnUnready why) accepted reports is = of_meeting words files log request (status.OwnUnready why) accepted is
+set_up_due words files log request status.NoManoeuvre accepted reports is = of_meeting words files log request status.NoManoeuvre accepted is
+set_up_due words files log request status.Done accepted reports (inl is) = of_meeting words files log request status.Done accepted is
+set_up_due words files log request status.Done accepted reports (inr is) =
+    let migrates = of_request words request (λ r. (r.mode ≡ mode.Migrate) × LiesUnder files r.name (λ text. (length text ≤ greatest_scenario) × CanMigrate text)) accepted is in
+    absurd (cc (migrates.0, reports))
+set_up_due words files log request status.ReadFault accepted reports is = absurd is
+set_up_due words files log request status.WriteFault accepted reports is = absurd is
+set_up_due words files log request status.Memory accepted reports is = absurd is
+
+-- A migration meets nothing in a log.
+no_meeting : (words : List (List ℕ)) (files : Option Files) (log : Option (List ℕ)) (request : Request) (answer : Status) (Any : Type 0)
+    → AskFor words request → request.mode ≡ mode.Migrate → Meets words files log answer → Any
+no_meeting words files log request answer Any accepted migrates meets =
+    let reports : IsTrue (reports request.mode) = subst (λ (r : Request). IsTrue (reports r.mode)) (one_asked words meets.0 request meets.3.asked accepted) meets.3.reports in
+    absurd (cc (migrates, reports))
+
+-- what is due to a migration
+pub migration_due : (words : List (List ℕ)) (files : Option Files) (log : Option (List ℕ)) (request : Request) (due : Status)
+    → AskFor words request → request.mode ≡ mode.Migrate → IsDue words files log due → IsMigrationDue request files due
+migration_due words files log request status.Usage accepted migrates is = absurd (asked_or_nothing words request accepted is)
+migration_due words files log request status.ShelfFault accepted migrates is = of_request words request (λ r. IsMissing files r.name) accepted is
+migration_due words files log request (status.Limit which.Scenario most) accepted migrates is =
+    (is.0, of_request words request (λ r. LiesUnder files r.name (λ text. greatest_scenario < length text)) accepted is.1)
+migration_due words files log request (status.Scenario key why) accepted migrates is =
+    subst (λ (m : Mode). LiesUnder files request.name (λ text. (length text ≤ greatest_scenario) × IsRefusedBy m text key why)) migrates
+    (of_request words request (λ r. LiesUnder files r.name (λ text. (length text ≤ greatest_scenario) × IsRefusedBy r.mode text key why)) accepted is)
+migration_due words files log request (status.Limit which.Log most) accepted migrates is = no_meeting words files log request _ _ accepted migrates is
+migration_due words files log request (status.Limit which.Vessels most) accepted migrates is = no_meeting words files log request _ _ accepted migrates is
+migration_due words files log request (status.Limit which.Pairs most) accepted migrates is = no_meeting words files log request _ _ accepted migrates is
+migration_due words files log request (status.Limit which.Targets most) accepted migrates is = no_meeting words files log request _ _ accepted migrates is
+migration_due words files log request (status.OwnUnready why) accepted migrates is = no_meeting words files log request _ _ accepted migrates is
+migration_due words files log request status.NoManoeuvre accepted migrates is = no_meeting words files log request _ _ accepted migrates is
+migration_due words files log request status.Done accepted migrates (inl is) = no_meeting words files log request _ _ accepted migrates is
+migration_due words files log request status.Done accepted migrates (inr is) =
+    (of_request words request (λ r. (r.mode ≡ mode.Migrate) × LiesUnder files r.name (λ text. (length text ≤ greatest_scenario) × CanMigrate text)) accepted is).1
+migration_due words files log request status.ReadFault accepted migrates is = absurd is
+migration_due words files log request status.WriteFault accepted migrates is = absurd is
+migration_due words files log request status.Memory accepted migrates is = absurd is

@@ -6,6 +6,7 @@ pub mod AuditText
 pub mod Auditing
 pub mod Due
 pub mod Meeting
+pub mod Migrating
 pub mod OneManoeuvre
 pub mod OneEnding
 pub mod PlanText

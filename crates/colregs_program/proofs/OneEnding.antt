@@ -5,7 +5,7 @@ use Rattle.audit_traces.specs.declared.total.Total.{Total}
 use Rattle.auditor.specs.AuditTotals.{AreTotals}
 use Rattle.auditor.proofs.ForCallers.{one_list_of_rows, one_list_of_totals}
 use Rattle.scenario.specs.declared.values.Scenario.{Scenario}
-use Rattle.colregs_program.specs.AuditReport.{IsAuditReport, audit_numbers, rows_behind, sightings_of, stretch_rows}
+use Rattle.colregs_program.specs.AuditReport.{IsAuditReport, rows_behind, sightings_of, stretch_rows}
 use Rattle.own_ship.specs.declared.readiness.Ready.{Ready}
 use Rattle.scenario.specs.declared.own_part.OwnPart.{OwnPart}
 use Rattle.colregs_program.specs.DrillReport.{IsDrillReport, drill_text}
@@ -14,6 +14,7 @@ use Rattle.colregs_program.specs.PlanReport.{IsManoeuvre, IsOwn, IsPlanReport, p
 use Rattle.colregs_program.proofs.OneManoeuvre.{one_manoeuvre}
 use Rattle.command_line.specs.declared.mode.Mode.{Mode}
 use Rattle.command_line.specs.declared.mode.Mode.TheVariants as mode
+use Rattle.settling.specs.Sightings.{audit_numbers}
 
 one_audit_report : (scenario : Scenario) (log text other : List ℕ) → IsAuditReport scenario log text → IsAuditReport scenario log other → text ≡ other
 one_audit_report scenario log text other a b =
@@ -60,3 +61,4 @@ one_ending mode.Points scenario log text other a b = a ∙ sym b
 one_ending mode.Audit scenario log text other a b = one_audit_report scenario log text other a b
 one_ending mode.Plan scenario log text other a b = one_plan_report scenario log text other a b
 one_ending mode.Drill scenario log text other a b = one_drill_report scenario log text other a b
+one_ending mode.Migrate scenario log text other a b = absurd a

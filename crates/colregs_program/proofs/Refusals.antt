@@ -6,10 +6,12 @@ use Rattle.scenario.specs.declared.values.Scenario.{Scenario}
 use Rattle.colregs_program.specs.Answers.{Holds, IsDue, IsOfDrill, IsScenario, MetIn, Runs}
 use Rattle.colregs_program.specs.Endings.{IsEnding, IsFinished, IsMet}
 use Rattle.command_line.specs.Requests.{AskFor, AskForNothing}
+use Rattle.command_line.specs.declared.mode.Mode.{Mode}
 use Rattle.command_line.specs.declared.mode.Mode.TheVariants as mode
 use Rattle.command_line.specs.declared.request.Request.{Request}
 use Rattle.command_line.proofs.Asked.{one_asked}
 use Rattle.colregs_program.specs.AskedScenarios.{log_of}
+use Rattle.colregs_program.specs.Modes.{reads_log, reports}
 use Rattle.colregs_program.specs.Inner.SetUps as set_up
 use Rattle.colregs_program.specs.Inner.LogFaults as log_fault
 use Rattle.colregs_program.specs.Inner.WordsFaults as words_fault
@@ -49,10 +51,10 @@ rose before now is = omega (arith, is)
 
 -- setting up came to what is due, or to want of memory
 came_due : (words : List (List ℕ)) (files : Option Files) (log : Option (List ℕ)) (request : Request) (due : Status) (before now : ℕ) (came : Result Scenario SetUpFault)
-    → AskFor words request → IsDue words files log due → GivesDue request files before now came → ¬ Rose before now
+    → AskFor words request → IsTrue (reports request.mode) → IsDue words files log due → GivesDue request files before now came → ¬ Rose before now
     → Follows log request due came ⊎ (came ≡ Err fault.Memory)
-came_due words files log request due before now came accepted is gives calm =
-    let d = set_up_due words files log request due accepted is in
+came_due words files log request due before now came accepted reports is gives calm =
+    let d = set_up_due words files log request due accepted reports is in
     elim (gives d.came d.is) [
       | inl risen ↦ absurd (calm (rose before now risen))
       | inr either ↦ elim either [
@@ -62,10 +64,10 @@ came_due words files log request due before now came accepted is gives calm =
     ]
 
 pub not_set_up : (words : List (List ℕ)) (files : Option Files) (log : Option (List ℕ)) (request : Request) (due told : Status) (before now : ℕ) (why : SetUpFault) (Made : Type 0)
-    → AskFor words request → IsDue words files log due → GivesDue request files before now (Err why) → ¬ Rose before now
+    → AskFor words request → IsTrue (reports request.mode) → IsDue words files log due → GivesDue request files before now (Err why) → ¬ Rose before now
     → IsTold told (set_up.answer_of why) Made → (told ≡ due) ⊎ (told ≡ status.Memory)
-not_set_up words files log request due told before now why Made accepted is gives calm is_told =
-    elim (came_due words files log request due before now (Err why) accepted is gives calm) [
+not_set_up words files log request due told before now why Made accepted reports is gives calm is_told =
+    elim (came_due words files log request due before now (Err why) accepted reports is gives calm) [
       | inl follows ↦ told_is told (set_up.answer_of why) due Made is_told follows
       | inr memory ↦
           let memory_alone : why ≡ fault.Memory = cc memory in
@@ -74,10 +76,10 @@ not_set_up words files log request due told before now why Made accepted is give
 
 -- where setting up gave a scenario, the log decides
 pub log_decides : (words : List (List ℕ)) (files : Option Files) (log : Option (List ℕ)) (request : Request) (due : Status) (before now : ℕ) (scenario : Scenario)
-    → AskFor words request → IsDue words files log due → GivesDue request files before now (Ok scenario) → ¬ Rose before now
+    → AskFor words request → IsTrue (reports request.mode) → IsDue words files log due → GivesDue request files before now (Ok scenario) → ¬ Rose before now
     → Follows log request due (Ok scenario)
-log_decides words files log request due before now scenario accepted is gives calm =
-    elim (came_due words files log request due before now (Ok scenario) accepted is gives calm) [
+log_decides words files log request due before now scenario accepted reports is gives calm =
+    elim (came_due words files log request due before now (Ok scenario) accepted reports is gives calm) [
       | inl follows ↦ follows
       | inr memory ↦ cc memory
     ]
@@ -131,11 +133,12 @@ held_so None name P Q so holds = tt
 held_so (Some held) name P Q so (text, found, p) = (text, found, so text p)
 
 pub runs : (words : List (List ℕ)) (files : Option Files) (request : Request) (scenario : Scenario) (Q : Request → Type 0) (P : Request → Scenario → Type 0)
-    → AskFor words request → Q request → Holds files request.name (λ text. IsScenario request text scenario) → P request scenario → Runs words files Q P
-runs words files request scenario Q P accepted q holds p = (
+    → AskFor words request → IsTrue (reports request.mode) → Q request → Holds files request.name (λ text. IsScenario request text scenario) → P request scenario → Runs words files Q P
+runs words files request scenario Q P accepted reports q holds p = (
   request,
   accepted,
   (
+    reports,
     q,
     held_so files request.name (λ text. IsScenario request text scenario) (λ text. (s : Scenario) × IsScenario request text s × P request s)
         (λ text is. (scenario, is, p)) holds,
@@ -202,6 +205,26 @@ long_told request scenario left left' before now (unread.Unreported why) told mo
 -- the words ask for one request, so that it is a drill too
 pub drills_too : (words : List (List ℕ)) (request other : Request) → AskFor words request → AskFor words other → request.mode ≡ mode.Drill → other.mode ≡ mode.Drill
 drills_too words request other asks asks' drills = subst (λ (r : Request). r.mode ≡ mode.Drill) (one_asked words request other asks asks') drills
+
+-- and so that it reads no log either
+pub unread_too : (words : List (List ℕ)) (request other : Request) → AskFor words request → AskFor words other → reads_log request.mode ≡ false → reads_log other.mode ≡ false
+unread_too words request other asks asks' not = subst (λ (r : Request). reads_log r.mode ≡ false) (one_asked words request other asks asks') not
+
+-- the mode that reports on no log
+pub migrates : (m : Mode) → reports m ≡ false → m ≡ mode.Migrate
+migrates mode.Points not = cc not
+migrates mode.Audit not = cc not
+migrates mode.Plan not = cc not
+migrates mode.Drill not = cc not
+migrates mode.Migrate not = refl
+
+-- where one request reports on a log, no other migrates
+pub no_migration : (words : List (List ℕ)) (request other : Request) (Any : Type 0) → AskFor words request → AskFor words other → IsTrue (reports other.mode)
+    → request.mode ≡ mode.Migrate → Any
+no_migration words request other Any asks asks' is migrates =
+    let same : other.mode ≡ mode.Migrate = subst (λ (r : Request). r.mode ≡ mode.Migrate) (one_asked words request other asks asks') migrates in
+    let reports : reports mode.Migrate ≡ true = subst (λ (m : Mode). IsTrue (reports m)) same is in
+    cc reports
 
 pub drill_told : (told answer : Status) (Made : Type 0) → IsTold told answer Made → IsTrue (IsOfDrill answer) → IsTrue (IsOfDrill told)
 drill_told told answer Made (inl same) is = subst (λ (s : Status). IsTrue (IsOfDrill s)) (sym same) is

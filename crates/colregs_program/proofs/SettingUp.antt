@@ -11,11 +11,13 @@ use Rattle.scenario_keys.specs.declared.cause.Cause.{Cause}
 use Rattle.scenario.specs.declared.values.Scenario.{Scenario}
 use Rattle.scenario_keys.specs.declared.fault.ScenarioFault.{ScenarioFault}
 use Rattle.scenario_keys.specs.declared.fault.ScenarioFault.TheVariants as refusal
-use Rattle.colregs_program.specs.Answers.{greatest_scenario, LiesUnder}
+use Rattle.colregs_program.specs.Answers.{greatest_scenario, IsRefusedBy, LiesUnder}
 use Rattle.colregs_program.specs.AskedScenarios.{with_options}
-use Rattle.colregs_program.specs.Modes.{needs_own}
+use Rattle.colregs_program.specs.Modes.{needs_own, reports}
 use Rattle.colregs_program.specs.Inner.SetUps.{AreOptions, IsSetUpDue, set_up_fault}
 use Rattle.command_line.specs.Requests.{AskFor}
+use Rattle.command_line.specs.declared.mode.Mode.{Mode}
+use Rattle.command_line.specs.declared.mode.Mode.TheVariants as mode
 use Rattle.command_line.specs.declared.request.Options.{Options}
 use Rattle.command_line.specs.declared.request.Request.{Request}
 use Rattle.command_line.proofs.ForCallers.{seed_in_range, start_in_range, ticks_in_range}
@@ -82,28 +84,43 @@ made_or : (options : Options) (got due : Result Scenario ScenarioFault) → (got
 made_or options got due (inl same) = inl (ap (made options) same)
 made_or options got due (inr memory) = inr (ap (made options) memory)
 
+-- A mode that reports on a log refuses what is no scenario, with own ship where it needs her.
+pub refused_by : (m : Mode) (text : List ℕ) (key : Key) (why : Cause) → IsTrue (reports m) → IsRefused (needs_own m) text key why → IsRefusedBy m text key why
+refused_by mode.Points text key why reports is = is
+refused_by mode.Audit text key why reports is = is
+refused_by mode.Plan text key why reports is = is
+refused_by mode.Drill text key why reports is = is
+refused_by mode.Migrate text key why reports is = cc reports
+
+pub refused_so : (m : Mode) (text : List ℕ) (key : Key) (why : Cause) → IsTrue (reports m) → IsRefusedBy m text key why → IsRefused (needs_own m) text key why
+refused_so mode.Points text key why reports is = is
+refused_so mode.Audit text key why reports is = is
+refused_so mode.Plan text key why reports is = is
+refused_so mode.Drill text key why reports is = is
+refused_so mode.Migrate text key why reports is = cc reports
+
 pub due-from_read : (request : Request) (files : Option Files) (v : Vec ℕ Global) (got : Result Scenario ScenarioFault)
-    → Fetches files request.name greatest_scenario (fetched.Bytes v)
+    → IsTrue (reports request.mode) → Fetches files request.name greatest_scenario (fetched.Bytes v)
     → ((scenario : Scenario) → Means (needs_own request.mode) v.items scenario → (got ≡ Ok scenario) ⊎ (got ≡ Err refusal.Memory))
     → ((key : Key) (why : Cause) → IsRefused (needs_own request.mode) v.items key why → (got ≡ Err (refusal.Fault key why)) ⊎ (got ≡ Err refusal.Memory))
     → (due : Result Scenario SetUpFault) → IsSetUpDue request files due → (made request.options got ≡ due) ⊎ (made request.options got ≡ Err fault.Memory)
-due-from_read request None v got fetch meant told (Ok scenario) due = cc due.2
-due-from_read request None v got fetch meant told (Err fault.NotHad) due = absurd due
-due-from_read request None v got fetch meant told (Err fault.TooLong) due = cc due.2
-due-from_read request None v got fetch meant told (Err (fault.Refused key why)) due = cc due.2
-due-from_read request None v got fetch meant told (Err fault.Memory) due = absurd due
-due-from_read request (Some held) v got fetch meant told (Ok scenario) due =
+due-from_read request None v got reports fetch meant told (Ok scenario) due = cc due.2
+due-from_read request None v got reports fetch meant told (Err fault.NotHad) due = absurd due
+due-from_read request None v got reports fetch meant told (Err fault.TooLong) due = cc due.2
+due-from_read request None v got reports fetch meant told (Err (fault.Refused key why)) due = cc due.2
+due-from_read request None v got reports fetch meant told (Err fault.Memory) due = absurd due
+due-from_read request (Some held) v got reports fetch meant told (Ok scenario) due =
     let is = of_found held request.name v.items _ fetch.0 due in
     subst (λ (s : Scenario). (made request.options got ≡ Ok s) ⊎ (made request.options got ≡ Err fault.Memory)) (sym is.values)
     (made_or request.options got (Ok is.told) (meant is.told is.means))
-due-from_read request (Some held) v got fetch meant told (Err fault.NotHad) due = cc (due, fetch.0)
-due-from_read request (Some held) v got fetch meant told (Err fault.TooLong) due =
+due-from_read request (Some held) v got reports fetch meant told (Err fault.NotHad) due = cc (due, fetch.0)
+due-from_read request (Some held) v got reports fetch meant told (Err fault.TooLong) due =
     let long : greatest_scenario < length v.items = of_found held request.name v.items (λ text. greatest_scenario < length text) fetch.0 due in
     absurd (omega (arith, long, fetch.1))
-due-from_read request (Some held) v got fetch meant told (Err (fault.Refused key why)) due =
-    let is = of_found held request.name v.items (λ text. (length text ≤ greatest_scenario) × IsRefused (needs_own request.mode) text key why) fetch.0 due in
-    made_or request.options got (Err (refusal.Fault key why)) (told key why is.1)
-due-from_read request (Some held) v got fetch meant told (Err fault.Memory) due = absurd due
+due-from_read request (Some held) v got reports fetch meant told (Err (fault.Refused key why)) due =
+    let is = of_found held request.name v.items (λ text. (length text ≤ greatest_scenario) × IsRefusedBy request.mode text key why) fetch.0 due in
+    made_or request.options got (Err (refusal.Fault key why)) (told key why (refused_so request.mode v.items key why reports is.1))
+due-from_read request (Some held) v got reports fetch meant told (Err fault.Memory) due = absurd due
 
 -- where own ship is needed, the scenario has her
 pub own_needed : (need : Bool) (text : List ℕ) (scenario : Scenario) → IsTrue need → Means need text scenario → IsSome scenario.own

@@ -1,15 +1,19 @@
 -- When a run gives which answer.
-use Rattle.std.specs.Prelude.{ℕ, ◌≡◌, ◌≤◌, ◌<◌, ◌^◌, Bool, true, false, IsTrue, List, length, Option, Some, None, IfSome}
+use Rattle.std.specs.Prelude.{ℕ, ◌≡◌, ◌≤◌, ◌<◌, ◌⊎◌, ◌^◌, Bool, true, false, IsTrue, List, length, Option, Some, None, IfSome}
 use Rattle.std.specs.Io.KnownBytes.{IsAtEnd}
 use Rattle.outside.specs.Shelves.{Files, IsMissing, content_of}
 use Rattle.command_line.specs.Requests.{AskFor, AskForNothing}
 use Rattle.command_line.specs.declared.mode.Mode.{Mode}
+use Rattle.command_line.specs.declared.mode.Mode.TheVariants as mode
 use Rattle.command_line.specs.declared.request.Request.{Request}
+use Rattle.scenario.specs.Migration.{IsMigrated, IsNotMigrated}
 use Rattle.scenario.specs.ScenarioReading.{IsRefused, Means}
+use Rattle.scenario_keys.specs.declared.key.Key.{Key}
+use Rattle.scenario_keys.specs.declared.cause.Cause.{Cause}
 use Rattle.scenario.specs.declared.values.Scenario.{Scenario}
 use Rattle.colregs_program.specs.Endings.{IsMet}
 use Rattle.colregs_program.specs.AskedScenarios.{log_of, with_options}
-use Rattle.colregs_program.specs.Modes.{needs_own, reads_log}
+use Rattle.colregs_program.specs.Modes.{needs_own, reads_log, reports}
 use Rattle.colregs_program.specs.declared.status.Status.{Status}
 use Rattle.colregs_program.specs.declared.status.Status.TheVariants as status
 use Rattle.colregs_program.specs.declared.status.Which.TheVariants as which
@@ -31,6 +35,14 @@ abbrev pub Holds : Option Files → List ℕ → (List ℕ → Type 0) → Type 
 Holds None name P = Unit {0}
 Holds (Some held) name P = (text : List ℕ) × (content_of name held ≡ Some text) × P text
 
+-- The mode refuses the bytes at a key, for a cause.
+abbrev pub IsRefusedBy : Mode → List ℕ → Key → Cause → Type 0
+IsRefusedBy mode.Points text key cause = IsRefused (needs_own mode.Points) text key cause
+IsRefusedBy mode.Audit text key cause = IsRefused (needs_own mode.Audit) text key cause
+IsRefusedBy mode.Plan text key cause = IsRefused (needs_own mode.Plan) text key cause
+IsRefusedBy mode.Drill text key cause = IsRefused (needs_own mode.Drill) text key cause
+IsRefusedBy mode.Migrate text key cause = IsNotMigrated text key cause
+
 -- The bytes are those of a scenario, with own ship where the mode needs her, and with the options in place its values are these.
 pub record IsScenario (request : Request) (text : List ℕ) (scenario : Scenario) : Type 0 where
   pub short : length text ≤ greatest_scenario
@@ -38,11 +50,19 @@ pub record IsScenario (request : Request) (text : List ℕ) (scenario : Scenario
   pub means : Means (needs_own request.mode) text told
   pub values : scenario ≡ with_options request.options told
 
--- The words ask for a request of which Q holds; and where the shelf tells its files, the bytes under the request's name are those of
--- a scenario, and P holds of the request and of the scenario's values.
+-- The words ask for a report on a log, and Q holds of the request; and where the shelf tells its files, the bytes under the request's
+-- name are those of a scenario, and P holds of the request and of the scenario's values.
 abbrev pub Runs : List (List ℕ) → Option Files → (Request → Type 0) → (Request → Scenario → Type 0) → Type 0
 Runs words files Q P =
-    Requested words (λ request. Q request × Holds files request.name (λ text. (scenario : Scenario) × IsScenario request text scenario × P request scenario))
+    Requested words (λ request. IsTrue (reports request.mode) × Q request
+    × Holds files request.name (λ text. (scenario : Scenario) × IsScenario request text scenario × P request scenario))
+
+-- The words ask for a migration; and where the shelf tells its files, the bytes under the request's name are those of a scenario of
+-- version 1, and P holds of some text that is the same scenario in version 2.
+abbrev pub Migrates : List (List ℕ) → Option Files → (List ℕ → Type 0) → Type 0
+Migrates words files P =
+    Requested words (λ request. (request.mode ≡ mode.Migrate) × Holds files request.name (λ text. (length text ≤ greatest_scenario)
+    × (migrated : List ℕ) × IsMigrated text migrated × P migrated))
 
 -- A mode that reads the log has read it to its end.
 abbrev pub IsReadBy : Mode → Option (List ℕ) → Type 0
@@ -52,10 +72,11 @@ IsReadBy mode left = IsTrue (reads_log mode) → IsAtEnd left
 abbrev pub MetIn : Request → Scenario → Option (List ℕ) → Status → Type 0
 MetIn request scenario given answer = IfSome (log_of request scenario given) (λ bytes. IsMet request.mode scenario bytes answer)
 
--- The words ask for a request, the shelf tells a scenario under its name, and its log is told.
+-- The words ask for a report on a log, the shelf tells a scenario under the request's name, and its log is told.
 pub record IsReady (words : List (List ℕ)) (files : Option Files) (given : Option (List ℕ))
     (request : Request) (scenario : Scenario) (bytes : List ℕ) : Type 0 where
   pub asked : AskFor words request
+  pub reports : IsTrue (reports request.mode)
   pub lies : LiesUnder files request.name (λ text. IsScenario request text scenario)
   pub gives : log_of request scenario given ≡ Some bytes
 
@@ -65,6 +86,15 @@ Meets words files log answer =
     (request : Request) × (scenario : Scenario) × (bytes : List ℕ)
     × IsReady words files log request scenario bytes × IsMet request.mode scenario bytes answer
 
+-- Nothing is against a migration of the bytes.
+abbrev pub CanMigrate : List ℕ → Type 0
+CanMigrate text = (key : Key) (cause : Cause) → ¬ IsNotMigrated text key cause
+
+-- The words ask for a migration, and the shelf tells bytes under the request's name that can be migrated.
+abbrev pub MayMigrate : List (List ℕ) → Option Files → Type 0
+MayMigrate words files =
+    Requested words (λ request. (request.mode ≡ mode.Migrate) × LiesUnder files request.name (λ text. (length text ≤ greatest_scenario) × CanMigrate text))
+
 -- The answer that words, shelf and log call for, where the shelf and the log tell what they hold: the first that stands in
 -- the way of a run; and where nothing does, `NoManoeuvre` where every plan fails, and `Done` else.
 abbrev pub IsDue : List (List ℕ) → Option Files → Option (List ℕ) → Status → Type 0
@@ -73,14 +103,14 @@ IsDue words files log status.ShelfFault = Requested words (λ request. IsMissing
 IsDue words files log (status.Limit which.Scenario most) =
     (most ≡ greatest_scenario) × Requested words (λ request. LiesUnder files request.name (λ text. greatest_scenario < length text))
 IsDue words files log (status.Scenario key cause) =
-    Requested words (λ request. LiesUnder files request.name (λ text. (length text ≤ greatest_scenario) × IsRefused (needs_own request.mode) text key cause))
+    Requested words (λ request. LiesUnder files request.name (λ text. (length text ≤ greatest_scenario) × IsRefusedBy request.mode text key cause))
 IsDue words files log (status.Limit which.Log most) = Meets words files log (status.Limit which.Log most)
 IsDue words files log (status.Limit which.Vessels most) = Meets words files log (status.Limit which.Vessels most)
 IsDue words files log (status.Limit which.Pairs most) = Meets words files log (status.Limit which.Pairs most)
 IsDue words files log (status.OwnUnready why) = Meets words files log (status.OwnUnready why)
 IsDue words files log (status.Limit which.Targets most) = Meets words files log (status.Limit which.Targets most)
 IsDue words files log status.NoManoeuvre = Meets words files log status.NoManoeuvre
-IsDue words files log status.Done = Meets words files log status.Done
+IsDue words files log status.Done = Meets words files log status.Done ⊎ MayMigrate words files
 IsDue words files log status.ReadFault = ⊥
 IsDue words files log status.WriteFault = ⊥
 IsDue words files log status.Memory = ⊥
@@ -118,3 +148,20 @@ IsOfDrill (status.Limit which.Targets most) = false
 IsOfDrill (status.OwnUnready why) = false
 IsOfDrill status.NoManoeuvre = false
 IsOfDrill status.ReadFault = false
+
+-- A migration gives these answers alone.
+abbrev pub IsOfMigration : Status → Bool
+IsOfMigration status.Done = true
+IsOfMigration status.Usage = true
+IsOfMigration (status.Scenario key cause) = true
+IsOfMigration status.ShelfFault = true
+IsOfMigration status.WriteFault = true
+IsOfMigration (status.Limit which.Scenario most) = true
+IsOfMigration status.Memory = true
+IsOfMigration (status.Limit which.Log most) = false
+IsOfMigration (status.Limit which.Vessels most) = false
+IsOfMigration (status.Limit which.Pairs most) = false
+IsOfMigration (status.Limit which.Targets most) = false
+IsOfMigration (status.OwnUnready why) = false
+IsOfMigration status.NoManoeuvre = false
+IsOfMigration status.ReadFault = false

@@ -17,6 +17,7 @@ use Rattle.judged_lines.specs.SentLines.{sent}
 use Rattle.rule_set.specs.NamedTrees.{NamedTree, rule_at}
 use Rattle.scenario.specs.declared.values.Scenario.{Scenario}
 use Rattle.scenario.specs.Ticks.{time_of_tick}
+use Rattle.settling.specs.Sightings.{audit_numbers, sighted}
 use Rattle.tracks.specs.AcceptedReports.{Numbers}
 use Rattle.tracks.specs.Lengths.{length_of}
 use Rattle.tracks.specs.SeenVessels.{seen_of}
@@ -26,21 +27,7 @@ use Rattle.colregs_program.specs.OutcomeRows.{count_rows}
 
 -- ---- what is audited
 
-abbrev pub audit_numbers : Scenario → AuditNumbers
-audit_numbers scenario = record {
-  detect = scenario.detect;
-  act = scenario.act;
-  tick = scenario.window.tick;
-  last_tick = scenario.window.ticks;
-  subjects = scenario.subjects;
-  rules = scenario.rules;
-}
-
--- the vessels that are seen at each tick of the window, by the messages
-abbrev pub sighted : Scenario → List Sent → List Sighting
-sighted scenario messages = map (λ k. seen_of (numbers_of scenario) messages (time_of_tick scenario.window k)) (range_with_len 0 (scenario.window.ticks + 1))
-
--- the same by a log
+-- the vessels that are seen at each tick of the window, by a log
 unfoldable pub sightings_of : Scenario → List ℕ → List Sighting
 sightings_of scenario log = sighted scenario (sent scenario (lines_of log))
 

@@ -7,8 +7,9 @@ use Rattle.auditor.specs.AuditTotals.{AreTotals}
 use Rattle.judged_lines.specs.JudgedLines.{judged_lines}
 use Rattle.judged_lines.specs.LogLines.{lines_of}
 use Rattle.scenario.specs.declared.values.Scenario.{Scenario}
-use Rattle.colregs_program.specs.AuditReport.{audit_numbers, sightings_of, total_rows}
+use Rattle.colregs_program.specs.AuditReport.{sightings_of, total_rows}
 use Rattle.colregs_program.specs.OutcomeRows.{count_rows}
+use Rattle.settling.specs.Sightings.{audit_numbers}
 
 -- the rows, by the totals of the audit
 unfoldable pub drill_text : Scenario → List ℕ → List Total → List ℕ

@@ -9,7 +9,7 @@ use Rattle.own_ship.specs.declared.readiness.Unready.{Unready}
 use Rattle.planner.specs.LeastPlans.{AllFail}
 use Rattle.scenario.specs.declared.own_part.OwnPart.{OwnPart}
 use Rattle.scenario.specs.declared.values.Scenario.{Scenario}
-use Rattle.colregs_program.specs.AuditReport.{IsAuditReport, audit_numbers, sightings_of}
+use Rattle.colregs_program.specs.AuditReport.{IsAuditReport, sightings_of}
 use Rattle.colregs_program.specs.DrillReport.{IsDrillReport}
 use Rattle.colregs_program.specs.PlanReport.{IsOwn, IsPlanReport, messages_of, situation_on}
 use Rattle.colregs_program.specs.PointsReport.{report_of}
@@ -18,13 +18,15 @@ use Rattle.command_line.specs.declared.mode.Mode.TheVariants as mode
 use Rattle.colregs_program.specs.declared.status.Status.{Status}
 use Rattle.colregs_program.specs.declared.status.Status.TheVariants as status
 use Rattle.colregs_program.specs.declared.status.Which.TheVariants as which
+use Rattle.settling.specs.Sightings.{audit_numbers}
 
--- A finished run writes this text, and no other.
+-- A finished run that reports on a log writes this text, and no other.
 abbrev pub IsEnding : Mode → Scenario → List ℕ → List ℕ → Type 0
 IsEnding mode.Points scenario log text = text ≡ report_of scenario log
 IsEnding mode.Audit scenario log text = IsAuditReport scenario log text
 IsEnding mode.Plan scenario log text = IsPlanReport scenario log text
 IsEnding mode.Drill scenario log text = IsDrillReport scenario log text
+IsEnding mode.Migrate scenario log text = ⊥
 
 -- ---- what stands in the way of a report
 
@@ -38,6 +40,7 @@ HasManyTraces mode.Points scenario log = ⊥
 HasManyTraces mode.Audit scenario log = HaveMoreThan greatest_traces (audit_numbers scenario) (sightings_of scenario log)
 HasManyTraces mode.Plan scenario log = ⊥
 HasManyTraces mode.Drill scenario log = HaveMoreThan greatest_traces (audit_numbers scenario) (sightings_of scenario log)
+HasManyTraces mode.Migrate scenario log = ⊥
 
 -- what own ship lacks
 abbrev pub lack_of : Result Ready Unready → Option Unready
@@ -54,6 +57,7 @@ unready_of mode.Points scenario log = None
 unready_of mode.Audit scenario log = None
 unready_of mode.Plan scenario log = lack_where scenario log scenario.own
 unready_of mode.Drill scenario log = None
+unready_of mode.Migrate scenario log = None
 
 -- P holds of own ship, who is ready.
 abbrev pub OfOwn : Scenario → List ℕ → (OwnPart → Ready → Type 0) → Type 0
@@ -66,6 +70,7 @@ HasManyTargets mode.Audit scenario log = ⊥
 HasManyTargets mode.Plan scenario log = OfOwn scenario log (λ own ready.
     greatest_targets < length (targets_near (numbers_of scenario) (messages_of scenario log) scenario own ready))
 HasManyTargets mode.Drill scenario log = ⊥
+HasManyTargets mode.Migrate scenario log = ⊥
 
 -- Every plan of hers fails.
 abbrev pub HasNoManoeuvre : Mode → Scenario → List ℕ → Type 0
@@ -73,6 +78,7 @@ HasNoManoeuvre mode.Points scenario log = ⊥
 HasNoManoeuvre mode.Audit scenario log = ⊥
 HasNoManoeuvre mode.Plan scenario log = OfOwn scenario log (λ own ready. AllFail (situation_on scenario log own ready))
 HasNoManoeuvre mode.Drill scenario log = ⊥
+HasNoManoeuvre mode.Migrate scenario log = ⊥
 
 -- ---- the answer
 

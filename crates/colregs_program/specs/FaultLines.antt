@@ -29,7 +29,7 @@ lacks (unready.NoSpeed time) = codes "speed"
 abbrev pub fault_line : Status → List ℕ
 fault_line status.Done = []
 fault_line status.NoManoeuvre = []
-fault_line status.Usage = line (codes "usage: points|audit|plan|drill SCENARIO")
+fault_line status.Usage = line (codes "usage: points|audit|plan|drill|migrate SCENARIO")
 fault_line (status.Scenario key cause) = line (codes "scenario: " ++ fault_text key cause)
 fault_line status.ShelfFault = line (codes "scenario: not read")
 fault_line status.ReadFault = line (codes "log: not read")

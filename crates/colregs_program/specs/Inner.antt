@@ -5,3 +5,4 @@ pub mod LineBytes
 pub mod LogFaults
 pub mod SetUps
 pub mod WordsFaults
+pub mod Migrating

@@ -10,3 +10,4 @@ pub mod Answers
 pub mod Told
 pub mod FaultLines
 pub mod Inner
+pub use Rattle.settling.specs.Sightings

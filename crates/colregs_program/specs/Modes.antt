@@ -9,10 +9,20 @@ needs_own mode.Points = false
 needs_own mode.Audit = false
 needs_own mode.Plan = true
 needs_own mode.Drill = false
+needs_own mode.Migrate = false
 
--- A drill makes its own log; each other mode reads the one that it is given.
+-- A migration looks at the scenario alone; each other mode reports on a log.
+abbrev pub reports : Mode → Bool
+reports mode.Points = true
+reports mode.Audit = true
+reports mode.Plan = true
+reports mode.Drill = true
+reports mode.Migrate = false
+
+-- A drill makes its own log; the others that report on a log read the one that is given.
 abbrev pub reads_log : Mode → Bool
 reads_log mode.Points = true
 reads_log mode.Audit = true
 reads_log mode.Plan = true
 reads_log mode.Drill = false
+reads_log mode.Migrate = false

@@ -25,7 +25,7 @@ impl FaultLine {
     {
         let text = match status {
             Status::Done | Status::NoManoeuvre => "",
-            Status::Usage => "usage: points|audit|plan|drill SCENARIO\n",
+            Status::Usage => "usage: points|audit|plan|drill|migrate SCENARIO\n",
             Status::Scenario(key, cause) => {
                 return Ok(FaultLine::Made(refusal_line(alloc, *key, *cause)?));
             }

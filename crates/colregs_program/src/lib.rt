@@ -10,6 +10,7 @@ mod drill;
 mod fault_line;
 pub mod laws;
 mod log_fault;
+mod migrate;
 mod modes;
 mod outcome_rows;
 mod plan;
@@ -20,6 +21,7 @@ mod program;
 mod report;
 mod set_up;
 mod status;
+mod telling;
 #[cfg(test)]
 mod tests;
 mod ticks;

@@ -1,6 +1,6 @@
 //! What each mode needs.
 ghost use Rattle.std.specs.Prelude.{◌≡◌};
-ghost use Rattle.colregs_program.specs.Modes.{needs_own, reads_log};
+ghost use Rattle.colregs_program.specs.Modes.{needs_own, reads_log, reports};
 
 use command_line::Mode;
 
@@ -11,9 +11,16 @@ pub(crate) fn needs_own(mode: Mode) -> bool
     mode == Mode::Plan
 }
 
+/// Whether it reports on a log. A migration looks at the scenario alone.
+pub(crate) fn reports(mode: Mode) -> bool
+    ensures { result ≡ reports mode }
+{
+    mode != Mode::Migrate
+}
+
 /// Whether the log that is given is read. A drill makes its own.
 pub(crate) fn reads_log(mode: Mode) -> bool
     ensures { result ≡ reads_log mode }
 {
-    mode != Mode::Drill
+    reports(mode) && mode != Mode::Drill
 }

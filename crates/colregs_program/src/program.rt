@@ -6,55 +6,30 @@ ghost use Rattle.outside.specs.Shelves.{IsMissing};
 ghost use Rattle.outside.specs.Streams.{AppendsPart};
 ghost use Rattle.outside.specs.WholeReading.{StopsAt};
 ghost use Rattle.outside.specs.declared.whole.ReadFault.TheVariants as read;
-ghost use Rattle.scenario.specs.ScenarioReading.{IsRefused};
 ghost use Rattle.scenario_keys.specs.declared.key.Key.{Key};
 ghost use Rattle.scenario_keys.specs.declared.cause.Cause.{Cause};
 ghost use Rattle.command_line.specs.Requests.{AskFor, AskForNothing};
-ghost use Rattle.command_line.specs.declared.mode.Mode.TheVariants.{Drill};
+ghost use Rattle.command_line.specs.declared.mode.Mode.TheVariants.{Drill, Migrate};
 ghost use Rattle.command_line.specs.declared.request.Request.{Request};
-ghost use Rattle.colregs_program.specs.Answers.{greatest_scenario, Holds, IsBeforeLog, IsDue, IsOfDrill, IsReadBy, MetIn, Requested, Runs};
+ghost use Rattle.colregs_program.specs.Answers.{greatest_scenario, Holds, IsBeforeLog, IsDue, IsOfDrill, IsOfMigration, IsReadBy, IsRefusedBy, MetIn, Migrates, Requested, Runs};
 ghost use Rattle.colregs_program.specs.AskedScenarios.{log_of};
 ghost use Rattle.colregs_program.specs.Endings.{IsEnding, IsFinished, IsMet};
-ghost use Rattle.colregs_program.specs.FaultLines.{fault_line, is_made};
-ghost use Rattle.colregs_program.specs.Modes.{needs_own, reads_log};
+ghost use Rattle.colregs_program.specs.FaultLines.{fault_line};
+ghost use Rattle.colregs_program.specs.Modes.{reads_log};
 ghost use Rattle.colregs_program.specs.Told.{Gains};
 ghost use Rattle.own_ship.specs.declared.readiness.Unready.{Unready};
 ghost use Rattle.colregs_program.specs.declared.status.Status.{Status};
 ghost use Rattle.colregs_program.specs.declared.status.Which.TheVariants as which;
 
-use crate::fault_line::FaultLine;
+use crate::migrate::write_migrated;
+use crate::modes::reports;
 use crate::report::report_on;
 use crate::set_up::set_up;
 use crate::status::Status;
+use crate::telling::tell;
 use command_line::request_of;
 use outside::{Shelf, Sink, Source, Word, put_all};
 use std::alloc::Global;
-
-/// Writes a line to standard error, which may fail to show it.
-fn put_line<E: Sink>(err: &mut E, line: &[u8])
-    ensures { Gains (record { bytes = E.contents err.old; faults = E.faults err.old })
-        (record { bytes = E.contents err.new; faults = E.faults err.new }) line.now }
-{
-    let _ = put_all(err, line);
-}
-
-/// Tells standard error of a fault. Where there is no memory for the line of it, that is the fault.
-fn tell<E: Sink>(alloc: Global, status: Status, err: &mut E) -> Status
-    ensures same { (result ≡ status) ⊎ ((result ≡ Status.Memory) × IsTrue (is_made status)) }
-    ensures line { Gains (record { bytes = E.contents err.old; faults = E.faults err.old })
-        (record { bytes = E.contents err.new; faults = E.faults err.new }) (fault_line result) }
-{
-    match FaultLine::of(alloc, &status) {
-        Ok(line) => {
-            put_line(err, line.as_bytes());
-            status
-        }
-        Err(_) => {
-            put_line(err, b"memory\n");
-            Status::Memory
-        }
-    }
-}
 
 /// Runs the program with these words, which do not hold its own name, and which `clap` reads by the command `colregs`.
 ///
@@ -64,7 +39,7 @@ fn tell<E: Sink>(alloc: Global, status: Status, err: &mut E) -> Status
 /// then the vessels, what each rule comes to, and the outcomes. `plan SCENARIO` takes the last tick as now and writes the report of
 /// `plan`: own ship and the vessels near her, the legs of the first of her plans that newly breaks no rule and enters no domain, or
 /// that there is none, and the outcomes. `drill SCENARIO` makes the log of forty vessels in place of reading one, audits it, and writes what
-/// each rule comes to, and the outcomes. `--start` and `--ticks` stand in place of the scenario's own start and length of the window. What
+/// each rule comes to, and the outcomes. `migrate SCENARIO` writes the scenario as one of version 2, and looks at no log. `--start` and `--ticks` stand in place of the scenario's own start and length of the window. What
 /// `err` gets names the fault, and nothing else is written.
 pub fn run<H: Shelf, S: Source, K: Sink, E: Sink>(
     alloc: Global,
@@ -77,9 +52,11 @@ pub fn run<H: Shelf, S: Source, K: Sink, E: Sink>(
     // The headline: for every scenario and log, however the reads are cut, a finished run has read the log to its end, unless it is a drill,
     // which makes its log, and `out` gained exactly the report, which is that of the answer: `NoManoeuvre` comes exactly where every plan
     // fails. A printed plan is safe.
+    // A finished migration wrote the same scenario in version 2.
     ensures headline { IsTrue (IsFinished result) → Runs words.now (H.files shelf.old) (λ request. IsReadBy request.mode (S.left log.new))
         (λ request scenario. IfSome (log_of request scenario (S.left log.old)) (λ bytes. IsMet request.mode scenario bytes result
-        × (text : List ℕ) × IsEnding request.mode scenario bytes text × Appends (K.contents out.old) (K.contents out.new) text)) }
+        × (text : List ℕ) × IsEnding request.mode scenario bytes text × Appends (K.contents out.old) (K.contents out.new) text))
+        ⊎ ((result ≡ Status.Done) × Migrates words.now (H.files shelf.old) (λ text. Appends (K.contents out.old) (K.contents out.new) text)) }
 
     // Completeness: the answer that words, shelf and log call for comes, where no call fails. Memory alone is free.
     ensures due { (due : Status) → IsDue words.now (H.files shelf.old) (S.left log.old) due
@@ -97,7 +74,7 @@ pub fn run<H: Shelf, S: Source, K: Sink, E: Sink>(
         × Requested words.now (λ request. Holds (H.files shelf.old) request.name (λ text. most < length text)) }
     ensures refused { (key : Key) (cause : Cause) → result ≡ Status.Scenario key cause
         → Requested words.now (λ request. Holds (H.files shelf.old) request.name (λ text.
-        (length text ≤ greatest_scenario) × IsRefused (needs_own request.mode) text key cause)) }
+        (length text ≤ greatest_scenario) × IsRefusedBy request.mode text key cause)) }
     ensures read_fault { result ≡ Status.ReadFault → (S.faults log.new ≡ one_more (S.faults log.old))
         × Runs words.now (H.files shelf.old) (λ request. IsTrue (reads_log request.mode))
         (λ _ scenario. StopsAt scenario.log.max_bytes 0 (S.left log.old) (S.left log.new) read.Failed) }
@@ -117,11 +94,13 @@ pub fn run<H: Shelf, S: Source, K: Sink, E: Sink>(
         → Runs words.now (H.files shelf.old) (λ request. IsReadBy request.mode (S.left log.new))
         (λ request scenario. MetIn request scenario (S.left log.old) (Status.Limit which.Targets most)) }
     ensures write_fault { result ≡ Status.WriteFault → (K.faults out.new ≡ one_more (K.faults out.old))
-        × Runs words.now (H.files shelf.old) (λ request. IsReadBy request.mode (S.left log.new))
+        × (Runs words.now (H.files shelf.old) (λ request. IsReadBy request.mode (S.left log.new))
         (λ request scenario. IfSome (log_of request scenario (S.left log.old)) (λ bytes. (answer : Status) × IsTrue (IsFinished answer)
         × IsMet request.mode scenario bytes answer
-        × (text : List ℕ) × IsEnding request.mode scenario bytes text × AppendsPart (K.contents out.old) (K.contents out.new) text)) }
+        × (text : List ℕ) × IsEnding request.mode scenario bytes text × AppendsPart (K.contents out.old) (K.contents out.new) text))
+        ⊎ Migrates words.now (H.files shelf.old) (λ text. AppendsPart (K.contents out.old) (K.contents out.new) text)) }
     ensures drill { (request : Request) → AskFor words.now request → request.mode ≡ Drill → IsTrue (IsOfDrill result) }
+    ensures migration { (request : Request) → AskFor words.now request → request.mode ≡ Migrate → IsTrue (IsOfMigration result) }
 
     // What is asked for and what is written then.
     ensures unfetched { AskForNothing words.now → H.fetches shelf.new ≡ H.fetches shelf.old }
@@ -129,7 +108,7 @@ pub fn run<H: Shelf, S: Source, K: Sink, E: Sink>(
         ⊎ ((result ≡ Status.Memory) × (H.fetches shelf.new ≡ H.fetches shelf.old)) }
     ensures untouched { IsTrue (IsBeforeLog result)
         → Keeps (S.left log.old) (S.left log.new) × (S.faults log.new ≡ S.faults log.old) }
-    ensures unread { (request : Request) → AskFor words.now request → request.mode ≡ Drill
+    ensures unread { (request : Request) → AskFor words.now request → reads_log request.mode ≡ false
         → Keeps (S.left log.old) (S.left log.new) × (S.faults log.new ≡ S.faults log.old) }
     ensures unwritten { IsFinished result ≡ false → result ≢ Status.WriteFault
         → Keeps (K.contents out.old) (K.contents out.new) × (K.faults out.new ≡ K.faults out.old) }
@@ -140,6 +119,9 @@ pub fn run<H: Shelf, S: Source, K: Sink, E: Sink>(
         Ok(request) => request,
         Err(fault) => return tell(alloc, fault.into(), err),
     };
+    if !reports(request.mode) {
+        return write_migrated(alloc, &request, shelf, out, err);
+    }
     let scenario = match set_up(alloc, &request, shelf) {
         Ok(scenario) => scenario,
         Err(fault) => return tell(alloc, fault.into(), err),

@@ -6,7 +6,7 @@ ghost use Rattle.scenario.specs.ScenarioValues.{IsInRange, IsWindow};
 ghost use Rattle.colregs_program.specs.Answers.{IsReadBy};
 ghost use Rattle.colregs_program.specs.AskedScenarios.{log_of};
 ghost use Rattle.colregs_program.specs.Endings.{IsAnswerTo, IsEnding, IsMet};
-ghost use Rattle.colregs_program.specs.Modes.{needs_own, reads_log};
+ghost use Rattle.colregs_program.specs.Modes.{needs_own, reads_log, reports};
 ghost use Rattle.colregs_program.specs.Inner.LogFaults.{EndingCause, LogCause, MakeCause, ReadCause, finished};
 
 use crate::audit::audit_report;
@@ -47,6 +47,7 @@ fn report_of(
     scenario: Scenario,
     log: &[u8],
 ) -> Result<Report, EndingFault>
+    requires reports { IsTrue (reports mode) }
     requires in_range { IsInRange scenario }
     requires own { IsTrue (needs_own mode) → IsSome scenario.own }
     ensures ending { IfOk result (λ report. IsEnding mode scenario log.now report.text.items) }
@@ -58,6 +59,7 @@ fn report_of(
         Mode::Audit => Ok(Report::without_search(audit_report(alloc, &scenario, log)?)),
         Mode::Plan => plan_report(alloc, scenario, log),
         Mode::Drill => Ok(Report::without_search(drill_report(alloc, &scenario, log)?)),
+        Mode::Migrate => unreachable!(),
     }
 }
 
@@ -125,6 +127,7 @@ pub(crate) fn report_on<S: Source>(
     scenario: Scenario,
     log: &mut S,
 ) -> Result<Report, LogFault>
+    requires reports { IsTrue (reports request.now.mode) }
     requires in_range { IsInRange scenario }
     requires own { IsTrue (needs_own request.now.mode) → IsSome scenario.own }
     requires seed { request.now.options.seed ≤ 999999 }

@@ -5,7 +5,7 @@ ghost use Rattle.scenario.specs.ScenarioValues.{IsInRange};
 ghost use Rattle.scenario.specs.declared.values.Scenario.{Scenario};
 ghost use Rattle.colregs_program.specs.Answers.{Holds, IsScenario};
 ghost use Rattle.colregs_program.specs.AskedScenarios.{with_options};
-ghost use Rattle.colregs_program.specs.Modes.{needs_own};
+ghost use Rattle.colregs_program.specs.Modes.{needs_own, reports};
 ghost use Rattle.colregs_program.specs.Inner.SetUps.{AreOptions, IsSetUpDue, SetUpCause};
 ghost use Rattle.colregs_program.specs.declared.set_up.SetUpFault.{SetUpFault};
 
@@ -80,7 +80,8 @@ pub(crate) fn set_up<H: Shelf>(
     request: &Request,
     shelf: &mut H,
 ) -> Result<Scenario, SetUpFault>
-    requires { AreOptions request.now.options }
+    requires options { AreOptions request.now.options }
+    requires reports { IsTrue (reports request.now.mode) }
     ensures scenario { IfOk result (λ scenario. Holds (H.files shelf.old) request.now.name (λ text. IsScenario request.now text scenario)) }
     ensures in_range { IfOk result IsInRange }
     ensures own { IfOk result (λ scenario. IsTrue (needs_own request.now.mode) → IsSome scenario.own) }

@@ -304,7 +304,7 @@ fn shelf_without_the_name(rt: HostRuntime) -> Result<(), Fail> {
     assert_eq!(rt; status.number(), 2);
     assert!(rt;
         err.bytes()
-            .ends_with(b"usage: points|audit|plan|drill SCENARIO\n")
+            .ends_with(b"usage: points|audit|plan|drill|migrate SCENARIO\n")
     );
     Ok(())
 }
@@ -436,7 +436,7 @@ fn ticks_out_of_range(rt: HostRuntime) -> Result<(), Fail> {
     assert_eq!(rt; ended.status, Status::Usage);
     assert_eq!(rt;
         ended.err.bytes(),
-        b"usage: points|audit|plan|drill SCENARIO\n".as_slice()
+        b"usage: points|audit|plan|drill|migrate SCENARIO\n".as_slice()
     );
     Ok(())
 }
@@ -488,6 +488,42 @@ fn drill_log_longer_than_the_scenario_allows(rt: HostRuntime) -> Result<(), Fail
         &mut log,
     )?;
     assert_eq!(rt; ended.status, Status::Limit(Which::Log, 18199));
+    assert!(rt; ended.out.bytes().is_empty());
+    Ok(())
+}
+
+/// Runs `migrate` on a scenario; the log fails at its first read, so it is not read.
+fn migrated(alloc: Global, scenario: &str) -> Result<Ended, Fail> {
+    let mut log = MemorySource::new(Vec::new(alloc), 1, vec![in alloc; 0]?);
+    run_words(
+        alloc,
+        &["migrate", "scenario.toml", "--ticks", "7", "--seed=3"],
+        scenario,
+        &mut log,
+    )
+}
+
+#[test]
+fn a_migrated_scenario_audits_the_head_on_log_alike(rt: HostRuntime) -> Result<(), Fail> {
+    let scenario = about_zero(rt.alloc())?;
+    let ended = migrated(rt.alloc(), scenario.as_str())?;
+    assert_eq!(rt; ended.status, Status::Done);
+    let text = match std::str::from_utf8(ended.out.bytes()) {
+        Ok(text) => text,
+        Err(_) => "",
+    };
+    assert!(rt; text.contains("ticks = 40\n"));
+    let mut log = PlainSource::new(HEAD_ON.to_vec(rt.alloc())?, 64);
+    let again = run_words(rt.alloc(), &["audit", "scenario.toml"], text, &mut log)?;
+    assert!(rt; again.out.bytes().starts_with(HEAD_ON_AUDITED));
+    Ok(())
+}
+
+#[test]
+fn a_scenario_of_version_2_is_not_migrated(rt: HostRuntime) -> Result<(), Fail> {
+    let second = SCENARIO.replace(rt.alloc(), "version = 1", "version = 2")?;
+    let ended = migrated(rt.alloc(), second.as_str())?;
+    assert_eq!(rt; ended.err.bytes(), b"scenario: version: range\n".as_slice());
     assert!(rt; ended.out.bytes().is_empty());
     Ok(())
 }

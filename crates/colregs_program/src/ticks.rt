@@ -8,10 +8,11 @@ ghost use Rattle.scenario.specs.ScenarioValues.{IsInRange};
 ghost use Rattle.tracks.specs.Standing.{StandsFor as BookStandsFor};
 ghost use Rattle.tracks.specs.VesselsHeld.{Sent};
 ghost use Rattle.tracks.specs.declared.keeping.Keeping.TheVariants.{Tracks};
-ghost use Rattle.colregs_program.specs.AuditReport.{audit_numbers, sighted, stretch_fields, stretch_rows};
+ghost use Rattle.colregs_program.specs.AuditReport.{stretch_fields, stretch_rows};
 ghost use Rattle.colregs_program.specs.Endings.{greatest_traces};
 ghost use Rattle.colregs_program.specs.Inner.AuditWriting.{AreOfRules, IsAudited, IsOfRules};
 ghost use Rattle.auditor.specs.declared.fault.AuditFault.TheVariants.{TooManyPairs};
+ghost use Rattle.settling.specs.Sightings.{audit_numbers, sighted};
 
 use audit_report::{ReportRow, ReportText};
 use auditor::{Audit, AuditFault, Row, Total};

@@ -36,13 +36,15 @@ abbrev mode_of : Text → Mode
 mode_of text = if bytes_eq text (codes "points") then mode.Points
     else if bytes_eq text (codes "audit") then mode.Audit
     else if bytes_eq text (codes "plan") then mode.Plan
-    else mode.Drill
+    else if bytes_eq text (codes "drill") then mode.Drill
+    else mode.Migrate
 
 mode_back : (m : Mode) → mode_of (mode_text m) ≡ m
 mode_back mode.Points = refl
 mode_back mode.Audit = refl
 mode_back mode.Plan = refl
 mode_back mode.Drill = refl
+mode_back mode.Migrate = refl
 
 abbrev setting_of : Text → Setting
 setting_of text = if bytes_eq text (codes "start") then start

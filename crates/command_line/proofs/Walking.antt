@@ -60,6 +60,7 @@ mode_is_name mode.Points = refl
 mode_is_name mode.Audit = refl
 mode_is_name mode.Plan = refl
 mode_is_name mode.Drill = refl
+mode_is_name mode.Migrate = refl
 
 pub name_walked : (values : Choices) (text name : Text) → is_name name ≡ true
     → walked (top values).rules [] (behind [] (codes "mode") text 2) name ≡ behind (row (codes "mode") text ∷ []) (codes "scenario") name 3
@@ -75,6 +76,7 @@ mode_accepted values are mode.Points = are (codes "points")
 mode_accepted values are mode.Audit = are (codes "audit")
 mode_accepted values are mode.Plan = are (codes "plan")
 mode_accepted values are mode.Drill = are (codes "drill")
+mode_accepted values are mode.Migrate = are (codes "migrate")
 
 pub name_faultless : (values : Choices) (text name : Text) → list_any (possible_matches false text) values.now ≡ true → is_name name ≡ true
     → turn_fault (top values) [] (behind [] (codes "mode") text 2) name ≡ []

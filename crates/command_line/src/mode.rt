@@ -18,10 +18,12 @@ pub enum Mode {
     Plan,
     /// A log of forty vessels that is made for the scenario, and the totals of its audit.
     Drill,
+    /// The scenario as one of version 2, with the same meaning.
+    Migrate,
 }
 
 /// The modes as values of an argument, each with its line of help.
-pub(crate) fn mode_values() -> [PossibleValue<'static>; 4]
+pub(crate) fn mode_values() -> [PossibleValue<'static>; 5]
     ensures { AreModes result }
 {
     [
@@ -35,6 +37,9 @@ pub(crate) fn mode_values() -> [PossibleValue<'static>; 4]
         PossibleValue::new("drill").help(
             "Make a log of forty vessels, and write the totals of its audit",
         ),
+        PossibleValue::new("migrate").help(
+            "Write a scenario of version 1 as one of version 2 with the same meaning",
+        ),
     ]
 }
 
@@ -47,6 +52,7 @@ pub(crate) fn mode_named(text: &str) -> Option<Mode>
         "audit" => Some(Mode::Audit),
         "plan" => Some(Mode::Plan),
         "drill" => Some(Mode::Drill),
+        "migrate" => Some(Mode::Migrate),
         _ => None,
     }
 }

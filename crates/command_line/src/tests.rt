@@ -177,7 +177,13 @@ fn holds(text: &Result<String, Memory>, part: &str) -> bool {
 #[test]
 fn help_names_modes_options_statuses_and_an_example(rt: HostRuntime) {
     let help = told_text(rt.alloc(), Told::Help);
-    for part in ["- points: ", "- audit:  ", "- plan:   ", "- drill:  "] {
+    for part in [
+        "- points: ",
+        "- audit:  ",
+        "- plan:   ",
+        "- drill:  ",
+        "- migrate:",
+    ] {
         assert!(&rt; holds(&help, part));
     }
     for part in [

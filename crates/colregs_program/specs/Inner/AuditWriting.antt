@@ -19,8 +19,9 @@ use Rattle.tracks.specs.SeenVessels.{seen_in, seen_of}
 use Rattle.tracks.specs.Standing.{BookValue, StandsFor as BookStandsFor}
 use Rattle.tracks.specs.VesselsHeld.{Sent}
 use Rattle.scenario.specs.Ticks.{time_of_tick}
-use Rattle.colregs_program.specs.AuditReport.{audit_numbers, sighted, stretch_rows}
+use Rattle.colregs_program.specs.AuditReport.{stretch_rows}
 use Rattle.colregs_program.specs.Endings.{greatest_traces}
+use Rattle.settling.specs.Sightings.{audit_numbers, seen_first, sighted}
 
 -- A verdict is of one of the rules.
 abbrev pub IsOfRules : List NamedTree → Row → Type 0
@@ -41,10 +42,6 @@ pub record IsAudited (scenario : Scenario) (messages : List Sent) (text : Report
 abbrev pub seen_before : BookValue → Window → ℕ → Sighting
 seen_before book window zero = []
 seen_before book window (suc k) = seen_in book (time_of_tick window k)
-
--- the vessels that are seen at the first ticks, by the messages
-abbrev pub seen_first : Scenario → List Sent → ℕ → List Sighting
-seen_first scenario messages k = map (λ i. seen_of (numbers_of scenario) messages (time_of_tick scenario.window i)) (range_with_len 0 k)
 
 -- The first k ticks were audited, and the rows written that are decided by them.
 pub record AuditedUpTo (scenario : Scenario) (book : BookValue) (first text : ReportText) (audit : Audit) (k : ℕ) : Type 0 where

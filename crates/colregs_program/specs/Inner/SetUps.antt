@@ -2,12 +2,10 @@
 use Rattle.std.specs.Prelude.{ℕ, ◌≡◌, ◌≤◌, ◌<◌, ◌⊎◌, length, Option, Result, Ok, Err, IfSome}
 use Rattle.outside.specs.Causes.{one_more}
 use Rattle.outside.specs.Shelves.{Files, IsMissing}
-use Rattle.scenario.specs.ScenarioReading.{IsRefused}
 use Rattle.scenario.specs.declared.values.Scenario.{Scenario}
 use Rattle.scenario_keys.specs.declared.fault.ScenarioFault.{ScenarioFault}
 use Rattle.scenario_keys.specs.declared.fault.ScenarioFault.TheVariants as refusal
-use Rattle.colregs_program.specs.Answers.{Holds, LiesUnder, IsScenario, greatest_scenario}
-use Rattle.colregs_program.specs.Modes.{needs_own}
+use Rattle.colregs_program.specs.Answers.{Holds, IsRefusedBy, IsScenario, LiesUnder, greatest_scenario}
 use Rattle.command_line.specs.declared.request.Options.{Options}
 use Rattle.command_line.specs.declared.request.Request.{Request}
 use Rattle.colregs_program.specs.declared.set_up.SetUpFault.{SetUpFault}
@@ -39,7 +37,7 @@ abbrev pub SetUpCause : Request → Option Files → ℕ → ℕ → SetUpFault 
 SetUpCause request files before now fault.NotHad = (now ≡ one_more before) ⊎ IsMissing files request.name
 SetUpCause request files before now fault.TooLong = Holds files request.name (λ text. greatest_scenario < length text)
 SetUpCause request files before now (fault.Refused key cause) =
-    Holds files request.name (λ text. (length text ≤ greatest_scenario) × IsRefused (needs_own request.mode) text key cause)
+    Holds files request.name (λ text. (length text ≤ greatest_scenario) × IsRefusedBy request.mode text key cause)
 SetUpCause request files before now fault.Memory = Unit {0}
 
 -- what the bytes under the name call for, where the shelf tells them
@@ -48,5 +46,5 @@ IsSetUpDue request files (Ok scenario) = LiesUnder files request.name (λ text. 
 IsSetUpDue request files (Err fault.NotHad) = IsMissing files request.name
 IsSetUpDue request files (Err fault.TooLong) = LiesUnder files request.name (λ text. greatest_scenario < length text)
 IsSetUpDue request files (Err (fault.Refused key cause)) =
-    LiesUnder files request.name (λ text. (length text ≤ greatest_scenario) × IsRefused (needs_own request.mode) text key cause)
+    LiesUnder files request.name (λ text. (length text ≤ greatest_scenario) × IsRefusedBy request.mode text key cause)
 IsSetUpDue request files (Err fault.Memory) = ⊥

@@ -9,11 +9,12 @@ use Rattle.auditor.specs.declared.fault.AuditFault.{AuditFault}
 use Rattle.auditor.specs.declared.fault.AuditFault.TheVariants as audit_fault
 use Rattle.tracks.specs.SeenVessels.{seen_in, seen_of}
 use Rattle.judged_lines.specs.JudgedLines.{numbers_of}
-use Rattle.colregs_program.specs.AuditReport.{audit_numbers, stretch_rows}
+use Rattle.colregs_program.specs.AuditReport.{stretch_rows}
 use Rattle.colregs_program.specs.Endings.{greatest_traces}
-use Rattle.colregs_program.specs.Inner.AuditWriting.{AreOfRules, seen_first}
+use Rattle.colregs_program.specs.Inner.AuditWriting.{AreOfRules}
 use Rattle.colregs_program.proofs.Auditing.{audited_on, last_of_rules, many_now, moves_on, rows_of_rules, rows_of_rules_below, rows_on, same_fault}
 use Rattle.colregs_program.proofs.ticks.write_audit.Goals as goal
+use Rattle.settling.specs.Sightings.{audit_numbers, seen_first}
 
 pub step-requires-clause-moves : goal.step-requires-clause-moves
 step-requires-clause-moves c =

@@ -1,0 +1,78 @@
+-- Why a migration is refused is what the bytes under the name call for.
+use Rattle.std.proofs.Common.{ℕ, ◌≡◌, ◌≤◌, ◌<◌, ◌⊎◌, inl, inr, List, length, Option, None, Some, Result, Err, Vec, refl, ap, arith}
+use Rattle.std.specs.declared.alloc.Global.{Global}
+use Rattle.outside.specs.Shelves.{Fetches, Files}
+use Rattle.outside.specs.declared.shelf.Fetched.TheVariants as fetched
+use Rattle.scenario.specs.Migration.{IsNotMigrated}
+use Rattle.scenario_keys.specs.declared.key.Key.{Key}
+use Rattle.scenario_keys.specs.declared.cause.Cause.{Cause}
+use Rattle.scenario_keys.specs.declared.fault.ScenarioFault.{ScenarioFault}
+use Rattle.scenario_keys.specs.declared.fault.ScenarioFault.TheVariants as refusal
+use Rattle.command_line.specs.declared.request.Request.{Request}
+use Rattle.colregs_program.specs.Answers.{CanMigrate, greatest_scenario}
+use Rattle.colregs_program.specs.Inner.Migrating.{IsMigrationDue}
+use Rattle.colregs_program.specs.Inner.SetUps.{answer_of, set_up_fault}
+use Rattle.colregs_program.specs.declared.set_up.SetUpFault.TheVariants as fault
+use Rattle.colregs_program.specs.declared.status.Status.{Status}
+use Rattle.colregs_program.specs.declared.status.Status.TheVariants as status
+use Rattle.colregs_program.specs.declared.status.Which.TheVariants as which
+use Rattle.colregs_program.proofs.SettingUp.{of_found}
+
+-- A migration that failed answers what is due, or found no memory.
+abbrev pub IsAnswered : ScenarioFault → Status → Type 0
+IsAnswered why due = (answer_of (set_up_fault why) ≡ due) ⊎ (set_up_fault why ≡ fault.Memory)
+
+abbrev failed : ScenarioFault → Result (Vec ℕ Global) ScenarioFault
+failed why = Err why
+
+module _ (request : Request) (v : Vec ℕ Global) (why : ScenarioFault)
+    (refused : (key : Key) (cause : Cause) → failed why ≡ Err (refusal.Fault key cause) → IsNotMigrated v.items key cause)
+    (told : (key : Key) (cause : Cause) → IsNotMigrated v.items key cause → (failed why ≡ Err (refusal.Fault key cause)) ⊎ (failed why ≡ Err refusal.Memory)) where
+  can_not : (w : ScenarioFault) → why ≡ w → CanMigrate v.items → IsAnswered w status.Done
+  can_not refusal.Memory is can = inr refl
+  can_not (refusal.Fault key cause) is can = absurd (can key cause (refused key cause (ap Err is)))
+
+  told_so : (key : Key) (cause : Cause) → (failed why ≡ Err (refusal.Fault key cause)) ⊎ (failed why ≡ Err refusal.Memory) → IsAnswered why (status.Scenario key cause)
+  told_so key cause (inl same) = let is : why ≡ refusal.Fault key cause = cc same in rw is (inl refl)
+  told_so key cause (inr same) = let is : why ≡ refusal.Memory = cc same in rw is (inr refl)
+
+  held_due : (held : Files) → Fetches (Some held) request.name greatest_scenario (fetched.Bytes v) → (due : Status) → IsMigrationDue request (Some held) due → IsAnswered why due
+  held_due held fetch status.ShelfFault due = cc (due, fetch.0)
+  held_due held fetch (status.Limit which.Scenario most) due =
+      let long : greatest_scenario < length v.items = of_found held request.name v.items (λ text. greatest_scenario < length text) fetch.0 due.1 in
+      absurd (omega (arith, long, fetch.1))
+  held_due held fetch (status.Scenario key cause) due =
+      told_so key cause (told key cause (of_found held request.name v.items (λ text. (length text ≤ greatest_scenario) × IsNotMigrated text key cause) fetch.0 due).1)
+  held_due held fetch status.Done due =
+      can_not why refl (of_found held request.name v.items (λ text. (length text ≤ greatest_scenario) × CanMigrate text) fetch.0 due).1
+  held_due held fetch status.Usage due = absurd due
+  held_due held fetch (status.Limit which.Log most) due = absurd due
+  held_due held fetch (status.Limit which.Vessels most) due = absurd due
+  held_due held fetch (status.Limit which.Pairs most) due = absurd due
+  held_due held fetch (status.Limit which.Targets most) due = absurd due
+  held_due held fetch (status.OwnUnready lack) due = absurd due
+  held_due held fetch status.NoManoeuvre due = absurd due
+  held_due held fetch status.ReadFault due = absurd due
+  held_due held fetch status.WriteFault due = absurd due
+  held_due held fetch status.Memory due = absurd due
+
+  -- where the shelf tells nothing, nothing is due
+  untold : (due : Status) → IsMigrationDue request None due → IsAnswered why due
+  untold status.ShelfFault due = absurd due
+  untold (status.Limit which.Scenario most) due = cc due.1.2
+  untold (status.Scenario key cause) due = cc due.2
+  untold status.Done due = cc due.2
+  untold status.Usage due = absurd due
+  untold (status.Limit which.Log most) due = absurd due
+  untold (status.Limit which.Vessels most) due = absurd due
+  untold (status.Limit which.Pairs most) due = absurd due
+  untold (status.Limit which.Targets most) due = absurd due
+  untold (status.OwnUnready lack) due = absurd due
+  untold status.NoManoeuvre due = absurd due
+  untold status.ReadFault due = absurd due
+  untold status.WriteFault due = absurd due
+  untold status.Memory due = absurd due
+
+  pub refused_due : (files : Option Files) → Fetches files request.name greatest_scenario (fetched.Bytes v) → (due : Status) → IsMigrationDue request files due → IsAnswered why due
+  refused_due None fetch due is = untold due is
+  refused_due (Some held) fetch due is = held_due held fetch due is

@@ -1,0 +1,39 @@
+-- What a migration comes to.
+use Rattle.std.specs.Prelude.{ℕ, ◌≡◌, ◌≤◌, ◌<◌, ◌⊎◌, List, length, Option, Result, Ok, Err, Vec}
+use Rattle.std.specs.declared.alloc.Global.{Global}
+use Rattle.outside.specs.Shelves.{Files, IsMissing}
+use Rattle.scenario.specs.Migration.{IsMigrated, IsNotMigrated}
+use Rattle.colregs_program.specs.Answers.{CanMigrate, Holds, LiesUnder, greatest_scenario}
+use Rattle.colregs_program.specs.Inner.SetUps.{answer_of}
+use Rattle.command_line.specs.declared.request.Request.{Request}
+use Rattle.colregs_program.specs.declared.set_up.SetUpFault.{SetUpFault}
+use Rattle.colregs_program.specs.declared.set_up.SetUpFault.TheVariants as fault
+use Rattle.colregs_program.specs.declared.status.Status.{Status}
+use Rattle.colregs_program.specs.declared.status.Status.TheVariants as status
+use Rattle.colregs_program.specs.declared.status.Which.TheVariants as which
+
+-- The bytes under the name are a scenario of version 1, and P holds of some text that is the same scenario in version 2.
+abbrev pub HoldsMigrated : Option Files → List ℕ → (List ℕ → Type 0) → Type 0
+HoldsMigrated files name P = Holds files name (λ text. (length text ≤ greatest_scenario) × (migrated : List ℕ) × IsMigrated text migrated × P migrated)
+
+-- the answer that the bytes under the name call for, where they are to be migrated
+abbrev pub IsMigrationDue : Request → Option Files → Status → Type 0
+IsMigrationDue request files status.ShelfFault = IsMissing files request.name
+IsMigrationDue request files (status.Limit which.Scenario most) = (most ≡ greatest_scenario) × LiesUnder files request.name (λ text. greatest_scenario < length text)
+IsMigrationDue request files (status.Scenario key cause) = LiesUnder files request.name (λ text. (length text ≤ greatest_scenario) × IsNotMigrated text key cause)
+IsMigrationDue request files status.Done = LiesUnder files request.name (λ text. (length text ≤ greatest_scenario) × CanMigrate text)
+IsMigrationDue request files status.Usage = ⊥
+IsMigrationDue request files (status.Limit which.Log most) = ⊥
+IsMigrationDue request files (status.Limit which.Vessels most) = ⊥
+IsMigrationDue request files (status.Limit which.Pairs most) = ⊥
+IsMigrationDue request files (status.Limit which.Targets most) = ⊥
+IsMigrationDue request files (status.OwnUnready why) = ⊥
+IsMigrationDue request files status.NoManoeuvre = ⊥
+IsMigrationDue request files status.ReadFault = ⊥
+IsMigrationDue request files status.WriteFault = ⊥
+IsMigrationDue request files status.Memory = ⊥
+
+-- A migration that came to this gives the answer, or found no memory.
+abbrev pub ComesTo : Result (Vec ℕ Global) SetUpFault → Status → Type 0
+ComesTo (Ok text) due = due ≡ status.Done
+ComesTo (Err why) due = (answer_of why ≡ due) ⊎ (why ≡ fault.Memory)

@@ -1,0 +1,90 @@
+//! The migration of a scenario.
+ghost use Rattle.std.specs.Prelude.{◌≡◌, ◌≢◌, ◌≤◌, ◌<◌, ◌⊎◌, ℕ, length, false, IfErr, IfOk, IsTrue};
+ghost use Rattle.std.specs.Io.KnownBytes.{Appends, Keeps};
+ghost use Rattle.outside.specs.Causes.{one_more, Rose};
+ghost use Rattle.outside.specs.Shelves.{IsMissing};
+ghost use Rattle.outside.specs.Streams.{AppendsPart};
+ghost use Rattle.scenario.specs.Migration.{IsMigrated, IsNotMigrated};
+ghost use Rattle.scenario_keys.specs.declared.key.Key.{Key};
+ghost use Rattle.scenario_keys.specs.declared.cause.Cause.{Cause};
+ghost use Rattle.command_line.specs.declared.mode.Mode.TheVariants.{Migrate};
+ghost use Rattle.colregs_program.specs.Answers.{greatest_scenario, Holds, IsOfMigration};
+ghost use Rattle.colregs_program.specs.Endings.{IsFinished};
+ghost use Rattle.colregs_program.specs.FaultLines.{fault_line};
+ghost use Rattle.colregs_program.specs.Told.{Gains};
+ghost use Rattle.colregs_program.specs.Inner.Migrating.{ComesTo, HoldsMigrated, IsMigrationDue};
+ghost use Rattle.colregs_program.specs.Inner.SetUps.{SetUpCause};
+ghost use Rattle.colregs_program.specs.declared.status.Status.{Status};
+ghost use Rattle.colregs_program.specs.declared.status.Which.TheVariants as which;
+
+use crate::set_up::{GREATEST_SCENARIO, SetUpFault};
+use crate::status::Status;
+use crate::telling::tell;
+use command_line::Request;
+use outside::{Fetched, Shelf, Sink, put_all};
+use scenario::migrate;
+use std::alloc::Global;
+
+/// The scenario under a request's name, as one of version 2.
+fn migrated<H: Shelf>(
+    alloc: Global,
+    request: &Request,
+    shelf: &mut H,
+) -> Result<Vec<u8>, SetUpFault>
+    requires { request.now.mode ≡ Migrate }
+    ensures migrated { IfOk result (λ text. HoldsMigrated (H.files shelf.old) request.now.name (λ migrated. migrated ≡ text.items)) }
+    ensures cause { IfErr result (SetUpCause request.now (H.files shelf.old) (H.faults shelf.old) (H.faults shelf.new)) }
+    ensures due { (due : Status) → IsMigrationDue request.now (H.files shelf.old) due
+        → (H.faults shelf.new ≡ one_more (H.faults shelf.old)) ⊎ ComesTo result due }
+    ensures fetched { H.fetches shelf.new ≡ one_more (H.fetches shelf.old) }
+{
+    match shelf.fetch(alloc, &request.name, GREATEST_SCENARIO) {
+        Fetched::Bytes(text) => match migrate(alloc, text.as_slice()) {
+            Ok(text) => Ok(text),
+            Err(fault) => Err(fault.into()),
+        },
+        Fetched::TooLong => Err(SetUpFault::TooLong),
+        Fetched::Failed => Err(SetUpFault::NotHad),
+        Fetched::Memory => Err(SetUpFault::Memory),
+    }
+}
+
+/// Writes the scenario under a request's name as one of version 2. No log is looked at.
+pub(crate) fn write_migrated<H: Shelf, K: Sink, E: Sink>(
+    alloc: Global,
+    request: &Request,
+    shelf: &mut H,
+    out: &mut K,
+    err: &mut E,
+) -> Status
+    requires { request.now.mode ≡ Migrate }
+    ensures done { IsTrue (IsFinished result) → (result ≡ Status.Done) × HoldsMigrated (H.files shelf.old) request.now.name
+        (λ text. Appends (K.contents out.old) (K.contents out.new) text) }
+    ensures due { (due : Status) → IsMigrationDue request.now (H.files shelf.old) due
+        → ¬ Rose (H.faults shelf.old) (H.faults shelf.new)
+        → ¬ Rose (K.faults out.old) (K.faults out.new)
+        → (result ≡ due) ⊎ (result ≡ Status.Memory) }
+    ensures shelf_fault { result ≡ Status.ShelfFault → (H.faults shelf.new ≡ one_more (H.faults shelf.old)) ⊎ IsMissing (H.files shelf.old) request.now.name }
+    ensures scenario_limit { (most : ℕ) → result ≡ Status.Limit which.Scenario most → (most ≡ greatest_scenario)
+        × Holds (H.files shelf.old) request.now.name (λ text. most < length text) }
+    ensures refused { (key : Key) (cause : Cause) → result ≡ Status.Scenario key cause
+        → Holds (H.files shelf.old) request.now.name (λ text. (length text ≤ greatest_scenario) × IsNotMigrated text key cause) }
+    ensures write_fault { result ≡ Status.WriteFault → (K.faults out.new ≡ one_more (K.faults out.old))
+        × HoldsMigrated (H.files shelf.old) request.now.name (λ text. AppendsPart (K.contents out.old) (K.contents out.new) text) }
+    ensures answers { IsTrue (IsOfMigration result) }
+    ensures no_usage { result ≢ Status.Usage }
+    ensures fetched { H.fetches shelf.new ≡ one_more (H.fetches shelf.old) }
+    ensures unwritten { IsFinished result ≡ false → result ≢ Status.WriteFault
+        → Keeps (K.contents out.old) (K.contents out.new) × (K.faults out.new ≡ K.faults out.old) }
+    ensures line { Gains (record { bytes = E.contents err.old; faults = E.faults err.old })
+        (record { bytes = E.contents err.new; faults = E.faults err.new }) (fault_line result) }
+{
+    let text = match migrated(alloc, request, shelf) {
+        Ok(text) => text,
+        Err(fault) => return tell(alloc, fault.into(), err),
+    };
+    if !put_all(out, text.as_slice()) {
+        return tell(alloc, Status::WriteFault, err);
+    }
+    Status::Done
+}
