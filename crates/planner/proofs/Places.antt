@@ -6,7 +6,7 @@ use Rattle.std.proofs.Math.Seq.{take-append_seam}
 use Rattle.mtl_monitor.specs.Traces.{Trace}
 use Rattle.planner.specs.Inner.Breaking.{Tells, formulas_of}
 use Rattle.planner.specs.Inner.Levels.{IsBasis, IsToldAtNow, StandsAt}
-use Rattle.planner.specs.Inner.Watching.{IsCopyOf, IsCutAtNow, Stands}
+use Rattle.planner.specs.Inner.Watching.{IsCutAtNow, Stands}
 use Rattle.planner.specs.declared.already.Already.{Already}
 use Rattle.planner.specs.declared.basis.Basis.{Basis}
 use Rattle.planner.specs.declared.situation.Target.{Target}
@@ -22,9 +22,6 @@ done_set {X} P xs k y inside before here j w lt = elim (cases_lt j k) [
       subst (λ (i : ℕ). P i (get_or (set xs k y) i w)) e (subst (P k) (sym (get_or-set_same xs k y w inside)) here))
 ]
 
-pub waiting_set : {X : Type 0} (xs ys : List X) (k : ℕ) (y : X) → ((j : ℕ) (w : X) → k ≤ j → get_or xs j w ≡ get_or ys j w) → (j : ℕ) (w : X) → k + 1 ≤ j → get_or (set xs k y) j w ≡ get_or ys j w
-waiting_set xs ys k y same j w le = let other : j ≢ k = omega arith in get_or-set_other xs k j y w other ∙ same j w (omega arith)
-
 pub fed_step : (b : Bool) (old new k : ℕ) → (b ≡ true → new ≡ old + 1) → (b ≡ false → new ≡ old) → old ≤ k → new ≤ k + 1
 fed_step true old new k fed unfed le = let e = fed refl in omega arith
 fed_step false old new k fed unfed le = let e = unfed refl in omega arith
@@ -33,11 +30,6 @@ pub written : {X : Type 0} (new old : List X) (n : ℕ) → length new ≡ lengt
 written new old n e f =
     let here : n ≡ length new = omega arith in
     ap (λ (m : ℕ). take m (new ++ drop (length new) old)) here ∙ take-append_seam new (drop (length new) old)
-
-pub copied : (basis : Basis) (plan : List ℕ) (at : ℕ) (from new : List Watched) → ((k : ℕ) (w v : Watched) → k < length basis.situation.targets → IsCopyOf (get_or new k w) (get_or from k v))
-    → StandsAt basis plan at from → StandsAt basis plan at new
-copied basis plan at from new copies stands = λ k t a w cut lt is_cut tells.
-    (copies k w w lt).stands basis.program basis.situation plan (get_or basis.situation.targets k t) cut at (stands k t a w cut lt is_cut tells)
 
 -- ---- one target
 

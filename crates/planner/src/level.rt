@@ -2,13 +2,13 @@
 ghost use Rattle.std.specs.Prelude.{ℕ, ◌≡◌, ◌+◌, ◌-◌, ◌*◌, ◌/◌, ◌<◌, ◌≤◌, ◌^◌, ◌↔◌, IfOk, IsSome, IsTrue, List, false, true, length, get_or, All};
 ghost use Rattle.lattice.specs.Grids.{choices_of, positions_of};
 ghost use Rattle.lattice.specs.PlanNumbers.{plan_of, IsPlan};
-ghost use Rattle.mtl_monitor.specs.Following.{count_of, AreOfOneProgram, Fits, HasRoom, IsProgramOf};
+ghost use Rattle.mtl_monitor.specs.Following.{count_of, Fits, HasRoom, IsProgramOf};
 ghost use Rattle.mtl_monitor.specs.Traces.{Trace};
 ghost use Rattle.planner.specs.FailingPlans.{BreaksARule, FailsBy, Some_};
 ghost use Rattle.planner.specs.Inner.Breaking.{formulas_of, Tells};
 ghost use Rattle.planner.specs.Inner.Levels.{lasts, AreEarly, HasPlaces, HasTargets, IsBasis, StandsAt, StaysOut};
 ghost use Rattle.planner.specs.Inner.Paths.{EntersAlong, HasReached, IsPath, IsTrack};
-ghost use Rattle.planner.specs.Inner.Watching.{IsCopyOf, IsCutAtNow, IsEarly, IsReady, Stands};
+ghost use Rattle.planner.specs.Inner.Watching.{IsCutAtNow, IsEarly, IsReady, Stands};
 ghost use Rattle.planner.specs.Prefixes.{reached, PrefixFails};
 ghost use Rattle.planner.specs.Situations.{end_of, now_of, IsSituation, IsTarget};
 ghost use Rattle.planner.specs.declared.level.Extended.TheVariants as Extended;
@@ -95,6 +95,42 @@ fn follow(
     false
 }
 
+/// The same from what is kept of the target after other legs, which is taken over first.
+fn follow_from(
+    situation: &Situation,
+    program: &Program,
+    target: &Target,
+    already: &Already,
+    path: &[TickState],
+    first: u32,
+    from: &Watched,
+    watched: &mut Watched,
+) -> bool
+    requires situation { IsSituation situation.now }
+    requires target { IsTarget situation.now target.now }
+    requires track { IsTrack path.now }
+    requires planned { first + length path.now ≤ positions_of situation.now.lattice + 1 }
+    requires some { 1 ≤ length path.now }
+    requires rules { already.now.rules ≤ 17 }
+    requires program { count_of program.now ≤ 17 }
+    requires from { IsReady program.now from.now }
+    requires early { IsEarly (now_of situation.now + first) from.now }
+    requires ready { IsReady program.now watched.old }
+    ensures ready { IsReady program.now watched.new }
+    ensures early { result ≡ false → IsEarly (now_of situation.now + first + (length path.now - 1)) watched.new }
+    ensures stands { result ≡ false → (plan : List ℕ) (cut : Trace) → IsPath situation.now plan first path.now
+        → IsCutAtNow situation.now target.now cut → Tells (formulas_of situation.now) cut already.now
+        → Stands program.now situation.now plan target.now cut (now_of situation.now + first) from.now
+        → Stands program.now situation.now plan target.now cut (now_of situation.now + first + (length path.now - 1)) watched.new }
+    ensures breaks { result ≡ true → (plan : List ℕ) (cut : Trace) → IsPath situation.now plan first path.now
+        → IsCutAtNow situation.now target.now cut → Tells (formulas_of situation.now) cut already.now
+        → Stands program.now situation.now plan target.now cut (now_of situation.now + first) from.now
+        → BreaksARule situation.now plan (now_of situation.now + first + (length path.now - 1)) target.now }
+{
+    watched.copy_from(from);
+    follow(situation, program, target, already, path, first, watched)
+}
+
 /// The first target whose domain own ship enters on a path, by its index.
 fn entered(situation: &Situation, path: &[TickState], first: u32) -> Option<usize>
     requires situation { IsSituation situation.now }
@@ -151,43 +187,40 @@ fn enters(situation: &Situation, path: &[TickState], first: u32, latest: &mut us
     }
 }
 
-/// Takes over what is kept of each target after other legs.
-fn copy_all(watched: &mut [Watched], others: &[Watched])
-    requires count { length watched.old ≡ length others.now }
-    requires each { (k : ℕ) (w v : Watched) → k < length watched.old → AreOfOneProgram (get_or watched.old k w).values (get_or others.now k v).values }
-    ensures count { length watched.new ≡ length watched.old }
-    ensures each { (k : ℕ) (w v : Watched) → k < length watched.old → IsCopyOf (get_or watched.new k w) (get_or others.now k v) }
-{
-    for k in 0..others.len() {
-        watched[k].copy_from(&others[k]);
-    }
-}
-
-/// Follows a path towards all targets. Tells whether some row decides a position as newly broken.
-fn follow_all(basis: &Basis, path: &[TickState], first: u32, watched: &mut [Watched]) -> bool
+/// Follows a path towards all targets, from what is kept of them after other legs. Tells whether some row decides a position as
+/// newly broken: nothing is then kept of the targets behind that one.
+fn follow_all(
+    basis: &Basis,
+    path: &[TickState],
+    first: u32,
+    from: &[Watched],
+    watched: &mut [Watched],
+) -> bool
     requires basis { IsBasis basis.now }
+    requires from { HasTargets basis.now from.now }
+    requires early { AreEarly (now_of basis.now.situation + first) from.now }
     requires targets { HasTargets basis.now watched.old }
     requires track { IsTrack path.now }
     requires planned { first + length path.now ≤ positions_of basis.now.situation.lattice + 1 }
     requires some { 1 ≤ length path.now }
-    requires early { AreEarly (now_of basis.now.situation + first) watched.old }
     ensures targets { HasTargets basis.now watched.new }
     ensures early { result ≡ false → AreEarly (now_of basis.now.situation + first + (length path.now - 1)) watched.new }
     ensures stands { result ≡ false → (plan : List ℕ) → IsPath basis.now.situation plan first path.now
-        → StandsAt basis.now plan (now_of basis.now.situation + first) watched.old
+        → StandsAt basis.now plan (now_of basis.now.situation + first) from.now
         → StandsAt basis.now plan (now_of basis.now.situation + first + (length path.now - 1)) watched.new }
     ensures breaks { result ≡ true → (plan : List ℕ) → IsPath basis.now.situation plan first path.now
-        → StandsAt basis.now plan (now_of basis.now.situation + first) watched.old
+        → StandsAt basis.now plan (now_of basis.now.situation + first) from.now
         → Some_ (BreaksARule basis.now.situation plan (now_of basis.now.situation + first + (length path.now - 1))) basis.now.situation.targets }
 {
     for k in 0..watched.len() {
-        if follow(
+        if follow_from(
             &basis.situation,
             &basis.program,
             &basis.situation.targets.as_slice()[k],
             &basis.already[k],
             path,
             first,
+            &from[k],
             &mut watched[k],
         ) {
             return true;
@@ -279,8 +312,7 @@ fn follow_leg(
         }
         *ended = true;
     }
-    copy_all(watched, from);
-    if follow_all(basis, path, first, watched) {
+    if follow_all(basis, path, first, from, watched) {
         return Extended::Fails;
     }
     if is_last && ends_broken(basis, watched, ending) {

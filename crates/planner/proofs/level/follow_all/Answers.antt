@@ -10,26 +10,42 @@ use Rattle.planner.specs.declared.already.Already.{Already}
 use Rattle.planner.specs.declared.situation.Target.{Target}
 use Rattle.planner.specs.declared.watched.Watched.{Watched}
 use Rattle.planner.proofs.FlatList.{some_here}
-use Rattle.planner.proofs.Places.{done_set, rules_few, stands_here, told_here, waiting_set}
+use Rattle.planner.proofs.Places.{done_set, rules_few, stands_here, told_here}
 use Rattle.planner.proofs.level.follow_all.Goals as goal
 
-pub follow-requires-clause-rules : goal.follow-requires-clause-rules
-follow-requires-clause-rules c =
+pub follow_from-requires-clause-rules : goal.follow_from-requires-clause-rules
+follow_from-requires-clause-rules c =
     let count = c.requires.targets.count in
     let long = c.loop-k.invariant.count in
     let lt = c.loop-k-test.true in
     rules_few c.args.basis.now c.requires.basis c.loop-k.k c.index.result.now c.index.ensures (omega arith) c.index-as_slice-k.result
 
-pub returns-then-follow-clause-targets : goal.returns-then-follow-clause-targets
-returns-then-follow-clause-targets c =
+pub follow_from-requires-clause-from : goal.follow_from-requires-clause-from
+follow_from-requires-clause-from c =
+    let count = c.requires.targets.count in
+    let long = c.loop-k.invariant.count in
+    let of_from = c.requires.from.count in
+    let lt = c.loop-k-test.true in
+    subst (IsReady c.args.basis.now.program) (sym c.index-from-k.is) (c.requires.from.ready c.loop-k.k c.index-from-k.result (omega arith))
+
+pub follow_from-requires-clause-early : goal.follow_from-requires-clause-early
+follow_from-requires-clause-early c =
+    let count = c.requires.targets.count in
+    let long = c.loop-k.invariant.count in
+    let of_from = c.requires.from.count in
+    let lt = c.loop-k-test.true in
+    subst (IsEarly (now_of c.args.basis.now.situation + c.args.first)) (sym c.index-from-k.is) (c.requires.early c.loop-k.k c.index-from-k.result (omega arith))
+
+pub returns-then-follow_from-clause-targets : goal.returns-then-follow_from-clause-targets
+returns-then-follow_from-clause-targets c =
     let count = c.requires.targets.count in
     record {
-      count = length-set c.loop-k.watched c.loop-k.k c.follow.new.watched ∙ (c.loop-k.invariant.count ∙ count);
-      ready = All-set (IsReady c.args.basis.now.program) c.loop-k.watched c.loop-k.k c.follow.new.watched c.follow.ensures.ready c.loop-k.invariant.ready;
+      count = length-set c.loop-k.watched c.loop-k.k c.follow_from.new.watched ∙ (c.loop-k.invariant.count ∙ count);
+      ready = All-set (IsReady c.args.basis.now.program) c.loop-k.watched c.loop-k.k c.follow_from.new.watched c.follow_from.ensures.ready c.loop-k.invariant.ready;
     }
 
-pub returns-then-follow-clause-breaks : goal.returns-then-follow-clause-breaks
-returns-then-follow-clause-breaks c = λ e plan is stands.
+pub returns-then-follow_from-clause-breaks : goal.returns-then-follow_from-clause-breaks
+returns-then-follow_from-clause-breaks c = λ e plan is stands.
     let s = c.args.basis.now.situation in
     let k = c.loop-k.k in
     let count = c.requires.targets.count in
@@ -39,13 +55,13 @@ returns-then-follow-clause-breaks c = λ e plan is stands.
     let T = c.index-as_slice-k.result in
     let A = c.index.result.now in
     let within : k < length c.loop-k.watched = omega arith in
-    let W = get_or c.loop-k.watched k c.index-watched-k.result in
+    let W = c.index-from-k.result in
     let is_target : T ≡ get_or s.targets k T = c.index-as_slice-k.is ∙ ap (λ (xs : List Target). get_or xs k T) c.as_slice.ensures in
-    let is_watched : W ≡ get_or c.args.watched.now k W = get_or_default c.loop-k.watched k c.index-watched-k.result W within ∙ c.loop-k.invariant.waiting k W (omega arith) in
+    let is_watched : W ≡ get_or c.args.from.now k W = c.index-from-k.is in
     let told = told_here c.args.basis.now c.requires.basis k T A is_target c.index.ensures inside in
-    let was = stands_here c.args.basis.now plan _ c.args.watched.now k T A W is_target c.index.ensures is_watched inside stands told.cut told.is_cut told.tells in
+    let was = stands_here c.args.basis.now plan _ c.args.from.now k T A W is_target c.index.ensures is_watched inside stands told.cut told.is_cut told.tells in
     let P = BreaksARule s plan (now_of s + c.args.first + (length c.args.path.now - 1)) in
-    some_here P s.targets k T inside (subst P is_target (c.follow.ensures.breaks c.if-follow.true plan told.cut is told.is_cut told.tells was))
+    some_here P s.targets k T inside (subst P is_target (c.follow_from.ensures.breaks c.if-follow_from.true plan told.cut is told.is_cut told.tells was))
 
 pub loop-k-preserved : goal.loop-k-preserved
 loop-k-preserved c =
@@ -59,16 +75,15 @@ loop-k-preserved c =
     let T = c.index-as_slice-k.result in
     let A = c.index.result.now in
     let within : k < length c.loop-k.watched = omega arith in
-    let W = get_or c.loop-k.watched k c.index-watched-k.result in
-    let next = c.follow.new.watched in
+    let W = c.index-from-k.result in
+    let next = c.follow_from.new.watched in
     let is_target : T ≡ get_or s.targets k T = c.index-as_slice-k.is ∙ ap (λ (xs : List Target). get_or xs k T) c.as_slice.ensures in
-    let is_watched : W ≡ get_or c.args.watched.now k W = get_or_default c.loop-k.watched k c.index-watched-k.result W within ∙ c.loop-k.invariant.waiting k W (omega arith) in
+    let is_watched : W ≡ get_or c.args.from.now k W = c.index-from-k.is in
     record {
       count = length-set c.loop-k.watched k next ∙ long;
-      ready = All-set (IsReady c.args.basis.now.program) c.loop-k.watched k next c.follow.ensures.ready c.loop-k.invariant.ready;
+      ready = All-set (IsReady c.args.basis.now.program) c.loop-k.watched k next c.follow_from.ensures.ready c.loop-k.invariant.ready;
       early = done_set (λ (i : ℕ) (x : Watched). IsEarly (now_of s + c.args.first + (length c.args.path.now - 1)) x) c.loop-k.watched k next within c.loop-k.invariant.early
-          (c.follow.ensures.early c.if-follow.false);
-      waiting = waiting_set c.loop-k.watched c.args.watched.now k next c.loop-k.invariant.waiting;
+          (c.follow_from.ensures.early c.if-follow_from.false);
       stands = λ plan is stands j t a w cut below is_cut tells.
           done_set (λ (i : ℕ) (x : Watched). (t : Target) (a : Already) (cut : Trace) → IsCutAtNow s (get_or s.targets i t) cut → Tells (formulas_of s) cut (get_or c.args.basis.now.already.items i a)
           → Stands c.args.basis.now.program s plan (get_or s.targets i t) cut (now_of s + c.args.first + (length c.args.path.now - 1)) x) c.loop-k.watched k next within
@@ -79,8 +94,8 @@ loop-k-preserved c =
           let is_cut' = subst (λ (x : Target). IsCutAtNow s x cut) same_target is_cut in
           let tells' = subst (λ (x : Already). Tells (formulas_of s) cut x) same_already tells in
           subst (λ (x : Target). Stands c.args.basis.now.program s plan x cut (now_of s + c.args.first + (length c.args.path.now - 1)) next) (sym same_target)
-          (c.follow.ensures.stands c.if-follow.false plan cut is is_cut' tells'
-          (stands_here c.args.basis.now plan _ c.args.watched.now k T A W is_target c.index.ensures is_watched inside stands cut is_cut' tells')))
+          (c.follow_from.ensures.stands c.if-follow_from.false plan cut is is_cut' tells'
+          (stands_here c.args.basis.now plan _ c.args.from.now k T A W is_target c.index.ensures is_watched inside stands cut is_cut' tells')))
           j w below t a cut is_cut tells;
     }
 

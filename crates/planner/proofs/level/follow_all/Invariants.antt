@@ -1,4 +1,4 @@
-use Rattle.std.proofs.Common.{◌≡◌, ℕ, ◌+◌, ◌-◌, ◌<◌, ◌≤◌, List, length, get_or}
+use Rattle.std.proofs.Common.{◌≡◌, ℕ, ◌+◌, ◌-◌, ◌<◌, List, length, get_or}
 use Rattle.std.specs.List.{All}
 use Rattle.mtl_monitor.specs.Traces.{Trace}
 use Rattle.planner.specs.Inner.Breaking.{Tells, formulas_of}
@@ -16,8 +16,7 @@ invariant-loop-k l = record {
   count : length l.watched ≡ length l.fn.watched;
   ready : All (IsReady l.basis.program) l.watched;
   early : (j : ℕ) (w : Watched) → j < l.k → IsEarly (now_of l.basis.situation + l.first + (length l.path - 1)) (get_or l.watched j w);
-  waiting : (j : ℕ) (w : Watched) → l.k ≤ j → get_or l.watched j w ≡ get_or l.fn.watched j w;
-  stands : (plan : List ℕ) → IsPath l.basis.situation plan l.first l.path → StandsAt l.basis plan (now_of l.basis.situation + l.first) l.fn.watched
+  stands : (plan : List ℕ) → IsPath l.basis.situation plan l.first l.path → StandsAt l.basis plan (now_of l.basis.situation + l.first) l.from
       → (j : ℕ) (t : Target) (a : Already) (w : Watched) (cut : Trace) → j < l.k → IsCutAtNow l.basis.situation (get_or l.basis.situation.targets j t) cut
       → Tells (formulas_of l.basis.situation) cut (get_or l.basis.already.items j a)
       → Stands l.basis.program l.basis.situation plan (get_or l.basis.situation.targets j t) cut (now_of l.basis.situation + l.first + (length l.path - 1)) (get_or l.watched j w);

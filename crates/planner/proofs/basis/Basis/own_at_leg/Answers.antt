@@ -1,6 +1,4 @@
-use Rattle.std.proofs.Common.{ℕ, sym, subst}
-use Rattle.lattice.specs.Grids.{choices_of}
-use Rattle.lattice.specs.PlanNumbers.{plan_of}
+use Rattle.std.proofs.Common.{ℕ, subst}
 use Rattle.planner.specs.Inner.Paths.{HasReached}
 use Rattle.planner.proofs.Extending.{reached_prefix}
 use Rattle.planner.proofs.basis.Basis.own_at_leg.Goals as goal
