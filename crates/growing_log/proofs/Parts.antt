@@ -1,5 +1,5 @@
 -- The parts of a log that grows.
-use Rattle.std.proofs.Common.{◌≡◌, ℕ, ◌+◌, ◌<◌, Bool, true, false, List, [], ◌∷◌, ◌++◌, ◌≤◌, inl, inr, length, map, min, take, ◌-◌, refl, ap, sym, ◌∙◌, arith, append-nil}
+use Rattle.std.proofs.Common.{◌≡◌, ℕ, ◌+◌, ◌<◌, Bool, true, false, List, [], ◌∷◌, ◌++◌, ◌≤◌, inl, inr, length, map, min, take, ◌-◌, refl, ap, sym, ◌∙◌, arith, append_assoc, append-nil}
 use Rattle.std.specs.List.{All, onto_first, slice_split}
 use Rattle.std.proofs.lemmas.List.Splits.{length-slice_split, slice_split-cons_no, slice_split-cons_yes, slice_split_none}
 use Rattle.std.proofs.lemmas.Bool.{cases_lt}
@@ -111,6 +111,34 @@ module _ (log : List ℕ) where
   pub lines_ended_or_open : lines_of log ≡ ended_lines log ++ open_lines (open_part log)
   unfolding ended_lines open_part
   lines_ended_or_open = among (slice_split is_line_feed log) (parts_exist log)
+
+-- ---- whatever follows
+
+front_of : (parts later : List (List ℕ)) → (rest : List (List ℕ)) × (ended_among (append_parts parts later) ≡ ended_among parts ++ rest)
+front_of [] later = (ended_among later, refl)
+front_of (part ∷ []) later = (ended_among (append_parts (part ∷ []) later), refl)
+front_of (part ∷ next ∷ []) [] = ([], refl)
+front_of (part ∷ next ∷ []) (first ∷ more) = (ended_among ((next ++ first) ∷ more), refl)
+front_of (part ∷ next ∷ other ∷ more) later =
+    let rest = front_of (next ∷ other ∷ more) later in
+    (rest.0, ap (λ ended. part ∷ ended) rest.1)
+
+pub ended_stay : (log more : List ℕ) → (lines : List (List ℕ)) × (ended_lines (log ++ more) ≡ ended_lines log ++ lines)
+unfolding ended_lines
+ended_stay log more =
+    let rest = front_of (slice_split is_line_feed log) (slice_split is_line_feed more) in (
+      map without_carriage_return rest.0,
+      ap (λ parts. map without_carriage_return (ended_among parts)) (split_append log more) ∙ ap (map without_carriage_return) rest.1
+          ∙ map-append without_carriage_return (ended_among (slice_split is_line_feed log)) rest.0,
+    )
+
+pub all_begin : (log more : List ℕ) → (lines : List (List ℕ)) × (lines_of (log ++ more) ≡ ended_lines log ++ lines)
+all_begin log more =
+    let ended = ended_stay log more in
+    let last = open_lines (open_part (log ++ more)) in (
+      ended.0 ++ last,
+      lines_ended_or_open (log ++ more) ∙ ap (λ lines. lines ++ last) ended.1 ∙ append_assoc (ended_lines log) ended.0 last,
+    )
 
 -- ---- the first bytes of the open part
 

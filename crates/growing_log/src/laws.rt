@@ -20,3 +20,9 @@ pub fn a_line_feed_ends()
     ensures ended { (log : List ℕ) → ended_lines (log ++ 10 ∷ []) ≡ ended_lines log ++ without_carriage_return (open_part log) ∷ [] }
     ensures open { (log : List ℕ) → open_part (log ++ 10 ∷ []) ≡ [] }
 {}
+
+/// What is ended stays, whatever follows.
+pub fn ended_lines_stay()
+    ensures ended { (log more : List ℕ) → (lines : List (List ℕ)) × (ended_lines (log ++ more) ≡ ended_lines log ++ lines) }
+    ensures all { (log more : List ℕ) → (lines : List (List ℕ)) × (lines_of (log ++ more) ≡ ended_lines log ++ lines) }
+{}
