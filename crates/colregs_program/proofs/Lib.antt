@@ -13,6 +13,7 @@ pub mod PlanText
 pub mod Seeking
 pub mod OutcomeRows
 pub mod Refusals
+pub mod SettledTexts
 pub mod SettingUp
 pub mod Sighted
 pub mod TakingLines

@@ -5,6 +5,7 @@ pub mod DrillReport
 pub mod PlanReport
 pub mod Modes
 pub mod AskedScenarios
+pub mod SettledText
 pub mod Endings
 pub mod Answers
 pub mod Told

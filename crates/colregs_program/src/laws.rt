@@ -1,9 +1,15 @@
 //! Laws of reports, which stand over the definitions alone.
-ghost use Rattle.std.specs.Prelude.{◌≡◌, ℕ, List};
+ghost use Rattle.std.specs.Prelude.{◌≡◌, ◌++◌, ℕ, List};
 ghost use Rattle.scenario.specs.declared.values.Scenario.{Scenario};
 ghost use Rattle.colregs_program.specs.Endings.{IsEnding, IsMet};
+ghost use Rattle.colregs_program.specs.SettledText.{IsSettledText};
 ghost use Rattle.command_line.specs.declared.mode.Mode.{Mode};
 ghost use Rattle.colregs_program.specs.declared.status.Status.{Status};
+
+use growing_log::laws::ended_lines_stay;
+use settling::laws::{
+    decided_rows_are_a_front, decided_rows_begin_the_report, one_list_of_decided_rows,
+};
 
 /// A request has at most one report on a log.
 pub fn one_ending()
@@ -16,3 +22,23 @@ pub fn one_answer()
     ensures { (mode : Mode) (scenario : Scenario) (log : List ℕ) (answer other : Status) →
         IsMet mode scenario log answer → IsMet mode scenario log other → answer ≡ other }
 {}
+
+/// The settled bytes of a front of a log are one text at most.
+pub fn one_settled_text()
+    ensures { (mode : Mode) (scenario : Scenario) (front text other : List ℕ) →
+        IsSettledText mode scenario front text → IsSettledText mode scenario front other → text ≡ other }
+{
+    one_list_of_decided_rows();
+}
+
+/// The settled bytes of a front are a front of those of each longer front, and of the report of every log that begins with it.
+pub fn settled_bytes_stay()
+    ensures longer { (mode : Mode) (scenario : Scenario) (front more text later : List ℕ) → IsSettledText mode scenario front text →
+        IsSettledText mode scenario (front ++ more) later → (rest : List ℕ) × (later ≡ text ++ rest) }
+    ensures report { (mode : Mode) (scenario : Scenario) (front more text report : List ℕ) → IsSettledText mode scenario front text →
+        IsEnding mode scenario (front ++ more) report → (rest : List ℕ) × (report ≡ text ++ rest) }
+{
+    ended_lines_stay();
+    decided_rows_are_a_front();
+    decided_rows_begin_the_report();
+}
