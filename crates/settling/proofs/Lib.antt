@@ -5,3 +5,5 @@ mod MoreMarks
 mod SameRows
 mod Fronts
 mod DecidedRows
+mod MovesLittle
+mod AuditedTicks

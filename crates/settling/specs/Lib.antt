@@ -4,3 +4,5 @@ pub use Rattle.judged_lines.specs.SentLines
 pub mod Sightings
 pub mod SettledTicks
 pub mod DecidedRows
+pub mod Standing
+pub mod Inner

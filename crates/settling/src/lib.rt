@@ -2,7 +2,10 @@
 //!
 //! A tick is settled once the clock of the lines is past it by more than the gap and the slack: the vessels seen then are the same
 //! whatever lines follow. A row is decided once enough ticks behind its last step are settled, and the rows that are decided are the
-//! front of the report's. All this stands over the definitions alone: the crate has no code.
+//! front of the report's. A `SettledAudit` audits the ticks as they are settled, and gives the rows as they are decided.
 #![tactic(auto)]
 
 pub mod laws;
+mod settled_audit;
+
+pub use settled_audit::SettledAudit;

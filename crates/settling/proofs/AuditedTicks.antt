@@ -1,0 +1,179 @@
+-- Ticks audited one after the other, as lines settle them.
+use Rattle.std.proofs.Common.{ℕ, zero, suc, ◌≡◌, ◌+◌, ◌-◌, ◌<◌, ◌≤◌, ◌⊎◌, inl, inr, List, [], ◌∷◌, ◌++◌, append_assoc, append-nil, length, take, drop, refl, sym, ap, ap₂, subst, ◌∙◌, arith}
+use Rattle.std.specs.Prelude.{Result, Err, IsErrAnd, ◌↔◌}
+use Rattle.std.specs.List.{Contains}
+use Rattle.std.specs.List.Sorted.{IsStrictlySortedBy}
+use Rattle.std.proofs.lemmas.List.{take-append-drop}
+use Rattle.std.proofs.lemmas.List.FromFn.{take-map-range_with_len}
+use Rattle.audit_rows.specs.declared.row.Row.{Row}
+use Rattle.audit_traces.specs.Audited.{Begins, Numbers, Sighting}
+use Rattle.auditor.specs.AuditRows.{AreAuditRowsBelow}
+use Rattle.auditor.specs.Standing.{HaveMoreThan, IsSound, StandsFor as AuditStandsFor, given_of, last_tick_of, settled_by}
+use Rattle.auditor.proofs.ForCallers.{more_stay}
+use Rattle.judged_lines.specs.JudgedLines.{numbers_of}
+use Rattle.judged_lines.specs.LineTimes.{clock_of, greatest}
+use Rattle.judged_lines.specs.SentLines.{sent}
+use Rattle.meetings.specs.declared.pair.Pair.{Pair}
+use Rattle.scenario.specs.Ticks.{time_of_tick}
+use Rattle.scenario.specs.declared.values.Scenario.{Scenario}
+use Rattle.settling.specs.SettledTicks.{HaveManySettled, IsSettled, greatest_traces}
+use Rattle.settling.specs.Sightings.{audit_numbers, seen_first}
+use Rattle.settling.specs.Standing.{StandsFor}
+use Rattle.settling.specs.Inner.AuditedTicks.{IsAudited, IsSettling}
+use Rattle.settling.specs.declared.settled_audit.SettledAudit.{SettledAudit}
+use Rattle.settling.proofs.MovesLittle.{first_push}
+use Rattle.settling.proofs.SettledTicks.{settled_ticks_are_first, settled_ticks_stay}
+use Rattle.settling.proofs.SeenStays.{what_is_settled_stays}
+use Rattle.tracks.specs.SeenVessels.{seen_of}
+
+lt_or_le : (m n : ℕ) → (m < n) ⊎ (n ≤ m)
+lt_or_le m n = grind arith
+
+-- the fault that a `?` hands on
+pub same_fault : {T E : Type 0} (r : Result T E) (x t : E) → IsErrAnd r (λ e. e ≡ x) → r ≡ Err t → t ≡ x
+same_fault {T} {E} r x t h e = subst (λ (s : Result T E). IsErrAnd s (λ z. z ≡ x)) e h
+
+-- ---- before the first tick
+
+none_begin : (numbers : Numbers) → HaveMoreThan greatest_traces numbers [] → ⊥
+none_begin numbers h = some h.pairs h.many h.begin
+  where
+    some : (pairs : List Pair) → greatest_traces < length pairs → Rattle.std.specs.Prelude.All (λ (pair : Pair). (start : ℕ) × Begins numbers [] pair start) pairs → ⊥
+    some [] lt all = absurd (omega arith)
+    some (pair ∷ pairs) lt all = (all 0 pair (omega arith)).1.begins.contact
+
+no_rows : (numbers : Numbers) → AreAuditRowsBelow numbers [] (settled_by numbers 0) []
+unfolding IsStrictlySortedBy
+no_rows numbers = record {
+  each = λ row. ((λ i. absurd (let lt = i.1 in omega arith)), (λ h. absurd (let lt = h.1 in omega arith)));
+  ordered = tt;
+}
+
+none_settled : (scenario : Scenario) (i : ℕ) → IsSettled scenario [] i → ⊥
+unfolding clock_of greatest
+none_settled scenario i h = h.past
+
+pub before_all : (audit : SettledAudit) (scenario : Scenario) → audit.next ≡ 0 → IsSound audit.audit → AuditStandsFor audit.audit (audit_numbers scenario) [] [] → StandsFor audit scenario [] []
+before_all audit scenario none sound stands = record {
+  settled = λ i. ((λ h. absurd (none_settled scenario i h)), (λ lt. absurd (omega (arith, none))));
+  audited = record {
+    sound = sound;
+    next = stands.count ∙ sym none;
+    last = stands.last_tick;
+    stands = rw none stands;
+    rows = rw none (no_rows (audit_numbers scenario));
+    few = rw none (none_begin (audit_numbers scenario));
+  };
+}
+
+module _ (scenario : Scenario) where
+  -- Where too many traces begin at the first ticks, they do so at more of them.
+  pub many_later : (lines : List (List ℕ)) (j k : ℕ) → j ≤ k → HaveMoreThan greatest_traces (audit_numbers scenario) (seen_first scenario (sent scenario lines) j)
+      → HaveMoreThan greatest_traces (audit_numbers scenario) (seen_first scenario (sent scenario lines) k)
+  many_later lines j k le many =
+      let all = seen_first scenario (sent scenario lines) k in
+      let f : ℕ → Sighting = λ i. seen_of (numbers_of scenario) (sent scenario lines) (time_of_tick scenario.window i) in
+      let front : take j all ≡ seen_first scenario (sent scenario lines) j = take-map-range_with_len f 0 k j le in
+      subst (HaveMoreThan greatest_traces (audit_numbers scenario))
+      (ap (λ (l : List Sighting). l ++ drop j all) (sym front) ∙ take-append-drop j all)
+      (more_stay greatest_traces (audit_numbers scenario) (seen_first scenario (sent scenario lines) j) (drop j all) many)
+
+  -- ---- one tick more
+
+  pub audited_on : (old new : SettledAudit) (lines : List (List ℕ)) (given rows : List Row) (seen : Sighting) → IsAudited old scenario lines given → new.next ≡ old.next + 1
+      → IsSound new.audit → given_of new.audit ≡ given_of old.audit + 1 → last_tick_of new.audit ≡ last_tick_of old.audit
+      → seen ≡ seen_of (numbers_of scenario) (sent scenario lines) (time_of_tick scenario.window old.next)
+      → ((numbers : Numbers) (ticks : List Sighting) (given : List Row) → AuditStandsFor old.audit numbers ticks given → AuditStandsFor new.audit numbers (ticks ++ seen ∷ []) (given ++ rows))
+      → ((numbers : Numbers) (ticks : List Sighting) (given : List Row) → AuditStandsFor old.audit numbers ticks given
+      → AreAuditRowsBelow numbers (ticks ++ seen ∷ []) (settled_by numbers (length ticks)) (given ++ rows))
+      → ((numbers : Numbers) (ticks : List Sighting) (given : List Row) → AuditStandsFor old.audit numbers ticks given → HaveMoreThan greatest_traces numbers (ticks ++ seen ∷ []) → ⊥)
+      → IsAudited new scenario lines (given ++ rows)
+  audited_on old new lines given rows seen up next sound count last told stands below few =
+      let numbers = audit_numbers scenario in
+      let ticks = seen_first scenario (sent scenario lines) old.next in
+      let grown : ticks ++ seen ∷ [] ≡ seen_first scenario (sent scenario lines) new.next =
+      ap (λ (s : Sighting). ticks ++ s ∷ []) told ∙ first_push scenario (sent scenario lines) old.next ∙ ap (seen_first scenario (sent scenario lines)) (sym next) in
+      let were : length ticks ≡ new.next - 1 = (let a = up.stands.count in let b = up.next in omega (arith, a, b, next)) in
+      record {
+        sound = sound;
+        next = count ∙ ap (λ (n : ℕ). n + 1) up.next ∙ sym next;
+        last = last ∙ up.last;
+        stands = subst (λ (ts : List Sighting). AuditStandsFor new.audit numbers ts (given ++ rows)) grown (stands numbers ticks given up.stands);
+        rows = subst (λ (ts : List Sighting). AreAuditRowsBelow numbers ts (settled_by numbers (new.next - 1)) (given ++ rows)) grown
+            (subst (λ (n : ℕ). AreAuditRowsBelow numbers (ticks ++ seen ∷ []) (settled_by numbers n) (given ++ rows)) were (below numbers ticks given up.stands));
+        few = subst (λ (ts : List Sighting). HaveMoreThan greatest_traces numbers ts → ⊥) grown (few numbers ticks given up.stands);
+      }
+
+  -- This tick begins too many.
+  pub many_now : (old : SettledAudit) (lines : List (List ℕ)) (seen : Sighting) → seen ≡ seen_of (numbers_of scenario) (sent scenario lines) (time_of_tick scenario.window old.next)
+      → HaveMoreThan greatest_traces (audit_numbers scenario) (seen_first scenario (sent scenario lines) old.next ++ seen ∷ [])
+      → HaveMoreThan greatest_traces (audit_numbers scenario) (seen_first scenario (sent scenario lines) (old.next + 1))
+  many_now old lines seen told many =
+      subst (HaveMoreThan greatest_traces (audit_numbers scenario))
+      (ap (λ (s : Sighting). seen_first scenario (sent scenario lines) old.next ++ s ∷ []) told ∙ first_push scenario (sent scenario lines) old.next) many
+
+  -- ---- more lines
+
+  -- What was seen at settled ticks stays.
+  same_first : (lines more : List (List ℕ)) (k : ℕ) → ((i : ℕ) → i < k → IsSettled scenario lines i)
+      → seen_first scenario (sent scenario lines) k ≡ seen_first scenario (sent scenario (lines ++ more)) k
+  same_first lines more zero settled = refl
+  same_first lines more (suc k) settled =
+      let next : k + 1 ≡ suc k = omega arith in
+      let push : (messages : List Rattle.tracks.specs.VesselsHeld.Sent) → seen_first scenario messages (suc k) ≡ seen_first scenario messages k ++ seen_of (numbers_of scenario) messages (time_of_tick scenario.window k) ∷ [] =
+      λ messages. sym (first_push scenario messages k ∙ ap (seen_first scenario messages) next) in
+      push (sent scenario lines)
+      ∙ ap₂ (λ (ts : List Sighting) (s : Sighting). ts ++ s ∷ []) (same_first lines more k (λ i lt. settled i (omega arith)))
+      (sym (what_is_settled_stays scenario lines more k (settled k (omega arith))))
+      ∙ sym (push (sent scenario (lines ++ more)))
+
+  pub audited_with_more : (audit : SettledAudit) (lines more : List (List ℕ)) (given : List Row) → StandsFor audit scenario lines given → IsAudited audit scenario (lines ++ more) given
+  audited_with_more audit lines more given stands =
+      let same = same_first lines more audit.next (λ i lt. (stands.settled i).1 lt) in
+      let up = stands.audited in
+      record {
+        sound = up.sound;
+        next = up.next;
+        last = up.last;
+        stands = subst (λ (ts : List Sighting). AuditStandsFor audit.audit (audit_numbers scenario) ts given) same up.stands;
+        rows = subst (λ (ts : List Sighting). AreAuditRowsBelow (audit_numbers scenario) ts (settled_by (audit_numbers scenario) (audit.next - 1)) given) same up.rows;
+        few = subst (λ (ts : List Sighting). HaveMoreThan greatest_traces (audit_numbers scenario) ts → ⊥) same up.few;
+      }
+
+  pub nothing_more : (audit : SettledAudit) (lines : List (List ℕ)) (given rows : List Row) → rows ≡ [] → IsAudited audit scenario lines given
+      → IsAudited audit scenario lines (given ++ rows)
+  nothing_more audit lines given rows none up = subst (IsAudited audit scenario lines) (sym (ap (λ (l : List Row). given ++ l) none ∙ append-nil given)) up
+
+  pub settling_from : (audit : SettledAudit) (lines more : List (List ℕ)) (given rows : List Row) → rows ≡ [] → StandsFor audit scenario lines given
+      → IsSettling audit scenario (lines ++ more) (given ++ rows)
+  settling_from audit lines more given rows none stands = record {
+    audited = nothing_more audit (lines ++ more) given rows none (audited_with_more audit lines more given stands);
+    settled = λ i lt. settled_ticks_stay scenario lines more i ((stands.settled i).1 lt);
+  }
+
+  -- ---- settled ticks
+
+  pub rows_on : (audit : SettledAudit) (lines : List (List ℕ)) (given rows further all : List Row) → all ≡ rows ++ further → IsAudited audit scenario lines ((given ++ rows) ++ further)
+      → IsAudited audit scenario lines (given ++ all)
+  rows_on audit lines given rows further all is up =
+      subst (IsAudited audit scenario lines) (append_assoc given rows further ∙ ap (λ (l : List Row). given ++ l) (sym is)) up
+
+  pub settled_below : (lines : List (List ℕ)) (k next : ℕ) → next ≡ k + 1 → ((i : ℕ) → i < k → IsSettled scenario lines i) → IsSettled scenario lines k
+      → (i : ℕ) → i < next → IsSettled scenario lines i
+  settled_below lines k next is below at i lt =
+      elim (lt_or_le i k) [ inl less ↦ below i less | inr le ↦ settled_ticks_are_first scenario lines k i at (omega (arith, is)) ]
+
+  pub stands_then : (audit : SettledAudit) (lines : List (List ℕ)) (given : List Row) → IsSettling audit scenario lines given → (IsSettled scenario lines audit.next → ⊥)
+      → StandsFor audit scenario lines given
+  stands_then audit lines given up open_next = record {
+    settled = λ i. ((λ h. elim (lt_or_le i audit.next) [ inl lt ↦ lt | inr le ↦ absurd (open_next (settled_ticks_are_first scenario lines i audit.next h le)) ]), (λ lt. up.settled i lt));
+    audited = up.audited;
+  }
+
+  pub few_settled : (audit : SettledAudit) (lines : List (List ℕ)) (given : List Row) → StandsFor audit scenario lines given → HaveManySettled scenario lines → ⊥
+  few_settled audit lines given stands h =
+      let le : h.count ≤ audit.next = elim (lt_or_le audit.next h.count) [
+        | inl lt ↦ absurd (let bad : audit.next < audit.next = (stands.settled audit.next).0 (h.settled audit.next lt) in omega arith)
+        | inr le ↦ le
+      ] in
+      stands.audited.few (many_later lines h.count audit.next le h.many)

@@ -1,0 +1,69 @@
+use Rattle.std.proofs.Common.{ℕ, ◌≡◌, ◌+◌, ◌++◌, List, Err, sym, ap, subst, append_assoc, ◌∙◌}
+use Rattle.audit_rows.specs.declared.row.Row.{Row}
+use Rattle.auditor.specs.AuditRows.{AreAuditRows}
+use Rattle.auditor.specs.AuditTotals.{AreTotals}
+use Rattle.auditor.specs.Standing.{HaveMoreThan, StandsFor as AuditStandsFor}
+use Rattle.auditor.specs.declared.fault.AuditFault.{AuditFault}
+use Rattle.auditor.specs.declared.fault.AuditFault.TheVariants as audit_fault
+use Rattle.judged_lines.specs.SentLines.{sent}
+use Rattle.settling.specs.SettledTicks.{greatest_traces}
+use Rattle.settling.specs.Sightings.{audit_numbers, seen_first, sighted}
+use Rattle.settling.proofs.AuditedTicks.{audited_with_more, same_fault}
+use Rattle.settling.proofs.settled_audit.SettledAudit.end.Goals as goal
+
+pub finish-requires-clause-ready : goal.finish-requires-clause-ready
+finish-requires-clause-ready c =
+    let log = c.requires.one_log in
+    record {
+      lines = log.lines ++ log.more;
+      given = log.given;
+      audited = audited_with_more c.args.scenario.now c.args.self log.lines log.more log.given log.stands;
+      judged = log.judged;
+    }
+
+pub returns-in_err-rows-clause-many : goal.returns-in_err-rows-clause-many
+returns-in_err-rows-clause-many c = λ told lines more given stands judged.
+    let fault = sym (same_fault c.from_residual.result _ _ c.from_residual.ensures.1 told) in
+    let err : c.finish.result ≡ Err audit_fault.TooManyPairs = c.in_err-rows.was ∙ ap (λ (e : AuditFault). Err e) fault in
+    c.finish.ensures.many err (lines ++ more) given judged (audited_with_more c.args.scenario.now c.args.self lines more given stands)
+
+pub end-requires-clause-sound : goal.end-requires-clause-sound
+end-requires-clause-sound c =
+    let log = c.requires.one_log in
+    (c.in_ok-rows.ensures.audited (log.lines ++ log.more) log.given log.judged
+    (audited_with_more c.args.scenario.now c.args.self log.lines log.more log.given log.stands)).sound
+
+pub end-requires-clause-all : goal.end-requires-clause-all
+end-requires-clause-all c =
+    let log = c.requires.one_log in
+    let up = c.in_ok-rows.ensures.audited (log.lines ++ log.more) log.given log.judged
+    (audited_with_more c.args.scenario.now c.args.self log.lines log.more log.given log.stands) in
+    up.next ∙ c.in_ok-rows.ensures.all ∙ ap (λ (n : ℕ). n + 1) (sym up.last)
+
+pub returns-clause-rows : goal.returns-clause-rows
+returns-clause-rows c = λ lines more given stands judged.
+    let scenario = c.args.scenario.now in
+    let numbers = audit_numbers scenario in
+    let rows = c.in_ok-rows.rows.items in
+    let up = c.in_ok-rows.ensures.audited (lines ++ more) given judged (audited_with_more scenario c.args.self lines more given stands) in
+    let whole = subst (λ (k : ℕ). AuditStandsFor c.finish.new.self.audit numbers (seen_first scenario (sent scenario (lines ++ more)) k) (given ++ rows)) c.in_ok-rows.ensures.all up.stands in
+    subst (AreAuditRows numbers (sighted scenario (sent scenario (lines ++ more))))
+    (append_assoc given rows c.in_ok-end.end.rows.items ∙ ap (λ (l : List Row). given ++ l) (sym c.in_ok-add.ensures))
+    (c.in_ok-end.ensures.rows numbers _ (given ++ rows) whole)
+
+pub returns-clause-totals : goal.returns-clause-totals
+returns-clause-totals c = λ lines more given stands judged.
+    let scenario = c.args.scenario.now in
+    let numbers = audit_numbers scenario in
+    let rows = c.in_ok-rows.rows.items in
+    let up = c.in_ok-rows.ensures.audited (lines ++ more) given judged (audited_with_more scenario c.args.self lines more given stands) in
+    let whole = subst (λ (k : ℕ). AuditStandsFor c.finish.new.self.audit numbers (seen_first scenario (sent scenario (lines ++ more)) k) (given ++ rows)) c.in_ok-rows.ensures.all up.stands in
+    subst (λ (l : List Row). AreTotals numbers (sighted scenario (sent scenario (lines ++ more))) l c.in_ok-end.end.totals.items)
+    (append_assoc given rows c.in_ok-end.end.rows.items ∙ ap (λ (l : List Row). given ++ l) (sym c.in_ok-add.ensures))
+    (c.in_ok-end.ensures.totals numbers _ (given ++ rows) whole)
+
+pub returns-clause-few : goal.returns-clause-few
+returns-clause-few c = λ lines more given stands judged many.
+    let scenario = c.args.scenario.now in
+    let up = c.in_ok-rows.ensures.audited (lines ++ more) given judged (audited_with_more scenario c.args.self lines more given stands) in
+    up.few (subst (λ (k : ℕ). HaveMoreThan greatest_traces (audit_numbers scenario) (seen_first scenario (sent scenario (lines ++ more)) k)) (sym c.in_ok-rows.ensures.all) many)

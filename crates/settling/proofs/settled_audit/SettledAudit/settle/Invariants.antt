@@ -1,0 +1,14 @@
+use Rattle.std.proofs.Common.{ℕ, ◌+◌, ◌-◌, ◌++◌, List}
+use Rattle.audit_rows.specs.declared.row.Row.{Row}
+use Rattle.judged_lines.specs.Standing.{StandsFor as JudgeStandsFor}
+use Rattle.settling.specs.Inner.AuditedTicks.{IsSettling}
+use Rattle.settling.specs.Standing.{StandsFor}
+use Rattle.settling.proofs.settled_audit.SettledAudit.settle.Given as goal
+
+-- the ticks before the next were audited, and are settled
+abbrev pub invariant-loop-self : goal.invariant-loop-self
+invariant-loop-self l = (lines more : List (List ℕ)) (given : List Row) → StandsFor l.initial.self l.scenario lines given
+    → JudgeStandsFor l.judge l.scenario (lines ++ more) → IsSettling l.self l.scenario (lines ++ more) (given ++ l.rows.items)
+
+abbrev pub decreases-loop-self : goal.decreases-loop-self
+decreases-loop-self l = l.scenario.window.ticks + 1 - l.self.next
