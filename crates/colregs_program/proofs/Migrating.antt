@@ -1,5 +1,5 @@
 -- Why a migration is refused is what the bytes under the name call for.
-use Rattle.std.proofs.Common.{ℕ, ◌≡◌, ◌≤◌, ◌<◌, ◌⊎◌, inl, inr, List, length, Option, None, Some, Result, Err, Vec, refl, ap, arith}
+use Rattle.std.proofs.Common.{ℕ, ◌≡◌, ◌≤◌, ◌<◌, ◌⊎◌, inl, inr, List, length, Option, None, Some, Result, Ok, Err, Vec, refl, ap, sym, subst, arith}
 use Rattle.std.specs.declared.alloc.Global.{Global}
 use Rattle.outside.specs.Shelves.{Fetches, Files}
 use Rattle.outside.specs.declared.shelf.Fetched.TheVariants as fetched
@@ -8,10 +8,12 @@ use Rattle.scenario_keys.specs.declared.key.Key.{Key}
 use Rattle.scenario_keys.specs.declared.cause.Cause.{Cause}
 use Rattle.scenario_keys.specs.declared.fault.ScenarioFault.{ScenarioFault}
 use Rattle.scenario_keys.specs.declared.fault.ScenarioFault.TheVariants as refusal
+use Rattle.command_line.specs.declared.mode.Mode.{Mode}
+use Rattle.command_line.specs.declared.mode.Mode.TheVariants as mode
 use Rattle.command_line.specs.declared.request.Request.{Request}
-use Rattle.colregs_program.specs.Answers.{CanMigrate, greatest_scenario}
+use Rattle.colregs_program.specs.Answers.{CanMigrate, IsRefusedBy, greatest_scenario}
 use Rattle.colregs_program.specs.Inner.Migrating.{IsMigrationDue}
-use Rattle.colregs_program.specs.Inner.SetUps.{answer_of, set_up_fault}
+use Rattle.colregs_program.specs.Inner.SetUps.{SetUpCause, answer_of, set_up_fault}
 use Rattle.colregs_program.specs.declared.set_up.SetUpFault.TheVariants as fault
 use Rattle.colregs_program.specs.declared.status.Status.{Status}
 use Rattle.colregs_program.specs.declared.status.Status.TheVariants as status
@@ -22,7 +24,10 @@ use Rattle.colregs_program.proofs.SettingUp.{of_found}
 abbrev pub IsAnswered : ScenarioFault → Status → Type 0
 IsAnswered why due = (answer_of (set_up_fault why) ≡ due) ⊎ (set_up_fault why ≡ fault.Memory)
 
-abbrev failed : ScenarioFault → Result (Vec ℕ Global) ScenarioFault
+abbrev pub gave : Vec ℕ Global → Result (Vec ℕ Global) ScenarioFault
+gave text = Ok text
+
+abbrev pub failed : ScenarioFault → Result (Vec ℕ Global) ScenarioFault
 failed why = Err why
 
 module _ (request : Request) (v : Vec ℕ Global) (why : ScenarioFault)
@@ -76,3 +81,63 @@ module _ (request : Request) (v : Vec ℕ Global) (why : ScenarioFault)
   pub refused_due : (files : Option Files) → Fetches files request.name greatest_scenario (fetched.Bytes v) → (due : Status) → IsMigrationDue request files due → IsAnswered why due
   refused_due None fetch due is = untold due is
   refused_due (Some held) fetch due is = held_due held fetch due is
+
+-- ---- what a migration came to
+
+module _ (request : Request) (v text : Vec ℕ Global)
+    (told : (key : Key) (cause : Cause) → IsNotMigrated v.items key cause → (gave text ≡ Err (refusal.Fault key cause)) ⊎ (gave text ≡ Err refusal.Memory)) where
+  held_done : (held : Files) → Fetches (Some held) request.name greatest_scenario (fetched.Bytes v) → (due : Status) → IsMigrationDue request (Some held) due → due ≡ status.Done
+  held_done held fetch status.ShelfFault due = cc (due, fetch.0)
+  held_done held fetch (status.Limit which.Scenario most) due =
+      let long : greatest_scenario < length v.items = of_found held request.name v.items (λ text. greatest_scenario < length text) fetch.0 due.1 in
+      absurd (omega (arith, long, fetch.1))
+  held_done held fetch (status.Scenario key cause) due =
+      none (told key cause (of_found held request.name v.items (λ text. (length text ≤ greatest_scenario) × IsNotMigrated text key cause) fetch.0 due).1)
+    where
+      none : {A : Type 0} → (gave text ≡ Err (refusal.Fault key cause)) ⊎ (gave text ≡ Err refusal.Memory) → A
+      none (inl is) = cc is
+      none (inr is) = cc is
+  held_done held fetch status.Done due = refl
+  held_done held fetch status.Usage due = absurd due
+  held_done held fetch (status.Limit which.Log most) due = absurd due
+  held_done held fetch (status.Limit which.Vessels most) due = absurd due
+  held_done held fetch (status.Limit which.Pairs most) due = absurd due
+  held_done held fetch (status.Limit which.Targets most) due = absurd due
+  held_done held fetch (status.OwnUnready lack) due = absurd due
+  held_done held fetch status.NoManoeuvre due = absurd due
+  held_done held fetch status.ReadFault due = absurd due
+  held_done held fetch status.WriteFault due = absurd due
+  held_done held fetch status.Memory due = absurd due
+
+  untold_done : (due : Status) → IsMigrationDue request None due → due ≡ status.Done
+  untold_done status.ShelfFault due = absurd due
+  untold_done (status.Limit which.Scenario most) due = cc due.1.2
+  untold_done (status.Scenario key cause) due = cc due.2
+  untold_done status.Done due = refl
+  untold_done status.Usage due = absurd due
+  untold_done (status.Limit which.Log most) due = absurd due
+  untold_done (status.Limit which.Vessels most) due = absurd due
+  untold_done (status.Limit which.Pairs most) due = absurd due
+  untold_done (status.Limit which.Targets most) due = absurd due
+  untold_done (status.OwnUnready lack) due = absurd due
+  untold_done status.NoManoeuvre due = absurd due
+  untold_done status.ReadFault due = absurd due
+  untold_done status.WriteFault due = absurd due
+  untold_done status.Memory due = absurd due
+
+  pub migrated_due : (files : Option Files) → Fetches files request.name greatest_scenario (fetched.Bytes v) → (due : Status) → IsMigrationDue request files due → due ≡ status.Done
+  migrated_due None fetch due is = untold_done due is
+  migrated_due (Some held) fetch due is = held_done held fetch due is
+
+-- ---- why a migration failed
+
+pub cause_of : (request : Request) (files : Option Files) (v : Vec ℕ Global) (before now : ℕ) (why : ScenarioFault) → request.mode ≡ mode.Migrate
+    → Fetches files request.name greatest_scenario (fetched.Bytes v) → ((key : Key) (cause : Cause) → failed why ≡ Err (refusal.Fault key cause) → IsNotMigrated v.items key cause)
+    → SetUpCause request files before now (set_up_fault why)
+cause_of request files v before now refusal.Memory migrates fetch refused = tt
+cause_of request None v before now (refusal.Fault key cause) migrates fetch refused = tt
+cause_of request (Some held) v before now (refusal.Fault key cause) migrates fetch refused = (
+  v.items,
+  fetch.0,
+  (fetch.1, subst (λ (m : Mode). IsRefusedBy m v.items key cause) (sym migrates) (refused key cause refl)),
+)
