@@ -1,7 +1,7 @@
 -- A drill has forty vessels, so it meets no limit but that of its log.
 use Rattle.std.proofs.Math.ListN.{get_or}
 use Rattle.std.proofs.lemmas.List.{get_or-map, length-map}
-use Rattle.std.proofs.Common.{ℕ, zero, suc, ap₂, ◌≡◌, ◌≢◌, ◌≤◌, ◌<◌, ◌+◌, ◌*◌, ◌⊎◌, inl, inr, ◌==◌, Bool, true, false, IsTrue, List, [], ◌∷◌, ◌++◌, length, map, Option, None, Some, Result, Ok, Err, refl, sym, ap, subst, ◌∙◌, arith}
+use Rattle.std.proofs.Common.{ℕ, zero, suc, ap₂, ◌≡◌, ◌≢◌, ◌≤◌, ◌<◌, ◌+◌, ◌*◌, ◌⊎◌, inl, inr, ◌==◌, Bool, true, false, IsTrue, List, [], ◌∷◌, ◌++◌, length, take, drop, map, Option, None, Some, Result, Ok, Err, refl, sym, ap, subst, ◌∙◌, arith}
 use Rattle.std.specs.Prelude.{All, IfOk, IfSome, fold, nat_lt}
 use Rattle.std.specs.List.{AllPairs, filter_map, range_with_len}
 use Rattle.std.proofs.lemmas.Bool.Decides.{nat_tests}
@@ -32,23 +32,25 @@ use Rattle.auditor.specs.Standing.{HaveMoreThan}
 use Rattle.scenario.specs.Ticks.{time_of_tick}
 use Rattle.command_line.specs.declared.mode.Mode.{Mode}
 use Rattle.command_line.specs.declared.mode.Mode.TheVariants as mode
-use Rattle.command_line.specs.declared.request.Request.{Request}
-use Rattle.colregs_program.specs.Answers.{IsOfDrill, MetIn}
-use Rattle.colregs_program.specs.Modes.{reads_log}
-use Rattle.colregs_program.specs.Inner.LogFaults.{LogCause, MeetsAtEnd, UnlessMemory, answer_of, log_answer}
-use Rattle.colregs_program.specs.declared.log_fault.EndingFault.{EndingFault}
-use Rattle.colregs_program.specs.declared.log_fault.EndingFault.TheVariants as ending
-use Rattle.colregs_program.specs.declared.log_fault.LogFault.{LogFault}
-use Rattle.colregs_program.specs.declared.log_fault.LogFault.TheVariants as fault
-use Rattle.colregs_program.proofs.AskedLogs.{log_made}
-use Rattle.colregs_program.specs.AuditReport.{sightings_of}
-use Rattle.colregs_program.specs.Endings.{HasManyTraces, IsMet, greatest_traces}
-use Rattle.colregs_program.specs.declared.status.Status.{Status}
-use Rattle.colregs_program.specs.declared.status.Status.TheVariants as status
-use Rattle.colregs_program.specs.declared.status.Which.TheVariants as which
+use Rattle.sessions.specs.AuditReport.{sightings_of}
 use Rattle.colregs_program.proofs.DrillLines.{InFleet, IsFleetLine, fleet_lines}
 use Rattle.colregs_program.proofs.FewDifferent.{few_between}
 use Rattle.settling.specs.Sightings.{audit_numbers, sighted}
+use Rattle.std.proofs.lemmas.List.{take-append-drop}
+use Rattle.growing_log.specs.GrowingLog.{ended_lines}
+use Rattle.sessions.specs.Modes.{reads_log, reports}
+use Rattle.colregs_program.proofs.AskedLogs.{drills, not_read}
+use Rattle.std.specs.Prelude.{IfErr, MatchResult}
+use Rattle.sessions.specs.AuditReport.{sightings_of}
+use Rattle.sessions.specs.Endings.{Came, HasManyTraces, IsAnswerTo}
+use Rattle.sessions.specs.Refusals.{IsMet, IsRefused, IsStopped}
+use Rattle.sessions.specs.declared.session_fault.SessionFault.{SessionFault}
+use Rattle.sessions.specs.declared.session_fault.SessionFault.TheVariants as why
+use Rattle.settling.specs.SettledTicks.{greatest_traces}
+use Rattle.colregs_program.specs.LogAnswers.{Reports}
+use Rattle.colregs_program.specs.Inner.Streaming.{Ends, LogCount, StreamCause, Stops, is_of_drill}
+use Rattle.colregs_program.specs.declared.streaming.StreamFault.{StreamFault}
+use Rattle.colregs_program.specs.declared.streaming.StreamFault.TheVariants as fault
 
 -- ---- the messages
 
@@ -221,37 +223,90 @@ module _ (scenario : Scenario) (seed : ℕ) (in_range : IsWindow scenario.window
       (All-map AreOfFleet (λ k. seen_of (numbers_of scenario) messages (time_of_tick scenario.window k)) (range_with_len 0 (scenario.window.ticks + 1)) (λ k d lt. seen_so (numbers_of scenario) messages _ of))
       many
 
-  pub drill_answers : (answer : Status) → IsMet mode.Drill scenario log answer → (answer ≡ status.Limit which.Log scenario.log.max_bytes) ⊎ (answer ≡ status.Done)
-  drill_answers answer (inl (long, is)) = inl is
-  drill_answers answer (inr (short, inl (crowded, is))) =
-      let calm = not_crowded scenario (lines_of log) (fleet_lines scenario seed in_range) in cc (crowded, calm)
-  drill_answers answer (inr (short, inr (calm, inl (many, is)))) = absurd (few_in_drill many)
-  drill_answers answer (inr (short, inr (calm, inr (few, inl (many, is))))) = absurd many
-  drill_answers answer (inr (short, inr (calm, inr (few, inr (own, inl (none, is)))))) = absurd none
-  drill_answers answer (inr (short, inr (calm, inr (few, inr (own, inr (some, is)))))) = inr is
+  -- no front of it is refused but for its bytes, and its end comes to a report
+  not_stopped : (stay : (l more : List ℕ) → (lines : List (List ℕ)) × (lines_of (l ++ more) ≡ ended_lines l ++ lines)) (place : ℕ) → is_crowded scenario (ended_lines (take place log)) ≡ false
+  not_stopped stay place =
+      let lines = stay (take place log) (drop place log) in
+      let whole = subst (All IsFleetLine) (ap lines_of (sym (take-append-drop place log)) ∙ lines.1) (fleet_lines scenario seed in_range) in
+      not_crowded scenario (ended_lines (take place log)) (first_all IsFleetLine (ended_lines (take place log)) lines.0 whole)
+    where
+      first_all : (P : List ℕ → Type 0) (xs ys : List (List ℕ)) → All P (xs ++ ys) → All P xs
+      first_all P [] ys all = All-nil P
+      first_all P (x ∷ xs) ys all = All-cons P x xs (All-head P x (xs ++ ys) all) (first_all P xs ys (All-tail P x (xs ++ ys) all))
 
--- ---- of a request
+  no_refusal : (stay : (l more : List ℕ) → (lines : List (List ℕ)) × (lines_of (l ++ more) ≡ ended_lines l ++ lines)) (place : ℕ) (came : Came)
+      → IsRefused mode.Drill scenario (take place log) came → came ≡ Err why.LogBytes
+  no_refusal stay place came (inl (long, is)) = is
+  no_refusal stay place came (inr (short, inl (crowded, is))) = let calm = not_stopped stay place in cc (crowded, calm)
+  no_refusal stay place came (inr (short, inr (calm, inl (many, is)))) = absurd many
+  no_refusal stay place came (inr (short, inr (calm, inr (few, none)))) = absurd none
 
-module _ (request : Request) (drills : request.mode ≡ mode.Drill) (scenario : Scenario) (left : Option (List ℕ)) (in_range : IsWindow scenario.window) where
-  pub met_in_drill : (answer : Status) → MetIn request scenario left answer → IsTrue (IsOfDrill answer)
-  met_in_drill answer met =
-      let log = drill_log_of scenario request.options.seed in
-      let makes : reads_log request.mode ≡ false = ap reads_log drills in
-      let told = subst (λ (l : Option (List ℕ)). IfSome l (λ bytes. IsMet request.mode scenario bytes answer)) (log_made request scenario left makes) met in
-      let here = subst (λ (m : Mode). IsMet m scenario log answer) drills told in
-      elim (drill_answers scenario request.options.seed in_range answer here) [
-        | inl limit ↦ subst (λ (a : Status). IsTrue (IsOfDrill a)) (sym limit) refl
-        | inr done ↦ subst (λ (a : Status). IsTrue (IsOfDrill a)) (sym done) refl
-      ]
+  at_its_end : (came : Came) → IsAnswerTo mode.Drill scenario log came → came ≡ Ok false
+  at_its_end came (inl (crowded, is)) = let calm = not_crowded scenario (lines_of log) (fleet_lines scenario seed in_range) in cc (crowded, calm)
+  at_its_end came (inr (calm, inl (many, is))) = absurd (few_in_drill many)
+  at_its_end came (inr (calm, inr (few, inl (many, is)))) = absurd many
+  at_its_end came (inr (calm, inr (few, inr (own, inl (none, is))))) = absurd none
+  at_its_end came (inr (calm, inr (few, inr (own, inr (some, is))))) = is
 
-  ended : (left' : Option (List ℕ)) (why : EndingFault) → UnlessMemory why (MeetsAtEnd request scenario left left') → IsTrue (IsOfDrill (answer_of why))
-  ended left' ending.TooManyVessels cause = met_in_drill (answer_of ending.TooManyVessels) cause.met
-  ended left' ending.TooManyPairs cause = met_in_drill (answer_of ending.TooManyPairs) cause.met
-  ended left' (ending.OwnUnready why) cause = met_in_drill (status.OwnUnready why) cause.met
-  ended left' ending.TooManyTargets cause = met_in_drill (answer_of ending.TooManyTargets) cause.met
-  ended left' ending.Memory cause = refl
+-- ---- of a drill's log
 
-  pub failed_drill : (left' : Option (List ℕ)) (before now : ℕ) (why : LogFault) → LogCause request scenario left left' before now why → IsTrue (IsOfDrill (log_answer why))
-  failed_drill left' before now fault.NotRead cause = let reads : IsTrue (reads_log mode.Drill) = subst (λ (m : Mode). IsTrue (reads_log m)) drills cause.0 in cc reads
-  failed_drill left' before now (fault.TooLong most) cause = refl
-  failed_drill left' before now (fault.Unreported why) cause = ended left' why cause.1
+module _ (scenario : Scenario) (seed : ℕ) (in_range : IsWindow scenario.window) (stay : (l more : List ℕ) → (lines : List (List ℕ)) × (lines_of (l ++ more) ≡ ended_lines l ++ lines))
+    (made : List ℕ) (same : made ≡ drill_log_of scenario seed) where
+  -- what it comes to
+  pub drill_comes_to : (came : Came) → IsMet mode.Drill scenario made came → (came ≡ Err why.LogBytes) ⊎ (came ≡ Ok false)
+  drill_comes_to came met = go (subst (λ (l : List ℕ). IsMet mode.Drill scenario l came) same met)
+    where
+      go : IsMet mode.Drill scenario (drill_log_of scenario seed) came → (came ≡ Err why.LogBytes) ⊎ (came ≡ Ok false)
+      go (inl (place, at)) = inl (no_refusal scenario seed in_range stay place came at.here)
+      go (inr (un, answer)) = inr (at_its_end scenario seed in_range came answer)
+
+  met_where_stopped : (because : SessionFault) (text : List ℕ) → IsStopped mode.Drill scenario made because text → IsMet mode.Drill scenario made (Err because)
+  met_where_stopped because text stop = inl (stop.place, stop.refused)
+
+  drill_only : (b : SessionFault) (came : Came) → came ≡ Err b → (came ≡ Err why.LogBytes) ⊎ (came ≡ Ok false) → IsTrue (is_of_drill (fault.Unreported b))
+  drill_only why.LogBytes came is so = refl
+  drill_only why.Memory came is so = refl
+  drill_only why.Vessels came is (inl same) = cc (is, same)
+  drill_only why.Vessels came is (inr same) = cc (is, same)
+  drill_only why.Pairs came is (inl same) = cc (is, same)
+  drill_only why.Pairs came is (inr same) = cc (is, same)
+  drill_only (why.Own lack) came is (inl same) = cc (is, same)
+  drill_only (why.Own lack) came is (inr same) = cc (is, same)
+  drill_only why.Targets came is (inl same) = cc (is, same)
+  drill_only why.Targets came is (inr same) = cc (is, same)
+
+  stopped_so : (because : SessionFault) (contents contents' : Option (List ℕ)) → Stops mode.Drill scenario (Some made) contents contents' because → IsTrue (is_of_drill (fault.Unreported because))
+  stopped_so because contents contents' stops = drill_only because (Err because) refl (drill_comes_to (Err because) (met_where_stopped because stops.stops.0 stops.stops.1))
+
+  ended_so : (because : SessionFault) (left' contents contents' : Option (List ℕ)) → Ends mode.Drill scenario (Some made) left' contents contents' because
+      → IsTrue (is_of_drill (fault.Unreported because))
+  ended_so because left' contents contents' ends = drill_only because (Err because) refl (drill_comes_to (Err because) (inr (ends.ends.0, ends.ends.1)))
+
+  drill_cause : (left' contents contents' : Option (List ℕ)) (because : StreamFault) → (because ≡ fault.NotRead → ⊥) → StreamCause mode.Drill scenario (Some made) left' contents contents' because
+      → IsTrue (is_of_drill because)
+  drill_cause left' contents contents' fault.NotRead read cause = absurd (read refl)
+  drill_cause left' contents contents' fault.NotWritten read cause = refl
+  drill_cause left' contents contents' (fault.Unreported why.Vessels) read (inl stops) = stopped_so why.Vessels contents contents' stops
+  drill_cause left' contents contents' (fault.Unreported why.Vessels) read (inr ends) = ended_so why.Vessels left' contents contents' ends
+  drill_cause left' contents contents' (fault.Unreported why.Pairs) read (inl stops) = stopped_so why.Pairs contents contents' stops
+  drill_cause left' contents contents' (fault.Unreported why.Pairs) read (inr ends) = ended_so why.Pairs left' contents contents' ends
+  drill_cause left' contents contents' (fault.Unreported why.LogBytes) read cause = refl
+  drill_cause left' contents contents' (fault.Unreported (why.Own lack)) read cause = ended_so (why.Own lack) left' contents contents' cause.0
+  drill_cause left' contents contents' (fault.Unreported why.Targets) read cause = ended_so why.Targets left' contents contents' cause.0
+  drill_cause left' contents contents' (fault.Unreported why.Memory) read cause = refl
+
+  pub drill_faults : (m : Mode) → m ≡ mode.Drill → (left' contents contents' : Option (List ℕ)) (because : StreamFault) → (because ≡ fault.NotRead → ⊥)
+      → StreamCause m scenario (Some made) left' contents contents' because → IsTrue (is_of_drill because)
+  drill_faults m is left' contents contents' because read cause =
+      drill_cause left' contents contents' because read (subst (λ (n : Mode). StreamCause n scenario (Some made) left' contents contents' because) is cause)
+
+  pub drill_reports : (m : Mode) → m ≡ mode.Drill → (none : Bool) (contents contents' : Option (List ℕ)) → Reports m scenario made none contents contents' → none ≡ false
+  drill_reports m is none contents contents' reports =
+      elim (drill_comes_to (Ok none) (subst (λ (n : Mode). IsMet n scenario made (Ok none)) is reports.met)) [ inl same ↦ cc same | inr same ↦ cc same ]
+
+  pub drill_result : (m : Mode) → reads_log m ≡ false → IsTrue (reports m) → (left' contents contents' : Option (List ℕ)) (r : Result Bool StreamFault)
+      → IfOk r (λ none. IfSome (Some made) (λ bytes. Reports m scenario bytes none contents contents')) → IfErr r (StreamCause m scenario (Some made) left' contents contents')
+      → MatchResult r (λ _. zero ≡ zero) (LogCount 0 0) → MatchResult r (λ none. none ≡ false) (λ because. IsTrue (is_of_drill because))
+  drill_result m makes is left' contents contents' (Ok none) reported cause count = drill_reports m (drills m makes is) none contents contents' reported
+  drill_result m makes is left' contents contents' (Err because) reported cause count =
+      drill_faults m (drills m makes is) left' contents contents' because (not_read because count) cause

@@ -3,11 +3,11 @@ use Rattle.std.proofs.Common.{ℕ, ◌≡◌, ◌≤◌, ◌<◌, inl, inr, IsTr
 use Rattle.outside.specs.Shelves.{Files, IsMissing}
 use Rattle.scenario.specs.declared.values.Scenario.{Scenario}
 use Rattle.colregs_program.specs.Answers.{CanMigrate, IsDue, IsRefusedBy, LiesUnder, Meets, Requested, greatest_scenario}
-use Rattle.colregs_program.specs.Modes.{reports}
+use Rattle.sessions.specs.Modes.{reports}
 use Rattle.colregs_program.specs.Inner.Migrating.{IsMigrationDue}
 use Rattle.command_line.specs.declared.mode.Mode.{Mode}
 use Rattle.command_line.specs.declared.mode.Mode.TheVariants as mode
-use Rattle.colregs_program.specs.Endings.{IsMet}
+use Rattle.colregs_program.specs.LogAnswers.{IsAnswered}
 use Rattle.command_line.specs.Requests.{AskFor, AskForNothing}
 use Rattle.command_line.specs.declared.request.Request.{Request}
 use Rattle.command_line.proofs.Asked.{asked_or_nothing, one_asked}
@@ -39,7 +39,7 @@ usage_due words files log status.Memory refused is = absurd is
 
 -- the answer that is due where setting up comes to this
 abbrev pub Follows : Option (List ℕ) → Request → Status → Result Scenario SetUpFault → Type 0
-Follows given request due (Ok scenario) = (bytes : List ℕ) × (log_of request scenario given ≡ Some bytes) × IsMet request.mode scenario bytes due
+Follows given request due (Ok scenario) = (bytes : List ℕ) × (log_of request scenario given ≡ Some bytes) × IsAnswered request.mode scenario bytes due
 Follows given request due (Err why) = answer_of why ≡ due
 
 -- what setting up is to come to, where an answer is due

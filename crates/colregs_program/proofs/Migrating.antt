@@ -1,5 +1,5 @@
 -- Why a migration is refused is what the bytes under the name call for.
-use Rattle.std.proofs.Common.{ℕ, ◌≡◌, ◌≤◌, ◌<◌, ◌⊎◌, inl, inr, List, length, Option, None, Some, Result, Ok, Err, Vec, refl, ap, sym, subst, arith}
+use Rattle.std.proofs.Common.{ℕ, ◌≡◌, ◌≤◌, ◌<◌, ◌⊎◌, inl, inr, length, Option, None, Some, Result, Ok, Err, Vec, refl, ap, sym, subst, arith}
 use Rattle.std.specs.declared.alloc.Global.{Global}
 use Rattle.outside.specs.Shelves.{Fetches, Files}
 use Rattle.outside.specs.declared.shelf.Fetched.TheVariants as fetched

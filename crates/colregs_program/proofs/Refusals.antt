@@ -1,32 +1,38 @@
 -- What a run that fails, or ends, answers is what is due.
-use Rattle.std.proofs.Common.{ℕ, ◌≡◌, ◌⊎◌, inl, inr, List, Option, None, Some, IfSome, Result, Ok, Err, refl, Bool, true, false, IsTrue, ap, sym, subst, ◌∙◌, arith}
+use Rattle.std.proofs.Common.{ℕ, ◌≡◌, ◌⊎◌, inl, inr, List, Option, None, Some, IfSome, Result, Ok, Err, refl, Bool, true, false, IsTrue, ap, sym, subst, ◌∙◌, [], ◌-◌, take, drop, append-nil, arith}
+use Rattle.std.proofs.lemmas.List.{take-append-drop}
+use Rattle.std.specs.Io.KnownBytes.{Keeps}
 use Rattle.outside.specs.Causes.{Rose, one_more}
 use Rattle.outside.specs.Shelves.{Files}
+use Rattle.outside.specs.WholeReading.{StopsAt}
+use Rattle.outside.specs.declared.whole.ReadFault.TheVariants as read
 use Rattle.scenario.specs.declared.values.Scenario.{Scenario}
-use Rattle.colregs_program.specs.Answers.{Holds, IsDue, IsOfDrill, IsScenario, MetIn, Runs}
-use Rattle.colregs_program.specs.Endings.{IsEnding, IsFinished, IsMet}
+use Rattle.sessions.specs.Endings.{Came}
+use Rattle.sessions.specs.Modes.{reads_log, reports}
+use Rattle.sessions.specs.Refusals.{IsMet}
+use Rattle.sessions.specs.declared.session_fault.SessionFault.TheVariants as why
+use Rattle.own_ship.specs.declared.readiness.Unready.{Unready}
+use Rattle.colregs_program.specs.Answers.{EndsWith, Holds, IsDue, IsOfDrill, IsScenario, MetIn, Runs, StopsWith, WritesNothing, WritesPart}
+use Rattle.colregs_program.specs.LogAnswers.{GainsFront, GainsReport, GainsSettled, IsAnswered, IsStoppedBy, LeavesSettled, Reports, answer_of, finished}
 use Rattle.command_line.specs.Requests.{AskFor, AskForNothing}
 use Rattle.command_line.specs.declared.mode.Mode.{Mode}
 use Rattle.command_line.specs.declared.mode.Mode.TheVariants as mode
 use Rattle.command_line.specs.declared.request.Request.{Request}
 use Rattle.command_line.proofs.Asked.{one_asked}
 use Rattle.colregs_program.specs.AskedScenarios.{log_of}
-use Rattle.colregs_program.specs.Modes.{reads_log, reports}
+use Rattle.colregs_program.specs.FaultLines.{is_made}
 use Rattle.colregs_program.specs.Inner.SetUps as set_up
-use Rattle.colregs_program.specs.Inner.LogFaults as log_fault
+use Rattle.colregs_program.specs.Inner.Streaming.{LogCount, OutCount, ReportCause, is_of_drill, stream_status}
 use Rattle.colregs_program.specs.Inner.WordsFaults as words_fault
 use Rattle.command_line.specs.declared.request.WordsFault.{WordsFault}
 use Rattle.command_line.specs.declared.request.WordsFault.TheVariants as unasked
-use Rattle.colregs_program.specs.declared.log_fault.LogFault.{LogFault}
-use Rattle.colregs_program.specs.declared.log_fault.LogFault.TheVariants as unread
-use Rattle.colregs_program.specs.declared.log_fault.EndingFault.{EndingFault}
-use Rattle.colregs_program.specs.declared.log_fault.EndingFault.TheVariants as ending
+use Rattle.colregs_program.specs.declared.streaming.StreamFault.{StreamFault}
+use Rattle.colregs_program.specs.declared.streaming.StreamFault.TheVariants as stream
 use Rattle.colregs_program.specs.declared.set_up.SetUpFault.{SetUpFault}
 use Rattle.colregs_program.specs.declared.set_up.SetUpFault.TheVariants as fault
 use Rattle.colregs_program.specs.declared.status.Status.{Status}
 use Rattle.colregs_program.specs.declared.status.Status.TheVariants as status
 use Rattle.colregs_program.specs.declared.status.Which.TheVariants as which
-use Rattle.colregs_program.proofs.Meeting.{one_met}
 use Rattle.colregs_program.proofs.Due.{Follows, set_up_due, usage_due}
 
 -- An answer is told as it is, or as want of memory.
@@ -84,46 +90,228 @@ log_decides words files log request due before now scenario accepted reports is 
       | inr memory ↦ cc memory
     ]
 
+-- ---- what the log calls for
+
+-- what a log comes to is one thing
+abbrev pub OneComes : Type 0
+OneComes = (m : Mode) (scenario : Scenario) (log : List ℕ) (came other : Came) → IsMet m scenario log came → IsMet m scenario log other → came ≡ other
+
+one_answered : OneComes → (m : Mode) (scenario : Scenario) (log : List ℕ) (a b : Status) → IsAnswered m scenario log a → IsAnswered m scenario log b → a ≡ b
+one_answered once m scenario log a b x y = x.is ∙ ap (answer_of scenario) (once m scenario log x.came y.came x.met y.met) ∙ sym y.is
+
 -- What the log calls for is what was met in it.
-met_is : (log : Option (List ℕ)) (request : Request) (scenario : Scenario) (due answer : Status) → MetIn request scenario log answer
+pub met_is : OneComes → (log : Option (List ℕ)) (request : Request) (scenario : Scenario) (due answer : Status) → MetIn request scenario log answer
     → Follows log request due (Ok scenario) → answer ≡ due
-met_is log request scenario due answer is (bytes, gives, follows) =
-    let here = subst (λ (l : Option (List ℕ)). IfSome l (λ told. IsMet request.mode scenario told answer)) gives is in
-    one_met request.mode scenario bytes answer due here follows
+met_is once log request scenario due answer is (bytes, gives, follows) =
+    let here = subst (λ (l : Option (List ℕ)). IfSome l (λ told. IsAnswered request.mode scenario told answer)) gives is in
+    one_answered once request.mode scenario bytes answer due here follows
 
--- there is no report on what was read
-unreported : (log left' : Option (List ℕ)) (request : Request) (scenario : Scenario) (due told : Status) (why : EndingFault) (Made : Type 0)
-    → Follows log request due (Ok scenario) → log_fault.UnlessMemory why (log_fault.MeetsAtEnd request scenario log left')
-    → IsTold told (log_fault.answer_of why) Made → (told ≡ due) ⊎ (told ≡ status.Memory)
-unreported log left' request scenario due told ending.TooManyVessels Made follows cause is_told =
-    told_is told (log_fault.answer_of ending.TooManyVessels) due Made is_told (met_is log request scenario due _ cause.met follows)
-unreported log left' request scenario due told ending.TooManyPairs Made follows cause is_told =
-    told_is told (log_fault.answer_of ending.TooManyPairs) due Made is_told (met_is log request scenario due _ cause.met follows)
-unreported log left' request scenario due told (ending.OwnUnready why) Made follows cause is_told =
-    told_is told (status.OwnUnready why) due Made is_told (met_is log request scenario due _ cause.met follows)
-unreported log left' request scenario due told ending.TooManyTargets Made follows cause is_told =
-    told_is told (log_fault.answer_of ending.TooManyTargets) due Made is_told (met_is log request scenario due _ cause.met follows)
-unreported log left' request scenario due told ending.Memory Made follows cause is_told = inr (memory_told told Made is_told)
+if_some : (P Q : List ℕ → Type 0) (o : Option (List ℕ)) → ((bytes : List ℕ) → P bytes → Q bytes) → IfSome o P → IfSome o Q
+if_some P Q None so p = tt
+if_some P Q (Some bytes) so p = so bytes p
 
-pub no_report : (log left' : Option (List ℕ)) (request : Request) (scenario : Scenario) (due told : Status) (before now : ℕ) (why : LogFault) (Made : Type 0)
-    → Follows log request due (Ok scenario) → log_fault.LogCause request scenario log left' before now why → ¬ Rose before now
-    → IsTold told (log_fault.log_answer why) Made → (told ≡ due) ⊎ (told ≡ status.Memory)
-no_report log left' request scenario due told before now unread.NotRead Made follows cause calm is_told = absurd (calm (rose before now cause.1))
-no_report log left' request scenario due told before now (unread.TooLong limit) Made follows cause calm is_told =
-    told_is told (status.Limit which.Log limit) due Made is_told (met_is log request scenario due _ cause.1.met follows)
-no_report log left' request scenario due told before now (unread.Unreported why) Made follows cause calm is_told =
-    unreported log left' request scenario due told why Made follows cause.1 is_told
+-- the count of the sink's faults rises for a failed write alone
+pub calm_told : (because : StreamFault) (limit before now : ℕ) (told : Status) (Made : Type 0) → IsTold told (stream_status because limit) Made → (told ≡ status.WriteFault → ⊥)
+    → (Made → IsTrue (is_made (stream_status because limit))) → OutCount before now because → now ≡ before
+calm_told stream.NotRead limit before now told Made is_told calm made count = count
+calm_told stream.NotWritten limit before now told Made (inl same) calm made count = absurd (calm same)
+calm_told stream.NotWritten limit before now told Made (inr none) calm made count = (let is = made none.1 in cc is)
+calm_told (stream.Unreported because) limit before now told Made is_told calm made count = count
 
--- a log whose report was made, with its answer
-abbrev pub IsReported : Request → Scenario → Status → List ℕ → Option (List ℕ) → Type 0
-IsReported request scenario answer report log =
-    IfSome (log_of request scenario log) (λ bytes. IsMet request.mode scenario bytes answer × IsEnding request.mode scenario bytes report)
+module _ (request : Request) (scenario : Scenario) (left left' contents contents' : Option (List ℕ)) where
+  pub stops_met : (answer : Status) → StopsWith request scenario left contents contents' answer → MetIn request scenario left answer
+  stops_met answer stops =
+      if_some (λ bytes. IsStoppedBy request.mode scenario bytes contents contents' answer) (λ bytes. IsAnswered request.mode scenario bytes answer) (log_of request scenario left)
+      (λ bytes stop. record { came = Err stop.why; met = inl (stop.stopped.place, stop.stopped.refused); is = stop.is }) stops
 
-pub done : (log : Option (List ℕ)) (request : Request) (scenario : Scenario) (due answer : Status) (report : List ℕ)
-    → Follows log request due (Ok scenario) → IsReported request scenario answer report log → answer ≡ due
-done log request scenario due answer report (bytes, gives, follows) whole =
-    let here = subst (λ (l : Option (List ℕ)). IfSome l (λ told. IsMet request.mode scenario told answer × IsEnding request.mode scenario told report)) gives whole in
-    one_met request.mode scenario bytes answer due here.0 follows
+  pub ends_met : (answer : Status) → EndsWith request scenario left left' contents contents' answer → MetIn request scenario left answer
+  ends_met answer ends =
+      if_some (λ bytes. IsAnswered request.mode scenario bytes answer × GainsSettled request.mode scenario bytes contents contents') (λ bytes. IsAnswered request.mode scenario bytes answer)
+      (log_of request scenario left) (λ bytes both. both.0) ends.ends
+
+  either_met : (answer : Status) → StopsWith request scenario left contents contents' answer ⊎ EndsWith request scenario left left' contents contents' answer → MetIn request scenario left answer
+  either_met answer (inl stops) = stops_met answer stops
+  either_met answer (inr ends) = ends_met answer ends
+
+  pub no_report : OneComes → (because : StreamFault) (most : ℕ) (due told : Status) (before now puts put : ℕ) (Made : Type 0) → most ≡ scenario.log.max_bytes
+      → Follows left request due (Ok scenario) → ReportCause request scenario left left' contents contents' because → LogCount before now because → OutCount puts put because
+      → ¬ Rose before now → ¬ Rose puts put → IsTold told (stream_status because most) Made → (told ≡ due) ⊎ (told ≡ status.Memory)
+  no_report once stream.NotRead most due told before now puts put Made limit follows cause reads writes calm quiet is_told = absurd (calm (rose before now reads))
+  no_report once stream.NotWritten most due told before now puts put Made limit follows cause reads writes calm quiet is_told = absurd (quiet (rose puts put writes))
+  no_report once (stream.Unreported why.Vessels) most due told before now puts put Made limit follows cause reads writes calm quiet is_told =
+      told_is told (answer_of scenario (Err why.Vessels)) due Made is_told (met_is once left request scenario due _ (either_met (answer_of scenario (Err why.Vessels)) cause) follows)
+  no_report once (stream.Unreported why.Pairs) most due told before now puts put Made limit follows cause reads writes calm quiet is_told =
+      told_is told (answer_of scenario (Err why.Pairs)) due Made is_told (met_is once left request scenario due _ (either_met (answer_of scenario (Err why.Pairs)) cause) follows)
+  no_report once (stream.Unreported why.LogBytes) most due told before now puts put Made limit follows cause reads writes calm quiet is_told =
+      let met = met_is once left request scenario due _ (stops_met (answer_of scenario (Err why.LogBytes)) cause.1) follows in
+      told_is told (status.Limit which.Log most) due Made is_told (ap (status.Limit which.Log) limit ∙ met)
+  no_report once (stream.Unreported (why.Own lack)) most due told before now puts put Made limit follows cause reads writes calm quiet is_told =
+      told_is told (status.OwnUnready lack) due Made is_told (met_is once left request scenario due _ (ends_met (answer_of scenario (Err (why.Own lack))) cause.0) follows)
+  no_report once (stream.Unreported why.Targets) most due told before now puts put Made limit follows cause reads writes calm quiet is_told =
+      told_is told (answer_of scenario (Err why.Targets)) due Made is_told (met_is once left request scenario due _ (ends_met (answer_of scenario (Err why.Targets)) cause.0) follows)
+  no_report once (stream.Unreported why.Memory) most due told before now puts put Made limit follows cause reads writes calm quiet is_told = inr (memory_told told Made is_told)
+
+  -- ---- a report
+
+  pub reported_met : (none : Bool) → IfSome (log_of request scenario left) (λ bytes. Reports request.mode scenario bytes none contents contents') → MetIn request scenario left (finished none)
+  reported_met none reports =
+      if_some (λ bytes. Reports request.mode scenario bytes none contents contents') (λ bytes. IsAnswered request.mode scenario bytes (finished none)) (log_of request scenario left)
+      (λ bytes reported. record { came = Ok none; met = reported.met; is = refl }) reports
+
+  pub reported_so : (none : Bool) (answer : Status) → answer ≡ finished none → IfSome (log_of request scenario left) (λ bytes. Reports request.mode scenario bytes none contents contents')
+      → IfSome (log_of request scenario left) (λ bytes. IsAnswered request.mode scenario bytes answer × GainsReport request.mode scenario bytes contents contents')
+  reported_so none answer is reports =
+      if_some (λ bytes. Reports request.mode scenario bytes none contents contents') (λ bytes. IsAnswered request.mode scenario bytes answer × GainsReport request.mode scenario bytes contents contents')
+      (log_of request scenario left) (λ bytes reported. (record { came = Ok none; met = reported.met; is = is }, reported.gains)) reports
+
+  -- ---- what is told of a log
+
+  abbrev Either : Status → Type 0
+  Either answer = StopsWith request scenario left contents contents' answer ⊎ EndsWith request scenario left left' contents contents' answer
+
+  pub vessels_told : (because : StreamFault) (most limit : ℕ) (told : Status) (Made : Type 0) → IsTold told (stream_status because limit) Made → told ≡ status.Limit which.Vessels most
+      → ReportCause request scenario left left' contents contents' because → Either (status.Limit which.Vessels most)
+  vessels_told because most limit told Made (inr none) is cause = cc (none.0, is)
+  vessels_told stream.NotRead most limit told Made (inl same) is cause = cc (same, is)
+  vessels_told stream.NotWritten most limit told Made (inl same) is cause = cc (same, is)
+  vessels_told (stream.Unreported why.Vessels) most limit told Made (inl same) is cause = subst Either (sym same ∙ is) cause
+  vessels_told (stream.Unreported why.Pairs) most limit told Made (inl same) is cause = cc (same, is)
+  vessels_told (stream.Unreported why.LogBytes) most limit told Made (inl same) is cause = cc (same, is)
+  vessels_told (stream.Unreported (why.Own lack)) most limit told Made (inl same) is cause = cc (same, is)
+  vessels_told (stream.Unreported why.Targets) most limit told Made (inl same) is cause = cc (same, is)
+  vessels_told (stream.Unreported why.Memory) most limit told Made (inl same) is cause = cc (same, is)
+
+  pub pairs_told : (because : StreamFault) (most limit : ℕ) (told : Status) (Made : Type 0) → IsTold told (stream_status because limit) Made → told ≡ status.Limit which.Pairs most
+      → ReportCause request scenario left left' contents contents' because → Either (status.Limit which.Pairs most)
+  pairs_told because most limit told Made (inr none) is cause = cc (none.0, is)
+  pairs_told stream.NotRead most limit told Made (inl same) is cause = cc (same, is)
+  pairs_told stream.NotWritten most limit told Made (inl same) is cause = cc (same, is)
+  pairs_told (stream.Unreported why.Vessels) most limit told Made (inl same) is cause = cc (same, is)
+  pairs_told (stream.Unreported why.Pairs) most limit told Made (inl same) is cause = subst Either (sym same ∙ is) cause
+  pairs_told (stream.Unreported why.LogBytes) most limit told Made (inl same) is cause = cc (same, is)
+  pairs_told (stream.Unreported (why.Own lack)) most limit told Made (inl same) is cause = cc (same, is)
+  pairs_told (stream.Unreported why.Targets) most limit told Made (inl same) is cause = cc (same, is)
+  pairs_told (stream.Unreported why.Memory) most limit told Made (inl same) is cause = cc (same, is)
+
+  -- the limit of the log's bytes
+  pub record BytesTold (most : ℕ) : Type 0 where
+    pub limit : most ≡ scenario.log.max_bytes
+    pub stops : IsTrue (reads_log request.mode) → StopsAt most 0 left left' read.TooLong
+    pub met : StopsWith request scenario left contents contents' (status.Limit which.Log most)
+
+  pub bytes_told : (because : StreamFault) (most limit : ℕ) (told : Status) (Made : Type 0) → limit ≡ scenario.log.max_bytes → IsTold told (stream_status because limit) Made
+      → told ≡ status.Limit which.Log most → ReportCause request scenario left left' contents contents' because → BytesTold most
+  bytes_told because most limit told Made at (inr none) is cause = cc (none.0, is)
+  bytes_told stream.NotRead most limit told Made at (inl same) is cause = cc (same, is)
+  bytes_told stream.NotWritten most limit told Made at (inl same) is cause = cc (same, is)
+  bytes_told (stream.Unreported why.Vessels) most limit told Made at (inl same) is cause = cc (same, is)
+  bytes_told (stream.Unreported why.Pairs) most limit told Made at (inl same) is cause = cc (same, is)
+  bytes_told (stream.Unreported why.LogBytes) most limit told Made at (inl same) is cause =
+      let one : limit ≡ most = cc (same, is) in
+      subst BytesTold (sym at ∙ one) (record { limit = refl; stops = cause.0; met = cause.1 })
+  bytes_told (stream.Unreported (why.Own lack)) most limit told Made at (inl same) is cause = cc (same, is)
+  bytes_told (stream.Unreported why.Targets) most limit told Made at (inl same) is cause = cc (same, is)
+  bytes_told (stream.Unreported why.Memory) most limit told Made at (inl same) is cause = cc (same, is)
+
+  pub own_told : (because : StreamFault) (lacks : Unready) (limit : ℕ) (told : Status) (Made : Type 0) → IsTold told (stream_status because limit) Made → told ≡ status.OwnUnready lacks
+      → ReportCause request scenario left left' contents contents' because → EndsWith request scenario left left' contents contents' (status.OwnUnready lacks)
+  own_told because lacks limit told Made (inr none) is cause = cc (none.0, is)
+  own_told stream.NotRead lacks limit told Made (inl same) is cause = cc (same, is)
+  own_told stream.NotWritten lacks limit told Made (inl same) is cause = cc (same, is)
+  own_told (stream.Unreported why.Vessels) lacks limit told Made (inl same) is cause = cc (same, is)
+  own_told (stream.Unreported why.Pairs) lacks limit told Made (inl same) is cause = cc (same, is)
+  own_told (stream.Unreported why.LogBytes) lacks limit told Made (inl same) is cause = cc (same, is)
+  own_told (stream.Unreported (why.Own lack)) lacks limit told Made (inl same) is cause = subst (EndsWith request scenario left left' contents contents') (sym same ∙ is) cause.0
+  own_told (stream.Unreported why.Targets) lacks limit told Made (inl same) is cause = cc (same, is)
+  own_told (stream.Unreported why.Memory) lacks limit told Made (inl same) is cause = cc (same, is)
+
+  pub targets_told : (because : StreamFault) (most limit : ℕ) (told : Status) (Made : Type 0) → IsTold told (stream_status because limit) Made → told ≡ status.Limit which.Targets most
+      → ReportCause request scenario left left' contents contents' because → EndsWith request scenario left left' contents contents' (status.Limit which.Targets most)
+  targets_told because most limit told Made (inr none) is cause = cc (none.0, is)
+  targets_told stream.NotRead most limit told Made (inl same) is cause = cc (same, is)
+  targets_told stream.NotWritten most limit told Made (inl same) is cause = cc (same, is)
+  targets_told (stream.Unreported why.Vessels) most limit told Made (inl same) is cause = cc (same, is)
+  targets_told (stream.Unreported why.Pairs) most limit told Made (inl same) is cause = cc (same, is)
+  targets_told (stream.Unreported why.LogBytes) most limit told Made (inl same) is cause = cc (same, is)
+  targets_told (stream.Unreported (why.Own lack)) most limit told Made (inl same) is cause = cc (same, is)
+  targets_told (stream.Unreported why.Targets) most limit told Made (inl same) is cause = subst (EndsWith request scenario left left' contents contents') (sym same ∙ is) cause.0
+  targets_told (stream.Unreported why.Memory) most limit told Made (inl same) is cause = cc (same, is)
+
+  pub read_told : (because : StreamFault) (limit before now : ℕ) (told : Status) (Made : Type 0) → IsTold told (stream_status because limit) Made → told ≡ status.ReadFault
+      → ReportCause request scenario left left' contents contents' because → LogCount before now because
+      → (now ≡ one_more before) × IsTrue (reads_log request.mode) × LeavesSettled request.mode scenario left left' contents contents'
+  read_told because limit before now told Made (inr none) is cause count = cc (none.0, is)
+  read_told stream.NotRead limit before now told Made (inl same) is cause count = (count, cause.0, cause.1)
+  read_told stream.NotWritten limit before now told Made (inl same) is cause count = cc (same, is)
+  read_told (stream.Unreported why.Vessels) limit before now told Made (inl same) is cause count = cc (same, is)
+  read_told (stream.Unreported why.Pairs) limit before now told Made (inl same) is cause count = cc (same, is)
+  read_told (stream.Unreported why.LogBytes) limit before now told Made (inl same) is cause count = cc (same, is)
+  read_told (stream.Unreported (why.Own lack)) limit before now told Made (inl same) is cause count = cc (same, is)
+  read_told (stream.Unreported why.Targets) limit before now told Made (inl same) is cause count = cc (same, is)
+  read_told (stream.Unreported why.Memory) limit before now told Made (inl same) is cause count = cc (same, is)
+
+  pub put_told : (because : StreamFault) (limit before now : ℕ) (told : Status) (Made : Type 0) → IsTold told (stream_status because limit) Made → told ≡ status.WriteFault
+      → ReportCause request scenario left left' contents contents' because → OutCount before now because
+      → (now ≡ one_more before) × WritesPart request scenario left left' contents contents'
+  put_told because limit before now told Made (inr none) is cause count = cc (none.0, is)
+  put_told stream.NotRead limit before now told Made (inl same) is cause count = cc (same, is)
+  put_told stream.NotWritten limit before now told Made (inl same) is cause count = (count, cause)
+  put_told (stream.Unreported why.Vessels) limit before now told Made (inl same) is cause count = cc (same, is)
+  put_told (stream.Unreported why.Pairs) limit before now told Made (inl same) is cause count = cc (same, is)
+  put_told (stream.Unreported why.LogBytes) limit before now told Made (inl same) is cause count = cc (same, is)
+  put_told (stream.Unreported (why.Own lack)) limit before now told Made (inl same) is cause count = cc (same, is)
+  put_told (stream.Unreported why.Targets) limit before now told Made (inl same) is cause count = cc (same, is)
+  put_told (stream.Unreported why.Memory) limit before now told Made (inl same) is cause count = cc (same, is)
+
+  -- nothing was written
+  pub nothing_told : (because : StreamFault) (limit : ℕ) (told : Status) (Made : Type 0) → IsTold told (stream_status because limit) Made → IsTrue (WritesNothing told)
+      → ReportCause request scenario left left' contents contents' because → Keeps contents contents'
+  nothing_told because limit told Made (inr none) is cause = (let no = subst (λ (s : Status). IsTrue (WritesNothing s)) none.0 is in cc no)
+  nothing_told stream.NotRead limit told Made (inl same) is cause = (let no = subst (λ (s : Status). IsTrue (WritesNothing s)) same is in cc no)
+  nothing_told stream.NotWritten limit told Made (inl same) is cause = (let no = subst (λ (s : Status). IsTrue (WritesNothing s)) same is in cc no)
+  nothing_told (stream.Unreported why.Vessels) limit told Made (inl same) is cause = (let no = subst (λ (s : Status). IsTrue (WritesNothing s)) same is in cc no)
+  nothing_told (stream.Unreported why.Pairs) limit told Made (inl same) is cause = (let no = subst (λ (s : Status). IsTrue (WritesNothing s)) same is in cc no)
+  nothing_told (stream.Unreported why.LogBytes) limit told Made (inl same) is cause = (let no = subst (λ (s : Status). IsTrue (WritesNothing s)) same is in cc no)
+  nothing_told (stream.Unreported (why.Own lack)) limit told Made (inl same) is cause = cause.1
+  nothing_told (stream.Unreported why.Targets) limit told Made (inl same) is cause = cause.1
+  nothing_told (stream.Unreported why.Memory) limit told Made (inl same) is cause = (let no = subst (λ (s : Status). IsTrue (WritesNothing s)) same is in cc no)
+
+  -- ---- want of memory
+
+  abbrev Front : Type 0
+  Front = IfSome (log_of request scenario left) (λ log. GainsFront request.mode scenario log contents contents')
+
+  stops_front : (answer : Status) → StopsWith request scenario left contents contents' answer → Front
+  stops_front answer stops =
+      if_some (λ bytes. IsStoppedBy request.mode scenario bytes contents contents' answer) (λ log. GainsFront request.mode scenario log contents contents') (log_of request scenario left)
+      (λ bytes stop. record {
+        front = take (stop.stopped.place - 1) bytes;
+        rest = drop (stop.stopped.place - 1) bytes;
+        whole = sym (take-append-drop (stop.stopped.place - 1) bytes);
+        gains = record { text = stop.text; settled = stop.stopped.settled; gained = stop.gained };
+      }) stops
+
+  ends_front : (answer : Status) → EndsWith request scenario left left' contents contents' answer → Front
+  ends_front answer ends =
+      if_some (λ bytes. IsAnswered request.mode scenario bytes answer × GainsSettled request.mode scenario bytes contents contents') (λ log. GainsFront request.mode scenario log contents contents')
+      (log_of request scenario left) (λ bytes both. record { front = bytes; rest = []; whole = sym (append-nil bytes); gains = both.1 }) ends.ends
+
+  either_front : (answer : Status) → Either answer → Front
+  either_front answer (inl stops) = stops_front answer stops
+  either_front answer (inr ends) = ends_front answer ends
+
+  pub memory_front : (because : StreamFault) (limit : ℕ) (told : Status) (Made : Type 0) → IsTold told (stream_status because limit) Made → told ≡ status.Memory
+      → (Made → IsTrue (is_made (stream_status because limit))) → ReportCause request scenario left left' contents contents' because → Front
+  memory_front stream.NotRead limit told Made (inl same) is made cause = cc (same, is)
+  memory_front stream.NotRead limit told Made (inr none) is made cause = (let no = made none.1 in cc no)
+  memory_front stream.NotWritten limit told Made (inl same) is made cause = cc (same, is)
+  memory_front stream.NotWritten limit told Made (inr none) is made cause = (let no = made none.1 in cc no)
+  memory_front (stream.Unreported why.Vessels) limit told Made is_told is made cause = either_front (answer_of scenario (Err why.Vessels)) cause
+  memory_front (stream.Unreported why.Pairs) limit told Made is_told is made cause = either_front (answer_of scenario (Err why.Pairs)) cause
+  memory_front (stream.Unreported why.LogBytes) limit told Made is_told is made cause = stops_front (answer_of scenario (Err why.LogBytes)) cause.1
+  memory_front (stream.Unreported (why.Own lack)) limit told Made is_told is made cause = ends_front (answer_of scenario (Err (why.Own lack))) cause.0
+  memory_front (stream.Unreported why.Targets) limit told Made is_told is made cause = ends_front (answer_of scenario (Err why.Targets)) cause.0
+  memory_front (stream.Unreported why.Memory) limit told Made is_told is made cause = cause
 
 -- ---- a run that writes
 
@@ -144,61 +332,6 @@ runs words files request scenario Q P accepted reports q holds p = (
         (λ text is. (scenario, is, p)) holds,
   ),
 )
-
--- The report that was made was written so.
-pub written : (request : Request) (scenario : Scenario) (answer : Status) (report : List ℕ) (Written : List ℕ → Type 0) (log : Option (List ℕ))
-    → IfSome log (λ bytes. IsMet request.mode scenario bytes answer × IsEnding request.mode scenario bytes report) → Written report
-    → IfSome log (λ bytes. IsMet request.mode scenario bytes answer × (text : List ℕ) × IsEnding request.mode scenario bytes text × Written text)
-written request scenario answer report Written None made put = tt
-written request scenario answer report Written (Some bytes) made put = (made.0, report, made.1, put)
-
-pub part_written : (request : Request) (scenario : Scenario) (none : Bool) (report : List ℕ) (Written : List ℕ → Type 0) (log : Option (List ℕ))
-    → IfSome log (λ bytes. IsMet request.mode scenario bytes (log_fault.finished none) × IsEnding request.mode scenario bytes report) → Written report
-    → IfSome log (λ bytes. (answer : Status) × IsTrue (IsFinished answer) × IsMet request.mode scenario bytes answer
-    × (text : List ℕ) × IsEnding request.mode scenario bytes text × Written text)
-part_written request scenario none report Written None made put = tt
-part_written request scenario none report Written (Some bytes) made put = (log_fault.finished none, is_finished none, made.0, report, made.1, put)
-  where
-    is_finished : (b : Bool) → IsTrue (IsFinished (log_fault.finished b))
-    is_finished true = refl
-    is_finished false = refl
-
--- ---- a run that ends with what is met in the log
-
-unreported_met : (request : Request) (scenario : Scenario) (left left' : Option (List ℕ)) (why : EndingFault) (answer : Status) → (answer ≡ status.Memory → ⊥)
-    → log_fault.answer_of why ≡ answer → log_fault.UnlessMemory why (log_fault.MeetsAtEnd request scenario left left') → log_fault.MeetsAtEnd request scenario left left' answer
-unreported_met request scenario left left' ending.TooManyVessels answer not is met = subst (log_fault.MeetsAtEnd request scenario left left') is met
-unreported_met request scenario left left' ending.TooManyPairs answer not is met = subst (log_fault.MeetsAtEnd request scenario left left') is met
-unreported_met request scenario left left' (ending.OwnUnready lack) answer not is met = subst (log_fault.MeetsAtEnd request scenario left left') is met
-unreported_met request scenario left left' ending.TooManyTargets answer not is met = subst (log_fault.MeetsAtEnd request scenario left left') is met
-unreported_met request scenario left left' ending.Memory answer not is met = absurd (not (sym is))
-
--- what is told, where it is no failed read, no limit of the log and no want of memory
-pub met_told : (request : Request) (scenario : Scenario) (left left' : Option (List ℕ)) (before now : ℕ) (why : LogFault) (told answer : Status) (Made : Type 0)
-    → (answer ≡ status.ReadFault → ⊥) → ((most : ℕ) → answer ≡ status.Limit which.Log most → ⊥) → (answer ≡ status.Memory → ⊥)
-    → IsTold told (log_fault.log_answer why) Made → told ≡ answer → log_fault.LogCause request scenario left left' before now why → log_fault.MeetsAtEnd request scenario left left' answer
-met_told request scenario left left' before now why told answer Made read long memory (inr none) is cause = absurd (memory (sym is ∙ none.0))
-met_told request scenario left left' before now unread.NotRead told answer Made read long memory (inl same) is cause = absurd (read (sym is ∙ same))
-met_told request scenario left left' before now (unread.TooLong most) told answer Made read long memory (inl same) is cause = absurd (long most (sym is ∙ same))
-met_told request scenario left left' before now (unread.Unreported why) told answer Made read long memory (inl same) is cause =
-    unreported_met request scenario left left' why answer memory (sym same ∙ is) cause.1
-
--- what is told, where it is the limit of the log
-pub long_told : (request : Request) (scenario : Scenario) (left left' : Option (List ℕ)) (before now : ℕ) (why : LogFault) (told : Status) (most : ℕ) (Made : Type 0)
-    → IsTold told (log_fault.log_answer why) Made → told ≡ status.Limit which.Log most → log_fault.LogCause request scenario left left' before now why
-    → log_fault.IsTooLong request scenario left left' most
-long_told request scenario left left' before now why told most Made (inr none) is cause = cc (none.0, is)
-long_told request scenario left left' before now unread.NotRead told most Made (inl same) is cause = cc (same, is)
-long_told request scenario left left' before now (unread.TooLong limit) told most Made (inl same) is cause =
-    let one : limit ≡ most = cc (same, is) in subst (λ (n : ℕ). log_fault.IsTooLong request scenario left left' n) one cause.1
-long_told request scenario left left' before now (unread.Unreported why) told most Made (inl same) is cause = unlimited why (sym same ∙ is)
-  where
-    unlimited : (w : EndingFault) → log_fault.answer_of w ≡ status.Limit which.Log most → log_fault.IsTooLong request scenario left left' most
-    unlimited ending.TooManyVessels e = cc e
-    unlimited ending.TooManyPairs e = cc e
-    unlimited (ending.OwnUnready lack) e = cc e
-    unlimited ending.TooManyTargets e = cc e
-    unlimited ending.Memory e = cc e
 
 -- ---- a drill
 
@@ -230,15 +363,21 @@ pub drill_told : (told answer : Status) (Made : Type 0) → IsTold told answer M
 drill_told told answer Made (inl same) is = subst (λ (s : Status). IsTrue (IsOfDrill s)) (sym same) is
 drill_told told answer Made (inr memory) is = subst (λ (s : Status). IsTrue (IsOfDrill s)) (sym memory.0) refl
 
--- what is met in the log of a report
-pub met_of : (request : Request) (scenario : Scenario) (answer : Status) (report : List ℕ) (log : Option (List ℕ)) → IsReported request scenario answer report log
-    → MetIn request scenario log answer
-met_of request scenario answer report log made = first (log_of request scenario log) made
-  where
-    first : (l : Option (List ℕ)) → IfSome l (λ bytes. IsMet request.mode scenario bytes answer × IsEnding request.mode scenario bytes report)
-        → IfSome l (λ bytes. IsMet request.mode scenario bytes answer)
-    first None made = tt
-    first (Some bytes) made = made.0
+-- what a drill's fault is told as
+pub drill_status : (because : StreamFault) (limit : ℕ) → IsTrue (is_of_drill because) → IsTrue (IsOfDrill (stream_status because limit))
+drill_status stream.NotRead limit is = cc is
+drill_status stream.NotWritten limit is = refl
+drill_status (stream.Unreported why.Vessels) limit is = cc is
+drill_status (stream.Unreported why.Pairs) limit is = cc is
+drill_status (stream.Unreported why.LogBytes) limit is = refl
+drill_status (stream.Unreported (why.Own lack)) limit is = cc is
+drill_status (stream.Unreported why.Targets) limit is = cc is
+drill_status (stream.Unreported why.Memory) limit is = refl
+
+-- a drill's report has no manoeuvre to lack
+pub drill_done : (none : Bool) → none ≡ false → IsTrue (IsOfDrill (finished none))
+drill_done true is = cc is
+drill_done false is = refl
 
 -- ---- a run without a request
 

@@ -13,7 +13,7 @@ use Rattle.scenario_keys.specs.declared.fault.ScenarioFault.{ScenarioFault}
 use Rattle.scenario_keys.specs.declared.fault.ScenarioFault.TheVariants as refusal
 use Rattle.colregs_program.specs.Answers.{greatest_scenario, IsRefusedBy, LiesUnder}
 use Rattle.colregs_program.specs.AskedScenarios.{with_options}
-use Rattle.colregs_program.specs.Modes.{needs_own, reports}
+use Rattle.sessions.specs.Modes.{needs_own, reports}
 use Rattle.colregs_program.specs.Inner.SetUps.{AreOptions, IsSetUpDue, set_up_fault}
 use Rattle.command_line.specs.Requests.{AskFor}
 use Rattle.command_line.specs.declared.mode.Mode.{Mode}

@@ -11,9 +11,9 @@ use Rattle.scenario.specs.ScenarioReading.{IsRefused, Means}
 use Rattle.scenario_keys.specs.declared.key.Key.{Key}
 use Rattle.scenario_keys.specs.declared.cause.Cause.{Cause}
 use Rattle.scenario.specs.declared.values.Scenario.{Scenario}
-use Rattle.colregs_program.specs.Endings.{IsMet}
+use Rattle.colregs_program.specs.LogAnswers.{GainsPart, IsAnswered, IsStoppedBy, GainsSettled, LeavesPart}
 use Rattle.colregs_program.specs.AskedScenarios.{log_of, with_options}
-use Rattle.colregs_program.specs.Modes.{needs_own, reads_log, reports}
+use Rattle.sessions.specs.Modes.{needs_own, reads_log, reports}
 use Rattle.colregs_program.specs.declared.status.Status.{Status}
 use Rattle.colregs_program.specs.declared.status.Status.TheVariants as status
 use Rattle.colregs_program.specs.declared.status.Which.TheVariants as which
@@ -68,9 +68,25 @@ Migrates words files P =
 abbrev pub IsReadBy : Mode → Option (List ℕ) → Type 0
 IsReadBy mode left = IsTrue (reads_log mode) → IsAtEnd left
 
--- The request meets this answer in its log, where that is told.
+-- The request's log is answered so, where it is told.
 abbrev pub MetIn : Request → Scenario → Option (List ℕ) → Status → Type 0
-MetIn request scenario given answer = IfSome (log_of request scenario given) (λ bytes. IsMet request.mode scenario bytes answer)
+MetIn request scenario given answer = IfSome (log_of request scenario given) (λ bytes. IsAnswered request.mode scenario bytes answer)
+
+-- The request's log is refused with this answer at a place before its end, and the sink gained what the bytes before the place settle.
+abbrev pub StopsWith : Request → Scenario → Option (List ℕ) → Option (List ℕ) → Option (List ℕ) → Status → Type 0
+StopsWith request scenario given contents contents' answer =
+    IfSome (log_of request scenario given) (λ bytes. IsStoppedBy request.mode scenario bytes contents contents' answer)
+
+-- The request's log was read to its end where it is read, is answered so there, and the sink gained what the log settles.
+pub record EndsWith (request : Request) (scenario : Scenario) (given left contents contents' : Option (List ℕ)) (answer : Status) : Type 0 where
+  pub read : IsReadBy request.mode left
+  pub ends : IfSome (log_of request scenario given) (λ bytes. IsAnswered request.mode scenario bytes answer × GainsSettled request.mode scenario bytes contents contents')
+
+-- The sink gained a proper front of what was decided so far, or of the report once the log's end was read.
+abbrev pub WritesPart : Request → Scenario → Option (List ℕ) → Option (List ℕ) → Option (List ℕ) → Option (List ℕ) → Type 0
+WritesPart request scenario given left contents contents' =
+    (IsTrue (reads_log request.mode) × LeavesPart request.mode scenario given left contents contents')
+    ⊎ (IsReadBy request.mode left × IfSome (log_of request scenario given) (λ bytes. GainsPart request.mode scenario bytes contents contents'))
 
 -- The words ask for a report on a log, the shelf tells a scenario under the request's name, and its log is told.
 pub record IsReady (words : List (List ℕ)) (files : Option Files) (given : Option (List ℕ))
@@ -84,7 +100,7 @@ pub record IsReady (words : List (List ℕ)) (files : Option Files) (given : Opt
 abbrev pub Meets : List (List ℕ) → Option Files → Option (List ℕ) → Status → Type 0
 Meets words files log answer =
     (request : Request) × (scenario : Scenario) × (bytes : List ℕ)
-    × IsReady words files log request scenario bytes × IsMet request.mode scenario bytes answer
+    × IsReady words files log request scenario bytes × IsAnswered request.mode scenario bytes answer
 
 -- Nothing is against a migration of the bytes.
 abbrev pub CanMigrate : List ℕ → Type 0
@@ -131,6 +147,23 @@ IsBeforeLog status.Done = false
 IsBeforeLog status.ReadFault = false
 IsBeforeLog status.WriteFault = false
 IsBeforeLog status.Memory = false
+
+-- Nothing is written before these answers.
+abbrev pub WritesNothing : Status → Bool
+WritesNothing status.Usage = true
+WritesNothing status.ShelfFault = true
+WritesNothing (status.Limit which.Scenario most) = true
+WritesNothing (status.Scenario key cause) = true
+WritesNothing (status.OwnUnready why) = true
+WritesNothing (status.Limit which.Targets most) = true
+WritesNothing (status.Limit which.Log most) = false
+WritesNothing (status.Limit which.Vessels most) = false
+WritesNothing (status.Limit which.Pairs most) = false
+WritesNothing status.NoManoeuvre = false
+WritesNothing status.Done = false
+WritesNothing status.ReadFault = false
+WritesNothing status.WriteFault = false
+WritesNothing status.Memory = false
 
 -- A drill gives these answers alone: its forty vessels meet no limit but that of its log.
 abbrev pub IsOfDrill : Status → Bool

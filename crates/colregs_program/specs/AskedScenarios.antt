@@ -5,7 +5,7 @@ use Rattle.command_line.specs.declared.request.Request.{Request}
 use Rattle.drill_log.specs.DrillLog.{drill_log_of}
 use Rattle.scenario.specs.declared.values.Scenario.{Scenario}
 use Rattle.scenario.specs.declared.values.Window.{Window}
-use Rattle.colregs_program.specs.Modes.{reads_log}
+use Rattle.sessions.specs.Modes.{reads_log}
 
 -- the window, with the start and the length that are given in place of its own
 abbrev pub window_with : Options → Window → Window

@@ -9,7 +9,7 @@ ghost use Rattle.scenario_keys.specs.declared.key.Key.{Key};
 ghost use Rattle.scenario_keys.specs.declared.cause.Cause.{Cause};
 ghost use Rattle.command_line.specs.declared.mode.Mode.TheVariants.{Migrate};
 ghost use Rattle.colregs_program.specs.Answers.{greatest_scenario, Holds, IsOfMigration};
-ghost use Rattle.colregs_program.specs.Endings.{IsFinished};
+ghost use Rattle.colregs_program.specs.LogAnswers.{IsFinished};
 ghost use Rattle.colregs_program.specs.FaultLines.{fault_line};
 ghost use Rattle.colregs_program.specs.Told.{Gains};
 ghost use Rattle.colregs_program.specs.Inner.Migrating.{ComesTo, HoldsMigrated, IsMigrationDue};
@@ -74,8 +74,8 @@ pub(crate) fn write_migrated<H: Shelf, K: Sink, E: Sink>(
     ensures answers { IsTrue (IsOfMigration result) }
     ensures no_usage { result ≢ Status.Usage }
     ensures fetched { H.fetches shelf.new ≡ one_more (H.fetches shelf.old) }
-    ensures unwritten { IsFinished result ≡ false → result ≢ Status.WriteFault
-        → Keeps (K.contents out.old) (K.contents out.new) × (K.faults out.new ≡ K.faults out.old) }
+    ensures unwritten { IsFinished result ≡ false → result ≢ Status.WriteFault → Keeps (K.contents out.old) (K.contents out.new) }
+    ensures calm { result ≢ Status.WriteFault → K.faults out.new ≡ K.faults out.old }
     ensures line { Gains (record { bytes = E.contents err.old; faults = E.faults err.old })
         (record { bytes = E.contents err.new; faults = E.faults err.new }) (fault_line result) }
 {

@@ -11,36 +11,40 @@ ghost use Rattle.scenario_keys.specs.declared.cause.Cause.{Cause};
 ghost use Rattle.command_line.specs.Requests.{AskFor, AskForNothing};
 ghost use Rattle.command_line.specs.declared.mode.Mode.TheVariants.{Drill, Migrate};
 ghost use Rattle.command_line.specs.declared.request.Request.{Request};
-ghost use Rattle.colregs_program.specs.Answers.{greatest_scenario, Holds, IsBeforeLog, IsDue, IsOfDrill, IsOfMigration, IsReadBy, IsRefusedBy, MetIn, Migrates, Requested, Runs};
+ghost use Rattle.sessions.specs.Modes.{reads_log};
+ghost use Rattle.colregs_program.specs.Answers.{EndsWith, greatest_scenario, Holds, IsBeforeLog, IsDue, IsOfDrill, IsOfMigration, IsReadBy, IsRefusedBy, Migrates, Requested, Runs, StopsWith, WritesNothing, WritesPart};
 ghost use Rattle.colregs_program.specs.AskedScenarios.{log_of};
-ghost use Rattle.colregs_program.specs.Endings.{IsEnding, IsFinished, IsMet};
 ghost use Rattle.colregs_program.specs.FaultLines.{fault_line};
-ghost use Rattle.colregs_program.specs.Modes.{reads_log};
+ghost use Rattle.colregs_program.specs.LogAnswers.{GainsFront, GainsReport, IsAnswered, IsFinished, LeavesSettled};
 ghost use Rattle.colregs_program.specs.Told.{Gains};
 ghost use Rattle.own_ship.specs.declared.readiness.Unready.{Unready};
 ghost use Rattle.colregs_program.specs.declared.status.Status.{Status};
 ghost use Rattle.colregs_program.specs.declared.status.Which.TheVariants as which;
 
 use crate::migrate::write_migrated;
-use crate::modes::reports;
 use crate::report::report_on;
 use crate::set_up::set_up;
 use crate::status::Status;
+use crate::stream_status::stream_status;
 use crate::telling::tell;
 use command_line::request_of;
-use outside::{Shelf, Sink, Source, Word, put_all};
+use outside::{Shelf, Sink, Source, Word};
+use sessions::laws::one_answer;
+use sessions::reports;
 use std::alloc::Global;
 
 /// Runs the program with these words, which do not hold its own name, and which `clap` reads by the command `colregs`.
 ///
-/// `points SCENARIO` reads the scenario of that name from the shelf and the whole log, and writes the report of `points`
-/// to `out`: a row for each accepted report in the order of the log, and then how many lines came to each outcome. `audit SCENARIO`
-/// writes the report of `audit`: a row for each meeting and for each stretch on which a rule is broken or undecided, in their order,
-/// then the vessels, what each rule comes to, and the outcomes. `plan SCENARIO` takes the last tick as now and writes the report of
-/// `plan`: own ship and the vessels near her, the legs of the first of her plans that newly breaks no rule and enters no domain, or
-/// that there is none, and the outcomes. `drill SCENARIO` makes the log of forty vessels in place of reading one, audits it, and writes what
-/// each rule comes to, and the outcomes. `migrate SCENARIO` writes the scenario as one of version 2, and looks at no log. `--start` and `--ticks` stand in place of the scenario's own start and length of the window. What
-/// `err` gets names the fault, and nothing else is written.
+/// `points SCENARIO` reads the scenario of that name from the shelf and the log to its end, and writes the report of `points` to `out`,
+/// each row as soon as the log read so far decides it: a row for each accepted report in the order of the log, and then how many lines
+/// came to each outcome. `audit SCENARIO` writes the report of `audit`: a row for each meeting and for each stretch on which a rule is
+/// broken or undecided, in their order, then the vessels, what each rule comes to, and the outcomes. `plan SCENARIO` takes the last tick
+/// as now and writes the report of `plan`: own ship and the vessels near her, the legs of the first of her plans that newly breaks no rule
+/// and enters no domain, or that there is none, and the outcomes. `drill SCENARIO` makes the log of forty vessels in place of reading one,
+/// audits it, and writes what each rule comes to, and the outcomes. `migrate SCENARIO` writes the scenario as one of version 2, and looks
+/// at no log. `--start` and `--ticks` stand in place of the scenario's own start and length of the window.
+///
+/// What `err` gets names the fault. A run that stops before the log's end has written what the log before that place decides.
 pub fn run<H: Shelf, S: Source, K: Sink, E: Sink>(
     alloc: Global,
     words: &[Word],
@@ -54,8 +58,8 @@ pub fn run<H: Shelf, S: Source, K: Sink, E: Sink>(
     // fails. A printed plan is safe.
     // A finished migration wrote the same scenario in version 2.
     ensures headline { IsTrue (IsFinished result) → Runs words.now (H.files shelf.old) (λ request. IsReadBy request.mode (S.left log.new))
-        (λ request scenario. IfSome (log_of request scenario (S.left log.old)) (λ bytes. IsMet request.mode scenario bytes result
-        × (text : List ℕ) × IsEnding request.mode scenario bytes text × Appends (K.contents out.old) (K.contents out.new) text))
+        (λ request scenario. IfSome (log_of request scenario (S.left log.old)) (λ bytes. IsAnswered request.mode scenario bytes result
+        × GainsReport request.mode scenario bytes (K.contents out.old) (K.contents out.new)))
         ⊎ ((result ≡ Status.Done) × Migrates words.now (H.files shelf.old) (λ text. Appends (K.contents out.old) (K.contents out.new) text)) }
 
     // Completeness: the answer that words, shelf and log call for comes, where no call fails. Memory alone is free.
@@ -75,30 +79,31 @@ pub fn run<H: Shelf, S: Source, K: Sink, E: Sink>(
     ensures refused { (key : Key) (cause : Cause) → result ≡ Status.Scenario key cause
         → Requested words.now (λ request. Holds (H.files shelf.old) request.name (λ text.
         (length text ≤ greatest_scenario) × IsRefusedBy request.mode text key cause)) }
+    // A run that a fault or a refusal stops has written what the bytes before it settle. Own ship's lacks and her targets come at the log's end.
     ensures read_fault { result ≡ Status.ReadFault → (S.faults log.new ≡ one_more (S.faults log.old))
         × Runs words.now (H.files shelf.old) (λ request. IsTrue (reads_log request.mode))
-        (λ _ scenario. StopsAt scenario.log.max_bytes 0 (S.left log.old) (S.left log.new) read.Failed) }
+        (λ request scenario. LeavesSettled request.mode scenario (S.left log.old) (S.left log.new) (K.contents out.old) (K.contents out.new)) }
     ensures log_limit { (most : ℕ) → result ≡ Status.Limit which.Log most → Runs words.now (H.files shelf.old)
         (λ request. IsTrue (reads_log request.mode) → StopsAt most 0 (S.left log.old) (S.left log.new) read.TooLong)
-        (λ request scenario. (most ≡ scenario.log.max_bytes) × MetIn request scenario (S.left log.old) (Status.Limit which.Log most)) }
-    ensures vessel_limit { (most : ℕ) → result ≡ Status.Limit which.Vessels most
-        → Runs words.now (H.files shelf.old) (λ request. IsReadBy request.mode (S.left log.new))
-        (λ request scenario. MetIn request scenario (S.left log.old) (Status.Limit which.Vessels most)) }
-    ensures pair_limit { (most : ℕ) → result ≡ Status.Limit which.Pairs most
-        → Runs words.now (H.files shelf.old) (λ request. IsReadBy request.mode (S.left log.new))
-        (λ request scenario. MetIn request scenario (S.left log.old) (Status.Limit which.Pairs most)) }
-    ensures own_unready { (why : Unready) → result ≡ Status.OwnUnready why
-        → Runs words.now (H.files shelf.old) (λ request. IsReadBy request.mode (S.left log.new))
-        (λ request scenario. MetIn request scenario (S.left log.old) (Status.OwnUnready why)) }
-    ensures target_limit { (most : ℕ) → result ≡ Status.Limit which.Targets most
-        → Runs words.now (H.files shelf.old) (λ request. IsReadBy request.mode (S.left log.new))
-        (λ request scenario. MetIn request scenario (S.left log.old) (Status.Limit which.Targets most)) }
+        (λ request scenario. (most ≡ scenario.log.max_bytes)
+        × StopsWith request scenario (S.left log.old) (K.contents out.old) (K.contents out.new) (Status.Limit which.Log most)) }
+    ensures vessel_limit { (most : ℕ) → result ≡ Status.Limit which.Vessels most → Runs words.now (H.files shelf.old) (λ _. Unit {0})
+        (λ request scenario. StopsWith request scenario (S.left log.old) (K.contents out.old) (K.contents out.new) (Status.Limit which.Vessels most)
+        ⊎ EndsWith request scenario (S.left log.old) (S.left log.new) (K.contents out.old) (K.contents out.new) (Status.Limit which.Vessels most)) }
+    ensures pair_limit { (most : ℕ) → result ≡ Status.Limit which.Pairs most → Runs words.now (H.files shelf.old) (λ _. Unit {0})
+        (λ request scenario. StopsWith request scenario (S.left log.old) (K.contents out.old) (K.contents out.new) (Status.Limit which.Pairs most)
+        ⊎ EndsWith request scenario (S.left log.old) (S.left log.new) (K.contents out.old) (K.contents out.new) (Status.Limit which.Pairs most)) }
+    ensures own_unready { (why : Unready) → result ≡ Status.OwnUnready why → Runs words.now (H.files shelf.old) (λ _. Unit {0})
+        (λ request scenario. EndsWith request scenario (S.left log.old) (S.left log.new) (K.contents out.old) (K.contents out.new) (Status.OwnUnready why)) }
+    ensures target_limit { (most : ℕ) → result ≡ Status.Limit which.Targets most → Runs words.now (H.files shelf.old) (λ _. Unit {0})
+        (λ request scenario. EndsWith request scenario (S.left log.old) (S.left log.new) (K.contents out.old) (K.contents out.new) (Status.Limit which.Targets most)) }
     ensures write_fault { result ≡ Status.WriteFault → (K.faults out.new ≡ one_more (K.faults out.old))
-        × (Runs words.now (H.files shelf.old) (λ request. IsReadBy request.mode (S.left log.new))
-        (λ request scenario. IfSome (log_of request scenario (S.left log.old)) (λ bytes. (answer : Status) × IsTrue (IsFinished answer)
-        × IsMet request.mode scenario bytes answer
-        × (text : List ℕ) × IsEnding request.mode scenario bytes text × AppendsPart (K.contents out.old) (K.contents out.new) text))
+        × (Runs words.now (H.files shelf.old) (λ _. Unit {0})
+        (λ request scenario. WritesPart request scenario (S.left log.old) (S.left log.new) (K.contents out.old) (K.contents out.new))
         ⊎ Migrates words.now (H.files shelf.old) (λ text. AppendsPart (K.contents out.old) (K.contents out.new) text)) }
+    ensures memory { result ≡ Status.Memory → Keeps (K.contents out.old) (K.contents out.new) ⊎ Runs words.now (H.files shelf.old) (λ _. Unit {0})
+        (λ request scenario. IfSome (log_of request scenario (S.left log.old)) (λ bytes.
+        GainsFront request.mode scenario bytes (K.contents out.old) (K.contents out.new))) }
     ensures drill { (request : Request) → AskFor words.now request → request.mode ≡ Drill → IsTrue (IsOfDrill result) }
     ensures migration { (request : Request) → AskFor words.now request → request.mode ≡ Migrate → IsTrue (IsOfMigration result) }
 
@@ -110,8 +115,8 @@ pub fn run<H: Shelf, S: Source, K: Sink, E: Sink>(
         → Keeps (S.left log.old) (S.left log.new) × (S.faults log.new ≡ S.faults log.old) }
     ensures unread { (request : Request) → AskFor words.now request → reads_log request.mode ≡ false
         → Keeps (S.left log.old) (S.left log.new) × (S.faults log.new ≡ S.faults log.old) }
-    ensures unwritten { IsFinished result ≡ false → result ≢ Status.WriteFault
-        → Keeps (K.contents out.old) (K.contents out.new) × (K.faults out.new ≡ K.faults out.old) }
+    ensures unwritten { IsTrue (WritesNothing result) → Keeps (K.contents out.old) (K.contents out.new) }
+    ensures calm { result ≢ Status.WriteFault → K.faults out.new ≡ K.faults out.old }
     ensures line { Gains (record { bytes = E.contents err.old; faults = E.faults err.old })
         (record { bytes = E.contents err.new; faults = E.faults err.new }) (fault_line result) }
 {
@@ -126,14 +131,13 @@ pub fn run<H: Shelf, S: Source, K: Sink, E: Sink>(
         Ok(scenario) => scenario,
         Err(fault) => return tell(alloc, fault.into(), err),
     };
-    let report = match report_on(alloc, &request, scenario, log) {
-        Ok(report) => report,
-        Err(fault) => return tell(alloc, fault.into(), err),
+    one_answer();
+    let most = scenario.log.max_bytes;
+    let none = match report_on(alloc, &request, scenario, log, out) {
+        Ok(none) => none,
+        Err(fault) => return tell(alloc, stream_status(fault, most), err),
     };
-    if !put_all(out, report.text.as_slice()) {
-        return tell(alloc, Status::WriteFault, err);
-    }
-    if report.is_none {
+    if none {
         return Status::NoManoeuvre;
     }
     Status::Done

@@ -5,15 +5,15 @@ ghost use Rattle.scenario.specs.ScenarioValues.{IsInRange};
 ghost use Rattle.scenario.specs.declared.values.Scenario.{Scenario};
 ghost use Rattle.colregs_program.specs.Answers.{Holds, IsScenario};
 ghost use Rattle.colregs_program.specs.AskedScenarios.{with_options};
-ghost use Rattle.colregs_program.specs.Modes.{needs_own, reports};
+ghost use Rattle.sessions.specs.Modes.{needs_own, reports};
 ghost use Rattle.colregs_program.specs.Inner.SetUps.{AreOptions, IsSetUpDue, SetUpCause};
 ghost use Rattle.colregs_program.specs.declared.set_up.SetUpFault.{SetUpFault};
 
-use crate::modes::needs_own;
 use crate::status::{Status, Which};
 use command_line::{Options, Request};
 use outside::{Fetched, Shelf};
 use scenario::{Cause, Key, Scenario, ScenarioFault, read};
+use sessions::needs_own;
 use std::alloc::Global;
 
 /// The greatest length of a scenario, in bytes.

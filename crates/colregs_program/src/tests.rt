@@ -221,6 +221,40 @@ fn source_that_fails_after_a_hundred_bytes(rt: HostRuntime) -> Result<(), Fail> 
     Ok(())
 }
 
+// The clock of the whole lines settles the first two rows, and the read behind them fails.
+#[test]
+fn a_read_that_fails_leaves_the_rows_that_are_settled(rt: HostRuntime) -> Result<(), Fail> {
+    let scenario = about_zero(rt.alloc())?;
+    let mut bytes = HEAD_ON.to_vec(rt.alloc())?;
+    bytes.extend_from_slice(b"\\c:1700000741*5D\\x\n")?;
+    let call = bytes.len() as u64;
+    let mut log = MemorySource::new(bytes, 1, vec![in rt.alloc(); call]?);
+    let texts = ["audit", "scenario.toml"];
+    let ended = run_words(rt.alloc(), &texts, scenario.as_str(), &mut log)?;
+    assert_eq!(rt; ended.status, Status::ReadFault);
+    assert_eq!(rt;
+        ended.out.bytes(),
+        b"verdict,369190000,477553000,r14a,broken,0,0
+verdict,477553000,369190000,r14a,broken,0,0
+"
+            .as_slice()
+    );
+    Ok(())
+}
+
+// The first line is whole within the limit, and the second is not.
+#[test]
+fn a_log_that_is_too_long_leaves_the_rows_of_its_whole_lines(rt: HostRuntime) -> Result<(), Fail> {
+    let scenario = format!(in rt.alloc(); "{SCENARIO}max_bytes = 95\n")?;
+    let mut bytes = LOG.to_vec(rt.alloc())?;
+    bytes.extend_from_slice(LOG)?;
+    let mut log = PlainSource::new(bytes, 1);
+    let ended = points(rt.alloc(), scenario.as_str(), &mut log)?;
+    assert_eq!(rt; ended.status, Status::Limit(Which::Log, 95));
+    assert_eq!(rt; ended.out.bytes(), &REPORT[..42]);
+    Ok(())
+}
+
 /// Five parts of two keys, and three lines with times: own ship at second 100, and the other at seconds 0 and -1000.
 const PARTS_AND_TIMES: &[u8] =
     b"!AIVDM,2,1,3,A,55P5TL01VIaAL@7WKO@mBplU@<PDhh000000001S;AJ::4A80?4i@E53,0*3D
@@ -339,11 +373,12 @@ fn failing(alloc: Global, fails: Vec<u64>) -> Result<Ended, Fail>
 // A failing standard error changes no status.
 #[test]
 fn each_write_that_fails_leaves_the_front_before_it(rt: HostRuntime) -> Result<(), Fail> {
-    for call in 0..4u64 {
+    // The log's one row is written before its end is read, and the rest in pieces of 100 bytes.
+    for (call, length) in [(0u64, 0usize), (1, 42), (2, 142), (3, 242)] {
         let ended = failing(rt.alloc(), vec![in rt.alloc(); call]?)?;
         assert_eq!(rt; ended.status, Status::WriteFault);
         assert_eq!(rt; ended.status.number(), 6);
-        assert_eq!(rt; ended.out.bytes().len(), call as usize * 100);
+        assert_eq!(rt; ended.out.bytes().len(), length);
         assert!(rt; REPORT.starts_with(ended.out.bytes()));
         assert!(rt; ended.err.bytes().is_empty());
     }

@@ -49,7 +49,7 @@ no_rows numbers = record {
   ordered = tt;
 }
 
-none_settled : (scenario : Scenario) (i : ℕ) → IsSettled scenario [] i → ⊥
+pub none_settled : (scenario : Scenario) (i : ℕ) → IsSettled scenario [] i → ⊥
 unfolding clock_of greatest
 none_settled scenario i h = h.past
 
@@ -126,6 +126,13 @@ module _ (scenario : Scenario) where
       ∙ ap₂ (λ (ts : List Sighting) (s : Sighting). ts ++ s ∷ []) (same_first lines more k (λ i lt. settled i (omega arith)))
       (sym (what_is_settled_stays scenario lines more k (settled k (omega arith))))
       ∙ sym (push (sent scenario (lines ++ more)))
+
+  pub many_settled_stay : (lines more : List (List ℕ)) → HaveManySettled scenario lines → HaveManySettled scenario (lines ++ more)
+  many_settled_stay lines more many = record {
+    count = many.count;
+    settled = λ i lt. settled_ticks_stay scenario lines more i (many.settled i lt);
+    many = subst (HaveMoreThan greatest_traces (audit_numbers scenario)) (same_first lines more many.count many.settled) many.many;
+  }
 
   pub audited_with_more : (audit : SettledAudit) (lines more : List (List ℕ)) (given : List Row) → StandsFor audit scenario lines given → IsAudited audit scenario (lines ++ more) given
   audited_with_more audit lines more given stands =

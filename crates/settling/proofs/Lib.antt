@@ -7,3 +7,5 @@ mod Fronts
 mod DecidedRows
 mod MovesLittle
 mod AuditedTicks
+mod NoLines
+pub mod ForCallers

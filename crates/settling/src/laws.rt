@@ -10,7 +10,7 @@ ghost use Rattle.judged_lines.specs.SentLines.{sent};
 ghost use Rattle.scenario.specs.Ticks.{time_of_tick};
 ghost use Rattle.scenario.specs.declared.values.Scenario.{Scenario};
 ghost use Rattle.settling.specs.DecidedRows.{AreDecided};
-ghost use Rattle.settling.specs.SettledTicks.{IsSettled};
+ghost use Rattle.settling.specs.SettledTicks.{HaveManySettled, IsSettled};
 ghost use Rattle.settling.specs.Sightings.{audit_numbers, seen_first, sighted};
 ghost use Rattle.tracks.specs.SeenVessels.{seen_of};
 
@@ -31,6 +31,11 @@ pub fn what_is_settled_stays()
     ensures { (scenario : Scenario) (lines more : List (List ℕ)) (i : ℕ) → IsSettled scenario lines i →
         seen_of (numbers_of scenario) (sent scenario (lines ++ more)) (time_of_tick scenario.window i)
         ≡ seen_of (numbers_of scenario) (sent scenario lines) (time_of_tick scenario.window i) }
+{}
+
+/// Where too many traces begin at settled ticks, they do so whatever lines follow.
+pub fn many_settled_stay()
+    ensures { (scenario : Scenario) (lines more : List (List ℕ)) → HaveManySettled scenario lines → HaveManySettled scenario (lines ++ more) }
 {}
 
 /// Whether a row is an audit's depends on the ticks alone up to the farthest rule's reach and two behind its last step.

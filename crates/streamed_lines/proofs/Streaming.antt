@@ -1,12 +1,15 @@
 -- Lines that end, of a log that comes in pieces.
-use Rattle.std.proofs.Common.{◌≡◌, ℕ, suc, ◌+◌, ◌-◌, false, List, [], ◌∷◌, ◌++◌, length, take, get_or, Result, Ok, Err, OnOk, refl, ap, ap₂, sym, subst, ◌∙◌, append_assoc, append-nil, arith}
-use Rattle.std.specs.List.{All}
+use Rattle.std.proofs.Common.{◌≡◌, ℕ, suc, ◌+◌, ◌-◌, ◌<◌, false, List, [], ◌∷◌, ◌++◌, length, take, get_or, Result, Ok, Err, OnOk, refl, ap, ap₂, sym, subst, ◌∙◌, append_assoc, append-nil, arith}
+use Rattle.std.specs.List.{All, list_any}
+use Rattle.std.specs.Prelude.{◌==◌, ◌||◌, Bool, true, nat_lt, IsTrue}
+use Rattle.std.proofs.lemmas.Bool.Decides.{nat_tests}
 use Rattle.std.proofs.lemmas.List.{take_all}
 use Rattle.std.proofs.Math.Seq.{take-suc}
 use Rattle.growing_log.specs.GrowingLog.{ended_lines, open_part}
-use Rattle.growing_log.proofs.ForCallers.{ended_by_feed, ended_so_far, open_by_feed, open_so_far}
-use Rattle.judged_lines.specs.JudgedLines.{judged_line, judged_lines}
-use Rattle.judged_lines.specs.LogLines.{is_line_feed, without_carriage_return}
+use Rattle.growing_log.proofs.ForCallers.{ended_by_feed, ended_so_far, lines_ended_or_open, open_by_feed, open_so_far}
+use Rattle.judged_lines.specs.EachLine.{each_after}
+use Rattle.judged_lines.specs.JudgedLines.{greatest_held, held_behind, is_crowded, judged_line, judged_lines}
+use Rattle.judged_lines.specs.LogLines.{is_line_feed, lines_of, without_carriage_return}
 use Rattle.judged_lines.specs.declared.judged.Judged.{Judged}
 use Rattle.judged_lines.proofs.ForCallers.{judged-push}
 use Rattle.scenario.specs.declared.values.Scenario.{Scenario}
@@ -65,3 +68,34 @@ module _ (log piece part : List ℕ) (is : piece ≡ part ++ 10 ∷ []) (none : 
 pub none_judged : (scenario : Scenario) (log piece : List ℕ) → NoFeed piece
     → judged_lines scenario (ended_lines (log ++ piece)) ≡ judged_lines scenario (ended_lines log) ++ []
 none_judged scenario log piece none = ap (judged_lines scenario) (ended_so_far log piece none) ∙ sym (append-nil (judged_lines scenario (ended_lines log)))
+
+-- ---- the log's end
+
+pub all_ended : (log : List ℕ) → (length (open_part log) == 0) ≡ true → lines_of log ≡ ended_lines log
+all_ended log is = lines_ended_or_open log ∙ rw is (append-nil (ended_lines log))
+
+pub one_open : (log : List ℕ) → (length (open_part log) == 0) ≡ false → lines_of log ≡ ended_lines log ++ without_carriage_return (open_part log) ∷ []
+one_open log is = lines_ended_or_open log ∙ rw is refl
+
+pub judged_last : (scenario : Scenario) (log : List ℕ) (judged : Judged) → (length (open_part log) == 0) ≡ false
+    → judged ≡ judged_line scenario (ended_lines log) (without_carriage_return (open_part log)) → judged_lines scenario (lines_of log) ≡ judged_lines scenario (ended_lines log) ++ judged ∷ []
+judged_last scenario log judged is came =
+    ap (judged_lines scenario) (one_open log is) ∙ judged-push scenario (ended_lines log) (without_carriage_return (open_part log))
+    ∙ ap (λ (j : Judged). judged_lines scenario (ended_lines log) ++ j ∷ []) (sym came)
+
+-- ---- a line that makes more vessels held
+
+any_last : {A B : Type 0} (p : B → Bool) (f : List A → A → B) (before xs : List A) (y : A) → p (f (before ++ xs) y) ≡ true
+    → list_any p (each_after f before (xs ++ y ∷ [])) ≡ true
+unfolding each_after
+any_last p f before [] y is = let here : p (f before y) ≡ true = subst (λ b. p (f b y) ≡ true) (append-nil before) is in rw here refl
+any_last p f before (x ∷ xs) y is =
+    let rest = any_last p f (before ++ x ∷ []) xs y (subst (λ b. p (f b y) ≡ true) (sym (append_assoc before (x ∷ []) xs)) is) in
+    elim (p (f before x)) as (λ (b : Bool). (b || list_any p (each_after f (before ++ x ∷ []) (xs ++ y ∷ []))) ≡ true) [ true ↦ refl | false ↦ rest ]
+
+pub crowded_by : (scenario : Scenario) (lines : List (List ℕ)) (line : List ℕ) → greatest_held < held_behind scenario lines line
+    → IsTrue (is_crowded scenario (lines ++ line ∷ []))
+unfolding is_crowded
+crowded_by scenario lines line many =
+    let test : nat_lt greatest_held (held_behind scenario lines line) ≡ true = grind (arith, nat_tests, many) in
+    any_last (λ held. nat_lt greatest_held held) (held_behind scenario) [] lines line test

@@ -3,7 +3,7 @@
 
 mod streamed_lines;
 
-pub use streamed_lines::StreamedLines;
+pub use streamed_lines::{EndedLines, StreamedLines};
 
 #[cfg(test)]
 mod tests;

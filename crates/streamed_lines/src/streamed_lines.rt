@@ -1,15 +1,15 @@
 //! Lines that are judged as they end.
-ghost use Rattle.std.specs.Prelude.{◌≡◌, ◌+◌, ◌<◌, ◌^◌, ◌++◌, ◌∷◌, [], ℕ, List, IfOk, IfSome, IsNone, OnOk, Err, false, length};
+ghost use Rattle.std.specs.Prelude.{◌≡◌, ◌+◌, ◌<◌, ◌^◌, ◌++◌, ◌∷◌, [], ℕ, List, IfOk, IfSome, IsNone, IsTrue, OnOk, Err, false, length};
 ghost use Rattle.std.specs.List.{All};
 ghost use Rattle.std.specs.Option.{option_copied, option_to_list};
 ghost use Rattle.growing_log.specs.GrowingLog.{ended_lines, open_lines, open_part};
-ghost use Rattle.judged_lines.specs.JudgedLines.{greatest_held, held_behind, judged_line, judged_lines};
+ghost use Rattle.judged_lines.specs.JudgedLines.{greatest_held, held_behind, is_crowded, judged_line, judged_lines};
 ghost use Rattle.growing_log.specs.Standing.{StandsFor as LineStandsFor};
 ghost use Rattle.judged_lines.specs.LogLines.{is_line_feed, lines_of, without_carriage_return};
 ghost use Rattle.judged_lines.specs.Standing.{StandsFor as JudgeStandsFor, keeping_of};
 ghost use Rattle.scenario.specs.ScenarioValues.{IsInRange};
 ghost use Rattle.scenario.specs.declared.values.Scenario.{Scenario};
-ghost use Rattle.streamed_lines.specs.Pieces.{IsPiece, MakesTooMany};
+ghost use Rattle.streamed_lines.specs.Pieces.{IsPiece};
 ghost use Rattle.streamed_lines.specs.Standing.{StandsFor, kept_of};
 ghost use Rattle.tracks.specs.declared.entry.BookFault.TheVariants.{TooManyVessels};
 
@@ -54,6 +54,15 @@ fn judge_open(
         Some(line) => judge.take(room, line),
         None => Ok(judge.take_long()),
     }
+}
+
+/// What the lines of a whole log came to.
+#[derive(Drop)]
+pub struct EndedLines {
+    /// The judge of all its lines.
+    pub judge: Judge,
+    /// What the last line came to, where no line feed ends it.
+    pub last: Option<Judged>,
 }
 
 /// The lines of a log that comes in pieces, each judged as it ends.
@@ -106,17 +115,18 @@ impl StreamedLines {
         Ok(judged)
     }
 
-    /// Takes the next piece of a log, in which no line feed stands but as its last byte, and gives what the line came to that it ends. After
-    /// an `Err` the lines may only be dropped.
+    /// Takes the next piece of a log, in which no line feed stands but as its last byte, and gives what the line came to that it ends, if it
+    /// ends one. After an `Err` the lines may only be dropped.
     pub fn take(&mut self, piece: &[u8]) -> Result<Option<Judged>, BookFault>
         requires { IsPiece piece.now }
         ensures judged { IfOk result (λ judged. (scenario : Scenario) (log : List ℕ) → StandsFor self.old scenario log
             → judged_lines scenario (ended_lines (log ++ piece.now)) ≡ judged_lines scenario (ended_lines log) ++ option_to_list judged) }
+        ensures open { IfOk result (λ judged. IsNone judged → (log : List ℕ) → ended_lines (log ++ piece.now) ≡ ended_lines log) }
         ensures stands { OnOk result ((scenario : Scenario) (log : List ℕ) → length (ended_lines log) + 1 < 2 ^ 64 → StandsFor self.old scenario log
             → StandsFor self.new scenario (log ++ piece.now)) }
         ensures keeping { kept_of self.new ≡ kept_of self.old }
         ensures crowded { result ≡ Err TooManyVessels → (scenario : Scenario) (log : List ℕ) → StandsFor self.old scenario log
-            → MakesTooMany scenario log piece.now }
+            → IsTrue (is_crowded scenario (ended_lines (log ++ piece.now))) }
     {
         match before_line_feed(piece) {
             Some(part) => Ok(Some(self.end_line(part)?)),
@@ -125,5 +135,28 @@ impl StreamedLines {
                 Ok(None)
             }
         }
+    }
+
+    /// Ends the log: judges the line that is left open, if it has a byte.
+    pub fn end(mut self) -> Result<EndedLines, BookFault>
+        ensures judged { IfOk result (λ ended. (scenario : Scenario) (log : List ℕ) → StandsFor self scenario log
+            → judged_lines scenario (lines_of log) ≡ judged_lines scenario (ended_lines log) ++ option_to_list ended.last) }
+        ensures stands { IfOk result (λ ended. (scenario : Scenario) (log : List ℕ) → length (ended_lines log) + 1 < 2 ^ 64 → StandsFor self scenario log
+            → JudgeStandsFor ended.judge scenario (lines_of log)) }
+        ensures keeping { IfOk result (λ ended. keeping_of ended.judge ≡ kept_of self) }
+        ensures crowded { result ≡ Err TooManyVessels → (scenario : Scenario) (log : List ℕ) → StandsFor self scenario log
+            → IsTrue (is_crowded scenario (lines_of log)) }
+    {
+        if self.line.is_empty() {
+            return Ok(EndedLines {
+                judge: self.judge,
+                last: None,
+            });
+        }
+        let judged = judge_open(&mut self.judge, &mut self.room, &self.line)?;
+        Ok(EndedLines {
+            judge: self.judge,
+            last: Some(judged),
+        })
     }
 }

@@ -49,5 +49,7 @@ fn a_line_is_judged_as_it_ends(rt: HostRuntime) -> Result<(), Fail> {
         lines.take(&[*byte])?;
     }
     assert_eq!(rt; lines.judge().counts()[20], 1);
+    let ended = lines.end()?;
+    assert_eq!(rt; ended.judge.counts()[3], 1);
     Ok(())
 }

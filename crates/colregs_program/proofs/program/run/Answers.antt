@@ -1,15 +1,12 @@
-use Rattle.std.proofs.Common.{ℕ, ◌≤◌, List, length, inl, inr, Err, refl, subst, sym, ◌∙◌, ap}
-use Rattle.std.specs.Io.KnownBytes.{Appends}
-use Rattle.outside.specs.Streams.{AppendsPart}
+use Rattle.std.proofs.Common.{◌≤◌, length, inl, inr, true, false, Err, refl, subst, sym, ◌∙◌, ap}
 use Rattle.command_line.proofs.Asked.{asked_or_nothing}
+use Rattle.sessions.specs.Modes.{reads_log}
 use Rattle.colregs_program.specs.Answers.{Holds, IsRefusedBy, greatest_scenario}
 use Rattle.command_line.specs.declared.mode.Mode.{Mode}
 use Rattle.colregs_program.proofs.Due.{migration_due}
-use Rattle.colregs_program.proofs.DrillVessels.{failed_drill, met_in_drill}
-use Rattle.colregs_program.proofs.Refusals.{done, drill_told, drills_too, log_decides, migrates, no_migration, long_told, memory_failed, met_of, met_told, no_report, not_asked, not_set_up, part_written, runs, unread_too, written}
+use Rattle.colregs_program.proofs.Refusals.{bytes_told, calm_told, drill_status, drill_told, drills_too, log_decides, memory_failed, memory_front, met_is, migrates, no_migration, no_report, not_asked, not_set_up, nothing_told, own_told, pairs_told, put_told, read_told, reported_met, reported_so, runs, targets_told, unread_too, vessels_told}
 use Rattle.colregs_program.proofs.SettingUp.{options_in_range}
 use Rattle.colregs_program.specs.declared.status.Status.TheVariants as status
-use Rattle.colregs_program.specs.declared.status.Which.TheVariants as which
 use Rattle.colregs_program.proofs.program.run.Goals as goal
 
 pub set_up-requires : goal.set_up-requires
@@ -69,14 +66,6 @@ returns-then-not-reports-clause-refused g c = λ key why is.
 pub returns-then-not-reports-clause-unfetched : goal.returns-then-not-reports-clause-unfetched
 returns-then-not-reports-clause-unfetched g c = λ nothing. absurd (asked_or_nothing c.args.words.now c.in-Ok.request c.in-Ok.ensures.asked nothing)
 
-pub returns-in-Err-report_on-clause-migration : goal.returns-in-Err-report_on-clause-migration
-returns-in-Err-report_on-clause-migration g c = λ request asks migrates.
-    no_migration c.args.words.now request c.in-Ok.request _ asks c.in-Ok.ensures.asked (sym c.reports.ensures ∙ c.if-not-reports.false) migrates
-
-pub returns-then-report-clause-migration : goal.returns-then-report-clause-migration
-returns-then-report-clause-migration g c = λ request asks migrates.
-    no_migration c.args.words.now request c.in-Ok.request _ asks c.in-Ok.ensures.asked (sym c.reports.ensures ∙ c.if-not-reports.false) migrates
-
 -- ---- no scenario
 
 pub returns-in-Err-set_up-clause-due : goal.returns-in-Err-set_up-clause-due
@@ -91,113 +80,117 @@ returns-in-Err-set_up-clause-unfetched g c = λ nothing. absurd (asked_or_nothin
 
 pub returns-in-Err-report_on-clause-due : goal.returns-in-Err-report_on-clause-due
 returns-in-Err-report_on-clause-due g c = λ due is shelf source sink.
-    let told = rw c.into-in-Err-report_on.ensures at c.tell-in-Err-report_on.ensures.same in
+    let told = rw c.stream_status.ensures at c.tell-in-Err-report_on.ensures.same in
     let follows = log_decides _ _ _ _ due _ _ c.in-Ok-set_up.scenario c.in-Ok.ensures.asked (sym c.reports.ensures ∙ c.if-not-reports.false) is c.in-Ok-set_up.ensures.due shelf in
-    no_report _ _ c.in-Ok.request c.in-Ok-set_up.scenario due _ _ _ c.in-Err-report_on.fault _ follows c.in-Err-report_on.ensures.cause source told
+    no_report c.in-Ok.request c.in-Ok-set_up.scenario _ _ _ _ c.one_answer.ensures c.in-Err-report_on.fault _ due _ _ _ _ _ _ refl follows c.in-Err-report_on.ensures.cause c.in-Err-report_on.ensures.log_faults c.in-Err-report_on.ensures.out_faults source sink told
 
 pub returns-in-Err-report_on-clause-unfetched : goal.returns-in-Err-report_on-clause-unfetched
 returns-in-Err-report_on-clause-unfetched g c = λ nothing. absurd (asked_or_nothing c.args.words.now c.in-Ok.request c.in-Ok.ensures.asked nothing)
 
 pub returns-in-Err-report_on-clause-unread : goal.returns-in-Err-report_on-clause-unread
-returns-in-Err-report_on-clause-unread g c = λ request asks not.
-    c.report_on.ensures.untouched (unread_too c.args.words.now request c.in-Ok.request asks c.in-Ok.ensures.asked not)
+returns-in-Err-report_on-clause-unread g c = λ request asks not. c.report_on.ensures.untouched (unread_too c.args.words.now request c.in-Ok.request asks c.in-Ok.ensures.asked not)
+
+pub returns-in-Err-report_on-clause-migration : goal.returns-in-Err-report_on-clause-migration
+returns-in-Err-report_on-clause-migration g c = λ request asks migrates. no_migration c.args.words.now request c.in-Ok.request _ asks c.in-Ok.ensures.asked (sym c.reports.ensures ∙ c.if-not-reports.false) migrates
 
 pub returns-in-Err-report_on-clause-drill : goal.returns-in-Err-report_on-clause-drill
 returns-in-Err-report_on-clause-drill g c = λ request asks drills.
-    let told = rw c.into-in-Err-report_on.ensures at c.tell-in-Err-report_on.ensures.same in
+    let told = rw c.stream_status.ensures at c.tell-in-Err-report_on.ensures.same in
     let here = drills_too c.args.words.now request c.in-Ok.request asks c.in-Ok.ensures.asked drills in
-    drill_told _ _ _ told (failed_drill c.in-Ok.request here c.in-Ok-set_up.scenario _ c.in-Ok-set_up.ensures.in_range.window _ _ _ c.in-Err-report_on.fault c.in-Err-report_on.ensures.cause)
+    drill_told _ _ _ told (drill_status c.in-Err-report_on.fault _ (c.in-Err-report_on.ensures.drill (ap reads_log here)))
+
+pub returns-in-Err-report_on-clause-read_fault : goal.returns-in-Err-report_on-clause-read_fault
+returns-in-Err-report_on-clause-read_fault g c = λ is.
+    let told = rw c.stream_status.ensures at c.tell-in-Err-report_on.ensures.same in
+    let left = read_told c.in-Ok.request c.in-Ok-set_up.scenario _ _ _ _ c.in-Err-report_on.fault _ _ _ _ _ told is c.in-Err-report_on.ensures.cause c.in-Err-report_on.ensures.log_faults in
+    (left.0, runs c.args.words.now (g.H.Shelf.files c.args.shelf.now) c.in-Ok.request c.in-Ok-set_up.scenario _ _ c.in-Ok.ensures.asked (sym c.reports.ensures ∙ c.if-not-reports.false) left.1 c.in-Ok-set_up.ensures.scenario left.2)
 
 pub returns-in-Err-report_on-clause-log_limit : goal.returns-in-Err-report_on-clause-log_limit
 returns-in-Err-report_on-clause-log_limit g c = λ most is.
-    let told = rw c.into-in-Err-report_on.ensures at c.tell-in-Err-report_on.ensures.same in
-    let long = long_told c.in-Ok.request c.in-Ok-set_up.scenario _ _ _ _ c.in-Err-report_on.fault _ most _ told is c.in-Err-report_on.ensures.cause in
+    let told = rw c.stream_status.ensures at c.tell-in-Err-report_on.ensures.same in
+    let long = bytes_told c.in-Ok.request c.in-Ok-set_up.scenario _ _ _ _ c.in-Err-report_on.fault most _ _ _ refl told is c.in-Err-report_on.ensures.cause in
     runs c.args.words.now (g.H.Shelf.files c.args.shelf.now) c.in-Ok.request c.in-Ok-set_up.scenario _ _ c.in-Ok.ensures.asked (sym c.reports.ensures ∙ c.if-not-reports.false) long.stops c.in-Ok-set_up.ensures.scenario (long.limit, long.met)
 
 pub returns-in-Err-report_on-clause-vessel_limit : goal.returns-in-Err-report_on-clause-vessel_limit
 returns-in-Err-report_on-clause-vessel_limit g c = λ most is.
-    let told = rw c.into-in-Err-report_on.ensures at c.tell-in-Err-report_on.ensures.same in
-    let met = met_told c.in-Ok.request c.in-Ok-set_up.scenario _ _ _ _ c.in-Err-report_on.fault _ (status.Limit which.Vessels most) _ (λ e. cc e) (λ m e. cc e) (λ e. cc e) told is c.in-Err-report_on.ensures.cause in
-    runs c.args.words.now (g.H.Shelf.files c.args.shelf.now) c.in-Ok.request c.in-Ok-set_up.scenario _ _ c.in-Ok.ensures.asked (sym c.reports.ensures ∙ c.if-not-reports.false) met.end c.in-Ok-set_up.ensures.scenario met.met
+    let told = rw c.stream_status.ensures at c.tell-in-Err-report_on.ensures.same in
+    runs c.args.words.now (g.H.Shelf.files c.args.shelf.now) c.in-Ok.request c.in-Ok-set_up.scenario _ _ c.in-Ok.ensures.asked (sym c.reports.ensures ∙ c.if-not-reports.false) tt c.in-Ok-set_up.ensures.scenario (vessels_told c.in-Ok.request c.in-Ok-set_up.scenario _ _ _ _ c.in-Err-report_on.fault most _ _ _ told is c.in-Err-report_on.ensures.cause)
 
 pub returns-in-Err-report_on-clause-pair_limit : goal.returns-in-Err-report_on-clause-pair_limit
 returns-in-Err-report_on-clause-pair_limit g c = λ most is.
-    let told = rw c.into-in-Err-report_on.ensures at c.tell-in-Err-report_on.ensures.same in
-    let met = met_told c.in-Ok.request c.in-Ok-set_up.scenario _ _ _ _ c.in-Err-report_on.fault _ (status.Limit which.Pairs most) _ (λ e. cc e) (λ m e. cc e) (λ e. cc e) told is c.in-Err-report_on.ensures.cause in
-    runs c.args.words.now (g.H.Shelf.files c.args.shelf.now) c.in-Ok.request c.in-Ok-set_up.scenario _ _ c.in-Ok.ensures.asked (sym c.reports.ensures ∙ c.if-not-reports.false) met.end c.in-Ok-set_up.ensures.scenario met.met
+    let told = rw c.stream_status.ensures at c.tell-in-Err-report_on.ensures.same in
+    runs c.args.words.now (g.H.Shelf.files c.args.shelf.now) c.in-Ok.request c.in-Ok-set_up.scenario _ _ c.in-Ok.ensures.asked (sym c.reports.ensures ∙ c.if-not-reports.false) tt c.in-Ok-set_up.ensures.scenario (pairs_told c.in-Ok.request c.in-Ok-set_up.scenario _ _ _ _ c.in-Err-report_on.fault most _ _ _ told is c.in-Err-report_on.ensures.cause)
 
 pub returns-in-Err-report_on-clause-target_limit : goal.returns-in-Err-report_on-clause-target_limit
 returns-in-Err-report_on-clause-target_limit g c = λ most is.
-    let told = rw c.into-in-Err-report_on.ensures at c.tell-in-Err-report_on.ensures.same in
-    let met = met_told c.in-Ok.request c.in-Ok-set_up.scenario _ _ _ _ c.in-Err-report_on.fault _ (status.Limit which.Targets most) _ (λ e. cc e) (λ m e. cc e) (λ e. cc e) told is c.in-Err-report_on.ensures.cause in
-    runs c.args.words.now (g.H.Shelf.files c.args.shelf.now) c.in-Ok.request c.in-Ok-set_up.scenario _ _ c.in-Ok.ensures.asked (sym c.reports.ensures ∙ c.if-not-reports.false) met.end c.in-Ok-set_up.ensures.scenario met.met
+    let told = rw c.stream_status.ensures at c.tell-in-Err-report_on.ensures.same in
+    runs c.args.words.now (g.H.Shelf.files c.args.shelf.now) c.in-Ok.request c.in-Ok-set_up.scenario _ _ c.in-Ok.ensures.asked (sym c.reports.ensures ∙ c.if-not-reports.false) tt c.in-Ok-set_up.ensures.scenario (targets_told c.in-Ok.request c.in-Ok-set_up.scenario _ _ _ _ c.in-Err-report_on.fault most _ _ _ told is c.in-Err-report_on.ensures.cause)
 
 pub returns-in-Err-report_on-clause-own_unready : goal.returns-in-Err-report_on-clause-own_unready
 returns-in-Err-report_on-clause-own_unready g c = λ why is.
-    let told = rw c.into-in-Err-report_on.ensures at c.tell-in-Err-report_on.ensures.same in
-    let met = met_told c.in-Ok.request c.in-Ok-set_up.scenario _ _ _ _ c.in-Err-report_on.fault _ (status.OwnUnready why) _ (λ e. cc e) (λ m e. cc e) (λ e. cc e) told is c.in-Err-report_on.ensures.cause in
-    runs c.args.words.now (g.H.Shelf.files c.args.shelf.now) c.in-Ok.request c.in-Ok-set_up.scenario _ _ c.in-Ok.ensures.asked (sym c.reports.ensures ∙ c.if-not-reports.false) met.end c.in-Ok-set_up.ensures.scenario met.met
+    let told = rw c.stream_status.ensures at c.tell-in-Err-report_on.ensures.same in
+    runs c.args.words.now (g.H.Shelf.files c.args.shelf.now) c.in-Ok.request c.in-Ok-set_up.scenario _ _ c.in-Ok.ensures.asked (sym c.reports.ensures ∙ c.if-not-reports.false) tt c.in-Ok-set_up.ensures.scenario (own_told c.in-Ok.request c.in-Ok-set_up.scenario _ _ _ _ c.in-Err-report_on.fault why _ _ _ told is c.in-Err-report_on.ensures.cause)
+
+pub returns-in-Err-report_on-clause-write_fault : goal.returns-in-Err-report_on-clause-write_fault
+returns-in-Err-report_on-clause-write_fault g c = λ is.
+    let told = rw c.stream_status.ensures at c.tell-in-Err-report_on.ensures.same in
+    let left = put_told c.in-Ok.request c.in-Ok-set_up.scenario _ _ _ _ c.in-Err-report_on.fault _ _ _ _ _ told is c.in-Err-report_on.ensures.cause c.in-Err-report_on.ensures.out_faults in
+    (left.0, inl (runs c.args.words.now (g.H.Shelf.files c.args.shelf.now) c.in-Ok.request c.in-Ok-set_up.scenario _ _ c.in-Ok.ensures.asked (sym c.reports.ensures ∙ c.if-not-reports.false) tt c.in-Ok-set_up.ensures.scenario left.1))
+
+pub returns-in-Err-report_on-clause-memory : goal.returns-in-Err-report_on-clause-memory
+returns-in-Err-report_on-clause-memory g c = λ is.
+    let told = rw c.stream_status.ensures at c.tell-in-Err-report_on.ensures.same in
+    inr (runs c.args.words.now (g.H.Shelf.files c.args.shelf.now) c.in-Ok.request c.in-Ok-set_up.scenario _ _ c.in-Ok.ensures.asked (sym c.reports.ensures ∙ c.if-not-reports.false) tt c.in-Ok-set_up.ensures.scenario (memory_front c.in-Ok.request c.in-Ok-set_up.scenario _ _ _ _ c.in-Err-report_on.fault _ _ _ told is (λ made. made) c.in-Err-report_on.ensures.cause))
+
+pub returns-in-Err-report_on-clause-unwritten : goal.returns-in-Err-report_on-clause-unwritten
+returns-in-Err-report_on-clause-unwritten g c = λ nothing.
+    let told = rw c.stream_status.ensures at c.tell-in-Err-report_on.ensures.same in
+    nothing_told c.in-Ok.request c.in-Ok-set_up.scenario _ _ _ _ c.in-Err-report_on.fault _ _ _ told nothing c.in-Err-report_on.ensures.cause
+
+pub returns-in-Err-report_on-clause-calm : goal.returns-in-Err-report_on-clause-calm
+returns-in-Err-report_on-clause-calm g c = λ not.
+    let told = rw c.stream_status.ensures at c.tell-in-Err-report_on.ensures.same in
+    calm_told c.in-Err-report_on.fault _ _ _ _ _ told not (λ made. made) c.in-Err-report_on.ensures.out_faults
 
 -- ---- a report
 
-pub returns-then-not-put_all-clause-write_fault : goal.returns-then-not-put_all-clause-write_fault
-returns-then-not-put_all-clause-write_fault g c = λ fault.
-    let request = c.in-Ok.request in
-    let out : List ℕ → Type 0 = λ text. AppendsPart (g.K.Sink.contents c.args.out.now) (g.K.Sink.contents c.put_all.new.sink) text in
-    let put = subst out c.as_slice.ensures.value (c.put_all.ensures.part c.if-not-put_all.true) in
-    let made = c.in-Ok-report_on.ensures.report in (
-      c.put_all.ensures.failed c.if-not-put_all.true,
-      inl (runs c.args.words.now (g.H.Shelf.files c.args.shelf.now) request c.in-Ok-set_up.scenario _ _ c.in-Ok.ensures.asked (sym c.reports.ensures ∙ c.if-not-reports.false) c.in-Ok-report_on.ensures.end c.in-Ok-set_up.ensures.scenario
-          (part_written request c.in-Ok-set_up.scenario c.in-Ok-report_on.report.is_none c.in-Ok-report_on.report.text.items out _ made put)),
-    )
+pub returns-then-none-clause-headline : goal.returns-then-none-clause-headline
+returns-then-none-clause-headline g c = λ finished.
+    inl (runs c.args.words.now (g.H.Shelf.files c.args.shelf.now) c.in-Ok.request c.in-Ok-set_up.scenario _ _ c.in-Ok.ensures.asked (sym c.reports.ensures ∙ c.if-not-reports.false) c.in-Ok-report_on.ensures.end c.in-Ok-set_up.ensures.scenario
+    (reported_so c.in-Ok.request c.in-Ok-set_up.scenario _ (g.S.Source.left c.report_on.new.log) _ _ true status.NoManoeuvre refl (rw c.if-none.true at c.in-Ok-report_on.ensures.report)))
 
-pub returns-then-report-clause-headline : goal.returns-then-report-clause-headline
-returns-then-report-clause-headline g c = λ finished.
-    let request = c.in-Ok.request in
-    let out : List ℕ → Type 0 = λ text. Appends (g.K.Sink.contents c.args.out.now) (g.K.Sink.contents c.put_all.new.sink) text in
-    let put = subst out c.as_slice.ensures.value (c.put_all.ensures.all c.if-not-put_all.false) in
-    inl (runs c.args.words.now (g.H.Shelf.files c.args.shelf.now) request c.in-Ok-set_up.scenario _ _ c.in-Ok.ensures.asked (sym c.reports.ensures ∙ c.if-not-reports.false) c.in-Ok-report_on.ensures.end c.in-Ok-set_up.ensures.scenario
-    (written request c.in-Ok-set_up.scenario status.NoManoeuvre c.in-Ok-report_on.report.text.items out _ (rw c.if-report.true at c.in-Ok-report_on.ensures.report) put))
-
-pub returns-then-report-clause-due : goal.returns-then-report-clause-due
-returns-then-report-clause-due g c = λ due is shelf source sink.
+pub returns-then-none-clause-due : goal.returns-then-none-clause-due
+returns-then-none-clause-due g c = λ due is shelf source sink.
     let follows = log_decides _ _ _ _ due _ _ c.in-Ok-set_up.scenario c.in-Ok.ensures.asked (sym c.reports.ensures ∙ c.if-not-reports.false) is c.in-Ok-set_up.ensures.due shelf in
-    inl (done _ c.in-Ok.request c.in-Ok-set_up.scenario due status.NoManoeuvre c.in-Ok-report_on.report.text.items follows (rw c.if-report.true at c.in-Ok-report_on.ensures.report))
+    inl (met_is c.one_answer.ensures _ c.in-Ok.request c.in-Ok-set_up.scenario due status.NoManoeuvre (reported_met c.in-Ok.request c.in-Ok-set_up.scenario _ (g.S.Source.left c.report_on.new.log) _ _ true (rw c.if-none.true at c.in-Ok-report_on.ensures.report)) follows)
+
+pub returns-then-none-clause-unfetched : goal.returns-then-none-clause-unfetched
+returns-then-none-clause-unfetched g c = λ nothing. absurd (asked_or_nothing c.args.words.now c.in-Ok.request c.in-Ok.ensures.asked nothing)
+
+pub returns-then-none-clause-unread : goal.returns-then-none-clause-unread
+returns-then-none-clause-unread g c = λ request asks not. c.report_on.ensures.untouched (unread_too c.args.words.now request c.in-Ok.request asks c.in-Ok.ensures.asked not)
+
+pub returns-then-none-clause-migration : goal.returns-then-none-clause-migration
+returns-then-none-clause-migration g c = λ request asks migrates. no_migration c.args.words.now request c.in-Ok.request _ asks c.in-Ok.ensures.asked (sym c.reports.ensures ∙ c.if-not-reports.false) migrates
+
+pub returns-then-none-clause-drill : goal.returns-then-none-clause-drill
+returns-then-none-clause-drill g c = λ request asks drills.
+    let here = drills_too c.args.words.now request c.in-Ok.request asks c.in-Ok.ensures.asked drills in
+    let none = c.in-Ok-report_on.ensures.drill (ap reads_log here) in
+    cc (none, c.if-none.true)
 
 pub returns-clause-headline : goal.returns-clause-headline
 returns-clause-headline g c = λ finished.
-    let request = c.in-Ok.request in
-    let out : List ℕ → Type 0 = λ text. Appends (g.K.Sink.contents c.args.out.now) (g.K.Sink.contents c.put_all.new.sink) text in
-    let put = subst out c.as_slice.ensures.value (c.put_all.ensures.all c.if-not-put_all.false) in
-    inl (runs c.args.words.now (g.H.Shelf.files c.args.shelf.now) request c.in-Ok-set_up.scenario _ _ c.in-Ok.ensures.asked (sym c.reports.ensures ∙ c.if-not-reports.false) c.in-Ok-report_on.ensures.end c.in-Ok-set_up.ensures.scenario
-    (written request c.in-Ok-set_up.scenario status.Done c.in-Ok-report_on.report.text.items out _ (rw c.if-report.false at c.in-Ok-report_on.ensures.report) put))
+    inl (runs c.args.words.now (g.H.Shelf.files c.args.shelf.now) c.in-Ok.request c.in-Ok-set_up.scenario _ _ c.in-Ok.ensures.asked (sym c.reports.ensures ∙ c.if-not-reports.false) c.in-Ok-report_on.ensures.end c.in-Ok-set_up.ensures.scenario
+    (reported_so c.in-Ok.request c.in-Ok-set_up.scenario _ (g.S.Source.left c.report_on.new.log) _ _ false status.Done refl (rw c.if-none.false at c.in-Ok-report_on.ensures.report)))
 
 pub returns-clause-due : goal.returns-clause-due
 returns-clause-due g c = λ due is shelf source sink.
     let follows = log_decides _ _ _ _ due _ _ c.in-Ok-set_up.scenario c.in-Ok.ensures.asked (sym c.reports.ensures ∙ c.if-not-reports.false) is c.in-Ok-set_up.ensures.due shelf in
-    inl (done _ c.in-Ok.request c.in-Ok-set_up.scenario due status.Done c.in-Ok-report_on.report.text.items follows (rw c.if-report.false at c.in-Ok-report_on.ensures.report))
-
-pub returns-then-not-put_all-clause-unfetched : goal.returns-then-not-put_all-clause-unfetched
-returns-then-not-put_all-clause-unfetched g c = λ nothing. absurd (asked_or_nothing c.args.words.now c.in-Ok.request c.in-Ok.ensures.asked nothing)
-
-pub returns-then-not-put_all-clause-unread : goal.returns-then-not-put_all-clause-unread
-returns-then-not-put_all-clause-unread g c = λ request asks not. c.report_on.ensures.untouched (unread_too c.args.words.now request c.in-Ok.request asks c.in-Ok.ensures.asked not)
-
-pub returns-then-report-clause-unfetched : goal.returns-then-report-clause-unfetched
-returns-then-report-clause-unfetched g c = λ nothing. absurd (asked_or_nothing c.args.words.now c.in-Ok.request c.in-Ok.ensures.asked nothing)
-
-pub returns-then-report-clause-unread : goal.returns-then-report-clause-unread
-returns-then-report-clause-unread g c = λ request asks not. c.report_on.ensures.untouched (unread_too c.args.words.now request c.in-Ok.request asks c.in-Ok.ensures.asked not)
+    inl (met_is c.one_answer.ensures _ c.in-Ok.request c.in-Ok-set_up.scenario due status.Done (reported_met c.in-Ok.request c.in-Ok-set_up.scenario _ (g.S.Source.left c.report_on.new.log) _ _ false (rw c.if-none.false at c.in-Ok-report_on.ensures.report)) follows)
 
 pub returns-clause-unfetched : goal.returns-clause-unfetched
 returns-clause-unfetched g c = λ nothing. absurd (asked_or_nothing c.args.words.now c.in-Ok.request c.in-Ok.ensures.asked nothing)
 
 pub returns-clause-unread : goal.returns-clause-unread
 returns-clause-unread g c = λ request asks not. c.report_on.ensures.untouched (unread_too c.args.words.now request c.in-Ok.request asks c.in-Ok.ensures.asked not)
-
-pub returns-then-report-clause-drill : goal.returns-then-report-clause-drill
-returns-then-report-clause-drill g c = λ request asks drills.
-    let here = drills_too c.args.words.now request c.in-Ok.request asks c.in-Ok.ensures.asked drills in
-    let made = rw c.if-report.true at c.in-Ok-report_on.ensures.report in
-    met_in_drill c.in-Ok.request here c.in-Ok-set_up.scenario _ c.in-Ok-set_up.ensures.in_range.window status.NoManoeuvre
-    (met_of c.in-Ok.request c.in-Ok-set_up.scenario status.NoManoeuvre c.in-Ok-report_on.report.text.items _ made)

@@ -1,26 +1,25 @@
-use Rattle.std.proofs.Common.{ℕ, List, sym, subst}
-use Rattle.colregs_program.specs.Endings.{IsAnswerTo, IsEnding, IsMet}
-use Rattle.colregs_program.specs.Inner.LogFaults.{EndingCause, LogCause, finished}
-use Rattle.colregs_program.proofs.Meeting.{cause_of, met_in, told}
+use Rattle.std.proofs.Common.{◌∙◌, sym}
+use Rattle.colregs_program.specs.AskedScenarios.{log_of}
+use Rattle.colregs_program.proofs.AskedLogs.{cause_of_read, made_cause}
+use Rattle.colregs_program.proofs.DrillVessels.{drill_result}
+use Rattle.colregs_program.proofs.StreamedReports.{err_cause, if_err, none_begun}
 use Rattle.colregs_program.proofs.report.report_on.Goals as goal
 
-pub returns-in-Ok-clause-report : goal.returns-in-Ok-clause-report
-returns-in-Ok-clause-report g c =
-    let request = c.args.request.now in
-    let scenario = c.args.scenario in
-    let bytes = c.in_ok-bytes.bytes.items in
-    let answer = finished c.in-Ok.report.is_none in
-    told (λ (log : List ℕ). IsMet request.mode scenario log answer × IsEnding request.mode scenario log c.in-Ok.report.text.items) _ bytes c.in_ok-bytes.ensures.all (
-      met_in request.mode scenario bytes answer c.in_ok-bytes.ensures.short (subst (λ (log : List ℕ). IsAnswerTo request.mode scenario log answer) c.as_slice.ensures.value c.in-Ok.ensures.answer),
-      subst (λ (log : List ℕ). IsEnding request.mode scenario log c.in-Ok.report.text.items) c.as_slice.ensures.value c.in-Ok.ensures.ending,
-    )
+pub returns-then-reads_log-clause-cause : goal.returns-then-reads_log-clause-cause
+returns-then-reads_log-clause-cause g c =
+    if_err c.write_report.result _ _ (λ because cause. cause_of_read c.args.request.now c.args.scenario _ _ _ _ because (sym c.reads_log.ensures ∙ c.if-reads_log.true) cause) c.write_report.ensures.cause
+
+pub returns-in_err-made-clause-cause : goal.returns-in_err-made-clause-cause
+returns-in_err-made-clause-cause g c =
+    err_cause c.from_residual.result _ _ c.from_residual.ensures.1
+    (none_begun c.args.request.now.mode c.args.scenario (log_of c.args.request.now c.args.scenario (g.S.Source.left c.args.log.now)) (g.K.Sink.contents c.args.out.now))
 
 pub returns-clause-cause : goal.returns-clause-cause
 returns-clause-cause g c =
-    let request = c.args.request.now in
-    let scenario = c.args.scenario in
-    let had = c.in_ok-bytes.ensures in
-    subst (LogCause request scenario (g.S.Source.left c.args.log.now) (g.S.Source.left c.log_bytes.new.log) (g.S.Source.faults c.args.log.now) (g.S.Source.faults c.log_bytes.new.log))
-    (sym c.into.ensures)
-    (cause_of request scenario _ _ _ _ c.in_ok-bytes.bytes.items had.all had.short had.end had.calm c.in-Err.fault
-    (subst (λ (log : List ℕ). EndingCause request.mode scenario log c.in-Err.fault) c.as_slice.ensures.value c.in-Err.ensures.cause))
+    made_cause c.args.request.now c.args.scenario (g.S.Source.left c.args.log.now) (sym c.reads_log.ensures ∙ c.if-reads_log.false) c.requires.reports c.new-source.result.left (c.new-source.ensures.left ∙ c.in_ok-made.ensures)
+    _ _ _ _ c.write_report-2.result c.write_report-2.ensures.cause c.write_report-2.ensures.log_faults
+
+pub returns-clause-drill : goal.returns-clause-drill
+returns-clause-drill g c = λ makes.
+    drill_result c.args.scenario c.args.request.now.options.seed c.requires.in_range.window c.ended_lines_stay.ensures.all c.new-source.result.left (c.new-source.ensures.left ∙ c.in_ok-made.ensures)
+    c.args.request.now.mode makes c.requires.reports _ _ _ c.write_report-2.result c.write_report-2.ensures.report c.write_report-2.ensures.cause c.write_report-2.ensures.log_faults

@@ -1,20 +1,22 @@
-use Rattle.std.proofs.Common.{refl, ap, sym, subst, Err, ◌++◌}
-use Rattle.growing_log.specs.GrowingLog.{open_part}
+use Rattle.std.proofs.Common.{refl, ap, sym, subst, Err, ◌++◌, IsTrue, List, ℕ}
+use Rattle.growing_log.specs.GrowingLog.{ended_lines, open_part}
+use Rattle.judged_lines.specs.JudgedLines.{is_crowded}
 use Rattle.growing_log.proofs.ForCallers.{ended_so_far}
 use Rattle.judged_lines.specs.LogLines.{without_carriage_return}
 use Rattle.judged_lines.specs.Standing.{StandsFor as JudgeStandsFor}
-use Rattle.streamed_lines.proofs.Streaming.{none_judged, piece_ends, piece_judged}
+use Rattle.streamed_lines.proofs.Streaming.{crowded_by, none_judged, piece_ends, piece_judged}
 use Rattle.streamed_lines.proofs.streamed_lines.StreamedLines.take.Goals as goal
 
 pub returns-in_err-end_line-in-Some-clause-crowded : goal.returns-in_err-end_line-in-Some-clause-crowded
 returns-in_err-end_line-in-Some-clause-crowded c = λ is scenario log stands.
     let some = c.in-Some.ensures.some in
     let said = rw is at c.from_residual.ensures in
-    record {
-      line = without_carriage_return (open_part log ++ c.in-Some.part.now);
-      ended = piece_ends log c.args.piece.now c.in-Some.part.now some.0 some.1;
-      many = c.in_err-end_line-in-Some.ensures.crowded (ap Err (sym said.1)) scenario log stands;
-    }
+    let line = without_carriage_return (open_part log ++ c.in-Some.part.now) in
+    subst (λ (lines : List (List ℕ)). IsTrue (is_crowded scenario lines)) (sym (piece_ends log c.args.piece.now c.in-Some.part.now some.0 some.1))
+    (crowded_by scenario (ended_lines log) line (c.in_err-end_line-in-Some.ensures.crowded (ap Err (sym said.1)) scenario log stands))
+
+pub returns-in_ok-extend-in-None-clause-open : goal.returns-in_ok-extend-in-None-clause-open
+returns-in_ok-extend-in-None-clause-open c = λ none log. ended_so_far log c.args.piece.now (c.in-None.ensures.none refl)
 
 pub returns-in_ok-end_line-in-Some-clause-judged : goal.returns-in_ok-end_line-in-Some-clause-judged
 returns-in_ok-end_line-in-Some-clause-judged c = λ scenario log stands.

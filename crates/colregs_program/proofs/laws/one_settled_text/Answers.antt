@@ -1,6 +1,0 @@
-use Rattle.growing_log.specs.GrowingLog.{ended_lines}
-use Rattle.colregs_program.proofs.SettledTexts.{one_decided}
-use Rattle.colregs_program.proofs.laws.one_settled_text.Goals as goal
-
-pub returns : goal.returns
-returns c = λ m scenario front. one_decided c.one_list_of_decided_rows.ensures m scenario (ended_lines front)

@@ -1,0 +1,153 @@
+-- What is read of a log, and what is written of its report, block by block.
+use Rattle.std.specs.Prelude.{ℕ, ◌≡◌, ◌≢◌, ◌<◌, ◌⊎◌, ◌++◌, Bool, true, false, IsTrue, List, length, Option, IfSome, Err}
+use Rattle.std.specs.Io.KnownBytes.{Appends, Consumes, IsAtEnd, Keeps}
+use Rattle.outside.specs.Causes.{one_more}
+use Rattle.outside.specs.Streams.{AppendsPart}
+use Rattle.outside.specs.WholeReading.{StopsAt}
+use Rattle.audit_report.specs.ReportTexts.{HasText}
+use Rattle.audit_report.specs.declared.report_text.ReportText.{ReportText}
+use Rattle.outside.specs.declared.whole.ReadFault.TheVariants as read
+use Rattle.command_line.specs.declared.mode.Mode.{Mode}
+use Rattle.command_line.specs.declared.request.Request.{Request}
+use Rattle.scenario.specs.declared.values.Scenario.{Scenario}
+use Rattle.sessions.specs.Endings.{IsAnswerTo}
+use Rattle.sessions.specs.Modes.{reads_log}
+use Rattle.sessions.specs.Refusals.{IsStopped, IsUnrefused}
+use Rattle.sessions.specs.Standing.{StandsFor, mode_of, scenario_of}
+use Rattle.sessions.specs.declared.session.Session.{Session}
+use Rattle.sessions.specs.declared.session_fault.SessionFault.{SessionFault}
+use Rattle.sessions.specs.declared.session_fault.SessionFault.TheVariants as why
+use Rattle.colregs_program.specs.LogAnswers.{GainsFront, GainsPart, GainsSettled, LeavesPart, LeavesSettled, answer_of}
+use Rattle.colregs_program.specs.AskedScenarios.{log_of}
+use Rattle.colregs_program.specs.Answers.{EndsWith, StopsWith, WritesPart}
+use Rattle.colregs_program.specs.declared.status.Status.{Status}
+use Rattle.colregs_program.specs.declared.status.Status.TheVariants as status
+use Rattle.colregs_program.specs.declared.status.Which.TheVariants as which
+use Rattle.colregs_program.specs.declared.streaming.StreamFault.{StreamFault}
+use Rattle.colregs_program.specs.declared.streaming.StreamFault.TheVariants as fault
+
+abbrev pub no_memory : StreamFault
+no_memory = fault.Unreported why.Memory
+
+-- the answer of a run that ends with this fault, where its log may have so many bytes
+abbrev pub stream_status : StreamFault → ℕ → Status
+stream_status fault.NotRead most = status.ReadFault
+stream_status fault.NotWritten most = status.WriteFault
+stream_status (fault.Unreported why.Vessels) most = status.Limit which.Vessels 4096
+stream_status (fault.Unreported why.Pairs) most = status.Limit which.Pairs 4096
+stream_status (fault.Unreported why.LogBytes) most = status.Limit which.Log most
+stream_status (fault.Unreported (why.Own lack)) most = status.OwnUnready lack
+stream_status (fault.Unreported why.Targets) most = status.Limit which.Targets 64
+stream_status (fault.Unreported why.Memory) most = status.Memory
+
+-- The session was fed what was taken of the log, and the sink gained what it has given.
+pub record HasWritten (session : Session) (left left' contents contents' : Option (List ℕ)) : Type 0 where
+  pub fed : List ℕ
+  pub given : List ℕ
+  pub stands : StandsFor session fed given
+  pub taken : Consumes left left' fed
+  pub gained : Appends contents contents' given
+
+-- What was fed and written before, and what was taken of the log since, are told by all that was before.
+abbrev pub FromHere : Session → List ℕ → Option (List ℕ) → (Option (List ℕ) → Option (List ℕ) → Option (List ℕ) → Type 0) → Type 0
+FromHere session piece now P =
+    (first left left' contents : Option (List ℕ)) → HasWritten session first left contents now → Consumes left left' piece → P first left' contents
+
+-- The log is refused at a place, and the sink gained what the bytes before it settle.
+pub record Stops (mode : Mode) (scenario : Scenario) (left contents contents' : Option (List ℕ)) (because : SessionFault) : Type 0 where
+  pub stops : IfSome left (λ log. (text : List ℕ) × IsStopped mode scenario log because text × Appends contents contents' text)
+
+-- The log was read to its end and comes to nothing there, and the sink gained what it settles.
+pub record Ends (mode : Mode) (scenario : Scenario) (left left' contents contents' : Option (List ℕ)) (because : SessionFault) : Type 0 where
+  pub end : IsAtEnd left'
+  pub ends : IfSome left (λ log. IsUnrefused mode scenario log × IsAnswerTo mode scenario log (Err because) × GainsSettled mode scenario log contents contents')
+
+-- what a fault says of a text that was to be written
+abbrev pub PutCause : ReportText → Option (List ℕ) → Option (List ℕ) → StreamFault → Type 0
+PutCause text now now' fault.NotRead = ⊥
+PutCause text now now' fault.NotWritten = (bytes : List ℕ) → HasText text bytes → AppendsPart now now' bytes
+PutCause text now now' (fault.Unreported because) = (because ≡ why.Memory) × (now' ≡ now)
+
+-- what a fault says of the text of what was decided before a refusal
+abbrev pub RefusedCause : ReportText → SessionFault → Option (List ℕ) → Option (List ℕ) → StreamFault → Type 0
+RefusedCause text refusal now now' fault.NotRead = ⊥
+RefusedCause text refusal now now' fault.NotWritten = (refusal ≢ why.Memory) × ((bytes : List ℕ) → HasText text bytes → AppendsPart now now' bytes)
+RefusedCause text refusal now now' (fault.Unreported because) =
+    ((because ≡ why.Memory) × (now' ≡ now))
+    ⊎ ((because ≡ refusal) × (refusal ≢ why.Memory) × ((bytes : List ℕ) → HasText text bytes → Appends now now' bytes))
+
+-- what a fault says of a piece that was fed
+abbrev pub PieceCause : Session → List ℕ → Option (List ℕ) → Option (List ℕ) → StreamFault → Type 0
+PieceCause session piece now now' fault.NotRead = ⊥
+PieceCause session piece now now' fault.NotWritten =
+    FromHere session piece now (λ first left' contents. LeavesPart (mode_of session) (scenario_of session) first left' contents now')
+PieceCause session piece now now' (fault.Unreported why.Memory) =
+    FromHere session piece now (λ first left' contents. IfSome first (λ log. GainsFront (mode_of session) (scenario_of session) log contents now'))
+PieceCause session piece now now' (fault.Unreported why.Vessels) =
+    FromHere session piece now (λ first left' contents. Stops (mode_of session) (scenario_of session) first contents now' why.Vessels)
+PieceCause session piece now now' (fault.Unreported why.Pairs) =
+    FromHere session piece now (λ first left' contents. Stops (mode_of session) (scenario_of session) first contents now' why.Pairs)
+PieceCause session piece now now' (fault.Unreported why.LogBytes) =
+    FromHere session piece now (λ first left' contents. Stops (mode_of session) (scenario_of session) first contents now' why.LogBytes)
+    × ((fed given : List ℕ) → StandsFor session fed given → (scenario_of session).log.max_bytes < length (fed ++ piece))
+PieceCause session piece now now' (fault.Unreported (why.Own lack)) = ⊥
+PieceCause session piece now now' (fault.Unreported why.Targets) = ⊥
+
+-- what a fault says of what was taken of a log from its beginning, and of what the sink gained
+abbrev pub StreamCause : Mode → Scenario → Option (List ℕ) → Option (List ℕ) → Option (List ℕ) → Option (List ℕ) → StreamFault → Type 0
+StreamCause mode scenario left left' contents contents' fault.NotRead = LeavesSettled mode scenario left left' contents contents'
+StreamCause mode scenario left left' contents contents' fault.NotWritten =
+    LeavesPart mode scenario left left' contents contents' ⊎ (IsAtEnd left' × IfSome left (λ log. GainsPart mode scenario log contents contents'))
+StreamCause mode scenario left left' contents contents' (fault.Unreported why.Vessels) =
+    Stops mode scenario left contents contents' why.Vessels ⊎ Ends mode scenario left left' contents contents' why.Vessels
+StreamCause mode scenario left left' contents contents' (fault.Unreported why.Pairs) =
+    Stops mode scenario left contents contents' why.Pairs ⊎ Ends mode scenario left left' contents contents' why.Pairs
+StreamCause mode scenario left left' contents contents' (fault.Unreported why.LogBytes) =
+    StopsAt scenario.log.max_bytes 0 left left' read.TooLong × Stops mode scenario left contents contents' why.LogBytes
+StreamCause mode scenario left left' contents contents' (fault.Unreported (why.Own lack)) =
+    Ends mode scenario left left' contents contents' (why.Own lack) × Keeps contents contents'
+StreamCause mode scenario left left' contents contents' (fault.Unreported why.Targets) =
+    Ends mode scenario left left' contents contents' why.Targets × Keeps contents contents'
+StreamCause mode scenario left left' contents contents' (fault.Unreported why.Memory) = IfSome left (λ log. GainsFront mode scenario log contents contents')
+
+-- what it does to the counts of faults of the log and of the sink
+abbrev pub LogCount : ℕ → ℕ → StreamFault → Type 0
+LogCount before now fault.NotRead = now ≡ one_more before
+LogCount before now fault.NotWritten = now ≡ before
+LogCount before now (fault.Unreported because) = now ≡ before
+
+abbrev pub OutCount : ℕ → ℕ → StreamFault → Type 0
+OutCount before now fault.NotRead = now ≡ before
+OutCount before now fault.NotWritten = now ≡ one_more before
+OutCount before now (fault.Unreported because) = now ≡ before
+
+-- ---- of a request
+
+-- what a fault says of the log of a request, and of what the sink gained
+abbrev pub ReportCause : Request → Scenario → Option (List ℕ) → Option (List ℕ) → Option (List ℕ) → Option (List ℕ) → StreamFault → Type 0
+ReportCause request scenario left left' contents contents' fault.NotRead =
+    IsTrue (reads_log request.mode) × LeavesSettled request.mode scenario left left' contents contents'
+ReportCause request scenario left left' contents contents' fault.NotWritten = WritesPart request scenario left left' contents contents'
+ReportCause request scenario left left' contents contents' (fault.Unreported why.Vessels) =
+    StopsWith request scenario left contents contents' (answer_of scenario (Err why.Vessels)) ⊎ EndsWith request scenario left left' contents contents' (answer_of scenario (Err why.Vessels))
+ReportCause request scenario left left' contents contents' (fault.Unreported why.Pairs) =
+    StopsWith request scenario left contents contents' (answer_of scenario (Err why.Pairs)) ⊎ EndsWith request scenario left left' contents contents' (answer_of scenario (Err why.Pairs))
+ReportCause request scenario left left' contents contents' (fault.Unreported why.LogBytes) =
+    (IsTrue (reads_log request.mode) → StopsAt scenario.log.max_bytes 0 left left' read.TooLong)
+    × StopsWith request scenario left contents contents' (answer_of scenario (Err why.LogBytes))
+ReportCause request scenario left left' contents contents' (fault.Unreported (why.Own lack)) =
+    EndsWith request scenario left left' contents contents' (answer_of scenario (Err (why.Own lack))) × Keeps contents contents'
+ReportCause request scenario left left' contents contents' (fault.Unreported why.Targets) =
+    EndsWith request scenario left left' contents contents' (answer_of scenario (Err why.Targets)) × Keeps contents contents'
+ReportCause request scenario left left' contents contents' (fault.Unreported why.Memory) = IfSome (log_of request scenario left) (λ log. GainsFront request.mode scenario log contents contents')
+
+-- A drill ends with these faults alone.
+abbrev pub is_of_drill : StreamFault → Bool
+is_of_drill fault.NotRead = false
+is_of_drill fault.NotWritten = true
+is_of_drill (fault.Unreported why.Vessels) = false
+is_of_drill (fault.Unreported why.Pairs) = false
+is_of_drill (fault.Unreported why.LogBytes) = true
+is_of_drill (fault.Unreported (why.Own lack)) = false
+is_of_drill (fault.Unreported why.Targets) = false
+is_of_drill (fault.Unreported why.Memory) = true

@@ -1,0 +1,109 @@
+-- What a run answers to its log, and what it leaves in the sink.
+use Rattle.std.specs.Prelude.{ℕ, ◌≡◌, ◌≤◌, ◌++◌, Bool, true, false, List, length, Option, Ok, Err}
+use Rattle.std.specs.Io.KnownBytes.{Appends, Consumes}
+use Rattle.outside.specs.Streams.{AppendsPart}
+use Rattle.command_line.specs.declared.mode.Mode.{Mode}
+use Rattle.judged_lines.specs.JudgedLines.{greatest_held}
+use Rattle.own_ship.specs.PlanSituations.{greatest_targets}
+use Rattle.scenario.specs.declared.values.Scenario.{Scenario}
+use Rattle.sessions.specs.Endings.{Came, IsEnding}
+use Rattle.sessions.specs.Refusals.{IsMet, IsStopped}
+use Rattle.sessions.specs.SettledText.{IsSettledText}
+use Rattle.sessions.specs.declared.session_fault.SessionFault.{SessionFault}
+use Rattle.sessions.specs.declared.session_fault.SessionFault.TheVariants as fault
+use Rattle.settling.specs.SettledTicks.{greatest_traces}
+use Rattle.colregs_program.specs.declared.status.Status.{Status}
+use Rattle.colregs_program.specs.declared.status.Status.TheVariants as status
+use Rattle.colregs_program.specs.declared.status.Which.TheVariants as which
+
+-- the answer of a run that is finished, with a manoeuvre or without one
+abbrev pub finished : Bool → Status
+finished true = status.NoManoeuvre
+finished false = status.Done
+
+-- the answer of a run whose log comes to this
+abbrev pub answer_of : Scenario → Came → Status
+answer_of scenario (Ok none) = finished none
+answer_of scenario (Err fault.Vessels) = status.Limit which.Vessels greatest_held
+answer_of scenario (Err fault.Pairs) = status.Limit which.Pairs greatest_traces
+answer_of scenario (Err fault.LogBytes) = status.Limit which.Log scenario.log.max_bytes
+answer_of scenario (Err (fault.Own why)) = status.OwnUnready why
+answer_of scenario (Err fault.Targets) = status.Limit which.Targets greatest_targets
+answer_of scenario (Err fault.Memory) = status.Memory
+
+-- The run is finished: its report is written.
+abbrev pub IsFinished : Status → Bool
+IsFinished status.Done = true
+IsFinished status.NoManoeuvre = true
+IsFinished status.Usage = false
+IsFinished (status.Scenario key cause) = false
+IsFinished status.ShelfFault = false
+IsFinished status.ReadFault = false
+IsFinished status.WriteFault = false
+IsFinished (status.Limit which most) = false
+IsFinished status.Memory = false
+IsFinished (status.OwnUnready why) = false
+
+-- The answer to a log.
+pub record IsAnswered (mode : Mode) (scenario : Scenario) (log : List ℕ) (answer : Status) : Type 0 where
+  pub came : Came
+  pub met : IsMet mode scenario log came
+  pub is : answer ≡ answer_of scenario came
+
+-- ---- what is left in the sink
+
+-- The sink gained the report on the log.
+pub record GainsReport (mode : Mode) (scenario : Scenario) (log : List ℕ) (contents contents' : Option (List ℕ)) : Type 0 where
+  pub text : List ℕ
+  pub is : IsEnding mode scenario log text
+  pub gained : Appends contents contents' text
+
+-- The sink gained what the bytes settle.
+pub record GainsSettled (mode : Mode) (scenario : Scenario) (read : List ℕ) (contents contents' : Option (List ℕ)) : Type 0 where
+  pub text : List ℕ
+  pub settled : IsSettledText mode scenario read text
+  pub gained : Appends contents contents' text
+
+-- The log is refused at a place with this answer, and the sink gained what the bytes before it settle.
+pub record IsStoppedBy (mode : Mode) (scenario : Scenario) (log : List ℕ) (contents contents' : Option (List ℕ)) (answer : Status) : Type 0 where
+  pub why : SessionFault
+  pub text : List ℕ
+  pub stopped : IsStopped mode scenario log why text
+  pub is : answer ≡ answer_of scenario (Err why)
+  pub gained : Appends contents contents' text
+
+-- No more than the limit was read of the log, and the sink gained what was read settles.
+pub record LeavesSettled (mode : Mode) (scenario : Scenario) (left left' contents contents' : Option (List ℕ)) : Type 0 where
+  pub read : List ℕ
+  pub short : length read ≤ scenario.log.max_bytes
+  pub taken : Consumes left left' read
+  pub gains : GainsSettled mode scenario read contents contents'
+
+-- The sink gained what a front of the log settles.
+pub record GainsFront (mode : Mode) (scenario : Scenario) (log : List ℕ) (contents contents' : Option (List ℕ)) : Type 0 where
+  pub front : List ℕ
+  pub rest : List ℕ
+  pub whole : log ≡ front ++ rest
+  pub gains : GainsSettled mode scenario front contents contents'
+
+-- The sink gained a proper front of what a front of the bytes that were read settles.
+pub record LeavesPart (mode : Mode) (scenario : Scenario) (left left' contents contents' : Option (List ℕ)) : Type 0 where
+  pub front : List ℕ
+  pub rest : List ℕ
+  pub taken : Consumes left left' (front ++ rest)
+  pub text : List ℕ
+  pub settled : IsSettledText mode scenario front text
+  pub part : AppendsPart contents contents' text
+
+-- The sink gained a proper front of the report on the log.
+pub record GainsPart (mode : Mode) (scenario : Scenario) (log : List ℕ) (contents contents' : Option (List ℕ)) : Type 0 where
+  pub none : Bool
+  pub met : IsMet mode scenario log (Ok none)
+  pub text : List ℕ
+  pub is : IsEnding mode scenario log text
+  pub part : AppendsPart contents contents' text
+
+-- The log comes to a report, and the sink gained it.
+pub record Reports (mode : Mode) (scenario : Scenario) (log : List ℕ) (none : Bool) (contents contents' : Option (List ℕ)) : Type 0 where
+  pub met : IsMet mode scenario log (Ok none)
+  pub gains : GainsReport mode scenario log contents contents'

@@ -1,0 +1,51 @@
+-- A report at a log's end.
+use Rattle.std.proofs.Common.{ℕ, ◌≡◌, ◌++◌, List, append_assoc, sym, ap, subst, ◌∙◌}
+use Rattle.std.proofs.lemmas.Grind.{flat_map-append}
+use Rattle.audit_report.specs.CsvRows.{row_of}
+use Rattle.audit_rows.specs.declared.row.Row.{Row}
+use Rattle.audit_traces.specs.declared.total.Total.{Total}
+use Rattle.auditor.specs.AuditRows.{AreAuditRows}
+use Rattle.auditor.specs.AuditTotals.{AreTotals}
+use Rattle.judged_lines.specs.LogLines.{lines_of}
+use Rattle.judged_lines.specs.Standing.{StandsFor as JudgeStandsFor}
+use Rattle.judged_lines.specs.declared.judge.Judge.{Judge}
+use Rattle.scenario.specs.declared.values.Scenario.{Scenario}
+use Rattle.settling.specs.Sightings.{audit_numbers}
+use Rattle.settling.specs.Standing.{AreOfOneLog}
+use Rattle.settling.specs.declared.settled_audit.SettledAudit.{SettledAudit}
+use Rattle.sessions.specs.AuditReport.{IsAuditReport, rows_behind, sightings_of, stretch_fields, stretch_rows}
+use Rattle.sessions.specs.Inner.AtEnd.{IsAuditAtEnd, IsAuditOf}
+
+module _ (audit : SettledAudit) (judge : Judge) (scenario : Scenario) (log : List ℕ) (given : List Row) (of : IsAuditOf audit judge scenario log given) where
+  pub judged_parts : JudgeStandsFor judge scenario (of.lines ++ of.more)
+  judged_parts = subst (JudgeStandsFor judge scenario) of.whole of.judged
+
+  pub of_whole : (P : List (List ℕ) → Type 0) → P (of.lines ++ of.more) → P (lines_of log)
+  of_whole P holds = subst P (sym of.whole) holds
+
+pub of_one_log : (audit : SettledAudit) (judge : Judge) (scenario : Scenario) → IsAuditAtEnd audit judge scenario → AreOfOneLog audit scenario judge
+of_one_log audit judge scenario at = record {
+  lines = at.is.lines;
+  more = at.is.more;
+  given = at.given;
+  stands = at.is.stands;
+  judged = judged_parts audit judge scenario at.log at.given at.is;
+}
+
+stretches_on : (scenario : Scenario) (given rows : List Row) → stretch_rows scenario.rules given ++ stretch_rows scenario.rules rows ≡ stretch_rows scenario.rules (given ++ rows)
+stretches_on scenario given rows = sym (flat_map-append (λ (r : Row). row_of (stretch_fields scenario.rules r)) given rows)
+
+pub whole_report : (scenario : Scenario) (log : List ℕ) (given rows : List Row) (totals : List Total) (rest : List ℕ)
+    → AreAuditRows (audit_numbers scenario) (sightings_of scenario log) (given ++ rows) → AreTotals (audit_numbers scenario) (sightings_of scenario log) (given ++ rows) totals
+    → rest ≡ stretch_rows scenario.rules rows ++ rows_behind scenario log totals → IsAuditReport scenario log (stretch_rows scenario.rules given ++ rest)
+whole_report scenario log given rows totals rest are are_totals is =
+    let g = stretch_rows scenario.rules given in
+    record {
+      rows = given ++ rows;
+      totals = totals;
+      are_rows = are;
+      are_totals = are_totals;
+      is = ap (λ (l : List ℕ). g ++ l) is
+          ∙ sym (append_assoc g (stretch_rows scenario.rules rows) (rows_behind scenario log totals))
+          ∙ ap (λ (l : List ℕ). l ++ rows_behind scenario log totals) (stretches_on scenario given rows);
+    }

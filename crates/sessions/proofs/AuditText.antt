@@ -1,0 +1,49 @@
+-- The whole report of an audit, and why there is none.
+use Rattle.std.proofs.Common.{ℕ, ◌≡◌, ◌++◌, false, refl, List, append_assoc, ap, ap₂, sym, subst, ◌∙◌}
+use Rattle.std.specs.Prelude.{Result, Ok, Err, IfErr, IsErrAnd}
+use Rattle.audit_rows.specs.declared.row.Row.{Row}
+use Rattle.audit_traces.specs.declared.total.Total.{Total}
+use Rattle.auditor.specs.Standing.{HaveMoreThan}
+use Rattle.judged_lines.specs.JudgedLines.{is_crowded, numbers_of}
+use Rattle.judged_lines.specs.LogLines.{lines_of}
+use Rattle.scenario.specs.declared.values.Scenario.{Scenario}
+use Rattle.tracks.specs.VesselsHeld.{Sent}
+use Rattle.sessions.specs.AuditReport.{sightings_of, stretch_rows, total_rows, vessel_rows}
+use Rattle.settling.specs.SettledTicks.{greatest_traces}
+use Rattle.auditor.specs.declared.fault.AuditFault.{AuditFault}
+use Rattle.auditor.specs.declared.fault.AuditFault.TheVariants as audit
+use Rattle.sessions.specs.Inner.Faults.{EndCause, auditing_fault}
+use Rattle.sessions.proofs.Meeting.{too_many_drilled, too_many_traces}
+use Rattle.command_line.specs.declared.mode.Mode.TheVariants as mode
+use Rattle.settling.specs.Sightings.{audit_numbers}
+
+-- the fault that a `?` hands on has its cause
+pub err_cause : {T E : Type 0} (r : Result T E) (x : E) (P : E → Type 0) → IsErrAnd r (λ e. e ≡ x) → P x → IfErr r P
+err_cause (Ok v) x P is cause = tt
+err_cause (Err e) x P is cause = subst P (sym is) cause
+
+-- the fault that a `?` hands on
+pub same_fault : {T E : Type 0} (r : Result T E) (x t : E) → IsErrAnd r (λ e. e ≡ x) → r ≡ Err t → t ≡ x
+same_fault {T} {E} r x t h e = subst (λ (s : Result T E). IsErrAnd s (λ z. z ≡ x)) e h
+
+pub audit_cause : (scenario : Scenario) (log : List ℕ) (fault : AuditFault) → is_crowded scenario (lines_of log) ≡ false
+    → (fault ≡ audit.TooManyPairs → HaveMoreThan greatest_traces (audit_numbers scenario) (sightings_of scenario log)) → EndCause mode.Audit scenario log (auditing_fault fault)
+audit_cause scenario log audit.TooManyPairs calm many = too_many_traces scenario log calm (many refl)
+audit_cause scenario log audit.Memory calm many = tt
+
+pub drill_cause : (scenario : Scenario) (log : List ℕ) (fault : AuditFault) → is_crowded scenario (lines_of log) ≡ false
+    → (fault ≡ audit.TooManyPairs → HaveMoreThan greatest_traces (audit_numbers scenario) (sightings_of scenario log)) → EndCause mode.Drill scenario log (auditing_fault fault)
+drill_cause scenario log audit.TooManyPairs calm many = too_many_drilled scenario log calm (many refl)
+drill_cause scenario log audit.Memory calm many = tt
+
+-- the rows one after the other
+pub whole_text : (scenario : Scenario) (messages : List Sent) (rows : List Row) (totals totals' : List Total) (counts counts' : List ℕ) → totals ≡ totals' → counts ≡ counts'
+    → ((stretch_rows scenario.rules rows ++ vessel_rows (numbers_of scenario) messages) ++ total_rows scenario.rules totals) ++ counts
+    ≡ stretch_rows scenario.rules rows ++ (vessel_rows (numbers_of scenario) messages ++ total_rows scenario.rules totals' ++ counts')
+whole_text scenario messages rows totals totals' counts counts' same same' =
+    let s = stretch_rows scenario.rules rows in
+    let v = vessel_rows (numbers_of scenario) messages in
+    let t = total_rows scenario.rules totals in
+    ap (λ (l : List ℕ). l ++ counts) (append_assoc s v t)
+    ∙ append_assoc s (v ++ t) counts
+    ∙ ap₂ (λ (ts : List Total) (c : List ℕ). s ++ (v ++ total_rows scenario.rules ts ++ c)) same same'

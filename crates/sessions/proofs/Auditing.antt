@@ -1,0 +1,72 @@
+-- The rows of stretches, written one after the other.
+use Rattle.std.proofs.Common.{ℕ, ◌≡◌, ◌+◌, ◌<◌, List, ◌++◌, length, take, append_assoc, sym, ap, subst, ◌∙◌}
+use Rattle.std.specs.Prelude.{All}
+use Rattle.std.proofs.Math.ListN.{get_or}
+use Rattle.std.specs.List.{Contains}
+use Rattle.std.proofs.lemmas.Grind.{flat_map-append}
+use Rattle.std.proofs.lemmas.List.Elements.{All-contains, All-contains_itself, All-weaker, Contains-append_right}
+use Rattle.audit_rows.specs.Order.{topic_of}
+use Rattle.audit_rows.specs.declared.row.Row.{Row}
+use Rattle.audit_rows.specs.declared.row.Row.TheVariants.{Meeting, Verdict}
+use Rattle.audit_rows.specs.declared.topic.Topic.{Topic}
+use Rattle.audit_rows.specs.declared.mark.Mark.{Mark}
+use Rattle.audit_report.specs.CsvRows.{row_of}
+use Rattle.audit_report.specs.ReportRows.{Fields}
+use Rattle.audit_report.specs.ReportTexts.{HasText}
+use Rattle.audit_report.specs.declared.report_text.ReportText.{ReportText}
+use Rattle.audit_traces.specs.AuditTracks.{AreMarksOf}
+use Rattle.audit_traces.specs.Audited.{Numbers, Sighting}
+use Rattle.auditor.specs.AuditRows.{AreAuditRows, IsAuditRow}
+use Rattle.judged_lines.specs.SentLines.{sent}
+use Rattle.rule_set.specs.NamedTrees.{NamedTree}
+use Rattle.scenario.specs.declared.values.Scenario.{Scenario}
+use Rattle.settling.specs.DecidedRows.{AreDecided}
+use Rattle.settling.specs.Sightings.{audit_numbers, sighted}
+use Rattle.sessions.specs.AuditReport.{stretch_fields, stretch_rows}
+use Rattle.sessions.specs.Inner.AuditWriting.{AreOfRules, IsOfRules}
+use Rattle.sessions.proofs.VesselRows.{rows_push}
+
+-- ---- rows tell of rules that are there
+
+of_topic : (numbers : Numbers) (ticks : List Sighting) (topic : Topic) (first : ℕ) (marks : List Mark) (row : Row) → topic_of row ≡ topic
+    → AreMarksOf numbers ticks topic first marks → IsOfRules numbers.rules row
+of_topic numbers ticks topic first marks (Meeting pair kind from last least) same are = tt
+of_topic numbers ticks topic first marks (Verdict pair rule undecided from last) same are =
+    (subst (λ (t : Topic). AreMarksOf numbers ticks t first marks) (sym same) are).within
+
+of_rules : (numbers : Numbers) (ticks : List Sighting) (row : Row) → IsAuditRow numbers ticks row → IsOfRules numbers.rules row
+of_rules numbers ticks row (track, both) = let (from, to, tells) = both.1 in of_topic numbers ticks track.topic track.first track.marks row tells.topic both.0
+
+all_of : {X : Type 0} (P : X → Type 0) (xs : List X) → ((x : X) → Contains xs x → P x) → All P xs
+all_of P xs h = All-weaker (Contains xs) P h xs (All-contains_itself xs)
+
+pub rows_of_rules : (numbers : Numbers) (ticks : List Sighting) (rows : List Row) → AreAuditRows numbers ticks rows → AreOfRules numbers.rules rows
+rows_of_rules numbers ticks rows are = all_of (IsOfRules numbers.rules) rows (λ row i. of_rules numbers ticks row ((are.each row).0 i))
+
+-- rows behind others
+pub last_of_rules : (rules : List NamedTree) (given rows : List Row) → AreOfRules rules (given ++ rows) → AreOfRules rules rows
+last_of_rules rules given rows all =
+    all_of (IsOfRules rules) rows (λ row i. All-contains (IsOfRules rules) (given ++ rows) row all (Contains-append_right given rows row i))
+
+pub rows_of_rules_decided : (scenario : Scenario) (lines : List (List ℕ)) (rows : List Row) → AreDecided scenario lines rows → AreOfRules scenario.rules rows
+rows_of_rules_decided scenario lines rows are =
+    all_of (IsOfRules scenario.rules) rows (λ row i. of_rules (audit_numbers scenario) (sighted scenario (sent scenario lines)) row ((are.each row).0 i).0)
+
+-- ---- the rows that were written
+
+pub rows_on : (rules : List NamedTree) (front : List ℕ) (given rows : List Row)
+    → (front ++ stretch_rows rules given) ++ stretch_rows rules rows ≡ front ++ stretch_rows rules (given ++ rows)
+rows_on rules front given rows =
+    append_assoc front (stretch_rows rules given) (stretch_rows rules rows)
+    ∙ ap (λ (l : List ℕ). front ++ l) (sym (flat_map-append (λ (r : Row). row_of (stretch_fields rules r)) given rows))
+
+-- the rows of the first stretches, and one more
+pub one_stretch_on : (text : ReportText) (front : List ℕ) (rules : List NamedTree) (rows : List Row) (k : ℕ) (d : Row) → k < length rows → (fields : Fields)
+    → fields ≡ stretch_fields rules (get_or rows k d)
+    → HasText text ((front ++ stretch_rows rules (take k rows)) ++ row_of fields) → HasText text (front ++ stretch_rows rules (take (k + 1) rows))
+one_stretch_on text front rules rows k d lt fields is has =
+    let f : Row → List ℕ = λ r. row_of (stretch_fields rules r) in
+    subst (HasText text)
+    (append_assoc front (stretch_rows rules (take k rows)) (row_of fields)
+    ∙ ap (λ (l : List ℕ). front ++ l) (ap (λ (fs : Fields). stretch_rows rules (take k rows) ++ row_of fs) is ∙ rows_push f rows k d lt))
+    has

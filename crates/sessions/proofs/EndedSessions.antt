@@ -1,0 +1,161 @@
+-- A session that ends.
+use Rattle.std.proofs.Common.{ℕ, ◌≡◌, ◌+◌, ◌<◌, ◌^◌, List, [], ◌++◌, length, IsTrue, Ok, Err, refl, ap, sym, subst, arith}
+use Rattle.std.specs.Prelude.{IsSome}
+use Rattle.std.specs.Option.{option_to_list}
+use Rattle.audit_rows.specs.declared.row.Row.{Row}
+use Rattle.growing_log.specs.GrowingLog.{ended_lines, open_lines, open_part}
+use Rattle.growing_log.proofs.ForCallers.{lines_ended_or_open}
+use Rattle.judged_lines.specs.JudgedLines.{judged_lines}
+use Rattle.judged_lines.specs.LogLines.{lines_of}
+use Rattle.judged_lines.specs.Standing.{StandsFor as JudgeStandsFor}
+use Rattle.judged_lines.specs.declared.judge.Judge.{Judge}
+use Rattle.scenario.specs.declared.values.Scenario.{Scenario}
+use Rattle.settling.specs.declared.settled_audit.SettledAudit.{SettledAudit}
+use Rattle.streamed_lines.specs.Standing.{StandsFor as LinesStandFor}
+use Rattle.streamed_lines.specs.declared.streamed_lines.EndedLines.{EndedLines}
+use Rattle.sessions.specs.AuditReport.{stretch_rows}
+use Rattle.sessions.specs.Feeding.{UnlessMemory}
+use Rattle.sessions.specs.Modes.{needs_own}
+use Rattle.sessions.specs.PointsReport.{point_rows}
+use Rattle.sessions.specs.PlanReport.{IsPlanReport}
+use Rattle.sessions.specs.Endings.{IsAnswerTo, IsEnding}
+use Rattle.sessions.specs.Standing.{IsDone, IsInUse, StandsFor, mode_by, mode_of, scenario_of}
+use Rattle.sessions.specs.Inner.Faults.{EndCause}
+use Rattle.sessions.specs.declared.ending.Ending.{Ending}
+use Rattle.command_line.specs.declared.mode.Mode.{Mode}
+use Rattle.command_line.specs.declared.mode.Mode.TheVariants as mode
+use Rattle.sessions.specs.Inner.AtEnd.{AreOfLog, IsAuditAtEnd, IsAuditOf}
+use Rattle.sessions.specs.declared.session.Session.{Session}
+use Rattle.sessions.specs.declared.session_fault.SessionFault.{SessionFault}
+use Rattle.sessions.specs.declared.session_fault.SessionFault.TheVariants as why
+use Rattle.sessions.specs.declared.work.Work.{Work}
+use Rattle.sessions.specs.declared.work.Work.TheVariants as work
+use Rattle.sessions.proofs.Feeding.{few_ended}
+
+-- what holds for each log that was fed, but for want of memory
+pub all_causes : (because : SessionFault) (self : Session) (P : List ℕ → Type 0) → ((fed given : List ℕ) → StandsFor self fed given → UnlessMemory because (P fed))
+    → UnlessMemory because ((fed given : List ℕ) → StandsFor self fed given → P fed)
+all_causes why.Vessels self P each = each
+all_causes why.Pairs self P each = each
+all_causes why.LogBytes self P each = each
+all_causes (why.Own lack) self P each = each
+all_causes why.Targets self P each = each
+all_causes why.Memory self P each = tt
+
+-- what the lines' end says of the judge
+abbrev pub JudgeOf : Session → Judge → Type 0
+JudgeOf self judge = (scenario : Scenario) (log : List ℕ) → length (ended_lines log) + 1 < 2 ^ 64 → LinesStandFor self.lines scenario log → JudgeStandsFor judge scenario (lines_of log)
+
+module _ (self : Session) (judge : Judge) (judges : JudgeOf self judge) where
+  pub ended_judge : (fed given : List ℕ) → StandsFor self fed given → JudgeStandsFor judge self.scenario (lines_of fed)
+  ended_judge fed given stands =
+      let most = stands.in_range.log.max_bytes_to in
+      let short = stands.unrefused.short in
+      let few = few_ended fed in
+      judges self.scenario fed (omega (arith, most, short, few)) stands.lines
+
+pub audit_of : (self : Session) (audit : SettledAudit) (judge : Judge) → self.work ≡ work.Audit audit → JudgeOf self judge → (fed given : List ℕ) → StandsFor self fed given
+    → (rows : List Row) × IsAuditOf audit judge self.scenario fed rows × (given ≡ stretch_rows self.scenario.rules rows)
+audit_of self audit judge is judges fed given stands =
+    let done = subst (λ (w : Work). IsDone w self.scenario (ended_lines fed) given) is stands.done in (
+      done.0,
+      record {
+        lines = ended_lines fed;
+        more = open_lines (open_part fed);
+        whole = lines_ended_or_open fed;
+        stands = done.1;
+        judged = ended_judge self judge judges fed given stands;
+      },
+      done.3,
+    )
+
+pub audit_here : (self : Session) (audit : SettledAudit) (judge : Judge) → self.work ≡ work.Audit audit → JudgeOf self judge → IsInUse self → IsAuditAtEnd audit judge self.scenario
+audit_here self audit judge is judges used =
+    let of = audit_of self audit judge is judges used.fed used.given used.stands in
+    record { log = used.fed; given = of.0; is = of.1 }
+
+pub drill_of : (self : Session) (audit : SettledAudit) (judge : Judge) → self.work ≡ work.Drill audit → JudgeOf self judge → (fed given : List ℕ) → StandsFor self fed given
+    → IsAuditOf audit judge self.scenario fed [] × (given ≡ [])
+drill_of self audit judge is judges fed given stands =
+    let done = subst (λ (w : Work). IsDone w self.scenario (ended_lines fed) given) is stands.done in (
+      record {
+        lines = [];
+        more = lines_of fed;
+        whole = refl;
+        stands = done.0;
+        judged = ended_judge self judge judges fed given stands;
+      },
+      done.1,
+    )
+
+pub drill_here : (self : Session) (audit : SettledAudit) (judge : Judge) → self.work ≡ work.Drill audit → JudgeOf self judge → IsInUse self → IsAuditAtEnd audit judge self.scenario
+drill_here self audit judge is judges used =
+    record { log = used.fed; given = []; is = (drill_of self audit judge is judges used.fed used.given used.stands).0 }
+
+pub points_of : (self : Session) (ended : EndedLines) → self.work ≡ work.Points
+    → ((scenario : Scenario) (log : List ℕ) → LinesStandFor self.lines scenario log → judged_lines scenario (lines_of log) ≡ judged_lines scenario (ended_lines log) ++ option_to_list ended.last)
+    → JudgeOf self ended.judge → (fed given : List ℕ) → StandsFor self fed given
+    → AreOfLog ended self.scenario fed × (given ≡ point_rows (judged_lines self.scenario (ended_lines fed)))
+points_of self ended is told judges fed given stands =
+    let done = subst (λ (w : Work). IsDone w self.scenario (ended_lines fed) given) is stands.done in
+    (record { judged = told self.scenario fed stands.lines; judge = ended_judge self ended.judge judges fed given stands }, done)
+
+pub plan_given : (self : Session) → self.work ≡ work.Plan → (fed given : List ℕ) → StandsFor self fed given → given ≡ []
+plan_given self is fed given stands = subst (λ (w : Work). IsDone w self.scenario (ended_lines fed) given) is stands.done
+
+pub plan_own : (self : Session) → self.work ≡ work.Plan → IsInUse self → IsSome self.scenario.own
+plan_own self is used = used.stands.own (subst (λ (w : Work). IsTrue (needs_own (mode_by w))) (sym is) refl)
+
+-- ---- what the end gives
+
+pub report_is : (self : Session) (m : Mode) (ending made : Ending) (fed given : List ℕ) → mode_of self ≡ m → ending ≡ made → IsEnding m self.scenario fed (given ++ made.bytes.items)
+    → IsEnding (mode_of self) (scenario_of self) fed (given ++ ending.bytes.items)
+report_is self m ending made fed given mode_is is report =
+    subst (λ (n : Mode). IsEnding n self.scenario fed (given ++ ending.bytes.items)) (sym mode_is)
+    (subst (λ (e : Ending). IsEnding m self.scenario fed (given ++ e.bytes.items)) (sym is) report)
+
+pub answer_is : (self : Session) (m : Mode) (ending made : Ending) (fed : List ℕ) → mode_of self ≡ m → ending ≡ made → IsAnswerTo m self.scenario fed (Ok made.none)
+    → IsAnswerTo (mode_of self) (scenario_of self) fed (Ok ending.none)
+answer_is self m ending made fed mode_is is answer =
+    subst (λ (n : Mode). IsAnswerTo n self.scenario fed (Ok ending.none)) (sym mode_is) (subst (λ (e : Ending). IsAnswerTo m self.scenario fed (Ok e.none)) (sym is) answer)
+
+cause_is : (self : Session) (m : Mode) (because : SessionFault) (fed : List ℕ) → mode_of self ≡ m → EndCause m self.scenario fed because
+    → UnlessMemory because (IsAnswerTo (mode_of self) (scenario_of self) fed (Err because))
+cause_is self m because fed mode_is cause = subst (λ (n : Mode). UnlessMemory because (IsAnswerTo n self.scenario fed (Err because))) (sym mode_is) cause
+
+abbrev pub Refusal : Session → SessionFault → Type 0
+Refusal self because = UnlessMemory because ((fed given : List ℕ) → StandsFor self fed given → IsAnswerTo (mode_of self) (scenario_of self) fed (Err because))
+
+pub audit_refused : (self : Session) (audit : SettledAudit) (judge : Judge) (because : SessionFault) → self.work ≡ work.Audit audit → JudgeOf self judge
+    → ((log : List ℕ) (rows : List Row) → IsAuditOf audit judge self.scenario log rows → EndCause mode.Audit self.scenario log because) → Refusal self because
+audit_refused self audit judge because is judges cause =
+    all_causes because self (λ fed. IsAnswerTo (mode_of self) (scenario_of self) fed (Err because)) (λ fed given stands. (
+    let of = audit_of self audit judge is judges fed given stands in
+    cause_is self mode.Audit because fed (ap mode_by is) (cause fed of.0 of.1)
+    ))
+
+pub drill_refused : (self : Session) (audit : SettledAudit) (judge : Judge) (because : SessionFault) → self.work ≡ work.Drill audit → JudgeOf self judge
+    → ((log : List ℕ) → IsAuditOf audit judge self.scenario log [] → EndCause mode.Drill self.scenario log because) → Refusal self because
+drill_refused self audit judge because is judges cause =
+    all_causes because self (λ fed. IsAnswerTo (mode_of self) (scenario_of self) fed (Err because)) (λ fed given stands. (
+    let of = drill_of self audit judge is judges fed given stands in
+    cause_is self mode.Drill because fed (ap mode_by is) (cause fed of.0)
+    ))
+
+module _ (self : Session) (judge : Judge) (is : self.work ≡ work.Plan) (judges : JudgeOf self judge) where
+  pub plan_refused : (because : SessionFault) → ((log : List ℕ) → JudgeStandsFor judge self.scenario (lines_of log) → EndCause mode.Plan self.scenario log because) → Refusal self because
+  plan_refused because cause =
+      all_causes because self (λ fed. IsAnswerTo (mode_of self) (scenario_of self) fed (Err because))
+      (λ fed given stands. cause_is self mode.Plan because fed (ap mode_by is) (cause fed (ended_judge self judge judges fed given stands)))
+
+  pub plan_report : (ending : Ending) → ((log : List ℕ) → JudgeStandsFor judge self.scenario (lines_of log) → IsPlanReport self.scenario log ending.bytes.items)
+      → (fed given : List ℕ) → StandsFor self fed given → IsEnding (mode_of self) (scenario_of self) fed (given ++ ending.bytes.items)
+  plan_report ending report fed given stands =
+      let nothing = plan_given self is fed given stands in
+      report_is self mode.Plan ending ending fed given (ap mode_by is) refl
+      (subst (λ (g : List ℕ). IsEnding mode.Plan self.scenario fed (g ++ ending.bytes.items)) (sym nothing) (report fed (ended_judge self judge judges fed given stands)))
+
+  pub plan_answered : (ending : Ending) → ((log : List ℕ) → JudgeStandsFor judge self.scenario (lines_of log) → IsAnswerTo mode.Plan self.scenario log (Ok ending.none))
+      → (fed given : List ℕ) → StandsFor self fed given → IsAnswerTo (mode_of self) (scenario_of self) fed (Ok ending.none)
+  plan_answered ending answer fed given stands =
+      answer_is self mode.Plan ending ending fed (ap mode_by is) refl (answer fed (ended_judge self judge judges fed given stands))

@@ -1,0 +1,140 @@
+-- What was sought for own ship, and what is told of it.
+use Rattle.std.proofs.Common.{ℕ, ◌≡◌, ◌∙◌, ◌++◌, ◌<◌, ◌≤◌, List, length, refl, ap, ap₂, sym, subst, subst₂, append_assoc, arith, Bool, true, false}
+use Rattle.std.specs.Prelude.{Option, None, Some, Result, Ok, Err, IfSome, IsSome, is_none, is_some, not}
+use Rattle.audit_report.specs.ReportTexts.{HasText}
+use Rattle.audit_report.specs.declared.report_text.ReportText.{ReportText}
+use Rattle.judged_lines.specs.JudgedLines.{is_crowded, numbers_of}
+use Rattle.judged_lines.specs.LogLines.{lines_of}
+use Rattle.lattice.specs.Grids.{Grid}
+use Rattle.own_ship.specs.PlanSituations.{greatest_targets, own_readiness, situation_of, targets_near, vessels_near}
+use Rattle.own_ship.specs.Preparing.{HasManyTargets as HaveManyTargets, IsPrepared}
+use Rattle.own_ship.specs.declared.near.Near.{Near}
+use Rattle.own_ship.specs.declared.preparation.PrepareFault.{PrepareFault}
+use Rattle.own_ship.specs.declared.preparation.PrepareFault.TheVariants as prepare
+use Rattle.own_ship.specs.declared.preparation.Prepared.{Prepared}
+use Rattle.own_ship.specs.declared.readiness.Ready.{Ready}
+use Rattle.own_ship.specs.declared.readiness.Unready.{Unready}
+use Rattle.planner.specs.LeastPlans.{AllFail}
+use Rattle.planner.specs.declared.situation.Situation.{Situation}
+use Rattle.scenario.specs.declared.own_part.OwnPart.{OwnPart}
+use Rattle.scenario.specs.declared.values.Scenario.{Scenario}
+use Rattle.tracks.specs.VesselsHeld.{Sent}
+use Rattle.sessions.specs.Endings.{HasManyTargets, HasNoManoeuvre, IsAnswerTo, lack_of, lack_where, unready_of}
+use Rattle.sessions.specs.PlanReport.{IsManoeuvre, IsOwn, manoeuvre_rows, messages_of, near_rows, situation_on}
+use Rattle.sessions.specs.Inner.Faults.{EndCause, preparing_fault}
+use Rattle.sessions.specs.Inner.PlanWriting.{IsSought, SoughtCause}
+use Rattle.command_line.specs.declared.mode.Mode.TheVariants as mode
+use Rattle.sessions.proofs.Meeting.{a_manoeuvre, no_manoeuvre, own_unready, too_many_targets}
+use Rattle.sessions.proofs.OneManoeuvre.{each_fails}
+
+-- ---- own ship, where she is needed
+
+pub record Own (o : Option OwnPart) (P : OwnPart → Type 0) : Type 0 where
+  pub own : OwnPart
+  pub is : o ≡ Some own
+  pub holds : P own
+
+pub own_of : (o : Option OwnPart) (P : OwnPart → Type 0) → IsSome o → IfSome o P → Own o P
+own_of None P some h = cc some
+own_of (Some own) P some h = record { own = own; is = refl; holds = h }
+
+-- ---- why nothing was sought
+
+pub search_cause : (scenario : Scenario) (messages : List Sent) (fault : PrepareFault)
+    → ((why : Unready) → fault ≡ prepare.Unready why → IfSome scenario.own (λ own. own_readiness (numbers_of scenario) messages scenario own ≡ Err why))
+    → (fault ≡ prepare.TooManyTargets → IfSome scenario.own (HaveManyTargets (numbers_of scenario) messages scenario)) → SoughtCause scenario messages fault
+search_cause scenario messages (prepare.Unready why) unready many = unready why refl
+search_cause scenario messages prepare.TooManyTargets unready many = many refl
+search_cause scenario messages prepare.Memory unready many = tt
+
+module _ (scenario : Scenario) (log : List ℕ) (calm : is_crowded scenario (lines_of log) ≡ false) where
+  -- what she lacks, by her readiness
+  lacks : (own : OwnPart) (came : Result Ready Unready) → scenario.own ≡ Some own → own_readiness (numbers_of scenario) (messages_of scenario log) scenario own ≡ came
+      → unready_of mode.Plan scenario log ≡ lack_of came
+  lacks own came is readiness = ap (lack_where scenario log) is ∙ ap lack_of readiness
+
+  pub plan_cause : IsSome scenario.own → (fault : PrepareFault) → SoughtCause scenario (messages_of scenario log) fault → EndCause mode.Plan scenario log (preparing_fault fault)
+  plan_cause some (prepare.Unready why) cause =
+      let own = own_of scenario.own (λ own. own_readiness (numbers_of scenario) (messages_of scenario log) scenario own ≡ Err why) some cause in
+      own_unready scenario log calm why (lacks own.own (Err why) own.is own.holds)
+  plan_cause some prepare.TooManyTargets cause =
+      let own = own_of scenario.own (HaveManyTargets (numbers_of scenario) (messages_of scenario log) scenario) some cause in
+      let (ready, is_ready, many) = own.holds in
+      too_many_targets scenario log calm (lacks own.own (Ok ready) own.is is_ready) (own.own, ready, record { needed = own.is; is_ready = is_ready }, many)
+  plan_cause some prepare.Memory cause = tt
+
+-- ---- what was sought
+
+pub record IsWritten (scenario : Scenario) (messages : List Sent) (front : List ℕ) (text : ReportText) (prepared : Prepared) (lattice : Grid) (plan : Option (List ℕ)) : Type 0 where
+  pub has : HasText text ((front ++ near_rows (numbers_of scenario) messages prepared.near.items) ++ manoeuvre_rows scenario.window.ticks lattice prepared.ready plan)
+
+pub sought : (scenario : Scenario) (messages : List Sent) (front : List ℕ) (text : ReportText) (prepared : Prepared) (lattice : Grid) (plan told : Option (List ℕ)) (none : Bool)
+    → IsSome scenario.own → IfSome scenario.own (λ own. IsPrepared (numbers_of scenario) messages scenario own prepared) → IsManoeuvre prepared.situation plan
+    → lattice ≡ prepared.situation.lattice → told ≡ plan → none ≡ is_none plan
+    → HasText text ((front ++ near_rows (numbers_of scenario) messages prepared.near.items) ++ manoeuvre_rows scenario.window.ticks lattice prepared.ready told)
+    → IsSought scenario messages text front none
+unfolding situation_of
+sought scenario messages front text prepared lattice plan told none some is first grid same is_none_of has =
+    let found = own_of scenario.own (λ own. IsPrepared (numbers_of scenario) messages scenario own prepared) some is in
+    let own = found.own in
+    let h = found.holds in
+    let lattice-is : lattice ≡ own.lattice = grid ∙ ap (λ (s : Situation). s.lattice) h.situation in
+    let near = near_rows (numbers_of scenario) messages in
+    let rows : (front ++ near prepared.near.items) ++ manoeuvre_rows scenario.window.ticks lattice prepared.ready told
+    ≡ front ++ (near (vessels_near (numbers_of scenario) messages scenario own prepared.ready) ++ manoeuvre_rows scenario.window.ticks own.lattice prepared.ready plan) =
+    ap₂ (λ (vs : List Near) (p : Option (List ℕ)). (front ++ near vs) ++ manoeuvre_rows scenario.window.ticks lattice prepared.ready p) h.near same
+    ∙ ap (λ (g : Grid). (front ++ near (vessels_near (numbers_of scenario) messages scenario own prepared.ready)) ++ manoeuvre_rows scenario.window.ticks g prepared.ready plan) lattice-is
+    ∙ append_assoc front (near (vessels_near (numbers_of scenario) messages scenario own prepared.ready)) (manoeuvre_rows scenario.window.ticks own.lattice prepared.ready plan) in
+    record {
+      own = own;
+      ready = prepared.ready;
+      needed = found.is;
+      is_ready = h.is_ready;
+      few = h.few;
+      manoeuvre = plan;
+      is_first = subst (λ (s : Situation). IsManoeuvre s plan) h.situation first;
+      told = is_none_of;
+      has = subst (HasText text) rows has;
+    }
+
+-- ---- the answer
+
+module _ (scenario : Scenario) (log : List ℕ) (calm : is_crowded scenario (lines_of log) ≡ false) where
+  few_targets : (own : OwnPart) (ready : Ready) → IsOwn scenario log own ready → length (targets_near (numbers_of scenario) (messages_of scenario log) scenario own ready) ≤ greatest_targets
+      → HasManyTargets mode.Plan scenario log → ⊥
+  few_targets own ready is few (own', ready', is', many) =
+      let same : own ≡ own' = cc (is.needed, is'.needed) in
+      let is-own' : IsOwn scenario log own ready' = subst (λ (o : OwnPart). IsOwn scenario log o ready') (sym same) is' in
+      let same-ready : ready ≡ ready' = cc (is.is_ready, is-own'.is_ready) in
+      let more = subst₂ (λ (o : OwnPart) (r : Ready). greatest_targets < length (targets_near (numbers_of scenario) (messages_of scenario log) scenario o r)) (sym same) (sym same-ready) many in
+      absurd (omega arith)
+
+  some_manoeuvre : (own : OwnPart) (ready : Ready) (plan : List ℕ) → IsOwn scenario log own ready → IsManoeuvre (situation_on scenario log own ready) (Some plan)
+      → HasNoManoeuvre mode.Plan scenario log → ⊥
+  some_manoeuvre own ready plan is least (own', ready', is', all) =
+      let same : own ≡ own' = cc (is.needed, is'.needed) in
+      let is-own' : IsOwn scenario log own ready' = subst (λ (o : OwnPart). IsOwn scenario log o ready') (sym same) is' in
+      let same-ready : ready ≡ ready' = cc (is.is_ready, is-own'.is_ready) in
+      let fail = subst₂ (λ (o : OwnPart) (r : Ready). AllFail (situation_on scenario log o r)) (sym same) (sym same-ready) all in
+      least.passes (each_fails (situation_on scenario log own ready) plan least.whole fail)
+
+  answer_by : (own : OwnPart) (ready : Ready) (manoeuvre : Option (List ℕ)) (none : Bool) → IsOwn scenario log own ready
+      → length (targets_near (numbers_of scenario) (messages_of scenario log) scenario own ready) ≤ greatest_targets
+      → IsManoeuvre (situation_on scenario log own ready) manoeuvre → none ≡ is_none manoeuvre → IsAnswerTo mode.Plan scenario log (Ok none)
+  answer_by own ready None none is few first told =
+      let ready-is = lacks scenario log calm own (Ok ready) is.needed is.is_ready in
+      subst (λ (b : Bool). IsAnswerTo mode.Plan scenario log (Ok b)) (sym told)
+      (no_manoeuvre scenario log calm ready-is (few_targets own ready is few) (own, ready, is, first))
+  answer_by own ready (Some plan) none is few first told =
+      let ready-is = lacks scenario log calm own (Ok ready) is.needed is.is_ready in
+      subst (λ (b : Bool). IsAnswerTo mode.Plan scenario log (Ok b)) (sym told)
+      (a_manoeuvre scenario log calm ready-is (few_targets own ready is few) (some_manoeuvre own ready plan is first))
+
+  pub plan_answer : (text : ReportText) (front : List ℕ) (none : Bool) → IsSought scenario (messages_of scenario log) text front none → IsAnswerTo mode.Plan scenario log (Ok none)
+  plan_answer text front none h = answer_by h.own h.ready h.manoeuvre none (record { needed = h.needed; is_ready = h.is_ready }) h.few h.is_first h.told
+
+pub none_is : {A : Type 0} (o : Option A) (b : Bool) → is_some o ≡ not b → b ≡ is_none o
+none_is None true e = refl
+none_is None false e = cc e
+none_is (Some x) true e = cc e
+none_is (Some x) false e = refl

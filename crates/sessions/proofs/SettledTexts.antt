@@ -1,0 +1,116 @@
+-- What a front of a log decides is a front of what follows.
+use Rattle.std.proofs.Common.{◌≡◌, ℕ, List, [], ◌∷◌, ◌++◌, ap, sym, subst, ◌∙◌, append_assoc, append-nil}
+use Rattle.std.proofs.lemmas.Grind.{flat_map-append}
+use Rattle.audit_report.specs.CsvRows.{row_of}
+use Rattle.audit_rows.specs.declared.row.Row.{Row}
+use Rattle.auditor.specs.AuditRows.{AreAuditRows}
+use Rattle.growing_log.specs.GrowingLog.{ended_lines}
+use Rattle.judged_lines.specs.JudgedLines.{judged_line, judged_lines}
+use Rattle.judged_lines.specs.LogLines.{lines_of}
+use Rattle.judged_lines.specs.SentLines.{sent}
+use Rattle.judged_lines.specs.declared.judged.Judged.{Judged}
+use Rattle.judged_lines.proofs.ForCallers.{judged-push}
+use Rattle.scenario.specs.declared.values.Scenario.{Scenario}
+use Rattle.settling.specs.DecidedRows.{AreDecided}
+use Rattle.settling.specs.Sightings.{audit_numbers, sighted}
+use Rattle.command_line.specs.declared.mode.Mode.{Mode}
+use Rattle.command_line.specs.declared.mode.Mode.TheVariants as mode
+use Rattle.sessions.specs.AuditReport.{rows_behind, sightings_of, stretch_fields, stretch_rows}
+use Rattle.sessions.specs.Endings.{IsEnding}
+use Rattle.sessions.specs.OutcomeRows.{count_rows}
+use Rattle.sessions.specs.PointsReport.{point_rows, report_of, rows_of_line}
+use Rattle.sessions.specs.SettledText.{IsDecidedText, IsSettledText}
+
+-- The text begins with the other.
+abbrev pub Begins : List ℕ → List ℕ → Type 0
+Begins text longer = (rest : List ℕ) × (longer ≡ text ++ rest)
+
+-- ---- one text
+
+pub one_decided : ((scenario : Scenario) (lines : List (List ℕ)) (rows others : List Row) → AreDecided scenario lines rows → AreDecided scenario lines others → rows ≡ others)
+    → (m : Mode) (scenario : Scenario) (lines : List (List ℕ)) (text other : List ℕ) → IsDecidedText m scenario lines text → IsDecidedText m scenario lines other → text ≡ other
+one_decided one mode.Points scenario lines text other a b = a ∙ sym b
+one_decided one mode.Audit scenario lines text other (rows, are, is) (others, are', is') =
+    is ∙ ap (stretch_rows scenario.rules) (one scenario lines rows others are are') ∙ sym is'
+one_decided one mode.Plan scenario lines text other a b = a ∙ sym b
+one_decided one mode.Drill scenario lines text other a b = a ∙ sym b
+one_decided one mode.Migrate scenario lines text other a b = a ∙ sym b
+
+-- ---- the rows of lines
+
+judged_begin : (scenario : Scenario) (lines more : List (List ℕ)) → (rest : List Judged) × (judged_lines scenario (lines ++ more) ≡ judged_lines scenario lines ++ rest)
+judged_begin scenario lines [] = ([], ap (judged_lines scenario) (append-nil lines) ∙ sym (append-nil (judged_lines scenario lines)))
+judged_begin scenario lines (line ∷ more) =
+    let on = judged_begin scenario (lines ++ line ∷ []) more in (
+      judged_line scenario lines line ∷ on.0,
+      ap (judged_lines scenario) (sym (append_assoc lines (line ∷ []) more)) ∙ on.1 ∙ ap (λ (l : List Judged). l ++ on.0) (judged-push scenario lines line)
+          ∙ append_assoc (judged_lines scenario lines) (judged_line scenario lines line ∷ []) on.0,
+    )
+
+points_begin : (scenario : Scenario) (lines more : List (List ℕ)) → Begins (point_rows (judged_lines scenario lines)) (point_rows (judged_lines scenario (lines ++ more)))
+points_begin scenario lines more =
+    let on = judged_begin scenario lines more in
+    (point_rows on.0, ap point_rows on.1 ∙ flat_map-append rows_of_line (judged_lines scenario lines) on.0)
+
+stretches_begin : (scenario : Scenario) (rows all rest : List Row) → all ≡ rows ++ rest → Begins (stretch_rows scenario.rules rows) (stretch_rows scenario.rules all)
+stretches_begin scenario rows all rest is =
+    (stretch_rows scenario.rules rest, ap (stretch_rows scenario.rules) is ∙ flat_map-append (λ r. row_of (stretch_fields scenario.rules r)) rows rest)
+
+-- ---- longer fronts
+
+begins_is : (text longer other : List ℕ) → Begins text longer → other ≡ longer → Begins text other
+begins_is text longer other begins is = (begins.0, is ∙ begins.1)
+
+is_begins : (text other longer : List ℕ) → text ≡ other → Begins other longer → Begins text longer
+is_begins text other longer is begins = (begins.0, begins.1 ∙ ap (λ (t : List ℕ). t ++ begins.0) (sym is))
+
+goes_on : (text longer more : List ℕ) → Begins text longer → Begins text (longer ++ more)
+goes_on text longer more begins = (begins.0 ++ more, ap (λ (t : List ℕ). t ++ more) begins.1 ∙ append_assoc text begins.0 more)
+
+empty_begins : (text longer : List ℕ) → text ≡ [] → Begins text longer
+empty_begins text longer is = (longer, ap (λ (t : List ℕ). t ++ longer) (sym is))
+
+module _ (fronts : (scenario : Scenario) (lines more : List (List ℕ)) (rows later : List Row) → AreDecided scenario lines rows → AreDecided scenario (lines ++ more) later
+    → (rest : List Row) × (later ≡ rows ++ rest))
+    (begin : (scenario : Scenario) (lines more : List (List ℕ)) (rows all : List Row) → AreDecided scenario lines rows
+    → AreAuditRows (audit_numbers scenario) (sighted scenario (sent scenario (lines ++ more))) all → (rest : List Row) × (all ≡ rows ++ rest)) where
+  decided_on : (m : Mode) (scenario : Scenario) (lines more : List (List ℕ)) (text later : List ℕ) → IsDecidedText m scenario lines text
+      → IsDecidedText m scenario (lines ++ more) later → Begins text later
+  decided_on mode.Points scenario lines more text later a b = begins_is text _ later (is_begins text _ _ a (points_begin scenario lines more)) b
+  decided_on mode.Audit scenario lines more text later (rows, are, is) (others, are', is') =
+      let rest = fronts scenario lines more rows others are are' in
+      begins_is text _ later (is_begins text _ _ is (stretches_begin scenario rows others rest.0 rest.1)) is'
+  decided_on mode.Plan scenario lines more text later a b = empty_begins text later a
+  decided_on mode.Drill scenario lines more text later a b = empty_begins text later a
+  decided_on mode.Migrate scenario lines more text later a b = empty_begins text later a
+
+  pub settled_on : (stay : (log more : List ℕ) → (lines : List (List ℕ)) × (ended_lines (log ++ more) ≡ ended_lines log ++ lines))
+      → (m : Mode) (scenario : Scenario) (front more text later : List ℕ) → IsSettledText m scenario front text → IsSettledText m scenario (front ++ more) later
+      → Begins text later
+  settled_on stay m scenario front more text later a b =
+      let lines = stay front more in
+      decided_on m scenario (ended_lines front) lines.0 text later a (subst (λ (l : List (List ℕ)). IsDecidedText m scenario l later) lines.1 b)
+
+  -- ---- the report
+
+  decided_begins : (m : Mode) (scenario : Scenario) (lines more : List (List ℕ)) (log text report : List ℕ) → lines_of log ≡ lines ++ more
+      → IsDecidedText m scenario lines text → IsEnding m scenario log report → Begins text report
+  unfolding report_of sightings_of
+  decided_begins mode.Points scenario lines more log text report is a b =
+      let rows : Begins (point_rows (judged_lines scenario lines)) (point_rows (judged_lines scenario (lines_of log))) =
+      subst (λ (l : List (List ℕ)). Begins (point_rows (judged_lines scenario lines)) (point_rows (judged_lines scenario l))) (sym is) (points_begin scenario lines more) in
+      begins_is text _ report (goes_on text _ (count_rows (judged_lines scenario (lines_of log))) (is_begins text _ _ a rows)) b
+  decided_begins mode.Audit scenario lines more log text report is (rows, are, told) b =
+      let all = subst (λ (l : List (List ℕ)). AreAuditRows (audit_numbers scenario) (sighted scenario (sent scenario l)) b.rows) is b.are_rows in
+      let rest = begin scenario lines more rows b.rows are all in
+      begins_is text _ report (goes_on text _ (rows_behind scenario log b.totals) (is_begins text _ _ told (stretches_begin scenario rows b.rows rest.0 rest.1))) b.is
+  decided_begins mode.Plan scenario lines more log text report is a b = empty_begins text report a
+  decided_begins mode.Drill scenario lines more log text report is a b = empty_begins text report a
+  decided_begins mode.Migrate scenario lines more log text report is a b = empty_begins text report a
+
+  pub settled_begins : (all : (log more : List ℕ) → (lines : List (List ℕ)) × (lines_of (log ++ more) ≡ ended_lines log ++ lines))
+      → (m : Mode) (scenario : Scenario) (front more text report : List ℕ) → IsSettledText m scenario front text → IsEnding m scenario (front ++ more) report
+      → Begins text report
+  settled_begins all m scenario front more text report a b =
+      let lines = all front more in
+      decided_begins m scenario (ended_lines front) lines.0 (front ++ more) text report lines.1 a b

@@ -1,0 +1,96 @@
+-- The rows of the vessels that are held, and of what the rules come to.
+use Rattle.std.proofs.Common.{ℕ, zero, suc, ◌≡◌, ◌+◌, ◌<◌, true, false, cond, Bool, List, [], ◌∷◌, ◌++◌, length, take, flat_map, append_assoc, append-nil, refl, sym, ap, subst, ◌∙◌, arith}
+use Rattle.std.specs.Prelude.{Option, Some, slice_get}
+use Rattle.std.proofs.lemmas.Grind.{flat_map-append}
+use Rattle.std.proofs.lemmas.List.{take_more}
+use Rattle.std.proofs.lemmas.Option.{get_or_from_slice_get, slice_get_within}
+use Rattle.std.proofs.Math.ListN.{get_or}
+use Rattle.std.specs.List.{filter}
+use Rattle.audit_report.specs.CsvRows.{row_of}
+use Rattle.ais_messages.specs.declared.message.ShipData.{ShipData}
+use Rattle.audit_report.specs.ReportRows.{total_fields, vessel_fields}
+use Rattle.audit_traces.specs.declared.total.Total.{Total}
+use Rattle.rule_set.specs.NamedTrees.{NamedTree, rule_at}
+use Rattle.tracks.specs.AcceptedReports.{Numbers}
+use Rattle.tracks.specs.VesselsHeld.{Sent, held_of, is_held, senders_of}
+use Rattle.tracks.specs.Lengths.{length_of}
+use Rattle.sessions.specs.AuditReport.{held_fields, kind_of, told_fields, total_rows}
+
+-- the first rows of a list, and one more
+pub rows_push : {X : Type 0} (f : X → List ℕ) (xs : List X) (k : ℕ) (d : X) → k < length xs
+    → flat_map f (take k xs) ++ f (get_or xs k d) ≡ flat_map f (take (k + 1) xs)
+rows_push f xs k d lt =
+    ap (λ (l : List ℕ). flat_map f (take k xs) ++ l) (sym (append-nil (f (get_or xs k d))))
+    ∙ sym (flat_map-append f (take k xs) (get_or xs k d ∷ []))
+    ∙ ap (flat_map f) (sym (take_more xs k d lt))
+
+-- the same where the element is told
+rows_get : {X : Type 0} (f : X → List ℕ) (xs : List X) (k : ℕ) (x : X) → slice_get xs k ≡ Some x
+    → flat_map f (take k xs) ++ f x ≡ flat_map f (take (k + 1) xs)
+rows_get f xs k x at =
+    let within = slice_get_within xs k x at in
+    let is : get_or xs k x ≡ x = get_or_from_slice_get xs k x x at in
+    ap (λ y. flat_map f (take k xs) ++ f y) (sym is) ∙ rows_push f xs k x within
+
+-- An element that is kept passes the test.
+first_or_later : (p : ℕ → Bool) (y : ℕ) (ys : List ℕ) (x : ℕ) → ((i : ℕ) → slice_get (filter p ys) i ≡ Some x → p x ≡ true) → (k : ℕ) → p y ≡ true
+    → slice_get (y ∷ filter p ys) k ≡ Some x → p x ≡ true
+first_or_later p y ys x again zero test found = let same : y ≡ x = cc found in subst (λ (z : ℕ). p z ≡ true) same test
+first_or_later p y ys x again (suc i) test found = again i found
+
+at_kept : (p : ℕ → Bool) (xs : List ℕ) (k x : ℕ) → slice_get (filter p xs) k ≡ Some x → p x ≡ true
+at_kept p [] k x at = cc at
+at_kept p (y ∷ ys) k x at =
+    elim (p y) as (λ (b : Bool). p y ≡ b → slice_get (cond b (y ∷ filter p ys) (filter p ys)) k ≡ Some x → p x ≡ true) [
+      | true ↦ λ test found. first_or_later p y ys x (λ i here. at_kept p ys i x here) k test found
+      | false ↦ λ test found. at_kept p ys k x found
+    ] refl at
+
+-- what each of the first rules comes to, and one more
+totals_more : (rules : List NamedTree) (totals : List Total) (k : ℕ) (d : Total) → k < length rules → length totals ≡ length rules
+    → total_rows (take k rules) (take k totals) ++ row_of (total_fields (rule_at rules k).name (get_or totals k d))
+    ≡ total_rows (take (suc k) rules) (take (suc k) totals)
+totals_more [] totals k d lt same = absurd (omega arith)
+totals_more (rule ∷ rules) [] k d lt same = absurd (omega arith)
+totals_more (rule ∷ rules) (total ∷ totals) zero d lt same = sym (append-nil (row_of (total_fields rule.name total)))
+totals_more (rule ∷ rules) (total ∷ totals) (suc k) d lt same =
+    append_assoc (row_of (total_fields rule.name total)) (total_rows (take k rules) (take k totals)) (row_of (total_fields (rule_at rules k).name (get_or totals k d)))
+    ∙ ap (λ (l : List ℕ). row_of (total_fields rule.name total) ++ l) (totals_more rules totals k d (omega arith) (omega arith))
+
+totals_push : (rules : List NamedTree) (totals : List Total) (k : ℕ) (d : Total) → k < length rules → length totals ≡ length rules
+    → total_rows (take k rules) (take k totals) ++ row_of (total_fields (rule_at rules k).name (get_or totals k d))
+    ≡ total_rows (take (k + 1) rules) (take (k + 1) totals)
+totals_push rules totals k d lt same =
+    let next : suc k ≡ k + 1 = omega arith in
+    totals_more rules totals k d lt same ∙ ap (λ (n : ℕ). total_rows (take n rules) (take n totals)) next
+
+-- A vessel of the list is held.
+pub held_at : (numbers : Numbers) (messages : List Sent) (k mmsi : ℕ) → slice_get (held_of numbers messages) k ≡ Some mmsi → is_held numbers messages mmsi ≡ true
+unfolding held_of
+held_at numbers messages k mmsi at = at_kept (is_held numbers messages) (senders_of messages) k mmsi at
+
+-- the rows of the first vessels, and of one more
+pub one_vessel_on : (numbers : Numbers) (messages : List Sent) (front : List ℕ) (k mmsi : ℕ) → slice_get (held_of numbers messages) k ≡ Some mmsi
+    → (front ++ flat_map (λ m. row_of (held_fields numbers messages m)) (take k (held_of numbers messages))) ++ row_of (held_fields numbers messages mmsi)
+    ≡ front ++ flat_map (λ m. row_of (held_fields numbers messages m)) (take (k + 1) (held_of numbers messages))
+one_vessel_on numbers messages front k mmsi at =
+    let f : ℕ → List ℕ = λ m. row_of (held_fields numbers messages m) in
+    let held = held_of numbers messages in
+    append_assoc front (flat_map f (take k held)) (f mmsi)
+    ∙ ap (λ (l : List ℕ). front ++ l) (rows_get f held k mmsi at)
+
+-- what the first rules come to, and one more
+pub one_total_on : (rules : List NamedTree) (totals : List Total) (front : List ℕ) (k : ℕ) (name : List ℕ) (d : Total) → k < length rules → length totals ≡ length rules
+    → name ≡ (rule_at rules k).name
+    → (front ++ total_rows (take k rules) (take k totals)) ++ row_of (total_fields name (get_or totals k d)) ≡ front ++ total_rows (take (k + 1) rules) (take (k + 1) totals)
+one_total_on rules totals front k name d lt same named =
+    append_assoc front (total_rows (take k rules) (take k totals)) (row_of (total_fields name (get_or totals k d)))
+    ∙ ap (λ (l : List ℕ). front ++ l)
+    (ap (λ (n : List ℕ). total_rows (take k rules) (take k totals) ++ row_of (total_fields n (get_or totals k d))) named ∙ totals_push rules totals k d lt same)
+
+-- the row of a vessel, from its parts
+pub vessel_is : (mmsi : ℕ) (name name' : Option (List ℕ)) (kind length reports legs : ℕ) (ship ship' : Option ShipData) (reports' legs' : ℕ)
+    → name ≡ name' → ship ≡ ship' → kind ≡ kind_of ship → length ≡ length_of ship → reports ≡ reports' → legs ≡ legs'
+    → vessel_fields mmsi name kind length reports legs ≡ told_fields mmsi (record { name = name'; ship = ship' }) reports' legs'
+vessel_is mmsi name name' kind length reports legs ship ship' reports' legs' n s k l r g =
+    λ i. vessel_fields mmsi (n i) ((k ∙ ap kind_of s) i) ((l ∙ ap length_of s) i) (r i) (g i)

@@ -1,0 +1,6 @@
+use Rattle.growing_log.specs.GrowingLog.{ended_lines}
+use Rattle.sessions.proofs.SettledTexts.{one_decided}
+use Rattle.sessions.proofs.laws.one_settled_text.Goals as goal
+
+pub returns : goal.returns
+returns c = λ m scenario front. one_decided c.one_list_of_decided_rows.ensures m scenario (ended_lines front)

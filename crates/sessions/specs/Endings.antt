@@ -1,0 +1,102 @@
+-- What a mode comes to on a scenario and a log at its end: its report, or why there is none.
+use Rattle.std.specs.Prelude.{ℕ, ◌≡◌, ◌<◌, ◌⊎◌, IsTrue, Bool, true, false, List, length, Option, Some, None, Result, Ok, Err}
+use Rattle.auditor.specs.Standing.{HaveMoreThan}
+use Rattle.judged_lines.specs.JudgedLines.{is_crowded, numbers_of}
+use Rattle.judged_lines.specs.LogLines.{lines_of}
+use Rattle.own_ship.specs.PlanSituations.{greatest_targets, own_readiness, targets_near}
+use Rattle.own_ship.specs.declared.readiness.Ready.{Ready}
+use Rattle.own_ship.specs.declared.readiness.Unready.{Unready}
+use Rattle.planner.specs.LeastPlans.{AllFail}
+use Rattle.scenario.specs.declared.own_part.OwnPart.{OwnPart}
+use Rattle.scenario.specs.declared.values.Scenario.{Scenario}
+use Rattle.sessions.specs.AuditReport.{IsAuditReport, sightings_of}
+use Rattle.sessions.specs.DrillReport.{IsDrillReport}
+use Rattle.sessions.specs.PlanReport.{IsOwn, IsPlanReport, messages_of, situation_on}
+use Rattle.sessions.specs.PointsReport.{report_of}
+use Rattle.command_line.specs.declared.mode.Mode.{Mode}
+use Rattle.command_line.specs.declared.mode.Mode.TheVariants as mode
+use Rattle.sessions.specs.declared.session_fault.SessionFault.{SessionFault}
+use Rattle.sessions.specs.declared.session_fault.SessionFault.TheVariants as fault
+use Rattle.settling.specs.SettledTicks.{greatest_traces}
+use Rattle.settling.specs.Sightings.{audit_numbers}
+
+-- The text is the mode's report on a log.
+abbrev pub IsEnding : Mode → Scenario → List ℕ → List ℕ → Type 0
+IsEnding mode.Points scenario log text = text ≡ report_of scenario log
+IsEnding mode.Audit scenario log text = IsAuditReport scenario log text
+IsEnding mode.Plan scenario log text = IsPlanReport scenario log text
+IsEnding mode.Drill scenario log text = IsDrillReport scenario log text
+IsEnding mode.Migrate scenario log text = ⊥
+
+-- ---- what stands in the way of a report
+
+-- More traces begin at the ticks of the window.
+abbrev pub HasManyTraces : Mode → Scenario → List ℕ → Type 0
+HasManyTraces mode.Points scenario log = ⊥
+HasManyTraces mode.Audit scenario log = HaveMoreThan greatest_traces (audit_numbers scenario) (sightings_of scenario log)
+HasManyTraces mode.Plan scenario log = ⊥
+HasManyTraces mode.Drill scenario log = HaveMoreThan greatest_traces (audit_numbers scenario) (sightings_of scenario log)
+HasManyTraces mode.Migrate scenario log = ⊥
+
+-- what own ship lacks
+abbrev pub lack_of : Result Ready Unready → Option Unready
+lack_of (Ok ready) = None
+lack_of (Err why) = Some why
+
+abbrev pub lack_where : Scenario → List ℕ → Option OwnPart → Option Unready
+lack_where scenario log None = None
+lack_where scenario log (Some own) = lack_of (own_readiness (numbers_of scenario) (messages_of scenario log) scenario own)
+
+-- why own ship cannot be planned for, where she is to be
+abbrev pub unready_of : Mode → Scenario → List ℕ → Option Unready
+unready_of mode.Points scenario log = None
+unready_of mode.Audit scenario log = None
+unready_of mode.Plan scenario log = lack_where scenario log scenario.own
+unready_of mode.Drill scenario log = None
+unready_of mode.Migrate scenario log = None
+
+-- P holds of own ship, who is ready.
+abbrev pub OfOwn : Scenario → List ℕ → (OwnPart → Ready → Type 0) → Type 0
+OfOwn scenario log P = (own : OwnPart) × (ready : Ready) × IsOwn scenario log own ready × P own ready
+
+-- More vessels are her targets than are planned for.
+abbrev pub HasManyTargets : Mode → Scenario → List ℕ → Type 0
+HasManyTargets mode.Points scenario log = ⊥
+HasManyTargets mode.Audit scenario log = ⊥
+HasManyTargets mode.Plan scenario log = OfOwn scenario log (λ own ready.
+    greatest_targets < length (targets_near (numbers_of scenario) (messages_of scenario log) scenario own ready))
+HasManyTargets mode.Drill scenario log = ⊥
+HasManyTargets mode.Migrate scenario log = ⊥
+
+-- Every plan of hers fails.
+abbrev pub HasNoManoeuvre : Mode → Scenario → List ℕ → Type 0
+HasNoManoeuvre mode.Points scenario log = ⊥
+HasNoManoeuvre mode.Audit scenario log = ⊥
+HasNoManoeuvre mode.Plan scenario log = OfOwn scenario log (λ own ready. AllFail (situation_on scenario log own ready))
+HasNoManoeuvre mode.Drill scenario log = ⊥
+HasNoManoeuvre mode.Migrate scenario log = ⊥
+
+-- ---- what a log comes to
+
+-- Why there is no report; or that there is one, and whether it is one without a manoeuvre.
+abbrev pub Came : Type 0
+Came = Result Bool SessionFault
+
+-- This is what it comes to where it stands; else what else is.
+abbrev pub First : Type 0 → Came → (Came → Type 0) → Came → Type 0
+First Stands here Else came = (Stands × (came ≡ here)) ⊎ ((¬ Stands) × Else came)
+
+abbrev pub Unless : Option Unready → (Came → Type 0) → Came → Type 0
+Unless None Else came = Else came
+Unless (Some why) Else came = came ≡ Err (fault.Own why)
+
+-- What the lines of a log come to at its end: more vessels than are held, or else more traces than are kept; or else what own ship lacks,
+-- or that she has more targets than are planned for, or that every plan of hers fails; or else a report.
+abbrev pub IsAnswerTo : Mode → Scenario → List ℕ → Came → Type 0
+IsAnswerTo mode scenario log =
+    First (IsTrue (is_crowded scenario (lines_of log))) (Err fault.Vessels)
+    (First (HasManyTraces mode scenario log) (Err fault.Pairs)
+    (Unless (unready_of mode scenario log)
+    (First (HasManyTargets mode scenario log) (Err fault.Targets)
+    (First (HasNoManoeuvre mode scenario log) (Ok true)
+    (λ came. came ≡ Ok false)))))

@@ -1,0 +1,6 @@
+-- Definitions that proofs need and no public clause cites.
+pub mod Faults
+pub mod Working
+pub mod AtEnd
+pub mod AuditWriting
+pub mod PlanWriting

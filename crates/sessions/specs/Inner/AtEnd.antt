@@ -1,0 +1,31 @@
+-- What is had at a log's end.
+use Rattle.std.specs.Prelude.{ℕ, ◌≡◌, List, ◌++◌}
+use Rattle.std.specs.Option.{option_to_list}
+use Rattle.audit_rows.specs.declared.row.Row.{Row}
+use Rattle.growing_log.specs.GrowingLog.{ended_lines}
+use Rattle.judged_lines.specs.JudgedLines.{judged_lines}
+use Rattle.judged_lines.specs.LogLines.{lines_of}
+use Rattle.judged_lines.specs.Standing.{StandsFor as JudgeStandsFor}
+use Rattle.judged_lines.specs.declared.judge.Judge.{Judge}
+use Rattle.scenario.specs.declared.values.Scenario.{Scenario}
+use Rattle.settling.specs.Standing.{StandsFor as AuditStandsFor}
+use Rattle.settling.specs.declared.settled_audit.SettledAudit.{SettledAudit}
+use Rattle.streamed_lines.specs.declared.streamed_lines.EndedLines.{EndedLines}
+
+-- All lines of the log were judged.
+pub record AreOfLog (ended : EndedLines) (scenario : Scenario) (log : List ℕ) : Type 0 where
+  pub judged : judged_lines scenario (lines_of log) ≡ judged_lines scenario (ended_lines log) ++ option_to_list ended.last
+  pub judge : JudgeStandsFor ended.judge scenario (lines_of log)
+
+-- The audit stands for the first lines of the log, and has given these rows; and the judge has taken all.
+pub record IsAuditOf (audit : SettledAudit) (judge : Judge) (scenario : Scenario) (log : List ℕ) (given : List Row) : Type 0 where
+  pub lines : List (List ℕ)
+  pub more : List (List ℕ)
+  pub whole : lines_of log ≡ lines ++ more
+  pub stands : AuditStandsFor audit scenario lines given
+  pub judged : JudgeStandsFor judge scenario (lines_of log)
+
+pub record IsAuditAtEnd (audit : SettledAudit) (judge : Judge) (scenario : Scenario) : Type 0 where
+  pub log : List ℕ
+  pub given : List Row
+  pub is : IsAuditOf audit judge scenario log given

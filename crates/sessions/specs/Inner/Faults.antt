@@ -1,0 +1,34 @@
+-- Faults of the layers below, as a session has them.
+use Rattle.std.specs.Prelude.{ℕ, List, Err}
+use Rattle.auditor.specs.declared.fault.AuditFault.{AuditFault}
+use Rattle.auditor.specs.declared.fault.AuditFault.TheVariants as audit
+use Rattle.own_ship.specs.declared.preparation.PrepareFault.{PrepareFault}
+use Rattle.own_ship.specs.declared.preparation.PrepareFault.TheVariants as prepare
+use Rattle.tracks.specs.declared.entry.BookFault.{BookFault}
+use Rattle.tracks.specs.declared.entry.BookFault.TheVariants as book
+use Rattle.scenario.specs.declared.values.Scenario.{Scenario}
+use Rattle.command_line.specs.declared.mode.Mode.{Mode}
+use Rattle.sessions.specs.Endings.{IsAnswerTo}
+use Rattle.sessions.specs.Feeding.{UnlessMemory}
+use Rattle.sessions.specs.declared.session_fault.SessionFault.{SessionFault}
+use Rattle.sessions.specs.declared.session_fault.SessionFault.TheVariants as fault
+
+-- the fault of a log whose lines were judged
+abbrev pub judging_fault : BookFault → SessionFault
+judging_fault book.TooManyVessels = fault.Vessels
+judging_fault book.Memory = fault.Memory
+
+-- the fault of a log that was audited
+abbrev pub auditing_fault : AuditFault → SessionFault
+auditing_fault audit.TooManyPairs = fault.Pairs
+auditing_fault audit.Memory = fault.Memory
+
+-- the fault of a log in which own ship was to be planned for
+abbrev pub preparing_fault : PrepareFault → SessionFault
+preparing_fault (prepare.Unready why) = fault.Own why
+preparing_fault prepare.TooManyTargets = fault.Targets
+preparing_fault prepare.Memory = fault.Memory
+
+-- what the fault says of the lines of a log at its end
+abbrev pub EndCause : Mode → Scenario → List ℕ → SessionFault → Type 0
+EndCause mode scenario log why = UnlessMemory why (IsAnswerTo mode scenario log (Err why))

@@ -1,0 +1,29 @@
+-- What work on a line does.
+use Rattle.std.specs.Prelude.{ℕ, ◌≡◌, List, [], ◌∷◌, ◌++◌}
+use Rattle.audit_report.specs.ReportTexts.{HasText}
+use Rattle.audit_report.specs.declared.report_text.ReportText.{ReportText}
+use Rattle.judged_lines.specs.JudgedLines.{judged_lines}
+use Rattle.judged_lines.specs.Standing.{StandsFor as JudgeStandsFor}
+use Rattle.judged_lines.specs.declared.judge.Judge.{Judge}
+use Rattle.judged_lines.specs.declared.judged.Judged.{Judged}
+use Rattle.scenario.specs.declared.values.Scenario.{Scenario}
+use Rattle.sessions.specs.Standing.{IsDone}
+use Rattle.sessions.specs.declared.work.Work.{Work}
+
+-- The work was done on some lines, and the judge has taken these and more.
+pub record Works (work : Work) (scenario : Scenario) (judge : Judge) (lines more : List (List ℕ)) : Type 0 where
+  pub given : List ℕ
+  pub done : IsDone work scenario lines given
+  pub judged : JudgeStandsFor judge scenario (lines ++ more)
+
+pub record IsReadyFor (work : Work) (scenario : Scenario) (judge : Judge) : Type 0 where
+  pub lines : List (List ℕ)
+  pub more : List (List ℕ)
+  pub works : Works work scenario judge lines more
+
+-- The work went on by one line that was judged, and what is decided by it stands in the text behind a front.
+pub record GoesOn (work work' : Work) (scenario : Scenario) (judge : Judge) (judged : Judged) (front : List ℕ) (text : ReportText) : Type 0 where
+  pub decided : List ℕ
+  pub has : HasText text (front ++ decided)
+  pub done : (lines more : List (List ℕ)) (given : List ℕ) → IsDone work scenario lines given → JudgeStandsFor judge scenario (lines ++ more)
+      → judged_lines scenario (lines ++ more) ≡ judged_lines scenario lines ++ judged ∷ [] → IsDone work' scenario (lines ++ more) (given ++ decided)

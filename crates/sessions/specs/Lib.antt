@@ -1,0 +1,13 @@
+pub mod OutcomeRows
+pub mod PointsReport
+pub mod AuditReport
+pub mod DrillReport
+pub mod PlanReport
+pub mod Modes
+pub mod SettledText
+pub mod Endings
+pub mod Refusals
+pub mod Standing
+pub mod Feeding
+pub mod Inner
+pub use Rattle.settling.specs.Sightings

@@ -1,0 +1,88 @@
+-- The report of `plan`: own ship and the vessels near her, the legs of the first plan that does not fail or that there is none, and then
+-- how many lines came to each outcome.
+use Rattle.std.specs.Prelude.{ℕ, ◌≡◌, ◌+◌, ◌*◌, nat_lt, flat_map, List, ◌++◌, Option, Some, None, MatchOption, Ok, slice_index, if◌then◌else◌}
+use Rattle.std.specs.List.{range_with_len}
+use Rattle.audit_report.specs.CsvRows.{row_of}
+use Rattle.audit_report.specs.ReportRows.{Fields, no_plan_fields, plan_fields}
+use Rattle.judged_lines.specs.JudgedLines.{judged_lines, numbers_of}
+use Rattle.judged_lines.specs.LogLines.{lines_of}
+use Rattle.judged_lines.specs.SentLines.{sent}
+use Rattle.lattice.specs.Grids.{Grid, choices_of, plans_of, positions_of}
+use Rattle.lattice.specs.OwnMotion.{ordered_course, ordered_speed}
+use Rattle.lattice.specs.PlanNumbers.{number_of}
+use Rattle.own_ship.specs.PlanSituations.{own_readiness, situation_of, vessels_near}
+use Rattle.own_ship.specs.declared.near.Near.{Near}
+use Rattle.own_ship.specs.declared.readiness.Ready.{Ready}
+use Rattle.planner.specs.LeastPlans.{AllFail, IsLeast}
+use Rattle.planner.specs.declared.situation.Situation.{Situation}
+use Rattle.scenario.specs.declared.own_part.OwnPart.{OwnPart}
+use Rattle.scenario.specs.declared.values.Scenario.{Scenario}
+use Rattle.tracks.specs.AcceptedReports.{Numbers}
+use Rattle.tracks.specs.VesselsHeld.{Sent}
+use Rattle.sessions.specs.AuditReport.{held_fields}
+use Rattle.sessions.specs.OutcomeRows.{count_rows}
+
+-- ---- own ship
+
+-- the messages of a log
+abbrev pub messages_of : Scenario → List ℕ → List Sent
+messages_of scenario log = sent scenario (lines_of log)
+
+-- Own ship is planned for, and ready.
+pub record IsOwn (scenario : Scenario) (log : List ℕ) (own : OwnPart) (ready : Ready) : Type 0 where
+  pub needed : scenario.own ≡ Some own
+  pub is_ready : own_readiness (numbers_of scenario) (messages_of scenario log) scenario own ≡ Ok ready
+
+-- the situation in which her plan is sought
+abbrev pub situation_on : Scenario → List ℕ → OwnPart → Ready → Situation
+situation_on scenario log own ready = situation_of (numbers_of scenario) (messages_of scenario log) scenario own ready
+
+-- ---- the rows
+
+-- the vessels near her, herself among them
+abbrev pub near_rows : Numbers → List Sent → List Near → List ℕ
+near_rows numbers messages near = flat_map (λ (vessel : Near). row_of (held_fields numbers messages vessel.mmsi)) near
+
+-- A leg begins where the one before it ends, and the last one ends with the plan.
+abbrev pub first_tick : ℕ → Grid → ℕ → ℕ
+first_tick now lattice leg = now + leg * lattice.leg_ticks
+
+abbrev pub last_tick : ℕ → Grid → ℕ → ℕ
+last_tick now lattice leg = if nat_lt (leg + 1) lattice.legs then first_tick now lattice (leg + 1) else now + positions_of lattice
+
+-- a leg, with the course and the speed that it orders
+abbrev pub leg_fields : ℕ → Grid → Ready → List ℕ → ℕ → Fields
+leg_fields now lattice ready plan leg =
+    plan_fields (number_of (choices_of lattice) plan) leg
+    (ordered_course lattice (slice_index plan leg) ready.course) (ordered_speed lattice (slice_index plan leg) ready.speed)
+    (first_tick now lattice leg) (last_tick now lattice leg)
+
+abbrev pub leg_rows : ℕ → Grid → Ready → List ℕ → List ℕ
+leg_rows now lattice ready plan = flat_map (λ leg. row_of (leg_fields now lattice ready plan leg)) (range_with_len 0 lattice.legs)
+
+-- the legs of a plan, or that there is none
+abbrev pub manoeuvre_rows : ℕ → Grid → Ready → Option (List ℕ) → List ℕ
+manoeuvre_rows now lattice ready None = row_of (no_plan_fields (plans_of lattice))
+manoeuvre_rows now lattice ready (Some plan) = leg_rows now lattice ready plan
+
+-- ---- the report
+
+-- The first plan that does not fail, or none where every plan fails.
+abbrev pub IsManoeuvre : Situation → Option (List ℕ) → Type 0
+IsManoeuvre situation manoeuvre = MatchOption manoeuvre (AllFail situation) (IsLeast situation)
+
+-- the rows of the report
+unfoldable pub plan_text : Scenario → List ℕ → OwnPart → Ready → Option (List ℕ) → List ℕ
+plan_text scenario log own ready manoeuvre =
+    near_rows (numbers_of scenario) (messages_of scenario log) (vessels_near (numbers_of scenario) (messages_of scenario log) scenario own ready)
+    ++ manoeuvre_rows scenario.window.ticks own.lattice ready manoeuvre
+    ++ count_rows (judged_lines scenario (lines_of log))
+
+-- The text is the report on a log.
+pub record IsPlanReport (scenario : Scenario) (log text : List ℕ) : Type 0 where
+  pub own : OwnPart
+  pub ready : Ready
+  pub is_own : IsOwn scenario log own ready
+  pub manoeuvre : Option (List ℕ)
+  pub is_first : IsManoeuvre (situation_on scenario log own ready) manoeuvre
+  pub is : text ≡ plan_text scenario log own ready manoeuvre

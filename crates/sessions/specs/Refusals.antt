@@ -1,0 +1,52 @@
+-- The refusals that are met in a log before its end, each at its place.
+use Rattle.std.specs.Prelude.{ℕ, ◌≡◌, ◌<◌, ◌≤◌, ◌-◌, ◌⊎◌, IsTrue, false, List, length, take, Err}
+use Rattle.growing_log.specs.GrowingLog.{ended_lines}
+use Rattle.judged_lines.specs.JudgedLines.{is_crowded}
+use Rattle.scenario.specs.declared.values.Scenario.{Scenario}
+use Rattle.settling.specs.SettledTicks.{HaveManySettled}
+use Rattle.command_line.specs.declared.mode.Mode.{Mode}
+use Rattle.command_line.specs.declared.mode.Mode.TheVariants as mode
+use Rattle.sessions.specs.Endings.{Came, First, IsAnswerTo}
+use Rattle.sessions.specs.SettledText.{IsSettledText}
+use Rattle.sessions.specs.declared.session_fault.SessionFault.{SessionFault}
+use Rattle.sessions.specs.declared.session_fault.SessionFault.TheVariants as fault
+
+-- More traces begin at ticks that the lines settle. A drill is audited at its end alone.
+abbrev pub HasManySettled : Mode → Scenario → List (List ℕ) → Type 0
+HasManySettled mode.Points scenario lines = ⊥
+HasManySettled mode.Audit scenario lines = HaveManySettled scenario lines
+HasManySettled mode.Plan scenario lines = ⊥
+HasManySettled mode.Drill scenario lines = ⊥
+HasManySettled mode.Migrate scenario lines = ⊥
+
+-- A front of a log is refused, whatever follows: it has more bytes than the scenario allows; or else the lines that a line feed has ended
+-- make more vessels held; or else more traces begin at ticks that they settle.
+abbrev pub IsRefused : Mode → Scenario → List ℕ → Came → Type 0
+IsRefused mode scenario front =
+    First (scenario.log.max_bytes < length front) (Err fault.LogBytes)
+    (First (IsTrue (is_crowded scenario (ended_lines front))) (Err fault.Vessels)
+    (First (HasManySettled mode scenario (ended_lines front)) (Err fault.Pairs)
+    (λ came. ⊥)))
+
+-- It is not refused.
+pub record IsUnrefused (mode : Mode) (scenario : Scenario) (front : List ℕ) : Type 0 where
+  pub short : length front ≤ scenario.log.max_bytes
+  pub calm : is_crowded scenario (ended_lines front) ≡ false
+  pub few : ¬ HasManySettled mode scenario (ended_lines front)
+
+-- The refusal stands at this place of the log: the front of so many bytes is refused, and no shorter one.
+pub record IsRefusedAt (mode : Mode) (scenario : Scenario) (log : List ℕ) (place : ℕ) (came : Came) : Type 0 where
+  pub within : place ≤ length log
+  pub before : (shorter : ℕ) → shorter < place → IsUnrefused mode scenario (take shorter log)
+  pub here : IsRefused mode scenario (take place log) came
+
+-- What a log comes to: the refusal at the earliest place, or else what its lines come to at its end.
+abbrev pub IsMet : Mode → Scenario → List ℕ → Came → Type 0
+IsMet mode scenario log came =
+    ((place : ℕ) × IsRefusedAt mode scenario log place came) ⊎ (IsUnrefused mode scenario log × IsAnswerTo mode scenario log came)
+
+-- The log is refused for this cause at a place, and the text is what the bytes before it settle.
+pub record IsStopped (mode : Mode) (scenario : Scenario) (log : List ℕ) (why : SessionFault) (text : List ℕ) : Type 0 where
+  pub place : ℕ
+  pub refused : IsRefusedAt mode scenario log place (Err why)
+  pub settled : IsSettledText mode scenario (take (place - 1) log) text

@@ -1,0 +1,48 @@
+//! The end of the report of `audit`.
+ghost use Rattle.std.specs.Prelude.{◌≡◌, ◌++◌, ℕ, List, IfErr, IfOk, OnOk, Ok, false};
+ghost use Rattle.audit_rows.specs.declared.row.Row.{Row};
+ghost use Rattle.judged_lines.specs.Standing.{keeping_of};
+ghost use Rattle.scenario.specs.ScenarioValues.{IsInRange};
+ghost use Rattle.sessions.specs.AuditReport.{IsAuditReport, stretch_rows};
+ghost use Rattle.sessions.specs.Endings.{IsAnswerTo};
+ghost use Rattle.sessions.specs.Inner.AtEnd.{IsAuditAtEnd, IsAuditOf};
+ghost use Rattle.sessions.specs.Inner.Faults.{EndCause};
+ghost use Rattle.command_line.specs.declared.mode.Mode.TheVariants.{Audit};
+ghost use Rattle.tracks.specs.declared.keeping.Keeping.TheVariants.{Tracks};
+
+use crate::outcome_rows::{all_outcomes, write_counts};
+use crate::session_fault::SessionFault;
+use crate::stretches::write_stretches;
+use crate::totals::write_totals;
+use crate::vessels::write_vessels;
+use audit_report::ReportText;
+use judged_lines::Judge;
+use scenario::Scenario;
+use settling::SettledAudit;
+use std::alloc::Global;
+
+/// The rest of the report, behind the rows of the stretches that the audit has given.
+pub(crate) fn end_audit(
+    alloc: Global,
+    scenario: &Scenario,
+    audit: SettledAudit,
+    judge: &Judge,
+) -> Result<Vec<u8>, SessionFault>
+    requires in_range { IsInRange scenario.now }
+    requires keeping { keeping_of judge.now ≡ Tracks }
+    requires at_end { IsAuditAtEnd audit judge.now scenario.now }
+    ensures report { IfOk result (λ rest. (log : List ℕ) (given : List Row) → IsAuditOf audit judge.now scenario.now log given
+        → IsAuditReport scenario.now log (stretch_rows scenario.now.rules given ++ rest.items)) }
+    ensures answer { OnOk result ((log : List ℕ) (given : List Row) → IsAuditOf audit judge.now scenario.now log given
+        → IsAnswerTo Audit scenario.now log (Ok false)) }
+    ensures cause { IfErr result (λ why. (log : List ℕ) (given : List Row) → IsAuditOf audit judge.now scenario.now log given
+        → EndCause Audit scenario.now log why) }
+{
+    let end = audit.end(scenario, judge)?;
+    let mut text = ReportText::new(alloc);
+    write_stretches(&mut text, &scenario.rules, end.rows.as_slice())?;
+    write_vessels(&mut text, judge.book())?;
+    write_totals(&mut text, &scenario.rules, end.totals.as_slice())?;
+    write_counts(&mut text, judge.counts(), all_outcomes())?;
+    Ok(text.into_bytes()?)
+}

@@ -1,0 +1,40 @@
+//! The end of the report of `drill`.
+ghost use Rattle.std.specs.Prelude.{◌≡◌, [], ℕ, List, IfErr, IfOk, OnOk, Ok, false};
+ghost use Rattle.judged_lines.specs.Standing.{keeping_of};
+ghost use Rattle.scenario.specs.ScenarioValues.{IsInRange};
+ghost use Rattle.sessions.specs.DrillReport.{IsDrillReport};
+ghost use Rattle.sessions.specs.Endings.{IsAnswerTo};
+ghost use Rattle.sessions.specs.Inner.AtEnd.{IsAuditAtEnd, IsAuditOf};
+ghost use Rattle.sessions.specs.Inner.Faults.{EndCause};
+ghost use Rattle.command_line.specs.declared.mode.Mode.TheVariants.{Drill};
+ghost use Rattle.tracks.specs.declared.keeping.Keeping.TheVariants.{Tracks};
+
+use crate::outcome_rows::{all_outcomes, write_counts};
+use crate::session_fault::SessionFault;
+use crate::totals::write_totals;
+use audit_report::ReportText;
+use judged_lines::Judge;
+use scenario::Scenario;
+use settling::SettledAudit;
+use std::alloc::Global;
+
+/// The report, of which nothing was given before. The audit's rows are not told.
+pub(crate) fn end_drill(
+    alloc: Global,
+    scenario: &Scenario,
+    audit: SettledAudit,
+    judge: &Judge,
+) -> Result<Vec<u8>, SessionFault>
+    requires in_range { IsInRange scenario.now }
+    requires keeping { keeping_of judge.now ≡ Tracks }
+    requires at_end { IsAuditAtEnd audit judge.now scenario.now }
+    ensures report { IfOk result (λ text. (log : List ℕ) → IsAuditOf audit judge.now scenario.now log [] → IsDrillReport scenario.now log text.items) }
+    ensures answer { OnOk result ((log : List ℕ) → IsAuditOf audit judge.now scenario.now log [] → IsAnswerTo Drill scenario.now log (Ok false)) }
+    ensures cause { IfErr result (λ why. (log : List ℕ) → IsAuditOf audit judge.now scenario.now log [] → EndCause Drill scenario.now log why) }
+{
+    let end = audit.end(scenario, judge)?;
+    let mut text = ReportText::new(alloc);
+    write_totals(&mut text, &scenario.rules, end.totals.as_slice())?;
+    write_counts(&mut text, judge.counts(), all_outcomes())?;
+    Ok(text.into_bytes()?)
+}

@@ -1,0 +1,48 @@
+//! Laws of reports, which stand over the definitions alone.
+ghost use Rattle.std.specs.Prelude.{◌≡◌, ◌++◌, ℕ, List};
+ghost use Rattle.scenario.specs.declared.values.Scenario.{Scenario};
+ghost use Rattle.sessions.specs.Endings.{Came, IsEnding};
+ghost use Rattle.sessions.specs.Refusals.{IsMet};
+ghost use Rattle.sessions.specs.SettledText.{IsSettledText};
+ghost use Rattle.command_line.specs.declared.mode.Mode.{Mode};
+
+use growing_log::laws::ended_lines_stay;
+use settling::laws::{
+    decided_rows_are_a_front, decided_rows_begin_the_report, many_settled_stay,
+    one_list_of_decided_rows,
+};
+
+/// A request has at most one report on a log.
+pub fn one_ending()
+    ensures { (mode : Mode) (scenario : Scenario) (log text other : List ℕ) →
+        IsEnding mode scenario log text → IsEnding mode scenario log other → text ≡ other }
+{}
+
+/// A log comes to one thing at most.
+pub fn one_answer()
+    ensures { (mode : Mode) (scenario : Scenario) (log : List ℕ) (came other : Came) →
+        IsMet mode scenario log came → IsMet mode scenario log other → came ≡ other }
+{
+    ended_lines_stay();
+    many_settled_stay();
+}
+
+/// The settled bytes of a front of a log are one text at most.
+pub fn one_settled_text()
+    ensures { (mode : Mode) (scenario : Scenario) (front text other : List ℕ) →
+        IsSettledText mode scenario front text → IsSettledText mode scenario front other → text ≡ other }
+{
+    one_list_of_decided_rows();
+}
+
+/// The settled bytes of a front are a front of those of each longer front, and of the report of every log that begins with it.
+pub fn settled_bytes_stay()
+    ensures longer { (mode : Mode) (scenario : Scenario) (front more text later : List ℕ) → IsSettledText mode scenario front text →
+        IsSettledText mode scenario (front ++ more) later → (rest : List ℕ) × (later ≡ text ++ rest) }
+    ensures report { (mode : Mode) (scenario : Scenario) (front more text report : List ℕ) → IsSettledText mode scenario front text →
+        IsEnding mode scenario (front ++ more) report → (rest : List ℕ) × (report ≡ text ++ rest) }
+{
+    ended_lines_stay();
+    decided_rows_are_a_front();
+    decided_rows_begin_the_report();
+}

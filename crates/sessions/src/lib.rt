@@ -1,0 +1,30 @@
+//! Reports on a log of AIS sentences that comes in pieces.
+//!
+//! A [`Session`] is fed a log piece by piece, however it is cut, and gives what the bytes so far decide of the report of its mode: with
+//! `points` the rows of the accepted reports, with `audit` those of the stretches that no later line can change. At the log's end it gives
+//! the rest of the report, or why there is none. `specs/Endings.antt` defines the reports, `specs/SettledText.antt` what a front of a log
+//! decides of them, and `specs/Refusals.antt` what ends a session before the log's end.
+#![tactic(auto)]
+
+mod audit;
+mod drill;
+mod ending;
+pub mod laws;
+mod modes;
+mod outcome_rows;
+mod plan;
+mod points;
+mod session;
+mod session_fault;
+mod stretches;
+#[cfg(test)]
+mod tests;
+mod totals;
+mod vessels;
+mod work;
+
+pub use command_line::Mode;
+pub use ending::Ending;
+pub use modes::{needs_own, reads_log, reports};
+pub use session::Session;
+pub use session_fault::SessionFault;

@@ -1,0 +1,174 @@
+//! The report of `plan`, at a log's end.
+ghost use Rattle.std.specs.Prelude.{◌≡◌, ◌++◌, ◌<◌, ◌≤◌, ℕ, List, All, IfErr, IfOk, IfSome, IsSome, OnOk, Ok, true};
+ghost use Rattle.std.specs.Option.{option_copied};
+ghost use Rattle.audit_report.specs.ReportTexts.{HasText};
+ghost use Rattle.judged_lines.specs.JudgedLines.{numbers_of};
+ghost use Rattle.judged_lines.specs.LogLines.{lines_of};
+ghost use Rattle.judged_lines.specs.Standing.{StandsFor as JudgeStandsFor, keeping_of};
+ghost use Rattle.lattice.specs.Grids.{choices_of};
+ghost use Rattle.lattice.specs.PlanNumbers.{IsPlan};
+ghost use Rattle.scenario.specs.ScenarioValues.{IsInRange};
+ghost use Rattle.tracks.specs.AcceptedReports.{Numbers};
+ghost use Rattle.tracks.specs.Standing.{StandsFor as BookStandsFor};
+ghost use Rattle.tracks.specs.VesselsHeld.{Sent, is_held};
+ghost use Rattle.tracks.specs.declared.keeping.Keeping.TheVariants.{Tracks};
+ghost use Rattle.own_ship.specs.declared.near.Near.{Near};
+ghost use Rattle.sessions.specs.Endings.{IsAnswerTo};
+ghost use Rattle.sessions.specs.PlanReport.{IsPlanReport, first_tick, last_tick, leg_rows, manoeuvre_rows, near_rows};
+ghost use Rattle.sessions.specs.Inner.Faults.{EndCause};
+ghost use Rattle.sessions.specs.Inner.PlanWriting.{IsSought, SoughtCause};
+ghost use Rattle.command_line.specs.declared.mode.Mode.TheVariants as mode;
+
+use crate::ending::Ending;
+use crate::outcome_rows::{all_outcomes, write_counts};
+use crate::session_fault::SessionFault;
+use crate::vessels::write_vessel;
+use audit_report::{ReportRow, ReportText};
+use judged_lines::Judge;
+use lattice::{Lattice, Plan};
+use outside::Memory;
+use own_ship::{Near, PrepareFault, Ready, prepare};
+use planner::Search;
+use scenario::Scenario;
+use std::alloc::Global;
+use tracks::Book;
+
+/// Writes the rows of the vessels near own ship.
+fn write_near(text: &mut ReportText, book: &Book, near: &[Near]) -> Result<(), Memory>
+    requires { book.now.keeping ≡ Tracks }
+    ensures { OnOk result ((numbers : Numbers) (messages : List Sent) (front : List ℕ) → BookStandsFor book.now numbers messages
+        → All (λ (vessel : Near). is_held numbers messages vessel.mmsi ≡ true) near.now → HasText text.old front
+        → HasText text.new (front ++ near_rows numbers messages near.now)) }
+{
+    for vessel in near {
+        write_vessel(text, book, vessel.mmsi)?;
+    }
+    Ok(())
+}
+
+/// What the legs of a plan are told by.
+#[derive(Clone, Copy)]
+struct Legs<'a> {
+    /// The tick of now, at most 20,000.
+    begin: u32,
+    lattice: &'a Lattice,
+    ready: Ready,
+}
+
+impl Legs<'_> {
+    /// The tick at which a leg begins.
+    fn first_tick(&self, leg: u8) -> u32
+        requires begin { self.now.begin ≤ 20000 }
+        requires leg { leg ≤ 8 }
+        ensures { result ≡ first_tick self.now.begin self.now.lattice.now leg }
+    {
+        self.begin + u32::from(leg) * self.lattice.leg_ticks()
+    }
+
+    /// The tick at which it ends.
+    fn last_tick(&self, leg: u8) -> u32
+        requires begin { self.now.begin ≤ 20000 }
+        requires leg { leg < self.now.lattice.now.legs }
+        ensures { result ≡ last_tick self.now.begin self.now.lattice.now leg }
+    {
+        let legs = self.lattice.legs();
+        if leg + 1 < legs {
+            self.first_tick(leg + 1)
+        } else {
+            self.begin + self.lattice.positions()
+        }
+    }
+
+    /// Writes the rows of the legs of a plan.
+    fn write_plan(&self, text: &mut ReportText, plan: &Plan) -> Result<(), Memory>
+        requires begin { self.now.begin ≤ 20000 }
+        requires course { self.now.ready.course < 3600 }
+        requires speed { self.now.ready.speed ≤ 1022 }
+        requires plan { IsPlan (choices_of self.now.lattice.now) self.now.lattice.now.legs plan.now }
+        ensures { OnOk result ((front : List ℕ) → HasText text.old front
+            → HasText text.new (front ++ leg_rows self.now.begin self.now.lattice.now self.now.ready plan.now)) }
+    {
+        for leg in 0..self.lattice.legs() {
+            text.write(&ReportRow::Plan {
+                number: self.lattice.number(plan),
+                leg,
+                course: self.lattice.course(plan, leg, self.ready.course),
+                speed: self.lattice.speed(plan, leg, self.ready.speed),
+                first: self.first_tick(leg),
+                last: self.last_tick(leg),
+            })?;
+        }
+        Ok(())
+    }
+
+    /// Writes the rows of a plan, or that there is none.
+    fn write(&self, text: &mut ReportText, plan: Option<&Plan>) -> Result<(), Memory>
+        requires begin { self.now.begin ≤ 20000 }
+        requires course { self.now.ready.course < 3600 }
+        requires speed { self.now.ready.speed ≤ 1022 }
+        requires plan { IfSome (option_copied plan) (IsPlan (choices_of self.now.lattice.now) self.now.lattice.now.legs) }
+        ensures { OnOk result ((front : List ℕ) → HasText text.old front
+            → HasText text.new (front ++ manoeuvre_rows self.now.begin self.now.lattice.now self.now.ready (option_copied plan.entry))) }
+    {
+        match plan {
+            Some(plan) => self.write_plan(text, plan),
+            None => text.write(&ReportRow::NoPlan {
+                plans: self.lattice.plans(),
+            }),
+        }
+    }
+}
+
+/// Seeks a plan of own ship, writes the rows of the vessels near her and of the plan, and tells whether there is none.
+fn write_search(
+    alloc: Global,
+    scenario: Scenario,
+    book: &Book,
+    text: &mut ReportText,
+) -> Result<bool, PrepareFault>
+    requires in_range { IsInRange scenario }
+    requires own { IsSome scenario.own }
+    requires keeping { book.now.keeping ≡ Tracks }
+    requires stands { (messages : List Sent) × BookStandsFor book.now (numbers_of scenario) messages }
+    ensures sought { IfOk result (λ none. (messages : List Sent) (front : List ℕ) → BookStandsFor book.now (numbers_of scenario) messages
+        → HasText text.old front → IsSought scenario messages text.new front none) }
+    ensures cause { IfErr result (λ fault. (messages : List Sent) → BookStandsFor book.now (numbers_of scenario) messages → SoughtCause scenario messages fault) }
+{
+    let begin = scenario.window.ticks;
+    let prepared = prepare(alloc, scenario, book)?;
+    write_near(text, book, &prepared.near)?;
+    let ready = prepared.ready;
+    let mut search = Search::new(alloc, prepared.situation)?;
+    let plan = search.run();
+    let legs = Legs {
+        begin,
+        lattice: &search.situation().lattice,
+        ready,
+    };
+    legs.write(text, plan.as_ref())?;
+    Ok(plan.is_none())
+}
+
+/// The report, of which nothing was given before.
+pub(crate) fn end_plan(
+    alloc: Global,
+    scenario: Scenario,
+    judge: &Judge,
+) -> Result<Ending, SessionFault>
+    requires in_range { IsInRange scenario }
+    requires own { IsSome scenario.own }
+    requires keeping { keeping_of judge.now ≡ Tracks }
+    requires at_end { (log : List ℕ) × JudgeStandsFor judge.now scenario (lines_of log) }
+    ensures report { IfOk result (λ ending. (log : List ℕ) → JudgeStandsFor judge.now scenario (lines_of log) → IsPlanReport scenario log ending.bytes.items) }
+    ensures answer { IfOk result (λ ending. (log : List ℕ) → JudgeStandsFor judge.now scenario (lines_of log)
+        → IsAnswerTo mode.Plan scenario log (Ok ending.none)) }
+    ensures cause { IfErr result (λ why. (log : List ℕ) → JudgeStandsFor judge.now scenario (lines_of log) → EndCause mode.Plan scenario log why) }
+{
+    let mut text = ReportText::new(alloc);
+    let none = write_search(alloc, scenario, judge.book(), &mut text)?;
+    write_counts(&mut text, judge.counts(), all_outcomes())?;
+    Ok(Ending {
+        bytes: text.into_bytes()?,
+        none,
+    })
+}

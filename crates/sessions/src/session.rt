@@ -1,0 +1,182 @@
+//! A report on a log that comes in pieces.
+ghost use Rattle.std.specs.Prelude.{◌≡◌, ◌≤◌, ◌<◌, ◌+◌, ◌-◌, ◌++◌, [], ℕ, List, IfErr, IfOk, IsSome, IsTrue, OnOk, Err, Ok, length, take};
+ghost use Rattle.audit_report.specs.ReportTexts.{HasText};
+ghost use Rattle.scenario.specs.ScenarioValues.{IsInRange};
+ghost use Rattle.sessions.specs.Endings.{IsAnswerTo, IsEnding};
+ghost use Rattle.sessions.specs.Feeding.{Refuses, Takes, UnlessMemory};
+ghost use Rattle.sessions.specs.Modes.{needs_own, reports};
+ghost use Rattle.sessions.specs.Refusals.{IsStopped};
+ghost use Rattle.sessions.specs.Standing.{IsInUse, StandsFor, mode_of, scenario_of, taken_of};
+ghost use Rattle.streamed_lines.specs.Pieces.{IsPiece};
+
+use crate::audit::end_audit;
+use crate::drill::end_drill;
+use crate::ending::Ending;
+use crate::plan::end_plan;
+use crate::points::end_points;
+use crate::session_fault::SessionFault;
+use crate::work::Work;
+use audit_report::ReportText;
+use command_line::Mode;
+use growing_log::laws::{a_part_goes_on, ended_lines_stay};
+use judged_lines::first_line_feed;
+use outside::Memory;
+use scenario::Scenario;
+use settling::laws::many_settled_stay;
+use std::alloc::Global;
+use streamed_lines::StreamedLines;
+
+/// How many bytes stand up to the first line feed, with it, or in all where there is none.
+fn piece_length(bytes: &[u8]) -> usize
+    requires { 0 < length bytes.now }
+    ensures some { 0 < result }
+    ensures within { result ≤ length bytes.now }
+    ensures piece { IsPiece (take result bytes.now) }
+{
+    match first_line_feed(bytes) {
+        Some(at) => at + 1,
+        None => bytes.len(),
+    }
+}
+
+/// The report of a mode on a log that comes in pieces. It is fed the log however it is cut, gives what is decided by the bytes so far, and
+/// at the log's end the rest.
+#[derive(Drop)]
+pub struct Session {
+    alloc: Global,
+    scenario: Scenario,
+    work: Work,
+    lines: StreamedLines,
+    /// How many bytes were fed.
+    taken: u64,
+}
+
+impl Session {
+    /// The session of a mode on a scenario, before the first byte. Own ship is needed where she is planned for. A migration reports on no log.
+    pub fn new(alloc: Global, scenario: Scenario, mode: Mode) -> Result<Session, Memory>
+        requires in_range { IsInRange scenario }
+        requires own { IsTrue (needs_own mode) → IsSome scenario.own }
+        requires reports { IsTrue (reports mode) }
+        ensures mode { IfOk result (λ session. mode_of session ≡ mode) }
+        ensures scenario { IfOk result (λ session. scenario_of session ≡ scenario) }
+        ensures stands { IfOk result (λ session. StandsFor session [] []) }
+    {
+        let work = Work::of(alloc, &scenario, mode)?;
+        let lines = StreamedLines::new(alloc, work.keeping(), &scenario);
+        Ok(Session {
+            alloc,
+            scenario,
+            work,
+            lines,
+            taken: 0,
+        })
+    }
+
+    /// How many bytes may still come.
+    pub fn room(&self) -> u64
+        requires { IsInUse self.now }
+        ensures { (fed given : List ℕ) → StandsFor self.now fed given → result ≡ (scenario_of self.now).log.max_bytes - length fed }
+    {
+        self.scenario.log.max_bytes - self.taken
+    }
+
+    /// Takes the next piece, in which no line feed stands but as its last byte, and writes what is decided by it.
+    fn take(&mut self, piece: &[u8], text: &mut ReportText) -> Result<(), SessionFault>
+        requires in_use { IsInUse self.old }
+        requires some { 0 < length piece.now }
+        requires piece { IsPiece piece.now }
+        ensures mode { mode_of self.new ≡ mode_of self.old }
+        ensures scenario { scenario_of self.new ≡ scenario_of self.old }
+        ensures count { OnOk result (taken_of self.new ≡ taken_of self.old + length piece.now) }
+        ensures taken { OnOk result ((front : List ℕ) → HasText text.old front → Takes self.old self.new piece.now front text.new) }
+        ensures refused { IfErr result (λ why. UnlessMemory why ((front : List ℕ) → HasText text.old front → Refuses self.old piece.now front text.new why)) }
+    {
+        ended_lines_stay();
+        a_part_goes_on();
+        many_settled_stay();
+        if piece.len() as u64 > self.room() {
+            return Err(SessionFault::LogBytes);
+        }
+        let judged = self.lines.take(piece)?;
+        self.taken += piece.len() as u64;
+        match judged {
+            Some(judged) => {
+                self.work
+                    .go_on(&self.scenario, self.lines.judge(), &judged, text)
+            }
+            None => Ok(()),
+        }
+    }
+
+    /// Feeds it the next bytes of a log, and writes what is decided by them behind the rows of the text. Where it is refused, what the
+    /// bytes before the refusal's place decide is written. After an `Err` the session may only be dropped, and for want of memory the
+    /// text too.
+    pub fn feed_into(&mut self, piece: &[u8], text: &mut ReportText) -> Result<(), SessionFault>
+        requires in_use { IsInUse self.old }
+        requires text { (front : List ℕ) × HasText text.old front }
+        ensures mode { mode_of self.new ≡ mode_of self.old }
+        ensures scenario { scenario_of self.new ≡ scenario_of self.old }
+        ensures in_use { OnOk result (IsInUse self.new) }
+        ensures count { OnOk result (taken_of self.new ≡ taken_of self.old + length piece.now) }
+        ensures taken { OnOk result ((front : List ℕ) → HasText text.old front → Takes self.old self.new piece.now front text.new) }
+        ensures refused { IfErr result (λ why. UnlessMemory why ((front : List ℕ) → HasText text.old front → Refuses self.old piece.now front text.new why)) }
+    {
+        let mut at = 0;
+        while at < piece.len() {
+            let rest = &piece[at..];
+            let count = piece_length(rest);
+            self.take(&rest[..count], text)?;
+            at += count;
+        }
+        Ok(())
+    }
+
+    /// Feeds it the next bytes of a log, and gives what is decided by them behind what was given before. After an `Err` the session may
+    /// only be dropped: a caller who wants what earlier lines of the piece decided feeds no more than one line feed, or calls `feed_into`.
+    pub fn feed(&mut self, piece: &[u8]) -> Result<Vec<u8>, SessionFault>
+        requires in_use { IsInUse self.old }
+        ensures mode { mode_of self.new ≡ mode_of self.old }
+        ensures scenario { scenario_of self.new ≡ scenario_of self.old }
+        ensures in_use { OnOk result (IsInUse self.new) }
+        ensures given { IfOk result (λ bytes. (fed given : List ℕ) → StandsFor self.old fed given → StandsFor self.new (fed ++ piece.now) (given ++ bytes.items)) }
+        ensures refused { IfErr result (λ why. UnlessMemory why ((fed given : List ℕ) → StandsFor self.old fed given → (decided : List ℕ)
+            × IsStopped (mode_of self.old) (scenario_of self.old) (fed ++ piece.now) why (given ++ decided))) }
+    {
+        let mut text = ReportText::new(self.alloc);
+        self.feed_into(piece, &mut text)?;
+        Ok(text.into_bytes()?)
+    }
+
+    /// Ends the log, and gives the rest of the report.
+    pub fn end(self) -> Result<Ending, SessionFault>
+        requires in_use { IsInUse self }
+        ensures report { IfOk result (λ ending. (fed given : List ℕ) → StandsFor self fed given
+            → IsEnding (mode_of self) (scenario_of self) fed (given ++ ending.bytes.items)) }
+        ensures answer { IfOk result (λ ending. (fed given : List ℕ) → StandsFor self fed given
+            → IsAnswerTo (mode_of self) (scenario_of self) fed (Ok ending.none)) }
+        ensures refused { IfErr result (λ why. UnlessMemory why ((fed given : List ℕ) → StandsFor self fed given
+            → IsAnswerTo (mode_of self) (scenario_of self) fed (Err why))) }
+    {
+        let Session {
+            alloc,
+            scenario,
+            work,
+            lines,
+            ..
+        } = self;
+        let ended = lines.end()?;
+        let judge = &ended.judge;
+        match work {
+            Work::Points => Ok(Ending::without_search(end_points(alloc, &ended)?)),
+            Work::Audit(audit) => {
+                let rest = end_audit(alloc, &scenario, audit, judge)?;
+                Ok(Ending::without_search(rest))
+            }
+            Work::Plan => end_plan(alloc, scenario, judge),
+            Work::Drill(audit) => {
+                let rest = end_drill(alloc, &scenario, audit, judge)?;
+                Ok(Ending::without_search(rest))
+            }
+        }
+    }
+}

@@ -1,0 +1,90 @@
+//! What a session does on each line that is judged.
+ghost use Rattle.std.specs.Prelude.{◌≡◌, ◌≢◌, ◌++◌, ◌∷◌, [], ℕ, List, IfErr, IfOk, IsTrue, OnOk, Err};
+ghost use Rattle.audit_report.specs.ReportTexts.{HasText};
+ghost use Rattle.judged_lines.specs.Standing.{StandsFor as JudgeStandsFor, keeping_of};
+ghost use Rattle.scenario.specs.ScenarioValues.{IsInRange};
+ghost use Rattle.sessions.specs.Inner.Working.{GoesOn, IsReadyFor, Works};
+ghost use Rattle.sessions.specs.Modes.{reports};
+ghost use Rattle.sessions.specs.Refusals.{HasManySettled};
+ghost use Rattle.sessions.specs.Standing.{IsDone, keeping_by, mode_by};
+ghost use Rattle.sessions.specs.declared.session_fault.SessionFault.TheVariants as fault;
+
+use crate::points::write_line;
+use crate::session_fault::SessionFault;
+use crate::stretches::write_stretches;
+use audit_report::ReportText;
+use command_line::Mode;
+use judged_lines::{Judge, Judged};
+use outside::Memory;
+use scenario::Scenario;
+use settling::SettledAudit;
+use std::alloc::Global;
+use tracks::Keeping;
+
+/// What a mode does, and what it keeps beside the lines.
+#[derive(Drop)]
+pub(crate) enum Work {
+    Points,
+    Audit(SettledAudit),
+    Plan,
+    Drill(SettledAudit),
+}
+
+impl Work {
+    /// The work of a mode, before the first line.
+    pub(crate) fn of(alloc: Global, scenario: &Scenario, mode: Mode) -> Result<Work, Memory>
+        requires in_range { IsInRange scenario.now }
+        requires reports { IsTrue (reports mode) }
+        ensures mode { IfOk result (λ work. mode_by work ≡ mode) }
+        ensures done { IfOk result (λ work. IsDone work scenario.now [] []) }
+    {
+        match mode {
+            Mode::Points => Ok(Work::Points),
+            Mode::Audit => Ok(Work::Audit(SettledAudit::new(alloc, scenario)?)),
+            Mode::Plan => Ok(Work::Plan),
+            Mode::Drill => Ok(Work::Drill(SettledAudit::new(alloc, scenario)?)),
+            Mode::Migrate => unreachable!(),
+        }
+    }
+
+    /// How much it needs kept of each vessel.
+    pub(crate) fn keeping(&self) -> Keeping
+        ensures { result ≡ keeping_by self.now }
+    {
+        match self {
+            Work::Points => Keeping::Latest,
+            Work::Audit(_) | Work::Plan | Work::Drill(_) => Keeping::Tracks,
+        }
+    }
+
+    /// Does the work on a line that the judge has taken, and writes what is decided by it.
+    pub(crate) fn go_on(
+        &mut self,
+        scenario: &Scenario,
+        judge: &Judge,
+        judged: &Judged,
+        text: &mut ReportText,
+    ) -> Result<(), SessionFault>
+        requires in_range { IsInRange scenario.now }
+        requires keeping { keeping_of judge.now ≡ keeping_by self.old }
+        requires ready { IsReadyFor self.old scenario.now judge.now }
+        ensures mode { mode_by self.new ≡ mode_by self.old }
+        ensures keeping { keeping_by self.new ≡ keeping_by self.old }
+        ensures goes_on { OnOk result ((front : List ℕ) → HasText text.old front → GoesOn self.old self.new scenario.now judge.now judged.now front text.new) }
+        ensures few { OnOk result ((lines more : List (List ℕ)) → Works self.old scenario.now judge.now lines more
+            → HasManySettled (mode_by self.old) scenario.now (lines ++ more) → ⊥) }
+        ensures many { result ≡ Err fault.Pairs → (lines more : List (List ℕ)) → Works self.old scenario.now judge.now lines more
+            → HasManySettled (mode_by self.old) scenario.now (lines ++ more) }
+        ensures unwritten { result ≡ Err fault.Pairs → text.new ≡ text.old }
+        ensures alone { IfErr result (λ why. why ≢ fault.Pairs → why ≡ fault.Memory) }
+    {
+        match self {
+            Work::Points => Ok(write_line(text, judged)?),
+            Work::Audit(audit) => {
+                let rows = audit.settle(scenario, judge)?;
+                Ok(write_stretches(text, &scenario.rules, rows.as_slice())?)
+            }
+            Work::Plan | Work::Drill(_) => Ok(()),
+        }
+    }
+}
