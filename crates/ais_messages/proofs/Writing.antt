@@ -1,11 +1,11 @@
 -- The fields of bits that are written field by field.
-use Rattle.std.proofs.Common.{◌≡◌, ℕ, zero, suc, ◌+◌, ◌-◌, ◌%◌, ◌^◌, ◌≤◌, ◌<◌, ◌==◌, ◌⊎◌, inl, inr, Bool, true, false, nat_lt, nat_le, List, [], ◌∷◌, ◌++◌, append-nil, length, take, drop, flat_map, Option, Some, None, IfSome, unwrap_or, ℤ, pos, negsuc, unsigned_abs, refl, ap, sym, subst, ◌∙◌, arith, ◌&&◌, length-append, Result, Ok, Err, IfOk, get_or, slice_get, if◌then◌else◌}
+use Rattle.std.proofs.Common.{◌≡◌, ℕ, zero, suc, ◌+◌, ◌-◌, ◌^◌, ◌≤◌, ◌<◌, Bool, true, false, nat_lt, nat_le, List, [], ◌∷◌, ◌++◌, append-nil, length, take, drop, Option, Some, None, IfSome, unwrap_or, ℤ, pos, negsuc, unsigned_abs, refl, ap, sym, ◌∙◌, arith, ◌&&◌, length-append, Result, Ok, Err, IfOk, get_or, slice_get}
 use Rattle.std.proofs.Math.Nat.{mod-eq_of_lt, one-le-pow}
 use Rattle.std.proofs.Math.Pow.{pow_mono}
 use Rattle.std.proofs.lemmas.Grind.{flat_map-append}
 use Rattle.std.proofs.lemmas.Int.{ints}
 use Rattle.std.proofs.lemmas.Bool.Decides.{nat_tests}
-use Rattle.aivdm.specs.BitFields.{binary, complement, number_of, signed_at, unsigned_at}
+use Rattle.aivdm.specs.BitFields.{binary, complement, number_of, unsigned_at}
 use Rattle.aivdm.proofs.BitLists.{length-binary, number_of-binary}
 use Rattle.ais_messages.specs.MessageFields.{below, place_of}
 use Rattle.ais_messages.specs.PositionWriting.{AllFit, Fits, IfPlace, Written, bits_written, code_of, latitude_code, longitude_code}

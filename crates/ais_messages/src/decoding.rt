@@ -184,6 +184,7 @@ fn message(bits: &BitSlice<'_>, layout: Layout) -> Message
 }
 
 /// The fields of messages 1, 2 and 3.
+#[inline(always)]
 #[tactic(auto, unfolding(crate::specs::MessageFields::class_a_of))]
 fn class_a(bits: &BitSlice<'_>) -> PositionReport
     requires long { 168 ≤ length bits.now }

@@ -1,15 +1,12 @@
 //! What a message says.
 use crate::text::Text20;
 
-/// A vessel's report of her position and motion (ITU-R M.1371-5, annex 8, messages 1 to 3, 18, 19 and 27).
+/// A vessel's report of her position and motion (ITU-R M.1371-5, annex 8, messages 1 to 3, 18, 19 and 27). The fields of one byte stand
+/// together, so that no room is lost between them: a log has many reports.
 #[derive(Clone, Copy, Debug, PartialEq, Eq)]
 pub struct PositionReport {
-    /// The type of the message: 1, 2, 3, 18, 19 or 27.
-    pub kind: u8,
     /// The Maritime Mobile Service Identity, 200000000 to 799999999 for a ship.
     pub mmsi: u32,
-    /// The navigational status, 0 to 15; 15 where the type has none.
-    pub status: u8,
     /// Latitude, at most 54000000 in size, and longitude, at most 108000000, in 1/10000 minute, north and east positive.
     pub place: Option<(i32, i32)>,
     /// Speed over ground in 1/10 knot, at most 1022, which stands for 102.2 knots or more.
@@ -18,6 +15,10 @@ pub struct PositionReport {
     pub cog: Option<u16>,
     /// True heading in whole degrees, below 360.
     pub heading: Option<u16>,
+    /// The type of the message: 1, 2, 3, 18, 19 or 27.
+    pub kind: u8,
+    /// The navigational status, 0 to 15; 15 where the type has none.
+    pub status: u8,
     /// The UTC second of the report, and from 60 on why there is none; below 64.
     pub second: u8,
 }

@@ -4,6 +4,7 @@ pub mod Blocks
 pub mod Cuts
 pub mod Digits
 pub mod ForCallers
+pub mod HexadecimalDigits
 pub mod Joining
 pub mod Masks
 pub mod OneReading

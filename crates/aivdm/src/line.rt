@@ -20,6 +20,7 @@ const LONGEST_LINE: usize = 1024;
 ///
 /// A line that is no such sentence is dropped for the first cause that applies, in the order of [`LineCause`]. It keeps
 /// the stamp of its tag block, unless it is dropped as empty, as too long, or for the tag block itself.
+#[inline(always)]
 pub fn read_line(line: &[u8]) -> Reading<'_>
     ensures one { IsReading line.now (reading_seen result) }
     ensures same { reading_seen result ≡ reading_of line.now }

@@ -17,19 +17,25 @@ use std::marker::Model;
 pub struct Reference {
     latitude: i32,
     longitude: i32,
+    /// The cosine of the latitude, in millionths. Each point asks for it.
+    cosine: i64,
 }
 
 impl Model for Reference {
+    ghost use Rattle.std.specs.Prelude.{◌≡◌, ◌≤◌, unsigned_abs};
+    ghost use Rattle.fixed_geometry.specs.Compass.{cosine_of};
     ghost use Rattle.fixed_geometry.specs.Place.{Place};
+    ghost use Rattle.fixed_geometry.specs.Projection.{tenths_of};
     ghost use Rattle.fixed_geometry.specs.Inner.Places.{IsPlaceWithin};
 
     ghost Value = { Place };
 
     ghost view = { λ r. record { latitude = r.latitude; longitude = r.longitude } };
 
-    ghost invariant = { λ r. IsPlaceWithin 45000000 108000000 (record { latitude = r.latitude; longitude = r.longitude }) };
+    ghost invariant = { λ r. IsPlaceWithin 45000000 108000000 (record { latitude = r.latitude; longitude = r.longitude })
+        × (r.cosine ≡ cosine_of (tenths_of r.latitude)) × (unsigned_abs r.cosine ≤ 1000000) };
 
-    ghost inverse = { λ p. record { latitude = p.latitude; longitude = p.longitude } };
+    ghost inverse = { λ p. record { latitude = p.latitude; longitude = p.longitude; cosine = cosine_of (tenths_of p.latitude) } };
 }
 
 impl Reference {
@@ -45,6 +51,7 @@ impl Reference {
         Some(Reference {
             latitude: lat,
             longitude: lon,
+            cosine: latitude_cosine(lat),
         })
     }
 
@@ -91,10 +98,7 @@ fn east(reference: Reference, lon: i32) -> i64
     ensures { result ≡ east_of reference.latitude reference.longitude lon }
 {
     let arc = round_the_circle(difference(reference.longitude, lon), 108_000_000);
-    round_quotient(
-        scale(length(arc), latitude_cosine(reference.latitude)),
-        1_000_000,
-    )
+    round_quotient(scale(length(arc), reference.cosine), 1_000_000)
 }
 
 /// How far to the north of the reference a latitude is, as an arc.
@@ -108,6 +112,7 @@ fn north(reference: Reference, lat: i32) -> i64
 /// The point of a place, given by its latitude and its longitude in ten thousandths of a minute, at most 90 and 180 degrees in
 /// size. `None` outside the region: more than 2 degrees of latitude, or 222,240 metres to the east or to the west, from the
 /// reference.
+#[inline(always)]
 pub fn project(reference: Reference, lat: i32, lon: i32) -> Option<Point>
     requires lat { unsigned_abs lat ≤ 54000000 }
     requires lon { unsigned_abs lon ≤ 108000000 }

@@ -22,7 +22,15 @@ pub fn round_quotient(a: i64, b: u32) -> i64
     ensures { result ≡ rounded a b }
 {
     let b = i64::from(b);
-    (2 * a + b).div_euclid(2 * b)
+    let (twice, divisor) = (2 * a + b, 2 * b);
+    let quotient = twice / divisor;
+    // A test of the remainder's sign becomes no branch, and `div_euclid` one on the sign of `a`, which is guessed wrong for near to half of
+    // all reports.
+    if twice % divisor < 0 {
+        quotient - 1
+    } else {
+        quotient
+    }
 }
 
 /// How far `to` lies beyond `from`.

@@ -62,13 +62,13 @@ equal a b e =
     let c : Bool = option_eq nat_eq a.cog b.cog in
     let h : Bool = option_eq nat_eq a.heading b.heading in
     let t : Bool = a.second == b.second in
-    let (e7, et) = both_true ((((((k && m) && s) && p) && o) && c) && h) t e in
-    let (e6, eh) = both_true (((((k && m) && s) && p) && o) && c) h e7 in
-    let (e5, ec) = both_true ((((k && m) && s) && p) && o) c e6 in
-    let (e4, eo) = both_true (((k && m) && s) && p) o e5 in
-    let (e3, ep) = both_true ((k && m) && s) p e4 in
-    let (e2, es) = both_true (k && m) s e3 in
-    let (ek, em) = both_true k m e2 in
+    let (em, e6) = both_true m (p && (o && (c && (h && (k && (s && t)))))) e in
+    let (ep, e5) = both_true p (o && (c && (h && (k && (s && t))))) e6 in
+    let (eo, e4) = both_true o (c && (h && (k && (s && t)))) e5 in
+    let (ec, e3) = both_true c (h && (k && (s && t))) e4 in
+    let (eh, e2) = both_true h (k && (s && t)) e3 in
+    let (ek, e1) = both_true k (s && t) e2 in
+    let (es, et) = both_true s t e1 in
     let kind : a.kind ≡ b.kind = nat_same a.kind b.kind ek in
     let mmsi : a.mmsi ≡ b.mmsi = nat_same a.mmsi b.mmsi em in
     let status : a.status ≡ b.status = nat_same a.status b.status es in
@@ -91,15 +91,13 @@ equal a b e =
 itself : (a : PositionReport) → same_report a a ≡ true
 unfolding place_eq
 itself a =
-    both_hold _ (a.second == a.second)
-    (both_hold _ (option_eq nat_eq a.heading a.heading)
-    (both_hold _ (option_eq nat_eq a.cog a.cog)
-    (both_hold _ (option_eq nat_eq a.sog a.sog)
-    (both_hold _ (option_eq place_eq a.place a.place)
-    (both_hold _ (a.status == a.status)
-    (both_hold (a.kind == a.kind) (a.mmsi == a.mmsi) (nat_itself a.kind) (nat_itself a.mmsi)) (nat_itself a.status))
-    (option_itself place_eq place_itself a.place)) (option_itself nat_eq nat_itself a.sog)) (option_itself nat_eq nat_itself a.cog))
-    (option_itself nat_eq nat_itself a.heading)) (nat_itself a.second)
+    both_hold (a.mmsi == a.mmsi) _ (nat_itself a.mmsi)
+    (both_hold (option_eq place_eq a.place a.place) _ (option_itself place_eq place_itself a.place)
+    (both_hold (option_eq nat_eq a.sog a.sog) _ (option_itself nat_eq nat_itself a.sog)
+    (both_hold (option_eq nat_eq a.cog a.cog) _ (option_itself nat_eq nat_itself a.cog)
+    (both_hold (option_eq nat_eq a.heading a.heading) _ (option_itself nat_eq nat_itself a.heading)
+    (both_hold (a.kind == a.kind) _ (nat_itself a.kind)
+    (both_hold (a.status == a.status) (a.second == a.second) (nat_itself a.status) (nat_itself a.second)))))))
 
 pub same_from_equal : (a b : PositionReport) → a ≡ b → same_report a b ≡ true
 same_from_equal a b e = subst (λ (r : PositionReport). same_report a r ≡ true) e (itself a)

@@ -48,9 +48,9 @@ is_back latest now = nat_le now.time latest.time
 -- The reports are equal in every field.
 abbrev pub same_report : PositionReport → PositionReport → Bool
 same_report a b =
-    ((((((a.kind == b.kind && a.mmsi == b.mmsi) && a.status == b.status)
-    && option_eq (λ p q. int_eq p.0 q.0 && int_eq p.1 q.1) a.place b.place)
-    && option_eq nat_eq a.sog b.sog) && option_eq nat_eq a.cog b.cog) && option_eq nat_eq a.heading b.heading) && a.second == b.second
+    a.mmsi == b.mmsi && (option_eq (λ p q. int_eq p.0 q.0 && int_eq p.1 q.1) a.place b.place
+    && (option_eq nat_eq a.sog b.sog && (option_eq nat_eq a.cog b.cog && (option_eq nat_eq a.heading b.heading
+    && (a.kind == b.kind && (a.status == b.status && a.second == b.second))))))
 
 abbrev pub is_repeat : Accepted → Accepted → Bool
 is_repeat latest now = nat_le now.time (latest.time + 30) && same_report now.report latest.report

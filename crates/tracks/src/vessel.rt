@@ -169,6 +169,7 @@ impl Vessel {
     }
 
     /// Takes a position report of hers.
+    #[inline(always)]
     pub(crate) fn take_report(
         &mut self,
         keeping: Keeping,

@@ -1,4 +1,4 @@
-use Rattle.std.proofs.Common.{◌==◌, ◌≤◌, ◌∙◌, ap, length, subst, sym, take, unwrap_or, ℕ, Option}
+use Rattle.std.proofs.Common.{◌==◌, ◌∙◌, ap, length, take, unwrap_or}
 use Rattle.ais_messages.proofs.Texts.{position-or, position-or-le}
 use Rattle.ais_messages.proofs.text.end_of.Goals as goal
 
