@@ -1,6 +1,7 @@
 pub mod AskedScenarios
 pub mod LogAnswers
 pub mod Answers
+pub mod InertLines
 pub mod Told
 pub mod FaultLines
 pub mod Inner

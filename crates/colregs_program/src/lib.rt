@@ -6,6 +6,9 @@
 #![tactic(auto)]
 
 mod fault_line;
+#[cfg(test)]
+mod hostile_tests;
+pub mod laws;
 mod migrate;
 #[cfg(test)]
 mod plan_tests;
@@ -23,5 +26,5 @@ pub use command_line::Mode;
 pub use own_ship::Unready;
 pub use program::run;
 pub use scenario::{Cause, Key, LogNumbers, Scenario, Window};
-pub use sessions::{Ending, Session, SessionFault, laws};
+pub use sessions::{Ending, Session, SessionFault};
 pub use status::{Status, Which};

@@ -386,7 +386,7 @@ fn each_write_that_fails_leaves_the_front_before_it(rt: HostRuntime) -> Result<(
 }
 
 /// Two vessels that meet head on, each with a report at the beginning and one 400 seconds later.
-const HEAD_ON: &[u8] =
+pub(crate) const HEAD_ON: &[u8] =
     b"\\c:1700000000*5F\\!AIVDM,2,1,3,B,55P5TL01VIaAL@7WKO@mBplU@<PDhh000000001S;AJ::4A80?4i@E53,0*3E
 !AIVDM,2,2,3,B,1@0000000000000,2*55
 \\c:1700000000*5F\\!AIVDM,1,1,,A,15P5TL0P2l00001wwHt000000000,0*5C

@@ -1,0 +1,173 @@
+-- The report on a log without an inert line: the same but for one count.
+use Rattle.std.proofs.Common.{◌≡◌, ℕ, ◌+◌, ◌-◌, ◌<◌, ◌==◌, Bool, true, false, cond, List, [], ◌∷◌, ◌++◌, flat_map, count_by, Ok, refl, ap, ap₂, sym, subst, ◌∙◌, arith, append_assoc, if◌then◌else◌}
+use Rattle.std.proofs.lemmas.Bool.Decides.{nat_tests}
+use Rattle.std.proofs.lemmas.Grind.{flat_map-append}
+use Rattle.std.proofs.lemmas.List.Sums.{sum_by-append, sum_by-cons}
+use Rattle.aivdm.specs.declared.sentence.LineCause.{LineCause}
+use Rattle.auditor.specs.AuditRows.{AreAuditRows}
+use Rattle.auditor.specs.AuditTotals.{AreTotals}
+use Rattle.audit_traces.specs.Audited.{Sighting}
+use Rattle.command_line.specs.declared.mode.Mode.{Mode}
+use Rattle.command_line.specs.declared.mode.Mode.TheVariants as mode
+use Rattle.judged_lines.specs.EachLine.{each_after}
+use Rattle.judged_lines.specs.JudgedLines.{count_of, judged_line, judged_lines, numbers_of, outcome_of}
+use Rattle.judged_lines.specs.LineOutcomes.{line_outcome, place_of}
+use Rattle.judged_lines.specs.LogLines.{lines_of}
+use Rattle.judged_lines.specs.SentLines.{sent}
+use Rattle.judged_lines.specs.declared.judged.Judged.{Judged}
+use Rattle.judged_lines.specs.declared.judged.Judged.TheVariants as judged
+use Rattle.judged_lines.specs.declared.outcome.LineOutcome.{LineOutcome}
+use Rattle.own_ship.specs.PlanSituations.{own_readiness, situation_of, vessels_near}
+use Rattle.scenario.specs.declared.values.Scenario.{Scenario}
+use Rattle.sessions.specs.AuditReport.{IsAuditReport, rows_behind, sightings_of, stretch_rows, total_rows, vessel_rows}
+use Rattle.sessions.specs.DrillReport.{IsDrillReport, drill_text}
+use Rattle.sessions.specs.Endings.{IsEnding}
+use Rattle.sessions.specs.OutcomeRows.{count_rows}
+use Rattle.sessions.specs.PlanReport.{IsManoeuvre, IsOwn, IsPlanReport, manoeuvre_rows, messages_of, near_rows, plan_text}
+use Rattle.sessions.specs.PointsReport.{point_rows, report_of, rows_of_line}
+use Rattle.settling.specs.Sightings.{audit_numbers, sighted}
+use Rattle.tracks.specs.VesselsHeld.{Sent}
+use Rattle.colregs_program.specs.InertLines.{HasOneFewer, IsInert, one_fewer, rows_of_counts}
+use Rattle.colregs_program.proofs.InertLines.{judged_with, judged_without, sent_same}
+use Rattle.colregs_program.proofs.OneLine.{IsAmong}
+
+-- ---- the counts
+
+count_one : (p : Judged → Bool) (xs ys : List Judged) (y : Judged) → count_by p (xs ++ y ∷ ys) ≡ cond (p y) 1 0 + count_by p (xs ++ ys)
+count_one p xs ys y =
+    let f : Judged → ℕ = λ line. cond (p line) 1 0 in
+    omega (arith, sum_by-append f xs (y ∷ ys), sum_by-cons f y ys, sum_by-append f xs ys)
+
+fewer_by : (same : Bool) (count other : ℕ) → count ≡ cond same 1 0 + other → (if same then count - 1 else count) ≡ other
+fewer_by true count other e = omega (arith, e)
+fewer_by false count other e = omega (arith, e)
+
+place_itself : (n : ℕ) → (n == n) ≡ true
+place_itself n = grind (arith, nat_tests)
+
+module _ (came : LineOutcome) (xs ys : List Judged) where
+  fewer_at : (outcome : LineOutcome) → one_fewer came (λ o. count_of o (xs ++ judged.Without came ∷ ys)) outcome ≡ count_of outcome (xs ++ ys)
+  fewer_at outcome = fewer_by (place_of came == place_of outcome) (count_of outcome (xs ++ judged.Without came ∷ ys)) (count_of outcome (xs ++ ys))
+      (count_one (λ line. place_of (outcome_of line) == place_of outcome) xs ys (judged.Without came))
+
+  counts_fewer : one_fewer came (λ o. count_of o (xs ++ judged.Without came ∷ ys)) ≡ (λ o. count_of o (xs ++ ys))
+  counts_fewer = λ i. λ outcome. fewer_at outcome i
+
+  counts_some : 0 < count_of came (xs ++ judged.Without came ∷ ys)
+  counts_some =
+      let one = count_one (λ line. place_of (outcome_of line) == place_of came) xs ys (judged.Without came) in
+      let here : cond (place_of came == place_of came) 1 0 ≡ 1 = ap (λ (b : Bool). cond {A = ℕ} b 1 0) (place_itself (place_of came)) in
+      omega (arith, one, here)
+
+-- ---- the reports
+
+module _ (scenario : Scenario) (log less : List ℕ) (front : List (List ℕ)) (line : List ℕ) (cause : LineCause)
+    (among : IsAmong log less front line) (inert : IsInert scenario front line cause) where
+  abbrev before : List Judged
+  before = judged_lines scenario front
+
+  abbrev after : List Judged
+  after = each_after (judged_line scenario) front among.back
+
+  with_line : judged_lines scenario (lines_of log) ≡ before ++ judged.Without (line_outcome cause) ∷ after
+  with_line = ap (judged_lines scenario) among.all ∙ judged_with scenario front line cause inert among.back
+
+  without_line : judged_lines scenario (lines_of less) ≡ before ++ after
+  without_line = ap (judged_lines scenario) among.others ∙ judged_without scenario front line cause inert among.back
+
+  messages_same : sent scenario (lines_of log) ≡ sent scenario (lines_of less)
+  messages_same = ap (sent scenario) among.all ∙ sent_same scenario front line cause inert among.back ∙ ap (sent scenario) (sym among.others)
+
+  sightings_same : sightings_of scenario log ≡ sightings_of scenario less
+  unfolding sightings_of
+  sightings_same = ap (sighted scenario) messages_same
+
+  points_same : point_rows (judged_lines scenario (lines_of log)) ≡ point_rows (judged_lines scenario (lines_of less))
+  points_same = ap point_rows with_line ∙ flat_map-append rows_of_line before (judged.Without (line_outcome cause) ∷ after)
+      ∙ sym (flat_map-append rows_of_line before after) ∙ ap point_rows (sym without_line)
+
+  -- Rows that are the same, and the counts behind them.
+  one_count : (rows text other : List ℕ) → text ≡ rows ++ count_rows (judged_lines scenario (lines_of log))
+      → other ≡ rows ++ count_rows (judged_lines scenario (lines_of less)) → HasOneFewer (line_outcome cause) text other
+  one_count rows text other is is_other = record {
+    rows = rows;
+    count = λ o. count_of o (before ++ judged.Without (line_outcome cause) ∷ after);
+    some = counts_some (line_outcome cause) before after;
+    is = is ∙ ap (λ lines. rows ++ count_rows lines) with_line;
+    is_other = is_other ∙ ap (λ lines. rows ++ count_rows lines) without_line
+        ∙ ap (λ count. rows ++ rows_of_counts count) (sym (counts_fewer (line_outcome cause) before after));
+  }
+
+  of_points : (text : List ℕ) → text ≡ report_of scenario log → (other : List ℕ) × (other ≡ report_of scenario less) × HasOneFewer (line_outcome cause) text other
+  unfolding report_of
+  of_points text is = (report_of scenario less, refl, one_count (point_rows (judged_lines scenario (lines_of less))) text (report_of scenario less)
+      (is ∙ ap (λ rows. rows ++ count_rows (judged_lines scenario (lines_of log))) points_same) refl)
+
+  of_audit : (text : List ℕ) → IsAuditReport scenario log text
+      → (other : List ℕ) × IsAuditReport scenario less other × HasOneFewer (line_outcome cause) text other
+  unfolding rows_behind
+  of_audit text report =
+      let stretches = stretch_rows scenario.rules report.rows in
+      let told : List Sent → List ℕ = λ messages. vessel_rows (numbers_of scenario) messages ++ total_rows scenario.rules report.totals in
+      let other = stretches ++ rows_behind scenario less report.totals in (
+        other,
+        record {
+          rows = report.rows;
+          totals = report.totals;
+          are_rows = subst (λ (sightings : List Sighting). AreAuditRows (audit_numbers scenario) sightings report.rows) sightings_same report.are_rows;
+          are_totals = subst (λ (sightings : List Sighting). AreTotals (audit_numbers scenario) sightings report.rows report.totals) sightings_same report.are_totals;
+          is = refl;
+        },
+        one_count (stretches ++ told (sent scenario (lines_of less))) text other
+            (report.is ∙ ap (λ messages. stretches ++ (told messages ++ count_rows (judged_lines scenario (lines_of log)))) messages_same
+            ∙ sym (append_assoc stretches (told (sent scenario (lines_of less))) (count_rows (judged_lines scenario (lines_of log)))))
+            (sym (append_assoc stretches (told (sent scenario (lines_of less))) (count_rows (judged_lines scenario (lines_of less))))),
+      )
+
+  of_drill : (text : List ℕ) → IsDrillReport scenario log text
+      → (other : List ℕ) × IsDrillReport scenario less other × HasOneFewer (line_outcome cause) text other
+  unfolding drill_text
+  of_drill text report = (
+    drill_text scenario less report.totals,
+    record {
+      rows = report.rows;
+      totals = report.totals;
+      are_rows = subst (λ (sightings : List Sighting). AreAuditRows (audit_numbers scenario) sightings report.rows) sightings_same report.are_rows;
+      are_totals = subst (λ (sightings : List Sighting). AreTotals (audit_numbers scenario) sightings report.rows report.totals) sightings_same report.are_totals;
+      is = refl;
+    },
+    one_count (total_rows scenario.rules report.totals) text (drill_text scenario less report.totals) report.is refl,
+  )
+
+  of_plan : (text : List ℕ) → IsPlanReport scenario log text
+      → (other : List ℕ) × IsPlanReport scenario less other × HasOneFewer (line_outcome cause) text other
+  unfolding plan_text
+  of_plan text report =
+      let own = report.own in
+      let ready = report.ready in
+      let numbers = numbers_of scenario in
+      let rows : List Sent → List ℕ = λ messages. near_rows numbers messages (vessels_near numbers messages scenario own ready)
+          ++ manoeuvre_rows scenario.window.ticks own.lattice ready report.manoeuvre in (
+        plan_text scenario less own ready report.manoeuvre,
+        record {
+          own = own;
+          ready = ready;
+          is_own = record {
+            needed = report.is_own.needed;
+            is_ready = subst (λ (messages : List Sent). own_readiness numbers messages scenario own ≡ Ok ready) messages_same report.is_own.is_ready;
+          };
+          manoeuvre = report.manoeuvre;
+          is_first = subst (λ (messages : List Sent). IsManoeuvre (situation_of numbers messages scenario own ready) report.manoeuvre) messages_same report.is_first;
+          is = refl;
+        },
+        one_count (rows (messages_of scenario less)) text (plan_text scenario less own ready report.manoeuvre)
+            (report.is ∙ ap (λ messages. rows messages ++ count_rows (judged_lines scenario (lines_of log))) messages_same) refl,
+      )
+
+  pub of_mode : (m : Mode) (text : List ℕ) → IsEnding m scenario log text
+      → (other : List ℕ) × IsEnding m scenario less other × HasOneFewer (line_outcome cause) text other
+  of_mode mode.Points text report = of_points text report
+  of_mode mode.Audit text report = of_audit text report
+  of_mode mode.Plan text report = of_plan text report
+  of_mode mode.Drill text report = of_drill text report
+  of_mode mode.Migrate text report = absurd report

@@ -1,0 +1,11 @@
+use Rattle.std.proofs.Common.{◌++◌}
+use Rattle.growing_log.specs.GrowingLog.{ended_lines}
+use Rattle.judged_lines.specs.LogLines.{without_carriage_return}
+use Rattle.colregs_program.proofs.InertReports.{of_mode}
+use Rattle.colregs_program.proofs.OneLine.{is_among}
+use Rattle.colregs_program.proofs.laws.inert_lines.Goals as goal
+
+pub returns : goal.returns
+returns c = λ mode scenario before part ending after text cause line inert report.
+    of_mode scenario (((before ++ part) ++ ending) ++ after) (before ++ after) (ended_lines before) (without_carriage_return part) cause
+    (is_among before part ending after line) inert mode text report

@@ -1,0 +1,41 @@
+-- A line that is dropped for what it is and has no stamp, and what the report on a log without it is.
+use Rattle.std.specs.Prelude.{ℕ, ◌≡◌, ◌<◌, ◌==◌, ◌-◌, ◌⊎◌, false, None, flat_map, List, [], ◌∷◌, ◌++◌, length, if◌then◌else◌}
+use Rattle.std.specs.List.{All}
+use Rattle.aivdm.specs.declared.sentence.LineCause.{LineCause}
+use Rattle.audit_report.specs.CsvRows.{row_of}
+use Rattle.audit_report.specs.ReportRows.{count_fields}
+use Rattle.growing_log.specs.GrowingLog.{open_part}
+use Rattle.judged_lines.specs.JudgedLines.{judged_line, outcome_of}
+use Rattle.judged_lines.specs.LineOutcomes.{all_outcomes, line_outcome, place_of}
+use Rattle.judged_lines.specs.LineTimes.{stamp_of}
+use Rattle.judged_lines.specs.LogLines.{is_line_feed}
+use Rattle.judged_lines.specs.declared.outcome.LineOutcome.{LineOutcome}
+use Rattle.scenario.specs.declared.values.Scenario.{Scenario}
+
+-- The bytes of one line stand between others of a log, with the line feed that ends them, or none at the end of the log.
+pub record IsOneLine (before part ending after : List ℕ) : Type 0 where
+  pub begins : open_part before ≡ []
+  pub is_one : All (λ byte. is_line_feed byte ≡ false) part
+  pub ends : (ending ≡ 10 ∷ []) ⊎ ((ending ≡ []) × (after ≡ []) × (0 < length part))
+
+-- A line has no stamp, and comes to the outcome of one of the causes for which it is dropped for what it is: `empty`, `long`, `tag`,
+-- `other`, `form`, `sum` or `armour`.
+pub record IsInert (scenario : Scenario) (before : List (List ℕ)) (line : List ℕ) (cause : LineCause) : Type 0 where
+  pub unstamped : stamp_of line ≡ None
+  pub dropped : outcome_of (judged_line scenario before line) ≡ line_outcome cause
+
+-- so many lines came to each outcome, as rows that end a report
+abbrev pub rows_of_counts : (LineOutcome → ℕ) → List ℕ
+rows_of_counts count = flat_map (λ outcome. row_of (count_fields outcome (count outcome))) all_outcomes
+
+-- the same counts, but for that of one outcome, which is smaller by one
+abbrev pub one_fewer : LineOutcome → (LineOutcome → ℕ) → LineOutcome → ℕ
+one_fewer fewer count outcome = if place_of fewer == place_of outcome then count outcome - 1 else count outcome
+
+-- The second text is the first but for the count of an outcome, which is smaller by one.
+pub record HasOneFewer (outcome : LineOutcome) (text other : List ℕ) : Type 0 where
+  pub rows : List ℕ
+  pub count : LineOutcome → ℕ
+  pub some : 0 < count outcome
+  pub is : text ≡ rows ++ rows_of_counts count
+  pub is_other : other ≡ rows ++ rows_of_counts (one_fewer outcome count)
