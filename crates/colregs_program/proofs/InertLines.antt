@@ -1,9 +1,7 @@
 -- A line that is dropped for what it is and has no stamp changes nothing of what the other lines come to.
-use Rattle.std.proofs.Common.{◌≡◌, ℕ, zero, suc, ◌+◌, ◌-◌, ◌<◌, ◌==◌, Bool, true, false, cond, List, [], ◌∷◌, ◌++◌, length, flat_map, count_by, filter, Option, Some, None, Result, Ok, Err, unwrap_or, if◌then◌else◌, refl, ap, ap₂, sym, ◌∙◌, arith, append_assoc, append-nil}
+use Rattle.std.proofs.Common.{◌≡◌, ℕ, Bool, true, false, List, [], ◌∷◌, ◌++◌, filter, Option, Some, None, Result, Ok, Err, unwrap_or, if◌then◌else◌, refl, ap, ap₂, sym, ◌∙◌, append_assoc, append-nil}
 use Rattle.std.specs.List.{filter_map, cons_option, last_or}
-use Rattle.std.proofs.lemmas.Grind.{flat_map-append}
 use Rattle.std.proofs.lemmas.List.Elements.{filter_map-append}
-use Rattle.std.proofs.lemmas.List.Sums.{sum_by-append, sum_by-cons}
 use Rattle.aivdm.specs.FragmentJoining.{Taken, joined_of}
 use Rattle.aivdm.specs.ReadingOf.{reading_of}
 use Rattle.aivdm.specs.Sentences.{SentenceFields}
@@ -26,11 +24,10 @@ use Rattle.tracks.specs.declared.entry.ReportCause.{ReportCause}
 use Rattle.tracks.specs.declared.entry.ReportCause.TheVariants as report_cause
 use Rattle.scenario.specs.declared.values.Scenario.{Scenario}
 use Rattle.judged_lines.specs.EachLine.{each_after, each_line, value_in}
-use Rattle.judged_lines.specs.JudgedLines.{accepted_at, count_of, judged_entry, judged_line, judged_lines, judged_sent, numbers_of, outcome_of}
-use Rattle.judged_lines.specs.LineOutcomes.{line_outcome, message_outcome, place_of, report_outcome}
+use Rattle.judged_lines.specs.JudgedLines.{accepted_at, judged_entry, judged_line, judged_lines, judged_sent, numbers_of, outcome_of}
+use Rattle.judged_lines.specs.LineOutcomes.{line_outcome, message_outcome, report_outcome}
 use Rattle.judged_lines.specs.LineTimes.{clock_of, greatest, is_in_window, is_late, stamp_of, stamps_of, time_of}
-use Rattle.judged_lines.specs.SentLines.{heard, heard_in, heard_of, heard_unless, sent, sent_decoded, sent_heard, sent_joined, sent_of, untimely}
-use Rattle.judged_lines.specs.declared.judged.Judged.{Judged}
+use Rattle.judged_lines.specs.SentLines.{heard, heard_in, heard_of, heard_unless, sent, sent_decoded, sent_heard, sent_joined, sent_of}
 use Rattle.judged_lines.specs.declared.judged.Judged.TheVariants as judged
 use Rattle.judged_lines.specs.declared.outcome.LineOutcome.{LineOutcome}
 use Rattle.judged_lines.specs.declared.outcome.LineOutcome.TheVariants as outcome
@@ -93,7 +90,7 @@ none_of_joined numbers before time joined.Orphan = refl
 
 none_of_timed : (numbers : Numbers) (before : List Sent) (taken : List Taken) (time : ℕ) (sentence : SentenceFields) (inside late : Bool)
     → cause_of (outcome_of (judged_sent numbers before (sent_heard taken (heard_unless
-      (if inside then (if late then Some outcome.Late else None) else Some outcome.Outside) time sentence)))) ≡ None
+    (if inside then (if late then Some outcome.Late else None) else Some outcome.Outside) time sentence)))) ≡ None
 none_of_timed numbers before taken time sentence true true = refl
 none_of_timed numbers before taken time sentence true false =
     none_of_joined numbers before time (joined_of taken (record { sentence = sentence; time = time }))

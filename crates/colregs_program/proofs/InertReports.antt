@@ -1,5 +1,5 @@
 -- The report on a log without an inert line: the same but for one count.
-use Rattle.std.proofs.Common.{◌≡◌, ℕ, ◌+◌, ◌-◌, ◌<◌, ◌==◌, Bool, true, false, cond, List, [], ◌∷◌, ◌++◌, flat_map, count_by, Ok, refl, ap, ap₂, sym, subst, ◌∙◌, arith, append_assoc, if◌then◌else◌}
+use Rattle.std.proofs.Common.{◌≡◌, ℕ, ◌+◌, ◌-◌, ◌<◌, ◌==◌, Bool, true, false, cond, List, ◌∷◌, ◌++◌, count_by, Ok, refl, ap, sym, subst, ◌∙◌, arith, append_assoc, if◌then◌else◌}
 use Rattle.std.proofs.lemmas.Bool.Decides.{nat_tests}
 use Rattle.std.proofs.lemmas.Grind.{flat_map-append}
 use Rattle.std.proofs.lemmas.List.Sums.{sum_by-append, sum_by-cons}
@@ -23,7 +23,7 @@ use Rattle.sessions.specs.AuditReport.{IsAuditReport, rows_behind, sightings_of,
 use Rattle.sessions.specs.DrillReport.{IsDrillReport, drill_text}
 use Rattle.sessions.specs.Endings.{IsEnding}
 use Rattle.sessions.specs.OutcomeRows.{count_rows}
-use Rattle.sessions.specs.PlanReport.{IsManoeuvre, IsOwn, IsPlanReport, manoeuvre_rows, messages_of, near_rows, plan_text}
+use Rattle.sessions.specs.PlanReport.{IsManoeuvre, IsPlanReport, manoeuvre_rows, messages_of, near_rows, plan_text}
 use Rattle.sessions.specs.PointsReport.{point_rows, report_of, rows_of_line}
 use Rattle.settling.specs.Sightings.{audit_numbers, sighted}
 use Rattle.tracks.specs.VesselsHeld.{Sent}
@@ -100,8 +100,12 @@ module _ (scenario : Scenario) (log less : List ℕ) (front : List (List ℕ)) (
 
   of_points : (text : List ℕ) → text ≡ report_of scenario log → (other : List ℕ) × (other ≡ report_of scenario less) × HasOneFewer (line_outcome cause) text other
   unfolding report_of
-  of_points text is = (report_of scenario less, refl, one_count (point_rows (judged_lines scenario (lines_of less))) text (report_of scenario less)
-      (is ∙ ap (λ rows. rows ++ count_rows (judged_lines scenario (lines_of log))) points_same) refl)
+  of_points text is = (
+    report_of scenario less,
+    refl,
+    one_count (point_rows (judged_lines scenario (lines_of less))) text (report_of scenario less)
+        (is ∙ ap (λ rows. rows ++ count_rows (judged_lines scenario (lines_of log))) points_same) refl,
+  )
 
   of_audit : (text : List ℕ) → IsAuditReport scenario log text
       → (other : List ℕ) × IsAuditReport scenario less other × HasOneFewer (line_outcome cause) text other
@@ -147,7 +151,7 @@ module _ (scenario : Scenario) (log less : List ℕ) (front : List (List ℕ)) (
       let ready = report.ready in
       let numbers = numbers_of scenario in
       let rows : List Sent → List ℕ = λ messages. near_rows numbers messages (vessels_near numbers messages scenario own ready)
-          ++ manoeuvre_rows scenario.window.ticks own.lattice ready report.manoeuvre in (
+      ++ manoeuvre_rows scenario.window.ticks own.lattice ready report.manoeuvre in (
         plan_text scenario less own ready report.manoeuvre,
         record {
           own = own;

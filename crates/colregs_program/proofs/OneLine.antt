@@ -1,5 +1,5 @@
 -- A line is taken out of a log: the lines before it and those after it stay.
-use Rattle.std.proofs.Common.{◌≡◌, ℕ, zero, suc, ◌+◌, ◌<◌, ◌⊎◌, inl, inr, Bool, true, false, List, [], ◌∷◌, ◌++◌, length, map, refl, ap, ap₂, sym, ◌∙◌, arith, append_assoc, append-nil}
+use Rattle.std.proofs.Common.{◌≡◌, ℕ, ◌<◌, ◌⊎◌, inl, inr, Bool, true, false, List, [], ◌∷◌, ◌++◌, length, map, refl, ap, ap₂, sym, ◌∙◌, arith, append_assoc, append-nil}
 use Rattle.std.specs.List.{All, onto_first, slice_split}
 use Rattle.std.proofs.lemmas.List.{map-append}
 use Rattle.std.proofs.lemmas.List.Splits.{length-slice_split, slice_split-cons_no, slice_split-cons_yes}
@@ -51,8 +51,10 @@ split_behind (byte ∷ log) more = go (is_line_feed byte) refl (split_behind log
   where
     parts : List (List ℕ)
     parts = slice_split is_line_feed log
+
     later : List (List ℕ)
     later = slice_split is_line_feed more
+
     go : (b : Bool) → is_line_feed byte ≡ b → slice_split is_line_feed (log ++ more) ≡ ended_among parts ++ behind_part (last_part parts) later
         → slice_split is_line_feed (byte ∷ (log ++ more))
         ≡ ended_among (slice_split is_line_feed (byte ∷ log)) ++ behind_part (last_part (slice_split is_line_feed (byte ∷ log))) later
@@ -120,6 +122,7 @@ is_among before part ending after line = by_ending line.ends
   where
     log : List ℕ → List ℕ → List ℕ
     log e a = ((before ++ part) ++ e) ++ a
+
     by_ending : (ending ≡ 10 ∷ []) ⊎ ((ending ≡ []) × (after ≡ []) × (0 < length part)) → IsAmong (log ending after) (before ++ after) (ended_lines before) (without_carriage_return part)
     by_ending (inl fed) = record {
       back = lines_of after;

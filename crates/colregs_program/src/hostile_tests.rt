@@ -35,7 +35,10 @@ fn lines_that_say_nothing(rt: HostRuntime) -> Result<(), Fail> {
     log[0] = b'\n';
     log[1026] = b'\n';
     let counts = counted(rt.alloc(), log.as_slice())?;
-    assert_eq!(rt; counts.as_str(), "lines,empty,1,,,,\nlines,long,1,,,,\nlines,other,1,,,,\n");
+    assert_eq!(rt;
+        counts.as_str(),
+        "lines,empty,1,,,,\nlines,long,1,,,,\nlines,other,1,,,,\n"
+    );
     let counts = counted(rt.alloc(), b"!AIVDM\n$GPGGA,1\n")?;
     assert_eq!(rt; counts.as_str(), "lines,other,2,,,,\n");
     Ok(())
@@ -58,15 +61,9 @@ fn tag_blocks_and_fields_out_of_form(rt: HostRuntime) -> Result<(), Fail> {
 
 #[test]
 fn sums_armour_and_fill(rt: HostRuntime) -> Result<(), Fail> {
-    let counts = counted(
-        rt.alloc(),
-        b"!AIVDM,1,1,,A,0,0*00\n!AIVDM,1,1,,A,X,0*7E\n",
-    )?;
+    let counts = counted(rt.alloc(), b"!AIVDM,1,1,,A,0,0*00\n!AIVDM,1,1,,A,X,0*7E\n")?;
     assert_eq!(rt; counts.as_str(), "lines,sum,1,,,,\nlines,armour,1,,,,\n");
-    let counts = counted(
-        rt.alloc(),
-        b"!AIVDM,1,1,,A,0,0*16\n!AIVDM,1,1,,A,0,5*13\n",
-    )?;
+    let counts = counted(rt.alloc(), b"!AIVDM,1,1,,A,0,0*16\n!AIVDM,1,1,,A,0,5*13\n")?;
     assert_eq!(rt; counts.as_str(), "lines,short,2,,,,\n");
     Ok(())
 }
@@ -105,7 +102,10 @@ fn parts_that_come_again(rt: HostRuntime) -> Result<(), Fail> {
     let counts = counted(rt.alloc(), FIRST_AGAIN)?;
     assert_eq!(rt; counts.as_str(), "lines,part,2,,,,\nlines,static,1,,,,\n");
     let counts = counted(rt.alloc(), SECOND_AGAIN)?;
-    assert_eq!(rt; counts.as_str(), "lines,part,1,,,,\nlines,orphan,1,,,,\nlines,static,1,,,,\n");
+    assert_eq!(rt;
+        counts.as_str(),
+        "lines,part,1,,,,\nlines,orphan,1,,,,\nlines,static,1,,,,\n"
+    );
     Ok(())
 }
 
@@ -121,6 +121,7 @@ fn a_vessel_that_jumps_and_comes_back(rt: HostRuntime) -> Result<(), Fail> {
     assert_eq!(rt; counts.as_str(), "lines,jump,1,,,,\nlines,point,2,,,,\n");
     Ok(())
 }
+
 const SETTLED: &[u8] = b"verdict,369190000,477553000,r14a,broken,0,0
 verdict,477553000,369190000,r14a,broken,0,0
 verdict,369190000,477553000,r8d,broken,18,21
