@@ -29,44 +29,11 @@ fn counted(alloc: Global, log: &[u8]) -> Result<String, Fail> {
     Ok(counts)
 }
 
-#[test]
-fn lines_that_say_nothing(rt: HostRuntime) -> Result<(), Fail> {
-    let mut log = vec![in rt.alloc(); b'x'; 2051]?;
-    log[0] = b'\n';
-    log[1026] = b'\n';
-    let counts = counted(rt.alloc(), log.as_slice())?;
-    assert_eq!(rt;
-        counts.as_str(),
-        "lines,empty,1,,,,\nlines,long,1,,,,\nlines,other,1,,,,\n"
-    );
-    let counts = counted(rt.alloc(), b"!AIVDM\n$GPGGA,1\n")?;
-    assert_eq!(rt; counts.as_str(), "lines,other,2,,,,\n");
-    Ok(())
-}
-
 const TAGS: &[u8] =
     b"\\c:1700000000*5E\\!AIVDM,1,1,,A,15P5TL0P2l00001wwHt000000000,0*5C\n\\c:1700000000*5F\n";
 
 const FIELDS: &[u8] =
     b"!AIVDM,1,2,,A,0,0*00\n!AIVDM,1,1,,A,,0*00\n!AIVDM,1,1,,A,0,6*00\n!AIVDM,1,1,,A,0,0*7\n";
-
-#[test]
-fn tag_blocks_and_fields_out_of_form(rt: HostRuntime) -> Result<(), Fail> {
-    let counts = counted(rt.alloc(), TAGS)?;
-    assert_eq!(rt; counts.as_str(), "lines,tag,2,,,,\n");
-    let counts = counted(rt.alloc(), FIELDS)?;
-    assert_eq!(rt; counts.as_str(), "lines,form,4,,,,\n");
-    Ok(())
-}
-
-#[test]
-fn sums_armour_and_fill(rt: HostRuntime) -> Result<(), Fail> {
-    let counts = counted(rt.alloc(), b"!AIVDM,1,1,,A,0,0*00\n!AIVDM,1,1,,A,X,0*7E\n")?;
-    assert_eq!(rt; counts.as_str(), "lines,sum,1,,,,\nlines,armour,1,,,,\n");
-    let counts = counted(rt.alloc(), b"!AIVDM,1,1,,A,0,0*16\n!AIVDM,1,1,,A,0,5*13\n")?;
-    assert_eq!(rt; counts.as_str(), "lines,short,2,,,,\n");
-    Ok(())
-}
 
 const SUFFIX: &[u8] = b"!AIVDM,1,1,,A,15P5TL0P2l00001wwHt000000000,0*5c,1700000000\n";
 
@@ -75,15 +42,6 @@ const STAMPS: &[u8] = b"\\c:9999999999*59\\!AIVDM,1,1,,A,15P5TL0P2l00001wwHt0000
 !AIVDM,1,1,,A,15P5TL0P2l00001wwHt000000000,0*5C
 \\c:1700000000*5F\\!AIVDM,1,1,,A,15P5TL0P2l00001wwHt000000000,0*5C
 ";
-
-#[test]
-fn a_sum_in_small_letters_and_stamps_out_of_the_window(rt: HostRuntime) -> Result<(), Fail> {
-    let counts = counted(rt.alloc(), SUFFIX)?;
-    assert_eq!(rt; counts.as_str(), "lines,point,1,,,,\n");
-    let counts = counted(rt.alloc(), STAMPS)?;
-    assert_eq!(rt; counts.as_str(), "lines,outside,2,,,,\nlines,point,1,,,,\n");
-    Ok(())
-}
 
 const FIRST_AGAIN: &[u8] =
     b"!AIVDM,2,1,3,B,55P5TL01VIaAL@7WKO@mBplU@<PDhh000000001S;AJ::4A80?4i@E53,0*3E
@@ -97,28 +55,50 @@ const SECOND_AGAIN: &[u8] =
 !AIVDM,2,2,3,B,1@0000000000000,2*55
 ";
 
-#[test]
-fn parts_that_come_again(rt: HostRuntime) -> Result<(), Fail> {
-    let counts = counted(rt.alloc(), FIRST_AGAIN)?;
-    assert_eq!(rt; counts.as_str(), "lines,part,2,,,,\nlines,static,1,,,,\n");
-    let counts = counted(rt.alloc(), SECOND_AGAIN)?;
-    assert_eq!(rt;
-        counts.as_str(),
-        "lines,part,1,,,,\nlines,orphan,1,,,,\nlines,static,1,,,,\n"
-    );
-    Ok(())
-}
-
 // A minute of latitude lies between the first two.
 const JUMPS: &[u8] = b"\\c:1700000000*5F\\!AIVDM,1,1,,A,15P5TL0P2l00001wwHt000000000,0*5C
 \\c:1700000010*5E\\!AIVDM,1,1,,A,15P5TL0P2l0000000W4000000000,0*02
 \\c:1700000040*5B\\!AIVDM,1,1,,A,15P5TL0P2l00001wwHt000000000,0*5C
 ";
 
+/// Logs, each with the rows of the counts that are not 0.
+const TABLE: [(&[u8], &str); 11] = [
+    (b"\n", "lines,empty,1,,,,\n"),
+    (b"!AIVDM\n$GPGGA,1\n", "lines,other,2,,,,\n"),
+    (TAGS, "lines,tag,2,,,,\n"),
+    (FIELDS, "lines,form,4,,,,\n"),
+    (
+        b"!AIVDM,1,1,,A,0,0*00\n!AIVDM,1,1,,A,X,0*7E\n",
+        "lines,sum,1,,,,\nlines,armour,1,,,,\n",
+    ),
+    (
+        b"!AIVDM,1,1,,A,0,0*16\n!AIVDM,1,1,,A,0,5*13\n",
+        "lines,short,2,,,,\n",
+    ),
+    (SUFFIX, "lines,point,1,,,,\n"),
+    (STAMPS, "lines,outside,2,,,,\nlines,point,1,,,,\n"),
+    (FIRST_AGAIN, "lines,part,2,,,,\nlines,static,1,,,,\n"),
+    (
+        SECOND_AGAIN,
+        "lines,part,1,,,,\nlines,orphan,1,,,,\nlines,static,1,,,,\n",
+    ),
+    (JUMPS, "lines,jump,1,,,,\nlines,point,2,,,,\n"),
+];
+
 #[test]
-fn a_vessel_that_jumps_and_comes_back(rt: HostRuntime) -> Result<(), Fail> {
-    let counts = counted(rt.alloc(), JUMPS)?;
-    assert_eq!(rt; counts.as_str(), "lines,jump,1,,,,\nlines,point,2,,,,\n");
+fn each_hostile_line_comes_to_its_outcome(rt: HostRuntime) -> Result<(), Fail> {
+    for (log, counts) in TABLE {
+        assert_eq!(rt; counted(rt.alloc(), log)?.as_str(), counts);
+    }
+    Ok(())
+}
+
+#[test]
+fn lines_of_the_greatest_length_and_of_a_byte_more(rt: HostRuntime) -> Result<(), Fail> {
+    let mut log = vec![in rt.alloc(); b'x'; 2050]?;
+    log[1025] = b'\n';
+    let counts = counted(rt.alloc(), log.as_slice())?;
+    assert_eq!(rt; counts.as_str(), "lines,long,1,,,,\nlines,other,1,,,,\n");
     Ok(())
 }
 
