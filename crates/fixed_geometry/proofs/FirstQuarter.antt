@@ -43,12 +43,12 @@ high_cosine k h lt = ap (λ (p : Point). p.y) (unit_of-first k lt ∙ quarter_of
 abbrev rises : List ℕ → Bool
 rises [] = true
 rises (x ∷ []) = true
-rises (x ∷ y ∷ ys) = nat_le x y && rises (y ∷ ys)
+rises (x ∷ y ∷ ys) = nat_le (suc x) y && rises (y ∷ ys)
 
 abbrev falls : List ℕ → Bool
 falls [] = true
 falls (x ∷ []) = true
-falls (x ∷ y ∷ ys) = nat_le y x && falls (y ∷ ys)
+falls (x ∷ y ∷ ys) = nat_le (suc y) x && falls (y ∷ ys)
 
 sines_rise : rises SINES ≡ true
 sines_rise = refl
@@ -56,55 +56,121 @@ sines_rise = refl
 cosines_fall : falls COSINES ≡ true
 cosines_fall = refl
 
-rises_at : (xs : List ℕ) (k : ℕ) → rises xs ≡ true → suc k < length xs → get_or xs k 0 ≤ get_or xs (suc k) 0
+rises_at : (xs : List ℕ) (k : ℕ) → rises xs ≡ true → suc k < length xs → get_or xs k 0 < get_or xs (suc k) 0
 rises_at [] k h lt = absurd (omega arith)
 rises_at (x ∷ []) k h lt = absurd (omega arith)
-rises_at (x ∷ y ∷ ys) zero h lt = leb-true x y (and_parts (nat_le x y) (rises (y ∷ ys)) h).0
-rises_at (x ∷ y ∷ ys) (suc k) h lt = rises_at (y ∷ ys) k (and_parts (nat_le x y) (rises (y ∷ ys)) h).1 (omega arith)
+rises_at (x ∷ y ∷ ys) zero h lt = let le = leb-true (suc x) y (and_parts (nat_le (suc x) y) (rises (y ∷ ys)) h).0 in omega arith
+rises_at (x ∷ y ∷ ys) (suc k) h lt = rises_at (y ∷ ys) k (and_parts (nat_le (suc x) y) (rises (y ∷ ys)) h).1 (omega arith)
 
-falls_at : (xs : List ℕ) (k : ℕ) → falls xs ≡ true → suc k < length xs → get_or xs (suc k) 0 ≤ get_or xs k 0
+falls_at : (xs : List ℕ) (k : ℕ) → falls xs ≡ true → suc k < length xs → get_or xs (suc k) 0 < get_or xs k 0
 falls_at [] k h lt = absurd (omega arith)
 falls_at (x ∷ []) k h lt = absurd (omega arith)
-falls_at (x ∷ y ∷ ys) zero h lt = leb-true y x (and_parts (nat_le y x) (falls (y ∷ ys)) h).0
-falls_at (x ∷ y ∷ ys) (suc k) h lt = falls_at (y ∷ ys) k (and_parts (nat_le y x) (falls (y ∷ ys)) h).1 (omega arith)
+falls_at (x ∷ y ∷ ys) zero h lt = let le = leb-true (suc y) x (and_parts (nat_le (suc y) x) (falls (y ∷ ys)) h).0 in omega arith
+falls_at (x ∷ y ∷ ys) (suc k) h lt = falls_at (y ∷ ys) k (and_parts (nat_le (suc y) x) (falls (y ∷ ys)) h).1 (omega arith)
+
+-- The sine of the next tenth is greater, and its cosine less.
+pub record Neighbours (k : ℕ) : Type 0 where
+  pub s : ℕ
+  pub s' : ℕ
+  pub c : ℕ
+  pub c' : ℕ
+  pub sine : sine_of k ≡ pos s
+  pub sine' : sine_of (suc k) ≡ pos s'
+  pub cosine : cosine_of k ≡ pos c
+  pub cosine' : cosine_of (suc k) ≡ pos c'
+  pub rise : s < s'
+  pub fall : c' < c
+
+low_neighbours : (k : ℕ) → k < 450 → Neighbours k
+low_neighbours k low = record {
+  s = slice_index SINES k;
+  s' = slice_index SINES (suc k);
+  c = slice_index COSINES k;
+  c' = slice_index COSINES (suc k);
+  sine = low_sine k (omega arith);
+  sine' = low_sine (suc k) (omega arith);
+  cosine = low_cosine k (omega arith);
+  cosine' = low_cosine (suc k) (omega arith);
+  rise = rises_at SINES k sines_rise (omega arith);
+  fall = falls_at COSINES k cosines_fall (omega arith);
+}
+
+middle_neighbours : Neighbours 450
+middle_neighbours = record {
+  s = slice_index SINES 450;
+  s' = slice_index COSINES 449;
+  c = slice_index COSINES 450;
+  c' = slice_index SINES 449;
+  sine = low_sine 450 (lit≤ tt);
+  sine' = high_sine 451 (lit< tt) (lit< tt);
+  cosine = low_cosine 450 (lit≤ tt);
+  cosine' = high_cosine 451 (lit< tt) (lit< tt);
+  rise = lit< tt;
+  fall = lit< tt;
+}
+
+high_neighbours : (k : ℕ) → 450 < k → suc k < 900 → Neighbours k
+high_neighbours k high lt =
+    let next : suc (900 - suc k) ≡ 900 - k = omega arith in
+    record {
+      s = slice_index COSINES (900 - k);
+      s' = slice_index COSINES (900 - suc k);
+      c = slice_index SINES (900 - k);
+      c' = slice_index SINES (900 - suc k);
+      sine = high_sine k high (omega arith);
+      sine' = high_sine (suc k) (omega arith) lt;
+      cosine = high_cosine k high (omega arith);
+      cosine' = high_cosine (suc k) (omega arith) lt;
+      rise = subst (λ (i : ℕ). get_or COSINES i 0 < get_or COSINES (900 - suc k) 0) next (falls_at COSINES (900 - suc k) cosines_fall (omega arith));
+      fall = subst (λ (i : ℕ). get_or SINES (900 - suc k) 0 < get_or SINES i 0) next (rises_at SINES (900 - suc k) sines_rise (omega arith));
+    }
+
+pub neighbours : (k : ℕ) → suc k < 900 → Neighbours k
+neighbours k lt =
+    elim (cases_lt k 450) [
+      | inl low ↦ low_neighbours k low
+      | inr past ↦ elim (eq-or-lt_of_le past) [
+        | inl middle ↦ subst Neighbours middle middle_neighbours
+        | inr high ↦ high_neighbours k high lt
+      ]
+    ]
+
+-- No sine is negative, and each cosine is greater than 0.
+pub record Sizes (k : ℕ) : Type 0 where
+  pub s : ℕ
+  pub c : ℕ
+  pub sine : sine_of k ≡ pos s
+  pub cosine : cosine_of k ≡ pos c
+  pub some : 0 < c
+
+last_sizes : Sizes 899
+last_sizes = record {
+  s = slice_index COSINES 1;
+  c = slice_index SINES 1;
+  sine = high_sine 899 (lit< tt) (lit< tt);
+  cosine = high_cosine 899 (lit< tt) (lit< tt);
+  some = lit< tt;
+}
+
+pub sizes : (k : ℕ) → k < 900 → Sizes k
+sizes k lt =
+    elim (cases_lt (suc k) 900) [
+      | inl more ↦ (let n = neighbours k more in record { s = n.s; c = n.c; sine = n.sine; cosine = n.cosine; some = let fall = n.fall in omega arith })
+      | inr last ↦ subst Sizes (omega arith) last_sizes
+    ]
 
 -- ---- A vector that has turned by an angle of the first quarter has turned by each lesser one.
 
-earlier_by_sizes : (s s' c c' n e : ℕ) → s ≤ s' → c' ≤ c → leb (s' * n) (c' * e) ≡ true → leb (s * n) (c * e) ≡ true
+earlier_by_sizes : (s s' c c' n e : ℕ) → s < s' → c' < c → leb (s' * n) (c' * e) ≡ true → leb (s * n) (c * e) ≡ true
 earlier_by_sizes s s' c c' n e rise fall h =
-    le-leb (s * n) (c * e) (omega (arith, mul-le-mul_right n rise, mul-le-mul_right e fall, leb-true (s' * n) (c' * e) h))
-
-earlier_from : (s s' c c' n e k : ℕ) → sine_of k ≡ pos s → sine_of (suc k) ≡ pos s' → cosine_of k ≡ pos c → cosine_of (suc k) ≡ pos c' → s ≤ s' → c' ≤ c
-    → has_turned (pos n) (pos e) (suc k) ≡ true → has_turned (pos n) (pos e) k ≡ true
-earlier_from s s' c c' n e k sine sine' cosine cosine' rise fall h =
-    rw (sine, cosine) (earlier_by_sizes s s' c c' n e rise fall (rw (sine', cosine') at h))
-
-earlier_low : (n e k : ℕ) → k < 450 → has_turned (pos n) (pos e) (suc k) ≡ true → has_turned (pos n) (pos e) k ≡ true
-earlier_low n e k low =
-    earlier_from _ _ _ _ n e k (low_sine k (omega arith)) (low_sine (suc k) (omega arith)) (low_cosine k (omega arith)) (low_cosine (suc k) (omega arith))
-    (rises_at SINES k sines_rise (omega arith)) (falls_at COSINES k cosines_fall (omega arith))
-
-earlier_middle : (n e : ℕ) → has_turned (pos n) (pos e) 451 ≡ true → has_turned (pos n) (pos e) 450 ≡ true
-earlier_middle n e =
-    earlier_from _ _ _ _ n e 450 (low_sine 450 (lit≤ tt)) (high_sine 451 (lit< tt) (lit< tt)) (low_cosine 450 (lit≤ tt)) (high_cosine 451 (lit< tt) (lit< tt))
-    (lit≤ tt) (lit≤ tt)
-
-earlier_high : (n e k : ℕ) → 450 < k → suc k < 900 → has_turned (pos n) (pos e) (suc k) ≡ true → has_turned (pos n) (pos e) k ≡ true
-earlier_high n e k high lt =
-    let next : suc (900 - suc k) ≡ 900 - k = omega arith in
-    earlier_from _ _ _ _ n e k (high_sine k high (omega arith)) (high_sine (suc k) (omega arith) lt) (high_cosine k high (omega arith)) (high_cosine (suc k) (omega arith) lt)
-    (subst (λ (i : ℕ). get_or COSINES i 0 ≤ get_or COSINES (900 - suc k) 0) next (falls_at COSINES (900 - suc k) cosines_fall (omega arith)))
-    (subst (λ (i : ℕ). get_or SINES (900 - suc k) 0 ≤ get_or SINES i 0) next (rises_at SINES (900 - suc k) sines_rise (omega arith)))
+    let less : s ≤ s' = omega arith in
+    let more : c' ≤ c = omega arith in
+    le-leb (s * n) (c * e) (omega (arith, mul-le-mul_right n less, mul-le-mul_right e more, leb-true (s' * n) (c' * e) h))
 
 earlier : (n e k : ℕ) → suc k < 900 → has_turned (pos n) (pos e) (suc k) ≡ true → has_turned (pos n) (pos e) k ≡ true
 earlier n e k lt h =
-    elim (cases_lt k 450) [
-      | inl low ↦ earlier_low n e k low h
-      | inr past ↦ elim (eq-or-lt_of_le past) [
-        | inl middle ↦ subst (λ (i : ℕ). has_turned (pos n) (pos e) (suc i) ≡ true → has_turned (pos n) (pos e) i ≡ true) middle (earlier_middle n e) h
-        | inr high ↦ earlier_high n e k high lt h
-      ]
-    ]
+    let near = neighbours k lt in
+    rw (near.sine, near.cosine) (earlier_by_sizes near.s near.s' near.c near.c' n e near.rise near.fall (rw (near.sine', near.cosine') at h))
 
 all_earlier : (n e j k : ℕ) → j ≤ k → k < 900 → has_turned (pos n) (pos e) k ≡ true → has_turned (pos n) (pos e) j ≡ true
 all_earlier n e j zero le lt h = subst (λ (i : ℕ). has_turned (pos n) (pos e) i ≡ true) (omega arith) h

@@ -5,3 +5,5 @@ pub mod RoundingDown
 pub mod FirstQuarter
 pub mod Greatest
 pub mod Quarters
+pub mod Turns
+pub mod Roots

@@ -3,8 +3,8 @@ use Rattle.std.proofs.Common.{◌≡◌, ℕ, ◌+◌, ◌-◌, ◌%◌, ◌<◌
 use Rattle.std.proofs.lemmas.Int.{ints, int_rem_euclid_is}
 use Rattle.std.proofs.lemmas.Bool.{cases_lt, le-leb}
 use Rattle.std.proofs.lemmas.Bool.Decides.{nat_tests}
-use Rattle.std.specs.Prelude.{nat_le, ◌&&◌, ◌||◌, not, option_map, unsigned_abs}
-use Rattle.fixed_geometry.specs.Bearing.{bearing_of, has_turned, lies_to_port, quarter_angle, relative_of}
+use Rattle.std.specs.Prelude.{nat_le, unsigned_abs}
+use Rattle.fixed_geometry.specs.Bearing.{bearing_of, has_turned, quarter_angle, relative_of}
 use Rattle.fixed_geometry.specs.declared.point.Point.{Point}
 use Rattle.fixed_geometry.proofs.FirstQuarter.{turned_at_zero, not_turned_later}
 use Rattle.fixed_geometry.proofs.Greatest.{greatest_below-below, greatest_below-least, greatest_below-passes}
@@ -57,20 +57,6 @@ turned_by n e ahead starboard k lt = go (has_turned n e k) refl (angle_passes n 
     go true is passes least = sym (le-leb k (quarter_angle n e) (least is))
     go false is passes least = let h = unless n e ahead starboard k (quarter_angle n e) (angle_below n e) passes is in grind (arith, nat_tests, h)
 
--- the same of a bearing, by the quarter that it lies in
-pub reached_by : (start angle k : ℕ) → angle < 900 → start < k → k < start + 900 → nat_le (k - start) angle ≡ nat_le k (start + angle)
-reached_by start angle k below over under = grind (arith, nat_tests)
-
-relative_from : (b d : ℕ) → b < 3600 → d < 3600 → relative_of b d ≡ (b + 3600 - d) % 3600
+pub relative_from : (b d : ℕ) → b < 3600 → d < 3600 → relative_of b d ≡ (b + 3600 - d) % 3600
 unfolding relative_of
 relative_from b d lt lt' = ap unsigned_abs (int_rem_euclid_is (pos b -ℤ pos d) (pos 3600) 3600 1 (b + 3600 - d) (lit< tt) refl (omega (arith, ints)))
-
--- Where a vessel points to the north half, or to the south half, her port side is two runs of bearings or one.
-pub port_east : (d b : ℕ) → d < 1800 → b < 3600 → lies_to_port d b ≡ (not (nat_le d b) || nat_le (d + 1801) b)
-port_east d b east lt = rw (relative_from b d lt (omega arith)) (grind (arith, nat_tests))
-
-pub port_west : (d b : ℕ) → 1800 ≤ d → d < 3600 → b < 3600 → lies_to_port d b ≡ (nat_le (d - 1799) b && not (nat_le d b))
-port_west d b west lt lt' = rw (relative_from b d lt' lt) (grind (arith, nat_tests))
-
-pub told : (r : Point) (d b : ℕ) (port : Bool) → bearing_of r ≡ Some b → port ≡ lies_to_port d b → Some port ≡ option_map (lies_to_port d) (bearing_of r)
-told r d b port is tells = rw (is, tells) refl

@@ -1,11 +1,13 @@
 //! Bearings, and the angles between two directions.
-ghost use Rattle.std.specs.Prelude.{pos, ◌≡◌, ◌+◌, ◌<◌, ◌≤◌, ◌^◌, ◌≤ℤ◌, ◌↔◌, None, IsNone, IfSome, nat_le, option_map, unsigned_abs};
+ghost use Rattle.std.specs.Prelude.{pos, ◌≡◌, ◌+◌, ◌<◌, ◌≤◌, ◌^◌, ◌≤ℤ◌, ◌↔◌, None, IsNone, IfSome, int_lt, option_map, unsigned_abs};
 ghost use Rattle.fixed_geometry.specs.Bearing.{bearing_of, has_turned, lies_to_port, quarter_angle, relative_of, swing_of};
-ghost use Rattle.fixed_geometry.specs.Inner.Quarters.{IsInQuarter, IsOfAQuarter};
+ghost use Rattle.fixed_geometry.specs.Compass.{unit_of};
+ghost use Rattle.fixed_geometry.specs.Inner.Quarters.{IsInQuarter};
+ghost use Rattle.fixed_geometry.specs.Plane.{turn_of};
 ghost use Rattle.fixed_geometry.specs.Sizes.{IsWithin};
 
-use crate::compass::quarter;
-use crate::point::{Point, product};
+use crate::compass::{quarter, unit};
+use crate::point::{Point, product, turn};
 use crate::rounding::{difference, round_the_circle};
 
 /// Whether a vector of `n` ahead and `e` to starboard has turned by `k` tenths of a degree or more.
@@ -104,35 +106,28 @@ pub fn bearing(r: Point) -> Option<u16>
     Some(start + quarter_angle(ahead, starboard))
 }
 
-impl Quartered {
-    /// Whether the vector's bearing is `k` tenths of a degree or more, by one comparison at most.
-    fn has_reached(&self, k: u16) -> bool
-        requires { IsOfAQuarter self.now }
-        ensures { result ≡ nat_le k (self.now.start + quarter_angle self.now.ahead self.now.starboard) }
-    {
-        if k <= self.start {
-            true
-        } else if k >= self.start + 900 {
-            false
-        } else {
-            has_turned(self.ahead, self.starboard, k - self.start)
-        }
-    }
+/// Whether a vector's bearing falls short of a direction, by less than half a turn.
+fn falls_short(r: Point, direction: u16) -> bool
+    requires small { IsWithin (2 ^ 62) r }
+    requires direction { direction < 3600 }
+    ensures { result ≡ int_lt (pos 0) (turn_of (unit_of direction) r) }
+{
+    turn(unit(direction), r) > 0
 }
 
 /// Whether a vector's bearing lies on the port side of a vessel that points in a direction, neither right ahead nor right
-/// astern: by two comparisons, without the bearing itself. `None` where it has no length.
+/// astern: it has passed right astern, and falls short of right ahead. `None` where the vector has no length.
 pub fn to_port(r: Point, direction: u16) -> Option<bool>
     requires small { IsWithin (2 ^ 62) r }
     requires direction { direction < 3600 }
     ensures { result ≡ option_map (lies_to_port direction) (bearing_of r) }
 {
-    let way = by_quarter(r)?;
-    if direction < 1800 {
-        Some(!way.has_reached(direction) || way.has_reached(direction + 1801))
-    } else {
-        Some(way.has_reached(direction - 1799) && !way.has_reached(direction))
+    if r.x == 0 && r.y == 0 {
+        return None;
     }
+    let before_ahead = falls_short(r, direction);
+    let past_astern = !falls_short(r, (direction + 1801) % 3600);
+    Some(before_ahead & past_astern)
 }
 
 /// A bearing as it is seen from a vessel that points in a direction, in tenths of a degree below 3600: 0 is ahead, 900 on her

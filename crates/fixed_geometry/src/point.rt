@@ -113,11 +113,43 @@ pub fn within(a: Point, b: Point, range: u64) -> bool
     norm2(displacement(a, b)) <= square(range)
 }
 
+/// A power of two that is no less than the root of `n`, by the number's bit length.
+fn power_above(n: u128) -> u128
+    requires { 0 < n }
+    ensures above { n < (result + 1) * (result + 1) }
+    ensures some { 0 < result }
+    ensures small { result ≤ 2 ^ 64 }
+{
+    1 << (n.ilog2() / 2 + 1)
+}
+
+/// A number nearer to the root of `n`, by Newton's method. It is no less than the root, rounded down; where it is no less
+/// than the number before, that one is the root.
+fn nearer_root(n: u128, root: u128) -> u128
+    requires above { n < (root + 1) * (root + 1) }
+    requires some { 0 < root }
+    requires small { root ≤ 2 ^ 64 }
+    ensures above { n < (result + 1) * (result + 1) }
+    ensures some { 0 < n → 0 < result }
+    ensures last { root ≤ result → root * root ≤ n }
+{
+    (root + n / root) / 2
+}
+
 /// The greatest whole number whose square is at most `n`: a length, from its square, rounded down.
 pub fn isqrt(n: u128) -> u64
     ensures square_le { result * result ≤ n }
     ensures greatest { (m : ℕ) → m * m ≤ n → m ≤ result }
     ensures next_square_gt { n < (result + 1) * (result + 1) }
 {
-    n.isqrt() as u64
+    if n == 0 {
+        return 0;
+    }
+    let mut root = power_above(n);
+    let mut next = nearer_root(n, root);
+    while next < root {
+        root = next;
+        next = nearer_root(n, root);
+    }
+    root as u64
 }
