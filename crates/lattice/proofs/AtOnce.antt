@@ -8,7 +8,7 @@ use Rattle.lattice.specs.Grids.{Grid}
 use Rattle.lattice.specs.OwnMotion.{choice_in_force, course_change, direction_after, direction_by, hastened, held, ordered_course, ordered_speed, speed_after, speed_change, turned, TakesOrdersAtOnce}
 
 -- what is no more than the rate stays as it is
-held_small : (rate : ℕ) (z : ℤ) → unsigned_abs z ≤ rate → held (neg_ℤ (pos rate)) (pos rate) z ≡ z
+pub held_small : (rate : ℕ) (z : ℤ) → unsigned_abs z ≤ rate → held (neg_ℤ (pos rate)) (pos rate) z ≡ z
 held_small rate z h = grind (arith, ints)
 
 held_speed : (z : ℤ) → unsigned_abs (held (pos 0) (pos 1022) z) ≤ 1022
@@ -24,7 +24,7 @@ hastened_whole v o h k =
 direction_below : (d : ℕ) (z : ℤ) → direction_by d z < 3600
 direction_below d z = grind (arith, ints)
 
-rem_same : (o : ℕ) → o < 3600 → unsigned_abs (int_rem_euclid (pos o) (pos 3600)) ≡ o
+pub rem_same : (o : ℕ) → o < 3600 → unsigned_abs (int_rem_euclid (pos o) (pos 3600)) ≡ o
 rem_same o h = grind arith
 
 rem_more : (o : ℕ) → o < 3600 → unsigned_abs (int_rem_euclid (pos (o + 3600)) (pos 3600)) ≡ o

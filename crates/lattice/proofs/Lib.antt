@@ -1,3 +1,4 @@
 pub mod Advancing
 pub mod AtOnce
 pub mod Digits
+pub mod Steering

@@ -7,3 +7,4 @@ pub use Rattle.fixed_geometry.specs.Velocity
 pub use Rattle.fixed_geometry.specs.Displacement
 pub use Rattle.motion.specs.TickStates
 pub mod UnderWays
+pub mod Inner

@@ -10,6 +10,7 @@ pub mod laws;
 mod numbers;
 mod orders;
 mod own_motion;
+mod passage;
 mod plan;
 #[cfg(test)]
 mod tests;

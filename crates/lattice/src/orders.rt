@@ -1,5 +1,5 @@
 //! The course and the speed that a plan orders.
-ghost use Rattle.std.specs.Prelude.{◌≡◌, ◌<◌, ◌≤◌, ◌+ℤ◌, ◌-ℤ◌, pos, neg_ℤ, length, slice_index, slice_index_or, unsigned_abs};
+ghost use Rattle.std.specs.Prelude.{◌≡◌, ◌<◌, ◌≤◌, ◌+◌, ◌*◌, ◌/◌, ◌+ℤ◌, ◌-ℤ◌, pos, neg_ℤ, length, slice_index, slice_index_or, unsigned_abs};
 ghost use Rattle.lattice.specs.Grids.{choices_of, positions_of};
 ghost use Rattle.lattice.specs.OwnMotion.{choice_in_force, course_change, direction_by, hastened, held, leg_in_force, ordered_course, ordered_speed, speed_change, turned};
 ghost use Rattle.lattice.specs.PlanNumbers.{IsPlan};
@@ -136,6 +136,16 @@ impl Lattice {
         ensures small { result ≤ 1022 }
     {
         self.ordered_speed(plan.choices()[usize::from(leg)], speed)
+    }
+
+    /// The step with which the leg after the one in force begins.
+    pub(crate) fn next_leg(&self, step: u32) -> u32
+        requires { step ≤ positions_of self.now }
+        ensures value { result ≡ (step / self.now.leg_ticks + 1) * self.now.leg_ticks }
+        ensures some { 0 < self.now.leg_ticks }
+    {
+        let _some = self.positions();
+        (step / self.leg_ticks + 1) * self.leg_ticks
     }
 
     /// The leg in force in a planned step.

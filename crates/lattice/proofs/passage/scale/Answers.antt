@@ -1,7 +1,7 @@
 use Rattle.std.proofs.Common.{◌≡◌, ℕ, ◌≤◌, ◌*◌, ℤ, pos, ◌*ℤ◌, unsigned_abs, w64, rules}
 use Rattle.std.proofs.Math.Nat.{mul-le-mul_left}
 use Rattle.std.proofs.lemmas.Int.{to_z-of_z, unsigned_abs-mul}
-use Rattle.lattice.proofs.own_motion.scale.Goals as goal
+use Rattle.lattice.proofs.passage.scale.Goals as goal
 
 short : (tick : ℕ) (velocity passed way given : ℤ) → unsigned_abs velocity ≤ 525763 → passed ≡ velocity → way ≡ pos tick *ℤ passed → given ≡ way →
     unsigned_abs given ≤ tick * 525763
