@@ -7,8 +7,9 @@ use Rattle.std.proofs.lemmas.Bool.Decides.{nat_tests}
 use Rattle.std.proofs.lemmas.Int.{ints, by_lt_z}
 use Rattle.std.specs.Prelude.{Bool, true, false, not, ◌&&◌, int_le, int_lt, nat_le, option_map, unsigned_abs, Some}
 use Rattle.fixed_geometry.specs.Bearing.{bearing_of, has_turned, lies_to_port, quarter_angle}
-use Rattle.fixed_geometry.specs.Compass.{quarter_further, quarter_of, quarters_further, unit_of, sine_of, cosine_of}
+use Rattle.fixed_geometry.specs.Compass.{direction_of, eighth_of, quarter_further, quarter_of, quarters_further, unit_of, sine_of, cosine_of}
 use Rattle.fixed_geometry.specs.Plane.{turn_of}
+use Rattle.fixed_geometry.specs.Rounding.{rounded}
 use Rattle.fixed_geometry.specs.declared.point.Point.{Point}
 use Rattle.fixed_geometry.proofs.FirstQuarter.{neighbours, not_turned_later, sizes, turned_at_zero, unit_of-first}
 use Rattle.fixed_geometry.proofs.ForCallers.{polynomials, diff_of, diff_same}
@@ -233,7 +234,7 @@ told_in r d j n e direction quarter ahead place bearing =
     rw (bearing, place) (ap Some (port_from d j n e direction quarter ahead))
 
 -- Where a vector has a length, the two turns tell whether its bearing lies to port.
-pub port_by_turns : (r : Point) (d : ℕ) → d < 3600 → (r.x ≡ pos 0 → r.y ≡ pos 0 → ⊥)
+port_by_turns : (r : Point) (d : ℕ) → d < 3600 → (r.x ≡ pos 0 → r.y ≡ pos 0 → ⊥)
     → Some (int_lt (pos 0) (turn_of (unit_of d) r) && not (int_lt (pos 0) (turn_of (unit_of ((d + 1801) % 3600)) r))) ≡ option_map (lies_to_port d) (bearing_of r)
 port_by_turns r d direction some =
     by_lt_z (pos 0) r.y
@@ -268,3 +269,37 @@ port_by_turns r d direction some =
         let n : pos (unsigned_abs r.x) ≡ neg_ℤ r.x = omega (arith, ints) in
         let e : pos (unsigned_abs r.y) ≡ r.y = omega (arith, ints) in
         told_in r d 3 (unsigned_abs r.x) (unsigned_abs r.y) direction (lit< tt) (omega (arith, ints)) (rw (n, e, neg_ℤ-neg_ℤ r.x, neg_ℤ-neg_ℤ r.y) refl) (fourth_quarter r _ _ west north n e)
+
+-- ---- the same turns from the beginning of the direction's quarter
+
+-- A quarter is over where the next one begins.
+quarter_over : quarter_of 900 ≡ quarter_further (quarter_of 0)
+unfolding eighth_of direction_of rounded
+quarter_over = refl
+
+half_turn : (a b : Point) → turn_of (quarters_further 2 a) b ≡ neg_ℤ (turn_of a b)
+half_turn a b = rw (← diff_of a.x, ← diff_of a.y, ← diff_of b.x, ← diff_of b.y) (simp polynomials (diff_same _ _ _ _ (omega arith)))
+
+-- The turn from a direction, and the one from the first tenth of a degree past its opposite, where the vector is turned back.
+seen_ahead : (r seen : Point) (d : ℕ) → quarters_further (d / 900) seen ≡ r → turn_of (unit_of d) r ≡ turn_of (quarter_of (d % 900)) seen
+unfolding unit_of
+seen_ahead r seen d place = ap (λ (p : Point). turn_of (quarters_further (d / 900) (quarter_of (d % 900))) p) (sym place) ∙ turn_back 0 (d / 900) (d / 900) (quarter_of (d % 900)) seen (omega arith)
+
+seen_astern : (r seen : Point) (d : ℕ) → d < 3600 → quarters_further (d / 900) seen ≡ r
+    → turn_of (unit_of ((d + 1801) % 3600)) r ≡ neg_ℤ (turn_of (quarter_of (d % 900 + 1)) seen)
+seen_astern r seen d direction place =
+    ap (λ (p : Point). turn_of (unit_of ((d + 1801) % 3600)) p) (sym place) ∙ elim (cases_lt (d % 900 + 1) 900) [
+      | inl more ↦ turn_from ((d + 1801) % 3600) 2 (d / 900) (d % 900 + 1) seen (lit< tt) (omega arith) more (omega arith) ∙ half_turn (quarter_of (d % 900 + 1)) seen
+      | inr last ↦ (
+          let whole : 900 ≡ d % 900 + 1 = omega arith in
+          turn_from ((d + 1801) % 3600) 3 (d / 900) 0 seen (lit< tt) (omega arith) (lit< tt) (omega arith)
+          ∙ (half_turn (quarter_further (quarter_of 0)) seen ∙ ap (λ (p : Point). neg_ℤ (turn_of p seen)) (sym quarter_over ∙ ap quarter_of whole)))
+    ]
+
+not_less : (z : ℤ) → not (int_lt (pos 0) (neg_ℤ z)) ≡ int_le (pos 0) z
+not_less z = grind (arith, ints)
+
+pub port_by_tenths : (r seen : Point) (d : ℕ) → d < 3600 → (r.x ≡ pos 0 → r.y ≡ pos 0 → ⊥) → quarters_further (d / 900) seen ≡ r
+    → Some (int_lt (pos 0) (turn_of (quarter_of (d % 900)) seen) && int_le (pos 0) (turn_of (quarter_of (d % 900 + 1)) seen)) ≡ option_map (lies_to_port d) (bearing_of r)
+port_by_tenths r seen d direction some place =
+    rw (← seen_ahead r seen d place, ← not_less (turn_of (quarter_of (d % 900 + 1)) seen), ← seen_astern r seen d direction place) (port_by_turns r d direction some)

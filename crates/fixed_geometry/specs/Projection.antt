@@ -3,6 +3,7 @@ use Rattle.std.specs.Prelude.{ℕ, ◌^◌, ◌≤◌, ◌&&◌, nat_le, if◌th
 use Rattle.fixed_geometry.specs.Rounding.{rounded}
 use Rattle.fixed_geometry.specs.Circle.{shorter_arc}
 use Rattle.fixed_geometry.specs.Compass.{cosine_of}
+use Rattle.fixed_geometry.specs.declared.projection.TheConstants.{REGION_SIZE}
 use Rattle.fixed_geometry.specs.declared.point.Point.{Point}
 
 -- the tenths of a degree nearest to a latitude's size
@@ -20,12 +21,12 @@ north_of latitude0 latitude = (latitude -ℤ latitude0) *ℤ pos 1852
 -- the region: at most 2 degrees of latitude, and 222,240 metres to the east or the west, from the reference
 pub record IsInRegion (latitude0 longitude0 latitude longitude : ℤ) : Type 0 where
   pub north : unsigned_abs (latitude -ℤ latitude0) ≤ 1200000
-  pub east : unsigned_abs (east_of latitude0 longitude0 longitude) ≤ 2222400000
+  pub east : unsigned_abs (east_of latitude0 longitude0 longitude) ≤ REGION_SIZE
 
 -- the point of a place in the region
 unfoldable pub projection_of : ℤ → ℤ → ℤ → ℤ → Option Point
 projection_of latitude0 longitude0 latitude longitude =
     let east = east_of latitude0 longitude0 longitude in
-    if nat_le (unsigned_abs (latitude -ℤ latitude0)) 1200000 && nat_le (unsigned_abs east) 2222400000
+    if nat_le (unsigned_abs (latitude -ℤ latitude0)) 1200000 && nat_le (unsigned_abs east) REGION_SIZE
     then Some (record { x = east; y = north_of latitude0 latitude })
     else None

@@ -1,12 +1,12 @@
 //! Bearings, and the angles between two directions.
-ghost use Rattle.std.specs.Prelude.{pos, ◌≡◌, ◌+◌, ◌<◌, ◌≤◌, ◌^◌, ◌≤ℤ◌, ◌↔◌, None, IsNone, IfSome, int_lt, option_map, unsigned_abs};
+ghost use Rattle.std.specs.Prelude.{pos, ◌≡◌, ◌+◌, ◌<◌, ◌≤◌, ◌^◌, ◌≤ℤ◌, ◌↔◌, None, IsNone, IfSome, int_le, int_lt, option_map, unsigned_abs};
 ghost use Rattle.fixed_geometry.specs.Bearing.{bearing_of, has_turned, lies_to_port, quarter_angle, relative_of, swing_of};
-ghost use Rattle.fixed_geometry.specs.Compass.{unit_of};
+ghost use Rattle.fixed_geometry.specs.Compass.{quarter_of, quarters_further};
 ghost use Rattle.fixed_geometry.specs.Inner.Quarters.{IsInQuarter};
 ghost use Rattle.fixed_geometry.specs.Plane.{turn_of};
 ghost use Rattle.fixed_geometry.specs.Sizes.{IsWithin};
 
-use crate::compass::{quarter, unit};
+use crate::compass::quarter;
 use crate::point::{Point, product, turn};
 use crate::rounding::{difference, round_the_circle};
 
@@ -106,17 +106,42 @@ pub fn bearing(r: Point) -> Option<u16>
     Some(start + quarter_angle(ahead, starboard))
 }
 
-/// Whether a vector's bearing falls short of a direction, by less than half a turn.
-fn falls_short(r: Point, direction: u16) -> bool
+/// A vector that has been turned back by so many quarters of the circle.
+fn turned_back(r: Point, quarters: u16) -> Point
     requires small { IsWithin (2 ^ 62) r }
-    requires direction { direction < 3600 }
-    ensures { result ≡ int_lt (pos 0) (turn_of (unit_of direction) r) }
+    requires quarters { quarters < 4 }
+    ensures value { quarters_further quarters result ≡ r }
+    ensures small { IsWithin (2 ^ 62) result }
 {
-    turn(unit(direction), r) > 0
+    match quarters {
+        0 => r,
+        1 => Point { x: -r.y, y: r.x },
+        2 => Point { x: -r.x, y: -r.y },
+        _ => Point { x: r.y, y: -r.x },
+    }
+}
+
+/// Whether a vector's bearing falls short of `k` tenths of a degree, by less than half a turn.
+fn falls_short(r: Point, k: u16) -> bool
+    requires small { IsWithin (2 ^ 62) r }
+    requires k { k ≤ 900 }
+    ensures { result ≡ int_lt (pos 0) (turn_of (quarter_of k) r) }
+{
+    turn(quarter(k), r) > 0
+}
+
+/// Whether it has reached the opposite of `k` tenths of a degree, and not passed it by more than half a turn.
+fn reaches_opposite(r: Point, k: u16) -> bool
+    requires small { IsWithin (2 ^ 62) r }
+    requires k { k ≤ 900 }
+    ensures { result ≡ int_le (pos 0) (turn_of (quarter_of k) r) }
+{
+    turn(quarter(k), r) >= 0
 }
 
 /// Whether a vector's bearing lies on the port side of a vessel that points in a direction, neither right ahead nor right
-/// astern: it has passed right astern, and falls short of right ahead. `None` where the vector has no length.
+/// astern: it falls short of right ahead, and has reached the first tenth of a degree past right astern. `None` where the
+/// vector has no length.
 pub fn to_port(r: Point, direction: u16) -> Option<bool>
     requires small { IsWithin (2 ^ 62) r }
     requires direction { direction < 3600 }
@@ -125,9 +150,9 @@ pub fn to_port(r: Point, direction: u16) -> Option<bool>
     if r.x == 0 && r.y == 0 {
         return None;
     }
-    let before_ahead = falls_short(r, direction);
-    let past_astern = !falls_short(r, (direction + 1801) % 3600);
-    Some(before_ahead & past_astern)
+    let seen = turned_back(r, direction / 900);
+    let tenths = direction % 900;
+    Some(falls_short(seen, tenths) & reaches_opposite(seen, tenths + 1))
 }
 
 /// A bearing as it is seen from a vessel that points in a direction, in tenths of a degree below 3600: 0 is ahead, 900 on her

@@ -121,7 +121,7 @@ fn eighth(k: u16) -> Point
 
 /// The unit vector within the first quarter of the circle.
 pub(crate) fn quarter(k: u16) -> Point
-    requires { k < 900 }
+    requires { k ≤ 900 }
     ensures value { result ≡ quarter_of k }
     ensures small { IsWithin 1000000 result }
 {

@@ -20,9 +20,9 @@ mod velocities;
 pub use bearings::{bearing, relative, swing, to_port};
 pub use compass::unit;
 pub use point::{Point, displacement, dot, isqrt, norm2, square, turn, within};
-pub use projection::{Reference, project};
+pub use projection::{REGION_SIZE, Reference, project};
 pub use rounding::round_quotient;
-pub use velocities::velocity;
+pub use velocities::{GREATEST_VELOCITY, velocity};
 
 #[cfg(test)]
 mod tests;

@@ -12,6 +12,10 @@ use crate::point::Point;
 use crate::rounding::{difference, round_quotient, round_the_circle, scale};
 use std::marker::Model;
 
+/// How far a point of the region lies from the reference at most, in each component: 222,240 metres, in tenths of a millimetre.
+/// Two degrees of latitude are as long.
+pub const REGION_SIZE: u64 = 2_222_400_000;
+
 /// The place at the plane's origin, at most 75 degrees from the equator.
 #[derive(Clone, Copy)]
 pub struct Reference {
@@ -118,14 +122,14 @@ pub fn project(reference: Reference, lat: i32, lon: i32) -> Option<Point>
     requires lon { unsigned_abs lon ≤ 108000000 }
     ensures value { result ≡ projection_of reference.latitude reference.longitude lat lon }
     ensures region { IsSome result ↔ IsInRegion reference.latitude reference.longitude lat lon }
-    ensures small { IfSome result (IsWithin 2222400000) }
+    ensures small { IfSome result (IsWithin REGION_SIZE) }
 {
     let north = north(reference, lat);
     let x = east(reference, lon);
     if north.unsigned_abs() > 1_200_000 {
         return None;
     }
-    if x.unsigned_abs() > 2_222_400_000 {
+    if x.unsigned_abs() > REGION_SIZE {
         return None;
     }
     Some(Point {

@@ -8,13 +8,16 @@ use crate::compass::unit;
 use crate::point::Point;
 use crate::rounding::{round_quotient, scale};
 
+/// The greatest component of a velocity, in tenths of a millimetre a second: 102.2 knots are 525,762.2.
+pub const GREATEST_VELOCITY: u64 = 525_763;
+
 /// One component: a speed times a sine or a cosine, where a tenth of a knot is 463 / 0.9 tenths of a millimetre a second.
 #[tactic(auto, unfolding(crate::specs::Rounding::rounded))]
 fn component(speed: u16, millionths: i64) -> i64
     requires speed_small { speed ≤ 1022 }
     requires millionths_small { unsigned_abs millionths ≤ 1000000 }
     ensures value { result ≡ rounded (pos speed *ℤ millionths *ℤ pos 463) 900000 }
-    ensures small { unsigned_abs result ≤ 525763 }
+    ensures small { unsigned_abs result ≤ GREATEST_VELOCITY }
 {
     round_quotient(463 * scale(i64::from(speed), millionths), 900_000)
 }
@@ -26,7 +29,7 @@ pub fn velocity(course: u16, speed: u16) -> Point
     requires course { course < 3600 }
     requires speed { speed ≤ 1022 }
     ensures value { result ≡ velocity_of course speed }
-    ensures small { IsWithin 525763 result }
+    ensures small { IsWithin GREATEST_VELOCITY result }
 {
     let direction = unit(course);
     Point {

@@ -10,8 +10,8 @@ pub returns-then-unsigned_abs-gt1200000-clause-value : goal.returns-then-unsigne
 returns-then-unsigned_abs-gt1200000-clause-value c =
     beyond_north c.args.reference.latitude c.args.reference.longitude c.args.lat c.args.lon (omega (arith, ints))
 
-pub returns-then-unsigned_abs-gt2222400000-clause-value : goal.returns-then-unsigned_abs-gt2222400000-clause-value
-returns-then-unsigned_abs-gt2222400000-clause-value c =
+pub returns-then-unsigned_abs-gt-REGION_SIZE-clause-value : goal.returns-then-unsigned_abs-gt-REGION_SIZE-clause-value
+returns-then-unsigned_abs-gt-REGION_SIZE-clause-value c =
     let east = read w64 c.east-x.result _ (search rules)
     (c.east-x.ensures ∙ ap (east_of c.args.reference.latitude c.args.reference.longitude) (to_z-of_z w32 c.args.lon c.ranges.lon)) in
     beyond_east c.args.reference.latitude c.args.reference.longitude c.args.lat c.args.lon (to_z w64 (of_z w64 c.east-x.result)) east (omega arith)
