@@ -1,10 +1,11 @@
 -- How a vessel under way advances, step by step.
 use Rattle.std.proofs.Common.{◌≡◌, ℕ, suc, ◌+◌, ◌-◌, ◌*◌, ◌<◌, ◌≤◌, List, Some, refl, arith, add-one, ap, subst, ◌∙◌}
 use Rattle.std.proofs.Math.Nat.{mul-le-mul_right}
+use Rattle.fixed_geometry.specs.Displacement.{displacement}
 use Rattle.fixed_geometry.specs.Sizes.{IsWithin}
 use Rattle.fixed_geometry.specs.Velocity.{velocity_of}
 use Rattle.fixed_geometry.specs.declared.point.Point.{Point}
-use Rattle.fixed_geometry.specs.Displacement.{displacement}
+use Rattle.fixed_geometry.specs.declared.velocities.TheConstants.{GREATEST_VELOCITY}
 use Rattle.lattice.specs.Grids.{Grid, positions_of}
 use Rattle.lattice.specs.OwnMotion.{begun_at, choice_in_force, direction_after, hastened, ordered_course, ordered_speed, own_state, point_after, point_by, speed_after, turned}
 use Rattle.lattice.specs.UnderWays.{HasAdvanced}
@@ -28,13 +29,13 @@ one_more grid plan tick step start reached next so_far direction speed point =
 -- how far she has moved since the step before
 
 pub from_before : (grid : Grid) (plan : List ℕ) (tick step before : ℕ) (start reached next : UnderWay) → HasAdvanced grid plan tick start step reached → step + 1 ≡ before + 1 →
-    IsWithin (tick * 525763) (displacement reached.point next.point) →
-    IsWithin (tick * 525763) (displacement (point_after grid plan tick start.point start.direction start.speed before) next.point)
+    IsWithin (tick * GREATEST_VELOCITY) (displacement reached.point next.point) →
+    IsWithin (tick * GREATEST_VELOCITY) (displacement (point_after grid plan tick start.point start.direction start.speed before) next.point)
 from_before grid plan tick step before start reached next so_far e moved =
     let same : step ≡ before = omega arith in
     let here : reached.point ≡ point_after grid plan tick start.point start.direction start.speed before =
     so_far.point ∙ ap (λ (k : ℕ). point_after grid plan tick start.point start.direction start.speed k) same in
-    subst (λ (p : Point). IsWithin (tick * 525763) (displacement p next.point)) here moved
+    subst (λ (p : Point). IsWithin (tick * GREATEST_VELOCITY) (displacement p next.point)) here moved
 
 -- how far a vessel gets in some steps of at most w each
 

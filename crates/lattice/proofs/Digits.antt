@@ -70,13 +70,13 @@ number_small b k i ds p h lt =
     let long : length (take (i + 1) ds) ≤ k = simp length-take (omega arith) in
     omega (arith, small, number_more b ds i lt, pow-le-pow_right p long)
 
--- places of a plan, the highest first
-pub next_place : (b legs leg : ℕ) → 0 < b → leg < legs → b ^ (legs - leg) ≡ b ^ (legs - (leg + 1)) * b
-next_place b legs leg p h = let e : legs - leg ≡ suc (legs - (leg + 1)) = omega arith in rw e (pow-suc b (legs - (leg + 1)))
+-- the weights of a plan's digits, the highest first
+pub next_weight : (b legs leg : ℕ) → 0 < b → leg < legs → b ^ (legs - leg) ≡ b ^ (legs - (leg + 1)) * b
+next_weight b legs leg p h = let e : legs - leg ≡ suc (legs - (leg + 1)) = omega arith in rw e (pow-suc b (legs - (leg + 1)))
 
-pub lower_place : (b legs leg : ℕ) → 0 < b → leg < legs → b ^ (legs - leg) / b ≡ b ^ (legs - (leg + 1))
-lower_place b legs leg p h = rw (next_place b legs leg p h) (mul-div_cancel (b ^ (legs - (leg + 1))) p)
+pub lower_weight : (b legs leg : ℕ) → 0 < b → leg < legs → b ^ (legs - leg) / b ≡ b ^ (legs - (leg + 1))
+lower_weight b legs leg p h = rw (next_weight b legs leg p h) (mul-div_cancel (b ^ (legs - (leg + 1))) p)
 
-pub plan_step : (b leg n place : ℕ) → plan_of b (leg + 1) (n / place) ≡ plan_of b leg (n / (place * b)) ++ n / place % b ∷ []
+pub plan_step : (b leg n weight : ℕ) → plan_of b (leg + 1) (n / weight) ≡ plan_of b leg (n / (weight * b)) ++ n / weight % b ∷ []
 unfolding plan_of
-plan_step b leg n place = rw (add-one, ← div-div-eq-div-mul n place b) refl
+plan_step b leg n weight = rw (add-one, ← div-div-eq-div-mul n weight b) refl

@@ -1,6 +1,7 @@
 -- A vessel under way, and how she has advanced.
 use Rattle.std.specs.Prelude.{ℕ, ◌≡◌, ◌+◌, ◌*◌, ◌<◌, ◌≤◌, List, unsigned_abs}
 use Rattle.fixed_geometry.specs.Sizes.{IsWithin}
+use Rattle.fixed_geometry.specs.declared.velocities.TheConstants.{GREATEST_VELOCITY}
 use Rattle.lattice.specs.Grids.{Grid}
 use Rattle.lattice.specs.OwnMotion.{direction_after, point_after, speed_after}
 use Rattle.lattice.specs.declared.under_way.UnderWay.{UnderWay}
@@ -20,5 +21,5 @@ pub record IsReached (grid : Grid) (plan : List ℕ) (tick : ℕ) (start : Under
   pub advanced : HasAdvanced grid plan tick start steps reached
   pub direction : reached.direction < 3600
   pub speed : reached.speed ≤ 1022
-  pub near_x : unsigned_abs reached.point.x ≤ unsigned_abs start.point.x + steps * (tick * 525763)
-  pub near_y : unsigned_abs reached.point.y ≤ unsigned_abs start.point.y + steps * (tick * 525763)
+  pub near_x : unsigned_abs reached.point.x ≤ unsigned_abs start.point.x + steps * (tick * GREATEST_VELOCITY)
+  pub near_y : unsigned_abs reached.point.y ≤ unsigned_abs start.point.y + steps * (tick * GREATEST_VELOCITY)

@@ -17,10 +17,10 @@ pub(crate) fn plan_of(alloc: Global, choices: u32, legs: u8, plans: u32, number:
     ensures plan { IsPlan choices legs result }
 {
     let mut plan = Plan::new(alloc);
-    let mut place = plans;
+    let mut weight = plans;
     for _leg in 0..legs {
-        place /= choices;
-        plan.push((number / place % choices) as u16);
+        weight /= choices;
+        plan.push((number / weight % choices) as u16);
     }
     plan
 }

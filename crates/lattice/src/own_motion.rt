@@ -2,13 +2,16 @@
 ghost use Rattle.std.specs.Prelude.{◌≡◌, ◌+◌, ◌-◌, ◌*◌, ◌<◌, ◌≤◌, ℕ, length, get_or, unsigned_abs, IfSome, IsSome};
 ghost use Rattle.fixed_geometry.specs.Displacement.{displacement};
 ghost use Rattle.fixed_geometry.specs.Sizes.{IsWithin};
+ghost use Rattle.fixed_geometry.specs.declared.velocities.TheConstants.{GREATEST_VELOCITY};
 ghost use Rattle.motion.specs.TickStates.{IsTickState};
 ghost use Rattle.motion.specs.declared.leg.TickState.{TickState};
+ghost use Rattle.motion.specs.declared.leg.TheConstants.{FARTHEST};
 ghost use Rattle.lattice.specs.Grids.{choices_of, positions_of};
 ghost use Rattle.lattice.specs.OwnMotion.{own_state, point_after};
 ghost use Rattle.lattice.specs.Inner.Passages.{IsPassage};
 ghost use Rattle.lattice.specs.PlanNumbers.{IsPlan};
 ghost use Rattle.lattice.specs.UnderWays.{HasAdvanced, IsReached, IsUnderWay};
+ghost use Rattle.lattice.specs.declared.passage.TheConstants.{LONGEST_TICK};
 
 use crate::lattice::Lattice;
 use crate::passage::Passage;
@@ -21,15 +24,15 @@ impl Lattice {
     fn advanced(&self, plan: &Plan, start: UnderWay, tick: u32, steps: u32) -> UnderWay
         requires plan { IsPlan (choices_of self.now) self.now.legs plan.now }
         requires planned { steps ≤ positions_of self.now }
-        requires tick { tick ≤ 15026 }
-        requires near { steps * (tick * 525763) ≤ 7900640400 }
-        requires start { IsUnderWay (7900640400 - steps * (tick * 525763)) start }
+        requires tick { tick ≤ LONGEST_TICK }
+        requires near { steps * (tick * GREATEST_VELOCITY) ≤ FARTHEST }
+        requires start { IsUnderWay (FARTHEST - steps * (tick * GREATEST_VELOCITY)) start }
         ensures value { HasAdvanced self.now plan.now tick start steps result }
-        ensures moved { (step : ℕ) → steps ≡ step + 1 → IsWithin (tick * 525763)
+        ensures moved { (step : ℕ) → steps ≡ step + 1 → IsWithin (tick * GREATEST_VELOCITY)
             (displacement (point_after self.now plan.now tick start.point start.direction start.speed step) result.point) }
-        ensures within { IsUnderWay 7900640400 result }
-        ensures near_x { unsigned_abs result.point.x ≤ unsigned_abs start.point.x + steps * (tick * 525763) }
-        ensures near_y { unsigned_abs result.point.y ≤ unsigned_abs start.point.y + steps * (tick * 525763) }
+        ensures within { IsUnderWay FARTHEST result }
+        ensures near_x { unsigned_abs result.point.x ≤ unsigned_abs start.point.x + steps * (tick * GREATEST_VELOCITY) }
+        ensures near_y { unsigned_abs result.point.y ≤ unsigned_abs start.point.y + steps * (tick * GREATEST_VELOCITY) }
     {
         let mut passage = self.passage(plan, start, start, tick, 0);
         for step in 0..steps {
@@ -49,19 +52,19 @@ impl Lattice {
         k: u32,
     ) -> (TickState, Passage)
         requires plan { IsPlan (choices_of self.now) self.now.legs plan.now }
-        requires tick { tick ≤ 15026 }
+        requires tick { tick ≤ LONGEST_TICK }
         requires planned { k ≤ positions_of self.now }
-        requires start { IsUnderWay 7900640400 start }
+        requires start { IsUnderWay FARTHEST start }
         requires passage { IsPassage self.now plan.now tick start k passage }
-        requires point { IsWithin 7900640400 passage.vessel.point }
+        requires point { IsWithin FARTHEST passage.vessel.point }
         ensures value { HasAdvanced self.now plan.now tick start k passage.vessel → result.0 ≡ own_state self.now plan.now tick start.point start.direction start.speed k }
-        ensures state { IsTickState 7900640400 result.0 }
+        ensures state { IsTickState FARTHEST result.0 }
         ensures point { result.0.point ≡ passage.vessel.point }
         ensures advanced { HasAdvanced self.now plan.now tick start k passage.vessel → k < positions_of self.now → HasAdvanced self.now plan.now tick start (k + 1) result.1.vessel }
         ensures passage { k < positions_of self.now → IsPassage self.now plan.now tick start (k + 1) result.1 }
-        ensures moved { IsWithin (tick * 525763) (displacement passage.vessel.point result.1.vessel.point) }
-        ensures near_x { unsigned_abs result.1.vessel.point.x ≤ unsigned_abs passage.vessel.point.x + tick * 525763 }
-        ensures near_y { unsigned_abs result.1.vessel.point.y ≤ unsigned_abs passage.vessel.point.y + tick * 525763 }
+        ensures moved { IsWithin (tick * GREATEST_VELOCITY) (displacement passage.vessel.point result.1.vessel.point) }
+        ensures near_x { unsigned_abs result.1.vessel.point.x ≤ unsigned_abs passage.vessel.point.x + tick * GREATEST_VELOCITY }
+        ensures near_y { unsigned_abs result.1.vessel.point.y ≤ unsigned_abs passage.vessel.point.y + tick * GREATEST_VELOCITY }
     {
         let next = if k < self.positions() {
             self.stepped(plan, start, passage, tick, k)
@@ -80,12 +83,12 @@ impl Lattice {
     fn state_at(&self, plan: &Plan, start: UnderWay, tick: u32, k: u32) -> TickState
         requires plan { IsPlan (choices_of self.now) self.now.legs plan.now }
         requires planned { k ≤ positions_of self.now }
-        requires near { positions_of self.now * (tick * 525763) ≤ 7900640400 }
-        requires start { IsUnderWay (7900640400 - positions_of self.now * (tick * 525763)) start }
+        requires near { positions_of self.now * (tick * GREATEST_VELOCITY) ≤ FARTHEST }
+        requires start { IsUnderWay (FARTHEST - positions_of self.now * (tick * GREATEST_VELOCITY)) start }
         ensures value { result ≡ own_state self.now plan.now tick start.point start.direction start.speed k }
-        ensures moved { (step : ℕ) → k ≡ step + 1 → IsWithin (tick * 525763)
+        ensures moved { (step : ℕ) → k ≡ step + 1 → IsWithin (tick * GREATEST_VELOCITY)
             (displacement (point_after self.now plan.now tick start.point start.direction start.speed step) result.point) }
-        ensures state { IsTickState 7900640400 result }
+        ensures state { IsTickState FARTHEST result }
     {
         let _some = self.positions();
         let reached = self.advanced(plan, start, tick, k);
@@ -97,15 +100,15 @@ impl Lattice {
     fn reached_by(&self, plan: &Plan, start: UnderWay, tick: u32, steps: u32) -> UnderWay
         requires plan { IsPlan (choices_of self.now) self.now.legs plan.now }
         requires planned { steps ≤ positions_of self.now }
-        requires near { positions_of self.now * (tick * 525763) ≤ 7900640400 }
-        requires start { IsUnderWay (7900640400 - positions_of self.now * (tick * 525763)) start }
+        requires near { positions_of self.now * (tick * GREATEST_VELOCITY) ≤ FARTHEST }
+        requires start { IsUnderWay (FARTHEST - positions_of self.now * (tick * GREATEST_VELOCITY)) start }
         ensures { IsReached self.now plan.now tick start steps result }
     {
         let _some = self.positions();
         self.advanced(plan, start, tick, steps)
     }
 
-    /// The same at each tick from this one on, where she has reached a place.
+    /// The same at each tick from this one on, where she has got so far.
     fn fill(
         &self,
         plan: &Plan,
@@ -118,15 +121,15 @@ impl Lattice {
         requires plan { IsPlan (choices_of self.now) self.now.legs plan.now }
         requires begun { first ≤ positions_of self.now }
         requires planned { first + length path.old ≤ positions_of self.now + 1 }
-        requires near { positions_of self.now * (tick * 525763) ≤ 7900640400 }
-        requires start { IsUnderWay (7900640400 - positions_of self.now * (tick * 525763)) start }
+        requires near { positions_of self.now * (tick * GREATEST_VELOCITY) ≤ FARTHEST }
+        requires start { IsUnderWay (FARTHEST - positions_of self.now * (tick * GREATEST_VELOCITY)) start }
         requires reached { IsReached self.now plan.now tick start first reached }
         ensures count { length path.new ≡ length path.old }
         ensures value { (j : ℕ) (d : TickState) → j < length path.new
             → get_or path.new j d ≡ own_state self.now plan.now tick start.point start.direction start.speed (first + j) }
         ensures moved { (j : ℕ) (d : TickState) → j + 1 < length path.new
-            → IsWithin (tick * 525763) (displacement (get_or path.new j d).point (get_or path.new (j + 1) d).point) }
-        ensures states { (j : ℕ) (d : TickState) → j < length path.new → IsTickState 7900640400 (get_or path.new j d) }
+            → IsWithin (tick * GREATEST_VELOCITY) (displacement (get_or path.new j d).point (get_or path.new (j + 1) d).point) }
+        ensures states { (j : ℕ) (d : TickState) → j < length path.new → IsTickState FARTHEST (get_or path.new j d) }
     {
         let _some = self.positions();
         let mut passage = self.passage(plan, start, reached, tick, first);
@@ -143,8 +146,8 @@ impl Lattice {
         requires course { IsSome start.now.direction }
         requires speed { IsSome start.now.speed }
         requires planned { steps ≤ positions_of self.now }
-        requires near { positions_of self.now * tick * 525763 ≤ 7900640400 }
-        requires start { IsTickState (7900640400 - positions_of self.now * tick * 525763) start.now }
+        requires near { positions_of self.now * tick * GREATEST_VELOCITY ≤ FARTHEST }
+        requires start { IsTickState (FARTHEST - positions_of self.now * tick * GREATEST_VELOCITY) start.now }
         ensures { IfSome start.now.direction (λ course. IfSome start.now.speed (λ speed.
             IsReached self.now plan.now tick (record { point = start.now.point; direction = course; speed = speed }) steps result)) }
     {
@@ -156,7 +159,7 @@ impl Lattice {
         self.reached_by(plan, start, tick, steps)
     }
 
-    /// Own ship's states at the ticks from `first` on, as many as there are places, each as `own_motion` gives it: each is found from
+    /// Own ship's states at the ticks from `first` on, as many as the path holds, each as `own_motion` gives it: each is found from
     /// the one before. `reached` is as `motion_after` gives it for `first` steps.
     pub fn fill_motion(
         &self,
@@ -172,16 +175,16 @@ impl Lattice {
         requires speed { IsSome start.now.speed }
         requires begun { first ≤ positions_of self.now }
         requires planned { first + length path.old ≤ positions_of self.now + 1 }
-        requires near { positions_of self.now * tick * 525763 ≤ 7900640400 }
-        requires start { IsTickState (7900640400 - positions_of self.now * tick * 525763) start.now }
+        requires near { positions_of self.now * tick * GREATEST_VELOCITY ≤ FARTHEST }
+        requires start { IsTickState (FARTHEST - positions_of self.now * tick * GREATEST_VELOCITY) start.now }
         requires reached { IfSome start.now.direction (λ course. IfSome start.now.speed (λ speed.
             IsReached self.now plan.now tick (record { point = start.now.point; direction = course; speed = speed }) first reached)) }
         ensures count { length path.new ≡ length path.old }
         ensures value { IfSome start.now.direction (λ course. IfSome start.now.speed (λ speed. (j : ℕ) (d : TickState) → j < length path.new
             → get_or path.new j d ≡ own_state self.now plan.now tick start.now.point course speed (first + j))) }
         ensures moved { (j : ℕ) (d : TickState) → j + 1 < length path.new
-            → IsWithin (tick * 525763) (displacement (get_or path.new j d).point (get_or path.new (j + 1) d).point) }
-        ensures states { (j : ℕ) (d : TickState) → j < length path.new → IsTickState 7900640400 (get_or path.new j d) }
+            → IsWithin (tick * GREATEST_VELOCITY) (displacement (get_or path.new j d).point (get_or path.new (j + 1) d).point) }
+        ensures states { (j : ℕ) (d : TickState) → j < length path.new → IsTickState FARTHEST (get_or path.new j d) }
     {
         let start = UnderWay {
             point: start.point,
@@ -194,20 +197,20 @@ impl Lattice {
     /// Own ship's state `k` ticks of `tick` seconds after now, under a plan of this lattice. `start` has her point, her course
     /// as direction and her speed at now.
     ///
-    /// Each component of that point may be at most 7,900,640,400 in size less 525,763 for each planned second, so that she
-    /// stays within 7,900,640,400. From tick to tick she moves by at most `tick * 525763` in each component.
+    /// Each component of that point may be at most `FARTHEST` in size less `GREATEST_VELOCITY` for each planned second, so that
+    /// she stays within `FARTHEST`. From tick to tick she moves by at most `tick * GREATEST_VELOCITY` in each component.
     pub fn own_motion(&self, start: &TickState, plan: &Plan, tick: u32, k: u32) -> TickState
         requires plan { IsPlan (choices_of self.now) self.now.legs plan.now }
         requires course { IsSome start.now.direction }
         requires speed { IsSome start.now.speed }
         requires planned { k ≤ positions_of self.now }
-        requires near { positions_of self.now * tick * 525763 ≤ 7900640400 }
-        requires start { IsTickState (7900640400 - positions_of self.now * tick * 525763) start.now }
+        requires near { positions_of self.now * tick * GREATEST_VELOCITY ≤ FARTHEST }
+        requires start { IsTickState (FARTHEST - positions_of self.now * tick * GREATEST_VELOCITY) start.now }
         ensures value { IfSome start.now.direction (λ course. IfSome start.now.speed (λ speed.
             result ≡ own_state self.now plan.now tick start.now.point course speed k)) }
         ensures moved { IfSome start.now.direction (λ course. IfSome start.now.speed (λ speed. (step : ℕ) → k ≡ step + 1
-            → IsWithin (tick * 525763) (displacement (point_after self.now plan.now tick start.now.point course speed step) result.point))) }
-        ensures state { IsTickState 7900640400 result }
+            → IsWithin (tick * GREATEST_VELOCITY) (displacement (point_after self.now plan.now tick start.now.point course speed step) result.point))) }
+        ensures state { IsTickState FARTHEST result }
     {
         let start = UnderWay {
             point: start.point,

@@ -3,6 +3,8 @@ ghost use Rattle.std.specs.Prelude.{◌≡◌, ◌+◌, ◌*◌, ◌<◌, ◌≤
 ghost use Rattle.fixed_geometry.specs.Displacement.{displacement};
 ghost use Rattle.fixed_geometry.specs.Sizes.{IsWithin};
 ghost use Rattle.fixed_geometry.specs.Velocity.{velocity_of};
+ghost use Rattle.fixed_geometry.specs.declared.velocities.TheConstants.{GREATEST_VELOCITY};
+ghost use Rattle.motion.specs.declared.leg.TheConstants.{FARTHEST};
 ghost use Rattle.lattice.specs.Grids.{choices_of, positions_of};
 ghost use Rattle.lattice.specs.Inner.Passages.{way_by, AreOrders, IsOnHerWay, IsPassage};
 ghost use Rattle.lattice.specs.OwnMotion.{choice_in_force, hastened, ordered_course, ordered_speed, point_by, turned};
@@ -13,6 +15,9 @@ use crate::orders::{hastened, turned};
 use crate::plan::Plan;
 use crate::under_way::UnderWay;
 use fixed_geometry::{Point, velocity};
+
+/// The longest tick, in seconds, in which the greatest velocity leads no farther than `FARTHEST`.
+pub(crate) const LONGEST_TICK: u32 = 15_026;
 
 /// What a plan orders in the leg in force.
 #[derive(Clone, Copy)]
@@ -36,8 +41,8 @@ pub(crate) struct Passage {
 }
 
 fn product(tick: u32, velocity: i64) -> i64
-    requires tick { tick ≤ 15026 }
-    requires velocity { unsigned_abs velocity ≤ 525763 }
+    requires tick { tick ≤ LONGEST_TICK }
+    requires velocity { unsigned_abs velocity ≤ GREATEST_VELOCITY }
     ensures { result ≡ pos tick *ℤ velocity }
 {
     i64::from(tick) * velocity
@@ -45,10 +50,10 @@ fn product(tick: u32, velocity: i64) -> i64
 
 /// One component of the way that a velocity leads in a tick of so many seconds.
 fn scale(velocity: i64, tick: u32) -> i64
-    requires velocity { unsigned_abs velocity ≤ 525763 }
-    requires tick { tick ≤ 15026 }
+    requires velocity { unsigned_abs velocity ≤ GREATEST_VELOCITY }
+    requires tick { tick ≤ LONGEST_TICK }
     ensures value { result ≡ pos tick *ℤ velocity }
-    ensures small { unsigned_abs result ≤ tick * 525763 }
+    ensures small { unsigned_abs result ≤ tick * GREATEST_VELOCITY }
 {
     product(tick, velocity)
 }
@@ -57,9 +62,9 @@ fn scale(velocity: i64, tick: u32) -> i64
 fn way_of(direction: u16, speed: u16, tick: u32) -> Point
     requires direction { direction < 3600 }
     requires speed { speed ≤ 1022 }
-    requires tick { tick ≤ 15026 }
+    requires tick { tick ≤ LONGEST_TICK }
     ensures value { result ≡ way_by tick (velocity_of direction speed) }
-    ensures short { IsWithin (tick * 525763) result }
+    ensures short { IsWithin (tick * GREATEST_VELOCITY) result }
 {
     let velocity = velocity(direction, speed);
     Point {
@@ -70,8 +75,8 @@ fn way_of(direction: u16, speed: u16, tick: u32) -> Point
 
 /// One component of a point that has moved.
 fn moved(from: i64, way: i64) -> i64
-    requires from { unsigned_abs from ≤ 7900640400 }
-    requires way { unsigned_abs way ≤ 7900640400 }
+    requires from { unsigned_abs from ≤ FARTHEST }
+    requires way { unsigned_abs way ≤ FARTHEST }
     ensures value { result ≡ from +ℤ way }
     ensures moved { result -ℤ from ≡ way }
     ensures near { unsigned_abs result ≤ unsigned_abs from + unsigned_abs way }
@@ -81,8 +86,8 @@ fn moved(from: i64, way: i64) -> i64
 
 /// Where a way leads from a point.
 fn moved_by(point: Point, way: Point) -> Point
-    requires point { IsWithin 7900640400 point }
-    requires way { IsWithin 7900640400 way }
+    requires point { IsWithin FARTHEST point }
+    requires way { IsWithin FARTHEST way }
     ensures value { result ≡ record { x = point.x +ℤ way.x; y = point.y +ℤ way.y } }
     ensures moved { displacement point result ≡ way }
     ensures near_x { unsigned_abs result.x ≤ unsigned_abs point.x + unsigned_abs way.x }
@@ -139,7 +144,7 @@ impl Lattice {
     ) -> Passage
         requires plan { IsPlan (choices_of self.now) self.now.legs plan.now }
         requires planned { step ≤ positions_of self.now }
-        requires tick { tick ≤ 15026 }
+        requires tick { tick ≤ LONGEST_TICK }
         requires course { start.direction < 3600 }
         requires speed { start.speed ≤ 1022 }
         requires below { reached.direction < 3600 }
@@ -156,7 +161,7 @@ impl Lattice {
 
     /// The passage once she has turned and changed speed towards the orders.
     fn steered(&self, passage: Passage, tick: u32) -> Passage
-        requires tick { tick ≤ 15026 }
+        requires tick { tick ≤ LONGEST_TICK }
         requires on_her_way { IsOnHerWay tick passage }
         requires course { passage.orders.course < 3600 }
         requires speed { passage.orders.speed ≤ 1022 }
@@ -200,20 +205,20 @@ impl Lattice {
     ) -> Passage
         requires plan { IsPlan (choices_of self.now) self.now.legs plan.now }
         requires planned { step < positions_of self.now }
-        requires tick { tick ≤ 15026 }
+        requires tick { tick ≤ LONGEST_TICK }
         requires course { start.direction < 3600 }
         requires speed { start.speed ≤ 1022 }
         requires passage { IsPassage self.now plan.now tick start step passage }
-        requires point { IsWithin 7900640400 passage.vessel.point }
+        requires point { IsWithin FARTHEST passage.vessel.point }
         ensures passage { IsPassage self.now plan.now tick start (step + 1) result }
         ensures direction { result.vessel.direction ≡ turned self.now.turn_rate passage.vessel.direction
             (ordered_course self.now (choice_in_force self.now plan.now step) start.direction) }
         ensures speed { result.vessel.speed ≡ hastened self.now.speed_rate passage.vessel.speed
             (ordered_speed self.now (choice_in_force self.now plan.now step) start.speed) }
         ensures point { result.vessel.point ≡ point_by tick (velocity_of result.vessel.direction result.vessel.speed) passage.vessel.point }
-        ensures moved { IsWithin (tick * 525763) (displacement passage.vessel.point result.vessel.point) }
-        ensures near_x { unsigned_abs result.vessel.point.x ≤ unsigned_abs passage.vessel.point.x + tick * 525763 }
-        ensures near_y { unsigned_abs result.vessel.point.y ≤ unsigned_abs passage.vessel.point.y + tick * 525763 }
+        ensures moved { IsWithin (tick * GREATEST_VELOCITY) (displacement passage.vessel.point result.vessel.point) }
+        ensures near_x { unsigned_abs result.vessel.point.x ≤ unsigned_abs passage.vessel.point.x + tick * GREATEST_VELOCITY }
+        ensures near_y { unsigned_abs result.vessel.point.y ≤ unsigned_abs passage.vessel.point.y + tick * GREATEST_VELOCITY }
     {
         let steered = self.steered(passage, tick);
         Passage {

@@ -4,12 +4,13 @@ use Rattle.std.specs.Prelude.{Option, zero, suc, [], ◌∷◌}
 use Rattle.std.specs.Option.{option_map}
 use Rattle.std.proofs.lemmas.Int.{ints}
 use Rattle.std.proofs.lemmas.Bool.Decides.{nat_tests}
+use Rattle.fixed_geometry.specs.Displacement.{displacement}
 use Rattle.fixed_geometry.specs.Sizes.{IsWithin}
 use Rattle.fixed_geometry.specs.declared.point.Point.{Point}
+use Rattle.fixed_geometry.specs.declared.velocities.TheConstants.{GREATEST_VELOCITY}
 use Rattle.motion.specs.Between.{between}
 use Rattle.motion.specs.Inner.LegOrder.{AreLegs}
 use Rattle.motion.specs.TickStates.{AreJoined, IsLeg, Meets, MovesLittle, holds, state_at, state_on}
-use Rattle.fixed_geometry.specs.Displacement.{displacement}
 use Rattle.motion.specs.declared.leg.Leg.{Leg}
 use Rattle.motion.specs.declared.leg.TickState.{TickState}
 use Rattle.motion.proofs.LastPassing.{IsLastAt, found}
@@ -121,7 +122,7 @@ module _ (from to : Leg → ℤ) (slow : (leg : Leg) → IsLeg leg → 9 * unsig
       three a b c e l m n most p q r le = omega (arith, ints)
 
   component_near : (gap t u : ℕ) (legs : List Leg) (a b : Leg) → AreLegs legs → AreJoined gap legs → IsLastAt (holds t) legs a → IsLastAt (holds u) legs b
-      → t ≤ u → u ≤ t + gap → unsigned_abs (component_at from to u b -ℤ component_at from to t a) ≤ (u - t) * 525763 + 2
+      → t ≤ u → u ≤ t + gap → unsigned_abs (component_at from to u b -ℤ component_at from to t a) ≤ (u - t) * GREATEST_VELOCITY + 2
   component_near gap t u legs a b h joined at_t at_u le close =
       let i = at_t.index in
       let j = at_u.index in
@@ -137,7 +138,7 @@ module _ (from to : Leg → ℤ) (slow : (leg : Leg) → IsLeg leg → 9 * unsig
         | inr (inl same) ↦ (let one : a ≡ b = sym at_t.here ∙ (ap (λ (k : ℕ). get_or legs k a) same ∙ b-here) in
             let a-leg : IsLeg a = subst IsLeg at_t.here (h.each i a at_t.within) in
             let bound = one_leg t u a a-leg begun le (subst (λ (l : Leg). u ≤ l.t2) (sym one) over) in
-            let P : Leg → Type 0 = λ y. unsigned_abs (component_at from to u y -ℤ component_at from to t a) ≤ (u - t) * 525763 + 2 in
+            let P : Leg → Type 0 = λ y. unsigned_abs (component_at from to u y -ℤ component_at from to t a) ≤ (u - t) * GREATEST_VELOCITY + 2 in
             subst P one (small (component_at from to u a -ℤ component_at from to t a) (u - t) (omega arith)))
         | inr (inr gt) ↦ absurd (let a-leg : IsLeg a = subst IsLeg at_t.here (h.each i a at_t.within) in
             let lasts = a-leg.lasts in
@@ -148,7 +149,7 @@ module _ (from to : Leg → ℤ) (slow : (leg : Leg) → IsLeg leg → 9 * unsig
             cc)
       ]
     where
-      small : (z : ℤ) (d : ℕ) → 9 * unsigned_abs z ≤ 4731860 * d + 18 → unsigned_abs z ≤ d * 525763 + 2
+      small : (z : ℤ) (d : ℕ) → 9 * unsigned_abs z ≤ 4731860 * d + 18 → unsigned_abs z ≤ d * GREATEST_VELOCITY + 2
       small z d h = omega arith
 
 -- ---- both components
@@ -171,7 +172,7 @@ unfolding state_on component_at
 moves_little gap legs h joined t u before after le close at_t at_u =
     let a = seen_on t legs before at_t in
     let b = seen_on u legs after at_u in
-    let P : TickState → TickState → Type 0 = λ s v. IsWithin ((u - t) * 525763 + 2) (displacement s.point v.point) in
+    let P : TickState → TickState → Type 0 = λ s v. IsWithin ((u - t) * GREATEST_VELOCITY + 2) (displacement s.point v.point) in
     subst₂ P a.is b.is (record {
       x = component_near (λ leg. leg.p1.x) (λ leg. leg.p2.x) slow_x (λ e l m. ap (λ (p : Point). p.x) m.point) gap t u legs a.leg b.leg h joined a.last b.last le close;
       y = component_near (λ leg. leg.p1.y) (λ leg. leg.p2.y) slow_y (λ e l m. ap (λ (p : Point). p.y) m.point) gap t u legs a.leg b.leg h joined a.last b.last le close;

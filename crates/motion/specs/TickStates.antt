@@ -2,10 +2,12 @@
 use Rattle.std.specs.Prelude.{ℕ, ◌≡◌, ◌+◌, ◌-◌, ◌*◌, ◌≤◌, ◌<◌, ◌⊎◌, Bool, ◌&&◌, nat_le, List, length, Option, None, Some, IfSome, pos, ◌*ℤ◌, ◌≤ℤ◌}
 use Rattle.std.specs.List.{AllAdjacentBelow, filter, last_or}
 use Rattle.std.specs.Option.{option_map}
+use Rattle.fixed_geometry.specs.Displacement.{displacement}
 use Rattle.fixed_geometry.specs.Plane.{norm2_of}
 use Rattle.fixed_geometry.specs.Sizes.{IsWithin}
+use Rattle.fixed_geometry.specs.declared.projection.TheConstants.{REGION_SIZE}
+use Rattle.fixed_geometry.specs.declared.velocities.TheConstants.{GREATEST_VELOCITY}
 use Rattle.motion.specs.Between.{between}
-use Rattle.fixed_geometry.specs.Displacement.{displacement}
 use Rattle.motion.specs.declared.leg.Leg.{Leg}
 use Rattle.motion.specs.declared.leg.TickState.{TickState}
 
@@ -14,8 +16,8 @@ use Rattle.motion.specs.declared.leg.TickState.{TickState}
 pub record IsLeg (leg : Leg) : Type 0 where
   pub lasts : leg.t1 < leg.t2
   pub short : leg.t2 - leg.t1 ≤ 3600
-  pub begins : IsWithin 2222400000 leg.p1
-  pub ends : IsWithin 2222400000 leg.p2
+  pub begins : IsWithin REGION_SIZE leg.p1
+  pub ends : IsWithin REGION_SIZE leg.p2
   pub slow : (pos 81 *ℤ norm2_of (displacement leg.p1 leg.p2)) ≤ℤ pos (4630 * 1022 * (leg.t2 - leg.t1) * (4630 * 1022 * (leg.t2 - leg.t1)))
   pub direction : IfSome leg.direction (λ d. d < 3600)
   pub speed : IfSome leg.speed (λ v. v ≤ 1022)
@@ -40,7 +42,7 @@ unfoldable pub state_at : ℕ → List Leg → Option TickState
 state_at t legs = option_map (state_on t) (last_or None (filter (holds t) legs))
 
 -- A vessel lies at most so far from the origin in each component, and heads and moves as a report can say. In the region
--- that is 2,222,400,000, and a predicted or planned one reaches 7,900,640,400.
+-- that is `REGION_SIZE`, and a predicted or planned one reaches `FARTHEST`.
 pub record IsTickState (size : ℕ) (state : TickState) : Type 0 where
   pub point : IsWithin size state.point
   pub direction : IfSome state.direction (λ d. d < 3600)
@@ -55,8 +57,8 @@ pub record Meets (earlier later : Leg) : Type 0 where
 abbrev pub AreJoined : ℕ → List Leg → Type 0
 AreJoined gap legs = AllAdjacentBelow (λ earlier later. Meets earlier later ⊎ (earlier.t2 + gap < later.t1)) legs (length legs)
 
--- From one time to another, at most `gap` seconds later, a vessel that is seen at both moves by at most 525,763 a second in
--- each component (102.2 knots are 525,762.2), and by 2 more, since both places are rounded.
+-- From one time to another, at most `gap` seconds later, a vessel that is seen at both moves by at most the greatest velocity in
+-- each component, and by 2 more, since both places are rounded.
 abbrev pub MovesLittle : ℕ → List Leg → Type 0
 MovesLittle gap legs = (t u : ℕ) (before after : TickState) → t ≤ u → u ≤ t + gap → state_at t legs ≡ Some before → state_at u legs ≡ Some after
-    → IsWithin ((u - t) * 525763 + 2) (displacement before.point after.point)
+    → IsWithin ((u - t) * GREATEST_VELOCITY + 2) (displacement before.point after.point)

@@ -1,15 +1,20 @@
 //! One leg, and the state of a vessel on it.
 ghost use Rattle.std.specs.Prelude.{pos, ◌≡◌, ◌+◌, ◌*◌, ◌-◌, ◌<◌, ◌≤◌, ◌^◌, ◌*ℤ◌, unsigned_abs};
+ghost use Rattle.fixed_geometry.specs.declared.projection.TheConstants.{REGION_SIZE};
 ghost use Rattle.motion.specs.Between.{between};
 ghost use Rattle.motion.specs.TickStates.{state_on, holds, IsLeg, IsTickState};
 
 use fixed_geometry::{Point, round_quotient};
 
+/// How far a predicted or planned vessel lies from the origin at most, in each component: the region, and three hours at the
+/// greatest velocity.
+pub const FARTHEST: u64 = 7_900_640_400;
+
 /// Where a vessel is at a time, and how she was last reported to head and to move.
 #[derive(Clone, Copy, Debug, PartialEq, Eq)]
 pub struct TickState {
-    /// In tenths of a millimetre. A vessel seen on her legs lies at most 2,222,400,000 from the origin in each component, a
-    /// predicted or planned one at most 7,900,640,400.
+    /// In tenths of a millimetre. A vessel seen on her legs lies at most `REGION_SIZE` from the origin in each component, a
+    /// predicted or planned one at most `FARTHEST`.
     pub point: Point,
     /// Tenths of a degree clockwise from north, below 3600.
     pub direction: Option<u16>,
@@ -18,7 +23,7 @@ pub struct TickState {
 }
 
 /// The straight track of a vessel from one report of hers to the next, an hour later at most. Times are seconds since the
-/// Unix epoch, points in tenths of a millimetre, at most 2,222,400,000 in each component.
+/// Unix epoch, points in tenths of a millimetre, at most `REGION_SIZE` in each component.
 #[derive(Clone, Copy, Debug, PartialEq, Eq)]
 pub struct Leg {
     /// When the leg begins, and where.
@@ -44,13 +49,13 @@ fn scale(length: i64, factor: u64) -> i64
 
 /// One component of the point after `since` of the leg's `whole` seconds.
 fn between(from: i64, to: i64, since: u64, whole: u64) -> i64
-    requires from_small { unsigned_abs from ≤ 2222400000 }
-    requires to_small { unsigned_abs to ≤ 2222400000 }
+    requires from_small { unsigned_abs from ≤ REGION_SIZE }
+    requires to_small { unsigned_abs to ≤ REGION_SIZE }
     requires some { 0 < whole }
     requires short { whole ≤ 3600 }
     requires part { since ≤ whole }
     ensures value { result ≡ between from to since whole }
-    ensures small { unsigned_abs result ≤ 2222400000 }
+    ensures small { unsigned_abs result ≤ REGION_SIZE }
 {
     from + round_quotient(scale(to - from, since), whole as u32)
 }
@@ -69,7 +74,7 @@ impl Leg {
         requires begun { self.now.t1 ≤ time }
         requires not_over { time ≤ self.now.t2 }
         ensures value { result ≡ state_on time self.now }
-        ensures state { IsTickState 2222400000 result }
+        ensures state { IsTickState REGION_SIZE result }
     {
         let since = time - self.t1;
         let whole = self.t2 - self.t1;

@@ -2,6 +2,7 @@
 ghost use Rattle.std.specs.Prelude.{◌≡◌, ◌≤◌, ◌<◌, ◌++◌, ◌∷◌, [], ◌↔◌, None, length, IsTrue, IsNone, IfSome, OnOk, OnErr, false};
 ghost use Rattle.std.specs.List.{All, last_or};
 ghost use Rattle.std.specs.List.Sorted.{IsPartitionPoint};
+ghost use Rattle.fixed_geometry.specs.declared.projection.TheConstants.{REGION_SIZE};
 ghost use Rattle.motion.specs.Inner.LegOrder.{AreLegs};
 ghost use Rattle.motion.specs.TickStates.{state_at, holds, AreJoined, IsLeg, IsTickState, MovesLittle};
 
@@ -66,7 +67,7 @@ impl Legs {
     pub fn at(&self, time: u64) -> Option<TickState>
         ensures value { result ≡ state_at time self.now }
         ensures none { IsNone result ↔ All (λ leg. holds time leg ≡ false) self.now }
-        ensures state { IfSome result (IsTickState 2222400000) }
+        ensures state { IfSome result (IsTickState REGION_SIZE) }
     {
         let begun = begun(&self.legs, time);
         if begun == 0 {
@@ -81,7 +82,7 @@ impl Legs {
     }
 
     /// A law of the legs, which does nothing: where they meet or lie more than `gap` seconds apart, the vessel moves from one
-    /// time to another, at most `gap` seconds later, by at most 525,763 a second in each component, and by 2 more.
+    /// time to another, at most `gap` seconds later, by at most the greatest velocity in each component, and by 2 more.
     pub fn moves_little(&self, gap: u64)
         requires { AreJoined gap self.now }
         ensures { MovesLittle gap self.now }

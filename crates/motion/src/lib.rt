@@ -13,7 +13,7 @@ mod leg;
 mod legs;
 mod step;
 
-pub use leg::{Leg, TickState};
+pub use leg::{FARTHEST, Leg, TickState};
 pub use legs::Legs;
 pub use step::Step;
 

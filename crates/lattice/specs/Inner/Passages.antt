@@ -3,6 +3,7 @@ use Rattle.std.specs.Prelude.{ℕ, ◌≡◌, ◌+◌, ◌*◌, ◌/◌, ◌<◌
 use Rattle.fixed_geometry.specs.Sizes.{IsWithin}
 use Rattle.fixed_geometry.specs.Velocity.{velocity_of}
 use Rattle.fixed_geometry.specs.declared.point.Point.{Point}
+use Rattle.fixed_geometry.specs.declared.velocities.TheConstants.{GREATEST_VELOCITY}
 use Rattle.lattice.specs.Grids.{Grid}
 use Rattle.lattice.specs.OwnMotion.{choice_in_force, ordered_course, ordered_speed}
 use Rattle.lattice.specs.declared.passage.Orders.{Orders}
@@ -25,7 +26,7 @@ pub record AreOrders (grid : Grid) (plan : List ℕ) (start : UnderWay) (step : 
 -- The way is that of the vessel's direction and speed.
 pub record IsOnHerWay (tick : ℕ) (passage : Passage) : Type 0 where
   pub way : passage.way ≡ way_by tick (velocity_of passage.vessel.direction passage.vessel.speed)
-  pub short : IsWithin (tick * 525763) passage.way
+  pub short : IsWithin (tick * GREATEST_VELOCITY) passage.way
   pub below : passage.vessel.direction < 3600
   pub small : passage.vessel.speed ≤ 1022
 

@@ -1,27 +1,27 @@
 use Rattle.std.proofs.Common.{◌≡◌, ℕ, ◌*◌, ◌+◌, ◌-◌, ◌/◌, ◌%◌, ◌<◌, ◌^◌, List, [], ◌∷◌, ◌++◌, sym, arith, refl}
 use Rattle.std.proofs.Math.Nat.{one-le-pow}
 use Rattle.lattice.specs.PlanNumbers.{plan_of}
-use Rattle.lattice.proofs.Digits.{plan_none, plan_step, next_place, lower_place, length-plan_of, below_plan_of}
+use Rattle.lattice.proofs.Digits.{plan_none, plan_step, next_weight, lower_weight, length-plan_of, below_plan_of}
 use Rattle.lattice.proofs.numbers.plan_of.Goals as goal
 
-lower : (b legs leg place : ℕ) → 0 < b → leg < legs → place ≡ b ^ (legs - leg) → place / b ≡ b ^ (legs - (leg + 1))
-lower b legs leg place p lt is = rw is (lower_place b legs leg p lt)
+lower : (b legs leg weight : ℕ) → 0 < b → leg < legs → weight ≡ b ^ (legs - leg) → weight / b ≡ b ^ (legs - (leg + 1))
+lower b legs leg weight p lt is = rw is (lower_weight b legs leg p lt)
 
-longer : (b legs leg n place lower : ℕ) (plan : List ℕ) → 0 < b → leg < legs → place ≡ b ^ (legs - leg) → lower ≡ b ^ (legs - (leg + 1)) → plan ≡ plan_of b leg (n / place)
+longer : (b legs leg n weight lower : ℕ) (plan : List ℕ) → 0 < b → leg < legs → weight ≡ b ^ (legs - leg) → lower ≡ b ^ (legs - (leg + 1)) → plan ≡ plan_of b leg (n / weight)
     → plan ++ n / lower % b ∷ [] ≡ plan_of b (leg + 1) (n / lower)
-longer b legs leg n place lower plan p lt is next so_far =
-    let e : place ≡ lower * b = rw (is, next) (next_place b legs leg p lt) in
+longer b legs leg n weight lower plan p lt is next so_far =
+    let e : weight ≡ lower * b = rw (is, next) (next_weight b legs leg p lt) in
     rw (so_far, e) (sym (plan_step b leg n lower))
 
 pub loop-leg-init : goal.loop-leg-init
 loop-leg-init c = record {
-  place = let e : c.args.legs - 0 ≡ c.args.legs = omega arith in rw e c.requires.plans;
+  weight = let e : c.args.legs - 0 ≡ c.args.legs = omega arith in rw e c.requires.plans;
   plan = rw (c.new-plan.ensures, plan_none) refl;
 }
 
 pub nonzero_div-number : goal.nonzero_div-number
 nonzero_div-number c =
-    let e = lower c.args.choices c.args.legs c.loop-leg._leg _ c.requires.some_choice c.loop-leg-test.true c.loop-leg.invariant.place in
+    let e = lower c.args.choices c.args.legs c.loop-leg._leg _ c.requires.some_choice c.loop-leg-test.true c.loop-leg.invariant.weight in
     rw e (one-le-pow (c.args.legs - (c.loop-leg._leg + 1)) c.args.choices c.requires.some_choice)
 
 pub push-requires : goal.push-requires
@@ -32,10 +32,10 @@ push-requires c =
 
 pub loop-leg-preserved : goal.loop-leg-preserved
 loop-leg-preserved c =
-    let e = lower c.args.choices c.args.legs c.loop-leg._leg _ c.requires.some_choice c.loop-leg-test.true c.loop-leg.invariant.place in
+    let e = lower c.args.choices c.args.legs c.loop-leg._leg _ c.requires.some_choice c.loop-leg-test.true c.loop-leg.invariant.weight in
     record {
-      place = e;
-      plan = rw c.push.ensures (longer c.args.choices c.args.legs c.loop-leg._leg c.args.number c.loop-leg.place _ c.loop-leg.plan c.requires.some_choice c.loop-leg-test.true c.loop-leg.invariant.place e c.loop-leg.invariant.plan);
+      weight = e;
+      plan = rw c.push.ensures (longer c.args.choices c.args.legs c.loop-leg._leg c.args.number c.loop-leg.weight _ c.loop-leg.plan c.requires.some_choice c.loop-leg-test.true c.loop-leg.invariant.weight e c.loop-leg.invariant.plan);
     }
 
 pub returns-clause-plan : goal.returns-clause-plan

@@ -4,6 +4,6 @@ use Rattle.lattice.proofs.numbers.plan_of.Given as goal
 
 abbrev pub invariant-loop-leg : goal.invariant-loop-leg
 invariant-loop-leg l = record {
-  place : l.place ≡ l.choices ^ (l.legs - l._leg);
-  plan : l.plan ≡ plan_of l.choices l._leg (l.number / l.place);
+  weight : l.weight ≡ l.choices ^ (l.legs - l._leg);
+  plan : l.plan ≡ plan_of l.choices l._leg (l.number / l.weight);
 }

@@ -1,10 +1,11 @@
 use Rattle.std.proofs.Common.{◌≡◌, ℕ, ◌≤◌, ◌*◌, ℤ, pos, ◌*ℤ◌, unsigned_abs, w64, rules}
 use Rattle.std.proofs.Math.Nat.{mul-le-mul_left}
 use Rattle.std.proofs.lemmas.Int.{to_z-of_z, unsigned_abs-mul}
+use Rattle.fixed_geometry.specs.declared.velocities.TheConstants.{GREATEST_VELOCITY}
 use Rattle.lattice.proofs.passage.scale.Goals as goal
 
-short : (tick : ℕ) (velocity passed way given : ℤ) → unsigned_abs velocity ≤ 525763 → passed ≡ velocity → way ≡ pos tick *ℤ passed → given ≡ way →
-    unsigned_abs given ≤ tick * 525763
+short : (tick : ℕ) (velocity passed way given : ℤ) → unsigned_abs velocity ≤ GREATEST_VELOCITY → passed ≡ velocity → way ≡ pos tick *ℤ passed → given ≡ way →
+    unsigned_abs given ≤ tick * GREATEST_VELOCITY
 short tick velocity passed way given h same is back = rw (back, is, same, unsigned_abs-mul) (mul-le-mul_left tick h)
 
 pub returns-clause-small : goal.returns-clause-small

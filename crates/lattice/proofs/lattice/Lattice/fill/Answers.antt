@@ -6,8 +6,10 @@ use Rattle.std.proofs.lemmas.List.{get_or-set_other}
 use Rattle.fixed_geometry.specs.Displacement.{displacement}
 use Rattle.fixed_geometry.specs.Sizes.{IsWithin}
 use Rattle.fixed_geometry.specs.declared.point.Point.{Point}
+use Rattle.fixed_geometry.specs.declared.velocities.TheConstants.{GREATEST_VELOCITY}
 use Rattle.motion.specs.TickStates.{IsTickState}
 use Rattle.motion.specs.declared.leg.TickState.{TickState}
+use Rattle.motion.specs.declared.leg.TheConstants.{FARTHEST}
 use Rattle.lattice.specs.Inner.Passages.{IsPassage}
 use Rattle.lattice.specs.OwnMotion.{own_state}
 use Rattle.lattice.specs.UnderWays.{HasAdvanced}
@@ -57,12 +59,12 @@ loop-j-preserved c = record {
   value = one_state_more c.loop-j.path c.loop-j.j c.tick_on.result.0
       (λ i. own_state c.args.self.now c.args.plan.now c.args.tick c.args.start.point c.args.start.direction c.args.start.speed (c.args.first + i))
       (omega arith) (c.tick_on.ensures.value (c.loop-j.invariant.advanced (omega arith))) c.loop-j.invariant.value;
-  moved = next_more (λ p q. IsWithin (c.args.tick * 525763) (displacement p q)) c.loop-j.path c.loop-j.j c.tick_on.result.0 (omega arith) c.loop-j.invariant.moved
-      (λ i d e. subst (λ (p : Point). IsWithin (c.args.tick * 525763) (displacement (get_or c.loop-j.path i d).point p)) (sym c.tick_on.ensures.point) (c.loop-j.invariant.last i d e));
+  moved = next_more (λ p q. IsWithin (c.args.tick * GREATEST_VELOCITY) (displacement p q)) c.loop-j.path c.loop-j.j c.tick_on.result.0 (omega arith) c.loop-j.invariant.moved
+      (λ i d e. subst (λ (p : Point). IsWithin (c.args.tick * GREATEST_VELOCITY) (displacement (get_or c.loop-j.path i d).point p)) (sym c.tick_on.ensures.point) (c.loop-j.invariant.last i d e));
   last = λ i d e.
-      subst (λ (p : Point). IsWithin (c.args.tick * 525763) (displacement p c.tick_on.result.1.vessel.point))
+      subst (λ (p : Point). IsWithin (c.args.tick * GREATEST_VELOCITY) (displacement p c.tick_on.result.1.vessel.point))
       (sym (ap (λ (s : TickState). s.point) (set_here c.loop-j.path c.loop-j.j i c.tick_on.result.0 d (omega arith) e) ∙ c.tick_on.ensures.point)) c.tick_on.ensures.moved;
-  states = each_more (IsTickState 7900640400) c.loop-j.path c.loop-j.j c.tick_on.result.0 (omega arith) c.tick_on.ensures.state c.loop-j.invariant.states;
+  states = each_more (IsTickState FARTHEST) c.loop-j.path c.loop-j.j c.tick_on.result.0 (omega arith) c.tick_on.ensures.state c.loop-j.invariant.states;
   near_x = grind (arith, common_steps);
   near_y = grind (arith, common_steps);
 }

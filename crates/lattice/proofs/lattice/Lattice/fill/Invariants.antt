@@ -1,8 +1,10 @@
 use Rattle.std.proofs.Common.{◌≡◌, ℕ, ◌+◌, ◌*◌, ◌<◌, ◌≤◌, length, get_or, unsigned_abs}
-use Rattle.fixed_geometry.specs.Sizes.{IsWithin}
 use Rattle.fixed_geometry.specs.Displacement.{displacement}
+use Rattle.fixed_geometry.specs.Sizes.{IsWithin}
+use Rattle.fixed_geometry.specs.declared.velocities.TheConstants.{GREATEST_VELOCITY}
 use Rattle.motion.specs.TickStates.{IsTickState}
 use Rattle.motion.specs.declared.leg.TickState.{TickState}
+use Rattle.motion.specs.declared.leg.TheConstants.{FARTHEST}
 use Rattle.lattice.specs.Grids.{positions_of}
 use Rattle.lattice.specs.Inner.Passages.{IsPassage}
 use Rattle.lattice.specs.OwnMotion.{own_state}
@@ -15,9 +17,9 @@ invariant-loop-j l = record {
   advanced : l.first + l.j ≤ positions_of l.self → HasAdvanced l.self l.plan l.tick l.start (l.first + l.j) l.passage.vessel;
   passage : l.first + l.j ≤ positions_of l.self → IsPassage l.self l.plan l.tick l.start (l.first + l.j) l.passage;
   value : (i : ℕ) (d : TickState) → i < l.j → get_or l.path i d ≡ own_state l.self l.plan l.tick l.start.point l.start.direction l.start.speed (l.first + i);
-  moved : (i : ℕ) (d : TickState) → i + 1 < l.j → IsWithin (l.tick * 525763) (displacement (get_or l.path i d).point (get_or l.path (i + 1) d).point);
-  last : (i : ℕ) (d : TickState) → i + 1 ≡ l.j → IsWithin (l.tick * 525763) (displacement (get_or l.path i d).point l.passage.vessel.point);
-  states : (i : ℕ) (d : TickState) → i < l.j → IsTickState 7900640400 (get_or l.path i d);
-  near_x : unsigned_abs l.passage.vessel.point.x ≤ unsigned_abs l.start.point.x + (l.first + l.j) * (l.tick * 525763);
-  near_y : unsigned_abs l.passage.vessel.point.y ≤ unsigned_abs l.start.point.y + (l.first + l.j) * (l.tick * 525763);
+  moved : (i : ℕ) (d : TickState) → i + 1 < l.j → IsWithin (l.tick * GREATEST_VELOCITY) (displacement (get_or l.path i d).point (get_or l.path (i + 1) d).point);
+  last : (i : ℕ) (d : TickState) → i + 1 ≡ l.j → IsWithin (l.tick * GREATEST_VELOCITY) (displacement (get_or l.path i d).point l.passage.vessel.point);
+  states : (i : ℕ) (d : TickState) → i < l.j → IsTickState FARTHEST (get_or l.path i d);
+  near_x : unsigned_abs l.passage.vessel.point.x ≤ unsigned_abs l.start.point.x + (l.first + l.j) * (l.tick * GREATEST_VELOCITY);
+  near_y : unsigned_abs l.passage.vessel.point.y ≤ unsigned_abs l.start.point.y + (l.first + l.j) * (l.tick * GREATEST_VELOCITY);
 }
