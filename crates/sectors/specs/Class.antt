@@ -27,12 +27,12 @@ abbrev pub is_ahead : ℕ → ℕ → Bool
 is_ahead most k = nat_le (unsigned_abs (swing_of 0 k)) most
 
 -- from right ahead to 22.5 degrees abaft the starboard beam
-abbrev pub is_to_starboard : ℕ → Bool
-is_to_starboard k = nat_le k 1125
+abbrev pub is_in_starboard_sector : ℕ → Bool
+is_in_starboard_sector k = nat_le k 1125
 
 -- from 22.5 degrees abaft the port beam to right ahead
-abbrev pub is_to_port : ℕ → Bool
-is_to_port k = nat_le 2475 k || (k == 0)
+abbrev pub is_in_port_sector : ℕ → Bool
+is_in_port_sector k = nat_le 2475 k || (k == 0)
 
 -- ---- the table, of which the first row that applies counts
 
@@ -41,8 +41,8 @@ class_seen angles s =
     if s.closing && is_abaft angles.doubt s.alpha then Overtaking
     else (if s.closing && is_abaft angles.doubt s.beta then Overtaken
     else (if is_ahead angles.ahead s.beta && is_ahead angles.ahead s.alpha && nat_le s.off angles.reciprocal then HeadOn
-    else (if is_to_starboard s.beta && is_to_port s.alpha then CrossingGives
-    else (if is_to_starboard s.alpha && is_to_port s.beta then CrossingStands
+    else (if is_in_starboard_sector s.beta && is_in_port_sector s.alpha then CrossingGives
+    else (if is_in_starboard_sector s.alpha && is_in_port_sector s.beta then CrossingStands
     else Passing))))
 
 -- ---- what they see at a step

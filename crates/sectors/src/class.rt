@@ -2,7 +2,7 @@
 ghost use Rattle.std.specs.Prelude.{pos, ◌≡◌, ◌^◌, ◌<◌, ◌≤◌, ◌&&◌, neg_ℤ, int_lt, nat_le, unsigned_abs, IfSome};
 ghost use Rattle.fixed_geometry.specs.Bearing.{swing_of};
 ghost use Rattle.fixed_geometry.specs.Plane.{dot_of};
-ghost use Rattle.sectors.specs.Class.{class_of, class_between, class_seen, is_abaft, is_ahead, is_to_port, is_to_starboard, opposite, reverse_of};
+ghost use Rattle.sectors.specs.Class.{class_of, class_between, class_seen, is_abaft, is_ahead, is_in_port_sector, is_in_starboard_sector, opposite, reverse_of};
 
 use crate::angles::Angles;
 use fixed_geometry::{Point, bearing, dot, relative, swing};
@@ -71,14 +71,14 @@ fn is_ahead(most: u16, k: u16) -> bool
     angle_between(0, k) <= most
 }
 
-fn is_to_starboard(k: u16) -> bool
-    ensures { result ≡ is_to_starboard k }
+fn is_in_starboard_sector(k: u16) -> bool
+    ensures { result ≡ is_in_starboard_sector k }
 {
     k <= 1125
 }
 
-fn is_to_port(k: u16) -> bool
-    ensures { result ≡ is_to_port k }
+fn is_in_port_sector(k: u16) -> bool
+    ensures { result ≡ is_in_port_sector k }
 {
     2475 <= k || k == 0
 }
@@ -106,9 +106,9 @@ fn class_seen(closing: bool, beta: u16, alpha: u16, off: u16, angles: &Angles) -
         Class::Overtaken
     } else if is_head_on(beta, alpha, off, angles) {
         Class::HeadOn
-    } else if is_to_starboard(beta) && is_to_port(alpha) {
+    } else if is_in_starboard_sector(beta) && is_in_port_sector(alpha) {
         Class::CrossingGives
-    } else if is_to_starboard(alpha) && is_to_port(beta) {
+    } else if is_in_starboard_sector(alpha) && is_in_port_sector(beta) {
         Class::CrossingStands
     } else {
         Class::Passing
