@@ -1,5 +1,6 @@
 -- The port side by two turns: a vector falls short of a direction where the turn from the direction to it is to port.
 use Rattle.std.proofs.Common.{◌≡◌, ℕ, zero, suc, ◌+◌, ◌-◌, ◌*◌, ◌/◌, ◌%◌, ◌<◌, ◌≤◌, inl, inr, ℤ, pos, neg_ℤ, ◌-ℤ◌, ◌*ℤ◌, ◌≤ℤ◌, ◌<ℤ◌, refl, sym, ap, ◌∙◌, arith, lit<, mul-le-mul_right}
+use Rattle.std.proofs.Math.Bool.{and-false}
 use Rattle.std.proofs.Math.IntN.{neg_ℤ-neg_ℤ}
 use Rattle.std.proofs.Math.Nat.{mul-pos, mul-lt-mul_of_pos_right}
 use Rattle.std.proofs.lemmas.Bool.{cases_lt}
@@ -121,10 +122,6 @@ joined_twice short true h = ap (λ (b : Bool). b && true) (h refl)
 joined_twice true false h = refl
 joined_twice false false h = refl
 
-no_more : (b : Bool) → (b && false) ≡ false
-no_more true = refl
-no_more false = refl
-
 module _ (d j k a : ℕ) (direction : d < 3600) (quarter : j < 4) (tenths : k < 900) (angle : a < 900) where
   lies_none : (900 * (0 + j) + k) % 3600 ≡ d → lies_to_port d (900 * j + a) ≡ not (nat_le k a)
   lies_none e = rw (relative_from (900 * j + a) d (omega arith) direction) (grind (arith, nat_tests))
@@ -201,7 +198,7 @@ module _ (d j k n e : ℕ) (direction : d < 3600) (quarter : j < 4) (tenths : k 
             ∙ (joined_twice (short 2 k n e) (turned (k + 1)) (λ h. short_twice k n e next ahead (sym one_on ∙ h))
             ∙ (turned_if (k + 1) more ∙ sym (lies_twice d j k _ direction quarter tenths angle same))))
         | inr last ↦ ap (λ (b : Bool). short 2 k n e && not b) (astern_at 1 0 (lit< tt) (lit< tt) (omega arith) ∙ short_once 0 n e (lit< tt) ahead)
-            ∙ (no_more (short 2 k n e) ∙ sym (lies_twice d j k _ direction quarter tenths angle same ∙ not_reached k _ last angle))
+            ∙ (and-false (short 2 k n e) ∙ sym (lies_twice d j k _ direction quarter tenths angle same ∙ not_reached k _ last angle))
       ]
 
   ported_thrice : Ported 3

@@ -1,5 +1,6 @@
 -- The last element of a list that passes a test.
 use Rattle.std.proofs.Common.{◌≡◌, ℕ, zero, suc, ◌⊎◌, inl, inr, ◌<◌, List, [], ◌∷◌, length, get_or, Some, None, cond, Bool, true, false, refl, arith}
+use Rattle.std.proofs.lemmas.Bool.{cases_Bool}
 use Rattle.std.specs.Prelude.{Option}
 use Rattle.std.specs.List.{All, filter, last_or}
 
@@ -40,10 +41,6 @@ pub record IsLastAt {X : Type 0} (p : X → Bool) (xs : List X) (x : X) : Type 0
   pub passes : p x ≡ true
   pub later : (k : ℕ) (e : X) → index < k → k < length xs → p (get_or xs k e) ≡ false
 
-true_or_false : (b : Bool) → (b ≡ true) ⊎ (b ≡ false)
-true_or_false true = inl refl
-true_or_false false = inr refl
-
 one_further : {X : Type 0} (p : X → Bool) (x y : X) (xs : List X) → IsLastAt p xs x → IsLastAt p (y ∷ xs) x
 one_further {X} p x y xs h = record {
   index = suc h.index;
@@ -61,7 +58,7 @@ found_or : {X : Type 0} (p : X → Bool) (o : Option X) (xs : List X) (x : X) �
     → ((o ≡ Some x) × All (λ y. p y ≡ false) xs) ⊎ IsLastAt p xs x
 found_or p o [] x e = inl (e, λ k d lt. absurd (omega arith))
 found_or {X} p o (y ∷ ys) x e =
-    elim (true_or_false (p y)) [
+    elim (cases_Bool (p y)) [
       | inl holds ↦ (let e' = rw holds at e in elim (found_or p (Some y) ys x e') [
         | inl (same, none) ↦ (let same' : y ≡ x = cc in inr (record {
           index = 0;
