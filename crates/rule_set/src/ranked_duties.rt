@@ -1,5 +1,5 @@
 //! The rules that differ with ranks.
-ghost use Rattle.std.specs.Prelude.{◌≡◌, ◌+◌, ◌<◌, IfOk};
+ghost use Rattle.std.specs.Prelude.{◌≡◌, ◌<◌, IfOk};
 ghost use Rattle.mtl_formulas.specs.FormulaTree.{leaf, tree_of};
 ghost use Rattle.mtl_formulas.specs.FormulaMeasures.{node_count};
 ghost use Rattle.rule_set.specs.Inner.Drafts.{IsMade};
