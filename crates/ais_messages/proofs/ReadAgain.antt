@@ -2,7 +2,8 @@
 use Rattle.std.proofs.Common.{◌≡◌, ℕ, ◌≤◌, ◌<◌, ◌==◌, ◌||◌, Bool, true, false, nat_lt, List, length, Option, Some, None, IfSome, unwrap_or, unsigned_abs, ℤ, pos, negsuc, ◌^◌, Ok, refl, ap, sym, ◌∙◌, arith}
 use Rattle.std.proofs.lemmas.Bool.Decides.{nat_tests}
 use Rattle.aivdm.specs.BitFields.{complement, unsigned_at}
-use Rattle.ais_messages.specs.MessageFields.{below, class_a_of, class_b_of, decoded_of, is_ship, layout_of, least_bits, message_of, mmsi_of, place_of, type_of, IsReport}
+use Rattle.ais_messages.specs.ShipIdentities.{is_ship}
+use Rattle.ais_messages.specs.MessageFields.{below, class_a_of, class_b_of, decoded_of, layout_of, least_bits, message_of, mmsi_of, place_of, type_of, IsReport}
 use Rattle.ais_messages.specs.PositionWriting.{bits_written, class_a_fields, class_b_fields, code_of, latitude_code, longitude_code, IfPlace}
 use Rattle.ais_messages.specs.declared.decoding.Layout.{Layout}
 use Rattle.ais_messages.specs.declared.decoding.Layout.TheVariants as layout

@@ -1,4 +1,5 @@
 pub mod Inner
+pub mod ShipIdentities
 pub mod MessageFields
 pub mod SixBitText
 pub use Rattle.aivdm.specs.BitFields

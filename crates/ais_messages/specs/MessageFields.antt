@@ -1,6 +1,7 @@
 -- The messages that are read, type by type: each field by its first bit and its width (ITU-R M.1371-5, annex 8, section 3).
 use Rattle.std.specs.Prelude.{ℕ, ◌≤◌, ◌<◌, ◌*◌, Bool, not, ◌&&◌, ◌||◌, ◌==◌, List, length, Option, Some, None, IfSome, Result, Ok, Err, ℤ, pos, ◌*ℤ◌, unsigned_abs, nat_lt, nat_le, if◌then◌else◌}
 use Rattle.aivdm.specs.BitFields.{unsigned_at, signed_at}
+use Rattle.ais_messages.specs.ShipIdentities.{is_ship}
 use Rattle.ais_messages.specs.SixBitText.{text_at}
 use Rattle.ais_messages.specs.declared.decoding.Layout.{Layout}
 use Rattle.ais_messages.specs.declared.decoding.Layout.TheVariants as layout
@@ -144,10 +145,6 @@ layout_of bits =
     else if type == 27 then Ok layout.LongRange
     else Err Kind
 
--- an identity of a ship (ITU-R M.585: it begins with a country's digits, 2 to 7)
-abbrev pub is_ship : ℕ → Bool
-is_ship mmsi = nat_le 200000000 mmsi && nat_le mmsi 799999999
-
 abbrev pub decoded_as : List Bool → Result Layout MessageCause → Decoded
 decoded_as bits (Err cause) = decoded.Dropped cause
 decoded_as bits (Ok layout) =
@@ -167,9 +164,6 @@ position_in (decoded.Message (message.Both _ _)) = None
 position_in (decoded.Dropped _) = None
 
 -- ---- the ranges
-
-abbrev pub IsShip : ℕ → Type 0
-IsShip mmsi = (200000000 ≤ mmsi) × (mmsi ≤ 799999999)
 
 -- the fields are in their ranges
 pub record IsReport (report : PositionReport) : Type 0 where

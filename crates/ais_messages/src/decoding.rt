@@ -1,9 +1,11 @@
 //! From bits to messages.
 ghost use Rattle.std.specs.Prelude.{◌≡◌, ◌<◌, ◌≤◌, ◌+◌, ◌*◌, length, unsigned_abs, IfOk, IfSome, IsTrue};
-ghost use Rattle.ais_messages.specs.MessageFields.{below, tenfold_below, class_a_of, class_b_of, coarse_place_of, decoded_of, is_ship, layout_of, least_bits, long_range_of, message_of, mmsi_of, part_layout, place_of, position_in, ship_at, IfMessage, IsMessage, IsReport, IsShipData};
+ghost use Rattle.ais_messages.specs.MessageFields.{below, tenfold_below, class_a_of, class_b_of, coarse_place_of, decoded_of, layout_of, least_bits, long_range_of, message_of, mmsi_of, part_layout, place_of, position_in, ship_at, IfMessage, IsMessage, IsReport, IsShipData};
+ghost use Rattle.ais_messages.specs.ShipIdentities.{is_ship};
 ghost use Rattle.ais_messages.specs.Inner.Readings.{decoded_by};
 ghost use Rattle.ais_messages.specs.declared.message.Decoded.TheVariants as decoded;
 
+use crate::identity::is_ship;
 use crate::message::{Decoded, Message, MessageCause, PositionReport, ShipData, StaticReport};
 use crate::text::text_in;
 use aivdm::{BitSlice, Bits};
@@ -136,13 +138,6 @@ fn position_by(bits: &BitSlice<'_>, layout: Layout) -> Option<PositionReport>
         Layout::LongRange => Some(long_range(bits)),
         Layout::Voyage | Layout::ExtendedClassB | Layout::NamePart | Layout::ShipPart => None,
     }
-}
-
-/// Whether an identity begins with a country's digits, as a ship's does.
-fn is_ship(mmsi: u32) -> bool
-    ensures { result ≡ is_ship mmsi }
-{
-    matches!(mmsi, 200000000..=799999999)
 }
 
 /// The message that this ship sent.

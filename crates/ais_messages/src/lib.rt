@@ -7,11 +7,13 @@
 
 mod decoding;
 mod encoding;
+mod identity;
 mod message;
 mod text;
 
 pub use decoding::{decode, place, position};
 pub use encoding::encode_position;
+pub use identity::is_ship;
 pub use message::{Decoded, Message, MessageCause, PositionReport, ShipData, StaticReport};
 pub use text::{Text20, text6};
 

@@ -100,7 +100,7 @@ impl Judge {
         Judge {
             times: LineTimes::new(scenario),
             joiner: Joiner::new(alloc),
-            book: Book::new(
+            book: Book::with_keeping(
                 alloc,
                 keeping,
                 scenario.reference,

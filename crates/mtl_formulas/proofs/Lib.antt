@@ -9,6 +9,7 @@ pub mod Refusals
 pub mod Trees
 pub mod GoodNumbers
 pub mod Meanings
+pub mod ForCallers
 pub mod TokenRuns
 pub mod Reprinted
 pub mod Verdicts

@@ -1,15 +1,16 @@
 -- A text has one meaning, and the parser's outcome tells it.
-use Rattle.std.proofs.Common.{◌≡◌, ℕ, ◌≤◌, List, [], ◌∷◌, length, refl, sym, ◌∙◌, ap, Option, Some, None, Result, Ok, Err, arith, inl, inr}
+use Rattle.std.proofs.Common.{◌≡◌, ℕ, ◌≤◌, ◌<◌, ◌⊎◌, List, [], ◌∷◌, length, refl, sym, ◌∙◌, ap, Option, Some, None, Result, Ok, Err, arith, inl, inr}
 use Rattle.std.specs.Prelude.{IfSome, IfOk}
+use Rattle.std.proofs.lemmas.Bool.{cases_lt}
 use Rattle.mtl_formulas.specs.declared.formula.Formula.{Formula}
 use Rattle.mtl_formulas.specs.declared.parsing.ParseFault.{ParseFault}
 use Rattle.mtl_formulas.specs.declared.parsing.ParseFault.TheVariants as faults
 use Rattle.mtl_formulas.specs.declared.postfix.PostfixItem.{PostfixItem}
 use Rattle.mtl_formulas.specs.FormulaTree.{FormulaTree, tree_of}
-use Rattle.mtl_formulas.specs.FormulaMeasures.{HasValidParts, IsValid}
+use Rattle.mtl_formulas.specs.FormulaMeasures.{depth_of, node_count, reach_of, HasValidParts, IsValid}
 use Rattle.mtl_formulas.specs.FormulaTokens.{tokens_of, kinds}
 use Rattle.mtl_formulas.specs.FormulaGrammar.{IsFormula}
-use Rattle.mtl_formulas.specs.FormulaReading.{refused_indices, in_positions, IsReading, IsSyntaxFault, IsNumberFault, IsWithinLimits, IsTooLarge, Meaning, tree, syntax_fault, number_fault, size_fault, IsMeaning, answered}
+use Rattle.mtl_formulas.specs.FormulaReading.{refused_indices, in_positions, IsReading, IsSyntaxFault, IsNumberFault, IsWithinLimits, IsTooLarge, Meaning, tree, syntax_fault, number_fault, size_fault, IsMeaning, HasOneMeaning, answered}
 use Rattle.mtl_formulas.specs.Inner.Postfix.{postfix_of, read, at_start, Arranges}
 use Rattle.mtl_formulas.specs.Inner.Building.{Builds}
 use Rattle.mtl_formulas.proofs.Faults.{read_formula, formula_read, read_fault, fault_read}
@@ -108,3 +109,41 @@ module _ (text : List ℕ) (tick : ℕ) where
       by_cases : (t : FormulaTree) → HasValidParts (in_positions tick t) → (r : Result Formula ParseFault) → Builds r (in_positions tick t) → IfOk r (λ f. IsValid (tree_of f))
       by_cases t v (Ok f) h = rw h.0 (record { parts = v; depth = h.1.0; nodes = h.1.1; reach = h.1.2 })
       by_cases t v (Err e) h = tt
+
+module _ (text : List ℕ) (tick : ℕ) where
+  -- a formula without a refused number has a meaning, whatever its size
+  sized_meaning : (t : FormulaTree) → IsReading text tick t → (m : Meaning) × IsMeaning text tick m
+  sized_meaning t reading = by_depth (cases_lt 64 (depth_of t))
+    where
+      by_reach : depth_of t ≤ 64 → node_count t ≤ 256 → (7200 < reach_of t) ⊎ (reach_of t ≤ 7200) → (m : Meaning) × IsMeaning text tick m
+      by_reach shallow few (inl far) = (size_fault, (t, reading, inr (inr far)))
+      by_reach shallow few (inr near) = (tree t, (reading, (shallow, few, near)))
+
+      by_nodes : depth_of t ≤ 64 → (256 < node_count t) ⊎ (node_count t ≤ 256) → (m : Meaning) × IsMeaning text tick m
+      by_nodes shallow (inl many) = (size_fault, (t, reading, inr (inl many)))
+      by_nodes shallow (inr few) = by_reach shallow few (cases_lt 7200 (reach_of t))
+
+      by_depth : (64 < depth_of t) ⊎ (depth_of t ≤ 64) → (m : Meaning) × IsMeaning text tick m
+      by_depth (inl deep) = (size_fault, (t, reading, inl deep))
+      by_depth (inr shallow) = by_nodes shallow (cases_lt 256 (node_count t))
+
+  -- so has a text whose tokens are a formula
+  formula_meaning : (t : FormulaTree) → IsFormula (kinds (tokens_of text)) t → (m : Meaning) × IsMeaning text tick m
+  formula_meaning t p = by_numbers (refused_indices tick [] (tokens_of text)) refl
+    where
+      by_numbers : (indices : List ℕ) → refused_indices tick [] (tokens_of text) ≡ indices → (m : Meaning) × IsMeaning text tick m
+      by_numbers [] none = sized_meaning (in_positions tick t) (record { written = t; formula = p; numbers = none; positions = refl })
+      by_numbers (index ∷ more) first = (number_fault index, record { written = t; formula = p; more = more; first = first })
+
+  some_meaning : (m : Meaning) × IsMeaning text tick m
+  some_meaning = by_outcome (outcome text) refl
+    where
+      by_outcome : (r : Result (List PostfixItem) ℕ) → outcome text ≡ r → (m : Meaning) × IsMeaning text tick m
+      by_outcome (Ok c) is = let (t, p, same) = read_formula (length text) (tokens_of text) c is in formula_meaning t p
+      by_outcome (Err index) is = (syntax_fault index, syntax_answer text tick index is)
+
+  -- Each text has a meaning, and no other.
+  pub has_one_meaning : HasOneMeaning text tick
+  has_one_meaning =
+      let (m, right) = some_meaning in
+      record { meaning = m; right = right; only = λ other h. one_meaning text tick other m h right }

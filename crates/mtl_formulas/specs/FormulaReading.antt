@@ -96,6 +96,12 @@ IsMeaning text tick (syntax_fault index) = IsSyntaxFault text index
 IsMeaning text tick (number_fault index) = IsNumberFault text tick index
 IsMeaning text tick size_fault = (t : FormulaTree) × IsReading text tick t × IsTooLarge t
 
+-- The text has a meaning, and no other: the tree of its formula, or one fault.
+pub record HasOneMeaning (text : List ℕ) (tick : ℕ) : Type 0 where
+  pub meaning : Meaning
+  pub right : IsMeaning text tick meaning
+  pub only : (other : Meaning) → IsMeaning text tick other → other ≡ meaning
+
 -- the meaning that was answered; none where memory ran out
 abbrev pub answered : Result Formula ParseFault → Option Meaning
 answered (Ok f) = Some (tree (tree_of f))

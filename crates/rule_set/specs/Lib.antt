@@ -1,4 +1,5 @@
 pub mod RuleTrees
+pub mod RankedRuleTrees
 pub mod NamedTrees
 pub use Rattle.mtl_formulas.specs.FormulaTree
 pub use Rattle.mtl_formulas.specs.FormulaMeasures

@@ -5,7 +5,9 @@ use Rattle.mtl_formulas.specs.declared.atom.Atom.TheVariants.{Never}
 use Rattle.mtl_formulas.specs.FormulaTree.{FormulaTree, leaf}
 use Rattle.mtl_formulas.specs.FormulaMeasures.{IsValid}
 use Rattle.rule_set.specs.declared.numbers.RuleNumbers.{RuleNumbers}
+use Rattle.rule_set.specs.declared.rule_set.TheConstants.{MOST_RULES}
 use Rattle.rule_set.specs.RuleTrees as tree
+use Rattle.rule_set.specs.RankedRuleTrees as ranked
 
 pub record NamedTree : Type 0 where
   pub name : List ℕ
@@ -14,7 +16,7 @@ pub record NamedTree : Type 0 where
 abbrev pub named : List ℕ → FormulaTree → NamedTree
 named name tree = record { name = name; tree = tree }
 
--- the eleven rules at a tick of so many seconds
+-- the eleven rules without ranks, at a tick of so many seconds
 abbrev pub rules_of : ℕ → RuleNumbers → List NamedTree
 rules_of tick numbers =
     named (codes "r8b") (tree.r8b tick numbers)
@@ -30,6 +32,23 @@ rules_of tick numbers =
     ∷ named (codes "r17c") (tree.r17c tick numbers)
     ∷ []
 
+-- the twelve rules with ranks, at a tick of so many seconds
+abbrev pub ranked_rules_of : ℕ → RuleNumbers → List NamedTree
+ranked_rules_of tick numbers =
+    named (codes "r8b") (tree.r8b tick numbers)
+    ∷ named (codes "r8d") (tree.r8d numbers)
+    ∷ named (codes "r13") (tree.r13 numbers)
+    ∷ named (codes "r14a") (ranked.r14a_ranked tick numbers)
+    ∷ named (codes "r14b") ranked.r14b_ranked
+    ∷ named (codes "r14p") ranked.r14p_ranked
+    ∷ named (codes "r15") ranked.r15_ranked
+    ∷ named (codes "r16") (ranked.r16_ranked tick numbers)
+    ∷ named (codes "r17a") (ranked.r17a_ranked tick numbers)
+    ∷ named (codes "r17b") (ranked.r17b_ranked tick numbers)
+    ∷ named (codes "r17c") (ranked.r17c_ranked tick numbers)
+    ∷ named (codes "r18") (ranked.r18 numbers)
+    ∷ []
+
 -- the rule at an index below their number
 abbrev pub rule_at : List NamedTree → ℕ → NamedTree
 rule_at rules k = slice_index_or rules k (named [] (leaf Never))
@@ -43,8 +62,8 @@ abbrev pub HaveDifferentNames : List NamedTree → Type 0
 HaveDifferentNames [] = Unit {0}
 HaveDifferentNames (rule ∷ rules) = (holds rules rule.name ≡ false) × HaveDifferentNames rules
 
--- at most 17 rules with different names, each a valid formula
+-- not too many rules, with different names, each a valid formula
 pub record AreRules (rules : List NamedTree) : Type 0 where
-  pub few : length rules ≤ 17
+  pub few : length rules ≤ MOST_RULES
   pub different : HaveDifferentNames rules
   pub valid : All (λ (rule : NamedTree). IsValid rule.tree) rules

@@ -1,4 +1,4 @@
-//! The eleven rules.
+//! The eleven rules without ranks.
 ghost use Rattle.std.specs.Prelude.{◌≡◌, ◌+◌, ◌<◌, ◌≤◌, IfOk};
 ghost use Rattle.mtl_formulas.specs.FormulaTree.{leaf, tree_of};
 ghost use Rattle.mtl_formulas.specs.FormulaMeasures.{IsValidAtom, node_count};
@@ -24,7 +24,7 @@ pub(crate) fn r8b(alloc: Global, tick: u32, numbers: &RuleNumbers) -> Result<Dra
 }
 
 /// Engaged in an encounter of this kind, the vessels pass at this distance.
-fn passes_clear(alloc: Global, kind: Draft, metres: u32) -> Result<Draft, Memory>
+pub(crate) fn passes_clear(alloc: Global, kind: Draft, metres: u32) -> Result<Draft, Memory>
     requires metres { AreMetres metres }
     requires few { node_count (tree_of kind.formula) < 60 }
     ensures { IfOk result (λ d. IsMade d.formula (passes_clear (tree_of kind.formula) metres)) }

@@ -6,6 +6,7 @@ mod draft;
 mod duties;
 mod name;
 mod numbers;
+mod ranked_duties;
 mod rule;
 mod rule_set;
 #[cfg(test)]
@@ -14,4 +15,4 @@ mod words;
 
 pub use name::Name;
 pub use numbers::{RuleNumbers, Safe};
-pub use rule_set::RuleSet;
+pub use rule_set::{MOST_RULES, RuleSet};

@@ -2,20 +2,24 @@
 ghost use Rattle.std.specs.Prelude.{◌≡◌, ◌<◌, ◌∷◌, [], ◌++◌, false, length, IfOk, IfErr, OnErr, OnOk};
 ghost use Rattle.mtl_formulas.specs.FormulaTree.{tree_of};
 ghost use Rattle.mtl_formulas.specs.FormulaMeasures.{IsValid};
-ghost use Rattle.rule_set.specs.NamedTrees.{named, rules_of, rule_at, holds, AreRules};
+ghost use Rattle.rule_set.specs.NamedTrees.{named, rules_of, ranked_rules_of, rule_at, holds, AreRules};
 ghost use Rattle.rule_set.specs.RuleTrees.{AreRuleNumbers};
 
 use crate::duties::{r8b, r8d, r13, r14a, r14b, r14p, r15, r16, r17a, r17b, r17c};
 use crate::name::Name;
 use crate::numbers::RuleNumbers;
+use crate::ranked_duties as ranked;
 use crate::rule::{Rule, has_name};
 use mtl_formulas::Formula;
 use outside::Memory;
 use std::alloc::{AllocFailed, Global};
 use std::marker::Model;
 
-/// The rules of an audit in order: the eleven of the COLREGs 1972, and then at most six that were added. It is seen as the
-/// list of their names and trees. All names are different, and all formulas valid.
+/// So many rules a set holds at most.
+pub const MOST_RULES: usize = 17;
+
+/// The rules of an audit in order: those of the COLREGs 1972, eleven or with ranks twelve, and then those that were added, at most
+/// [`MOST_RULES`] in all. It is seen as the list of their names and trees. All names are different, and all formulas valid.
 #[derive(Drop)]
 pub struct RuleSet {
     rules: Vec<Rule>,
@@ -34,12 +38,14 @@ impl Model for RuleSet {
 
     ghost view = { λ s. named_trees s.rules.items };
 
-    ghost invariant = { λ s. (length s.rules.items ≤ 17) × HaveDifferentNames (named_trees s.rules.items) };
+    ghost use Rattle.rule_set.specs.declared.rule_set.TheConstants.{MOST_RULES};
+
+    ghost invariant = { λ s. (length s.rules.items ≤ MOST_RULES) × HaveDifferentNames (named_trees s.rules.items) };
 }
 
 impl RuleSet {
-    /// The eleven rules with these numbers, at a tick of 1 to 60 seconds: `r8b`, `r8d`, `r13`, `r14a`, `r14b`, `r14p`, `r15`,
-    /// `r16`, `r17a`, `r17b` and `r17c`, each the duty of the Rule of the COLREGs 1972 with its number (8, and 13 to 17).
+    /// The eleven rules without ranks, with these numbers, at a tick of 1 to 60 seconds: `r8b`, `r8d`, `r13`, `r14a`, `r14b`, `r14p`,
+    /// `r15`, `r16`, `r17a`, `r17b` and `r17c`. Each is the duty of the Rule of the COLREGs 1972 with its number (8, and 13 to 17).
     pub fn new(alloc: Global, numbers: &RuleNumbers, tick: u32) -> Result<RuleSet, Memory>
         requires { AreRuleNumbers tick numbers.now }
         ensures rules { IfOk result (λ set. set ≡ rules_of tick numbers.now) }
@@ -60,10 +66,33 @@ impl RuleSet {
         Ok(RuleSet { rules })
     }
 
-    /// Adds a valid formula under a name that the set does not hold, behind the others. The set holds fewer than 17 rules.
+    /// The twelve rules with ranks, with these numbers, at a tick of 1 to 60 seconds. The eleven have the same names, and look at ranks
+    /// where Rule 18 of the COLREGs 1972 comes before them; `r18` is the duty of that Rule.
+    pub fn new_ranked(alloc: Global, numbers: &RuleNumbers, tick: u32) -> Result<RuleSet, Memory>
+        requires { AreRuleNumbers tick numbers.now }
+        ensures rules { IfOk result (λ set. set ≡ ranked_rules_of tick numbers.now) }
+    {
+        let rules = vec![in alloc;
+            Rule::of(b"r8b", r8b(alloc, tick, numbers)?),
+            Rule::of(b"r8d", r8d(alloc, numbers)?),
+            Rule::of(b"r13", r13(alloc, numbers)?),
+            Rule::of(b"r14a", ranked::r14a(alloc, tick, numbers)?),
+            Rule::of(b"r14b", ranked::r14b(alloc)?),
+            Rule::of(b"r14p", ranked::r14p(alloc)?),
+            Rule::of(b"r15", ranked::r15(alloc)?),
+            Rule::of(b"r16", ranked::r16(alloc, tick, numbers)?),
+            Rule::of(b"r17a", ranked::r17a(alloc, tick, numbers)?),
+            Rule::of(b"r17b", ranked::r17b(alloc, tick, numbers)?),
+            Rule::of(b"r17c", ranked::r17c(alloc, tick, numbers)?),
+            Rule::of(b"r18", ranked::r18(alloc, numbers)?),
+        ]?;
+        Ok(RuleSet { rules })
+    }
+
+    /// Adds a valid formula under a name that the set does not hold, behind the others. The set holds fewer than [`MOST_RULES`].
     /// At want of memory, the one cause of an `Err`, the formula comes back and the set is as it was.
     pub fn add(&mut self, name: Name, formula: Formula) -> Result<(), Formula>
-        requires few { length self.old < 17 }
+        requires few { length self.old < MOST_RULES }
         requires new { holds self.old name ≡ false }
         requires valid { IsValid (tree_of formula) }
         ensures added { OnOk result (self.new ≡ self.old ++ named name (tree_of formula) ∷ []) }
@@ -76,7 +105,7 @@ impl RuleSet {
         }
     }
 
-    /// How many rules there are, at most 17.
+    /// How many rules there are, at most [`MOST_RULES`].
     pub fn len(&self) -> usize
         ensures count { result ≡ length self.now }
         ensures rules { AreRules self.now }

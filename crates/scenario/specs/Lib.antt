@@ -15,6 +15,7 @@ pub use Rattle.added_rules.specs.ScenarioRules
 pub use Rattle.rule_set.specs.NamedTrees
 pub use Rattle.predictions.specs.PredictFaults
 pub use Rattle.predictions.specs.PredictValues
+pub use Rattle.ais_messages.specs.ShipIdentities
 pub use Rattle.fixed_geometry.specs.Place
 pub use Rattle.encounters.specs.Risk
 pub use Rattle.lattice.specs.Grids

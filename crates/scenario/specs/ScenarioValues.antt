@@ -1,6 +1,7 @@
 -- The values of a scenario: the numbers at its keys, and their ranges.
 use Rattle.std.specs.Prelude.{ℕ, ◌≤◌, ◌*◌, ◌/◌, ◌^◌, codes, List, length, All, IfSome, Bool, true, false, Option, Some, None}
 use Rattle.toml.specs.Data.{Members}
+use Rattle.ais_messages.specs.ShipIdentities.{IsShip}
 use Rattle.fixed_geometry.specs.Place.{Place}
 use Rattle.scenario_keys.specs.KeyValues.{integers_at, list_at, natural_at, naturals_at, optional_at, signed_at}
 use Rattle.scenario.specs.KeyFaults.{tick_of}
@@ -154,10 +155,6 @@ pub record AreActNumbers (act : Act) : Type 0 where
 
 abbrev pub IsDistance : ℕ → Type 0
 IsDistance metres = (1 ≤ metres) × (metres ≤ 100000)
-
--- the MMSI of a ship (ITU-R M.585)
-abbrev pub IsShip : ℕ → Type 0
-IsShip mmsi = (200000000 ≤ mmsi) × (mmsi ≤ 799999999)
 
 pub record IsOwnPart (tick : ℕ) (own : OwnPart) : Type 0 where
   pub mmsi : IsShip own.mmsi

@@ -1,12 +1,13 @@
 //! The values of a scenario.
 ghost use Rattle.std.specs.Prelude.{◌≡◌, ◌≤◌, ◌*◌, ◌/◌, codes, pos, length, unsigned_abs, All, IfOk, IfSome, false, true};
 ghost use Rattle.toml.specs.View.{table_view};
+ghost use Rattle.ais_messages.specs.ShipIdentities.{IsShip};
 ghost use Rattle.scenario.specs.Inner.KnownKeys.{is_own, lies_in, range_at};
 ghost use Rattle.scenario_keys.specs.KeyValues.{natural_at, naturals_at, signed_at};
 ghost use Rattle.scenario.specs.KeyFaults.{basis_of, tick_of};
 ghost use Rattle.scenario.specs.Inner.NoFaults.{HaveNoFault};
 ghost use Rattle.added_rules.specs.ScenarioRules.{AreLightRules};
-ghost use Rattle.scenario.specs.ScenarioValues.{act_of, detect_of, log_numbers_of, reference_of, scenario_of, scenario_with, units_at, window_of, AreActNumbers, AreDetectNumbers, AreLogNumbers, IsInRange, IsOwnPart, IsShip, IsWindow};
+ghost use Rattle.scenario.specs.ScenarioValues.{act_of, detect_of, log_numbers_of, reference_of, scenario_of, scenario_with, units_at, window_of, AreActNumbers, AreDetectNumbers, AreLogNumbers, IsInRange, IsOwnPart, IsWindow};
 
 use crate::basis::tick_of;
 use crate::integers::{integer, long_natural, natural, optional, short_natural};

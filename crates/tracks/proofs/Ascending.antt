@@ -1,5 +1,7 @@
 -- Ascending lists of numbers.
 use Rattle.std.proofs.Common.{◌≡◌, ◌≢◌, ℕ, zero, suc, ◌<◌, ◌≤◌, ◌⊎◌, inl, inr, List, [], ◌∷◌, ◌∙◌, length, get_or, Bool, true, false, nat_lt, nat_eq, refl, ap, sym, subst, arith}
+use Rattle.std.proofs.Math.Nat.{eq-or-lt_of_le}
+use Rattle.std.proofs.lemmas.Bool.{cases_Bool, cases_lt}
 use Rattle.std.proofs.lemmas.Bool.Decides.{nat_tests}
 use Rattle.std.proofs.lemmas.List.{get_or_default}
 use Rattle.std.proofs.lemmas.List.Elements.{All-cons, All-filter, All-head, All-nil, All-tail, All-weaker, filter_agree}
@@ -16,12 +18,9 @@ ascends_lt (n ∷ ns) h i zero d lt within = absurd (omega arith)
 ascends_lt (n ∷ ns) h zero (suc j) d lt within = h.0 j d (omega arith)
 ascends_lt (n ∷ ns) h (suc i) (suc j) d lt within = ascends_lt ns h.1 i j d (omega arith) (omega arith)
 
-same_or_before : (i j : ℕ) → i ≤ j → (i ≡ j) ⊎ (i < j)
-same_or_before i j le = grind arith
-
 pub in_order : (ns : List ℕ) → Ascends ns → IsNonDecreasingBy (λ n. n) ns
 in_order ns h i j d le within =
-    elim (same_or_before i j le) [
+    elim (eq-or-lt_of_le le) [
       | inl same ↦ (let e : get_or ns i d ≡ get_or ns j d = ap (λ (k : ℕ). get_or ns k d) same in omega arith)
       | inr before ↦ (let lt : get_or ns i d < get_or ns j d = ascends_lt ns h i j d before within in omega arith)
     ]
@@ -36,7 +35,7 @@ pub stands_at : (m : ℕ) (ns : List ℕ) (at : ℕ) → Ascends ns → ((k d : 
     → ((k d : ℕ) → at ≤ k → k < length ns → m ≤ get_or ns k d) → (at < length ns → get_or ns at 0 ≢ m) → StandsAt m ns at
 stands_at m ns at h below above other = record {
   below = λ k d lt. below k d (omega arith) lt;
-  above = λ k d le within. elim (same_or_before at k le) [
+  above = λ k d le within. elim (eq-or-lt_of_le le) [
     | inl same ↦ (let e : get_or ns at d ≡ get_or ns k d = ap (λ (j : ℕ). get_or ns j d) same in
         let ge : m ≤ get_or ns k d = above k d le within in
         let ne : get_or ns at 0 ≢ m = other (omega arith) in
@@ -66,12 +65,9 @@ with_number-insert m (n ∷ ns) (suc at) le h =
     let second : nat_eq m n ≡ false = grind (arith, nat_tests) in
     rw (first, second) (ap (λ (xs : List ℕ). n ∷ xs) (with_number-insert m ns at (omega arith) (one_less m n ns at h)))
 
-apart : (k at : ℕ) → (k < at) ⊎ (at ≤ k)
-apart k at = grind arith
-
 pub not_among : (m : ℕ) (ns : List ℕ) (at : ℕ) → StandsAt m ns at → ¬ Contains ns m
 not_among m ns at h found =
-    elim (apart found.0 at) [
+    elim (cases_lt found.0 at) [
       | inl lt ↦ (let below : get_or ns found.0 m < m = h.below found.0 m lt in let here = found.2 in omega arith)
       | inr le ↦ (let above : m < get_or ns found.0 m = h.above found.0 m le found.1 in let here = found.2 in omega arith)
     ]
@@ -170,10 +166,6 @@ with_number-among n (m ∷ ms) h (inr later) =
 
 -- ---- what a test keeps of them
 
-true_or_false : (b : Bool) → (b ≡ true) ⊎ (b ≡ false)
-true_or_false true = inl refl
-true_or_false false = inr refl
-
 filter-yes : (p : ℕ → Bool) (m : ℕ) (ms : List ℕ) → p m ≡ true → filter p (m ∷ ms) ≡ m ∷ filter p ms
 filter-yes p m ms e = rw e refl
 
@@ -188,7 +180,7 @@ filter_above p q n (m ∷ ms) agree all =
     let ne : m ≢ n = omega arith in
     let same : q m ≡ p m = agree m ne in
     let rest : filter q ms ≡ filter p ms = filter_above p q n ms agree (All-tail (λ k. n < k) m ms all) in
-    elim (true_or_false (p m)) [
+    elim (cases_Bool (p m)) [
       | inl holds ↦ filter-yes q m ms (same ∙ holds) ∙ ap (λ (ks : List ℕ). m ∷ ks) rest ∙ sym (filter-yes p m ms holds)
       | inr fails ↦ filter-no q m ms (same ∙ fails) ∙ rest ∙ sym (filter-no p m ms fails)
     ]
@@ -199,7 +191,7 @@ All-kept P p ms all = All-filter p P ms all
 pub filter-ascends : (p : ℕ → Bool) (ms : List ℕ) → Ascends ms → Ascends (filter p ms)
 filter-ascends p [] h = tt
 filter-ascends p (m ∷ ms) h =
-    elim (true_or_false (p m)) [
+    elim (cases_Bool (p m)) [
       | inl holds ↦ rw (filter-yes p m ms holds) (All-kept (λ k. m < k) p ms h.0, filter-ascends p ms h.1)
       | inr fails ↦ rw (filter-no p m ms fails) (filter-ascends p ms h.1)
     ]
@@ -218,7 +210,7 @@ filter_one_more p q n (m ∷ ms) h holds agree =
           let q-yes : q m ≡ true = subst (λ (k : ℕ). q k ≡ true) e holds in
           let first : filter q (with_number n (m ∷ ms)) ≡ m ∷ filter p ms =
           ap (filter q) (with_number-here n m ms e) ∙ filter-yes q m ms q-yes ∙ ap (λ (ks : List ℕ). m ∷ ks) (filter_above p q n ms agree all) in
-          elim (true_or_false (p m)) [
+          elim (cases_Bool (p m)) [
             | inl was ↦ first ∙ sym (with_number-here n m (filter p ms) e) ∙ ap (with_number n) (sym (filter-yes p m ms was))
             | inr not ↦ first ∙ ap (λ (k : ℕ). k ∷ filter p ms) (sym e) ∙ sym (with_number-first n (filter p ms) (All-kept (λ k. n < k) p ms all))
                 ∙ ap (with_number n) (sym (filter-no p m ms not))
@@ -226,7 +218,7 @@ filter_one_more p q n (m ∷ ms) h holds agree =
       | inr (inr gt) ↦ (let ne : m ≢ n = omega arith in
           let same : q m ≡ p m = agree m ne in
           let rest : filter q (with_number n ms) ≡ with_number n (filter p ms) = filter_one_more p q n ms h.1 holds agree in
-          elim (true_or_false (p m)) [
+          elim (cases_Bool (p m)) [
             | inl was ↦ ap (filter q) (with_number-later n m ms gt) ∙ filter-yes q m (with_number n ms) (same ∙ was) ∙ ap (λ (ks : List ℕ). m ∷ ks) rest
                 ∙ sym (with_number-later n m (filter p ms) gt) ∙ ap (with_number n) (sym (filter-yes p m ms was))
             | inr not ↦ ap (filter q) (with_number-later n m ms gt) ∙ filter-no q m (with_number n ms) (same ∙ not) ∙ rest ∙ ap (with_number n) (sym (filter-no p m ms not))
@@ -241,7 +233,7 @@ filter_none_more p q n (m ∷ ms) fails agree =
       | inl lt ↦ ap (filter q) (with_number-before n m ms lt) ∙ filter-no q n (m ∷ ms) fails ∙ filter_agree q p agree (m ∷ ms)
       | inr (inl e) ↦ ap (filter q) (with_number-here n m ms e) ∙ filter_agree q p agree (m ∷ ms)
       | inr (inr gt) ↦ (let rest = filter_none_more p q n ms fails agree in
-          elim (true_or_false (p m)) [
+          elim (cases_Bool (p m)) [
             | inl was ↦ ap (filter q) (with_number-later n m ms gt) ∙ filter-yes q m (with_number n ms) (agree m ∙ was) ∙ ap (λ (ks : List ℕ). m ∷ ks) rest ∙ sym (filter-yes p m ms was)
             | inr not ↦ ap (filter q) (with_number-later n m ms gt) ∙ filter-no q m (with_number n ms) (agree m ∙ not) ∙ rest ∙ sym (filter-no p m ms not)
           ])
@@ -250,7 +242,7 @@ filter_none_more p q n (m ∷ ms) fails agree =
 pub among_passes : (p : ℕ → Bool) (n : ℕ) (ms : List ℕ) → IsAmong n (filter p ms) → p n ≡ true
 among_passes p n [] h = absurd h
 among_passes p n (m ∷ ms) h =
-    elim (true_or_false (p m)) [
+    elim (cases_Bool (p m)) [
       | inl holds ↦ (elim (subst (IsAmong n) (filter-yes p m ms holds) h) [ inl same ↦ subst (λ (k : ℕ). p k ≡ true) (sym same) holds | inr later ↦ among_passes p n ms later ])
       | inr fails ↦ among_passes p n ms (subst (IsAmong n) (filter-no p m ms fails) h)
     ]
@@ -258,7 +250,7 @@ among_passes p n (m ∷ ms) h =
 pub passes_among : (p : ℕ → Bool) (n : ℕ) (ms : List ℕ) → p n ≡ true → IsAmong n ms → IsAmong n (filter p ms)
 passes_among p n [] holds h = absurd h
 passes_among p n (m ∷ ms) holds h =
-    elim (true_or_false (p m)) [
+    elim (cases_Bool (p m)) [
       | inl pass ↦ rw (filter-yes p m ms pass) (elim h [ inl same ↦ inl same | inr later ↦ inr (passes_among p n ms holds later) ])
       | inr fails ↦ rw (filter-no p m ms fails) (elim h [ inl same ↦ (let e = subst (λ (k : ℕ). p k ≡ true) same holds in absurd (cc)) | inr later ↦ passes_among p n ms holds later ])
     ]

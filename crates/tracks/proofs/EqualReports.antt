@@ -1,14 +1,12 @@
 -- The test of reports tells which are equal.
-use Rattle.std.proofs.Common.{◌≡◌, ℕ, ◌==◌, ◌&&◌, nat_eq, Bool, true, false, Some, None, ℤ, refl, ap, subst, arith}
+use Rattle.std.proofs.Common.{◌≡◌, ℕ, ◌==◌, ◌&&◌, nat_eq, Bool, true, Some, None, ℤ, refl, ap, subst, arith}
 use Rattle.std.specs.Prelude.{Option}
 use Rattle.std.specs.Option.{option_eq}
 use Rattle.std.specs.Ordering.{int_eq}
+use Rattle.std.proofs.lemmas.Bool.{and_from, and_parts, eqb-true}
 use Rattle.std.proofs.lemmas.Bool.Decides.{Decides-int_eq, nat_tests}
 use Rattle.ais_messages.specs.declared.message.PositionReport.{PositionReport}
 use Rattle.tracks.specs.AcceptedReports.{same_report}
-
-nat_same : (a b : ℕ) → nat_eq a b ≡ true → a ≡ b
-nat_same a b e = grind (arith, nat_tests)
 
 nat_itself : (a : ℕ) → nat_eq a a ≡ true
 nat_itself a = grind (arith, nat_tests)
@@ -29,27 +27,20 @@ option_itself : {A : Type 0} (E : A → A → Bool) → ((a : A) → E a a ≡ t
 option_itself E itself None = refl
 option_itself E itself (Some a) = itself a
 
-both_true : (a b : Bool) → (a && b) ≡ true → (a ≡ true) × (b ≡ true)
-both_true true b e = (refl, e)
-both_true false b e = cc
-
 place_eq : (ℤ × ℤ) → (ℤ × ℤ) → Bool
 place_eq p q = int_eq p.0 q.0 && int_eq p.1 q.1
-
-both_hold : (a b : Bool) → a ≡ true → b ≡ true → (a && b) ≡ true
-both_hold a b first second = rw (first, second) refl
 
 place_same : (p q : ℤ × ℤ) → place_eq p q ≡ true → p ≡ q
 unfolding place_eq
 place_same p q e =
-    let (first, second) = both_true (int_eq p.0 q.0) (int_eq p.1 q.1) e in
+    let (first, second) = and_parts (int_eq p.0 q.0) (int_eq p.1 q.1) e in
     let one : p.0 ≡ q.0 = int_same p.0 q.0 first in
     let two : p.1 ≡ q.1 = int_same p.1 q.1 second in
     λ i. (one i, two i)
 
 place_itself : (p : ℤ × ℤ) → place_eq p p ≡ true
 unfolding place_eq
-place_itself p = both_hold (int_eq p.0 p.0) (int_eq p.1 p.1) (int_itself p.0) (int_itself p.1)
+place_itself p = and_from (int_eq p.0 p.0) (int_eq p.1 p.1) (int_itself p.0) (int_itself p.1)
 
 pub equal : (a b : PositionReport) → same_report a b ≡ true → a ≡ b
 unfolding place_eq
@@ -62,21 +53,21 @@ equal a b e =
     let c : Bool = option_eq nat_eq a.cog b.cog in
     let h : Bool = option_eq nat_eq a.heading b.heading in
     let t : Bool = a.second == b.second in
-    let (em, e6) = both_true m (p && (o && (c && (h && (k && (s && t)))))) e in
-    let (ep, e5) = both_true p (o && (c && (h && (k && (s && t))))) e6 in
-    let (eo, e4) = both_true o (c && (h && (k && (s && t)))) e5 in
-    let (ec, e3) = both_true c (h && (k && (s && t))) e4 in
-    let (eh, e2) = both_true h (k && (s && t)) e3 in
-    let (ek, e1) = both_true k (s && t) e2 in
-    let (es, et) = both_true s t e1 in
-    let kind : a.kind ≡ b.kind = nat_same a.kind b.kind ek in
-    let mmsi : a.mmsi ≡ b.mmsi = nat_same a.mmsi b.mmsi em in
-    let status : a.status ≡ b.status = nat_same a.status b.status es in
+    let (em, e6) = and_parts m (p && (o && (c && (h && (k && (s && t)))))) e in
+    let (ep, e5) = and_parts p (o && (c && (h && (k && (s && t))))) e6 in
+    let (eo, e4) = and_parts o (c && (h && (k && (s && t)))) e5 in
+    let (ec, e3) = and_parts c (h && (k && (s && t))) e4 in
+    let (eh, e2) = and_parts h (k && (s && t)) e3 in
+    let (ek, e1) = and_parts k (s && t) e2 in
+    let (es, et) = and_parts s t e1 in
+    let kind : a.kind ≡ b.kind = eqb-true a.kind b.kind ek in
+    let mmsi : a.mmsi ≡ b.mmsi = eqb-true a.mmsi b.mmsi em in
+    let status : a.status ≡ b.status = eqb-true a.status b.status es in
     let place : a.place ≡ b.place = option_same place_eq place_same a.place b.place ep in
-    let sog : a.sog ≡ b.sog = option_same nat_eq nat_same a.sog b.sog eo in
-    let cog : a.cog ≡ b.cog = option_same nat_eq nat_same a.cog b.cog ec in
-    let heading : a.heading ≡ b.heading = option_same nat_eq nat_same a.heading b.heading eh in
-    let second : a.second ≡ b.second = nat_same a.second b.second et in
+    let sog : a.sog ≡ b.sog = option_same nat_eq eqb-true a.sog b.sog eo in
+    let cog : a.cog ≡ b.cog = option_same nat_eq eqb-true a.cog b.cog ec in
+    let heading : a.heading ≡ b.heading = option_same nat_eq eqb-true a.heading b.heading eh in
+    let second : a.second ≡ b.second = eqb-true a.second b.second et in
     λ i. record {
       kind = kind i;
       mmsi = mmsi i;
@@ -91,13 +82,13 @@ equal a b e =
 itself : (a : PositionReport) → same_report a a ≡ true
 unfolding place_eq
 itself a =
-    both_hold (a.mmsi == a.mmsi) _ (nat_itself a.mmsi)
-    (both_hold (option_eq place_eq a.place a.place) _ (option_itself place_eq place_itself a.place)
-    (both_hold (option_eq nat_eq a.sog a.sog) _ (option_itself nat_eq nat_itself a.sog)
-    (both_hold (option_eq nat_eq a.cog a.cog) _ (option_itself nat_eq nat_itself a.cog)
-    (both_hold (option_eq nat_eq a.heading a.heading) _ (option_itself nat_eq nat_itself a.heading)
-    (both_hold (a.kind == a.kind) _ (nat_itself a.kind)
-    (both_hold (a.status == a.status) (a.second == a.second) (nat_itself a.status) (nat_itself a.second)))))))
+    and_from (a.mmsi == a.mmsi) _ (nat_itself a.mmsi)
+    (and_from (option_eq place_eq a.place a.place) _ (option_itself place_eq place_itself a.place)
+    (and_from (option_eq nat_eq a.sog a.sog) _ (option_itself nat_eq nat_itself a.sog)
+    (and_from (option_eq nat_eq a.cog a.cog) _ (option_itself nat_eq nat_itself a.cog)
+    (and_from (option_eq nat_eq a.heading a.heading) _ (option_itself nat_eq nat_itself a.heading)
+    (and_from (a.kind == a.kind) _ (nat_itself a.kind)
+    (and_from (a.status == a.status) (a.second == a.second) (nat_itself a.status) (nat_itself a.second)))))))
 
 pub same_from_equal : (a b : PositionReport) → a ≡ b → same_report a b ≡ true
 same_from_equal a b e = subst (λ (r : PositionReport). same_report a r ≡ true) e (itself a)

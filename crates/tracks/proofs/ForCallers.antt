@@ -1,9 +1,9 @@
 -- Lemmas for the crates above: the vessels held, in their order.
-use Rattle.std.proofs.Common.{◌≡◌, ℕ, zero, suc, ◌+◌, ◌<◌, List, [], ◌∷◌, get_or, Some, true, arith}
+use Rattle.std.proofs.Common.{◌≡◌, ℕ, ◌+◌, ◌<◌, List, get_or, Some, true, arith}
 use Rattle.std.specs.Prelude.{slice_get}
 use Rattle.std.specs.List.{All, AllPairs}
 use Rattle.std.specs.List.Sorted.{IsStrictlyIncreasing}
-use Rattle.std.proofs.lemmas.Option.{slice_get_within}
+use Rattle.std.proofs.lemmas.Option.{get_or_from_slice_get, slice_get_within}
 use Rattle.std.proofs.lemmas.List.Elements.{Contains-get_or}
 use Rattle.tracks.specs.AcceptedReports.{Numbers}
 use Rattle.tracks.specs.VesselsHeld.{Sent, held_of, is_held}
@@ -28,16 +28,11 @@ each_is_held numbers sent k d lt =
 pub held_at : (numbers : Numbers) (sent : List Sent) (k mmsi : ℕ) → slice_get (held_of numbers sent) k ≡ Some mmsi → is_held numbers sent mmsi ≡ true
 held_at numbers sent k mmsi here = held_passes numbers sent mmsi (among_at (held_of numbers sent) k mmsi here)
 
-here : (ms : List ℕ) (k m d : ℕ) → slice_get ms k ≡ Some m → get_or ms k d ≡ m
-here [] k m d e = cc
-here (n ∷ ms) zero m d e = cc
-here (n ∷ ms) (suc k) m d e = here ms k m d e
-
 -- one at a later index has the greater identity
 pub later_is_greater : (numbers : Numbers) (sent : List Sent) (i j a b : ℕ) → i < j → slice_get (held_of numbers sent) i ≡ Some a → slice_get (held_of numbers sent) j ≡ Some b → a < b
 later_is_greater numbers sent i j a b lt first second =
     let ms = held_of numbers sent in
     let below : get_or ms i 0 < get_or ms j 0 = held_in_order numbers sent i j 0 lt (slice_get_within ms j b second) in
-    let first-is = here ms i a 0 first in
-    let second-is = here ms j b 0 second in
+    let first-is = get_or_from_slice_get ms i a 0 first in
+    let second-is = get_or_from_slice_get ms j b 0 second in
     omega arith

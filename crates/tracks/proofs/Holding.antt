@@ -3,6 +3,7 @@ use Rattle.std.proofs.Common.{◌≡◌, ◌≢◌, ◌∙◌, ℕ, ◌≤◌, �
 use Rattle.std.specs.Prelude.{Option, is_some, fold}
 use Rattle.std.specs.List.{filter, last_or}
 use Rattle.std.specs.Option.{option_to_list}
+use Rattle.std.proofs.lemmas.Bool.{cases_Bool}
 use Rattle.std.proofs.lemmas.Bool.Decides.{nat_tests}
 use Rattle.ais_messages.specs.declared.message.StaticReport.{StaticReport}
 use Rattle.tracks.specs.AcceptedReports.{Numbers, accepted_after}
@@ -113,7 +114,7 @@ held_of-more numbers sent one h =
     ∙ filter_one_more (is_held numbers sent) (is_held numbers (sent ++ one ∷ [])) (sender_of one.message) (senders_of sent) (senders_ascend sent) h
     (λ k ne. is_held-other numbers sent one k ne)
 
-same_or_other : (k m : ℕ) → (k ≡ m) ⊎ (k ≢ m)
+pub same_or_other : (k m : ℕ) → (k ≡ m) ⊎ (k ≢ m)
 same_or_other k m = grind arith
 
 -- The sender is not held with the message.
@@ -136,17 +137,13 @@ folded_among : (n : ℕ) (sent : List Sent) (ms : List ℕ) → IsAmong n ms →
 folded_among n [] ms h = h
 folded_among n (one ∷ sent) ms h = folded_among n sent (with_sender ms one) (among-with_number n (sender_of one.message) ms h)
 
-true_or_false : (b : Bool) → (b ≡ true) ⊎ (b ≡ false)
-true_or_false true = inl refl
-true_or_false false = inr refl
-
 eq-from : (m n : ℕ) → (m == n) ≡ true → n ≡ m
 eq-from m n h = grind (arith, nat_tests)
 
 no_messages : (n : ℕ) (sent : List Sent) (ms : List ℕ) → ¬ IsAmong n (fold with_sender ms sent) → messages_of sent n ≡ []
 no_messages n [] ms not = refl
 no_messages n (one ∷ sent) ms not =
-    elim (true_or_false (sender_of one.message == n)) [
+    elim (cases_Bool (sender_of one.message == n)) [
       | inl same ↦ absurd (not (folded_among n sent (with_sender ms one) (subst (λ (k : ℕ). IsAmong k (with_sender ms one)) (sym (eq-from (sender_of one.message) n same)) (itself_among (sender_of one.message) ms))))
       | inr other ↦ rw other (no_messages n sent (with_sender ms one) not)
     ]

@@ -19,7 +19,7 @@ use Rattle.tracks.specs.declared.statics.Statics.{Statics}
 use Rattle.tracks.specs.declared.keeping.Keeping.{Keeping}
 use Rattle.tracks.specs.declared.keeping.Keeping.TheVariants.{Latest, Tracks}
 use Rattle.tracks.proofs.KeptReports.{kept_points-push, latest_alone}
-use Rattle.tracks.proofs.Lasts.{last_or-push}
+use Rattle.tracks.proofs.Lasts.{cons_option-nil, last_or-push}
 
 -- ---- the legs
 
@@ -27,14 +27,10 @@ cons-append : {A : Type 0} (o : Option A) (xs ys : List A) → cons_option o (xs
 cons-append None xs ys = refl
 cons-append (Some x) xs ys = refl
 
-cons-nil : {A : Type 0} (o : Option A) → cons_option o [] ≡ option_to_list o
-cons-nil None = refl
-cons-nil (Some x) = refl
-
 legs_from-push : (gap : ℕ) (from : Accepted) (xs : List Accepted) (now : Accepted)
     → legs_from gap from (xs ++ now ∷ []) ≡ legs_from gap from xs ++ option_to_list (joined_after gap (last_or (Some from) xs) now)
 unfolding legs_from
-legs_from-push gap from [] now = cons-nil (joined gap from now)
+legs_from-push gap from [] now = cons_option-nil (joined gap from now)
 legs_from-push gap from (x ∷ xs) now =
     ap (cons_option (joined gap from x)) (legs_from-push gap x xs now)
     ∙ cons-append (joined gap from x) (legs_from gap x xs) (option_to_list (joined_after gap (last_or (Some x) xs) now))

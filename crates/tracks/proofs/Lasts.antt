@@ -1,8 +1,9 @@
--- The last element of a list.
+-- The last element of a list, and one more element where there is one.
 use Rattle.std.proofs.Common.{◌≡◌, ◌-◌, List, [], ◌∷◌, ◌++◌, length, Some, None, refl}
 use native.Mathlib.Numerals.{unary_clauses}
 use Rattle.std.specs.Prelude.{Option, IfSome, slice_get}
-use Rattle.std.specs.List.{All, last_or}
+use Rattle.std.specs.List.{All, cons_option, last_or}
+use Rattle.std.specs.Option.{option_to_list}
 use Rattle.std.proofs.lemmas.List.Elements.{All-head, All-tail}
 
 pub last_or-push : {A : Type 0} (o : Option A) (xs : List A) (x : A) → last_or o (xs ++ x ∷ []) ≡ Some x
@@ -21,3 +22,7 @@ slice_get-last (x ∷ xs) = simp unary_clauses (last_of None x xs)
 pub All-last : {A : Type 0} (P : A → Type 0) (o : Option A) (xs : List A) → IfSome o P → All P xs → IfSome (last_or o xs) P
 All-last P o [] h all = h
 All-last P o (x ∷ xs) h all = All-last P (Some x) xs (All-head P x xs all) (All-tail P x xs all)
+
+pub cons_option-nil : {A : Type 0} (o : Option A) → cons_option o [] ≡ option_to_list o
+cons_option-nil None = refl
+cons_option-nil (Some x) = refl

@@ -8,7 +8,7 @@ use Rattle.std.proofs.lemmas.List.{append-nil}
 use Rattle.std.proofs.lemmas.List.Elements.{All-cons, All-nil, filter-append}
 use Rattle.fixed_geometry.specs.Sizes.{IsWithin}
 use Rattle.fixed_geometry.specs.declared.point.Point.{Point}
-use Rattle.motion.specs.Displacement.{displacement}
+use Rattle.fixed_geometry.specs.Displacement.{displacement}
 use Rattle.motion.specs.TickStates.{MovesLittle, holds, state_at, state_on}
 use Rattle.motion.specs.declared.leg.Leg.{Leg}
 use Rattle.motion.specs.declared.leg.TickState.{TickState}

@@ -16,7 +16,7 @@ use Rattle.tracks.specs.declared.accepted.Accepted.{Accepted}
 use Rattle.tracks.specs.declared.entry.ReportCause.{ReportCause}
 use Rattle.tracks.specs.declared.keeping.Keeping.{Keeping}
 use Rattle.tracks.proofs.KeptReports.{kept_legs-between, kept_points-last, kept_points-more}
-use Rattle.tracks.proofs.Lasts.{last_or-push}
+use Rattle.tracks.proofs.Lasts.{cons_option-nil, last_or-push}
 
 -- ---- one more report
 
@@ -95,16 +95,12 @@ pub accepted_of-other : (numbers : Numbers) (sent : List Sent) (one : Sent) (mms
 unfolding accepted_of
 accepted_of-other numbers sent one mmsi ne = ap (λ (xs : List Sent). accepted_list numbers (filter_map reported_in xs)) (messages_of-other sent one mmsi ne)
 
-cons-list : {A : Type 0} (o : Option A) → cons_option o [] ≡ option_to_list o
-cons-list None = refl
-cons-list (Some x) = refl
-
 pub static_reports_of-own : (sent : List Sent) (one : Sent) (mmsi : ℕ) → sender_of one.message ≡ mmsi
     → static_reports_of (sent ++ one ∷ []) mmsi ≡ static_reports_of sent mmsi ++ option_to_list (static_in one.message)
 static_reports_of-own sent one mmsi e =
     ap (filter_map (λ s. static_in s.message)) (messages_of-own sent one mmsi e)
     ∙ filter_map-append (λ s. static_in s.message) (messages_of sent mmsi) (one ∷ [])
-    ∙ ap (λ (xs : List StaticReport). static_reports_of sent mmsi ++ xs) (cons-list (static_in one.message))
+    ∙ ap (λ (xs : List StaticReport). static_reports_of sent mmsi ++ xs) (cons_option-nil (static_in one.message))
 
 pub static_reports_of-other : (sent : List Sent) (one : Sent) (mmsi : ℕ) → mmsi ≢ sender_of one.message
     → static_reports_of (sent ++ one ∷ []) mmsi ≡ static_reports_of sent mmsi

@@ -9,7 +9,7 @@ use Rattle.std.proofs.lemmas.List.{take_all, take_more}
 use Rattle.std.proofs.lemmas.List.Elements.{All-cons, All-contains, All-head, All-map, All-nil, All-tail, filter_map-append}
 use Rattle.fixed_geometry.specs.Sizes.{IsBelow, IsWithin}
 use Rattle.fixed_geometry.specs.declared.point.Point.{Point}
-use Rattle.motion.specs.Displacement.{displacement}
+use Rattle.fixed_geometry.specs.Displacement.{displacement}
 use Rattle.motion.specs.TickStates.{MovesLittle, state_at}
 use Rattle.motion.specs.declared.leg.Leg.{Leg}
 use Rattle.motion.specs.declared.leg.TickState.{TickState}
@@ -21,6 +21,7 @@ use Rattle.tracks.specs.Inner.AscendingNumbers.{Ascends}
 use Rattle.tracks.specs.declared.keeping.Keeping.{Keeping}
 use Rattle.tracks.specs.declared.keeping.Keeping.TheVariants.{Tracks}
 use Rattle.tracks.proofs.Ascending.{ascends_lt}
+use Rattle.tracks.proofs.Lasts.{cons_option-nil}
 use Rattle.tracks.proofs.Settled.{legs_in-is}
 
 -- ---- the vessel at an index
@@ -47,15 +48,11 @@ sighted time m legs here o e is = ap (option_map (λ (state : TickState). (m, st
 
 -- ---- one vessel more
 
-alone : (o : Option (ℕ × TickState)) → cons_option o [] ≡ option_to_list o
-alone None = refl
-alone (Some vessel) = refl
-
 pub seen_more : (f : ℕ → Option (ℕ × TickState)) (ms : List ℕ) (at : ℕ) → at < length ms
     → filter_map f (take (at + 1) ms) ≡ filter_map f (take at ms) ++ option_to_list (f (get_or ms at 0))
 seen_more f ms at lt =
     ap (filter_map f) (take_more ms at 0 lt) ∙ filter_map-append f (take at ms) (get_or ms at 0 ∷ [])
-    ∙ ap (λ (vessels : List (ℕ × TickState)). filter_map f (take at ms) ++ vessels) (alone (f (get_or ms at 0)))
+    ∙ ap (λ (vessels : List (ℕ × TickState)). filter_map f (take at ms) ++ vessels) (cons_option-nil (f (get_or ms at 0)))
 
 pub seen_all : (book : BookValue) (time at : ℕ) (seen : List (ℕ × TickState)) → length book.held ≤ at
     → seen ≡ filter_map (sighting time (legs_in book)) (take at book.held) → seen ≡ seen_in book time

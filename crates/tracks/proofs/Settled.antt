@@ -17,7 +17,7 @@ use Rattle.tracks.specs.JoinedReports.{legs_between}
 use Rattle.tracks.specs.Standing.{BookValue, StandsFor, VesselValue, kept_legs, legs_among, legs_in, vessel_of}
 use Rattle.tracks.specs.VesselsHeld.{Sent, accepted_of, held_of, is_held, legs_of, report_in, reported_in, sender_of}
 use Rattle.tracks.proofs.Ascending.{IsAmong}
-use Rattle.tracks.proofs.Holding.{held_among, held_passes, no_points}
+use Rattle.tracks.proofs.Holding.{held_among, held_passes, no_points, same_or_other}
 use Rattle.tracks.specs.Inner.Keeping.{accepted_by, accepted_in, joined_after, points_with}
 use Rattle.tracks.specs.declared.accepted.Accepted.{Accepted}
 use Rattle.tracks.specs.declared.entry.ReportCause.{ReportCause}
@@ -92,9 +92,6 @@ with_points gap t points (Some now) time at lt =
     let same : now.time ≡ time = at now refl in
     ap (state_at t) (legs_between-push gap points now)
     ∙ more_legs gap t (legs_between gap points) now (last_or None points) (joined_after gap (last_or None points) now) refl (omega arith)
-
-same_or_other : (k m : ℕ) → (k ≡ m) ⊎ (k ≢ m)
-same_or_other k m = grind arith
 
 -- Where a vessel was more than the gap before a message came stays as it was.
 pub past_stays : (numbers : Numbers) (sent : List Sent) (one : Sent) (mmsi t : ℕ) → t + numbers.gap < one.time

@@ -7,7 +7,7 @@ use Rattle.fixed_geometry.specs.Place.{Place}
 use Rattle.fixed_geometry.specs.Plane.{norm2_of}
 use Rattle.fixed_geometry.specs.Projection.{projection_of}
 use Rattle.fixed_geometry.specs.declared.point.Point.{Point}
-use Rattle.motion.specs.Displacement.{displacement}
+use Rattle.fixed_geometry.specs.Displacement.{displacement}
 use Rattle.ais_messages.specs.declared.message.PositionReport.{PositionReport}
 use Rattle.tracks.specs.declared.accepted.Accepted.{Accepted}
 use Rattle.tracks.specs.declared.entry.ReportCause.{ReportCause}

@@ -7,8 +7,8 @@ use Rattle.motion.specs.declared.leg.Leg.{Leg}
 use Rattle.tracks.specs.declared.accepted.Accepted.{Accepted}
 
 -- Her direction is her heading, which is told in whole degrees, or else her course.
-abbrev pub direction_of : PositionReport → Option ℕ
-direction_of report = option_or (option_map (λ degrees. degrees * 10) report.heading) report.cog
+abbrev pub reported_direction : PositionReport → Option ℕ
+reported_direction report = option_or (option_map (λ degrees. degrees * 10) report.heading) report.cog
 
 -- the leg from one report to the next
 abbrev pub leg_between : Accepted → Accepted → Leg
@@ -17,7 +17,7 @@ leg_between from to = record {
   p1 = from.point;
   t2 = to.time;
   p2 = to.point;
-  direction = direction_of from.report;
+  direction = reported_direction from.report;
   speed = from.report.sog;
 }
 

@@ -2,7 +2,7 @@ pub use Rattle.fixed_geometry.specs.Place
 pub use Rattle.fixed_geometry.specs.Plane
 pub use Rattle.fixed_geometry.specs.Projection
 pub use Rattle.fixed_geometry.specs.Sizes
-pub use Rattle.motion.specs.Displacement
+pub use Rattle.fixed_geometry.specs.Displacement
 pub use Rattle.motion.specs.TickStates
 pub use Rattle.ais_messages.specs.MessageFields
 pub mod AcceptedReports

@@ -6,7 +6,7 @@ ghost use Rattle.std.specs.Option.{option_copied, option_to_list};
 ghost use Rattle.fixed_geometry.specs.Sizes.{IsBelow, IsWithin};
 ghost use Rattle.ais_messages.specs.MessageFields.{IsMessage, IsReport};
 ghost use Rattle.ais_messages.specs.declared.message.Message.TheVariants.{Position};
-ghost use Rattle.motion.specs.Displacement.{displacement};
+ghost use Rattle.fixed_geometry.specs.Displacement.{displacement};
 ghost use Rattle.motion.specs.TickStates.{IsTickState, MovesLittle, state_at};
 ghost use Rattle.motion.specs.declared.leg.TickState.{TickState};
 ghost use Rattle.tracks.specs.AcceptedReports.{Numbers};
@@ -36,8 +36,8 @@ use outside::Memory;
 use std::alloc::Global;
 use std::marker::Model;
 
-/// So many vessels a book holds.
-const MOST_VESSELS: usize = 4096;
+/// So many vessels a book holds at most.
+pub const MOST_VESSELS: usize = 4096;
 
 /// What a message of a vessel that is not held comes to.
 fn first_entry(numbers: &GivenNumbers, message: &Message, time: u64) -> Entry
@@ -109,9 +109,20 @@ impl Model for Book {
 }
 
 impl Book {
-    /// A book that holds no vessel, about a reference. Reports at most `gap` seconds apart are joined, and a vessel moves at most at
-    /// `max_speed` tenths of a knot. What is kept of a vessel's accepted reports stays as it is told here. This takes no memory.
-    pub fn new(
+    /// A book that holds no vessel, about a reference, and keeps all accepted reports, with the legs between them. Reports at most
+    /// `gap` seconds apart are joined, and a vessel moves at most at `max_speed` tenths of a knot. This takes no memory.
+    pub fn new(alloc: Global, reference: Reference, gap: u32, max_speed: u16) -> Book
+        requires gap { gap ≤ 3600 }
+        requires some_speed { 1 ≤ max_speed }
+        requires max_speed { max_speed ≤ 1022 }
+        ensures keeping { result.keeping ≡ Tracks }
+        ensures stands { StandsFor result (record { reference = reference; gap = gap; max_speed = max_speed }) [] }
+    {
+        Book::with_keeping(alloc, Keeping::Tracks, reference, gap, max_speed)
+    }
+
+    /// The same, where a book keeps of a vessel's accepted reports what it is told here: all, or the latest alone.
+    pub fn with_keeping(
         alloc: Global,
         keeping: Keeping,
         reference: Reference,
@@ -140,7 +151,7 @@ impl Book {
 
     /// Takes the next message, which came at `time`, and gives what it comes to: the position report of a message is accepted, or
     /// dropped for the first cause that applies, and its static report is kept in any case. `TooManyVessels` comes exactly where
-    /// more than 4096 vessels would be held with this message, and `Memory` where there was none; the book is then as before. Where a
+    /// more than [`MOST_VESSELS`] would be held with this message, and `Memory` where there was none; the book is then as before. Where a
     /// vessel was more than the gap before `time` stays as it was.
     pub fn take(&mut self, message: &Message, time: u64) -> Result<Entry, BookFault>
         requires { IsMessage message.now }
@@ -152,7 +163,7 @@ impl Book {
         ensures keeping { self.new.keeping ≡ self.old.keeping }
         ensures too_many { (numbers : Numbers) (sent : List Sent) → StandsFor self.old numbers sent
             → (result ≡ Err TooManyVessels)
-            ↔ (4096 < length (held_of numbers (sent ++ record { message = message.now; time = time } ∷ []))) }
+            ↔ (MOST_VESSELS < length (held_of numbers (sent ++ record { message = message.now; time = time } ∷ []))) }
         ensures settled { OnOk result ((numbers : Numbers) (sent : List Sent) → StandsFor self.old numbers sent
             → (mmsi t : ℕ) → t + numbers.gap < time → state_at t (legs_in self.new mmsi) ≡ state_at t (legs_in self.old mmsi)) }
     {
@@ -178,7 +189,7 @@ impl Book {
         ensures keeping { self.new.keeping ≡ self.old.keeping }
         ensures too_many { (numbers : Numbers) (sent : List Sent) → StandsFor self.old numbers sent
             → (result ≡ Err TooManyVessels)
-            ↔ (4096 < length (held_of numbers (sent ++ record { message = Position report.now; time = time } ∷ []))) }
+            ↔ (MOST_VESSELS < length (held_of numbers (sent ++ record { message = Position report.now; time = time } ∷ []))) }
         ensures settled { OnOk result ((numbers : Numbers) (sent : List Sent) → StandsFor self.old numbers sent
             → (mmsi t : ℕ) → t + numbers.gap < time → state_at t (legs_in self.new mmsi) ≡ state_at t (legs_in self.old mmsi)) }
     {
@@ -218,7 +229,7 @@ impl Book {
         ensures same { OnErr result (self.new ≡ self.old) }
         ensures keeping { self.new.keeping ≡ self.old.keeping }
         ensures few { (numbers : Numbers) (sent : List Sent) → StandsFor self.old numbers sent
-            → length (held_of numbers (sent ++ record { message = Position report.now; time = time } ∷ [])) ≤ 4096 }
+            → length (held_of numbers (sent ++ record { message = Position report.now; time = time } ∷ [])) ≤ MOST_VESSELS }
     {
         let vessel = &mut self.vessels[at];
         vessel.take_report(self.keeping, &self.numbers, report, time)
@@ -235,7 +246,7 @@ impl Book {
         ensures same { OnErr result (self.new ≡ self.old) }
         ensures keeping { self.new.keeping ≡ self.old.keeping }
         ensures few { (numbers : Numbers) (sent : List Sent) → StandsFor self.old numbers sent
-            → length (held_of numbers (sent ++ record { message = message.now; time = time } ∷ [])) ≤ 4096 }
+            → length (held_of numbers (sent ++ record { message = message.now; time = time } ∷ [])) ≤ MOST_VESSELS }
     {
         let vessel = &mut self.vessels[at];
         vessel.take(self.keeping, &self.numbers, message, time)
@@ -262,7 +273,7 @@ impl Book {
         ensures keeping { self.new.keeping ≡ self.old.keeping }
         ensures too_many { (numbers : Numbers) (sent : List Sent) → StandsFor self.old numbers sent
             → (result ≡ Err TooManyVessels)
-            ↔ (4096 < length (held_of numbers (sent ++ record { message = message.now; time = time } ∷ []))) }
+            ↔ (MOST_VESSELS < length (held_of numbers (sent ++ record { message = message.now; time = time } ∷ []))) }
     {
         let entry = first_entry(&self.numbers, message, time);
         if !is_holding(message, entry) {
@@ -284,7 +295,7 @@ impl Book {
         requires place { at ≤ length self.old.held }
         requires absent { ¬ Contains self.old.held mmsi }
         requires more { with_number mmsi self.old.held ≡ insert self.old.held at mmsi }
-        requires room { length self.old.held < 4096 }
+        requires room { length self.old.held < MOST_VESSELS }
         requires holding { makes_held self.old.numbers (record { message = message.now; time = time }) ≡ true }
         ensures stands { OnOk result ((numbers : Numbers) (sent : List Sent) → StandsFor self.old numbers sent
             → StandsFor self.new numbers (sent ++ record { message = message.now; time = time } ∷ [])) }
@@ -448,7 +459,7 @@ impl Book {
         ensures value { (numbers : Numbers) (sent : List Sent) → StandsFor self.now numbers sent
             → result ≡ length (held_of numbers sent) }
         ensures count { result ≡ length self.now.held }
-        ensures few { result ≤ 4096 }
+        ensures few { result ≤ MOST_VESSELS }
     {
         self.held.len()
     }

@@ -33,7 +33,7 @@ pub enum Entry {
 /// Why a message could not be taken.
 #[derive(Clone, Copy, Debug, PartialEq, Eq)]
 pub enum BookFault {
-    /// There are 4096 vessels in the book, and the message would make it hold another.
+    /// There are [`MOST_VESSELS`](crate::MOST_VESSELS) in the book, and the message would make it hold another.
     TooManyVessels,
     /// There was no memory.
     Memory,

@@ -1,9 +1,9 @@
 //! Which position reports are accepted.
 ghost use Rattle.std.specs.Prelude.{◌≡◌, ◌+◌, ◌-◌, ◌*◌, ◌^◌, ◌<◌, ◌≤◌, ◌&&◌, IfOk, IfSome, nat_le, nat_lt, unsigned_abs};
 ghost use Rattle.std.specs.Option.{option_copied};
+ghost use Rattle.fixed_geometry.specs.Displacement.{displacement};
 ghost use Rattle.fixed_geometry.specs.Plane.{norm2_of};
 ghost use Rattle.fixed_geometry.specs.Sizes.{IsWithin};
-ghost use Rattle.motion.specs.Displacement.{displacement};
 ghost use Rattle.ais_messages.specs.MessageFields.{IsReport};
 ghost use Rattle.tracks.specs.AcceptedReports.{judged, judged_after, placed, same_report, square};
 ghost use Rattle.tracks.specs.Inner.Keeping.{with_point, Follows};
@@ -13,7 +13,7 @@ use crate::accepted::Accepted;
 use crate::entry::ReportCause;
 use crate::given::GivenNumbers;
 use ais_messages::PositionReport;
-use fixed_geometry::{Point, Reference, norm2, project};
+use fixed_geometry::{Point, Reference, displacement, norm2, project, square};
 
 /// The point of the plane of a report, or why it has none.
 #[inline(always)]
@@ -37,27 +37,6 @@ fn is_repeat(latest: &Accepted, report: &PositionReport, time: u64) -> bool
     ensures { result ≡ (nat_le time (latest.now.time + 30) && same_report report.now latest.now.report) }
 {
     time.saturating_sub(latest.time) <= 30 && *report == latest.report
-}
-
-/// The displacement from one point of the region to another.
-fn displacement(a: Point, b: Point) -> Point
-    requires a_small { IsWithin 2222400000 a }
-    requires b_small { IsWithin 2222400000 b }
-    ensures value { result ≡ displacement a b }
-    ensures small { IsWithin 4444800000 result }
-{
-    Point {
-        x: b.x - a.x,
-        y: b.y - a.y,
-    }
-}
-
-/// The square of `n`.
-fn square(n: u64) -> u128
-    requires { n < 2 ^ 60 }
-    ensures { result ≡ square n }
-{
-    u128::from(n) * u128::from(n)
 }
 
 /// Whether a vessel would have moved so far faster than the greatest speed, in tenths of a knot.

@@ -12,6 +12,7 @@
 
 mod accepted;
 mod book;
+mod direction;
 mod entry;
 mod given;
 mod guesses;
@@ -24,7 +25,8 @@ mod statics;
 mod vessel;
 
 pub use accepted::Accepted;
-pub use book::Book;
+pub use book::{Book, MOST_VESSELS};
+pub use direction::reported_direction;
 pub use entry::{BookFault, Entry, ReportCause};
 pub use keeping::Keeping;
 pub use statics::Statics;

@@ -57,7 +57,7 @@ fn book_of(alloc: Global, keeping: Keeping, max_speed: u16) -> Result<Book, Fail
     ensures { IfOk result (λ book. book.keeping ≡ keeping) }
 {
     let reference = Reference::new(0, 0).ok_or("a reference")?;
-    Ok(Book::new(alloc, keeping, reference, 900, max_speed))
+    Ok(Book::with_keeping(alloc, keeping, reference, 900, max_speed))
 }
 
 /// Such a book that keeps all accepted reports, and the legs between them.

@@ -5,13 +5,14 @@ ghost use Rattle.std.specs.Option.{option_copied};
 ghost use Rattle.ais_messages.specs.MessageFields.{IsMessage, IsReport, IsShipData};
 ghost use Rattle.motion.specs.TickStates.{IsLeg};
 ghost use Rattle.tracks.specs.AcceptedReports.{judged};
-ghost use Rattle.tracks.specs.JoinedReports.{direction_of, joined};
+ghost use Rattle.tracks.specs.JoinedReports.{joined};
 ghost use Rattle.tracks.specs.Inner.Keeping.{Follows, IsKept, accepted_by, accepted_in, joined_after, told, untold, vessel_after, vessel_with};
 ghost use Rattle.tracks.specs.Standing.{IsAccepted, IsNumbers, kept_points};
 ghost use Rattle.tracks.specs.VesselsHeld.{entry_at, entry_by, reported_in, static_in};
 ghost use Rattle.tracks.specs.declared.keeping.Keeping.TheVariants.{Latest, Tracks};
 
 use crate::accepted::Accepted;
+use crate::direction::reported_direction;
 use crate::entry::Entry;
 use crate::given::GivenNumbers;
 use crate::judging::judge;
@@ -23,18 +24,6 @@ use motion::{Leg, Legs};
 use outside::Memory;
 use std::alloc::Global;
 use std::marker::Model;
-
-/// The direction of a vessel by her report, in tenths of a degree: her heading, or else her course.
-fn direction(report: &PositionReport) -> Option<u16>
-    requires { IsReport report.now }
-    ensures value { result ≡ direction_of report.now }
-    ensures small { IfSome result (λ d. d < 3600) }
-{
-    match report.heading {
-        Some(degrees) => Some(degrees * 10),
-        None => report.cog,
-    }
-}
 
 /// The leg from one report to the next, if they lie at most the gap apart.
 fn leg_between(gap: u32, from: &Accepted, to: &Accepted) -> Option<Leg>
@@ -53,7 +42,7 @@ fn leg_between(gap: u32, from: &Accepted, to: &Accepted) -> Option<Leg>
         p1: from.point,
         t2: to.time,
         p2: to.point,
-        direction: direction(&from.report),
+        direction: reported_direction(&from.report),
         speed: from.report.sog,
     })
 }

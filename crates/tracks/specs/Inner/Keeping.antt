@@ -13,6 +13,7 @@ use Rattle.tracks.specs.Standing.{BookValue, IsAccepted, IsNumbers, VesselValue,
 use Rattle.tracks.specs.VesselsHeld.{Sent, reported_in, static_in}
 use Rattle.tracks.specs.Inner.AscendingNumbers.{Ascends}
 use Rattle.tracks.specs.declared.accepted.Accepted.{Accepted}
+use Rattle.tracks.specs.declared.book.TheConstants.{MOST_VESSELS}
 use Rattle.tracks.specs.declared.entry.ReportCause.{ReportCause}
 use Rattle.tracks.specs.declared.keeping.Keeping.{Keeping}
 use Rattle.tracks.specs.declared.statics.Statics.{Statics}
@@ -96,6 +97,6 @@ pub record IsKept (keeping : Keeping) (gap : ℕ) (vessel : VesselValue) : Type 
 pub record IsBook (book : BookValue) : Type 0 where
   pub numbers : IsNumbers book.numbers
   pub ascends : Ascends book.held
-  pub few : length book.held ≤ 4096
+  pub few : length book.held ≤ MOST_VESSELS
   pub each : length book.vessels ≡ length book.held
   pub kept : All (IsKept book.keeping book.numbers.gap) book.vessels

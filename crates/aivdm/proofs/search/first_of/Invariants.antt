@@ -7,9 +7,3 @@ invariant-vectors l = record { within : l.at ≤ length l.bytes; none : (k : ℕ
 
 abbrev pub decreases-vectors : goal.decreases-vectors
 decreases-vectors l = length l.bytes - l.at
-
-abbrev pub invariant-rest : goal.invariant-rest
-invariant-rest l = record { within : l.at ≤ length l.bytes; none : (k : ℕ) → k < l.at → (get_or l.bytes k 0 == l.byte) ≡ false }
-
-abbrev pub decreases-rest : goal.decreases-rest
-decreases-rest l = length l.bytes - l.at

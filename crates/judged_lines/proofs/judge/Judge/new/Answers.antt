@@ -15,7 +15,7 @@ returns-clause-stands c =
     record {
       times = c.new.ensures;
       joiner = subst (JoinerStandsFor c.new-2.result) (sym (nothing_heard scenario)) c.new-2.ensures;
-      book = subst (BookStandsFor c.new-3.result numbers) (sym (nothing_sent scenario)) c.new-3.ensures.stands;
+      book = subst (BookStandsFor c.with_keeping.result numbers) (sym (nothing_sent scenario)) c.with_keeping.ensures.stands;
       few = subst (λ (l : List Sent). length (held_of numbers l) ≤ greatest_held) (sym (nothing_sent scenario)) (nothing_held numbers);
       calm = nothing_crowded scenario;
       counts = subst (AreCounts _) (sym (nothing_judged scenario)) AreCounts-zeros;

@@ -2,7 +2,7 @@ use Rattle.std.proofs.Common.{◌≡◌, ◌∙◌, [], ap, map, refl}
 use Rattle.tracks.specs.AcceptedReports.{Numbers}
 use Rattle.tracks.specs.Standing.{vessel_of}
 use Rattle.tracks.specs.VesselsHeld.{held_of}
-use Rattle.tracks.proofs.book.Book.new.Goals as goal
+use Rattle.tracks.proofs.book.Book.with_keeping.Goals as goal
 
 none_held : (numbers : Numbers) → [] ≡ held_of numbers []
 unfolding held_of
