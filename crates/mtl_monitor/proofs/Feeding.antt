@@ -150,13 +150,11 @@ module _ (nodes : List ProgramNode) (states : List Kept) (values : List Verdict)
   pub Walked-still : Walked nodes states states values values moving moving r i end false true
   Walked-still =
       record {
-        warm = false;
         spread' = false;
-        warmth = λ h. cc;
         walk =
-            Walk-reached nodes states values moving r i end false false states values moving false true 0 (length nodes)
+            Walk-reached nodes states values moving r i end false states values moving false true 0 (length nodes)
             (record { after = omega arith; inside = omega arith; stay = λ j h from. record { rests = all_rest j h; uncrossed = uncrossed j h } }) (λ h. refl)
-            (Walk-begins nodes states values moving r i end false false s v m);
+            (Walk-begins nodes states values moving r i end false s v m);
       }
 
 module _ (p : Program) (s s' : TraceState) (formulas : List FormulaTree) (rows : Trace) (below : AllBelow p.nodes.items) where
@@ -170,12 +168,12 @@ module _ (p : Program) (s s' : TraceState) (formulas : List FormulaTree) (rows :
         kept = λ trace trees program answers ends keeps. record { each = (w.walk.midway trace trees program answers ends rest keeps).passed };
         given = λ trace trees program answers ends keeps. record { each = (w.walk.midway trace trees program answers ends rest keeps).gave };
       })
-      (λ k inside flag. w.walk.quiet w.warmth _ (GoesOn-fed s.passed) h.runs rest below k inside flag) (w.walk.runs h.runs) w.walk.all_still
+      (λ k inside flag. w.walk.quiet _ (GoesOn-fed s.passed) h.runs rest below k inside flag) (w.walk.runs h.runs) w.walk.all_still
     where
       answered : changed ≡ false → AreAnswered p.nodes.items s.values.items r
       answered none k inside = answered_one p.atoms.items s.values.items r _ k (read none) (h.of.listed k inside)
 
-      rest : MayRest p.nodes.items s.states.items s.values.items s.moving.items r s.passed (s.passed + 1) w.warm changed
+      rest : MayRest p.nodes.items s.states.items s.values.items s.moving.items r s.passed (s.passed + 1) changed
       rest none = (h.quiet, answered none)
 
   pub Closes-walked : (changed : Bool) → Closes p s formulas rows → s'.fed ≡ s.fed → s'.passed ≡ s.passed + 1
@@ -188,12 +186,12 @@ module _ (p : Program) (s s' : TraceState) (formulas : List FormulaTree) (rows :
         kept = λ trace trees program answers ends keeps. record { each = (w.walk.midway trace trees program answers ends rest keeps).passed };
         given = λ trace trees program answers ends keeps. record { each = (w.walk.midway trace trees program answers ends rest keeps).gave };
       })
-      (λ k inside flag. w.walk.quiet w.warmth _ (GoesOn-ended s.passed s.fed) h.runs rest below k inside flag) (w.walk.runs h.runs) w.walk.all_still
+      (λ k inside flag. w.walk.quiet _ (GoesOn-ended s.passed s.fed) h.runs rest below k inside flag) (w.walk.runs h.runs) w.walk.all_still
     where
       answered : changed ≡ false → AreAnswered p.nodes.items s.values.items beyond
       answered none k inside = answered_one p.atoms.items s.values.items beyond _ k (read none) (h.of.listed k inside)
 
-      rest : MayRest p.nodes.items s.states.items s.values.items s.moving.items beyond s.passed s.fed w.warm changed
+      rest : MayRest p.nodes.items s.states.items s.values.items s.moving.items beyond s.passed s.fed changed
       rest none = (h.quiet, answered none)
 
 -- the answers to the last row that passed

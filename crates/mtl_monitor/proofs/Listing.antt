@@ -1,4 +1,4 @@
--- The list of a program's atoms, and the row from which on it is awake.
+-- The list of a program's atoms.
 use Rattle.std.proofs.Common.{◌≡◌, ℕ, ◌+◌, ◌<◌, ◌≤◌, refl, ◌∙◌, arith, List, [], ◌∷◌, ◌++◌, length, below_more}
 use Rattle.std.proofs.lemmas.List.{length_push, get_or_push, get_or_append_left}
 use Rattle.mtl_formulas.specs.declared.atom.Atom.TheVariants.{Always}
@@ -9,18 +9,7 @@ use Rattle.mtl_monitor.specs.declared.node.Operator.TheVariants as op
 use Rattle.mtl_monitor.specs.declared.node.ProgramNode.{ProgramNode}
 use Rattle.mtl_monitor.specs.Inner.Steps.{HasValidAtom}
 use Rattle.mtl_monitor.specs.Inner.Standing.{node_at}
-use Rattle.mtl_monitor.specs.Inner.Quiet.{IsAwake}
 use Rattle.mtl_monitor.specs.Inner.Reading.{atom_node, atom_at, IsListed, AreReadable, Lists}
-
--- what is awake stays awake
-pub IsAwake-more : (o : Operator) (i j : ℕ) → i ≤ j → IsAwake o i → IsAwake o j
-IsAwake-more (op.Late cells from a) i j h awake = omega arith
-IsAwake-more (op.Window kind width from a) i j h awake = omega arith
-IsAwake-more (op.Since width lower from a b) i j h awake = omega arith
-IsAwake-more (op.Until from full lower a behind b) i j h awake = awake
-IsAwake-more (op.Atom a) i j h awake = tt
-IsAwake-more (op.Not a) i j h awake = tt
-IsAwake-more (op.Pair kind a b) i j h awake = tt
 
 module _ (old : List AtomNode) (node : AtomNode) where
   kept_atom : (j : ℕ) → j < length old → atom_at (old ++ node ∷ []) j ≡ atom_at old j

@@ -12,7 +12,7 @@ use Rattle.mtl_monitor.specs.declared.node.Kept.TheVariants as kinds
 use Rattle.mtl_monitor.specs.Traces.{Trace}
 use Rattle.mtl_monitor.specs.Inner.Steps.{value_at, given, kept}
 use Rattle.mtl_monitor.specs.Inner.Standing.{tree_at, node_at, late_at, state_at, IsRow, EndsAt, IsProgram, Midway, OperandsBelow, AllBelow}
-use Rattle.mtl_monitor.specs.Inner.Quiet.{HaveRuns, IsWarm, IsQuiet, GoesOn, flag_at, Moves, IsReached, MayRest, Walk}
+use Rattle.mtl_monitor.specs.Inner.Quiet.{HaveRuns, IsQuiet, GoesOn, flag_at, Moves, IsReached, MayRest, Walk}
 use Rattle.mtl_monitor.proofs.NodeRows.{Keeps-row, IsGiven-row}
 use Rattle.mtl_monitor.proofs.Rows.{Midway-next}
 use Rattle.mtl_monitor.proofs.Shapes.{HaveShapes-next, IsCounted-kept}
@@ -35,10 +35,10 @@ Midway-stays trace trees nodes states values i k row end program inside answers 
       waiting = λ j after h. m.waiting j (omega arith) h;
     }
 
-module _ (nodes : List ProgramNode) (states : List Kept) (values : List Verdict) (moving : List Bool) (row : Atom → Verdict) (i end : ℕ) (warm spread : Bool) where
+module _ (nodes : List ProgramNode) (states : List Kept) (values : List Verdict) (moving : List Bool) (row : Atom → Verdict) (i end : ℕ) (spread : Bool) where
   -- before the first node
   pub Walk-begins : length states ≡ length nodes → length values ≡ length nodes → length moving ≡ length nodes
-      → Walk nodes states values moving row i end warm spread states values moving spread true 0
+      → Walk nodes states values moving row i end spread states values moving spread true 0
   Walk-begins s v m =
       record {
         states_fit = s;
@@ -49,17 +49,17 @@ module _ (nodes : List ProgramNode) (states : List Kept) (values : List Verdict)
         unspread = λ h. (h, refl);
         midway = λ trace trees program answers ends rest keeps.
             record { passed = λ j h. absurd (omega arith); gave = λ j h. absurd (omega arith); waiting = λ j after h. keeps.each j h };
-        quiet = λ warmth next onward runs rest below j h flag. absurd (omega arith);
+        quiet = λ next onward runs rest below j h flag. absurd (omega arith);
         runs = λ h. h;
         shapes = λ h. h;
         all_still = λ h j before. absurd (omega arith);
       }
 
   module _ (states' : List Kept) (values' : List Verdict) (moving' : List Bool) (spread' still : Bool) (k : ℕ) (inside : k < length nodes)
-      (w : Walk nodes states values moving row i end warm spread states' values' moving' spread' still k) where
+      (w : Walk nodes states values moving row i end spread states' values' moving' spread' still k) where
     -- a quiet node is left
     pub Walk-stays : spread' ≡ false → flag_at moving' k ≡ false → i ≢ end + late_at nodes k → (still' : Bool) → (still' ≡ true → still ≡ true)
-        → Walk nodes states values moving row i end warm spread states' values' moving' spread' still' (k + 1)
+        → Walk nodes states values moving row i end spread states' values' moving' spread' still' (k + 1)
     Walk-stays none rests here still' stiller =
         record {
           states_fit = w.states_fit;
@@ -74,22 +74,22 @@ module _ (nodes : List ProgramNode) (states : List Kept) (values : List Verdict)
               let found : given (node_at nodes k).operator (state_at states' k) (late_at nodes k) values' row i end ≡ value_at values' k =
               was.gives here row (rw (w.unspread none).1 (allowed.1 k inside)) in
               Midway-stays trace trees nodes states' values' i k row end program inside answers ends found was.keeps (w.midway trace trees program answers ends rest keeps);
-          quiet = λ warmth next onward runs rest below.
-              below_more _ _ (w.quiet warmth next onward runs rest below)
+          quiet = λ next onward runs rest below.
+              below_more _ _ (w.quiet next onward runs rest below)
               (λ flag. IsQuiet-later values' i (node_at nodes k).operator (state_at states' k) (late_at nodes k) (value_at values' k) end next onward here (was_quiet rest));
           runs = w.runs;
           shapes = w.shapes;
           all_still = λ h. below_more _ _ (w.all_still (stiller h)) rests;
         }
       where
-        was_quiet : MayRest nodes states values moving row i end warm spread → IsQuiet (node_at nodes k).operator (state_at states' k) (late_at nodes k) values' (value_at values' k) i end
+        was_quiet : MayRest nodes states values moving row i end spread → IsQuiet (node_at nodes k).operator (state_at states' k) (late_at nodes k) values' (value_at values' k) i end
         was_quiet rest =
             let start = w.unspread none in
             rw (start.1, w.states_ahead k (omega arith)) ((rest start.0).0 k inside (sym (w.moving_ahead k (omega arith)) ∙ rests))
 
     -- a node is passed
     module _ (states'' : List Kept) (values'' : List Verdict) (moving'' : List Bool) (changed : Bool)
-        (m : Moves nodes states' states'' values' values'' moving' moving'' row i end k warm changed) where
+        (m : Moves nodes states' states'' values' values'' moving' moving'' row i end k changed) where
       abbrev in_states : k < length states'
       in_states = omega (arith, w.states_fit)
 
@@ -114,19 +114,18 @@ module _ (nodes : List ProgramNode) (states : List Kept) (values : List Verdict)
       same_below : (j : ℕ) → j < k → value_at values'' j ≡ value_at values' j
       same_below j h = other_value j (omega arith)
 
-      passed_quiet : (warm ≡ true → IsWarm nodes i) → (next : ℕ) → GoesOn i end next → HaveRuns states → AllBelow nodes → flag_at moving'' k ≡ false
+      passed_quiet : (next : ℕ) → GoesOn i end next → HaveRuns states → AllBelow nodes → flag_at moving'' k ≡ false
           → IsQuiet (node_at nodes k).operator (state_at states'' k) (late_at nodes k) values'' (value_at values'' k) (i + 1) next
-      passed_quiet warmth next onward runs below flag =
+      passed_quiet next onward runs below flag =
           let rests = m.rests (sym this_flag ∙ flag) in
-          let is_warm = warmth rests.0 k inside in
           let still : m.keeps ≡ state_at states' k = rests.2 (w.runs runs k) in
           let value : value_at values'' k ≡ given (node_at nodes k).operator (state_at states' k) (late_at nodes k) values' row i end = this_value ∙ m.value_is in
           rw (this_state, still, value)
           (IsQuiet-same values' values'' (i + 1) (node_at nodes k).operator (state_at states' k) k (late_at nodes k) _ (below k inside) same_below next
-          (IsQuiet-passed values' i (node_at nodes k).operator (state_at states' k) (late_at nodes k) row end next onward (is_warm.0 rests.1) is_warm.1 (sym m.kept_is ∙ still)))
+          (IsQuiet-passed values' i (node_at nodes k).operator (state_at states' k) (late_at nodes k) row end next onward rests.0 rests.1 (sym m.kept_is ∙ still)))
 
       pub Walk-moves : (spread'' : Bool) → (spread'' ≡ false → (spread' ≡ false) × (changed ≡ false)) → (still' : Bool) → (still' ≡ true → (still ≡ true) × (flag_at moving'' k ≡ false))
-          → Walk nodes states values moving row i end warm spread states'' values'' moving'' spread'' still' (k + 1)
+          → Walk nodes states values moving row i end spread states'' values'' moving'' spread'' still' (k + 1)
       Walk-moves spread'' before still' stiller =
           record {
             states_fit = rw m.states_are (length-set states' k m.keeps ∙ w.states_fit);
@@ -139,9 +138,9 @@ module _ (nodes : List ProgramNode) (states : List Kept) (values : List Verdict)
                 rw (m.states_are, m.values_are)
                 (Midway-next trace trees nodes states' values' i k row end kinds.Plain m.keeps m.value program inside w.states_fit w.values_fit answers ends m.value_is m.kept_is
                 (w.midway trace trees program answers ends rest keeps));
-            quiet = λ warmth next onward runs rest below.
-                below_more _ _ (λ j h flag. quiet_before next j h (w.quiet warmth next onward runs rest below j h (sym (other_flag j (omega arith)) ∙ flag)) (below j (omega arith)))
-                (passed_quiet warmth next onward runs below);
+            quiet = λ next onward runs rest below.
+                below_more _ _ (λ j h flag. quiet_before next j h (w.quiet next onward runs rest below j h (sym (other_flag j (omega arith)) ∙ flag)) (below j (omega arith)))
+                (passed_quiet next onward runs below);
             runs = λ h. runs_after (w.runs h);
             shapes = λ h. rw m.states_are (HaveShapes-next nodes states' k (late_at nodes k) values' i kinds.Plain m.keeps inside m.kept_is (w.shapes h));
             all_still = λ h. below_more _ _ (λ j b. other_flag j (omega arith) ∙ w.all_still (stiller h).0 j b) (stiller h).1;
@@ -170,8 +169,8 @@ module _ (nodes : List ProgramNode) (states : List Kept) (values : List Verdict)
   -- all nodes up to an index are left
   pub Walk-on : (states' : List Kept) (values' : List Verdict) (moving' : List Bool) (spread' still : Bool) (start count : ℕ)
       → IsReached nodes moving' i end start (start + count) → (start < start + count → spread' ≡ false)
-      → Walk nodes states values moving row i end warm spread states' values' moving' spread' still start
-      → Walk nodes states values moving row i end warm spread states' values' moving' spread' still (start + count)
+      → Walk nodes states values moving row i end spread states' values' moving' spread' still start
+      → Walk nodes states values moving row i end spread states' values' moving' spread' still (start + count)
   Walk-on states' values' moving' spread' still start zero reached none w = let here : start + zero ≡ start = omega arith in rw here w
   Walk-on states' values' moving' spread' still start (suc count) reached none w =
       let next : start + suc count ≡ (start + count) + 1 = omega arith in
@@ -184,9 +183,9 @@ module _ (nodes : List ProgramNode) (states : List Kept) (values : List Verdict)
 
   pub Walk-reached : (states' : List Kept) (values' : List Verdict) (moving' : List Bool) (spread' still : Bool) (start k : ℕ)
       → IsReached nodes moving' i end start k → (start < k → spread' ≡ false)
-      → Walk nodes states values moving row i end warm spread states' values' moving' spread' still start
-      → Walk nodes states values moving row i end warm spread states' values' moving' spread' still k
+      → Walk nodes states values moving row i end spread states' values' moving' spread' still start
+      → Walk nodes states values moving row i end spread states' values' moving' spread' still k
   Walk-reached states' values' moving' spread' still start k reached none w =
       let sum : start + (k - start) ≡ k = omega (arith, reached.after) in
-      subst (λ (n : ℕ). Walk nodes states values moving row i end warm spread states' values' moving' spread' still n) sum
+      subst (λ (n : ℕ). Walk nodes states values moving row i end spread states' values' moving' spread' still n) sum
       (Walk-on states' values' moving' spread' still start (k - start) (rw sum reached) (λ h. none (omega arith)) w)

@@ -4,7 +4,7 @@ ghost use Rattle.mtl_formulas.specs.declared.verdict.Verdict.TheVariants.{Open};
 ghost use Rattle.mtl_monitor.specs.Inner.Countdown.{left_value};
 ghost use Rattle.mtl_monitor.specs.Inner.Steps.{value_at, same_verdict, sensed, ring_value, ring_after, run_after, window_after, hits_under, bars_after, hits_after, before_after, window_read, HasValidAtom, given, kept};
 ghost use Rattle.mtl_monitor.specs.Inner.Standing.{AllValid, AllBelow, OperandsBelow};
-ghost use Rattle.mtl_monitor.specs.Inner.Quiet.{IsRun, IsCounted, CanRest, flag_at, Moves, CanStay, IsReached, Walk};
+ghost use Rattle.mtl_monitor.specs.Inner.Quiet.{IsRun, IsCounted, IsAwake, flag_at, Moves, CanStay, IsReached, Walk};
 
 use crate::left::Left;
 use crate::lookahead::Lookahead;
@@ -156,7 +156,6 @@ fn pass<A: Atoms>(
     requires below { OperandsBelow (length values.now) node.now.operator }
     ensures value { result.value ≡ given node.now.operator keeps.old node.now.late values.now (A.answer row.now) i end }
     ensures after { keeps.new ≡ kept node.now.operator keeps.old node.now.late values.now i }
-    ensures rests { result.moved ≡ false → CanRest node.now.operator }
     ensures still { result.moved ≡ false → IsCounted keeps.old → keeps.new ≡ keeps.old }
 {
     let position = i.saturating_sub(node.late);
@@ -209,6 +208,20 @@ fn pass<A: Atoms>(
     }
 }
 
+/// Whether the operands of a node give values at row `i`, and it gives one itself. What an U keeps moves at each row, so it
+/// never rests.
+fn is_awake(node: &ProgramNode, i: u32) -> bool
+    ensures { result ≡ true → IsAwake node.now.operator i × (node.now.late ≤ i) }
+{
+    match node.operator {
+        Operator::Late(_, from, _)
+        | Operator::Window(_, _, from, _)
+        | Operator::Since(_, _, from, _, _) => from.max(node.late) <= i,
+        Operator::Until(_, _, _, _, _, _) => false,
+        Operator::Atom(_) | Operator::Not(_) | Operator::Pair(_, _, _) => node.late <= i,
+    }
+}
+
 /// Passes row `i` through the node at index `k`, once it has passed all before it. Says whether its value has changed.
 fn pass_at<A: Atoms>(
     nodes: &[ProgramNode],
@@ -219,7 +232,6 @@ fn pass_at<A: Atoms>(
     row: &A,
     i: u32,
     end: u32,
-    warm: bool,
 ) -> bool
     requires valid { AllValid nodes.now }
     requires below { AllBelow nodes.now }
@@ -228,12 +240,12 @@ fn pass_at<A: Atoms>(
     requires values { length values.old ≡ length nodes.now }
     requires moving { length moving.old ≡ length nodes.now }
     ensures { Moves nodes.now states.old states.new values.old values.new moving.old moving.new
-        (A.answer row.now) i end k warm result }
+        (A.answer row.now) i end k result }
 {
     let passed = pass(&nodes[k], &mut states[k], values, row, i, end);
     let changed = !is_same(passed.value, values[k]);
     values[k] = passed.value;
-    moving[k] = passed.moved || !warm;
+    moving[k] = passed.moved || !is_awake(&nodes[k], i);
     changed
 }
 
@@ -307,7 +319,6 @@ pub(crate) fn pass_all<A: Atoms>(
     row: &A,
     i: u32,
     end: u32,
-    warm: bool,
     spread: bool,
 ) -> bool
     requires valid { AllValid nodes.now }
@@ -315,14 +326,14 @@ pub(crate) fn pass_all<A: Atoms>(
     requires states { length states.old ≡ length nodes.now }
     requires values { length values.old ≡ length nodes.now }
     requires moving { length moving.old ≡ length nodes.now }
-    ensures { (spread' : Bool) × Walk nodes.now states.old values.old moving.old (A.answer row.now) i end warm spread
+    ensures { (spread' : Bool) × Walk nodes.now states.old values.old moving.old (A.answer row.now) i end spread
         states.new values.new moving.new spread' result (length nodes.now) }
 {
     let mut so_far = spread;
     let mut still = true;
     let mut k = next_passed(nodes, 0, moving, i, end, so_far);
     while k < nodes.len() {
-        let changed = pass_at(nodes, k, states, values, moving, row, i, end, warm);
+        let changed = pass_at(nodes, k, states, values, moving, row, i, end);
         so_far = has_spread(so_far, changed);
         still = rests(still, moving, k);
         k = next_passed(nodes, k + 1, moving, i, end, so_far);

@@ -1,9 +1,8 @@
 //! The atoms of a program, which are read at each row.
-ghost use Rattle.std.specs.Prelude.{◌≡◌, ◌≤◌, ◌<◌, true, length, OnOk};
+ghost use Rattle.std.specs.Prelude.{◌≡◌, ◌<◌, true, length, OnOk};
 ghost use Rattle.mtl_formulas.specs.FormulaMeasures.{IsValidAtom};
 ghost use Rattle.mtl_monitor.specs.Inner.Steps.{value_at, HasValidAtom};
 ghost use Rattle.mtl_monitor.specs.Inner.Standing.{AllValid};
-ghost use Rattle.mtl_monitor.specs.Inner.Quiet.{CanRest, IsAwake, IsWarm};
 ghost use Rattle.mtl_monitor.specs.Inner.Reading.{Lists, AreListed, AreReadable, AreRead};
 
 use crate::node::{AtomNode, Operator, ProgramNode};
@@ -36,30 +35,6 @@ pub(crate) fn list_atoms(nodes: &[ProgramNode], atoms: &mut Vec<AtomNode>) -> Re
         list_atom(nodes[index].operator, index, atoms)?;
     }
     Ok(())
-}
-
-/// From which row on all operands give values.
-pub(crate) fn warm_row(nodes: &[ProgramNode]) -> u32
-    ensures { IsWarm nodes.now result }
-{
-    let mut latest = 0;
-    for node in nodes {
-        latest = awake_row(node).max(latest);
-    }
-    latest
-}
-
-/// From which row on a node and its operands give values.
-fn awake_row(node: &ProgramNode) -> u32
-    ensures awake { CanRest node.now.operator → IsAwake node.now.operator result }
-    ensures ready { node.now.late ≤ result }
-{
-    match node.operator {
-        Operator::Late(_, from, _)
-        | Operator::Window(_, _, from, _)
-        | Operator::Since(_, _, from, _, _) => from.max(node.late),
-        _ => node.late,
-    }
 }
 
 /// Whether the row answers an atom with its node's value.

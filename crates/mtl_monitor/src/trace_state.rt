@@ -87,7 +87,6 @@ impl TraceState {
             row,
             i,
             end,
-            i >= program.warm,
             spread,
         );
     }

@@ -1,6 +1,5 @@
 -- Nodes that a further equal row would leave as they are, and so need not be passed.
 use Rattle.std.specs.Prelude.{◌≡◌, ◌≢◌, ℕ, ◌+◌, ◌-◌, ◌<◌, ◌≤◌, nat_lt, Bool, true, false, List, length, get_or, set}
-use Rattle.std.specs.Coded.{le_prop}
 use Rattle.circular_buffer.specs.Buffer.{Buffer}
 use Rattle.mtl_formulas.specs.declared.atom.Atom.{Atom}
 use Rattle.mtl_formulas.specs.declared.verdict.Verdict.{Verdict}
@@ -37,23 +36,6 @@ IsAwake (op.Since width lower from a b) i = from ≤ i
 IsAwake (op.Until from full lower a behind b) i = ⊥
 IsAwake _ i = Unit {0}
 
-IsAwake-prop : (o : Operator) (i : ℕ) → IsProp (IsAwake o i)
-IsAwake-prop (op.Late cells from a) i = hlevel le_prop
-IsAwake-prop (op.Window kind width from a) i = hlevel le_prop
-IsAwake-prop (op.Since width lower from a b) i = hlevel le_prop
-IsAwake-prop _ i = hlevel
-
-abbrev pub CanRest : Operator → Type 0
-CanRest (op.Until from full lower a behind b) = ⊥
-CanRest _ = Unit {0}
-
--- From row i on all operands give values.
-abbrev pub IsWarm : List ProgramNode → ℕ → Type 0
-IsWarm nodes i = (k : ℕ) → k < length nodes → (CanRest (node_at nodes k).operator → IsAwake (node_at nodes k).operator i) × (late_at nodes k ≤ i)
-
-pub IsWarm-prop : (nodes : List ProgramNode) (i : ℕ) → IsProp (IsWarm nodes i)
-IsWarm-prop nodes i = hlevel (le_prop, IsAwake-prop)
-
 -- The row answers a node's atom with this value.
 abbrev pub Answers : Operator → (Atom → Verdict) → Verdict → Type 0
 Answers (op.Atom a) row v = row a ≡ v
@@ -84,7 +66,7 @@ abbrev pub AreAnswered : List ProgramNode → List Verdict → (Atom → Verdict
 AreAnswered nodes values row = (k : ℕ) → k < length nodes → Answers (node_at nodes k).operator row (value_at values k)
 
 -- what the pass of row i through node k leaves
-pub record Moves (nodes : List ProgramNode) (states states' : List Kept) (values values' : List Verdict) (moving moving' : List Bool) (row : Atom → Verdict) (i end k : ℕ) (warm changed : Bool) : Type 0 where
+pub record Moves (nodes : List ProgramNode) (states states' : List Kept) (values values' : List Verdict) (moving moving' : List Bool) (row : Atom → Verdict) (i end k : ℕ) (changed : Bool) : Type 0 where
   pub keeps : Kept
   pub value : Verdict
   pub flag : Bool
@@ -93,7 +75,7 @@ pub record Moves (nodes : List ProgramNode) (states states' : List Kept) (values
   pub moving_are : moving' ≡ set moving k flag
   pub kept_is : keeps ≡ kept (node_at nodes k).operator (state_at states k) (late_at nodes k) values i
   pub value_is : value ≡ given (node_at nodes k).operator (state_at states k) (late_at nodes k) values row i end
-  pub rests : flag ≡ false → (warm ≡ true) × CanRest (node_at nodes k).operator × (IsCounted (state_at states k) → keeps ≡ state_at states k)
+  pub rests : flag ≡ false → IsAwake (node_at nodes k).operator i × (late_at nodes k ≤ i) × (IsCounted (state_at states k) → keeps ≡ state_at states k)
   pub same : changed ≡ false → value ≡ value_at values k
 
 -- The node at index k may be left as it is where no value has changed before it.
@@ -107,7 +89,7 @@ pub record IsReached (nodes : List ProgramNode) (moving : List Bool) (i end star
   pub inside : k ≤ length nodes
   pub stay : (j : ℕ) → j < k → start ≤ j → CanStay nodes moving i end j
 
-module _ (nodes : List ProgramNode) (states : List Kept) (values : List Verdict) (moving : List Bool) (row : Atom → Verdict) (i end : ℕ) (warm spread : Bool) where
+module _ (nodes : List ProgramNode) (states : List Kept) (values : List Verdict) (moving : List Bool) (row : Atom → Verdict) (i end : ℕ) (spread : Bool) where
   -- What was quiet may be left: no atom has changed.
   abbrev pub MayRest : Type 0
   MayRest = spread ≡ false → AreQuiet nodes states values moving i end × AreAnswered nodes values row
@@ -122,16 +104,14 @@ module _ (nodes : List ProgramNode) (states : List Kept) (values : List Verdict)
     pub unspread : spread' ≡ false → (spread ≡ false) × (values' ≡ values)
     pub midway : (trace : Trace) (trees : List FormulaTree) → IsProgram nodes trees → IsRow trace row i → EndsAt trace i end → MayRest
         → KeepAll trace trees nodes states i → Midway trace trees nodes states' values' i k
-    pub quiet : (warm ≡ true → IsWarm nodes i) → (next : ℕ) → GoesOn i end next → HaveRuns states → MayRest → AllBelow nodes
+    pub quiet : (next : ℕ) → GoesOn i end next → HaveRuns states → MayRest → AllBelow nodes
         → (j : ℕ) → j < k → flag_at moving' j ≡ false
         → IsQuiet (node_at nodes j).operator (state_at states' j) (late_at nodes j) values' (value_at values' j) (i + 1) next
     pub runs : HaveRuns states → HaveRuns states'
     pub shapes : HaveShapes nodes states → HaveShapes nodes states'
     pub all_still : still ≡ true → (j : ℕ) → j < k → flag_at moving' j ≡ false
 
--- A whole walk, in which nodes may rest from the row on from which all operands give values.
+-- A whole walk.
 pub record Walked (nodes : List ProgramNode) (states states' : List Kept) (values values' : List Verdict) (moving moving' : List Bool) (row : Atom → Verdict) (i end : ℕ) (spread still : Bool) : Type 0 where
-  pub warm : Bool
   pub spread' : Bool
-  pub warmth : warm ≡ true → IsWarm nodes i
-  pub walk : Walk nodes states values moving row i end warm spread states' values' moving' spread' still (length nodes)
+  pub walk : Walk nodes states values moving row i end spread states' values' moving' spread' still (length nodes)

@@ -7,7 +7,7 @@ abbrev pub invariant-loop-k : goal.invariant-loop-k
 invariant-loop-k g l =
     record {
       inside : l.k ≤ length l.nodes;
-      walk : Walk l.nodes l.fn.states l.fn.values l.fn.moving (g.A.Atoms.answer l.row) l.i l.end l.warm l.spread l.states l.values l.moving l.so_far l.still l.k;
+      walk : Walk l.nodes l.fn.states l.fn.values l.fn.moving (g.A.Atoms.answer l.row) l.i l.end l.spread l.states l.values l.moving l.so_far l.still l.k;
     }
 
 abbrev pub decreases-loop-k : goal.decreases-loop-k
