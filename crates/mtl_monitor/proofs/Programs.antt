@@ -22,18 +22,18 @@ true_false : true ≡ false → ⊥
 true_false h = cc
 
 counted_fresh : (o : Operator) (s : Kept) → IsFresh o s → IsCounted s
-counted_fresh (op.Late cells from a) (kinds.Ring b r) is =
-    rw (is.0, is.1) (record { fits = omega arith; within = omega arith; equal = λ j from inside. absurd (omega arith) })
-counted_fresh (op.Atom a) (kinds.Ring b r) is = absurd is
-counted_fresh (op.Not a) (kinds.Ring b r) is = absurd is
-counted_fresh (op.Pair kind a c) (kinds.Ring b r) is = absurd is
-counted_fresh (op.Window kind width from a) (kinds.Ring b r) is = absurd is
-counted_fresh (op.Since width lower from a c) (kinds.Ring b r) is = absurd is
-counted_fresh (op.Until from full lower a behind c) (kinds.Ring b r) is = absurd is
+counted_fresh (op.Late cells from a) (kinds.Ring d) is =
+    rw is (record { fits = omega arith; within = omega arith; equal = λ j from inside. absurd (omega arith) })
+counted_fresh (op.Atom a) (kinds.Ring d) is = absurd is
+counted_fresh (op.Not a) (kinds.Ring d) is = absurd is
+counted_fresh (op.Pair kind a c) (kinds.Ring d) is = absurd is
+counted_fresh (op.Window kind width from a) (kinds.Ring d) is = absurd is
+counted_fresh (op.Since width lower from a c) (kinds.Ring d) is = absurd is
+counted_fresh (op.Until from full lower a behind c) (kinds.Ring d) is = absurd is
 counted_fresh o kinds.Plain is = tt
 counted_fresh o (kinds.Window w) is = tt
 counted_fresh o (kinds.Since w x) is = tt
-counted_fresh o (kinds.Until w x) is = tt
+counted_fresh o (kinds.Until w) is = tt
 
 -- A new state follows no rows.
 pub Follows-new : (p : Program) (s : TraceState) (formulas : List FormulaTree) → AreFresh p.nodes.items s.states.items s.values.items s.moving.items → s.still ≡ false

@@ -25,7 +25,7 @@ module _ (values : List Verdict) (i : ℕ) where
   -- on one side of the trace's end
   given-later : (row : Atom → Verdict) (o : Operator) (s : Kept) (late end next : ℕ) → IsAwake o i → late ≤ i → nat_lt ((i + 1) - late) next ≡ nat_lt (i - late) end
       → given o s late values row (i + 1) next ≡ given o s late values row i end
-  given-later row (op.Late cells from a) (kinds.Ring b r) late end next awake warm side =
+  given-later row (op.Late cells from a) (kinds.Ring d) late end next awake warm side =
       rw (lt-false (i + 1) from (omega arith), lt-false i from awake)
   given-later row (op.Window kind width from a) (kinds.Window s) late end next awake warm side =
       rw (lt-false (i + 1) from (omega arith), lt-false i from awake, side)
@@ -36,14 +36,14 @@ module _ (values : List Verdict) (i : ℕ) where
 
   given-ended : (row : Atom → Verdict) (o : Operator) (s : Kept) (late end next : ℕ) → nat_lt (i - late) next ≡ nat_lt (i - late) end
       → given o s late values row i next ≡ given o s late values row i end
-  given-ended row (op.Late cells from a) (kinds.Ring b r) late end next side = refl
+  given-ended row (op.Late cells from a) (kinds.Ring d) late end next side = refl
   given-ended row (op.Window kind width from a) (kinds.Window s) late end next side = rw side
   given-ended row (op.Since width lower from a b) (kinds.Since hits bars) late end next side = rw side
-  given-ended row (op.Until from full lower a behind b) (kinds.Until s bars) late end next side = rw side
+  given-ended row (op.Until from full lower a behind b) (kinds.Until s) late end next side = rw side
   given-ended row _ _ late end next side = refl
 
   kept-later : (o : Operator) (s : Kept) (late : ℕ) → IsAwake o i → late ≤ i → kept o s late values (i + 1) ≡ kept o s late values i
-  kept-later (op.Late cells from a) (kinds.Ring b r) late awake warm =
+  kept-later (op.Late cells from a) (kinds.Ring d) late awake warm =
       rw (lt-false (i + 1) from (omega arith), lt-false i from awake)
   kept-later (op.Window kind width from a) (kinds.Window s) late awake warm =
       rw (lt-false (i + 1) from (omega arith), lt-false i from awake)
@@ -87,25 +87,25 @@ module _ (values : List Verdict) (i : ℕ) where
   same_given (op.Not a) s late end row other h = refl
   same_given (op.Pair kind a b) s late end row other h = refl
   same_given (op.Late cells from a) kinds.Plain late end row other h = refl
-  same_given (op.Late cells from a) (kinds.Ring b r) late end row other h = refl
+  same_given (op.Late cells from a) (kinds.Ring d) late end row other h = refl
   same_given (op.Late cells from a) (kinds.Window w) late end row other h = refl
   same_given (op.Late cells from a) (kinds.Since w x) late end row other h = refl
-  same_given (op.Late cells from a) (kinds.Until w x) late end row other h = refl
+  same_given (op.Late cells from a) (kinds.Until w) late end row other h = refl
   same_given (op.Window kind width from a) kinds.Plain late end row other h = refl
-  same_given (op.Window kind width from a) (kinds.Ring b r) late end row other h = refl
+  same_given (op.Window kind width from a) (kinds.Ring d) late end row other h = refl
   same_given (op.Window kind width from a) (kinds.Window w) late end row other h = refl
   same_given (op.Window kind width from a) (kinds.Since w x) late end row other h = refl
-  same_given (op.Window kind width from a) (kinds.Until w x) late end row other h = refl
+  same_given (op.Window kind width from a) (kinds.Until w) late end row other h = refl
   same_given (op.Since width lower from a b) kinds.Plain late end row other h = refl
-  same_given (op.Since width lower from a b) (kinds.Ring d q) late end row other h = refl
+  same_given (op.Since width lower from a b) (kinds.Ring d) late end row other h = refl
   same_given (op.Since width lower from a b) (kinds.Window w) late end row other h = refl
   same_given (op.Since width lower from a b) (kinds.Since w x) late end row other h = refl
-  same_given (op.Since width lower from a b) (kinds.Until w x) late end row other h = refl
+  same_given (op.Since width lower from a b) (kinds.Until w) late end row other h = refl
   same_given (op.Until from full lower a behind b) kinds.Plain late end row other h = refl
-  same_given (op.Until from full lower a behind b) (kinds.Ring d q) late end row other h = refl
+  same_given (op.Until from full lower a behind b) (kinds.Ring d) late end row other h = refl
   same_given (op.Until from full lower a behind b) (kinds.Window w) late end row other h = refl
   same_given (op.Until from full lower a behind b) (kinds.Since w x) late end row other h = refl
-  same_given (op.Until from full lower a behind b) (kinds.Until w x) late end row other h = refl
+  same_given (op.Until from full lower a behind b) (kinds.Until w) late end row other h = refl
 
   -- a node that was passed and has kept what it kept
   pub IsQuiet-passed : (o : Operator) (s : Kept) (late : ℕ) (row : Atom → Verdict) (end next : ℕ) → GoesOn i end next → IsAwake o i → late ≤ i → kept o s late values i ≡ s
@@ -125,18 +125,18 @@ module _ (values others : List Verdict) (i : ℕ) where
   given-same (op.Atom a) s k late end row below same = refl
   given-same (op.Not a) s k late end row below same = ap turned_round (same a below)
   given-same (op.Pair kind a b) s k late end row below same = ap₂ (pair_value kind) (same a below.0) (same b below.1)
-  given-same (op.Late cells from a) (kinds.Ring b r) k late end row below same = rw (same a below)
+  given-same (op.Late cells from a) (kinds.Ring d) k late end row below same = rw (same a below)
   given-same (op.Window kind width from a) (kinds.Window s) k late end row below same = rw (same a below)
   given-same (op.Since width lower from a b) (kinds.Since hits bars) k late end row below same = rw (same a below.0, same b below.1)
-  given-same (op.Until from full lower a behind b) (kinds.Until s bars) k late end row below same = rw (same a below.0, same behind below.1, same b below.2)
+  given-same (op.Until from full lower a behind b) (kinds.Until s) k late end row below same = rw (same a below.0, same behind below.1, same b below.2)
   given-same _ _ k late end row below same = refl
 
   kept-same : (o : Operator) (s : Kept) (k late : ℕ) → OperandsBelow k o → ((j : ℕ) → j < k → value_at others j ≡ value_at values j)
       → kept o s late others i ≡ kept o s late values i
-  kept-same (op.Late cells from a) (kinds.Ring b r) k late below same = rw (same a below)
+  kept-same (op.Late cells from a) (kinds.Ring d) k late below same = rw (same a below)
   kept-same (op.Window kind width from a) (kinds.Window s) k late below same = rw (same a below)
   kept-same (op.Since width lower from a b) (kinds.Since hits bars) k late below same = rw (same a below.0, same b below.1)
-  kept-same (op.Until from full lower a behind b) (kinds.Until s bars) k late below same = rw (same a below.0, same behind below.1, same b below.2)
+  kept-same (op.Until from full lower a behind b) (kinds.Until s) k late below same = rw (same a below.0, same behind below.1, same b below.2)
   kept-same _ _ k late below same = refl
 
   pub IsQuiet-same : (o : Operator) (s : Kept) (k late : ℕ) (v : Verdict) → OperandsBelow k o → ((j : ℕ) → j < k → value_at others j ≡ value_at values j)

@@ -6,7 +6,7 @@ use Rattle.std.proofs.lemmas.List.{length_push, get_or_push, get_or_append_left,
 use Rattle.circular_buffer.specs.Buffer.{Buffer, buffer}
 use Rattle.mtl_formulas.specs.declared.verdict.Verdict.{Verdict}
 use Rattle.mtl_formulas.specs.declared.verdict.Verdict.TheVariants.{No, Open, Yes}
-use Rattle.mtl_monitor.specs.declared.node.Run.{Run}
+use Rattle.mtl_monitor.specs.declared.delay_line.Run.{Run}
 use Rattle.mtl_monitor.specs.Inner.Steps.{ring_after, same_verdict, run_after}
 use Rattle.mtl_monitor.specs.Inner.Quiet.{IsRun}
 

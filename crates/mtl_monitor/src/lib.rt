@@ -9,10 +9,12 @@
 
 mod building;
 mod copying;
+mod delay_line;
 mod left;
 mod lookahead;
 mod monitor;
 mod node;
+mod outlook;
 mod passing;
 mod program;
 mod reading;

@@ -2,15 +2,14 @@
 ghost use Rattle.std.specs.Prelude.{◌≡◌, ◌≢◌, ◌<◌, ◌≤◌, ◌+◌, ℕ, Bool, true, false, nat_lt, if◌then◌else◌, length, min};
 ghost use Rattle.mtl_formulas.specs.declared.verdict.Verdict.TheVariants.{Open};
 ghost use Rattle.mtl_monitor.specs.Inner.Countdown.{left_value};
-ghost use Rattle.mtl_monitor.specs.Inner.Steps.{value_at, same_verdict, sensed, ring_value, ring_after, run_after, window_after, hits_under, bars_after, hits_after, before_after, window_read, HasValidAtom, given, kept};
+ghost use Rattle.mtl_monitor.specs.Inner.Steps.{value_at, sensed, window_after, hits_under, bars_after, hits_after, HasValidAtom, given, kept};
 ghost use Rattle.mtl_monitor.specs.Inner.Standing.{AllValid, AllBelow, OperandsBelow};
-ghost use Rattle.mtl_monitor.specs.Inner.Quiet.{IsRun, IsCounted, IsAwake, flag_at, Moves, CanStay, IsReached, Walk};
+ghost use Rattle.mtl_monitor.specs.Inner.Quiet.{IsCounted, IsAwake, flag_at, Moves, CanStay, IsReached, Walk};
 
+use crate::delay_line::Passed;
 use crate::left::Left;
-use crate::lookahead::Lookahead;
-use crate::node::{Kept, Operator, ProgramNode, Run};
+use crate::node::{Kept, Operator, ProgramNode};
 use crate::verdicts::{is_same, joined, lesser, negated, sensed};
-use circular_buffer::HeapCircularBuffer;
 use mtl_formulas::{Atoms, SpanKind, Verdict};
 
 fn value_at(values: &[Verdict], index: usize) -> Verdict
@@ -18,74 +17,6 @@ fn value_at(values: &[Verdict], index: usize) -> Verdict
     ensures { result ≡ value_at values.now index }
 {
     values[index]
-}
-
-/// What a node gives at a row, and whether what it keeps has moved.
-#[derive(Clone, Copy)]
-struct Passed {
-    pub value: Verdict,
-    moved: bool,
-}
-
-/// How often a value was read, up to so many cells.
-fn counted(count: usize, same: bool, cells: usize) -> usize
-    ensures { result ≡ (if same then min (count + 1) cells else min 1 cells) }
-{
-    if same {
-        count.saturating_add(1).min(cells)
-    } else {
-        cells.min(1)
-    }
-}
-
-impl Run {
-    /// Counts a value, up to so many cells.
-    fn read(&mut self, cells: usize, value: Verdict)
-        ensures { self.new ≡ run_after self.old cells value }
-    {
-        self.count = counted(self.count, is_same(value, self.value), cells);
-        self.value = value;
-    }
-}
-
-fn push(ring: &mut HeapCircularBuffer<Verdict>, run: &mut Run, value: Verdict) -> Passed
-    ensures value { result.value ≡ ring_value ring.old value }
-    ensures ring { ring.new ≡ ring_after ring.old value }
-    ensures run { run.new ≡ run_after run.old ring.old.capacity value }
-    ensures still { result.moved ≡ false → (same_verdict value run.old.value ≡ true) × (run.old.count ≡ ring.old.capacity) }
-{
-    let cells = ring.capacity();
-    let moved = !(is_same(value, run.value) && run.count == cells);
-    run.read(cells, value);
-    match ring.push_back(value) {
-        Some(value) => Passed { value, moved },
-        None => Passed {
-            value: Verdict::Open,
-            moved,
-        },
-    }
-}
-
-fn delay(
-    ring: &mut HeapCircularBuffer<Verdict>,
-    run: &mut Run,
-    from: u32,
-    value: Verdict,
-    i: u32,
-) -> Passed
-    ensures value { result.value ≡ (if nat_lt i from then Open else ring_value ring.old value) }
-    ensures ring { ring.new ≡ (if nat_lt i from then ring.old else ring_after ring.old value) }
-    ensures run { run.new ≡ (if nat_lt i from then run.old else run_after run.old ring.old.capacity value) }
-    ensures still { result.moved ≡ false → IsRun ring.old run.old → (ring.new ≡ ring.old) × (run.new ≡ run.old) }
-{
-    if i >= from {
-        push(ring, run, value)
-    } else {
-        Passed {
-            value: Verdict::Open,
-            moved: false,
-        }
-    }
 }
 
 fn slide(left: &mut Left, kind: SpanKind, width: u32, from: u32, value: Verdict, i: u32) -> Verdict
@@ -115,24 +46,6 @@ fn hold(hits: &mut Left, bars: Left, width: u32, from: u32, b: Verdict, i: u32)
 {
     if i >= from {
         hits.read(lesser(b, negated(bars.value())), width);
-    }
-}
-
-/// The first operand of U before the window.
-fn bar_before(bars: &mut Left, lower: u32, from: u32, a: Verdict, i: u32)
-    ensures { bars.new ≡ before_after bars.old lower from a i }
-{
-    if i >= from {
-        bars.read(negated(a), lower);
-    }
-}
-
-/// The operands of U in the window.
-fn look_ahead(ahead: &mut Lookahead, from: u32, a: Verdict, b: Verdict, i: u32)
-    ensures { ahead.new ≡ window_read ahead.old from a b i }
-{
-    if i >= from {
-        ahead.read(a, b);
     }
 }
 
@@ -172,9 +85,7 @@ fn pass<A: Atoms>(
             value: joined(kind, value_at(values, a), value_at(values, b)),
             moved: false,
         },
-        (Operator::Late(_, from, a), Kept::Ring(ring, run)) => {
-            delay(ring, run, from, value_at(values, a), i)
-        }
+        (Operator::Late(_, from, a), Kept::Ring(line)) => line.pass(from, value_at(values, a), i),
         (Operator::Window(kind, width, from, a), Kept::Window(left)) => {
             let before = *left;
             let value = slide(left, kind, width, from, value_at(values, a), i);
@@ -193,11 +104,11 @@ fn pass<A: Atoms>(
                 moved: !(before.is_same(*hits) && barred.is_same(*bars)),
             }
         }
-        (Operator::Until(from, full, lower, a, behind, b), Kept::Until(ahead, bars)) => {
-            look_ahead(ahead, from, value_at(values, a), value_at(values, b), i);
-            bar_before(bars, lower, full, value_at(values, behind), i);
+        (Operator::Until(from, full, lower, a, behind, b), Kept::Until(outlook)) => {
+            outlook.read(from, value_at(values, a), value_at(values, b), i);
+            outlook.bar(lower, full, value_at(values, behind), i);
             Passed {
-                value: before_end(lesser(negated(bars.value()), ahead.value()), position, end),
+                value: before_end(outlook.value(), position, end),
                 moved: true,
             }
         }

@@ -6,7 +6,7 @@ use Rattle.mtl_formulas.specs.declared.verdict.Verdict.{Verdict}
 use Rattle.mtl_monitor.specs.declared.node.Operator.{Operator}
 use Rattle.mtl_monitor.specs.declared.node.Operator.TheVariants as op
 use Rattle.mtl_monitor.specs.declared.node.ProgramNode.{ProgramNode}
-use Rattle.mtl_monitor.specs.declared.node.Run.{Run}
+use Rattle.mtl_monitor.specs.declared.delay_line.Run.{Run}
 use Rattle.mtl_monitor.specs.declared.node.Kept.{Kept}
 use Rattle.mtl_monitor.specs.declared.node.Kept.TheVariants as kinds
 use Rattle.mtl_monitor.specs.Inner.Steps.{value_at, given, kept}
@@ -22,7 +22,7 @@ pub record IsRun (b : Buffer Verdict) (r : Run) : Type 0 where
   pub equal : (j : ℕ) → length b.items - r.count ≤ j → j < length b.items → get_or b.items j r.value ≡ r.value
 
 abbrev pub IsCounted : Kept → Type 0
-IsCounted (kinds.Ring b r) = IsRun b r
+IsCounted (kinds.Ring d) = IsRun d.ring d.run
 IsCounted _ = Unit {0}
 
 abbrev pub HaveRuns : List Kept → Type 0

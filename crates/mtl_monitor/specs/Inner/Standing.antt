@@ -107,7 +107,7 @@ OperandsBelow k (op.Until from full lower a behind b) = (a < k) × (behind < k) 
 
 -- what an operator keeps once n rows of the trace have passed
 abbrev pub Keeps : Trace → List FormulaTree → Operator → ℕ → Kept → ℕ → Type 0
-Keeps trace trees (op.Late cells from a) late (kinds.Ring b r) n = Holds (value_in trace (tree_at trees a)) b cells (n - from)
+Keeps trace trees (op.Late cells from a) late (kinds.Ring d) n = Holds (value_in trace (tree_at trees a)) d.ring cells (n - from)
 Keeps trace trees (op.Late cells from a) late _ n = ⊥
 Keeps trace trees (op.Window kind width from a) late (kinds.Window s) n =
     Lasts (λ k. sensed kind (value_in trace (tree_at trees a) k)) s width (n - from)
@@ -116,9 +116,9 @@ Keeps trace trees (op.Since width lower from a b) late (kinds.Since hits bars) n
     Lasts (held_at (value_in trace (tree_at trees a)) (value_in trace (tree_at trees b)) (n - late)) hits width (n - from)
     × Lasts (λ k. turned_round (value_in trace (tree_at trees a) k)) bars lower (n - late)
 Keeps trace trees (op.Since width lower from a b) late _ n = ⊥
-Keeps trace trees (op.Until from full lower a behind b) late (kinds.Until s bars) n =
-    Reads (value_in trace (tree_at trees a)) (value_in trace (tree_at trees b)) s (full - from) (n - from)
-    × Lasts (λ k. turned_round (value_in trace (tree_at trees a) k)) bars lower (n - full)
+Keeps trace trees (op.Until from full lower a behind b) late (kinds.Until s) n =
+    Reads (value_in trace (tree_at trees a)) (value_in trace (tree_at trees b)) s.window (full - from) (n - from)
+    × Lasts (λ k. turned_round (value_in trace (tree_at trees a) k)) s.bars lower (n - full)
 Keeps trace trees (op.Until from full lower a behind b) late _ n = ⊥
 Keeps trace trees _ late _ n = Unit {0}
 
