@@ -3,6 +3,8 @@ pub mod Lookahead
 pub mod Steps
 pub mod Standing
 pub mod Compiling
+pub mod Marks
+pub mod Triggers
 pub mod Starting
 pub mod Copying
 pub mod Quiet

@@ -12,6 +12,7 @@ mod copying;
 mod delay_line;
 mod left;
 mod lookahead;
+mod marks;
 mod monitor;
 mod node;
 mod outlook;
@@ -21,6 +22,7 @@ mod reading;
 mod sameness;
 mod starting;
 mod trace_state;
+mod triggers;
 mod verdicts;
 
 pub use monitor::Monitor;

@@ -1,16 +1,21 @@
 //! One row through the nodes.
-ghost use Rattle.std.specs.Prelude.{◌≡◌, ◌≢◌, ◌<◌, ◌≤◌, ◌+◌, ℕ, Bool, true, false, nat_lt, if◌then◌else◌, length, min};
+ghost use Rattle.std.specs.Prelude.{◌≡◌, ◌≢◌, ◌<◌, ◌≤◌, ◌+◌, ℕ, List, true, false, nat_lt, if◌then◌else◌, length, min};
 ghost use Rattle.mtl_formulas.specs.declared.verdict.Verdict.TheVariants.{Open};
 ghost use Rattle.mtl_monitor.specs.Inner.Countdown.{left_value};
-ghost use Rattle.mtl_monitor.specs.Inner.Steps.{value_at, sensed, window_after, hits_under, bars_after, hits_after, HasValidAtom, given, kept};
-ghost use Rattle.mtl_monitor.specs.Inner.Standing.{AllValid, AllBelow, OperandsBelow};
-ghost use Rattle.mtl_monitor.specs.Inner.Quiet.{IsCounted, IsAwake, flag_at, Moves, CanStay, IsReached, Walk};
+ghost use Rattle.mtl_monitor.specs.Inner.Steps.{value_at, sensed, window_after, hits_under, bars_after, hits_after, given, kept};
+ghost use Rattle.mtl_monitor.specs.Inner.Standing.{AllBelow, OperandsBelow};
+ghost use Rattle.mtl_monitor.specs.Inner.Quiet.{Answers, IsCounted, IsAwake, flag_at, Moves, IsReached, Walked};
+ghost use Rattle.mtl_monitor.specs.Inner.Triggers.{AreTriggers};
+ghost use Rattle.mtl_formulas.specs.declared.atom.Atom.{Atom};
+ghost use Rattle.mtl_formulas.specs.declared.verdict.Verdict.{Verdict};
 
 use crate::delay_line::Passed;
 use crate::left::Left;
+use crate::marks::{are_unset, noted};
 use crate::node::{Kept, Operator, ProgramNode};
+use crate::triggers::Trigger;
 use crate::verdicts::{is_same, joined, lesser, negated, sensed};
-use mtl_formulas::{Atoms, SpanKind, Verdict};
+use mtl_formulas::{SpanKind, Verdict};
 
 fn value_at(values: &[Verdict], index: usize) -> Verdict
     requires { index < length values.now }
@@ -56,25 +61,26 @@ fn before_end(value: Verdict, position: u32, end: u32) -> Verdict
     if position < end { value } else { Verdict::Open }
 }
 
-/// Passes row `i` through a node, whose operands have passed it. The trace is known to end at `end`, or not before.
-fn pass<A: Atoms>(
+/// Passes row `i` through a node, whose operands have passed it; what an atom answers was its own value already. The trace is
+/// known to end at `end`, or not before.
+fn pass(
     node: &ProgramNode,
     keeps: &mut Kept,
     values: &[Verdict],
-    row: &A,
+    own: Verdict,
     i: u32,
     end: u32,
 ) -> Passed
-    requires valid { HasValidAtom node.now.operator }
     requires below { OperandsBelow (length values.now) node.now.operator }
-    ensures value { result.value ≡ given node.now.operator keeps.old node.now.late values.now (A.answer row.now) i end }
+    ensures value { (row : Atom → Verdict) → Answers node.now.operator row own →
+        result.value ≡ given node.now.operator keeps.old node.now.late values.now row i end }
     ensures after { keeps.new ≡ kept node.now.operator keeps.old node.now.late values.now i }
     ensures still { result.moved ≡ false → IsCounted keeps.old → keeps.new ≡ keeps.old }
 {
     let position = i.saturating_sub(node.late);
     match (node.operator, keeps) {
-        (Operator::Atom(atom), _) => Passed {
-            value: row.value(atom),
+        (Operator::Atom(_), _) => Passed {
+            value: own,
             moved: false,
         },
         (Operator::Not(a), _) => Passed {
@@ -134,27 +140,26 @@ fn is_awake(node: &ProgramNode, i: u32) -> bool
 }
 
 /// Passes row `i` through the node at index `k`, once it has passed all before it. Says whether its value has changed.
-fn pass_at<A: Atoms>(
+fn pass_at(
     nodes: &[ProgramNode],
     k: usize,
     states: &mut [Kept],
     values: &mut [Verdict],
     moving: &mut [bool],
-    row: &A,
     i: u32,
     end: u32,
 ) -> bool
-    requires valid { AllValid nodes.now }
     requires below { AllBelow nodes.now }
     requires inside { k < length nodes.now }
     requires states { length states.old ≡ length nodes.now }
     requires values { length values.old ≡ length nodes.now }
     requires moving { length moving.old ≡ length nodes.now }
     ensures { Moves nodes.now states.old states.new values.old values.new moving.old moving.new
-        (A.answer row.now) i end k result }
+        i end k result }
 {
-    let passed = pass(&nodes[k], &mut states[k], values, row, i, end);
-    let changed = !is_same(passed.value, values[k]);
+    let own = values[k];
+    let passed = pass(&nodes[k], &mut states[k], values, own, i, end);
+    let changed = !is_same(passed.value, own);
     values[k] = passed.value;
     moving[k] = passed.moved || !is_awake(&nodes[k], i);
     changed
@@ -167,49 +172,36 @@ fn crossing(i: u32, end: u32) -> u32
     if i >= end { i - end } else { u32::MAX }
 }
 
-/// The first node from `start` on that may not be left where it is, or the number of nodes.
-fn next_moving(nodes: &[ProgramNode], start: usize, moving: &[bool], i: u32, end: u32) -> usize
-    requires start { start ≤ length nodes.now }
-    requires moving { length moving.now ≡ length nodes.now }
-    ensures { IsReached nodes.now moving.now i end start result }
-{
-    let crossing = crossing(i, end);
-    for k in start..nodes.len() {
-        if moving[k] {
-            return k;
-        }
-        if nodes[k].late == crossing {
-            return k;
-        }
-    }
-    nodes.len()
-}
-
-/// The first node from `start` on that is to be passed, where a value before it has changed or not; or the number of nodes.
+/// The first node from `start` on that may not be left as it is, or the number of nodes. The marks are those of the nodes whose
+/// values have changed.
 fn next_passed(
     nodes: &[ProgramNode],
+    triggers: &[Trigger],
     start: usize,
     moving: &[bool],
     i: u32,
     end: u32,
-    spread: bool,
+    marks: u64,
 ) -> usize
     requires start { start ≤ length nodes.now }
+    requires triggers { AreTriggers nodes.now triggers.now }
     requires moving { length moving.now ≡ length nodes.now }
-    ensures reached { IsReached nodes.now moving.now i end start result }
-    ensures unspread { start < result → spread ≡ false }
+    ensures { IsReached nodes.now moving.now i end marks start result }
 {
-    if spread {
-        return start;
+    let crossing = crossing(i, end);
+    for k in start..nodes.len() {
+        let trigger = triggers[k];
+        if moving[k] {
+            return k;
+        }
+        if !are_unset(marks, trigger.operands) {
+            return k;
+        }
+        if trigger.late == crossing {
+            return k;
+        }
     }
-    next_moving(nodes, start, moving, i, end)
-}
-
-/// Whether any value has changed, this one among them.
-fn has_spread(so_far: bool, changed: bool) -> bool
-    ensures { result ≡ false → (so_far ≡ false) × (changed ≡ false) }
-{
-    so_far || changed
+    nodes.len()
 }
 
 /// Whether this node too is not said to move.
@@ -220,34 +212,34 @@ fn rests(still: bool, moving: &[bool], k: usize) -> bool
     still && !moving[k]
 }
 
-/// Passes row `i` through all nodes, if `spread`, and else through those that are said to move or cross the trace's end, and
-/// all that follow a changed value. Says whether none is said to move after it.
-pub(crate) fn pass_all<A: Atoms>(
+/// Passes row `i` through the nodes that are said to move, cross the trace's end, or have an operand whose value has changed,
+/// where those of atoms that have are marked. Says whether none is said to move after it.
+pub(crate) fn pass_all(
     nodes: &[ProgramNode],
+    triggers: &[Trigger],
     states: &mut [Kept],
     values: &mut [Verdict],
     moving: &mut [bool],
-    row: &A,
     i: u32,
     end: u32,
-    spread: bool,
+    marks: u64,
 ) -> bool
-    requires valid { AllValid nodes.now }
     requires below { AllBelow nodes.now }
+    requires triggers { AreTriggers nodes.now triggers.now }
     requires states { length states.old ≡ length nodes.now }
     requires values { length values.old ≡ length nodes.now }
     requires moving { length moving.old ≡ length nodes.now }
-    ensures { (spread' : Bool) × Walk nodes.now states.old values.old moving.old (A.answer row.now) i end spread
-        states.new values.new moving.new spread' result (length nodes.now) }
+    ensures { (before : List Verdict) → Walked nodes.now states.old before values.old moving.old i end marks
+        states.new values.new moving.new result }
 {
-    let mut so_far = spread;
+    let mut so_far = marks;
     let mut still = true;
-    let mut k = next_passed(nodes, 0, moving, i, end, so_far);
+    let mut k = next_passed(nodes, triggers, 0, moving, i, end, so_far);
     while k < nodes.len() {
-        let changed = pass_at(nodes, k, states, values, moving, row, i, end);
-        so_far = has_spread(so_far, changed);
+        let changed = pass_at(nodes, k, states, values, moving, i, end);
+        so_far = noted(so_far, k, changed);
         still = rests(still, moving, k);
-        k = next_passed(nodes, k + 1, moving, i, end, so_far);
+        k = next_passed(nodes, triggers, k + 1, moving, i, end, so_far);
     }
     still
 }

@@ -2,10 +2,12 @@
 ghost use Rattle.std.specs.Prelude.{◌≡◌, ◌≤◌, length};
 ghost use Rattle.mtl_monitor.specs.Inner.Standing.{AllValid, AllValid-prop, AllBelow, AllBelow-prop, AllInside, AllInside-prop};
 ghost use Rattle.mtl_monitor.specs.Inner.Reading.{AreReadable, AreReadable-prop};
+ghost use Rattle.mtl_monitor.specs.Inner.Triggers.{AreTriggers, AreTriggers-prop};
 
 use crate::building::{Operand, add};
 use crate::node::{AtomNode, ProgramNode};
 use crate::reading::list_atoms;
+use crate::triggers::{Trigger, list_triggers};
 use mtl_formulas::Formula;
 use outside::Memory;
 use std::alloc::Global;
@@ -18,11 +20,13 @@ pub struct Program {
     pub(crate) roots: Vec<Operand>,
     pub(crate) reach: u32,
     pub(crate) atoms: Vec<AtomNode>,
+    pub(crate) triggers: Vec<Trigger>,
     ghost valid: { AllValid nodes.items } by { AllValid-prop nodes.items },
     ghost below: { AllBelow nodes.items } by { AllBelow-prop nodes.items },
     ghost inside: { AllInside (length nodes.items) roots.items } by { AllInside-prop (length nodes.items) roots.items },
     ghost reach_small: { reach ≤ 7200 },
-    ghost readable: { AreReadable (length nodes.items) atoms.items } by { AreReadable-prop (length nodes.items) atoms.items },
+    ghost readable: { AreReadable nodes.items (length nodes.items) atoms.items } by { AreReadable-prop nodes.items (length nodes.items) atoms.items },
+    ghost triggered: { AreTriggers nodes.items triggers.items } by { AreTriggers-prop nodes.items triggers.items },
 }
 
 impl Program {
@@ -43,6 +47,7 @@ impl Program {
             roots: Vec::new(alloc),
             reach: 0,
             atoms: Vec::new(alloc),
+            triggers: Vec::new(alloc),
         }
     }
 
@@ -60,15 +65,18 @@ impl Program {
             mut roots,
             reach,
             mut atoms,
+            mut triggers,
         } = self;
         let root = add(&mut nodes, formula)?;
         list_atoms(&nodes, &mut atoms)?;
+        list_triggers(&nodes, &mut triggers)?;
         match roots.push(root) {
             Ok(()) => Ok(Program {
                 nodes,
                 roots,
                 reach: reach.max(root.late),
                 atoms,
+                triggers,
             }),
             Err(_) => Err(Memory),
         }

@@ -46,7 +46,7 @@ fn roomy<T>(alloc: Global, count: usize) -> Result<Vec<T>, Memory>
     }
 }
 
-fn pushed<T: Drop>(list: &mut Vec<T>, item: T) -> Result<(), Memory>
+pub(crate) fn pushed<T: Drop>(list: &mut Vec<T>, item: T) -> Result<(), Memory>
     ensures { IfOk result (λ u. list.new.items ≡ list.old.items ++ item ∷ []) }
 {
     match list.push(item) {

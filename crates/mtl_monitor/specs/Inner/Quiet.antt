@@ -12,8 +12,10 @@ use Rattle.mtl_monitor.specs.declared.node.Kept.TheVariants as kinds
 use Rattle.mtl_monitor.specs.Inner.Steps.{value_at, given, kept}
 use Rattle.mtl_formulas.specs.FormulaTree.{FormulaTree}
 use Rattle.mtl_monitor.specs.Traces.{Trace}
-use Rattle.mtl_monitor.specs.Inner.Standing.{node_at, late_at, state_at, IsProgram, IsRow, EndsAt, KeepAll, Midway, AllBelow}
+use Rattle.mtl_monitor.specs.Inner.Standing.{node_at, late_at, state_at, IsProgram, IsRow, EndsAt, KeepAll, Midway, AllOperands, AllBelow}
 use Rattle.mtl_monitor.specs.Inner.Copying.{HaveShapes}
+use Rattle.mtl_monitor.specs.Inner.Marks.{IsUnmarked, OnlyMarked}
+use Rattle.mtl_monitor.specs.Inner.Reading.{ReadsAtoms}
 
 -- The last values of the ring, so many as were counted, are the run's value.
 pub record IsRun (b : Buffer Verdict) (r : Run) : Type 0 where
@@ -66,7 +68,7 @@ abbrev pub AreAnswered : List ProgramNode → List Verdict → (Atom → Verdict
 AreAnswered nodes values row = (k : ℕ) → k < length nodes → Answers (node_at nodes k).operator row (value_at values k)
 
 -- what the pass of row i through node k leaves
-pub record Moves (nodes : List ProgramNode) (states states' : List Kept) (values values' : List Verdict) (moving moving' : List Bool) (row : Atom → Verdict) (i end k : ℕ) (changed : Bool) : Type 0 where
+pub record Moves (nodes : List ProgramNode) (states states' : List Kept) (values values' : List Verdict) (moving moving' : List Bool) (i end k : ℕ) (changed : Bool) : Type 0 where
   pub keeps : Kept
   pub value : Verdict
   pub flag : Bool
@@ -74,36 +76,41 @@ pub record Moves (nodes : List ProgramNode) (states states' : List Kept) (values
   pub values_are : values' ≡ set values k value
   pub moving_are : moving' ≡ set moving k flag
   pub kept_is : keeps ≡ kept (node_at nodes k).operator (state_at states k) (late_at nodes k) values i
-  pub value_is : value ≡ given (node_at nodes k).operator (state_at states k) (late_at nodes k) values row i end
+  pub value_is : (row : Atom → Verdict) → Answers (node_at nodes k).operator row (value_at values k)
+      → value ≡ given (node_at nodes k).operator (state_at states k) (late_at nodes k) values row i end
   pub rests : flag ≡ false → IsAwake (node_at nodes k).operator i × (late_at nodes k ≤ i) × (IsCounted (state_at states k) → keeps ≡ state_at states k)
   pub same : changed ≡ false → value ≡ value_at values k
 
--- The node at index k may be left as it is where no value has changed before it.
-pub record CanStay (nodes : List ProgramNode) (moving : List Bool) (i end k : ℕ) : Type 0 where
+-- The node at index k may be left as it is.
+pub record CanStay (nodes : List ProgramNode) (moving : List Bool) (i end marks k : ℕ) : Type 0 where
   pub rests : flag_at moving k ≡ false
   pub uncrossed : i ≢ end + late_at nodes k
+  pub unmarked : AllOperands (IsUnmarked marks) (node_at nodes k).operator
 
 -- From one index on to another all nodes may be left.
-pub record IsReached (nodes : List ProgramNode) (moving : List Bool) (i end start k : ℕ) : Type 0 where
+pub record IsReached (nodes : List ProgramNode) (moving : List Bool) (i end marks start k : ℕ) : Type 0 where
   pub after : start ≤ k
   pub inside : k ≤ length nodes
-  pub stay : (j : ℕ) → j < k → start ≤ j → CanStay nodes moving i end j
+  pub stay : (j : ℕ) → j < k → start ≤ j → CanStay nodes moving i end marks j
 
-module _ (nodes : List ProgramNode) (states : List Kept) (values : List Verdict) (moving : List Bool) (row : Atom → Verdict) (i end : ℕ) (spread : Bool) where
-  -- What was quiet may be left: no atom has changed.
-  abbrev pub MayRest : Type 0
-  MayRest = spread ≡ false → AreQuiet nodes states values moving i end × AreAnswered nodes values row
+module _ (nodes : List ProgramNode) (states : List Kept) (before values : List Verdict) (moving : List Bool) (i end marks : ℕ) where
+  -- What was quiet may be left, where no operand has changed since.
+  pub record MayRest : Type 0 where
+    pub quiet : AreQuiet nodes states before moving i end
+    pub reads : ReadsAtoms nodes before values marks
 
   -- Row i has passed the nodes before index k, or left them where they are quiet.
-  pub record Walk (states' : List Kept) (values' : List Verdict) (moving' : List Bool) (spread' still : Bool) (k : ℕ) : Type 0 where
+  pub record Walk (states' : List Kept) (values' : List Verdict) (moving' : List Bool) (marks' : ℕ) (still : Bool) (k : ℕ) : Type 0 where
     pub states_fit : length states' ≡ length nodes
     pub values_fit : length values' ≡ length nodes
     pub moving_fit : length moving' ≡ length nodes
     pub states_ahead : (j : ℕ) → k ≤ j → state_at states' j ≡ state_at states j
+    pub values_ahead : (j : ℕ) → k ≤ j → value_at values' j ≡ value_at values j
     pub moving_ahead : (j : ℕ) → k ≤ j → flag_at moving' j ≡ flag_at moving j
-    pub unspread : spread' ≡ false → (spread ≡ false) × (values' ≡ values)
-    pub midway : (trace : Trace) (trees : List FormulaTree) → IsProgram nodes trees → IsRow trace row i → EndsAt trace i end → MayRest
-        → KeepAll trace trees nodes states i → Midway trace trees nodes states' values' i k
+    pub changed : OnlyMarked before values marks → OnlyMarked before values' marks'
+    pub answered : (row : Atom → Verdict) → AreAnswered nodes values row → AreAnswered nodes values' row
+    pub midway : (trace : Trace) (trees : List FormulaTree) (row : Atom → Verdict) → IsProgram nodes trees → IsRow trace row i → EndsAt trace i end
+        → MayRest → AreAnswered nodes values row → KeepAll trace trees nodes states i → Midway trace trees nodes states' values' i k
     pub quiet : (next : ℕ) → GoesOn i end next → HaveRuns states → MayRest → AllBelow nodes
         → (j : ℕ) → j < k → flag_at moving' j ≡ false
         → IsQuiet (node_at nodes j).operator (state_at states' j) (late_at nodes j) values' (value_at values' j) (i + 1) next
@@ -111,7 +118,7 @@ module _ (nodes : List ProgramNode) (states : List Kept) (values : List Verdict)
     pub shapes : HaveShapes nodes states → HaveShapes nodes states'
     pub all_still : still ≡ true → (j : ℕ) → j < k → flag_at moving' j ≡ false
 
--- A whole walk.
-pub record Walked (nodes : List ProgramNode) (states states' : List Kept) (values values' : List Verdict) (moving moving' : List Bool) (row : Atom → Verdict) (i end : ℕ) (spread still : Bool) : Type 0 where
-  pub spread' : Bool
-  pub walk : Walk nodes states values moving row i end spread states' values' moving' spread' still (length nodes)
+  -- A whole walk.
+  pub record Walked (states' : List Kept) (values' : List Verdict) (moving' : List Bool) (still : Bool) : Type 0 where
+    pub marks' : ℕ
+    pub walk : Walk states' values' moving' marks' still (length nodes)

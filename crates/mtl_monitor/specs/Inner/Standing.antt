@@ -95,15 +95,19 @@ Computes nodes trees (op.Until from full lower a behind b) late t =
     (late_at nodes a ≡ from) × (late_at nodes b ≡ from) × IsBehind nodes trees a behind lower full
     × IsUntil (tree_at trees a) (tree_at trees b) t from full lower late
 
+-- Each operand of an operator is so.
+abbrev pub AllOperands : (ℕ → Type 0) → Operator → Type 0
+AllOperands Is (op.Atom a) = Unit {0}
+AllOperands Is (op.Not a) = Is a
+AllOperands Is (op.Pair kind a b) = Is a × Is b
+AllOperands Is (op.Late cells from a) = Is a
+AllOperands Is (op.Window kind width from a) = Is a
+AllOperands Is (op.Since width lower from a b) = Is a × Is b
+AllOperands Is (op.Until from full lower a behind b) = Is a × Is behind × Is b
+
 -- The operands of an operator stand before an index.
 abbrev pub OperandsBelow : ℕ → Operator → Type 0
-OperandsBelow k (op.Atom a) = Unit {0}
-OperandsBelow k (op.Not a) = a < k
-OperandsBelow k (op.Pair kind a b) = (a < k) × (b < k)
-OperandsBelow k (op.Late cells from a) = a < k
-OperandsBelow k (op.Window kind width from a) = a < k
-OperandsBelow k (op.Since width lower from a b) = (a < k) × (b < k)
-OperandsBelow k (op.Until from full lower a behind b) = (a < k) × (behind < k) × (b < k)
+OperandsBelow k o = AllOperands (λ a. a < k) o
 
 -- what an operator keeps once n rows of the trace have passed
 abbrev pub Keeps : Trace → List FormulaTree → Operator → ℕ → Kept → ℕ → Type 0
