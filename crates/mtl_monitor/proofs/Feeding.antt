@@ -16,7 +16,7 @@ use Rattle.mtl_monitor.specs.declared.program.Program.{Program}
 use Rattle.mtl_monitor.specs.declared.trace_state.TraceState.{TraceState}
 use Rattle.mtl_monitor.specs.Traces.{Trace, value_in}
 use Rattle.mtl_monitor.specs.Inner.Steps.{value_at}
-use Rattle.mtl_monitor.specs.Inner.Quiet.{HaveRuns, Answers, AreAnswered, AreQuiet, flag_at, CanStay, MayRest, Walked}
+use Rattle.mtl_monitor.specs.Inner.Quiet.{Answers, AreAnswered, AreQuiet, flag_at, CanStay, MayRest, Walked}
 use Rattle.mtl_monitor.specs.Inner.Marks.{IsUnmarked, OnlyMarked}
 use Rattle.mtl_monitor.specs.Inner.Reading.{atom_at, IsAtom, IsListed, AreListed, AreReadable, AreRead, ReadsAtoms}
 use Rattle.mtl_monitor.specs.declared.node.AtomNode.{AtomNode}
@@ -67,14 +67,13 @@ Closes-Follows p s formulas rows h =
       keeps = rw h.all_passed (rw (append-nil rows) at all);
       gives = λ some. rw h.all_passed (rw (append-nil rows) at (h.gives (omega (arith, h.all_passed)) []));
       quiet = λ k inside flag. rw fed (IsQuiet-ended _ _ _ _ _ _ (h.quiet k inside flag));
-      runs = h.runs;
       still = h.still;
     }
 
 module _ (p : Program) (s s' : TraceState) (formulas : List FormulaTree) (rows : Trace) where
   module _ (r : Atom → Verdict) (h : Follows p s formulas rows) (fed : s'.fed ≡ s.passed + 1) (passed : s'.passed ≡ s.passed + 1)
       (q : Passes p.nodes.items s.states.items s'.states.items s'.values.items r s.passed (s.passed + 1))
-      (quiet : AreQuiet p.nodes.items s'.states.items s'.values.items s'.moving.items (s.passed + 1) ((s.passed + 1) + 1)) (runs : HaveRuns s'.states.items)
+      (quiet : AreQuiet p.nodes.items s'.states.items s'.values.items s'.moving.items (s.passed + 1) ((s.passed + 1) + 1))
       (still : s'.still ≡ true → (k : ℕ) → k < length p.nodes.items → flag_at s'.moving.items k ≡ false) where
     row_is : (more : Trace) → IsRow (rows ++ r ∷ more) r s.passed
     row_is more = rw h.all_passed (IsRow-next rows more r)
@@ -104,16 +103,15 @@ module _ (p : Program) (s s' : TraceState) (formulas : List FormulaTree) (rows :
           keeps = λ more. rw count (kept_after more);
           gives = λ some more. rw (count, last) (gave_after more);
           quiet = rw passed quiet;
-          runs = runs;
           still = still;
         }
 
   -- a row beyond the end
   pub Closes-next : Closes p s formulas rows → s'.fed ≡ s.fed → s'.passed ≡ s.passed + 1
       → Passes p.nodes.items s.states.items s'.states.items s'.values.items beyond s.passed s.fed
-      → AreQuiet p.nodes.items s'.states.items s'.values.items s'.moving.items (s.passed + 1) s.fed → HaveRuns s'.states.items
+      → AreQuiet p.nodes.items s'.states.items s'.values.items s'.moving.items (s.passed + 1) s.fed
       → (s'.still ≡ true → (k : ℕ) → k < length p.nodes.items → flag_at s'.moving.items k ≡ false) → Closes p s' formulas rows
-  Closes-next h fed passed q quiet runs still =
+  Closes-next h fed passed q quiet still =
       let last : (s.passed + 1) - 1 ≡ s.passed = omega arith in
       let row : IsRow rows beyond s.passed = IsRow-beyond rows s.passed h.all_passed in
       let end : EndsAt rows s.passed s.fed = λ j below. rw h.all_fed refl in
@@ -125,7 +123,6 @@ module _ (p : Program) (s s' : TraceState) (formulas : List FormulaTree) (rows :
         keeps = rw passed (q.kept rows h.trees h.of.sound.program row end h.keeps);
         gives = λ some. rw (passed, last) (q.given rows h.trees h.of.sound.program row end h.keeps);
         quiet = rw (passed, fed) quiet;
-        runs = runs;
         still = still;
       }
 
@@ -199,7 +196,7 @@ module _ (p : Program) (s s' : TraceState) (formulas : List FormulaTree) (rows :
         kept = λ trace trees program answers ends keeps. record { each = (w.walk.midway trace trees r program answers ends rest all keeps).passed };
         given = λ trace trees program answers ends keeps. record { each = (w.walk.midway trace trees r program answers ends rest all keeps).gave };
       })
-      (λ k inside flag. w.walk.quiet _ (GoesOn-fed s.passed) h.runs rest below k inside flag) (w.walk.runs h.runs) w.walk.all_still
+      (λ k inside flag. w.walk.quiet _ (GoesOn-fed s.passed) rest below k inside flag) w.walk.all_still
 
   pub Closes-walked : Closes p s formulas rows → s'.fed ≡ s.fed → s'.passed ≡ s.passed + 1 → AreRead p.atoms.items values beyond
       → Walked p.nodes.items s.states.items s.values.items values s.moving.items s.passed s.fed marks s'.states.items s'.values.items s'.moving.items s'.still
@@ -212,7 +209,7 @@ module _ (p : Program) (s s' : TraceState) (formulas : List FormulaTree) (rows :
         kept = λ trace trees program answers ends keeps. record { each = (w.walk.midway trace trees beyond program answers ends rest all keeps).passed };
         given = λ trace trees program answers ends keeps. record { each = (w.walk.midway trace trees beyond program answers ends rest all keeps).gave };
       })
-      (λ k inside flag. w.walk.quiet _ (GoesOn-ended s.passed s.fed) h.runs rest below k inside flag) (w.walk.runs h.runs) w.walk.all_still
+      (λ k inside flag. w.walk.quiet _ (GoesOn-ended s.passed s.fed) rest below k inside flag) w.walk.all_still
 
 -- the answers to the last row that passed
 module _ (p : Program) (s : TraceState) (formulas : List FormulaTree) (rows : Trace) (k : ℕ) (root : Operand) (v : Verdict)

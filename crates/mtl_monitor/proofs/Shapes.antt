@@ -7,18 +7,15 @@ use Rattle.circular_buffer.specs.Buffer.{Buffer, buffer}
 use Rattle.mtl_formulas.specs.declared.verdict.Verdict.{Verdict}
 use Rattle.mtl_monitor.specs.declared.lookahead.Lookahead.{Lookahead}
 use Rattle.mtl_monitor.specs.declared.lookahead.Stretch.{Stretch}
-use Rattle.mtl_monitor.specs.declared.delay_line.Run.{Run}
 use Rattle.mtl_monitor.specs.declared.node.Operator.{Operator}
 use Rattle.mtl_monitor.specs.declared.node.Operator.TheVariants as op
 use Rattle.mtl_monitor.specs.declared.node.ProgramNode.{ProgramNode}
 use Rattle.mtl_monitor.specs.declared.node.Kept.{Kept}
 use Rattle.mtl_monitor.specs.declared.node.Kept.TheVariants as kinds
 use Rattle.mtl_monitor.specs.Inner.Lookahead.{nowhere, with_all_after, lookahead_after}
-use Rattle.mtl_monitor.specs.Inner.Steps.{value_at, ring_after, run_after, kept}
+use Rattle.mtl_monitor.specs.Inner.Steps.{value_at, ring_after, kept}
 use Rattle.mtl_monitor.specs.Inner.Standing.{node_at, state_at}
 use Rattle.mtl_monitor.specs.Inner.Copying.{HasShape, HaveShapes}
-use Rattle.mtl_monitor.specs.Inner.Quiet.{IsRun, IsCounted}
-use Rattle.mtl_monitor.proofs.Runs.{IsRun-after}
 
 ring_room : (test : Bool) (b : Buffer Verdict) (v : Verdict) (cells : ℕ) → b.capacity ≡ cells → (let r : Buffer Verdict = if test then b else ring_after b v in r.capacity) ≡ cells
 ring_room true b v cells h = h
@@ -61,16 +58,3 @@ HaveShapes-next nodes states k late values i d s inside is h =
           rw (same, get_or-set_same states k s kinds.Plain fits) here
       | inr other ↦ rw (get_or-set_other states k j s kinds.Plain other.1) (h.each j within)
     ]
-
-ring_counted : (test : Bool) (b : Buffer Verdict) (r : Run) (v : Verdict) → IsRun b r
-    → IsRun (if test then b else ring_after b v) (if test then r else run_after r b.capacity v)
-ring_counted true b r v h = h
-ring_counted false b r v h = IsRun-after b r v h
-
--- The last values stay counted.
-pub IsCounted-kept : (o : Operator) (s : Kept) (late : ℕ) (values : List Verdict) (i : ℕ) → IsCounted s → IsCounted (kept o s late values i)
-IsCounted-kept (op.Late cells from a) (kinds.Ring d) late values i h = ring_counted (nat_lt i from) d.ring d.run (value_at values a) h
-IsCounted-kept (op.Window kind width from a) (kinds.Window s) late values i h = tt
-IsCounted-kept (op.Since width lower from a b) (kinds.Since hits bars) late values i h = tt
-IsCounted-kept (op.Until from full lower a behind b) (kinds.Until s) late values i h = tt
-IsCounted-kept _ _ late values i h = h

@@ -14,10 +14,10 @@ use Rattle.mtl_monitor.specs.Traces.{Trace}
 use Rattle.mtl_monitor.specs.Inner.Steps.{value_at, given, kept}
 use Rattle.mtl_monitor.specs.Inner.Standing.{tree_at, node_at, late_at, state_at, IsRow, EndsAt, IsProgram, Midway, AllOperands, OperandsBelow, AllBelow}
 use Rattle.mtl_monitor.specs.Inner.Marks.{IsUnmarked, OnlyMarked}
-use Rattle.mtl_monitor.specs.Inner.Quiet.{HaveRuns, AreAnswered, IsQuiet, GoesOn, flag_at, Moves, CanStay, IsReached, MayRest, Walk}
+use Rattle.mtl_monitor.specs.Inner.Quiet.{AreAnswered, IsQuiet, GoesOn, flag_at, Moves, CanStay, IsReached, MayRest, Walk}
 use Rattle.mtl_monitor.proofs.NodeRows.{Keeps-row, IsGiven-row}
 use Rattle.mtl_monitor.proofs.Rows.{Midway-next}
-use Rattle.mtl_monitor.proofs.Shapes.{HaveShapes-next, IsCounted-kept}
+use Rattle.mtl_monitor.proofs.Shapes.{HaveShapes-next}
 use Rattle.mtl_monitor.proofs.QuietNodes.{IsQuiet-later, IsQuiet-passed, IsQuiet-same, IsQuiet-atom, Answers-given, Answers-all, operands_are}
 
 -- A node whose value and state a row would not change has passed it.
@@ -53,8 +53,7 @@ module _ (nodes : List ProgramNode) (states : List Kept) (before values : List V
         answered = λ row h. h;
         midway = λ trace trees row program answers ends rest answered keeps.
             record { passed = λ j h. absurd (omega arith); gave = λ j h. absurd (omega arith); waiting = λ j after h. keeps.each j h };
-        quiet = λ next onward runs rest below j h flag. absurd (omega arith);
-        runs = λ h. h;
+        quiet = λ next onward rest below j h flag. absurd (omega arith);
         shapes = λ h. h;
         all_still = λ h j early. absurd (omega arith);
       }
@@ -91,10 +90,9 @@ module _ (nodes : List ProgramNode) (states : List Kept) (before values : List V
               let was = was_quiet can rest in
               Midway-stays trace trees nodes states' values' i k row end program inside answers ends (was.gives can.uncrossed row (w.answered row answered k inside)) was.keeps
               (w.midway trace trees row program answers ends rest answered keeps);
-          quiet = λ next onward runs rest below.
-              below_more _ _ (w.quiet next onward runs rest below)
+          quiet = λ next onward rest below.
+              below_more _ _ (w.quiet next onward rest below)
               (λ flag. IsQuiet-later values' i (node_at nodes k).operator (state_at states' k) (late_at nodes k) (value_at values' k) end next onward can.uncrossed (was_quiet can rest));
-          runs = w.runs;
           shapes = w.shapes;
           all_still = λ h. below_more _ _ (w.all_still h) can.rests;
         }
@@ -124,11 +122,11 @@ module _ (nodes : List ProgramNode) (states : List Kept) (before values : List V
       same_operands : (j : ℕ) → j ≤ k → OperandsBelow j (node_at nodes j).operator → AllOperands (λ a. value_at values'' a ≡ value_at values' a) (node_at nodes j).operator
       same_operands j h = operands_are (λ a. a < j) (λ a. value_at values'' a ≡ value_at values' a) (λ a lower. other_value a (omega arith)) (node_at nodes j).operator
 
-      passed_quiet : (next : ℕ) → GoesOn i end next → HaveRuns states → AllBelow nodes → flag_at moving'' k ≡ false
+      passed_quiet : (next : ℕ) → GoesOn i end next → AllBelow nodes → flag_at moving'' k ≡ false
           → IsQuiet (node_at nodes k).operator (state_at states'' k) (late_at nodes k) values'' (value_at values'' k) (i + 1) next
-      passed_quiet next onward runs below flag =
+      passed_quiet next onward below flag =
           let rests = m.rests (sym this_flag ∙ flag) in
-          let still : m.keeps ≡ state_at states' k = rests.2 (w.runs runs k) in
+          let still : m.keeps ≡ state_at states' k = rests.2 in
           let value : value_at values'' k ≡ given (node_at nodes k).operator (state_at states' k) (late_at nodes k) values' (λ a. value_at values' k) i end =
           this_value ∙ m.value_is (λ a. value_at values' k) (Answers-all (node_at nodes k).operator (value_at values' k)) in
           rw (this_state, still, value)
@@ -153,10 +151,9 @@ module _ (nodes : List ProgramNode) (states : List Kept) (before values : List V
                 (Midway-next trace trees nodes states' values' i k row end kinds.Plain m.keeps m.value program inside w.states_fit w.values_fit answers ends
                 (m.value_is row (w.answered row answered k inside)) m.kept_is
                 (w.midway trace trees row program answers ends rest answered keeps));
-            quiet = λ next onward runs rest below.
-                below_more _ _ (λ j h flag. quiet_before next j h (w.quiet next onward runs rest below j h (sym (other_flag j (omega arith)) ∙ flag)) (below j (omega arith)))
-                (passed_quiet next onward runs below);
-            runs = λ h. runs_after (w.runs h);
+            quiet = λ next onward rest below.
+                below_more _ _ (λ j h flag. quiet_before next j h (w.quiet next onward rest below j h (sym (other_flag j (omega arith)) ∙ flag)) (below j (omega arith)))
+                (passed_quiet next onward below);
             shapes = λ h. rw m.states_are (HaveShapes-next nodes states' k (late_at nodes k) values' i kinds.Plain m.keeps inside m.kept_is (w.shapes h));
             all_still = λ h. below_more _ _ (λ j b. other_flag j (omega arith) ∙ w.all_still (stiller h).0 j b) (stiller h).1;
           }
@@ -188,14 +185,6 @@ module _ (nodes : List ProgramNode) (states : List Kept) (before values : List V
               let other : j ≢ k = omega arith in
               rw (other_state j other, other_value j other)
               (IsQuiet-same values' values'' (i + 1) (node_at nodes j).operator (state_at states' j) (late_at nodes j) (value_at values' j) (same_operands j (omega arith) below) next was)
-
-          runs_after : HaveRuns states' → HaveRuns states''
-          runs_after h j = elim (eqb_tells j k) [
-            | inl equal ↦
-                let same : j ≡ k = equal.1 in
-                rw (same, this_state, m.kept_is) (IsCounted-kept (node_at nodes k).operator (state_at states' k) (late_at nodes k) values' i (h k))
-            | inr other ↦ rw (other_state j other.1) (h j)
-          ]
 
   -- all nodes up to an index are left
   Walk-on : (states' : List Kept) (values' : List Verdict) (moving' : List Bool) (marks' : ℕ) (still : Bool) (start count : ℕ)

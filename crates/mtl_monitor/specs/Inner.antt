@@ -1,5 +1,6 @@
 pub mod Countdown
 pub mod Lookahead
+pub mod Runs
 pub mod Steps
 pub mod Standing
 pub mod Compiling

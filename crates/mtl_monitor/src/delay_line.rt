@@ -3,7 +3,7 @@ ghost use Rattle.std.specs.Prelude.{◌≡◌, ◌+◌, nat_lt, true, false, if�
 ghost use Rattle.mtl_formulas.specs.declared.verdict.Verdict.TheVariants.{Open};
 ghost use Rattle.mtl_monitor.specs.Inner.Steps.{same_verdict, ring_value, ring_after, run_after, delayed_from};
 ghost use Rattle.mtl_monitor.specs.Inner.Starting.{undelayed};
-ghost use Rattle.mtl_monitor.specs.Inner.Quiet.{IsRun};
+ghost use Rattle.mtl_monitor.specs.Inner.Runs.{IsRun};
 
 use crate::copying::copy_ring;
 use crate::verdicts::is_same;
@@ -100,6 +100,17 @@ fn delay(
     }
 }
 
+/// Whether both are full of the same value.
+fn are_full_alike(delayed: &Delayed, other: &Delayed) -> bool
+    ensures full { result ≡ true → delayed.now.run.count ≡ delayed.now.ring.capacity }
+    ensures other_full { result ≡ true → other.now.run.count ≡ other.now.ring.capacity }
+    ensures same { result ≡ true → same_verdict delayed.now.run.value other.now.run.value ≡ true }
+{
+    delayed.run.count == delayed.ring.capacity()
+        && other.run.count == other.ring.capacity()
+        && is_same(delayed.run.value, other.run.value)
+}
+
 /// A delay in a block of its own.
 #[derive(Drop)]
 pub(crate) struct DelayLine {
@@ -112,6 +123,10 @@ impl Model for DelayLine {
     ghost Value = { Delayed };
 
     ghost view = { λ line. line.place.value };
+
+    ghost use Rattle.mtl_monitor.specs.Inner.Runs.{IsRun};
+
+    ghost invariant = { λ line. IsRun line.place.value.ring line.place.value.run };
 }
 
 impl DelayLine {
@@ -132,16 +147,21 @@ impl DelayLine {
     pub(crate) fn pass(&mut self, from: u32, value: Verdict, i: u32) -> Passed
         ensures value { result.value ≡ (if nat_lt i from then Open else ring_value self.old.ring value) }
         ensures after { self.new ≡ delayed_from self.old from value i }
-        ensures still { result.moved ≡ false → IsRun self.old.ring self.old.run → self.new ≡ self.old }
+        ensures still { result.moved ≡ false → self.new ≡ self.old }
     {
         let place = &mut *self.place;
         delay(&mut place.ring, &mut place.run, from, value, i)
     }
 
+    /// Takes over what another delay by as many values holds. Most delays hold one value alone for long, so nothing is written
+    /// where both do.
     pub(crate) fn copy_from(&mut self, other: &DelayLine)
         requires { self.old.ring.capacity ≡ other.now.ring.capacity }
         ensures { self.new ≡ other.now }
     {
+        if are_full_alike(&self.place, &other.place) {
+            return;
+        }
         let place = &mut *self.place;
         copy_ring(&mut place.ring, &other.place.ring);
         place.run = other.place.run;

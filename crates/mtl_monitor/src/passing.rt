@@ -4,7 +4,7 @@ ghost use Rattle.mtl_formulas.specs.declared.verdict.Verdict.TheVariants.{Open};
 ghost use Rattle.mtl_monitor.specs.Inner.Countdown.{left_value};
 ghost use Rattle.mtl_monitor.specs.Inner.Steps.{value_at, sensed, window_after, hits_under, bars_after, hits_after, given, kept};
 ghost use Rattle.mtl_monitor.specs.Inner.Standing.{AllBelow, OperandsBelow};
-ghost use Rattle.mtl_monitor.specs.Inner.Quiet.{Answers, IsCounted, IsAwake, flag_at, Moves, IsReached, Walked};
+ghost use Rattle.mtl_monitor.specs.Inner.Quiet.{Answers, IsAwake, flag_at, Moves, IsReached, Walked};
 ghost use Rattle.mtl_monitor.specs.Inner.Triggers.{AreTriggers};
 ghost use Rattle.mtl_formulas.specs.declared.atom.Atom.{Atom};
 ghost use Rattle.mtl_formulas.specs.declared.verdict.Verdict.{Verdict};
@@ -75,7 +75,7 @@ fn pass(
     ensures value { (row : Atom → Verdict) → Answers node.now.operator row own →
         result.value ≡ given node.now.operator keeps.old node.now.late values.now row i end }
     ensures after { keeps.new ≡ kept node.now.operator keeps.old node.now.late values.now i }
-    ensures still { result.moved ≡ false → IsCounted keeps.old → keeps.new ≡ keeps.old }
+    ensures still { result.moved ≡ false → keeps.new ≡ keeps.old }
 {
     let position = i.saturating_sub(node.late);
     match (node.operator, keeps) {

@@ -1,14 +1,11 @@
 -- Nodes that a further equal row would leave as they are, and so need not be passed.
 use Rattle.std.specs.Prelude.{◌≡◌, ◌≢◌, ℕ, ◌+◌, ◌-◌, ◌<◌, ◌≤◌, nat_lt, Bool, true, false, List, length, get_or, set}
-use Rattle.circular_buffer.specs.Buffer.{Buffer}
 use Rattle.mtl_formulas.specs.declared.atom.Atom.{Atom}
 use Rattle.mtl_formulas.specs.declared.verdict.Verdict.{Verdict}
 use Rattle.mtl_monitor.specs.declared.node.Operator.{Operator}
 use Rattle.mtl_monitor.specs.declared.node.Operator.TheVariants as op
 use Rattle.mtl_monitor.specs.declared.node.ProgramNode.{ProgramNode}
-use Rattle.mtl_monitor.specs.declared.delay_line.Run.{Run}
 use Rattle.mtl_monitor.specs.declared.node.Kept.{Kept}
-use Rattle.mtl_monitor.specs.declared.node.Kept.TheVariants as kinds
 use Rattle.mtl_monitor.specs.Inner.Steps.{value_at, given, kept}
 use Rattle.mtl_formulas.specs.FormulaTree.{FormulaTree}
 use Rattle.mtl_monitor.specs.Traces.{Trace}
@@ -16,19 +13,6 @@ use Rattle.mtl_monitor.specs.Inner.Standing.{node_at, late_at, state_at, IsProgr
 use Rattle.mtl_monitor.specs.Inner.Copying.{HaveShapes}
 use Rattle.mtl_monitor.specs.Inner.Marks.{IsUnmarked, OnlyMarked}
 use Rattle.mtl_monitor.specs.Inner.Reading.{ReadsAtoms}
-
--- The last values of the ring, so many as were counted, are the run's value.
-pub record IsRun (b : Buffer Verdict) (r : Run) : Type 0 where
-  pub fits : length b.items ≤ b.capacity
-  pub within : r.count ≤ length b.items
-  pub equal : (j : ℕ) → length b.items - r.count ≤ j → j < length b.items → get_or b.items j r.value ≡ r.value
-
-abbrev pub IsCounted : Kept → Type 0
-IsCounted (kinds.Ring d) = IsRun d.ring d.run
-IsCounted _ = Unit {0}
-
-abbrev pub HaveRuns : List Kept → Type 0
-HaveRuns states = (k : ℕ) → IsCounted (state_at states k)
 
 -- the row from which on a node's operands give values; what an U keeps moves at each row
 abbrev pub IsAwake : Operator → ℕ → Type 0
@@ -78,7 +62,7 @@ pub record Moves (nodes : List ProgramNode) (states states' : List Kept) (values
   pub kept_is : keeps ≡ kept (node_at nodes k).operator (state_at states k) (late_at nodes k) values i
   pub value_is : (row : Atom → Verdict) → Answers (node_at nodes k).operator row (value_at values k)
       → value ≡ given (node_at nodes k).operator (state_at states k) (late_at nodes k) values row i end
-  pub rests : flag ≡ false → IsAwake (node_at nodes k).operator i × (late_at nodes k ≤ i) × (IsCounted (state_at states k) → keeps ≡ state_at states k)
+  pub rests : flag ≡ false → IsAwake (node_at nodes k).operator i × (late_at nodes k ≤ i) × (keeps ≡ state_at states k)
   pub same : changed ≡ false → value ≡ value_at values k
 
 -- The node at index k may be left as it is.
@@ -111,10 +95,9 @@ module _ (nodes : List ProgramNode) (states : List Kept) (before values : List V
     pub answered : (row : Atom → Verdict) → AreAnswered nodes values row → AreAnswered nodes values' row
     pub midway : (trace : Trace) (trees : List FormulaTree) (row : Atom → Verdict) → IsProgram nodes trees → IsRow trace row i → EndsAt trace i end
         → MayRest → AreAnswered nodes values row → KeepAll trace trees nodes states i → Midway trace trees nodes states' values' i k
-    pub quiet : (next : ℕ) → GoesOn i end next → HaveRuns states → MayRest → AllBelow nodes
+    pub quiet : (next : ℕ) → GoesOn i end next → MayRest → AllBelow nodes
         → (j : ℕ) → j < k → flag_at moving' j ≡ false
         → IsQuiet (node_at nodes j).operator (state_at states' j) (late_at nodes j) values' (value_at values' j) (i + 1) next
-    pub runs : HaveRuns states → HaveRuns states'
     pub shapes : HaveShapes nodes states → HaveShapes nodes states'
     pub all_still : still ≡ true → (j : ℕ) → j < k → flag_at moving' j ≡ false
 
