@@ -1,5 +1,5 @@
 -- Nodes that are found to be the same are equal, and compute the same.
-use Rattle.std.proofs.Common.{◌≡◌, ℕ, ◌+◌, ◌-◌, ◌≤◌, refl, ap, ap₂, sym, ◌∙◌, arith, Bool, true, false, List, [], ◌∷◌, get_or}
+use Rattle.std.proofs.Common.{◌≡◌, ℕ, ◌+◌, ◌-◌, ◌≤◌, refl, ap, ap₂, sym, ◌∙◌, arith, Bool, true, false, List}
 use Rattle.std.specs.Prelude.{◌==◌, ◌&&◌}
 use Rattle.std.proofs.lemmas.Bool.Decides.{nat_tests}
 use Rattle.mtl_formulas.specs.declared.atom.Atom.{Atom}
@@ -14,7 +14,10 @@ use Rattle.mtl_monitor.specs.declared.node.Operator.{Operator}
 use Rattle.mtl_monitor.specs.declared.node.Operator.TheVariants as op
 use Rattle.mtl_monitor.specs.declared.node.ProgramNode.{ProgramNode}
 use Rattle.mtl_monitor.specs.Inner.Standing.{tree_at, IsTimed, Computes}
-use Rattle.mtl_monitor.specs.Inner.Compiling.{kind_index, argument_of, same_atom, same_pair, same_span, same_operator, same_node}
+use Rattle.mtl_monitor.specs.Inner.Compiling.{same_atom, same_pair, same_span, same_operator, same_node}
+
+false_true : false ≡ true → ⊥
+false_true h = cc
 
 first : (p q : Bool) → (p && q) ≡ true → p ≡ true
 first true q h = refl
@@ -27,48 +30,35 @@ second false q h = cc
 equal : (m n : ℕ) → (m == n) ≡ true → m ≡ n
 equal m n h = grind (arith, nat_tests)
 
--- the atom with this index among the kinds, and this number
-abbrev atom_from : ℕ → ℕ → Atom
-atom_from k n =
-    get_or (atom.Always ∷ atom.Never ∷ atom.Seen ∷ atom.Risk ∷ atom.Engaged ∷ atom.Begin ∷ atom.Overtaking ∷ atom.Overtaken ∷ atom.HeadOn
-    ∷ atom.CrossingGives ∷ atom.CrossingStands ∷ atom.Passing ∷ atom.Unclassified ∷ atom.Age n ∷ atom.Opening ∷ atom.Clear n ∷ atom.Close n
-    ∷ atom.OtherOnPort ∷ atom.Ahead ∷ atom.Alters ∷ atom.Apparent ∷ atom.ToStarboard ∷ atom.ToPort ∷ atom.OtherApparent ∷ atom.RankGives
-    ∷ atom.RankStands ∷ atom.BothPower ∷ []) k atom.Always
-
-round : (a : Atom) → atom_from (kind_index a) (argument_of a) ≡ a
-round atom.Always = refl
-round atom.Never = refl
-round atom.Seen = refl
-round atom.Risk = refl
-round atom.Engaged = refl
-round atom.Begin = refl
-round atom.Overtaking = refl
-round atom.Overtaken = refl
-round atom.HeadOn = refl
-round atom.CrossingGives = refl
-round atom.CrossingStands = refl
-round atom.Passing = refl
-round atom.Unclassified = refl
-round (atom.Age n) = refl
-round atom.Opening = refl
-round (atom.Clear n) = refl
-round (atom.Close n) = refl
-round atom.OtherOnPort = refl
-round atom.Ahead = refl
-round atom.Alters = refl
-round atom.Apparent = refl
-round atom.ToStarboard = refl
-round atom.ToPort = refl
-round atom.OtherApparent = refl
-round atom.RankGives = refl
-round atom.RankStands = refl
-round atom.BothPower = refl
-
 same_atom-equal : (a b : Atom) → same_atom a b ≡ true → a ≡ b
-same_atom-equal a b h =
-    let kind : kind_index a ≡ kind_index b = equal _ _ (first (kind_index a == kind_index b) (argument_of a == argument_of b) h) in
-    let number : argument_of a ≡ argument_of b = equal _ _ (second (kind_index a == kind_index b) (argument_of a == argument_of b) h) in
-    sym (round a) ∙ (ap₂ atom_from kind number ∙ round b)
+same_atom-equal atom.Always atom.Always h = refl
+same_atom-equal atom.Never atom.Never h = refl
+same_atom-equal atom.Seen atom.Seen h = refl
+same_atom-equal atom.Risk atom.Risk h = refl
+same_atom-equal atom.Engaged atom.Engaged h = refl
+same_atom-equal atom.Begin atom.Begin h = refl
+same_atom-equal atom.Overtaking atom.Overtaking h = refl
+same_atom-equal atom.Overtaken atom.Overtaken h = refl
+same_atom-equal atom.HeadOn atom.HeadOn h = refl
+same_atom-equal atom.CrossingGives atom.CrossingGives h = refl
+same_atom-equal atom.CrossingStands atom.CrossingStands h = refl
+same_atom-equal atom.Passing atom.Passing h = refl
+same_atom-equal atom.Unclassified atom.Unclassified h = refl
+same_atom-equal (atom.Age m) (atom.Age n) h = ap atom.Age (equal m n h)
+same_atom-equal atom.Opening atom.Opening h = refl
+same_atom-equal (atom.Clear m) (atom.Clear n) h = ap atom.Clear (equal m n h)
+same_atom-equal (atom.Close m) (atom.Close n) h = ap atom.Close (equal m n h)
+same_atom-equal atom.OtherOnPort atom.OtherOnPort h = refl
+same_atom-equal atom.Ahead atom.Ahead h = refl
+same_atom-equal atom.Alters atom.Alters h = refl
+same_atom-equal atom.Apparent atom.Apparent h = refl
+same_atom-equal atom.ToStarboard atom.ToStarboard h = refl
+same_atom-equal atom.ToPort atom.ToPort h = refl
+same_atom-equal atom.OtherApparent atom.OtherApparent h = refl
+same_atom-equal atom.RankGives atom.RankGives h = refl
+same_atom-equal atom.RankStands atom.RankStands h = refl
+same_atom-equal atom.BothPower atom.BothPower h = refl
+same_atom-equal _ _ h = absurd (false_true h)
 
 same_pair-equal : (k m : PairKind) → same_pair k m ≡ true → k ≡ m
 same_pair-equal And And h = refl
