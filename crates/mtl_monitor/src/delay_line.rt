@@ -6,6 +6,7 @@ ghost use Rattle.mtl_monitor.specs.Inner.Starting.{undelayed};
 ghost use Rattle.mtl_monitor.specs.Inner.Runs.{IsRun};
 
 use crate::copying::copy_ring;
+use crate::node::Passed;
 use crate::verdicts::is_same;
 use circular_buffer::HeapCircularBuffer;
 use mtl_formulas::Verdict;
@@ -30,13 +31,6 @@ const NO_RUN: Run = Run {
 pub(crate) struct Delayed {
     pub ring: HeapCircularBuffer<Verdict>,
     pub run: Run,
-}
-
-/// What a node gives at a row, and whether what it keeps has moved.
-#[derive(Clone, Copy)]
-pub(crate) struct Passed {
-    pub value: Verdict,
-    pub moved: bool,
 }
 
 /// How often a value was read, up to so many cells.

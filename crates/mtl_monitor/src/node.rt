@@ -2,7 +2,7 @@
 use crate::delay_line::DelayLine;
 use crate::left::Left;
 use crate::outlook::Outlook;
-use mtl_formulas::{Atom, PairKind, SpanKind};
+use mtl_formulas::{Atom, PairKind, SpanKind, Verdict};
 
 /// What a node computes. Operands are named by the indices of their nodes. The value of a node at a row is its formula's
 /// value so many positions back as the node is late.
@@ -47,4 +47,11 @@ pub(crate) enum Kept {
     /// What held, and what the first operand bars.
     Since(Left, Left),
     Until(Outlook),
+}
+
+/// What a node gives at a row, and whether what it keeps has moved.
+#[derive(Clone, Copy)]
+pub(crate) struct Passed {
+    pub value: Verdict,
+    pub moved: bool,
 }

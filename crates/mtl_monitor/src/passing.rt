@@ -9,10 +9,9 @@ ghost use Rattle.mtl_monitor.specs.Inner.Triggers.{AreTriggers};
 ghost use Rattle.mtl_formulas.specs.declared.atom.Atom.{Atom};
 ghost use Rattle.mtl_formulas.specs.declared.verdict.Verdict.{Verdict};
 
-use crate::delay_line::Passed;
 use crate::left::Left;
 use crate::marks::{are_unset, noted};
-use crate::node::{Kept, Operator, ProgramNode};
+use crate::node::{Kept, Operator, Passed, ProgramNode};
 use crate::triggers::Trigger;
 use crate::verdicts::{is_same, joined, lesser, negated, sensed};
 use mtl_formulas::{SpanKind, Verdict};
