@@ -24,7 +24,8 @@ use Rattle.mtl_monitor.specs.declared.node.Kept.{Kept}
 use Rattle.mtl_monitor.specs.declared.node.ProgramNode.{ProgramNode}
 use Rattle.mtl_monitor.specs.declared.node.Operator.{Operator}
 use Rattle.mtl_monitor.specs.declared.node.Operator.TheVariants as op
-use Rattle.mtl_monitor.proofs.QuietNodes.{IsQuiet-ended, GoesOn-fed, GoesOn-ended, operands_are}
+use Rattle.mtl_monitor.proofs.QuietNodes.{IsQuiet-ended, GoesOn-fed, GoesOn-ended}
+use Rattle.mtl_monitor.proofs.Operands.{operands_are}
 use Rattle.mtl_monitor.proofs.Walks.{Walk-begins, Walk-reached}
 use Rattle.mtl_monitor.specs.Inner.Standing.{node_at, late_at, root_at, AllBelow, IsRow, EndsAt, KeepAll, GiveAll, Passes}
 use Rattle.mtl_monitor.specs.Following.{Follows, Closes, IsEnded, formula_at}

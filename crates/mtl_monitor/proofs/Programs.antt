@@ -1,5 +1,6 @@
 -- Programs and the states of traces.
-use Rattle.std.proofs.Common.{◌≡◌, sym, ◌∙◌, arith, true, false, List, [], ◌++◌}
+use Rattle.std.proofs.Common.{◌≡◌, sym, ◌∙◌, arith, false, List, [], ◌++◌}
+use Rattle.std.proofs.lemmas.Bool.{true≢false}
 use Rattle.mtl_formulas.specs.FormulaTree.{FormulaTree}
 use Rattle.mtl_monitor.specs.declared.program.Program.{Program}
 use Rattle.mtl_monitor.specs.declared.trace_state.TraceState.{TraceState}
@@ -9,9 +10,6 @@ use Rattle.mtl_monitor.specs.Inner.Starting.{AreFresh}
 use Rattle.mtl_monitor.specs.Following.{IsProgramWith, IsProgramOf, Fits, HasRoom, Follows, Closes}
 use Rattle.mtl_monitor.specs.Growing.{IsProgramFor}
 use Rattle.mtl_monitor.proofs.Beginning.{Keeps-fresh}
-
-true_false : true ≡ false → ⊥
-true_false h = cc
 
 -- A new state follows no rows.
 pub Follows-new : (p : Program) (s : TraceState) (formulas : List FormulaTree) → AreFresh p.nodes.items s.states.items s.values.items s.moving.items → s.still ≡ false
@@ -24,8 +22,8 @@ Follows-new p s formulas fresh still fed passed is =
       all_passed = passed;
       keeps = λ more. record { each = λ k h. Keeps-fresh ([] ++ more) p.nodes.items is.trees _ _ _ _ (is.of.sound.program.computes k h) (fresh.each k h) };
       gives = λ some more. absurd (omega arith);
-      quiet = λ k h flag. absurd (true_false (sym (fresh.move k) ∙ flag));
-      still = λ h. absurd (true_false (sym h ∙ still));
+      quiet = λ k h flag. absurd (true≢false (sym (fresh.move k) ∙ flag));
+      still = λ h. absurd (true≢false (sym h ∙ still));
     }
 
 -- Programs of one formula are equal in all that counts.

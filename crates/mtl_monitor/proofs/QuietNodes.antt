@@ -1,8 +1,7 @@
 -- What is quiet at a row is quiet at the next, and so are nodes that have just been passed without a move.
-use Rattle.std.proofs.Common.{◌≡◌, ◌≢◌, ℕ, ◌+◌, ◌-◌, ◌<◌, ◌≤◌, refl, sym, ap, ap₂, ◌∙◌, arith, true, false, inl, inr, List}
+use Rattle.std.proofs.Common.{◌≡◌, ◌≢◌, ℕ, ◌+◌, ◌-◌, ◌≤◌, refl, sym, ap, ap₂, ◌∙◌, arith, inl, inr, List}
 use Rattle.std.specs.Prelude.{nat_lt}
-use Rattle.std.proofs.lemmas.Bool.{cases_lt}
-use Rattle.std.proofs.lemmas.Bool.Decides.{nat_tests}
+use Rattle.std.proofs.lemmas.Bool.{cases_lt, lt-ltb, le-ltb}
 use Rattle.mtl_formulas.specs.declared.atom.Atom.{Atom}
 use Rattle.mtl_formulas.specs.declared.verdict.Verdict.{Verdict}
 use Rattle.mtl_formulas.specs.VerdictOrder.{turned_round}
@@ -16,22 +15,16 @@ use Rattle.mtl_monitor.specs.Inner.Standing.{AllOperands}
 use Rattle.mtl_monitor.specs.Inner.Reading.{IsAtom}
 use Rattle.mtl_monitor.specs.Inner.Quiet.{IsAwake, Answers, GoesOn, IsQuiet}
 
-lt-true : (m n : ℕ) → m < n → nat_lt m n ≡ true
-lt-true m n h = grind (arith, nat_tests)
-
-lt-false : (m n : ℕ) → n ≤ m → nat_lt m n ≡ false
-lt-false m n h = grind (arith, nat_tests)
-
 module _ (values : List Verdict) (i : ℕ) where
   -- on one side of the trace's end
   given-later : (row : Atom → Verdict) (o : Operator) (s : Kept) (late end next : ℕ) → IsAwake o i → late ≤ i → nat_lt ((i + 1) - late) next ≡ nat_lt (i - late) end
       → given o s late values row (i + 1) next ≡ given o s late values row i end
   given-later row (op.Late cells from a) (kinds.Ring d) late end next awake ready side =
-      rw (lt-false (i + 1) from (omega arith), lt-false i from awake)
+      rw (le-ltb (i + 1) from (omega arith), le-ltb i from awake)
   given-later row (op.Window kind width from a) (kinds.Window s) late end next awake ready side =
-      rw (lt-false (i + 1) from (omega arith), lt-false i from awake, side)
+      rw (le-ltb (i + 1) from (omega arith), le-ltb i from awake, side)
   given-later row (op.Since width lower from a b) (kinds.Since hits bars) late end next awake ready side =
-      rw (lt-false (i + 1) from (omega arith), lt-false i from awake, lt-false (i + 1) late (omega arith), lt-false i late ready, side)
+      rw (le-ltb (i + 1) from (omega arith), le-ltb i from awake, le-ltb (i + 1) late (omega arith), le-ltb i late ready, side)
   given-later row (op.Until from full lower a behind b) s late end next awake ready side = absurd awake
   given-later row _ _ late end next awake ready side = refl
 
@@ -45,11 +38,11 @@ module _ (values : List Verdict) (i : ℕ) where
 
   kept-later : (o : Operator) (s : Kept) (late : ℕ) → IsAwake o i → late ≤ i → kept o s late values (i + 1) ≡ kept o s late values i
   kept-later (op.Late cells from a) (kinds.Ring d) late awake ready =
-      rw (lt-false (i + 1) from (omega arith), lt-false i from awake)
+      rw (le-ltb (i + 1) from (omega arith), le-ltb i from awake)
   kept-later (op.Window kind width from a) (kinds.Window s) late awake ready =
-      rw (lt-false (i + 1) from (omega arith), lt-false i from awake)
+      rw (le-ltb (i + 1) from (omega arith), le-ltb i from awake)
   kept-later (op.Since width lower from a b) (kinds.Since hits bars) late awake ready =
-      rw (lt-false (i + 1) from (omega arith), lt-false i from awake, lt-false (i + 1) late (omega arith), lt-false i late ready)
+      rw (le-ltb (i + 1) from (omega arith), le-ltb i from awake, le-ltb (i + 1) late (omega arith), le-ltb i late ready)
   kept-later (op.Until from full lower a behind b) s late awake ready = absurd awake
   kept-later _ _ late awake ready = refl
 
@@ -67,7 +60,7 @@ module _ (values : List Verdict) (i : ℕ) where
         awake = h.awake;
         ready = h.ready;
         gives = λ uncrossed row answers.
-            given-ended row o s late (i + 1) i (lt-true (i - late) i (omega (arith, h.ready)) ∙ sym (lt-true (i - late) (i + 1) (omega arith))) ∙ h.gives (omega arith) row answers;
+            given-ended row o s late (i + 1) i (lt-ltb (i - late) i (omega (arith, h.ready)) ∙ sym (lt-ltb (i - late) (i + 1) (omega arith))) ∙ h.gives (omega arith) row answers;
         keeps = h.keeps;
       }
 
@@ -118,16 +111,6 @@ module _ (values : List Verdict) (i : ℕ) where
         gives = λ uncrossed other answers. given-later other o s late end next awake ready (onward late ready uncrossed) ∙ same_given o s late end row other answers;
         keeps = kept-later o s late awake ready ∙ still;
       }
-
--- the operands of an operator are so, if what they are makes them so
-pub operands_are : (Was Is : ℕ → Type 0) → ((a : ℕ) → Was a → Is a) → (o : Operator) → AllOperands Was o → AllOperands Is o
-operands_are Was Is makes (op.Atom a) h = tt
-operands_are Was Is makes (op.Not a) h = makes a h
-operands_are Was Is makes (op.Pair kind a b) h = (makes a h.0, makes b h.1)
-operands_are Was Is makes (op.Late cells from a) h = makes a h
-operands_are Was Is makes (op.Window kind width from a) h = makes a h
-operands_are Was Is makes (op.Since width lower from a b) h = (makes a h.0, makes b h.1)
-operands_are Was Is makes (op.Until from full lower a behind b) h = (makes a h.0, makes behind h.1, makes b h.2)
 
 -- what a node gives and keeps depends on its operands' values alone
 module _ (values others : List Verdict) (i : ℕ) where
@@ -191,10 +174,10 @@ Answers-all (op.Until from full lower a behind b) v = tt
 
 -- while rows are fed, and once the trace is over
 pub GoesOn-fed : (i : ℕ) → GoesOn i (i + 1) ((i + 1) + 1)
-GoesOn-fed i late ready uncrossed = lt-true ((i + 1) - late) ((i + 1) + 1) (omega arith) ∙ sym (lt-true (i - late) (i + 1) (omega arith))
+GoesOn-fed i late ready uncrossed = lt-ltb ((i + 1) - late) ((i + 1) + 1) (omega arith) ∙ sym (lt-ltb (i - late) (i + 1) (omega arith))
 
 pub GoesOn-ended : (i end : ℕ) → GoesOn i end end
 GoesOn-ended i end late ready uncrossed = elim (cases_lt (i - late) end) [
-  | inl inside ↦ lt-true ((i + 1) - late) end (omega arith) ∙ sym (lt-true (i - late) end inside)
-  | inr past ↦ lt-false ((i + 1) - late) end (omega arith) ∙ sym (lt-false (i - late) end past)
+  | inl inside ↦ lt-ltb ((i + 1) - late) end (omega arith) ∙ sym (lt-ltb (i - late) end inside)
+  | inr past ↦ le-ltb ((i + 1) - late) end (omega arith) ∙ sym (le-ltb (i - late) end past)
 ]

@@ -18,7 +18,8 @@ use Rattle.mtl_monitor.specs.Inner.Quiet.{AreAnswered, IsQuiet, GoesOn, flag_at,
 use Rattle.mtl_monitor.proofs.NodeRows.{Keeps-row, IsGiven-row}
 use Rattle.mtl_monitor.proofs.Rows.{Midway-next}
 use Rattle.mtl_monitor.proofs.Shapes.{HaveShapes-next}
-use Rattle.mtl_monitor.proofs.QuietNodes.{IsQuiet-later, IsQuiet-passed, IsQuiet-same, IsQuiet-atom, Answers-given, Answers-all, operands_are}
+use Rattle.mtl_monitor.proofs.QuietNodes.{IsQuiet-later, IsQuiet-passed, IsQuiet-same, IsQuiet-atom, Answers-given, Answers-all}
+use Rattle.mtl_monitor.proofs.Operands.{operands_are}
 
 -- A node whose value and state a row would not change has passed it.
 Midway-stays : (trace : Trace) (trees : List FormulaTree) (nodes : List ProgramNode) (states : List Kept) (values : List Verdict) (i k : ℕ) (row : Atom → Verdict) (end : ℕ)

@@ -3,7 +3,7 @@ use Rattle.std.proofs.lemmas.List.{get_or_default}
 use Rattle.mtl_monitor.specs.Inner.Standing.{node_at, late_at}
 use Rattle.mtl_monitor.specs.Inner.Marks.{IsMarked, IsUnmarked}
 use Rattle.mtl_monitor.specs.Inner.Triggers.{trigger_at}
-use Rattle.mtl_monitor.proofs.QuietNodes.{operands_are}
+use Rattle.mtl_monitor.proofs.Operands.{operands_are}
 use Rattle.mtl_monitor.proofs.passing.next_passed.Goals as goal
 
 pub loop-k-preserved : goal.loop-k-preserved
