@@ -50,14 +50,14 @@ same_pair-equal : (k m : PairKind) → same_pair k m ≡ true → k ≡ m
 same_pair-equal And And h = refl
 same_pair-equal Or Or h = refl
 same_pair-equal Implies Implies h = refl
-same_pair-equal _ _ h = cc
+same_pair-equal _ _ h = absurd (false≢true h)
 
 same_span-equal : (k m : SpanKind) → same_span k m ≡ true → k ≡ m
 same_span-equal F F h = refl
 same_span-equal G G h = refl
 same_span-equal O O h = refl
 same_span-equal H H h = refl
-same_span-equal _ _ h = cc
+same_span-equal _ _ h = absurd (false≢true h)
 
 both : (m n j k : ℕ) → ((m == n) && (j == k)) ≡ true → (m ≡ n) × (j ≡ k)
 both m n j k h = (eqb-true m n (and_parts (m == n) (j == k) h).0, eqb-true j k (and_parts (m == n) (j == k) h).1)

@@ -1,9 +1,8 @@
 //! Whether two nodes are equal.
 ghost use Rattle.std.specs.Prelude.{◌≡◌};
-ghost use Rattle.mtl_monitor.specs.Inner.Compiling.{same_pair, same_span, same_operator, same_node};
+ghost use Rattle.mtl_monitor.specs.Inner.Compiling.{same_operator, same_node};
 
 use crate::node::{Operator, ProgramNode};
-use mtl_formulas::{PairKind, SpanKind};
 
 impl ProgramNode {
     pub(crate) fn is_same(&self, other: &ProgramNode) -> bool
@@ -20,13 +19,13 @@ fn is_same_operator(operator: Operator, other: Operator) -> bool
         (Operator::Atom(a), Operator::Atom(b)) => a == b,
         (Operator::Not(a), Operator::Not(b)) => a == b,
         (Operator::Pair(kind, a, b), Operator::Pair(other, c, d)) => {
-            is_same_pair(kind, other) && (a == c && b == d)
+            kind == other && (a == c && b == d)
         }
         (Operator::Late(cells, from, a), Operator::Late(others, start, b)) => {
             cells == others && (from == start && a == b)
         }
         (Operator::Window(kind, width, from, a), Operator::Window(other, breadth, start, b)) => {
-            is_same_span(kind, other) && (width == breadth && (from == start && a == b))
+            kind == other && (width == breadth && (from == start && a == b))
         }
         (Operator::Since(width, lower, from, a, b), Operator::Since(breadth, least, start, c, d)) =>
             (width == breadth && lower == least) && (from == start && (a == c && b == d)),
@@ -37,29 +36,6 @@ fn is_same_operator(operator: Operator, other: Operator) -> bool
             (from == start && (full == whole && lower == least))
                 && (a == c && (behind == beyond && b == d))
         }
-        _ => false,
-    }
-}
-
-fn is_same_pair(a: PairKind, b: PairKind) -> bool
-    ensures { result ≡ same_pair a b }
-{
-    match (a, b) {
-        (PairKind::And, PairKind::And) => true,
-        (PairKind::Or, PairKind::Or) => true,
-        (PairKind::Implies, PairKind::Implies) => true,
-        _ => false,
-    }
-}
-
-fn is_same_span(a: SpanKind, b: SpanKind) -> bool
-    ensures { result ≡ same_span a b }
-{
-    match (a, b) {
-        (SpanKind::F, SpanKind::F) => true,
-        (SpanKind::G, SpanKind::G) => true,
-        (SpanKind::O, SpanKind::O) => true,
-        (SpanKind::H, SpanKind::H) => true,
         _ => false,
     }
 }

@@ -1,9 +1,10 @@
 -- The nodes of a formula, operands before operators. Equal nodes stand once.
-use Rattle.std.specs.Prelude.{ℕ, ◌≡◌, ◌+◌, ◌-◌, Bool, true, false, ◌==◌, ◌&&◌, if◌then◌else◌, max, List, [], ◌∷◌, ◌++◌, length, Option, Some, None, position}
+use Rattle.std.specs.Prelude.{ℕ, ◌≡◌, ◌+◌, ◌-◌, Bool, false, ◌==◌, ◌&&◌, if◌then◌else◌, max, List, [], ◌∷◌, ◌++◌, length, Option, Some, None, position}
 use Rattle.mtl_formulas.specs.declared.atom.Atom.{Atom}
-use Rattle.mtl_formulas.specs.contracts.atom.AtomPartialEq.TheImpl as by_derive
+use Rattle.mtl_formulas.specs.contracts.atom.AtomPartialEq.TheImpl as by_atoms
+use Rattle.mtl_formulas.specs.contracts.formula.PairKindPartialEq.TheImpl as by_pairs
+use Rattle.mtl_formulas.specs.contracts.formula.SpanKindPartialEq.TheImpl as by_spans
 use Rattle.mtl_formulas.specs.declared.formula.PairKind.{PairKind}
-use Rattle.mtl_formulas.specs.declared.formula.PairKind.TheVariants.{And, Or, Implies}
 use Rattle.mtl_formulas.specs.declared.formula.SpanKind.{SpanKind}
 use Rattle.mtl_formulas.specs.declared.formula.SpanKind.TheVariants.{F, G, O, H}
 use Rattle.mtl_formulas.specs.declared.formula.LinkKind.{LinkKind}
@@ -14,22 +15,15 @@ use Rattle.mtl_monitor.specs.declared.node.Operator.{Operator}
 use Rattle.mtl_monitor.specs.declared.node.Operator.TheVariants as op
 use Rattle.mtl_monitor.specs.declared.node.ProgramNode.{ProgramNode}
 
--- by the atoms' own comparison
+-- by their own comparisons
 abbrev pub same_atom : Atom → Atom → Bool
-same_atom a b = by_derive.ghosts.eq a b
+same_atom a b = by_atoms.ghosts.eq a b
 
 abbrev pub same_pair : PairKind → PairKind → Bool
-same_pair And And = true
-same_pair Or Or = true
-same_pair Implies Implies = true
-same_pair _ _ = false
+same_pair kind other = by_pairs.ghosts.eq kind other
 
 abbrev pub same_span : SpanKind → SpanKind → Bool
-same_span F F = true
-same_span G G = true
-same_span O O = true
-same_span H H = true
-same_span _ _ = false
+same_span kind other = by_spans.ghosts.eq kind other
 
 abbrev pub same_operator : Operator → Operator → Bool
 same_operator (op.Atom a) (op.Atom b) = same_atom a b
