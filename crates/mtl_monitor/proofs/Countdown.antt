@@ -1,8 +1,7 @@
 -- Counts that run down give the greatest value over a window.
-use Rattle.std.proofs.Common.{◌≡◌, ℕ, zero, suc, ◌+◌, ◌-◌, ◌<◌, ◌≤◌, refl, sym, ◌∙◌, arith, Bool, true, false, inl, inr}
+use Rattle.std.proofs.Common.{◌≡◌, ℕ, zero, suc, ◌+◌, ◌-◌, ◌≤◌, refl, sym, ◌∙◌, arith, Bool, true, false, inl, inr}
 use Rattle.std.specs.Prelude.{nat_lt, if◌then◌else◌}
-use Rattle.std.proofs.lemmas.Bool.{cases_lt}
-use Rattle.std.proofs.lemmas.Bool.Decides.{nat_tests}
+use Rattle.std.proofs.lemmas.Bool.{cases_lt, lt-ltb, le-ltb}
 use Rattle.mtl_formulas.specs.declared.verdict.Verdict.{Verdict}
 use Rattle.mtl_formulas.specs.declared.verdict.Verdict.TheVariants.{No, Open, Yes}
 use Rattle.mtl_formulas.specs.declared.formula.SpanKind.{SpanKind}
@@ -34,30 +33,24 @@ graded-yes true o = refl
 graded-yes false true = refl
 graded-yes false false = refl
 
-lt-true : (m n : ℕ) → m < n → nat_lt m n ≡ true
-lt-true m n h = grind (arith, nat_tests)
-
-lt-false : (m n : ℕ) → n ≤ m → nat_lt m n ≡ false
-lt-false m n h = grind (arith, nat_tests)
-
 -- a count that runs down
 ran_down : (w d y : ℕ) → d + 1 ≤ w → nat_lt (w - (d + 1)) (y - 1) ≡ nat_lt (w - d) y
 ran_down w d y h = elim (cases_lt (w - d) y) [
-  | inl more ↦ lt-true (w - (d + 1)) (y - 1) (omega arith) ∙ sym (lt-true (w - d) y more)
-  | inr none ↦ lt-false (w - (d + 1)) (y - 1) (omega arith) ∙ sym (lt-false (w - d) y none)
+  | inl more ↦ lt-ltb (w - (d + 1)) (y - 1) (omega arith) ∙ sym (lt-ltb (w - d) y more)
+  | inr none ↦ le-ltb (w - (d + 1)) (y - 1) (omega arith) ∙ sym (le-ltb (w - d) y none)
 ]
 
 after-one : (s : Left) (w d : ℕ) (v : Verdict) → d + 1 ≤ w → left_beyond (left_after s w v) (w - (d + 1)) ≡ greatest (left_beyond s (w - d)) v
 after-one s w d No h = rw (ran_down w d s.yes h, ran_down w d s.some h) (graded-no (nat_lt (w - d) s.yes) (nat_lt (w - d) s.some))
 after-one s w d Open h =
-    let here : nat_lt (w - (d + 1)) w ≡ true = lt-true _ _ (omega arith) in
+    let here : nat_lt (w - (d + 1)) w ≡ true = lt-ltb _ _ (omega arith) in
     rw (ran_down w d s.yes h, here) (graded-open (nat_lt (w - d) s.yes) (nat_lt (w - d) s.some))
 after-one s w d Yes h =
-    let here : nat_lt (w - (d + 1)) w ≡ true = lt-true _ _ (omega arith) in
+    let here : nat_lt (w - (d + 1)) w ≡ true = lt-ltb _ _ (omega arith) in
     rw here (graded-yes (nat_lt (w - d) s.yes) (nat_lt (w - d) s.some))
 
 beyond_all : (s : Left) (w : ℕ) → s.yes ≤ w → s.some ≤ w → left_beyond s w ≡ No
-beyond_all s w h k = rw (lt-false w s.yes h, lt-false w s.some k)
+beyond_all s w h k = rw (le-ltb w s.yes h, le-ltb w s.some k)
 
 yes_still : (s : Left) (w : ℕ) (v : Verdict) → s.yes ≤ w → (left_after s w v).yes ≤ w
 yes_still s w No h = omega arith
@@ -100,7 +93,7 @@ Lasts-none f w =
     record {
       greatest = λ d fits.
           let none : 0 - (0 - d) ≡ zero = omega arith in
-          let past : nat_lt (w - d) 0 ≡ false = lt-false _ _ (omega arith) in
+          let past : nat_lt (w - d) 0 ≡ false = le-ltb _ _ (omega arith) in
           rw (none, past);
       yes_fits = omega arith;
       some_fits = omega arith;

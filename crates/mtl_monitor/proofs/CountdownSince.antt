@@ -1,5 +1,6 @@
 -- Counts that run down give the value of an operator S.
 use Rattle.std.proofs.Common.{◌≡◌, ℕ, zero, suc, ◌+◌, ◌-◌, ◌<◌, ◌≤◌, refl, ap, sym, ◌∙◌, arith, Bool, true, false}
+use Rattle.std.proofs.lemmas.Bool.{le-ltb}
 use Rattle.std.specs.Prelude.{nat_lt, if◌then◌else◌}
 use Rattle.std.proofs.lemmas.Bool.Decides.{nat_tests}
 use Rattle.mtl_formulas.specs.declared.verdict.Verdict.{Verdict}
@@ -61,9 +62,6 @@ least_no No = refl
 least_no Open = refl
 least_no Yes = refl
 
-lt-false : (m n : ℕ) → n ≤ m → nat_lt m n ≡ false
-lt-false m n h = grind (arith, nat_tests)
-
 -- a Yes counts as a value that is not No
 both_tests : (k y o : ℕ) → y ≤ o → graded false (nat_lt k o) ≡ least (graded (nat_lt k y) (nat_lt k o)) Open
 both_tests k y o h = by_tests (nat_lt k y) (nat_lt k o) refl refl
@@ -78,8 +76,8 @@ both_tests k y o h = by_tests (nat_lt k y) (nat_lt k o) refl refl
         absurd (omega arith)
 
 under : (s : Left) (v : Verdict) (k : ℕ) → s.yes ≤ s.some → left_beyond (left_under s v) k ≡ least (left_beyond s k) v
-under s No k h = let none : nat_lt k 0 ≡ false = lt-false k 0 (omega arith) in rw none (least_no (left_beyond s k))
-under s Open k h = let none : nat_lt k 0 ≡ false = lt-false k 0 (omega arith) in rw none (both_tests k s.yes s.some h)
+under s No k h = let none : nat_lt k 0 ≡ false = le-ltb k 0 (omega arith) in rw none (least_no (left_beyond s k))
+under s Open k h = let none : nat_lt k 0 ≡ false = le-ltb k 0 (omega arith) in rw none (both_tests k s.yes s.some h)
 under s Yes k h = least_yes (left_beyond s k)
 
 under_yes : (s : Left) (v : Verdict) (w : ℕ) → s.yes ≤ w → (left_under s v).yes ≤ w

@@ -1,9 +1,10 @@
 -- A state that follows some rows follows them with the next, and can be closed; and its answers are right.
 use Rattle.std.proofs.Common.{◌≡◌, ◌≢◌, ℕ, ◌+◌, ◌-◌, ◌<◌, ◌≤◌, refl, ap, sym, ◌∙◌, arith, Bool, true, false, inl, inr, List, [], ◌∷◌, ◌++◌, length, Option, Some, None, append_assoc, length-append}
-use Rattle.std.specs.Prelude.{not, nat_lt, slice_get}
+use Rattle.std.specs.Prelude.{nat_lt, slice_get, ◌⊎◌, ◌%◌}
 use Rattle.std.proofs.lemmas.Bool.Decides.{nat_tests}
 use Rattle.std.proofs.lemmas.List.{length_push, append-nil}
 use Rattle.std.proofs.lemmas.Option.{slice_get_past}
+use Rattle.std.proofs.lemmas.Nat.Bits.{bit_at-zero}
 use Rattle.mtl_formulas.specs.declared.atom.Atom.{Atom}
 use Rattle.mtl_formulas.specs.declared.verdict.Verdict.{Verdict}
 use Rattle.mtl_formulas.specs.declared.verdict.Verdict.TheVariants.{Open}
@@ -15,16 +16,18 @@ use Rattle.mtl_monitor.specs.declared.program.Program.{Program}
 use Rattle.mtl_monitor.specs.declared.trace_state.TraceState.{TraceState}
 use Rattle.mtl_monitor.specs.Traces.{Trace, value_in}
 use Rattle.mtl_monitor.specs.Inner.Steps.{value_at}
-use Rattle.mtl_monitor.specs.Inner.Quiet.{HaveRuns, Answers, AreAnswered, AreQuiet, flag_at, MayRest, Walked}
-use Rattle.mtl_monitor.specs.Inner.Reading.{atom_at, IsListed, AreRead}
+use Rattle.mtl_monitor.specs.Inner.Quiet.{Answers, AreAnswered, AreQuiet, flag_at, CanStay, MayRest, Walked}
+use Rattle.mtl_monitor.specs.Inner.Marks.{IsUnmarked, OnlyMarked}
+use Rattle.mtl_monitor.specs.Inner.Reading.{atom_at, IsAtom, IsListed, AreListed, AreReadable, AreRead, ReadsAtoms}
 use Rattle.mtl_monitor.specs.declared.node.AtomNode.{AtomNode}
 use Rattle.mtl_monitor.specs.declared.node.Kept.{Kept}
 use Rattle.mtl_monitor.specs.declared.node.ProgramNode.{ProgramNode}
 use Rattle.mtl_monitor.specs.declared.node.Operator.{Operator}
 use Rattle.mtl_monitor.specs.declared.node.Operator.TheVariants as op
 use Rattle.mtl_monitor.proofs.QuietNodes.{IsQuiet-ended, GoesOn-fed, GoesOn-ended}
+use Rattle.mtl_monitor.proofs.Operands.{operands_are}
 use Rattle.mtl_monitor.proofs.Walks.{Walk-begins, Walk-reached}
-use Rattle.mtl_monitor.specs.Inner.Standing.{late_at, root_at, AllBelow, IsRow, EndsAt, KeepAll, GiveAll, Passes}
+use Rattle.mtl_monitor.specs.Inner.Standing.{node_at, late_at, root_at, AllBelow, IsRow, EndsAt, KeepAll, GiveAll, Passes}
 use Rattle.mtl_monitor.specs.Following.{Follows, Closes, IsEnded, formula_at}
 use Rattle.mtl_monitor.specs.Monitoring.{IsNext}
 
@@ -65,14 +68,13 @@ Closes-Follows p s formulas rows h =
       keeps = rw h.all_passed (rw (append-nil rows) at all);
       gives = λ some. rw h.all_passed (rw (append-nil rows) at (h.gives (omega (arith, h.all_passed)) []));
       quiet = λ k inside flag. rw fed (IsQuiet-ended _ _ _ _ _ _ (h.quiet k inside flag));
-      runs = h.runs;
       still = h.still;
     }
 
 module _ (p : Program) (s s' : TraceState) (formulas : List FormulaTree) (rows : Trace) where
   module _ (r : Atom → Verdict) (h : Follows p s formulas rows) (fed : s'.fed ≡ s.passed + 1) (passed : s'.passed ≡ s.passed + 1)
       (q : Passes p.nodes.items s.states.items s'.states.items s'.values.items r s.passed (s.passed + 1))
-      (quiet : AreQuiet p.nodes.items s'.states.items s'.values.items s'.moving.items (s.passed + 1) ((s.passed + 1) + 1)) (runs : HaveRuns s'.states.items)
+      (quiet : AreQuiet p.nodes.items s'.states.items s'.values.items s'.moving.items (s.passed + 1) ((s.passed + 1) + 1))
       (still : s'.still ≡ true → (k : ℕ) → k < length p.nodes.items → flag_at s'.moving.items k ≡ false) where
     row_is : (more : Trace) → IsRow (rows ++ r ∷ more) r s.passed
     row_is more = rw h.all_passed (IsRow-next rows more r)
@@ -102,16 +104,15 @@ module _ (p : Program) (s s' : TraceState) (formulas : List FormulaTree) (rows :
           keeps = λ more. rw count (kept_after more);
           gives = λ some more. rw (count, last) (gave_after more);
           quiet = rw passed quiet;
-          runs = runs;
           still = still;
         }
 
   -- a row beyond the end
   pub Closes-next : Closes p s formulas rows → s'.fed ≡ s.fed → s'.passed ≡ s.passed + 1
       → Passes p.nodes.items s.states.items s'.states.items s'.values.items beyond s.passed s.fed
-      → AreQuiet p.nodes.items s'.states.items s'.values.items s'.moving.items (s.passed + 1) s.fed → HaveRuns s'.states.items
+      → AreQuiet p.nodes.items s'.states.items s'.values.items s'.moving.items (s.passed + 1) s.fed
       → (s'.still ≡ true → (k : ℕ) → k < length p.nodes.items → flag_at s'.moving.items k ≡ false) → Closes p s' formulas rows
-  Closes-next h fed passed q quiet runs still =
+  Closes-next h fed passed q quiet still =
       let last : (s.passed + 1) - 1 ≡ s.passed = omega arith in
       let row : IsRow rows beyond s.passed = IsRow-beyond rows s.passed h.all_passed in
       let end : EndsAt rows s.passed s.fed = λ j below. rw h.all_fed refl in
@@ -123,13 +124,8 @@ module _ (p : Program) (s s' : TraceState) (formulas : List FormulaTree) (rows :
         keeps = rw passed (q.kept rows h.trees h.of.sound.program row end h.keeps);
         gives = λ some. rw (passed, last) (q.given rows h.trees h.of.sound.program row end h.keeps);
         quiet = rw (passed, fed) quiet;
-        runs = runs;
         still = still;
       }
-
-pub not_false : (b : Bool) → not b ≡ false → b ≡ true
-not_false true h = refl
-not_false false h = cc
 
 -- the answers to a row's atoms, as they were listed
 answered_one : (atoms : List AtomNode) (values : List Verdict) (r : Atom → Verdict) (o : Operator) (k : ℕ) → AreRead atoms values r → IsListed atoms o k → Answers o r (value_at values k)
@@ -144,57 +140,77 @@ answered_one atoms values r (op.Window kind width from a) k read at = tt
 answered_one atoms values r (op.Since width lower from a b) k read at = tt
 answered_one atoms values r (op.Until from full lower a behind b) k read at = tt
 
-module _ (nodes : List ProgramNode) (states : List Kept) (values : List Verdict) (moving : List Bool) (r : Atom → Verdict) (i end : ℕ)
-    (all_rest : (k : ℕ) → k < length nodes → flag_at moving k ≡ false) (uncrossed : (k : ℕ) → k < length nodes → i ≢ end + late_at nodes k) (s : length states ≡ length nodes) (v : length values ≡ length nodes) (m : length moving ≡ length nodes) where
-  -- All nodes rest.
-  pub Walked-still : Walked nodes states states values values moving moving r i end false true
-  Walked-still =
+module _ (nodes : List ProgramNode) (states : List Kept) (before values : List Verdict) (moving : List Bool) (i end : ℕ)
+    (all_rest : (k : ℕ) → k < length nodes → flag_at moving k ≡ false) (uncrossed : (k : ℕ) → k < length nodes → i ≢ end + late_at nodes k) (below : AllBelow nodes)
+    (s : length states ≡ length nodes) (v : length values ≡ length nodes) (m : length moving ≡ length nodes) where
+  can_stay : (k : ℕ) → k < length nodes → CanStay nodes moving i end 0 k
+  can_stay k inside =
       record {
-        warm = false;
-        spread' = false;
-        warmth = λ h. cc;
-        walk =
-            Walk-reached nodes states values moving r i end false false states values moving false true 0 (length nodes)
-            (record { after = omega arith; inside = omega arith; stay = λ j h from. record { rests = all_rest j h; uncrossed = uncrossed j h } }) (λ h. refl)
-            (Walk-begins nodes states values moving r i end false false s v m);
+        rests = all_rest k inside;
+        uncrossed = uncrossed k inside;
+        unmarked = operands_are (λ a. a < k) (IsUnmarked 0) (λ a h. bit_at-zero (a % 64)) (node_at nodes k).operator (below k inside);
       }
 
-module _ (p : Program) (s s' : TraceState) (formulas : List FormulaTree) (rows : Trace) (below : AllBelow p.nodes.items) where
-  pub Follows-walked : (r : Atom → Verdict) (changed : Bool) → Follows p s formulas rows → s'.fed ≡ s.passed + 1 → s'.passed ≡ s.passed + 1
-      → (changed ≡ false → AreRead p.atoms.items s.values.items r)
-      → Walked p.nodes.items s.states.items s'.states.items s.values.items s'.values.items s.moving.items s'.moving.items r s.passed (s.passed + 1) changed s'.still
+  -- All nodes rest.
+  pub Walked-still : Walked nodes states before values moving i end 0 states values moving true
+  Walked-still =
+      record {
+        marks' = 0;
+        walk =
+            Walk-reached nodes states before values moving i end 0 states values moving 0 true 0 (length nodes)
+            (record { after = omega arith; inside = omega arith; stay = λ j h from. can_stay j h })
+            (Walk-begins nodes states before values moving i end 0 s v m);
+      }
+
+-- Each atom that is listed is that of a node, so a node of no atom has the value that it had.
+pub ReadsAtoms-listed : (nodes : List ProgramNode) (atoms : List AtomNode) (before values : List Verdict) (marks : ℕ) → AreReadable nodes (length nodes) atoms
+    → OnlyMarked before values marks → ((k : ℕ) → ((j : ℕ) → j < length atoms → (atom_at atoms j).index ≢ k) → value_at values k ≡ value_at before k)
+    → ReadsAtoms nodes before values marks
+ReadsAtoms-listed nodes atoms before values marks readable changed others =
+    record { changed = changed; others = λ k inside. by_operator k (node_at nodes k).operator refl }
+  where
+    unlisted : (k : ℕ) → (IsAtom (node_at nodes k).operator → ⊥) → value_at values k ≡ value_at before k
+    unlisted k never = others k (λ j within same. never (rw same at (readable j within).1))
+
+    by_operator : (k : ℕ) (o : Operator) → (node_at nodes k).operator ≡ o → IsAtom (node_at nodes k).operator ⊎ (value_at values k ≡ value_at before k)
+    by_operator k (op.Atom a) is = inl (rw is tt)
+    by_operator k (op.Not a) is = inr (unlisted k (λ h. rw is at h))
+    by_operator k (op.Pair kind a b) is = inr (unlisted k (λ h. rw is at h))
+    by_operator k (op.Late cells from a) is = inr (unlisted k (λ h. rw is at h))
+    by_operator k (op.Window kind width from a) is = inr (unlisted k (λ h. rw is at h))
+    by_operator k (op.Since width lower from a b) is = inr (unlisted k (λ h. rw is at h))
+    by_operator k (op.Until from full lower a behind b) is = inr (unlisted k (λ h. rw is at h))
+
+module _ (p : Program) (s s' : TraceState) (formulas : List FormulaTree) (rows : Trace) (values : List Verdict) (marks : ℕ)
+    (reads : ReadsAtoms p.nodes.items s.values.items values marks) (below : AllBelow p.nodes.items) where
+  answered : (row : Atom → Verdict) → AreListed p.nodes.items p.atoms.items → AreRead p.atoms.items values row → AreAnswered p.nodes.items values row
+  answered row listed read k inside = answered_one p.atoms.items values row (node_at p.nodes.items k).operator k read (listed k inside)
+
+  pub Follows-walked : (r : Atom → Verdict) → Follows p s formulas rows → s'.fed ≡ s.passed + 1 → s'.passed ≡ s.passed + 1 → AreRead p.atoms.items values r
+      → Walked p.nodes.items s.states.items s.values.items values s.moving.items s.passed (s.passed + 1) marks s'.states.items s'.values.items s'.moving.items s'.still
       → Follows p s' formulas (rows ++ r ∷ [])
-  Follows-walked r changed h fed passed read w =
+  Follows-walked r h fed passed read w =
+      let rest : MayRest p.nodes.items s.states.items s.values.items values s.moving.items s.passed (s.passed + 1) marks = record { quiet = h.quiet; reads = reads } in
+      let all = answered r h.of.listed read in
       Follows-next p s s' formulas rows r h fed passed
       (record {
-        kept = λ trace trees program answers ends keeps. record { each = (w.walk.midway trace trees program answers ends rest keeps).passed };
-        given = λ trace trees program answers ends keeps. record { each = (w.walk.midway trace trees program answers ends rest keeps).gave };
+        kept = λ trace trees program answers ends keeps. record { each = (w.walk.midway trace trees r program answers ends rest all keeps).passed };
+        given = λ trace trees program answers ends keeps. record { each = (w.walk.midway trace trees r program answers ends rest all keeps).gave };
       })
-      (λ k inside flag. w.walk.quiet w.warmth _ (GoesOn-fed s.passed) h.runs rest below k inside flag) (w.walk.runs h.runs) w.walk.all_still
-    where
-      answered : changed ≡ false → AreAnswered p.nodes.items s.values.items r
-      answered none k inside = answered_one p.atoms.items s.values.items r _ k (read none) (h.of.listed k inside)
+      (λ k inside flag. w.walk.quiet _ (GoesOn-fed s.passed) rest below k inside flag) w.walk.all_still
 
-      rest : MayRest p.nodes.items s.states.items s.values.items s.moving.items r s.passed (s.passed + 1) w.warm changed
-      rest none = (h.quiet, answered none)
-
-  pub Closes-walked : (changed : Bool) → Closes p s formulas rows → s'.fed ≡ s.fed → s'.passed ≡ s.passed + 1
-      → (changed ≡ false → AreRead p.atoms.items s.values.items beyond)
-      → Walked p.nodes.items s.states.items s'.states.items s.values.items s'.values.items s.moving.items s'.moving.items beyond s.passed s.fed changed s'.still
+  pub Closes-walked : Closes p s formulas rows → s'.fed ≡ s.fed → s'.passed ≡ s.passed + 1 → AreRead p.atoms.items values beyond
+      → Walked p.nodes.items s.states.items s.values.items values s.moving.items s.passed s.fed marks s'.states.items s'.values.items s'.moving.items s'.still
       → Closes p s' formulas rows
-  Closes-walked changed h fed passed read w =
+  Closes-walked h fed passed read w =
+      let rest : MayRest p.nodes.items s.states.items s.values.items values s.moving.items s.passed s.fed marks = record { quiet = h.quiet; reads = reads } in
+      let all = answered beyond h.of.listed read in
       Closes-next p s s' formulas rows h fed passed
       (record {
-        kept = λ trace trees program answers ends keeps. record { each = (w.walk.midway trace trees program answers ends rest keeps).passed };
-        given = λ trace trees program answers ends keeps. record { each = (w.walk.midway trace trees program answers ends rest keeps).gave };
+        kept = λ trace trees program answers ends keeps. record { each = (w.walk.midway trace trees beyond program answers ends rest all keeps).passed };
+        given = λ trace trees program answers ends keeps. record { each = (w.walk.midway trace trees beyond program answers ends rest all keeps).gave };
       })
-      (λ k inside flag. w.walk.quiet w.warmth _ (GoesOn-ended s.passed s.fed) h.runs rest below k inside flag) (w.walk.runs h.runs) w.walk.all_still
-    where
-      answered : changed ≡ false → AreAnswered p.nodes.items s.values.items beyond
-      answered none k inside = answered_one p.atoms.items s.values.items beyond _ k (read none) (h.of.listed k inside)
-
-      rest : MayRest p.nodes.items s.states.items s.values.items s.moving.items beyond s.passed s.fed w.warm changed
-      rest none = (h.quiet, answered none)
+      (λ k inside flag. w.walk.quiet _ (GoesOn-ended s.passed s.fed) rest below k inside flag) w.walk.all_still
 
 -- the answers to the last row that passed
 module _ (p : Program) (s : TraceState) (formulas : List FormulaTree) (rows : Trace) (k : ℕ) (root : Operand) (v : Verdict)

@@ -7,6 +7,7 @@ pub mod Untils
 pub mod SumUp
 pub mod NodeRows
 pub mod Rows
+pub mod Operands
 pub mod SameNodes
 pub mod Gaining
 pub mod Putting

@@ -1,26 +1,21 @@
--- The list of a program's atoms, and the row from which on it is awake.
-use Rattle.std.proofs.Common.{◌≡◌, ℕ, ◌+◌, ◌<◌, ◌≤◌, refl, ◌∙◌, arith, List, [], ◌∷◌, ◌++◌, length, below_more}
-use Rattle.std.proofs.lemmas.List.{length_push, get_or_push, get_or_append_left}
+-- The list of a program's atoms.
+use Rattle.std.proofs.Common.{◌≡◌, ℕ, ◌+◌, ◌%◌, ◌<◌, ◌≤◌, ◌≢◌, refl, sym, ◌∙◌, arith, inl, inr, List, [], ◌∷◌, ◌++◌, length, set, get_or-set_other, get_or-set_same, below_more}
+use Rattle.std.specs.Int.{bit_at}
+use Rattle.std.proofs.lemmas.Bool.Decides.{eqb_tells}
+use Rattle.std.proofs.lemmas.List.{length_push, length-set, get_or_push, get_or_append_left}
+use Rattle.mtl_formulas.specs.declared.atom.Atom.{Atom}
 use Rattle.mtl_formulas.specs.declared.atom.Atom.TheVariants.{Always}
+use Rattle.mtl_formulas.specs.declared.verdict.Verdict.{Verdict}
+use Rattle.mtl_formulas.specs.declared.verdict.Verdict.TheVariants.{Open}
 use Rattle.mtl_formulas.specs.FormulaMeasures.{IsValidAtom}
 use Rattle.mtl_monitor.specs.declared.node.AtomNode.{AtomNode}
 use Rattle.mtl_monitor.specs.declared.node.Operator.{Operator}
 use Rattle.mtl_monitor.specs.declared.node.Operator.TheVariants as op
 use Rattle.mtl_monitor.specs.declared.node.ProgramNode.{ProgramNode}
-use Rattle.mtl_monitor.specs.Inner.Steps.{HasValidAtom}
+use Rattle.mtl_monitor.specs.Inner.Steps.{value_at, HasValidAtom}
+use Rattle.mtl_monitor.specs.Inner.Marks.{IsUnmarked, OnlyMarked}
 use Rattle.mtl_monitor.specs.Inner.Standing.{node_at}
-use Rattle.mtl_monitor.specs.Inner.Quiet.{IsAwake}
-use Rattle.mtl_monitor.specs.Inner.Reading.{atom_node, atom_at, IsListed, AreReadable, Lists}
-
--- what is awake stays awake
-pub IsAwake-more : (o : Operator) (i j : ℕ) → i ≤ j → IsAwake o i → IsAwake o j
-IsAwake-more (op.Late cells from a) i j h awake = omega arith
-IsAwake-more (op.Window kind width from a) i j h awake = omega arith
-IsAwake-more (op.Since width lower from a b) i j h awake = omega arith
-IsAwake-more (op.Until from full lower a behind b) i j h awake = awake
-IsAwake-more (op.Atom a) i j h awake = tt
-IsAwake-more (op.Not a) i j h awake = tt
-IsAwake-more (op.Pair kind a b) i j h awake = tt
+use Rattle.mtl_monitor.specs.Inner.Reading.{atom_node, atom_at, IsAtom, IsListed, IsPlaced, ArePlaced, AreReadable, Lists, HaveRead}
 
 module _ (old : List AtomNode) (node : AtomNode) where
   kept_atom : (j : ℕ) → j < length old → atom_at (old ++ node ∷ []) j ≡ atom_at old j
@@ -38,34 +33,43 @@ module _ (old : List AtomNode) (node : AtomNode) where
   IsListed-more (op.Since width lower from a b) k at = tt
   IsListed-more (op.Until from full lower a behind b) k at = tt
 
-  AreReadable-more : (n : ℕ) → node.index < n → IsValidAtom node.atom → AreReadable n old → AreReadable n (old ++ node ∷ [])
-  AreReadable-more n inside valid h j within = by_more j (omega (arith, length_push old node))
+  -- all that were placed before stay so, and so is this one after them
+  AreReadable-more : (nodes : List ProgramNode) (k : ℕ) → node.index ≡ k → IsValidAtom node.atom → IsAtom (node_at nodes k).operator → AreReadable nodes k old
+      → AreReadable nodes (k + 1) (old ++ node ∷ [])
+  AreReadable-more nodes k here valid is h j within = by_more j (omega (arith, length_push old node))
     where
-      by_more : (j : ℕ) → j < length old + 1 → ((atom_at (old ++ node ∷ []) j).index < n) × IsValidAtom (atom_at (old ++ node ∷ []) j).atom
-      by_more = below_more _ _ (λ j before. rw (kept_atom j before) (h j before)) (rw last_atom (inside, valid))
+      earlier : (j : ℕ) → j < length old → IsPlaced (old ++ node ∷ []) (k + 1) j × IsAtom (node_at nodes (atom_at (old ++ node ∷ []) j).index).operator
+      earlier j inside =
+          let was = h j inside in
+          rw (kept_atom j inside) ((omega (arith, was.0.0), was.0.1, λ i lower. rw (kept_atom i (omega (arith, lower, inside))) (was.0.2 i lower)), was.1)
 
-AreReadable-wider : (m n : ℕ) (atoms : List AtomNode) → m ≤ n → AreReadable m atoms → AreReadable n atoms
-AreReadable-wider m n atoms wide h j inside = (omega (arith, (h j inside).0), (h j inside).1)
+      this : IsPlaced (old ++ node ∷ []) (k + 1) (length old) × IsAtom (node_at nodes (atom_at (old ++ node ∷ []) (length old)).index).operator
+      this = rw last_atom ((omega (arith, here), valid, λ i lower. rw (kept_atom i lower) (omega (arith, here, (h i lower).0.0))), rw here is)
+
+      by_more : (j : ℕ) → j < length old + 1 → IsPlaced (old ++ node ∷ []) (k + 1) j × IsAtom (node_at nodes (atom_at (old ++ node ∷ []) j).index).operator
+      by_more = below_more _ _ earlier this
+
+AreReadable-wider : (nodes : List ProgramNode) (m n : ℕ) (atoms : List AtomNode) → m ≤ n → AreReadable nodes m atoms → AreReadable nodes n atoms
+AreReadable-wider nodes m n atoms wide h j inside = let was = h j inside in ((omega (arith, was.0.0), was.0.1, was.0.2), was.1)
 
 -- one node more is listed
 module _ (nodes : List ProgramNode) (k : ℕ) (old new : List AtomNode) (valid : HasValidAtom (node_at nodes k).operator) (lists : Lists old new (node_at nodes k).operator k)
-    (listed : (j : ℕ) → j < k → IsListed old (node_at nodes j).operator j) (readable : AreReadable k old) where
+    (listed : (j : ℕ) → j < k → IsListed old (node_at nodes j).operator j) (readable : AreReadable nodes k old) where
   pub record Both : Type 0 where
     pub listed_more : (j : ℕ) → j < k + 1 → IsListed new (node_at nodes j).operator j
-    pub readable_more : AreReadable (k + 1) new
+    pub readable_more : AreReadable nodes (k + 1) new
 
   unlisted : new ≡ old → IsListed old (node_at nodes k).operator k → Both
-  unlisted is this = record { listed_more = rw is (below_more _ _ listed this); readable_more = rw is (AreReadable-wider k (k + 1) old (omega arith) readable) }
+  unlisted is this = record { listed_more = rw is (below_more _ _ listed this); readable_more = rw is (AreReadable-wider nodes k (k + 1) old (omega arith) readable) }
 
   by_operator : (o : Operator) → (node_at nodes k).operator ≡ o → HasValidAtom o → Lists old new o k → Both
   by_operator (op.Atom a) is valid_one added =
-      let last : k < k + 1 = omega arith in
       record {
         listed_more =
             rw added
             (below_more _ _ (λ j before. IsListed-more old (atom_node k a) (node_at nodes j).operator j (listed j before))
             (rw is (length old, (omega (arith, length_push old (atom_node k a)), last_atom old (atom_node k a)))));
-        readable_more = rw added (AreReadable-more old (atom_node k a) (k + 1) last valid_one (AreReadable-wider k (k + 1) old (omega arith) readable));
+        readable_more = rw added (AreReadable-more old (atom_node k a) nodes k refl valid_one (rw is tt) readable);
       }
   by_operator (op.Not a) is valid_one same = unlisted same (rw is tt)
   by_operator (op.Pair kind a b) is valid_one same = unlisted same (rw is tt)
@@ -76,3 +80,39 @@ module _ (nodes : List ProgramNode) (k : ℕ) (old new : List AtomNode) (valid :
 
   pub both : Both
   both = by_operator (node_at nodes k).operator refl valid lists
+
+-- one atom more is read
+module _ (atoms : List AtomNode) (before values values' : List Verdict) (row : Atom → Verdict) (marks marks' k : ℕ) (inside : k < length atoms) (placed : ArePlaced atoms (length before))
+    (h : HaveRead atoms before values row marks k) (values_are : values' ≡ set values (atom_at atoms k).index (row (atom_at atoms k).atom))
+    (here : IsUnmarked marks' (atom_at atoms k).index → row (atom_at atoms k).atom ≡ value_at values (atom_at atoms k).index) (more : (j : ℕ) → bit_at marks' j ≡ 0 → bit_at marks j ≡ 0) where
+  abbrev index : ℕ
+  index = (atom_at atoms k).index
+
+  fits : index < length values
+  fits = omega (arith, (placed k inside).0, h.fit)
+
+  other : (i : ℕ) → i ≢ index → value_at values' i ≡ value_at values i
+  other i ne = rw values_are (get_or-set_other values index i (row (atom_at atoms k).atom) Open ne)
+
+  this : value_at values' index ≡ row (atom_at atoms k).atom
+  this = rw values_are (get_or-set_same values index (row (atom_at atoms k).atom) Open fits)
+
+  only_marked : OnlyMarked before values' marks'
+  only_marked i unmarked = elim (eqb_tells i index) [
+    | inl equal ↦
+        let same : i ≡ index = equal.1 in
+        let free : IsUnmarked marks' index = rw same at unmarked in
+        rw same (this ∙ (here free ∙ h.changed index (more (index % 64) free)))
+    | inr apart ↦ other i apart.1 ∙ h.changed i (more (i % 64) unmarked)
+  ]
+
+  pub HaveRead-more : HaveRead atoms before values' row marks' (k + 1)
+  HaveRead-more =
+      record {
+        fit = rw values_are (length-set values index (row (atom_at atoms k).atom) ∙ h.fit);
+        read = below_more _ _
+            (λ j lower. h.read j lower ∙ sym (other (atom_at atoms j).index (omega (arith, (placed k inside).2 j lower))))
+            (sym this);
+        changed = only_marked;
+        others = λ i unlisted. other i (λ same. unlisted k inside (sym same)) ∙ h.others i unlisted;
+      }

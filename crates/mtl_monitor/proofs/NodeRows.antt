@@ -1,5 +1,5 @@
 -- What a node gives at a row, and what it keeps after it, are right if its operands gave what is right.
-use Rattle.std.proofs.Common.{◌≡◌, ℕ, ◌+◌, ◌-◌, ◌<◌, ◌≤◌, refl, ap, ap₂, sym, arith, Bool, true, false, inl, inr, List}
+use Rattle.std.proofs.Common.{◌≡◌, ℕ, ◌+◌, ◌-◌, ◌<◌, ◌≤◌, ap, ap₂, sym, arith, true, false, inl, inr, List}
 use Rattle.std.specs.Prelude.{nat_lt, if◌then◌else◌}
 use Rattle.std.proofs.lemmas.Bool.{cases_lt}
 use Rattle.std.proofs.lemmas.Bool.Decides.{nat_tests}
@@ -11,7 +11,6 @@ use Rattle.mtl_formulas.specs.VerdictOrder.{turned_round, least}
 use Rattle.mtl_formulas.specs.FormulaTree.{FormulaTree}
 use Rattle.mtl_formulas.specs.FormulaValue.{before_end, pair_value, greatest_over}
 use Rattle.mtl_monitor.specs.declared.left.Left.{Left}
-use Rattle.mtl_monitor.specs.declared.node.Run.{Run}
 use Rattle.mtl_monitor.specs.declared.lookahead.Lookahead.{Lookahead}
 use Rattle.mtl_monitor.specs.Inner.Lookahead.{lookahead_after, lookahead_value, reached_over, Reads}
 use Rattle.mtl_monitor.proofs.Lookaheads.{Reads-after, Reads-value}
@@ -24,7 +23,7 @@ use Rattle.mtl_monitor.specs.declared.node.Kept.{Kept}
 use Rattle.mtl_monitor.specs.declared.node.Kept.TheVariants as kinds
 use Rattle.mtl_monitor.specs.Traces.{Trace, value_in}
 use Rattle.mtl_monitor.specs.Inner.Countdown.{left_after, left_value, Lasts, held_at}
-use Rattle.mtl_monitor.specs.Inner.Steps.{value_at, sensed, ring_after, run_after, hits_under, hits_after, before_after, given, kept}
+use Rattle.mtl_monitor.specs.Inner.Steps.{value_at, sensed, ring_after, hits_under, hits_after, before_after, given, kept}
 use Rattle.mtl_monitor.specs.Inner.Standing.{tree_at, late_at, Holds, IsWindow, IsSince, IsUntil, Computes, OperandsBelow, Keeps, IsGiven, IsRow, EndsAt}
 use Rattle.mtl_monitor.proofs.Countdown.{Lasts-after, Lasts-value, Lasts-nowhere, Lasts-nowhere_after, counted}
 use Rattle.mtl_monitor.proofs.Windows.{least_over-turned}
@@ -141,29 +140,24 @@ module _ (trace : Trace) (trees : List FormulaTree) (nodes : List ProgramNode) (
           let test : nat_lt i full ≡ false = grind (arith, nat_tests) in
           rw test (Lasts-nowhere_after _ bars lower _ _ (turned_round v) none lasts)
 
-  ring_if : (b c : Buffer Verdict) (r q : Run) (test : Bool) → (if test then kinds.Ring b r else kinds.Ring c q) ≡ kinds.Ring (if test then b else c) (if test then r else q)
-  ring_if b c r q true = refl
-  ring_if b c r q false = refl
-
   pub Keeps-row : (k : ℕ) (o : Operator) (s : Kept) (late : ℕ) (t : FormulaTree) → Computes nodes trees o late t → OperandsBelow k o
       → ((a : ℕ) → a < k → Gave a) → Keeps trace trees o late s i → Keeps trace trees o late (kept o s late values i) (i + 1)
   Keeps-row k (op.Atom a) s late t is below gave keeps = tt
   Keeps-row k (op.Not a) s late t is below gave keeps = tt
   Keeps-row k (op.Pair kind a b) s late t is below gave keeps = tt
-  Keeps-row k (op.Late cells from a) (kinds.Ring b r) late t is below gave keeps =
-      rw (ring_if b (ring_after b (value_at values a)) r (run_after r b.capacity (value_at values a)) (nat_lt i from))
-      (Holds-row (value_in trace (tree_at trees a)) b cells from (value_at values a) (gave_late a from is.1 (gave a below)) keeps)
+  Keeps-row k (op.Late cells from a) (kinds.Ring d) late t is below gave keeps =
+      Holds-row (value_in trace (tree_at trees a)) d.ring cells from (value_at values a) (gave_late a from is.1 (gave a below)) keeps
   Keeps-row k (op.Late cells from a) kinds.Plain late t is below gave keeps = absurd keeps
   Keeps-row k (op.Late cells from a) (kinds.Window w) late t is below gave keeps = absurd keeps
   Keeps-row k (op.Late cells from a) (kinds.Since w x) late t is below gave keeps = absurd keeps
-  Keeps-row k (op.Late cells from a) (kinds.Until w x) late t is below gave keeps = absurd keeps
+  Keeps-row k (op.Late cells from a) (kinds.Until w) late t is below gave keeps = absurd keeps
   Keeps-row k (op.Window kind width from a) (kinds.Window s) late t is below gave keeps =
       Lasts-row (λ j. sensed kind (value_in trace (tree_at trees a) j)) s width from (sensed kind (value_at values a))
       (λ h. ap (sensed kind) (gave_late a from is.0 (gave a below) h)) keeps
   Keeps-row k (op.Window kind width from a) kinds.Plain late t is below gave keeps = absurd keeps
-  Keeps-row k (op.Window kind width from a) (kinds.Ring b r) late t is below gave keeps = absurd keeps
+  Keeps-row k (op.Window kind width from a) (kinds.Ring d) late t is below gave keeps = absurd keeps
   Keeps-row k (op.Window kind width from a) (kinds.Since w x) late t is below gave keeps = absurd keeps
-  Keeps-row k (op.Window kind width from a) (kinds.Until w x) late t is below gave keeps = absurd keeps
+  Keeps-row k (op.Window kind width from a) (kinds.Until w) late t is below gave keeps = absurd keeps
   Keeps-row k (op.Since width lower from a b) (kinds.Since hits bars) late t is below gave keeps =
       let first = gave_late a late is.0 (gave a below.0) in
       let second = gave_late b from is.1 (gave b below.1) in
@@ -173,18 +167,18 @@ module _ (trace : Trace) (trees : List FormulaTree) (nodes : List ProgramNode) (
         barred,
       )
   Keeps-row k (op.Since width lower from a b) kinds.Plain late t is below gave keeps = absurd keeps
-  Keeps-row k (op.Since width lower from a b) (kinds.Ring d q) late t is below gave keeps = absurd keeps
+  Keeps-row k (op.Since width lower from a b) (kinds.Ring d) late t is below gave keeps = absurd keeps
   Keeps-row k (op.Since width lower from a b) (kinds.Window w) late t is below gave keeps = absurd keeps
-  Keeps-row k (op.Since width lower from a b) (kinds.Until w x) late t is below gave keeps = absurd keeps
-  Keeps-row k (op.Until from full lower a behind b) (kinds.Until s bars) late t is below gave keeps =
+  Keeps-row k (op.Since width lower from a b) (kinds.Until w) late t is below gave keeps = absurd keeps
+  Keeps-row k (op.Until from full lower a behind b) (kinds.Until s) late t is below gave keeps =
       let first = gave_late a from is.0 (gave a below.0) in
       let second = gave_late b from is.1 (gave b below.2) in (
-        Reads-row (value_in trace (tree_at trees a)) (value_in trace (tree_at trees b)) s (full - from) from (value_at values a) (value_at values b) first second keeps.0,
-        before-row (value_in trace (tree_at trees a)) bars lower full (value_at values behind)
+        Reads-row (value_in trace (tree_at trees a)) (value_in trace (tree_at trees b)) s.window (full - from) from (value_at values a) (value_at values b) first second keeps.0,
+        before-row (value_in trace (tree_at trees a)) s.bars lower full (value_at values behind)
             (λ some h. rw (is.2.tree some) at (gave_late behind full (is.2.lateness some) (gave behind below.1) h)) keeps.1,
       )
   Keeps-row k (op.Until from full lower a behind b) kinds.Plain late t is below gave keeps = absurd keeps
-  Keeps-row k (op.Until from full lower a behind b) (kinds.Ring d q) late t is below gave keeps = absurd keeps
+  Keeps-row k (op.Until from full lower a behind b) (kinds.Ring d) late t is below gave keeps = absurd keeps
   Keeps-row k (op.Until from full lower a behind b) (kinds.Window w) late t is below gave keeps = absurd keeps
   Keeps-row k (op.Until from full lower a behind b) (kinds.Since w x) late t is below gave keeps = absurd keeps
 
@@ -233,33 +227,33 @@ module _ (trace : Trace) (trees : List FormulaTree) (nodes : List ProgramNode) (
       rw is.0 (ap turned_round (gave_late a late is.1 (gave a below) ready))
   IsGiven-row k (op.Pair kind a b) s late t is below gave keeps answers ends ready =
       rw is.0 (ap₂ (pair_value kind) (gave_late a late is.1 (gave a below.0) ready) (gave_late b late is.2 (gave b below.1) ready))
-  IsGiven-row k (op.Late cells from a) (kinds.Ring b r) late t is below gave keeps answers ends ready =
+  IsGiven-row k (op.Late cells from a) (kinds.Ring d) late t is below gave keeps answers ends ready =
       let come : nat_lt i from ≡ false = grind (arith, nat_tests) in
       let index : (i - from) - cells ≡ i - late = omega arith in
-      rw (is.0, come, gave_late a from is.1 (gave a below) (omega arith), Holds-value (value_in trace (tree_at trees a)) b cells (i - from) keeps (omega arith), index)
+      rw (is.0, come, gave_late a from is.1 (gave a below) (omega arith), Holds-value (value_in trace (tree_at trees a)) d.ring cells (i - from) keeps (omega arith), index)
   IsGiven-row k (op.Late cells from a) kinds.Plain late t is below gave keeps answers ends ready = absurd keeps
   IsGiven-row k (op.Late cells from a) (kinds.Window w) late t is below gave keeps answers ends ready = absurd keeps
   IsGiven-row k (op.Late cells from a) (kinds.Since w x) late t is below gave keeps answers ends ready = absurd keeps
-  IsGiven-row k (op.Late cells from a) (kinds.Until w x) late t is below gave keeps answers ends ready = absurd keeps
+  IsGiven-row k (op.Late cells from a) (kinds.Until w) late t is below gave keeps answers ends ready = absurd keeps
   IsGiven-row k (op.Window kind width from a) (kinds.Window s) late t is below gave keeps answers ends ready =
       window-given kind (tree_at trees a) t width from late _ is.1 ends
       (Lasts-row (λ j. sensed kind (value_in trace (tree_at trees a) j)) s width from (sensed kind (value_at values a))
       (λ h. ap (sensed kind) (gave_late a from is.0 (gave a below) h)) keeps) ready
   IsGiven-row k (op.Window kind width from a) kinds.Plain late t is below gave keeps answers ends ready = absurd keeps
-  IsGiven-row k (op.Window kind width from a) (kinds.Ring b r) late t is below gave keeps answers ends ready = absurd keeps
+  IsGiven-row k (op.Window kind width from a) (kinds.Ring d) late t is below gave keeps answers ends ready = absurd keeps
   IsGiven-row k (op.Window kind width from a) (kinds.Since w x) late t is below gave keeps answers ends ready = absurd keeps
-  IsGiven-row k (op.Window kind width from a) (kinds.Until w x) late t is below gave keeps answers ends ready = absurd keeps
+  IsGiven-row k (op.Window kind width from a) (kinds.Until w) late t is below gave keeps answers ends ready = absurd keeps
   IsGiven-row k (op.Since width lower from a b) (kinds.Since hits bars) late t is below gave keeps answers ends ready =
       let after = Keeps-row k (op.Since width lower from a b) (kinds.Since hits bars) late t is below gave keeps in
       since-given (tree_at trees a) (tree_at trees b) t width lower from late _ is.2 ends after.0 ready
   IsGiven-row k (op.Since width lower from a b) kinds.Plain late t is below gave keeps answers ends ready = absurd keeps
-  IsGiven-row k (op.Since width lower from a b) (kinds.Ring d q) late t is below gave keeps answers ends ready = absurd keeps
+  IsGiven-row k (op.Since width lower from a b) (kinds.Ring d) late t is below gave keeps answers ends ready = absurd keeps
   IsGiven-row k (op.Since width lower from a b) (kinds.Window w) late t is below gave keeps answers ends ready = absurd keeps
-  IsGiven-row k (op.Since width lower from a b) (kinds.Until w x) late t is below gave keeps answers ends ready = absurd keeps
-  IsGiven-row k (op.Until from full lower a behind b) (kinds.Until s bars) late t is below gave keeps answers ends ready =
-      let after = Keeps-row k (op.Until from full lower a behind b) (kinds.Until s bars) late t is below gave keeps in
+  IsGiven-row k (op.Since width lower from a b) (kinds.Until w) late t is below gave keeps answers ends ready = absurd keeps
+  IsGiven-row k (op.Until from full lower a behind b) (kinds.Until s) late t is below gave keeps answers ends ready =
+      let after = Keeps-row k (op.Until from full lower a behind b) (kinds.Until s) late t is below gave keeps in
       until-given (tree_at trees a) (tree_at trees b) t from full lower late _ _ is.3 ends after.0 after.1 ready
   IsGiven-row k (op.Until from full lower a behind b) kinds.Plain late t is below gave keeps answers ends ready = absurd keeps
-  IsGiven-row k (op.Until from full lower a behind b) (kinds.Ring d q) late t is below gave keeps answers ends ready = absurd keeps
+  IsGiven-row k (op.Until from full lower a behind b) (kinds.Ring d) late t is below gave keeps answers ends ready = absurd keeps
   IsGiven-row k (op.Until from full lower a behind b) (kinds.Window w) late t is below gave keeps answers ends ready = absurd keeps
   IsGiven-row k (op.Until from full lower a behind b) (kinds.Since w x) late t is below gave keeps answers ends ready = absurd keeps

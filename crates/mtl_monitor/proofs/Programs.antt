@@ -1,39 +1,15 @@
 -- Programs and the states of traces.
-use Rattle.std.proofs.Common.{◌≡◌, ℕ, ◌≤◌, sym, ◌∙◌, arith, true, false, inl, inr, List, [], ◌++◌, length}
-use Rattle.std.proofs.Math.ListN.{get_or-eq_default}
-use Rattle.std.proofs.lemmas.Bool.{cases_lt}
-use Rattle.mtl_monitor.specs.Inner.Standing.{state_at}
+use Rattle.std.proofs.Common.{◌≡◌, sym, ◌∙◌, arith, false, List, [], ◌++◌}
+use Rattle.std.proofs.lemmas.Bool.{true≢false}
 use Rattle.mtl_formulas.specs.FormulaTree.{FormulaTree}
 use Rattle.mtl_monitor.specs.declared.program.Program.{Program}
 use Rattle.mtl_monitor.specs.declared.trace_state.TraceState.{TraceState}
-use Rattle.mtl_monitor.specs.declared.node.Kept.{Kept}
-use Rattle.mtl_monitor.specs.declared.node.Kept.TheVariants as kinds
-use Rattle.mtl_monitor.specs.declared.node.Operator.{Operator}
-use Rattle.mtl_monitor.specs.declared.node.Operator.TheVariants as op
 use Rattle.mtl_monitor.specs.Traces.{Trace}
-use Rattle.mtl_monitor.specs.Inner.Quiet.{IsCounted, HaveRuns}
 use Rattle.mtl_monitor.specs.Inner.Reading.{AreListed}
-use Rattle.mtl_monitor.specs.Inner.Starting.{IsFresh, AreFresh}
+use Rattle.mtl_monitor.specs.Inner.Starting.{AreFresh}
 use Rattle.mtl_monitor.specs.Following.{IsProgramWith, IsProgramOf, Fits, HasRoom, Follows, Closes}
 use Rattle.mtl_monitor.specs.Growing.{IsProgramFor}
 use Rattle.mtl_monitor.proofs.Beginning.{Keeps-fresh}
-
-true_false : true ≡ false → ⊥
-true_false h = cc
-
-counted_fresh : (o : Operator) (s : Kept) → IsFresh o s → IsCounted s
-counted_fresh (op.Late cells from a) (kinds.Ring b r) is =
-    rw (is.0, is.1) (record { fits = omega arith; within = omega arith; equal = λ j from inside. absurd (omega arith) })
-counted_fresh (op.Atom a) (kinds.Ring b r) is = absurd is
-counted_fresh (op.Not a) (kinds.Ring b r) is = absurd is
-counted_fresh (op.Pair kind a c) (kinds.Ring b r) is = absurd is
-counted_fresh (op.Window kind width from a) (kinds.Ring b r) is = absurd is
-counted_fresh (op.Since width lower from a c) (kinds.Ring b r) is = absurd is
-counted_fresh (op.Until from full lower a behind c) (kinds.Ring b r) is = absurd is
-counted_fresh o kinds.Plain is = tt
-counted_fresh o (kinds.Window w) is = tt
-counted_fresh o (kinds.Since w x) is = tt
-counted_fresh o (kinds.Until w x) is = tt
 
 -- A new state follows no rows.
 pub Follows-new : (p : Program) (s : TraceState) (formulas : List FormulaTree) → AreFresh p.nodes.items s.states.items s.values.items s.moving.items → s.still ≡ false
@@ -46,19 +22,9 @@ Follows-new p s formulas fresh still fed passed is =
       all_passed = passed;
       keeps = λ more. record { each = λ k h. Keeps-fresh ([] ++ more) p.nodes.items is.trees _ _ _ _ (is.of.sound.program.computes k h) (fresh.each k h) };
       gives = λ some more. absurd (omega arith);
-      quiet = λ k h flag. absurd (true_false (sym (fresh.move k) ∙ flag));
-      runs = counted_all;
-      still = λ h. absurd (true_false (sym h ∙ still));
+      quiet = λ k h flag. absurd (true≢false (sym (fresh.move k) ∙ flag));
+      still = λ h. absurd (true≢false (sym h ∙ still));
     }
-  where
-    beyond_all : (k : ℕ) → length p.nodes.items ≤ k → state_at s.states.items k ≡ kinds.Plain
-    beyond_all k h = get_or-eq_default s.states.items kinds.Plain (omega (arith, fresh.states_fit))
-
-    counted_all : HaveRuns s.states.items
-    counted_all k = elim (cases_lt k (length p.nodes.items)) [
-      | inl inside ↦ counted_fresh _ _ (fresh.each k inside)
-      | inr past ↦ rw (beyond_all k past) tt
-    ]
 
 -- Programs of one formula are equal in all that counts.
 pub record AreEqual (p q : Program) : Type 0 where
@@ -86,7 +52,6 @@ module _ (p q : Program) (e : AreEqual p q) where
         keeps = rw e.nodes h.keeps;
         gives = rw e.nodes h.gives;
         quiet = rw e.nodes h.quiet;
-        runs = h.runs;
         still = rw e.nodes h.still;
       }
 
@@ -100,7 +65,6 @@ module _ (p q : Program) (e : AreEqual p q) where
         keeps = rw e.nodes h.keeps;
         gives = rw e.nodes h.gives;
         quiet = rw e.nodes h.quiet;
-        runs = h.runs;
         still = rw e.nodes h.still;
       }
 

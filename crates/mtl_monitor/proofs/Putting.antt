@@ -1,5 +1,5 @@
 -- What stays where nodes are put after others.
-use Rattle.std.proofs.Common.{◌≡◌, ℕ, ◌+◌, ◌<◌, ◌≤◌, refl, ap, ap₂, sym, ◌∙◌, arith, List, [], ◌∷◌, ◌++◌, length, below_more}
+use Rattle.std.proofs.Common.{◌≡◌, ℕ, ◌+◌, ◌<◌, refl, ap, ap₂, sym, ◌∙◌, arith, List, [], ◌∷◌, ◌++◌, length, below_more}
 use Rattle.std.proofs.lemmas.List.{length_push, get_or_push, get_or_append_left}
 use Rattle.mtl_formulas.specs.declared.atom.Atom.TheVariants.{Always}
 use Rattle.mtl_formulas.specs.FormulaTree.{FormulaTree, leaf, negation, pair}
@@ -9,6 +9,7 @@ use Rattle.mtl_monitor.specs.declared.node.ProgramNode.{ProgramNode}
 use Rattle.mtl_monitor.specs.Inner.Steps.{HasValidAtom}
 use Rattle.mtl_monitor.specs.Inner.Standing.{Sound, tree_at, node_at, late_at, no_node, Computes, OperandsBelow, AllValid, AllBelow}
 use Rattle.mtl_monitor.proofs.Gaining.{Grown, Gains, IsTreeAt, IsComputed}
+use Rattle.mtl_monitor.proofs.Operands.{operands_are}
 
 -- what an operator computes depends on its operands alone
 Computes-same : (nodes new : List ProgramNode) (trees grown : List FormulaTree) (o : Operator) (k late : ℕ) (t : FormulaTree) → OperandsBelow k o
@@ -37,15 +38,6 @@ Computes-same nodes new trees grown o k late t below same_node same_tree is = by
       },
       rw (same_tree a below.0, same_tree b below.2) is.3,
     )
-
-OperandsBelow-more : (j k : ℕ) (o : Operator) → j ≤ k → OperandsBelow j o → OperandsBelow k o
-OperandsBelow-more j k (op.Atom a) h below = tt
-OperandsBelow-more j k (op.Not a) h below = omega arith
-OperandsBelow-more j k (op.Pair kind a b) h below = (omega (arith, below.0), omega (arith, below.1))
-OperandsBelow-more j k (op.Late cells from a) h below = omega arith
-OperandsBelow-more j k (op.Window kind width from a) h below = omega arith
-OperandsBelow-more j k (op.Since width lower from a b) h below = (omega (arith, below.0), omega (arith, below.1))
-OperandsBelow-more j k (op.Until from full lower a behind b) h below = (omega (arith, below.0), omega (arith, below.1), omega (arith, below.2))
 
 module _ (old : List ProgramNode) (node : ProgramNode) where
   kept_node : (j : ℕ) → j < length old → node_at (old ++ node ∷ []) j ≡ node_at old j
@@ -88,7 +80,7 @@ module _ (old : List ProgramNode) (node : ProgramNode) where
     each_computes = below_more _ _ (λ j before.
         rw (kept_node j before, kept_late j before, kept_tree j before)
         (Computes-same old _ trees _ (node_at old j).operator (length old) (late_at old j) (tree_at trees j)
-        (OperandsBelow-more j (length old) (node_at old j).operator (omega arith) (s.program.below j before)) kept_node kept_tree (s.program.computes j before)))
+        (operands_are (λ a. a < j) (λ a. a < length old) (λ a lower. omega arith) (node_at old j).operator (s.program.below j before)) kept_node kept_tree (s.program.computes j before)))
         (rw (last_node, last_late, last_tree) (Computes-same old _ trees _ node.operator (length old) node.late t below kept_node kept_tree computes))
 
     each_below : (k : ℕ) → k < length old + 1 → OperandsBelow k (node_at (old ++ node ∷ []) k).operator

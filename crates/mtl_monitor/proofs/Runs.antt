@@ -6,9 +6,10 @@ use Rattle.std.proofs.lemmas.List.{length_push, get_or_push, get_or_append_left,
 use Rattle.circular_buffer.specs.Buffer.{Buffer, buffer}
 use Rattle.mtl_formulas.specs.declared.verdict.Verdict.{Verdict}
 use Rattle.mtl_formulas.specs.declared.verdict.Verdict.TheVariants.{No, Open, Yes}
-use Rattle.mtl_monitor.specs.declared.node.Run.{Run}
+use Rattle.mtl_monitor.specs.declared.delay_line.Run.{Run}
+use Rattle.mtl_monitor.specs.declared.delay_line.Delayed.{Delayed}
 use Rattle.mtl_monitor.specs.Inner.Steps.{ring_after, same_verdict, run_after}
-use Rattle.mtl_monitor.specs.Inner.Quiet.{IsRun}
+use Rattle.mtl_monitor.specs.Inner.Runs.{IsRun}
 
 pub same_verdict-equal : (v w : Verdict) → same_verdict v w ≡ true → v ≡ w
 same_verdict-equal No No h = refl
@@ -84,3 +85,31 @@ module _ (b : Buffer Verdict) (r : Run) (v : Verdict) (h : IsRun b r) where
     run_still =
         let count : min (r.count + 1) b.capacity ≡ r.count = omega (arith, full) in
         rw same (ap₂ (λ (w : Verdict) (n : ℕ). let q : Run = record { value = w; count = n } in q) is_value count)
+
+-- after a value at a row at which there may be none yet
+pub IsRun-from : (test : Bool) (b : Buffer Verdict) (r : Run) (v : Verdict) → IsRun b r
+    → IsRun (if test then b else ring_after b v) (if test then r else run_after r b.capacity v)
+IsRun-from true b r v h = h
+IsRun-from false b r v h = IsRun-after b r v h
+
+pub IsRun-none : (cells : ℕ) (r : Run) → r.count ≡ 0 → IsRun (buffer [] cells) r
+IsRun-none cells r none = record { fits = omega arith; within = omega (arith, none); equal = λ j from inside. absurd (omega arith) }
+
+-- Two delays that are full of the same value are equal.
+module _ (b c : Buffer Verdict) (r q : Run) (h : IsRun b r) (k : IsRun c q) (room : b.capacity ≡ c.capacity) (full : r.count ≡ b.capacity) (filled : q.count ≡ c.capacity)
+    (same : same_verdict r.value q.value ≡ true) where
+  value : r.value ≡ q.value
+  value = same_verdict-equal r.value q.value same
+
+  items : b.items ≡ c.items
+  items =
+      let long : length b.items ≡ length c.items = omega (arith, h.fits, h.within, k.fits, k.within, room, full, filled) in
+      ext_get_or r.value b.items c.items long (λ j inside.
+      h.equal j (omega (arith, h.fits, h.within, full)) inside ∙ sym (rw (← value) at (k.equal j (omega (arith, k.fits, k.within, filled)) (omega (arith, long, inside)))))
+
+  pub equal_delays : (let d : Delayed = record { ring = b; run = r } in d) ≡ record { ring = c; run = q }
+  equal_delays =
+      let count : r.count ≡ q.count = full ∙ (room ∙ sym filled) in
+      let rings : b ≡ c = ap₂ buffer items room in
+      let runs : r ≡ q = ap₂ (λ (w : Verdict) (n : ℕ). let s : Run = record { value = w; count = n } in s) value count in
+      ap₂ (λ (x : Buffer Verdict) (y : Run). let d : Delayed = record { ring = x; run = y } in d) rings runs

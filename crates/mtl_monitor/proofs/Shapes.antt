@@ -7,23 +7,19 @@ use Rattle.circular_buffer.specs.Buffer.{Buffer, buffer}
 use Rattle.mtl_formulas.specs.declared.verdict.Verdict.{Verdict}
 use Rattle.mtl_monitor.specs.declared.lookahead.Lookahead.{Lookahead}
 use Rattle.mtl_monitor.specs.declared.lookahead.Stretch.{Stretch}
-use Rattle.mtl_monitor.specs.declared.node.Run.{Run}
 use Rattle.mtl_monitor.specs.declared.node.Operator.{Operator}
 use Rattle.mtl_monitor.specs.declared.node.Operator.TheVariants as op
 use Rattle.mtl_monitor.specs.declared.node.ProgramNode.{ProgramNode}
 use Rattle.mtl_monitor.specs.declared.node.Kept.{Kept}
 use Rattle.mtl_monitor.specs.declared.node.Kept.TheVariants as kinds
 use Rattle.mtl_monitor.specs.Inner.Lookahead.{nowhere, with_all_after, lookahead_after}
-use Rattle.mtl_monitor.specs.Inner.Steps.{value_at, ring_after, run_after, kept}
+use Rattle.mtl_monitor.specs.Inner.Steps.{value_at, ring_after, kept}
 use Rattle.mtl_monitor.specs.Inner.Standing.{node_at, state_at}
 use Rattle.mtl_monitor.specs.Inner.Copying.{HasShape, HaveShapes}
-use Rattle.mtl_monitor.specs.Inner.Quiet.{IsRun, IsCounted}
-use Rattle.mtl_monitor.proofs.Runs.{IsRun-after}
 
-ring_shape : (test : Bool) (cells from a : ℕ) (b : Buffer Verdict) (r : Run) (v : Verdict) → b.capacity ≡ cells
-    → HasShape (op.Late cells from a) (if test then kinds.Ring b r else kinds.Ring (ring_after b v) (run_after r b.capacity v))
-ring_shape true cells from a b r v h = h
-ring_shape false cells from a b r v h = h
+ring_room : (test : Bool) (b : Buffer Verdict) (v : Verdict) (cells : ℕ) → b.capacity ≡ cells → (let r : Buffer Verdict = if test then b else ring_after b v in r.capacity) ≡ cells
+ring_room true b v cells h = h
+ring_room false b v cells h = h
 
 room_with : (test : Bool) (w older : ℕ) (items : List Stretch) (run : Stretch)
     → (let s : Lookahead = if test then record { cells = buffer (with_all_after items) w; older = w; run = nowhere } else record { cells = buffer items w; older = older; run = run } in s.cells.capacity) ≡ w
@@ -36,11 +32,11 @@ window_room true s a b w h = h
 window_room false s a b w h = room_with _ s.cells.capacity _ _ _ ∙ h
 
 shape_kept : (o : Operator) (s : Kept) (late : ℕ) (values : List Verdict) (i : ℕ) → HasShape o s → HasShape o (kept o s late values i)
-shape_kept (op.Late cells from a) (kinds.Ring b r) late values i h = ring_shape (nat_lt i from) cells from a b r (value_at values a) h
+shape_kept (op.Late cells from a) (kinds.Ring d) late values i h = ring_room (nat_lt i from) d.ring (value_at values a) cells h
 shape_kept (op.Window kind width from a) (kinds.Window s) late values i h = tt
 shape_kept (op.Since width lower from a b) (kinds.Since hits bars) late values i h = tt
-shape_kept (op.Until from full lower a behind b) (kinds.Until s bars) late values i h =
-    window_room (nat_lt i from) s (value_at values a) (value_at values b) (full - from) h
+shape_kept (op.Until from full lower a behind b) (kinds.Until s) late values i h =
+    window_room (nat_lt i from) s.window (value_at values a) (value_at values b) (full - from) h
 shape_kept _ _ late values i h = h
 
 pub HaveShapes-next : (nodes : List ProgramNode) (states : List Kept) (k late : ℕ) (values : List Verdict) (i : ℕ) (d s : Kept) → k < length nodes
@@ -62,16 +58,3 @@ HaveShapes-next nodes states k late values i d s inside is h =
           rw (same, get_or-set_same states k s kinds.Plain fits) here
       | inr other ↦ rw (get_or-set_other states k j s kinds.Plain other.1) (h.each j within)
     ]
-
-ring_counted : (test : Bool) (b : Buffer Verdict) (r : Run) (v : Verdict) → IsRun b r
-    → IsCounted (if test then kinds.Ring b r else kinds.Ring (ring_after b v) (run_after r b.capacity v))
-ring_counted true b r v h = h
-ring_counted false b r v h = IsRun-after b r v h
-
--- The last values stay counted.
-pub IsCounted-kept : (o : Operator) (s : Kept) (late : ℕ) (values : List Verdict) (i : ℕ) → IsCounted s → IsCounted (kept o s late values i)
-IsCounted-kept (op.Late cells from a) (kinds.Ring b r) late values i h = ring_counted (nat_lt i from) b r (value_at values a) h
-IsCounted-kept (op.Window kind width from a) (kinds.Window s) late values i h = tt
-IsCounted-kept (op.Since width lower from a b) (kinds.Since hits bars) late values i h = tt
-IsCounted-kept (op.Until from full lower a behind b) (kinds.Until s bars) late values i h = tt
-IsCounted-kept _ _ late values i h = h

@@ -13,7 +13,7 @@ use Rattle.mtl_monitor.specs.Traces.{Trace, value_in}
 use Rattle.mtl_monitor.specs.Inner.Steps.{value_at}
 use Rattle.mtl_monitor.specs.Inner.Standing.{tree_at, late_at, root_at, Sound, KeepAll, GiveAll}
 use Rattle.mtl_monitor.specs.Inner.Copying.{HaveShapes}
-use Rattle.mtl_monitor.specs.Inner.Quiet.{HaveRuns, AreQuiet, flag_at}
+use Rattle.mtl_monitor.specs.Inner.Quiet.{AreQuiet, flag_at}
 use Rattle.mtl_monitor.specs.Inner.Reading.{AreListed}
 
 -- the formula with this index
@@ -87,7 +87,6 @@ pub record Follows (p : Program) (s : TraceState) (formulas : List FormulaTree) 
   pub keeps : (more : Trace) → KeepAll (rows ++ more) trees p.nodes.items s.states.items (length rows)
   pub gives : 0 < length rows → (more : Trace) → GiveAll (rows ++ more) trees p.nodes.items s.values.items (length rows - 1)
   pub quiet : AreQuiet p.nodes.items s.states.items s.values.items s.moving.items s.passed (s.passed + 1)
-  pub runs : HaveRuns s.states.items
   pub still : s.still ≡ true → (k : ℕ) → k < length p.nodes.items → flag_at s.moving.items k ≡ false
 
 -- The state of the program of these formulas was fed these rows, and no more come.
@@ -99,7 +98,6 @@ pub record Closes (p : Program) (s : TraceState) (formulas : List FormulaTree) (
   pub keeps : KeepAll rows trees p.nodes.items s.states.items s.passed
   pub gives : 0 < s.passed → GiveAll rows trees p.nodes.items s.values.items (s.passed - 1)
   pub quiet : AreQuiet p.nodes.items s.states.items s.values.items s.moving.items s.passed s.fed
-  pub runs : HaveRuns s.states.items
   pub still : s.still ≡ true → (k : ℕ) → k < length p.nodes.items → flag_at s.moving.items k ≡ false
 
 -- A formula's answer to the last of these rows: the value at the position that lies its reach before, which no further rows change.

@@ -1,8 +1,11 @@
 pub mod Countdown
 pub mod Lookahead
+pub mod Runs
 pub mod Steps
 pub mod Standing
 pub mod Compiling
+pub mod Marks
+pub mod Triggers
 pub mod Starting
 pub mod Copying
 pub mod Quiet

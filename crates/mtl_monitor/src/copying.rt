@@ -2,11 +2,13 @@
 ghost use Rattle.std.specs.Prelude.{◌≡◌, length};
 ghost use Rattle.mtl_monitor.specs.Inner.Copying.{HasRoomOf, HaveRoomOf};
 
-use crate::lookahead::Lookahead;
 use crate::node::Kept;
 use circular_buffer::HeapCircularBuffer;
 
-fn copy_ring<T: Copy + Drop>(ring: &mut HeapCircularBuffer<T>, other: &HeapCircularBuffer<T>)
+pub(crate) fn copy_ring<T: Copy + Drop>(
+    ring: &mut HeapCircularBuffer<T>,
+    other: &HeapCircularBuffer<T>,
+)
     requires { ring.old.capacity ≡ other.now.capacity }
     ensures { ring.new ≡ other.now }
 {
@@ -17,33 +19,18 @@ fn copy_ring<T: Copy + Drop>(ring: &mut HeapCircularBuffer<T>, other: &HeapCircu
     ring.extend_from_slice(back);
 }
 
-fn copy_ahead(ahead: &mut Lookahead, other: &Lookahead)
-    requires { ahead.old.cells.capacity ≡ other.now.cells.capacity }
-    ensures { ahead.new ≡ other.now }
-{
-    copy_ring(&mut ahead.cells, &other.cells);
-    ahead.older = other.older;
-    ahead.run = other.run;
-}
-
 fn copy_kept(keeps: &mut Kept, other: &Kept)
     requires { HasRoomOf keeps.old other.now }
     ensures { keeps.new ≡ other.now }
 {
     match (keeps, other) {
-        (Kept::Ring(ring, run), Kept::Ring(other, other_run)) => {
-            copy_ring(ring, other);
-            *run = *other_run;
-        }
+        (Kept::Ring(line), Kept::Ring(other)) => line.copy_from(other),
         (Kept::Window(seen), Kept::Window(other)) => *seen = *other,
         (Kept::Since(hits, bars), Kept::Since(other_hits, other_bars)) => {
             *hits = *other_hits;
             *bars = *other_bars;
         }
-        (Kept::Until(ahead, bars), Kept::Until(other, other_bars)) => {
-            copy_ahead(ahead, other);
-            *bars = *other_bars;
-        }
+        (Kept::Until(outlook), Kept::Until(other)) => outlook.copy_from(other),
         _ => {}
     }
 }

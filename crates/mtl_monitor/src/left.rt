@@ -12,6 +12,9 @@ pub(crate) struct Left {
     pub some: u32,
 }
 
+/// Nothing is left.
+pub(crate) const NOTHING: Left = Left { yes: 0, some: 0 };
+
 impl Left {
     pub(crate) fn is_same(self, other: Left) -> bool
         ensures { result ≡ same_left self other }

@@ -9,16 +9,20 @@
 
 mod building;
 mod copying;
+mod delay_line;
 mod left;
 mod lookahead;
+mod marks;
 mod monitor;
 mod node;
+mod outlook;
 mod passing;
 mod program;
 mod reading;
 mod sameness;
 mod starting;
 mod trace_state;
+mod triggers;
 mod verdicts;
 
 pub use monitor::Monitor;

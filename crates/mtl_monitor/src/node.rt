@@ -1,7 +1,7 @@
 //! The nodes of a program, and what each keeps between rows.
+use crate::delay_line::DelayLine;
 use crate::left::Left;
-use crate::lookahead::Lookahead;
-use circular_buffer::HeapCircularBuffer;
+use crate::outlook::Outlook;
 use mtl_formulas::{Atom, PairKind, SpanKind, Verdict};
 
 /// What a node computes. Operands are named by the indices of their nodes. The value of a node at a row is its formula's
@@ -37,22 +37,21 @@ pub(crate) struct AtomNode {
     pub atom: Atom,
 }
 
-/// The value that was read last, and how often without another, counted up to the cells of its ring.
-#[derive(Clone, Copy)]
-pub(crate) struct Run {
-    pub value: Verdict,
-    pub count: usize,
-}
-
-/// What a node keeps between rows.
+/// What a node keeps between rows. What takes more room than a few counts stands in a block of its own, so that the list of
+/// these is dense.
 #[derive(Drop)]
 pub(crate) enum Kept {
     Plain,
-    /// The values on their way, and how often the last one was read.
-    Ring(HeapCircularBuffer<Verdict>, Run),
+    Ring(DelayLine),
     Window(Left),
     /// What held, and what the first operand bars.
     Since(Left, Left),
-    /// The window ahead, and what the first operand bars before it.
-    Until(Lookahead, Left),
+    Until(Outlook),
+}
+
+/// What a node gives at a row, and whether what it keeps has moved.
+#[derive(Clone, Copy)]
+pub(crate) struct Passed {
+    pub value: Verdict,
+    pub moved: bool,
 }

@@ -1,91 +1,26 @@
 //! One row through the nodes.
-ghost use Rattle.std.specs.Prelude.{◌≡◌, ◌≢◌, ◌<◌, ◌≤◌, ◌+◌, ℕ, Bool, true, false, nat_lt, if◌then◌else◌, length, min};
+ghost use Rattle.std.specs.Prelude.{◌≡◌, ◌≢◌, ◌<◌, ◌≤◌, ◌+◌, ℕ, List, true, false, nat_lt, if◌then◌else◌, length, min};
 ghost use Rattle.mtl_formulas.specs.declared.verdict.Verdict.TheVariants.{Open};
 ghost use Rattle.mtl_monitor.specs.Inner.Countdown.{left_value};
-ghost use Rattle.mtl_monitor.specs.Inner.Steps.{value_at, same_verdict, sensed, ring_value, ring_after, run_after, window_after, hits_under, bars_after, hits_after, before_after, window_read, HasValidAtom, given, kept};
-ghost use Rattle.mtl_monitor.specs.Inner.Standing.{AllValid, AllBelow, OperandsBelow};
-ghost use Rattle.mtl_monitor.specs.Inner.Quiet.{IsRun, IsCounted, CanRest, flag_at, Moves, CanStay, IsReached, Walk};
+ghost use Rattle.mtl_monitor.specs.Inner.Steps.{value_at, sensed, window_after, hits_under, bars_after, hits_after, given, kept};
+ghost use Rattle.mtl_monitor.specs.Inner.Standing.{AllBelow, OperandsBelow};
+ghost use Rattle.mtl_monitor.specs.Inner.Quiet.{Answers, IsAwake, flag_at, Moves, IsReached, Walked};
+ghost use Rattle.mtl_monitor.specs.Inner.Triggers.{AreTriggers};
+ghost use Rattle.mtl_formulas.specs.declared.atom.Atom.{Atom};
+ghost use Rattle.mtl_formulas.specs.declared.verdict.Verdict.{Verdict};
 
 use crate::left::Left;
-use crate::lookahead::Lookahead;
-use crate::node::{Kept, Operator, ProgramNode, Run};
+use crate::marks::{are_unset, noted};
+use crate::node::{Kept, Operator, Passed, ProgramNode};
+use crate::triggers::Trigger;
 use crate::verdicts::{is_same, joined, lesser, negated, sensed};
-use circular_buffer::HeapCircularBuffer;
-use mtl_formulas::{Atoms, SpanKind, Verdict};
+use mtl_formulas::{SpanKind, Verdict};
 
 fn value_at(values: &[Verdict], index: usize) -> Verdict
     requires { index < length values.now }
     ensures { result ≡ value_at values.now index }
 {
     values[index]
-}
-
-/// What a node gives at a row, and whether what it keeps has moved.
-#[derive(Clone, Copy)]
-struct Passed {
-    pub value: Verdict,
-    moved: bool,
-}
-
-/// How often a value was read, up to so many cells.
-fn counted(count: usize, same: bool, cells: usize) -> usize
-    ensures { result ≡ (if same then min (count + 1) cells else min 1 cells) }
-{
-    if same {
-        count.saturating_add(1).min(cells)
-    } else {
-        cells.min(1)
-    }
-}
-
-impl Run {
-    /// Counts a value, up to so many cells.
-    fn read(&mut self, cells: usize, value: Verdict)
-        ensures { self.new ≡ run_after self.old cells value }
-    {
-        self.count = counted(self.count, is_same(value, self.value), cells);
-        self.value = value;
-    }
-}
-
-fn push(ring: &mut HeapCircularBuffer<Verdict>, run: &mut Run, value: Verdict) -> Passed
-    ensures value { result.value ≡ ring_value ring.old value }
-    ensures ring { ring.new ≡ ring_after ring.old value }
-    ensures run { run.new ≡ run_after run.old ring.old.capacity value }
-    ensures still { result.moved ≡ false → (same_verdict value run.old.value ≡ true) × (run.old.count ≡ ring.old.capacity) }
-{
-    let cells = ring.capacity();
-    let moved = !(is_same(value, run.value) && run.count == cells);
-    run.read(cells, value);
-    match ring.push_back(value) {
-        Some(value) => Passed { value, moved },
-        None => Passed {
-            value: Verdict::Open,
-            moved,
-        },
-    }
-}
-
-fn delay(
-    ring: &mut HeapCircularBuffer<Verdict>,
-    run: &mut Run,
-    from: u32,
-    value: Verdict,
-    i: u32,
-) -> Passed
-    ensures value { result.value ≡ (if nat_lt i from then Open else ring_value ring.old value) }
-    ensures ring { ring.new ≡ (if nat_lt i from then ring.old else ring_after ring.old value) }
-    ensures run { run.new ≡ (if nat_lt i from then run.old else run_after run.old ring.old.capacity value) }
-    ensures still { result.moved ≡ false → IsRun ring.old run.old → (ring.new ≡ ring.old) × (run.new ≡ run.old) }
-{
-    if i >= from {
-        push(ring, run, value)
-    } else {
-        Passed {
-            value: Verdict::Open,
-            moved: false,
-        }
-    }
 }
 
 fn slide(left: &mut Left, kind: SpanKind, width: u32, from: u32, value: Verdict, i: u32) -> Verdict
@@ -118,24 +53,6 @@ fn hold(hits: &mut Left, bars: Left, width: u32, from: u32, b: Verdict, i: u32)
     }
 }
 
-/// The first operand of U before the window.
-fn bar_before(bars: &mut Left, lower: u32, from: u32, a: Verdict, i: u32)
-    ensures { bars.new ≡ before_after bars.old lower from a i }
-{
-    if i >= from {
-        bars.read(negated(a), lower);
-    }
-}
-
-/// The operands of U in the window.
-fn look_ahead(ahead: &mut Lookahead, from: u32, a: Verdict, b: Verdict, i: u32)
-    ensures { ahead.new ≡ window_read ahead.old from a b i }
-{
-    if i >= from {
-        ahead.read(a, b);
-    }
-}
-
 /// A value at a position, as far as the trace is known to reach.
 fn before_end(value: Verdict, position: u32, end: u32) -> Verdict
     ensures { result ≡ (if nat_lt position end then value else Open) }
@@ -143,26 +60,26 @@ fn before_end(value: Verdict, position: u32, end: u32) -> Verdict
     if position < end { value } else { Verdict::Open }
 }
 
-/// Passes row `i` through a node, whose operands have passed it. The trace is known to end at `end`, or not before.
-fn pass<A: Atoms>(
+/// Passes row `i` through a node, whose operands have passed it; what an atom answers was its own value already. The trace is
+/// known to end at `end`, or not before.
+fn pass(
     node: &ProgramNode,
     keeps: &mut Kept,
     values: &[Verdict],
-    row: &A,
+    own: Verdict,
     i: u32,
     end: u32,
 ) -> Passed
-    requires valid { HasValidAtom node.now.operator }
     requires below { OperandsBelow (length values.now) node.now.operator }
-    ensures value { result.value ≡ given node.now.operator keeps.old node.now.late values.now (A.answer row.now) i end }
+    ensures value { (row : Atom → Verdict) → Answers node.now.operator row own →
+        result.value ≡ given node.now.operator keeps.old node.now.late values.now row i end }
     ensures after { keeps.new ≡ kept node.now.operator keeps.old node.now.late values.now i }
-    ensures rests { result.moved ≡ false → CanRest node.now.operator }
-    ensures still { result.moved ≡ false → IsCounted keeps.old → keeps.new ≡ keeps.old }
+    ensures still { result.moved ≡ false → keeps.new ≡ keeps.old }
 {
     let position = i.saturating_sub(node.late);
     match (node.operator, keeps) {
-        (Operator::Atom(atom), _) => Passed {
-            value: row.value(atom),
+        (Operator::Atom(_), _) => Passed {
+            value: own,
             moved: false,
         },
         (Operator::Not(a), _) => Passed {
@@ -173,9 +90,7 @@ fn pass<A: Atoms>(
             value: joined(kind, value_at(values, a), value_at(values, b)),
             moved: false,
         },
-        (Operator::Late(_, from, a), Kept::Ring(ring, run)) => {
-            delay(ring, run, from, value_at(values, a), i)
-        }
+        (Operator::Late(_, from, a), Kept::Ring(line)) => line.pass(from, value_at(values, a), i),
         (Operator::Window(kind, width, from, a), Kept::Window(left)) => {
             let before = *left;
             let value = slide(left, kind, width, from, value_at(values, a), i);
@@ -194,11 +109,11 @@ fn pass<A: Atoms>(
                 moved: !(before.is_same(*hits) && barred.is_same(*bars)),
             }
         }
-        (Operator::Until(from, full, lower, a, behind, b), Kept::Until(ahead, bars)) => {
-            look_ahead(ahead, from, value_at(values, a), value_at(values, b), i);
-            bar_before(bars, lower, full, value_at(values, behind), i);
+        (Operator::Until(from, full, lower, a, behind, b), Kept::Until(outlook)) => {
+            outlook.read(from, value_at(values, a), value_at(values, b), i);
+            outlook.bar(lower, full, value_at(values, behind), i);
             Passed {
-                value: before_end(lesser(negated(bars.value()), ahead.value()), position, end),
+                value: before_end(outlook.value(), position, end),
                 moved: true,
             }
         }
@@ -209,31 +124,43 @@ fn pass<A: Atoms>(
     }
 }
 
+/// Whether the operands of a node give values at row `i`, and it gives one itself. What an U keeps moves at each row, so it
+/// never rests.
+fn is_awake(node: &ProgramNode, i: u32) -> bool
+    ensures { result ≡ true → IsAwake node.now.operator i × (node.now.late ≤ i) }
+{
+    match node.operator {
+        Operator::Late(_, from, _)
+        | Operator::Window(_, _, from, _)
+        | Operator::Since(_, _, from, _, _) => from.max(node.late) <= i,
+        Operator::Until(_, _, _, _, _, _) => false,
+        Operator::Atom(_) | Operator::Not(_) | Operator::Pair(_, _, _) => node.late <= i,
+    }
+}
+
 /// Passes row `i` through the node at index `k`, once it has passed all before it. Says whether its value has changed.
-fn pass_at<A: Atoms>(
+fn pass_at(
     nodes: &[ProgramNode],
     k: usize,
     states: &mut [Kept],
     values: &mut [Verdict],
     moving: &mut [bool],
-    row: &A,
     i: u32,
     end: u32,
-    warm: bool,
 ) -> bool
-    requires valid { AllValid nodes.now }
     requires below { AllBelow nodes.now }
     requires inside { k < length nodes.now }
     requires states { length states.old ≡ length nodes.now }
     requires values { length values.old ≡ length nodes.now }
     requires moving { length moving.old ≡ length nodes.now }
     ensures { Moves nodes.now states.old states.new values.old values.new moving.old moving.new
-        (A.answer row.now) i end k warm result }
+        i end k result }
 {
-    let passed = pass(&nodes[k], &mut states[k], values, row, i, end);
-    let changed = !is_same(passed.value, values[k]);
+    let own = values[k];
+    let passed = pass(&nodes[k], &mut states[k], values, own, i, end);
+    let changed = !is_same(passed.value, own);
     values[k] = passed.value;
-    moving[k] = passed.moved || !warm;
+    moving[k] = passed.moved || !is_awake(&nodes[k], i);
     changed
 }
 
@@ -244,49 +171,36 @@ fn crossing(i: u32, end: u32) -> u32
     if i >= end { i - end } else { u32::MAX }
 }
 
-/// The first node from `start` on that may not be left where it is, or the number of nodes.
-fn next_moving(nodes: &[ProgramNode], start: usize, moving: &[bool], i: u32, end: u32) -> usize
-    requires start { start ≤ length nodes.now }
-    requires moving { length moving.now ≡ length nodes.now }
-    ensures { IsReached nodes.now moving.now i end start result }
-{
-    let crossing = crossing(i, end);
-    for k in start..nodes.len() {
-        if moving[k] {
-            return k;
-        }
-        if nodes[k].late == crossing {
-            return k;
-        }
-    }
-    nodes.len()
-}
-
-/// The first node from `start` on that is to be passed, where a value before it has changed or not; or the number of nodes.
+/// The first node from `start` on that may not be left as it is, or the number of nodes. The marks are those of the nodes whose
+/// values have changed.
 fn next_passed(
     nodes: &[ProgramNode],
+    triggers: &[Trigger],
     start: usize,
     moving: &[bool],
     i: u32,
     end: u32,
-    spread: bool,
+    marks: u64,
 ) -> usize
     requires start { start ≤ length nodes.now }
+    requires triggers { AreTriggers nodes.now triggers.now }
     requires moving { length moving.now ≡ length nodes.now }
-    ensures reached { IsReached nodes.now moving.now i end start result }
-    ensures unspread { start < result → spread ≡ false }
+    ensures { IsReached nodes.now moving.now i end marks start result }
 {
-    if spread {
-        return start;
+    let crossing = crossing(i, end);
+    for k in start..nodes.len() {
+        let trigger = triggers[k];
+        if moving[k] {
+            return k;
+        }
+        if !are_unset(marks, trigger.operands) {
+            return k;
+        }
+        if trigger.late == crossing {
+            return k;
+        }
     }
-    next_moving(nodes, start, moving, i, end)
-}
-
-/// Whether any value has changed, this one among them.
-fn has_spread(so_far: bool, changed: bool) -> bool
-    ensures { result ≡ false → (so_far ≡ false) × (changed ≡ false) }
-{
-    so_far || changed
+    nodes.len()
 }
 
 /// Whether this node too is not said to move.
@@ -297,35 +211,34 @@ fn rests(still: bool, moving: &[bool], k: usize) -> bool
     still && !moving[k]
 }
 
-/// Passes row `i` through all nodes, if `spread`, and else through those that are said to move or cross the trace's end, and
-/// all that follow a changed value. Says whether none is said to move after it.
-pub(crate) fn pass_all<A: Atoms>(
+/// Passes row `i` through the nodes that are said to move, cross the trace's end, or have an operand whose value has changed,
+/// where those of atoms that have are marked. Says whether none is said to move after it.
+pub(crate) fn pass_all(
     nodes: &[ProgramNode],
+    triggers: &[Trigger],
     states: &mut [Kept],
     values: &mut [Verdict],
     moving: &mut [bool],
-    row: &A,
     i: u32,
     end: u32,
-    warm: bool,
-    spread: bool,
+    marks: u64,
 ) -> bool
-    requires valid { AllValid nodes.now }
     requires below { AllBelow nodes.now }
+    requires triggers { AreTriggers nodes.now triggers.now }
     requires states { length states.old ≡ length nodes.now }
     requires values { length values.old ≡ length nodes.now }
     requires moving { length moving.old ≡ length nodes.now }
-    ensures { (spread' : Bool) × Walk nodes.now states.old values.old moving.old (A.answer row.now) i end warm spread
-        states.new values.new moving.new spread' result (length nodes.now) }
+    ensures { (before : List Verdict) → Walked nodes.now states.old before values.old moving.old i end marks
+        states.new values.new moving.new result }
 {
-    let mut so_far = spread;
+    let mut so_far = marks;
     let mut still = true;
-    let mut k = next_passed(nodes, 0, moving, i, end, so_far);
+    let mut k = next_passed(nodes, triggers, 0, moving, i, end, so_far);
     while k < nodes.len() {
-        let changed = pass_at(nodes, k, states, values, moving, row, i, end, warm);
-        so_far = has_spread(so_far, changed);
+        let changed = pass_at(nodes, k, states, values, moving, i, end);
+        so_far = noted(so_far, k, changed);
         still = rests(still, moving, k);
-        k = next_passed(nodes, k + 1, moving, i, end, so_far);
+        k = next_passed(nodes, triggers, k + 1, moving, i, end, so_far);
     }
     still
 }

@@ -1,12 +1,13 @@
 //! Several formulas as one program.
 ghost use Rattle.std.specs.Prelude.{◌≡◌, ◌≤◌, length};
 ghost use Rattle.mtl_monitor.specs.Inner.Standing.{AllValid, AllValid-prop, AllBelow, AllBelow-prop, AllInside, AllInside-prop};
-ghost use Rattle.mtl_monitor.specs.Inner.Quiet.{IsWarm, IsWarm-prop};
 ghost use Rattle.mtl_monitor.specs.Inner.Reading.{AreReadable, AreReadable-prop};
+ghost use Rattle.mtl_monitor.specs.Inner.Triggers.{AreTriggers, AreTriggers-prop};
 
 use crate::building::{Operand, add};
 use crate::node::{AtomNode, ProgramNode};
-use crate::reading::{list_atoms, warm_row};
+use crate::reading::list_atoms;
+use crate::triggers::{Trigger, list_triggers};
 use mtl_formulas::Formula;
 use outside::Memory;
 use std::alloc::Global;
@@ -19,13 +20,13 @@ pub struct Program {
     pub(crate) roots: Vec<Operand>,
     pub(crate) reach: u32,
     pub(crate) atoms: Vec<AtomNode>,
-    pub(crate) warm: u32,
+    pub(crate) triggers: Vec<Trigger>,
     ghost valid: { AllValid nodes.items } by { AllValid-prop nodes.items },
     ghost below: { AllBelow nodes.items } by { AllBelow-prop nodes.items },
     ghost inside: { AllInside (length nodes.items) roots.items } by { AllInside-prop (length nodes.items) roots.items },
     ghost reach_small: { reach ≤ 7200 },
-    ghost readable: { AreReadable (length nodes.items) atoms.items } by { AreReadable-prop (length nodes.items) atoms.items },
-    ghost warmth: { IsWarm nodes.items warm } by { IsWarm-prop nodes.items warm },
+    ghost readable: { AreReadable nodes.items (length nodes.items) atoms.items } by { AreReadable-prop nodes.items (length nodes.items) atoms.items },
+    ghost triggered: { AreTriggers nodes.items triggers.items } by { AreTriggers-prop nodes.items triggers.items },
 }
 
 impl Program {
@@ -46,7 +47,7 @@ impl Program {
             roots: Vec::new(alloc),
             reach: 0,
             atoms: Vec::new(alloc),
-            warm: 0,
+            triggers: Vec::new(alloc),
         }
     }
 
@@ -64,18 +65,18 @@ impl Program {
             mut roots,
             reach,
             mut atoms,
-            warm: _,
+            mut triggers,
         } = self;
         let root = add(&mut nodes, formula)?;
         list_atoms(&nodes, &mut atoms)?;
-        let warm = warm_row(&nodes);
+        list_triggers(&nodes, &mut triggers)?;
         match roots.push(root) {
             Ok(()) => Ok(Program {
                 nodes,
                 roots,
                 reach: reach.max(root.late),
                 atoms,
-                warm,
+                triggers,
             }),
             Err(_) => Err(Memory),
         }

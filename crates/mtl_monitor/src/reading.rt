@@ -1,11 +1,13 @@
 //! The atoms of a program, which are read at each row.
-ghost use Rattle.std.specs.Prelude.{◌≡◌, ◌≤◌, ◌<◌, true, length, OnOk};
+ghost use Rattle.std.specs.Prelude.{◌≡◌, ◌<◌, ℕ, length, set, OnOk};
+ghost use Rattle.std.specs.Int.{bit_at};
 ghost use Rattle.mtl_formulas.specs.FormulaMeasures.{IsValidAtom};
 ghost use Rattle.mtl_monitor.specs.Inner.Steps.{value_at, HasValidAtom};
 ghost use Rattle.mtl_monitor.specs.Inner.Standing.{AllValid};
-ghost use Rattle.mtl_monitor.specs.Inner.Quiet.{CanRest, IsAwake, IsWarm};
-ghost use Rattle.mtl_monitor.specs.Inner.Reading.{Lists, AreListed, AreReadable, AreRead};
+ghost use Rattle.mtl_monitor.specs.Inner.Reading.{Lists, AreListed, AreReadable, ArePlaced, HaveRead};
+ghost use Rattle.mtl_monitor.specs.Inner.Marks.{IsUnmarked};
 
+use crate::marks::marked;
 use crate::node::{AtomNode, Operator, ProgramNode};
 use crate::verdicts::is_same;
 use mtl_formulas::{Atoms, Verdict};
@@ -29,7 +31,7 @@ fn list_atom(operator: Operator, index: usize, atoms: &mut Vec<AtomNode>) -> Res
 pub(crate) fn list_atoms(nodes: &[ProgramNode], atoms: &mut Vec<AtomNode>) -> Result<(), Memory>
     requires { AllValid nodes.now }
     ensures listed { OnOk result (AreListed nodes.now atoms.new.items) }
-    ensures readable { OnOk result (AreReadable (length nodes.now) atoms.new.items) }
+    ensures readable { OnOk result (AreReadable nodes.now (length nodes.now) atoms.new.items) }
 {
     atoms.clear();
     for index in 0..nodes.len() {
@@ -38,49 +40,31 @@ pub(crate) fn list_atoms(nodes: &[ProgramNode], atoms: &mut Vec<AtomNode>) -> Re
     Ok(())
 }
 
-/// From which row on all operands give values.
-pub(crate) fn warm_row(nodes: &[ProgramNode]) -> u32
-    ensures { IsWarm nodes.now result }
-{
-    let mut latest = 0;
-    for node in nodes {
-        latest = awake_row(node).max(latest);
-    }
-    latest
-}
-
-/// From which row on a node and its operands give values.
-fn awake_row(node: &ProgramNode) -> u32
-    ensures awake { CanRest node.now.operator → IsAwake node.now.operator result }
-    ensures ready { node.now.late ≤ result }
-{
-    match node.operator {
-        Operator::Late(_, from, _)
-        | Operator::Window(_, _, from, _)
-        | Operator::Since(_, _, from, _, _) => from.max(node.late),
-        _ => node.late,
-    }
-}
-
-/// Whether the row answers an atom with its node's value.
+/// Reads an atom at a row, and marks its node where the answer is not the last one.
 #[inline(always)]
-fn is_answered<A: Atoms>(at: AtomNode, values: &[Verdict], row: &A) -> bool
-    requires inside { at.index < length values.now }
+fn read_atom<A: Atoms>(at: AtomNode, values: &mut [Verdict], row: &A, marks: u64) -> u64
+    requires inside { at.index < length values.old }
     requires valid { IsValidAtom at.atom }
-    ensures { result ≡ true → A.answer row.now at.atom ≡ value_at values.now at.index }
+    ensures values { values.new ≡ set values.old at.index (A.answer row.now at.atom) }
+    ensures here { IsUnmarked result at.index → A.answer row.now at.atom ≡ value_at values.old at.index }
+    ensures others { (k : ℕ) → bit_at result k ≡ 0 → bit_at marks k ≡ 0 }
 {
-    is_same(row.value(at.atom), values[at.index])
+    let value = row.value(at.atom);
+    if is_same(value, values[at.index]) {
+        return marks;
+    }
+    values[at.index] = value;
+    marked(marks, at.index)
 }
 
-/// Whether the row answers each atom with its node's value.
-pub(crate) fn are_answered<A: Atoms>(atoms: &[AtomNode], values: &[Verdict], row: &A) -> bool
-    requires { AreReadable (length values.now) atoms.now }
-    ensures { result ≡ true → AreRead atoms.now values.now (A.answer row.now) }
+/// Reads each atom at a row, and marks the nodes of those that are answered otherwise than at the last one.
+pub(crate) fn read_atoms<A: Atoms>(atoms: &[AtomNode], values: &mut [Verdict], row: &A) -> u64
+    requires { ArePlaced atoms.now (length values.old) }
+    ensures { HaveRead atoms.now values.old values.new (A.answer row.now) result (length atoms.now) }
 {
+    let mut marks = 0;
     for at in atoms {
-        if !is_answered(*at, values, row) {
-            return false;
-        }
+        marks = read_atom(*at, values, row, marks);
     }
-    true
+    marks
 }

@@ -2,36 +2,27 @@
 ghost use Rattle.std.specs.Prelude.{◌≡◌, ◌++◌, ◌∷◌, [], IfOk};
 ghost use Rattle.mtl_monitor.specs.Inner.Starting.{IsFresh, AreFresh};
 
-use crate::left::Left;
-use crate::lookahead::Lookahead;
-use crate::node::{Kept, Operator, ProgramNode, Run};
-use circular_buffer::HeapCircularBuffer;
+use crate::delay_line::DelayLine;
+use crate::left::NOTHING;
+use crate::node::{Kept, Operator, ProgramNode};
+use crate::outlook::Outlook;
 use mtl_formulas::Verdict;
 use outside::Memory;
 use std::alloc::Global;
-
-const NOTHING: Left = Left { yes: 0, some: 0 };
-
-const NO_RUN: Run = Run {
-    value: Verdict::Open,
-    count: 0,
-};
 
 fn fresh(alloc: Global, operator: Operator) -> Result<Kept, Memory>
     ensures { IfOk result (IsFresh operator) }
 {
     match operator {
         Operator::Late(cells, _, _) => {
-            match HeapCircularBuffer::with_capacity(alloc, cells as usize) {
-                Ok(ring) => Ok(Kept::Ring(ring, NO_RUN)),
-                Err(_) => Err(Memory),
-            }
+            let line = DelayLine::new(alloc, cells as usize)?;
+            Ok(Kept::Ring(line))
         }
         Operator::Window(_, _, _, _) => Ok(Kept::Window(NOTHING)),
         Operator::Since(_, _, _, _, _) => Ok(Kept::Since(NOTHING, NOTHING)),
         Operator::Until(from, full, _, _, _, _) => {
-            let ahead = Lookahead::new(alloc, full.saturating_sub(from))?;
-            Ok(Kept::Until(ahead, NOTHING))
+            let outlook = Outlook::new(alloc, full.saturating_sub(from))?;
+            Ok(Kept::Until(outlook))
         }
         Operator::Atom(_) | Operator::Not(_) | Operator::Pair(_, _, _) => Ok(Kept::Plain),
     }
@@ -45,7 +36,17 @@ pub(crate) struct Begun {
     pub moving: Vec<bool>,
 }
 
-fn pushed<T: Drop>(list: &mut Vec<T>, item: T) -> Result<(), Memory>
+/// A list with room for so many, and no more.
+fn roomy<T>(alloc: Global, count: usize) -> Result<Vec<T>, Memory>
+    ensures { IfOk result (λ list. list.items ≡ []) }
+{
+    match Vec::with_capacity(alloc, count) {
+        Ok(list) => Ok(list),
+        Err(_) => Err(Memory),
+    }
+}
+
+pub(crate) fn pushed<T: Drop>(list: &mut Vec<T>, item: T) -> Result<(), Memory>
     ensures { IfOk result (λ u. list.new.items ≡ list.old.items ++ item ∷ []) }
 {
     match list.push(item) {
@@ -58,9 +59,9 @@ fn pushed<T: Drop>(list: &mut Vec<T>, item: T) -> Result<(), Memory>
 pub(crate) fn start(alloc: Global, nodes: &[ProgramNode]) -> Result<Begun, Memory>
     ensures { IfOk result (λ p. AreFresh nodes.now p.states.items p.values.items p.moving.items) }
 {
-    let mut states = Vec::new(alloc);
-    let mut values = Vec::new(alloc);
-    let mut moving = Vec::new(alloc);
+    let mut states = roomy(alloc, nodes.len())?;
+    let mut values = roomy(alloc, nodes.len())?;
+    let mut moving = roomy(alloc, nodes.len())?;
     for node in nodes {
         let state = fresh(alloc, node.operator)?;
         pushed(&mut states, state)?;

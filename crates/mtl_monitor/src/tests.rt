@@ -1,8 +1,9 @@
 //! What no clause says: worked rows, many random formulas, and that each call can succeed.
-ghost use Rattle.std.specs.Prelude.{◌≡◌, ◌≤◌, ◌<◌, ◌+◌, ◌^◌, length, IfOk, ◌==◌, if◌then◌else◌};
+ghost use Rattle.std.specs.Prelude.{◌≡◌, ◌≤◌, ◌<◌, ◌+◌, ◌^◌, length, IfOk, if◌then◌else◌};
 ghost use Rattle.mtl_formulas.specs.FormulaTree.{tree_of};
 ghost use Rattle.mtl_formulas.specs.FormulaMeasures.{IsValid};
-ghost use Rattle.mtl_monitor.specs.Inner.Compiling.{kind_index};
+ghost use Rattle.mtl_formulas.specs.declared.atom.Atom.TheVariants.{Risk};
+ghost use Rattle.mtl_monitor.specs.Inner.Compiling.{same_atom};
 ghost use Rattle.mtl_monitor.specs.Following.{count_of};
 ghost use Rattle.mtl_monitor.specs.Monitoring.{fed_rows, past_rows};
 
@@ -23,12 +24,13 @@ struct Row {
 }
 
 impl Atoms for Row {
-    ghost answer = { λ row atom. (if kind_index atom == 3 then row.risk else row.other) };
+    ghost answer = { λ row atom. (if same_atom atom Risk then row.risk else row.other) };
 
     fn value(&self, atom: Atom) -> Verdict {
-        match atom {
-            Atom::Risk => self.risk,
-            _ => self.other,
+        if atom == Atom::Risk {
+            self.risk
+        } else {
+            self.other
         }
     }
 }

@@ -5,7 +5,7 @@ use crate::copying::copy_all;
 use crate::node::Kept;
 use crate::passing::pass_all;
 use crate::program::Program;
-use crate::reading::are_answered;
+use crate::reading::read_atoms;
 use crate::starting::start;
 use mtl_formulas::{Atom, Atoms, Verdict};
 use outside::Memory;
@@ -45,7 +45,8 @@ impl TraceState {
     ghost use Rattle.mtl_monitor.specs.Traces.{Trace};
     ghost use Rattle.mtl_monitor.specs.declared.program.Program.{Program};
     ghost use Rattle.mtl_monitor.specs.Inner.Quiet.{Walked};
-    ghost use Rattle.mtl_monitor.specs.Inner.Reading.{AreRead};
+    ghost use Rattle.mtl_monitor.specs.Inner.Reading.{AreRead, ReadsAtoms};
+    ghost use Rattle.mtl_formulas.specs.declared.verdict.Verdict.{Verdict};
     ghost use Rattle.mtl_monitor.specs.Following.{GivesTheSame, last_value, IsProgramOf, Fits, HasRoom, AreOfOneProgram, Follows, Closes, IsFed, IsEnded, formula_at, count_of, fed_of, past_of};
 
     /// The state of a program over a trace of which no row was fed. It takes all its memory here.
@@ -68,36 +69,42 @@ impl TraceState {
         })
     }
 
-    /// Passes row `i` through the nodes: through all if `spread`, and else through those that may change. The trace is known
-    /// to end at `end`, or not before.
-    fn pass<A: Atoms>(&mut self, program: &Program, row: &A, i: u32, end: u32, spread: bool)
+    /// Passes row `i` through the nodes that may change, once its atoms are read and those that have changed are marked. The
+    /// trace is known to end at `end`, or not before.
+    fn pass(&mut self, program: &Program, i: u32, end: u32, marks: u64)
         requires { Fits program.now self.old }
         ensures fits { Fits program.now self.new }
         ensures fed { self.new.fed ≡ self.old.fed }
         ensures passed { self.new.passed ≡ self.old.passed }
-        ensures walked { Walked program.now.nodes.items self.old.states.items self.new.states.items
-            self.old.values.items self.new.values.items self.old.moving.items self.new.moving.items
-            (A.answer row.now) i end spread self.new.still }
+        ensures walked { (before : List Verdict) → Walked program.now.nodes.items self.old.states.items before
+            self.old.values.items self.old.moving.items i end marks
+            self.new.states.items self.new.values.items self.new.moving.items self.new.still }
     {
         self.still = pass_all(
             &program.nodes,
+            &program.triggers,
             &mut self.states,
             &mut self.values,
             &mut self.moving,
-            row,
             i,
             end,
-            i >= program.warm,
-            spread,
+            marks,
         );
     }
 
-    /// Whether a row answers all atoms as the row before.
-    fn is_answered<A: Atoms>(&self, program: &Program, row: &A) -> bool
-        requires { Fits program.now self.now }
-        ensures { result ≡ true → AreRead program.now.atoms.items self.now.values.items (A.answer row.now) }
+    /// Reads a row's atoms, and marks the nodes of those that are answered otherwise than at the last row.
+    fn read<A: Atoms>(&mut self, program: &Program, row: &A) -> u64
+        requires { Fits program.now self.old }
+        ensures fits { Fits program.now self.new }
+        ensures states { self.new.states ≡ self.old.states }
+        ensures moving { self.new.moving ≡ self.old.moving }
+        ensures still { self.new.still ≡ self.old.still }
+        ensures fed { self.new.fed ≡ self.old.fed }
+        ensures passed { self.new.passed ≡ self.old.passed }
+        ensures read { AreRead program.now.atoms.items self.new.values.items (A.answer row.now) }
+        ensures reads { ReadsAtoms program.now.nodes.items self.old.values.items self.new.values.items result }
     {
-        are_answered(&program.atoms, &self.values, row)
+        read_atoms(&program.atoms, &mut self.values, row)
     }
 
     /// Feeds the next row. False where the row was only counted: then each formula's answer has the value of its last one.
@@ -115,13 +122,13 @@ impl TraceState {
         ensures same { result ≡ false → GivesTheSame program.now self.old self.new }
     {
         let i = self.passed;
-        let same = self.is_answered(program, row);
+        let marks = self.read(program, row);
         self.passed = i + 1;
         self.fed = i + 1;
-        if same && self.still {
+        if marks == 0 && self.still {
             return false;
         }
-        self.pass(program, row, i, i + 1, !same);
+        self.pass(program, i, i + 1, marks);
         true
     }
 
@@ -140,9 +147,9 @@ impl TraceState {
             Closes program.now self.old formulas rows → Closes program.now self.new formulas rows }
     {
         let i = self.passed;
-        let same = self.is_answered(program, &Beyond);
+        let marks = self.read(program, &Beyond);
         self.passed = i + 1;
-        self.pass(program, &Beyond, i, self.fed, !same);
+        self.pass(program, i, self.fed, marks);
     }
 
     /// Passes rows beyond the trace's end until so many rows have passed, those of the trace among them.

@@ -1,9 +1,10 @@
 -- The nodes of a formula, operands before operators. Equal nodes stand once.
-use Rattle.std.specs.Prelude.{ℕ, ◌≡◌, ◌+◌, ◌-◌, Bool, true, false, ◌==◌, ◌&&◌, if◌then◌else◌, max, List, [], ◌∷◌, ◌++◌, length, Option, Some, None, position}
+use Rattle.std.specs.Prelude.{ℕ, ◌≡◌, ◌+◌, ◌-◌, Bool, false, ◌==◌, ◌&&◌, if◌then◌else◌, max, List, [], ◌∷◌, ◌++◌, length, Option, Some, None, position}
 use Rattle.mtl_formulas.specs.declared.atom.Atom.{Atom}
-use Rattle.mtl_formulas.specs.declared.atom.Atom.TheVariants as atom
+use Rattle.mtl_formulas.specs.contracts.atom.AtomPartialEq.TheImpl as by_atoms
+use Rattle.mtl_formulas.specs.contracts.formula.PairKindPartialEq.TheImpl as by_pairs
+use Rattle.mtl_formulas.specs.contracts.formula.SpanKindPartialEq.TheImpl as by_spans
 use Rattle.mtl_formulas.specs.declared.formula.PairKind.{PairKind}
-use Rattle.mtl_formulas.specs.declared.formula.PairKind.TheVariants.{And, Or, Implies}
 use Rattle.mtl_formulas.specs.declared.formula.SpanKind.{SpanKind}
 use Rattle.mtl_formulas.specs.declared.formula.SpanKind.TheVariants.{F, G, O, H}
 use Rattle.mtl_formulas.specs.declared.formula.LinkKind.{LinkKind}
@@ -14,57 +15,15 @@ use Rattle.mtl_monitor.specs.declared.node.Operator.{Operator}
 use Rattle.mtl_monitor.specs.declared.node.Operator.TheVariants as op
 use Rattle.mtl_monitor.specs.declared.node.ProgramNode.{ProgramNode}
 
--- the index of an atom among the kinds of atoms, and the number that it has, 0 where it has none
-abbrev pub kind_index : Atom → ℕ
-kind_index atom.Always = 0
-kind_index atom.Never = 1
-kind_index atom.Seen = 2
-kind_index atom.Risk = 3
-kind_index atom.Engaged = 4
-kind_index atom.Begin = 5
-kind_index atom.Overtaking = 6
-kind_index atom.Overtaken = 7
-kind_index atom.HeadOn = 8
-kind_index atom.CrossingGives = 9
-kind_index atom.CrossingStands = 10
-kind_index atom.Passing = 11
-kind_index atom.Unclassified = 12
-kind_index (atom.Age n) = 13
-kind_index atom.Opening = 14
-kind_index (atom.Clear n) = 15
-kind_index (atom.Close n) = 16
-kind_index atom.OtherOnPort = 17
-kind_index atom.Ahead = 18
-kind_index atom.Alters = 19
-kind_index atom.Apparent = 20
-kind_index atom.ToStarboard = 21
-kind_index atom.ToPort = 22
-kind_index atom.OtherApparent = 23
-kind_index atom.RankGives = 24
-kind_index atom.RankStands = 25
-kind_index atom.BothPower = 26
-
-abbrev pub argument_of : Atom → ℕ
-argument_of (atom.Age n) = n
-argument_of (atom.Clear n) = n
-argument_of (atom.Close n) = n
-argument_of _ = 0
-
+-- by their own comparisons
 abbrev pub same_atom : Atom → Atom → Bool
-same_atom a b = (kind_index a == kind_index b) && (argument_of a == argument_of b)
+same_atom a b = by_atoms.ghosts.eq a b
 
 abbrev pub same_pair : PairKind → PairKind → Bool
-same_pair And And = true
-same_pair Or Or = true
-same_pair Implies Implies = true
-same_pair _ _ = false
+same_pair kind other = by_pairs.ghosts.eq kind other
 
 abbrev pub same_span : SpanKind → SpanKind → Bool
-same_span F F = true
-same_span G G = true
-same_span O O = true
-same_span H H = true
-same_span _ _ = false
+same_span kind other = by_spans.ghosts.eq kind other
 
 abbrev pub same_operator : Operator → Operator → Bool
 same_operator (op.Atom a) (op.Atom b) = same_atom a b

@@ -10,10 +10,10 @@ use Rattle.mtl_monitor.specs.Inner.Standing.{node_at, state_at}
 -- They are of one kind, and their rings have the same room.
 abbrev pub HasRoomOf : Kept → Kept → Type 0
 HasRoomOf kinds.Plain kinds.Plain = Unit {0}
-HasRoomOf (kinds.Ring b r) (kinds.Ring c q) = b.capacity ≡ c.capacity
+HasRoomOf (kinds.Ring d) (kinds.Ring e) = d.ring.capacity ≡ e.ring.capacity
 HasRoomOf (kinds.Window s) (kinds.Window r) = Unit {0}
 HasRoomOf (kinds.Since f h) (kinds.Since g i) = Unit {0}
-HasRoomOf (kinds.Until s f) (kinds.Until r g) = s.cells.capacity ≡ r.cells.capacity
+HasRoomOf (kinds.Until s) (kinds.Until r) = s.window.cells.capacity ≡ r.window.cells.capacity
 HasRoomOf _ _ = ⊥
 
 abbrev pub HaveRoomOf : List Kept → List Kept → Type 0
@@ -21,10 +21,10 @@ HaveRoomOf states others = (k : ℕ) → k < length others → HasRoomOf (state_
 
 -- A node of this operator keeps this, with room for all that it reads.
 abbrev pub HasShape : Operator → Kept → Type 0
-HasShape (op.Late cells from a) (kinds.Ring b r) = b.capacity ≡ cells
+HasShape (op.Late cells from a) (kinds.Ring d) = d.ring.capacity ≡ cells
 HasShape (op.Window kind width from a) (kinds.Window s) = Unit {0}
 HasShape (op.Since width lower from a b) (kinds.Since hits bars) = Unit {0}
-HasShape (op.Until from full lower a behind b) (kinds.Until s bars) = s.cells.capacity ≡ full - from
+HasShape (op.Until from full lower a behind b) (kinds.Until s) = s.window.cells.capacity ≡ full - from
 HasShape (op.Atom a) kinds.Plain = Unit {0}
 HasShape (op.Not a) kinds.Plain = Unit {0}
 HasShape (op.Pair kind a b) kinds.Plain = Unit {0}

@@ -1,33 +1,18 @@
 -- Nodes that a further equal row would leave as they are, and so need not be passed.
 use Rattle.std.specs.Prelude.{◌≡◌, ◌≢◌, ℕ, ◌+◌, ◌-◌, ◌<◌, ◌≤◌, nat_lt, Bool, true, false, List, length, get_or, set}
-use Rattle.std.specs.Coded.{le_prop}
-use Rattle.circular_buffer.specs.Buffer.{Buffer}
 use Rattle.mtl_formulas.specs.declared.atom.Atom.{Atom}
 use Rattle.mtl_formulas.specs.declared.verdict.Verdict.{Verdict}
 use Rattle.mtl_monitor.specs.declared.node.Operator.{Operator}
 use Rattle.mtl_monitor.specs.declared.node.Operator.TheVariants as op
 use Rattle.mtl_monitor.specs.declared.node.ProgramNode.{ProgramNode}
-use Rattle.mtl_monitor.specs.declared.node.Run.{Run}
 use Rattle.mtl_monitor.specs.declared.node.Kept.{Kept}
-use Rattle.mtl_monitor.specs.declared.node.Kept.TheVariants as kinds
 use Rattle.mtl_monitor.specs.Inner.Steps.{value_at, given, kept}
 use Rattle.mtl_formulas.specs.FormulaTree.{FormulaTree}
 use Rattle.mtl_monitor.specs.Traces.{Trace}
-use Rattle.mtl_monitor.specs.Inner.Standing.{node_at, late_at, state_at, IsProgram, IsRow, EndsAt, KeepAll, Midway, AllBelow}
+use Rattle.mtl_monitor.specs.Inner.Standing.{node_at, late_at, state_at, IsProgram, IsRow, EndsAt, KeepAll, Midway, AllOperands, AllBelow}
 use Rattle.mtl_monitor.specs.Inner.Copying.{HaveShapes}
-
--- The last values of the ring, so many as were counted, are the run's value.
-pub record IsRun (b : Buffer Verdict) (r : Run) : Type 0 where
-  pub fits : length b.items ≤ b.capacity
-  pub within : r.count ≤ length b.items
-  pub equal : (j : ℕ) → length b.items - r.count ≤ j → j < length b.items → get_or b.items j r.value ≡ r.value
-
-abbrev pub IsCounted : Kept → Type 0
-IsCounted (kinds.Ring b r) = IsRun b r
-IsCounted _ = Unit {0}
-
-abbrev pub HaveRuns : List Kept → Type 0
-HaveRuns states = (k : ℕ) → IsCounted (state_at states k)
+use Rattle.mtl_monitor.specs.Inner.Marks.{IsUnmarked, OnlyMarked}
+use Rattle.mtl_monitor.specs.Inner.Reading.{ReadsAtoms}
 
 -- the row from which on a node's operands give values; what an U keeps moves at each row
 abbrev pub IsAwake : Operator → ℕ → Type 0
@@ -36,23 +21,6 @@ IsAwake (op.Window kind width from a) i = from ≤ i
 IsAwake (op.Since width lower from a b) i = from ≤ i
 IsAwake (op.Until from full lower a behind b) i = ⊥
 IsAwake _ i = Unit {0}
-
-IsAwake-prop : (o : Operator) (i : ℕ) → IsProp (IsAwake o i)
-IsAwake-prop (op.Late cells from a) i = hlevel le_prop
-IsAwake-prop (op.Window kind width from a) i = hlevel le_prop
-IsAwake-prop (op.Since width lower from a b) i = hlevel le_prop
-IsAwake-prop _ i = hlevel
-
-abbrev pub CanRest : Operator → Type 0
-CanRest (op.Until from full lower a behind b) = ⊥
-CanRest _ = Unit {0}
-
--- From row i on all operands give values.
-abbrev pub IsWarm : List ProgramNode → ℕ → Type 0
-IsWarm nodes i = (k : ℕ) → k < length nodes → (CanRest (node_at nodes k).operator → IsAwake (node_at nodes k).operator i) × (late_at nodes k ≤ i)
-
-pub IsWarm-prop : (nodes : List ProgramNode) (i : ℕ) → IsProp (IsWarm nodes i)
-IsWarm-prop nodes i = hlevel (le_prop, IsAwake-prop)
 
 -- The row answers a node's atom with this value.
 abbrev pub Answers : Operator → (Atom → Verdict) → Verdict → Type 0
@@ -84,7 +52,7 @@ abbrev pub AreAnswered : List ProgramNode → List Verdict → (Atom → Verdict
 AreAnswered nodes values row = (k : ℕ) → k < length nodes → Answers (node_at nodes k).operator row (value_at values k)
 
 -- what the pass of row i through node k leaves
-pub record Moves (nodes : List ProgramNode) (states states' : List Kept) (values values' : List Verdict) (moving moving' : List Bool) (row : Atom → Verdict) (i end k : ℕ) (warm changed : Bool) : Type 0 where
+pub record Moves (nodes : List ProgramNode) (states states' : List Kept) (values values' : List Verdict) (moving moving' : List Bool) (i end k : ℕ) (changed : Bool) : Type 0 where
   pub keeps : Kept
   pub value : Verdict
   pub flag : Bool
@@ -92,46 +60,48 @@ pub record Moves (nodes : List ProgramNode) (states states' : List Kept) (values
   pub values_are : values' ≡ set values k value
   pub moving_are : moving' ≡ set moving k flag
   pub kept_is : keeps ≡ kept (node_at nodes k).operator (state_at states k) (late_at nodes k) values i
-  pub value_is : value ≡ given (node_at nodes k).operator (state_at states k) (late_at nodes k) values row i end
-  pub rests : flag ≡ false → (warm ≡ true) × CanRest (node_at nodes k).operator × (IsCounted (state_at states k) → keeps ≡ state_at states k)
+  pub value_is : (row : Atom → Verdict) → Answers (node_at nodes k).operator row (value_at values k)
+      → value ≡ given (node_at nodes k).operator (state_at states k) (late_at nodes k) values row i end
+  pub rests : flag ≡ false → IsAwake (node_at nodes k).operator i × (late_at nodes k ≤ i) × (keeps ≡ state_at states k)
   pub same : changed ≡ false → value ≡ value_at values k
 
--- The node at index k may be left as it is where no value has changed before it.
-pub record CanStay (nodes : List ProgramNode) (moving : List Bool) (i end k : ℕ) : Type 0 where
+-- The node at index k may be left as it is.
+pub record CanStay (nodes : List ProgramNode) (moving : List Bool) (i end marks k : ℕ) : Type 0 where
   pub rests : flag_at moving k ≡ false
   pub uncrossed : i ≢ end + late_at nodes k
+  pub unmarked : AllOperands (IsUnmarked marks) (node_at nodes k).operator
 
 -- From one index on to another all nodes may be left.
-pub record IsReached (nodes : List ProgramNode) (moving : List Bool) (i end start k : ℕ) : Type 0 where
+pub record IsReached (nodes : List ProgramNode) (moving : List Bool) (i end marks start k : ℕ) : Type 0 where
   pub after : start ≤ k
   pub inside : k ≤ length nodes
-  pub stay : (j : ℕ) → j < k → start ≤ j → CanStay nodes moving i end j
+  pub stay : (j : ℕ) → j < k → start ≤ j → CanStay nodes moving i end marks j
 
-module _ (nodes : List ProgramNode) (states : List Kept) (values : List Verdict) (moving : List Bool) (row : Atom → Verdict) (i end : ℕ) (warm spread : Bool) where
-  -- What was quiet may be left: no atom has changed.
-  abbrev pub MayRest : Type 0
-  MayRest = spread ≡ false → AreQuiet nodes states values moving i end × AreAnswered nodes values row
+module _ (nodes : List ProgramNode) (states : List Kept) (before values : List Verdict) (moving : List Bool) (i end marks : ℕ) where
+  -- What was quiet may be left, where no operand has changed since.
+  pub record MayRest : Type 0 where
+    pub quiet : AreQuiet nodes states before moving i end
+    pub reads : ReadsAtoms nodes before values marks
 
   -- Row i has passed the nodes before index k, or left them where they are quiet.
-  pub record Walk (states' : List Kept) (values' : List Verdict) (moving' : List Bool) (spread' still : Bool) (k : ℕ) : Type 0 where
+  pub record Walk (states' : List Kept) (values' : List Verdict) (moving' : List Bool) (marks' : ℕ) (still : Bool) (k : ℕ) : Type 0 where
     pub states_fit : length states' ≡ length nodes
     pub values_fit : length values' ≡ length nodes
     pub moving_fit : length moving' ≡ length nodes
     pub states_ahead : (j : ℕ) → k ≤ j → state_at states' j ≡ state_at states j
+    pub values_ahead : (j : ℕ) → k ≤ j → value_at values' j ≡ value_at values j
     pub moving_ahead : (j : ℕ) → k ≤ j → flag_at moving' j ≡ flag_at moving j
-    pub unspread : spread' ≡ false → (spread ≡ false) × (values' ≡ values)
-    pub midway : (trace : Trace) (trees : List FormulaTree) → IsProgram nodes trees → IsRow trace row i → EndsAt trace i end → MayRest
-        → KeepAll trace trees nodes states i → Midway trace trees nodes states' values' i k
-    pub quiet : (warm ≡ true → IsWarm nodes i) → (next : ℕ) → GoesOn i end next → HaveRuns states → MayRest → AllBelow nodes
+    pub changed : OnlyMarked before values marks → OnlyMarked before values' marks'
+    pub answered : (row : Atom → Verdict) → AreAnswered nodes values row → AreAnswered nodes values' row
+    pub midway : (trace : Trace) (trees : List FormulaTree) (row : Atom → Verdict) → IsProgram nodes trees → IsRow trace row i → EndsAt trace i end
+        → MayRest → AreAnswered nodes values row → KeepAll trace trees nodes states i → Midway trace trees nodes states' values' i k
+    pub quiet : (next : ℕ) → GoesOn i end next → MayRest → AllBelow nodes
         → (j : ℕ) → j < k → flag_at moving' j ≡ false
         → IsQuiet (node_at nodes j).operator (state_at states' j) (late_at nodes j) values' (value_at values' j) (i + 1) next
-    pub runs : HaveRuns states → HaveRuns states'
     pub shapes : HaveShapes nodes states → HaveShapes nodes states'
     pub all_still : still ≡ true → (j : ℕ) → j < k → flag_at moving' j ≡ false
 
--- A whole walk, in which nodes may rest from the row on from which all operands give values.
-pub record Walked (nodes : List ProgramNode) (states states' : List Kept) (values values' : List Verdict) (moving moving' : List Bool) (row : Atom → Verdict) (i end : ℕ) (spread still : Bool) : Type 0 where
-  pub warm : Bool
-  pub spread' : Bool
-  pub warmth : warm ≡ true → IsWarm nodes i
-  pub walk : Walk nodes states values moving row i end warm spread states' values' moving' spread' still (length nodes)
+  -- A whole walk.
+  pub record Walked (states' : List Kept) (values' : List Verdict) (moving' : List Bool) (still : Bool) : Type 0 where
+    pub marks' : ℕ
+    pub walk : Walk states' values' moving' marks' still (length nodes)

@@ -95,19 +95,23 @@ Computes nodes trees (op.Until from full lower a behind b) late t =
     (late_at nodes a ≡ from) × (late_at nodes b ≡ from) × IsBehind nodes trees a behind lower full
     × IsUntil (tree_at trees a) (tree_at trees b) t from full lower late
 
+-- Each operand of an operator is so.
+abbrev pub AllOperands : (ℕ → Type 0) → Operator → Type 0
+AllOperands Is (op.Atom a) = Unit {0}
+AllOperands Is (op.Not a) = Is a
+AllOperands Is (op.Pair kind a b) = Is a × Is b
+AllOperands Is (op.Late cells from a) = Is a
+AllOperands Is (op.Window kind width from a) = Is a
+AllOperands Is (op.Since width lower from a b) = Is a × Is b
+AllOperands Is (op.Until from full lower a behind b) = Is a × Is behind × Is b
+
 -- The operands of an operator stand before an index.
 abbrev pub OperandsBelow : ℕ → Operator → Type 0
-OperandsBelow k (op.Atom a) = Unit {0}
-OperandsBelow k (op.Not a) = a < k
-OperandsBelow k (op.Pair kind a b) = (a < k) × (b < k)
-OperandsBelow k (op.Late cells from a) = a < k
-OperandsBelow k (op.Window kind width from a) = a < k
-OperandsBelow k (op.Since width lower from a b) = (a < k) × (b < k)
-OperandsBelow k (op.Until from full lower a behind b) = (a < k) × (behind < k) × (b < k)
+OperandsBelow k o = AllOperands (λ a. a < k) o
 
 -- what an operator keeps once n rows of the trace have passed
 abbrev pub Keeps : Trace → List FormulaTree → Operator → ℕ → Kept → ℕ → Type 0
-Keeps trace trees (op.Late cells from a) late (kinds.Ring b r) n = Holds (value_in trace (tree_at trees a)) b cells (n - from)
+Keeps trace trees (op.Late cells from a) late (kinds.Ring d) n = Holds (value_in trace (tree_at trees a)) d.ring cells (n - from)
 Keeps trace trees (op.Late cells from a) late _ n = ⊥
 Keeps trace trees (op.Window kind width from a) late (kinds.Window s) n =
     Lasts (λ k. sensed kind (value_in trace (tree_at trees a) k)) s width (n - from)
@@ -116,9 +120,9 @@ Keeps trace trees (op.Since width lower from a b) late (kinds.Since hits bars) n
     Lasts (held_at (value_in trace (tree_at trees a)) (value_in trace (tree_at trees b)) (n - late)) hits width (n - from)
     × Lasts (λ k. turned_round (value_in trace (tree_at trees a) k)) bars lower (n - late)
 Keeps trace trees (op.Since width lower from a b) late _ n = ⊥
-Keeps trace trees (op.Until from full lower a behind b) late (kinds.Until s bars) n =
-    Reads (value_in trace (tree_at trees a)) (value_in trace (tree_at trees b)) s (full - from) (n - from)
-    × Lasts (λ k. turned_round (value_in trace (tree_at trees a) k)) bars lower (n - full)
+Keeps trace trees (op.Until from full lower a behind b) late (kinds.Until s) n =
+    Reads (value_in trace (tree_at trees a)) (value_in trace (tree_at trees b)) s.window (full - from) (n - from)
+    × Lasts (λ k. turned_round (value_in trace (tree_at trees a) k)) s.bars lower (n - full)
 Keeps trace trees (op.Until from full lower a behind b) late _ n = ⊥
 Keeps trace trees _ late _ n = Unit {0}
 

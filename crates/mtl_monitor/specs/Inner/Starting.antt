@@ -3,7 +3,9 @@ use Rattle.std.specs.Prelude.{◌≡◌, ℕ, ◌<◌, ◌-◌, Bool, true, List
 use Rattle.circular_buffer.specs.Buffer.{buffer}
 use Rattle.mtl_formulas.specs.declared.verdict.Verdict.{Verdict}
 use Rattle.mtl_formulas.specs.declared.verdict.Verdict.TheVariants.{Open}
-use Rattle.mtl_monitor.specs.declared.node.Run.{Run}
+use Rattle.mtl_monitor.specs.declared.delay_line.Run.{Run}
+use Rattle.mtl_monitor.specs.declared.delay_line.Delayed.{Delayed}
+use Rattle.mtl_monitor.specs.declared.outlook.Ahead.{Ahead}
 use Rattle.mtl_monitor.specs.declared.left.Left.{Left}
 use Rattle.mtl_monitor.specs.Inner.Lookahead.{untouched}
 use Rattle.mtl_monitor.specs.declared.node.Operator.{Operator}
@@ -20,11 +22,18 @@ nothing = record { yes = 0; some = 0 }
 abbrev pub no_run : Run
 no_run = record { value = Open; count = 0 }
 
+-- a delay by so many values, and what an U keeps with a window of so many positions
+abbrev pub undelayed : ℕ → Delayed
+undelayed cells = record { ring = buffer [] cells; run = no_run }
+
+abbrev pub unseen : ℕ → Ahead
+unseen width = record { window = untouched width; bars = nothing }
+
 abbrev pub IsFresh : Operator → Kept → Type 0
-IsFresh (op.Late cells from a) (kinds.Ring b r) = (b ≡ buffer [] cells) × (r ≡ no_run)
+IsFresh (op.Late cells from a) (kinds.Ring d) = d ≡ undelayed cells
 IsFresh (op.Window kind width from a) (kinds.Window s) = s ≡ nothing
 IsFresh (op.Since width lower from a b) (kinds.Since hits bars) = (hits ≡ nothing) × (bars ≡ nothing)
-IsFresh (op.Until from full lower a behind b) (kinds.Until s bars) = (s ≡ untouched (full - from)) × (bars ≡ nothing)
+IsFresh (op.Until from full lower a behind b) (kinds.Until s) = s ≡ unseen (full - from)
 IsFresh (op.Atom a) kinds.Plain = Unit {0}
 IsFresh (op.Not a) kinds.Plain = Unit {0}
 IsFresh (op.Pair kind a b) kinds.Plain = Unit {0}

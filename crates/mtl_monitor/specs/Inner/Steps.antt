@@ -10,7 +10,8 @@ use Rattle.mtl_formulas.specs.VerdictOrder.{turned_round, least}
 use Rattle.mtl_formulas.specs.FormulaValue.{pair_value}
 use Rattle.mtl_formulas.specs.FormulaMeasures.{IsValidAtom}
 use Rattle.mtl_monitor.specs.declared.left.Left.{Left}
-use Rattle.mtl_monitor.specs.declared.node.Run.{Run}
+use Rattle.mtl_monitor.specs.declared.delay_line.Run.{Run}
+use Rattle.mtl_monitor.specs.declared.delay_line.Delayed.{Delayed}
 use Rattle.mtl_monitor.specs.declared.node.Operator.{Operator}
 use Rattle.mtl_monitor.specs.declared.node.Operator.TheVariants as op
 use Rattle.mtl_monitor.specs.declared.node.Kept.{Kept}
@@ -46,6 +47,14 @@ same_verdict _ _ = false
 abbrev pub run_after : Run → ℕ → Verdict → Run
 run_after r cells v = record { value = v; count = if same_verdict v r.value then min (r.count + 1) cells else min 1 cells }
 
+-- what a delay keeps after a value at row i, if its operand gives values then
+abbrev pub delayed_from : Delayed → ℕ → Verdict → ℕ → Delayed
+delayed_from d from v i =
+    record {
+      ring = if nat_lt i from then d.ring else ring_after d.ring v;
+      run = if nat_lt i from then d.run else run_after d.run d.ring.capacity v;
+    }
+
 abbrev pub window_after : Left → SpanKind → ℕ → ℕ → Verdict → ℕ → Left
 window_after s kind width from v i = if nat_lt i from then s else left_after s width (sensed kind v)
 
@@ -77,27 +86,27 @@ abbrev pub given : Operator → Kept → ℕ → List Verdict → (Atom → Verd
 given (op.Atom a) _ late values row i end = row a
 given (op.Not a) _ late values row i end = turned_round (value_at values a)
 given (op.Pair kind a b) _ late values row i end = pair_value kind (value_at values a) (value_at values b)
-given (op.Late cells from a) (kinds.Ring b r) late values row i end = if nat_lt i from then Open else ring_value b (value_at values a)
+given (op.Late cells from a) (kinds.Ring d) late values row i end = if nat_lt i from then Open else ring_value d.ring (value_at values a)
 given (op.Window kind width from a) (kinds.Window s) late values row i end =
     if nat_lt (i - late) end then sensed kind (left_value (window_after s kind width from (value_at values a) i)) else Open
 given (op.Since width lower from a b) (kinds.Since hits bars) late values row i end =
     if nat_lt (i - late) end
     then left_value (hits_after (hits_under hits late (value_at values a) i) (bars_after bars late lower (value_at values a) i) width from (value_at values b) i)
     else Open
-given (op.Until from full lower a behind b) (kinds.Until s bars) late values row i end =
+given (op.Until from full lower a behind b) (kinds.Until s) late values row i end =
     if nat_lt (i - late) end
-    then least (turned_round (left_value (before_after bars lower full (value_at values behind) i)))
-    (lookahead_value (window_read s from (value_at values a) (value_at values b) i))
+    then least (turned_round (left_value (before_after s.bars lower full (value_at values behind) i)))
+    (lookahead_value (window_read s.window from (value_at values a) (value_at values b) i))
     else Open
 given _ _ late values row i end = Open
 
 -- what an operator keeps after row i
 abbrev pub kept : Operator → Kept → ℕ → List Verdict → ℕ → Kept
-kept (op.Late cells from a) (kinds.Ring b r) late values i = if nat_lt i from then kinds.Ring b r else kinds.Ring (ring_after b (value_at values a)) (run_after r b.capacity (value_at values a))
+kept (op.Late cells from a) (kinds.Ring d) late values i = kinds.Ring (delayed_from d from (value_at values a) i)
 kept (op.Window kind width from a) (kinds.Window s) late values i = kinds.Window (window_after s kind width from (value_at values a) i)
 kept (op.Since width lower from a b) (kinds.Since hits bars) late values i =
     kinds.Since (hits_after (hits_under hits late (value_at values a) i) (bars_after bars late lower (value_at values a) i) width from (value_at values b) i)
     (bars_after bars late lower (value_at values a) i)
-kept (op.Until from full lower a behind b) (kinds.Until s bars) late values i =
-    kinds.Until (window_read s from (value_at values a) (value_at values b) i) (before_after bars lower full (value_at values behind) i)
+kept (op.Until from full lower a behind b) (kinds.Until s) late values i =
+    kinds.Until (record { window = window_read s.window from (value_at values a) (value_at values b) i; bars = before_after s.bars lower full (value_at values behind) i })
 kept _ s late values i = s

@@ -3,32 +3,34 @@ use Rattle.mtl_monitor.proofs.Walks.{Walk-begins, Walk-moves, Walk-reached}
 use Rattle.mtl_monitor.proofs.passing.pass_all.Goals as goal
 
 pub loop-k-init : goal.loop-k-init
-loop-k-init g c =
-    let e = c.next_passed-k.ensures in
+loop-k-init c =
+    let a = c.args in
+    let reached = c.next_passed-k.ensures in
     record {
-      inside = e.reached.inside;
-      walk =
-          Walk-reached c.args.nodes.now c.args.states.now c.args.values.now c.args.moving.now (g.A.Atoms.answer c.args.row.now) c.args.i c.args.end c.args.warm c.args.spread
-          c.args.states.now c.args.values.now c.args.moving.now c.args.spread true 0 c.next_passed-k.result e.reached e.unspread
-          (Walk-begins c.args.nodes.now c.args.states.now c.args.values.now c.args.moving.now (g.A.Atoms.answer c.args.row.now) c.args.i c.args.end c.args.warm c.args.spread
-          c.requires.states c.requires.values c.requires.moving);
+      inside = reached.inside;
+      walk = λ before.
+          Walk-reached a.nodes.now a.states.now before a.values.now a.moving.now a.i a.end a.marks a.states.now a.values.now a.moving.now a.marks true 0 c.next_passed-k.result reached
+          (Walk-begins a.nodes.now a.states.now before a.values.now a.moving.now a.i a.end a.marks c.requires.states c.requires.values c.requires.moving);
     }
 
 pub loop-k-preserved : goal.loop-k-preserved
-loop-k-preserved g c =
+loop-k-preserved c =
+    let a = c.args in
+    let l = c.loop-k in
     let n = c.pass_at-changed.new in
-    let e = c.next_passed-k-in-loop-k.ensures in
+    let noted = c.noted-so_far in
+    let reached = c.next_passed-k-in-loop-k.ensures in
     record {
-      inside = e.reached.inside;
-      walk =
-          Walk-reached c.args.nodes.now c.args.states.now c.args.values.now c.args.moving.now (g.A.Atoms.answer c.args.row.now) c.args.i c.args.end c.args.warm c.args.spread
-          n.states n.values n.moving c.has_spread-so_far.result c.rests-still.result (c.loop-k.k + 1) c.next_passed-k-in-loop-k.result e.reached e.unspread
-          (Walk-moves c.args.nodes.now c.args.states.now c.args.values.now c.args.moving.now (g.A.Atoms.answer c.args.row.now) c.args.i c.args.end c.args.warm c.args.spread
-          c.loop-k.states c.loop-k.values c.loop-k.moving c.loop-k.so_far c.loop-k.still c.loop-k.k c.loop-k-test.true c.loop-k.invariant.walk
-          n.states n.values n.moving c.pass_at-changed.result c.pass_at-changed.ensures c.has_spread-so_far.result c.has_spread-so_far.ensures c.rests-still.result c.rests-still.ensures);
+      inside = reached.inside;
+      walk = λ before.
+          Walk-reached a.nodes.now a.states.now before a.values.now a.moving.now a.i a.end a.marks n.states n.values n.moving noted.result c.rests-still.result (l.k + 1)
+          c.next_passed-k-in-loop-k.result reached
+          (Walk-moves a.nodes.now a.states.now before a.values.now a.moving.now a.i a.end a.marks l.states l.values l.moving l.so_far l.still l.k c.loop-k-test.true
+          (l.invariant.walk before) n.states n.values n.moving c.pass_at-changed.result c.pass_at-changed.ensures noted.result noted.ensures.here noted.ensures.others
+          c.rests-still.result c.rests-still.ensures);
     }
 
 pub returns : goal.returns
-returns g c =
+returns c = λ before.
     let all : c.loop-k.k ≡ length c.args.nodes.now = omega (arith, c.loop-k-test.false, c.loop-k.invariant.inside) in
-    (c.loop-k.so_far, rw all at c.loop-k.invariant.walk)
+    record { marks' = c.loop-k.so_far; walk = rw all at (c.loop-k.invariant.walk before) }

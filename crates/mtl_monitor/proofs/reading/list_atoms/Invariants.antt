@@ -7,5 +7,5 @@ abbrev pub invariant-loop-index : goal.invariant-loop-index
 invariant-loop-index l =
     record {
       listed : (k : ℕ) → k < l.index → IsListed l.atoms.items (node_at l.nodes k).operator k;
-      readable : AreReadable l.index l.atoms.items;
+      readable : AreReadable l.nodes l.index l.atoms.items;
     }

@@ -17,7 +17,7 @@ invariant_of-result c =
       inside = rw (made.0, roots) (inside_after old.nodes.items old.roots.items t c.requires old.inside);
       reach_small = omega (arith, c.max.ensures, old.reach_small, c.in_ok-root.ensures.late, c.requires.reach);
       readable = rw c.deref.ensures.value at c.in_ok-list_atoms.ensures.readable;
-      warmth = rw c.deref-2.ensures.value at c.warm_row-warm.ensures;
+      triggered = rw c.deref-2.ensures.value at c.in_ok-list_triggers.ensures;
     }
 
 pub returns-in-Ok-clause-formulas : goal.returns-in-Ok-clause-formulas

@@ -1,6 +1,6 @@
 use Rattle.std.proofs.Common.{◌∙◌}
 use Rattle.mtl_monitor.proofs.Runs.{ring_still, run_still}
-use Rattle.mtl_monitor.proofs.passing.delay.Goals as goal
+use Rattle.mtl_monitor.proofs.delay_line.delay.Goals as goal
 
 pub returns-then-i-from-clause-still : goal.returns-then-i-from-clause-still
 returns-then-i-from-clause-still c = λ rests run.
