@@ -59,8 +59,17 @@ pub fn past_clear(detect: &Detect, step: &Step) -> bool
     requires { IsDetect detect.now }
     ensures { IsTrue result ↔ IsPastClear detect.now step.now }
 {
-    if opening(step) && is_beyond(step, detect.clear) {
-        !risk(detect, step)
+    is_past_clear(detect, step, risk(detect, step))
+}
+
+/// The same where it is known whether there is risk.
+pub(crate) fn is_past_clear(detect: &Detect, step: &Step, risk: bool) -> bool
+    requires detect { IsDetect detect.now }
+    requires risk { IsTrue risk ↔ HasRisk detect.now step.now }
+    ensures { IsTrue result ↔ IsPastClear detect.now step.now }
+{
+    if !risk && opening(step) {
+        is_beyond(step, detect.clear)
     } else {
         false
     }
