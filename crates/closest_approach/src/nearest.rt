@@ -18,7 +18,7 @@ pub struct Moment {
 
 /// The square of a distance: `over / under`.
 #[derive(Clone, Copy)]
-pub(crate) struct Square {
+pub(crate) struct SquaredDistance {
     pub(crate) over: u128,
     pub(crate) under: u128,
 }
@@ -98,7 +98,7 @@ pub(crate) fn nearest(step: &Step, ticks: u32) -> Moment
 /// The square of the least distance up to `ticks` ticks after the beginning. Within a tick it is the square of the turn by
 /// that of the change, since `|w|^2 |b p + a w|^2 = (b p.w + a |w|^2)^2 + b^2 turn(p, w)^2`, where the first square
 /// vanishes at the instant of least distance.
-pub(crate) fn least_square(step: &Step, ticks: u32) -> Square
+pub(crate) fn least_square(step: &Step, ticks: u32) -> SquaredDistance
     requires { ticks ≤ 7200 }
     ensures some { 0 < result.under }
     ensures small { result.under ≤ 2 ^ 53 }
@@ -108,13 +108,13 @@ pub(crate) fn least_square(step: &Step, ticks: u32) -> Square
 {
     let Moment { a, b } = nearest(step, ticks);
     if b == 1 {
-        return Square {
+        return SquaredDistance {
             over: square_at_tick(step, a),
             under: 1,
         };
     }
     let aside = aside(step);
-    Square {
+    SquaredDistance {
         over: aside * aside,
         under: u128::from(b),
     }

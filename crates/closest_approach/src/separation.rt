@@ -2,16 +2,16 @@
 ghost use Rattle.std.specs.Prelude.{ℕ, ◌≡◌, ◌*◌, ◌<◌, ◌≤◌, ◌^◌, ◌↔◌, IsTrue, IsNone, IfSome};
 ghost use Rattle.closest_approach.specs.Separation.{nearest_of, EntersWithin, IsNearer, IsNearest, IsSeparated, IsSeparatedByEnds};
 
-use crate::nearest::{Moment, Square, least_square, nearest};
-use fixed_geometry::isqrt;
+use crate::nearest::{Moment, SquaredDistance, least_square, nearest};
+use fixed_geometry::{isqrt, square};
 use motion::Step;
 
-fn is_at_least(square: Square, r: u64) -> bool
+fn is_at_least(distance: SquaredDistance, r: u64) -> bool
     requires r_small { r < 2 ^ 31 }
-    requires under_small { square.under ≤ 2 ^ 53 }
-    ensures { IsTrue result ↔ (r * r * square.under ≤ square.over) }
+    requires under_small { distance.under ≤ 2 ^ 53 }
+    ensures { IsTrue result ↔ (r * r * distance.under ≤ distance.over) }
 {
-    u128::from(r) * u128::from(r) * square.under <= square.over
+    square(r) * distance.under <= distance.over
 }
 
 /// Whether the distance is at least `r` tenths of a millimetre, below 2^31, at every rational instant of the step. The two ends

@@ -1,4 +1,5 @@
 pub mod Plane
+pub mod Displacement
 pub mod Sizes
 pub mod Rounding
 pub mod Circle

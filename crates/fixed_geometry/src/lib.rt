@@ -19,7 +19,7 @@ mod velocities;
 
 pub use bearings::{bearing, relative, swing, to_port};
 pub use compass::unit;
-pub use point::{Point, dot, isqrt, norm2, turn};
+pub use point::{Point, displacement, dot, isqrt, norm2, square, turn, within};
 pub use projection::{Reference, project};
 pub use rounding::round_quotient;
 pub use velocities::velocity;

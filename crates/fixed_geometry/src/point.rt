@@ -1,5 +1,6 @@
-//! Points of the plane and the products by which distances and sides are compared.
-ghost use Rattle.std.specs.Prelude.{ℕ, pos, ◌≡◌, ◌^◌, ◌+◌, ◌*◌, ◌<◌, ◌≤◌, ◌+ℤ◌, ◌-ℤ◌, ◌*ℤ◌, unsigned_abs};
+//! Points of the plane, how far they lie from one another, and the products by which distances and sides are compared.
+ghost use Rattle.std.specs.Prelude.{ℕ, pos, ◌≡◌, ◌^◌, ◌+◌, ◌*◌, ◌<◌, ◌≤◌, ◌+ℤ◌, ◌-ℤ◌, ◌*ℤ◌, ◌≤ℤ◌, ◌↔◌, IsTrue, unsigned_abs};
+ghost use Rattle.fixed_geometry.specs.Displacement.{displacement};
 ghost use Rattle.fixed_geometry.specs.Plane.{dot_of, turn_of, norm2_of};
 ghost use Rattle.fixed_geometry.specs.Sizes.{IsWithin};
 
@@ -40,13 +41,34 @@ fn minus(a: i128, b: i128) -> i128
     a - b
 }
 
-fn square(a: i64) -> u128
+/// The displacement from one point to another: the second less the first. Components are at most 2^61 in size.
+pub fn displacement(a: Point, b: Point) -> Point
+    requires a_small { IsWithin (2 ^ 61) a }
+    requires b_small { IsWithin (2 ^ 61) b }
+    ensures value { result ≡ displacement a b }
+    ensures small { IsWithin (2 ^ 62) result }
+    ensures small_x { unsigned_abs result.x ≤ unsigned_abs a.x + unsigned_abs b.x }
+    ensures small_y { unsigned_abs result.y ≤ unsigned_abs a.y + unsigned_abs b.y }
+{
+    Point {
+        x: b.x - a.x,
+        y: b.y - a.y,
+    }
+}
+
+/// The square of a distance.
+pub fn square(distance: u64) -> u128
+    ensures { result ≡ distance * distance }
+{
+    u128::from(distance) * u128::from(distance)
+}
+
+fn component_square(a: i64) -> u128
     requires { unsigned_abs a ≤ 2 ^ 62 }
     ensures value { pos result ≡ a *ℤ a }
     ensures size { result ≡ unsigned_abs a * unsigned_abs a }
 {
-    let size = u128::from(a.unsigned_abs());
-    size * size
+    square(a.unsigned_abs())
 }
 
 /// The dot product of two vectors, components at most 2^62 in size: positive where the angle between them is less than a
@@ -79,7 +101,16 @@ pub fn norm2(a: Point) -> u128
     ensures value { pos result ≡ norm2_of a }
     ensures squares { result ≡ unsigned_abs a.x * unsigned_abs a.x + unsigned_abs a.y * unsigned_abs a.y }
 {
-    square(a.x) + square(a.y)
+    component_square(a.x) + component_square(a.y)
+}
+
+/// Whether two points are at most so far apart. Their components are at most 2^61 in size.
+pub fn within(a: Point, b: Point, range: u64) -> bool
+    requires a_small { IsWithin (2 ^ 61) a }
+    requires b_small { IsWithin (2 ^ 61) b }
+    ensures { IsTrue result ↔ (norm2_of (displacement a b) ≤ℤ pos (range * range)) }
+{
+    norm2(displacement(a, b)) <= square(range)
 }
 
 /// The greatest whole number whose square is at most `n`: a length, from its square, rounded down.

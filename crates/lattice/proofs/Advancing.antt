@@ -4,7 +4,7 @@ use Rattle.std.proofs.Math.Nat.{mul-le-mul_right}
 use Rattle.fixed_geometry.specs.Sizes.{IsWithin}
 use Rattle.fixed_geometry.specs.Velocity.{velocity_of}
 use Rattle.fixed_geometry.specs.declared.point.Point.{Point}
-use Rattle.motion.specs.Displacement.{displacement}
+use Rattle.fixed_geometry.specs.Displacement.{displacement}
 use Rattle.lattice.specs.Grids.{Grid, positions_of}
 use Rattle.lattice.specs.OwnMotion.{begun_at, choice_in_force, direction_after, hastened, ordered_course, ordered_speed, own_state, point_after, point_by, speed_after, turned}
 use Rattle.lattice.specs.UnderWays.{HasAdvanced}

@@ -4,6 +4,6 @@ pub mod OwnMotion
 pub use Rattle.fixed_geometry.specs.Bearing
 pub use Rattle.fixed_geometry.specs.Sizes
 pub use Rattle.fixed_geometry.specs.Velocity
-pub use Rattle.motion.specs.Displacement
+pub use Rattle.fixed_geometry.specs.Displacement
 pub use Rattle.motion.specs.TickStates
 pub mod UnderWays

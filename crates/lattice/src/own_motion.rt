@@ -2,7 +2,7 @@
 ghost use Rattle.std.specs.Prelude.{◌≡◌, ◌+◌, ◌-◌, ◌*◌, ◌<◌, ◌≤◌, ◌+ℤ◌, ◌-ℤ◌, ◌*ℤ◌, ℕ, pos, length, get_or, slice_index, unsigned_abs, IfSome, IsSome};
 ghost use Rattle.fixed_geometry.specs.Sizes.{IsWithin};
 ghost use Rattle.fixed_geometry.specs.Velocity.{velocity_of};
-ghost use Rattle.motion.specs.Displacement.{displacement};
+ghost use Rattle.fixed_geometry.specs.Displacement.{displacement};
 ghost use Rattle.motion.specs.TickStates.{IsTickState};
 ghost use Rattle.motion.specs.declared.leg.TickState.{TickState};
 ghost use Rattle.lattice.specs.Grids.{choices_of, positions_of};

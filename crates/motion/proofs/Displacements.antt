@@ -3,7 +3,7 @@ use Rattle.std.proofs.Common.{ℕ, ◌*◌, ◌<◌, ℤ, ◌-ℤ◌, unsigned_a
 use Rattle.std.proofs.lemmas.Int.{ints}
 use Rattle.fixed_geometry.specs.Sizes.{IsBelow}
 use Rattle.fixed_geometry.specs.declared.point.Point.{Point}
-use Rattle.motion.specs.Displacement.{displacement}
+use Rattle.fixed_geometry.specs.Displacement.{displacement}
 
 component_below : (x y : ℤ) (n : ℕ) → unsigned_abs x < n → unsigned_abs y < n → unsigned_abs (y -ℤ x) < 2 * n
 component_below x y n h k = omega (arith, ints)

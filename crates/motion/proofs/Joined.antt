@@ -9,7 +9,7 @@ use Rattle.fixed_geometry.specs.declared.point.Point.{Point}
 use Rattle.motion.specs.Between.{between}
 use Rattle.motion.specs.Inner.LegOrder.{AreLegs}
 use Rattle.motion.specs.TickStates.{AreJoined, IsLeg, Meets, MovesLittle, holds, state_at, state_on}
-use Rattle.motion.specs.Displacement.{displacement}
+use Rattle.fixed_geometry.specs.Displacement.{displacement}
 use Rattle.motion.specs.declared.leg.Leg.{Leg}
 use Rattle.motion.specs.declared.leg.TickState.{TickState}
 use Rattle.motion.proofs.LastPassing.{IsLastAt, found}

@@ -1,9 +1,9 @@
 //! One step of two vessels.
 ghost use Rattle.std.specs.Prelude.{◌≡◌, ◌^◌, ◌↔◌, IsTrue, IsSome, IfSome};
+ghost use Rattle.fixed_geometry.specs.Displacement.{displacement};
 ghost use Rattle.fixed_geometry.specs.Sizes.{IsBelow};
-ghost use Rattle.motion.specs.Displacement.{displacement};
 
-use fixed_geometry::Point;
+use fixed_geometry::{Point, displacement};
 use std::marker::Model;
 
 fn is_below(p: Point, size: u64) -> bool
@@ -83,17 +83,5 @@ impl Step {
         ensures small { IsBelow (2 ^ 26) result }
     {
         self.w
-    }
-}
-
-/// The displacement from `a` to `b`.
-fn displacement(a: Point, b: Point) -> Point
-    requires a_small { IsBelow (2 ^ 60) a }
-    requires b_small { IsBelow (2 ^ 60) b }
-    ensures { result ≡ displacement a b }
-{
-    Point {
-        x: b.x - a.x,
-        y: b.y - a.y,
     }
 }

@@ -1,6 +1,6 @@
 use Rattle.std.proofs.Common.{◌≡◌, ℕ, ◌+◌, ◌*◌, ◌<◌, ◌≤◌, unsigned_abs}
 use Rattle.fixed_geometry.specs.Sizes.{IsWithin}
-use Rattle.motion.specs.Displacement.{displacement}
+use Rattle.fixed_geometry.specs.Displacement.{displacement}
 use Rattle.lattice.specs.OwnMotion.{point_after}
 use Rattle.lattice.specs.UnderWays.{HasAdvanced}
 use Rattle.lattice.proofs.lattice.Lattice.advanced.Given as goal

@@ -1,6 +1,6 @@
 use Rattle.std.proofs.Common.{◌≡◌, ℕ, ◌+◌, ◌*◌, ◌<◌, ◌≤◌, length, get_or, unsigned_abs}
 use Rattle.fixed_geometry.specs.Sizes.{IsWithin}
-use Rattle.motion.specs.Displacement.{displacement}
+use Rattle.fixed_geometry.specs.Displacement.{displacement}
 use Rattle.motion.specs.TickStates.{IsTickState}
 use Rattle.motion.specs.declared.leg.TickState.{TickState}
 use Rattle.lattice.specs.Grids.{positions_of}
