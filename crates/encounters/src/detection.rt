@@ -5,16 +5,8 @@ ghost use Rattle.encounters.specs.Risk.{HasRisk, IsDetect, IsOpening, IsPastClea
 
 use crate::detect::Detect;
 use closest_approach::enters_within;
-use fixed_geometry::{dot, norm2};
+use fixed_geometry::{dot, norm2, square};
 use motion::Step;
-
-/// The square of a distance.
-fn square(distance: u64) -> u128
-    requires { distance ≤ 1000000000 }
-    ensures { result ≡ distance * distance }
-{
-    u128::from(distance) * u128::from(distance)
-}
 
 /// Whether the vessels are at most so far apart at the step's beginning.
 fn is_within(step: &Step, distance: u64) -> bool
