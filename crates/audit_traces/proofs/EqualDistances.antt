@@ -15,13 +15,13 @@ use Rattle.mtl_monitor.specs.Traces.{Trace, value_in}
 use Rattle.rule_set.specs.RuleTrees.{passes_safely}
 use Rattle.rule_set.specs.declared.numbers.Safe.TheVariants.{One, PerKind}
 use Rattle.encounters.specs.Engagement.{seen_at}
-use Rattle.encounters.specs.declared.act.Act.{Act}
-use Rattle.encounters.specs.declared.detect.Detect.{Detect}
 use Rattle.encounters.specs.declared.engagement_state.EngagementState.{EngagementState}
 use Rattle.encounters.specs.declared.engagement_state.EngagementState.TheVariants.{Apart, Engaged}
 use Rattle.encounters.specs.declared.pair_step.PairStep.{PairStep}
 use Rattle.meetings.specs.Atoms.{AreAnswers, AreRows, IsAtomRow, Tells}
 use Rattle.meetings.specs.SinceBeginning.{age_of, kind_of}
+use Rattle.meetings.specs.Ranks.{both_power_driven}
+use Rattle.meetings.specs.Terms.{Terms}
 
 -- ---- by the verdicts of the atoms
 
@@ -95,9 +95,9 @@ atom_of class.CrossingStands = atom.CrossingStands
 atom_of class.Passing = atom.Passing
 atom_of class.Unclassified = atom.Unclassified
 
-module _ (detect : Detect) (act : Act) (tick : ℕ) where
+module _ (terms : Terms) where
   -- The atom of a kind tells whether they are engaged with that kind.
-  of_kind : (state : EngagementState) (seen : Option PairStep) (answers : Atom → Verdict) → AreAnswers detect act tick state seen answers
+  of_kind : (state : EngagementState) (seen : Option PairStep) (answers : Atom → Verdict) → AreAnswers terms both_power_driven state seen answers
       → (kind : Class) → Tells (kind_of state ≡ Some kind) (answers (atom_of kind))
   of_kind state seen answers values class.Overtaking = values atom.Overtaking
   of_kind state seen answers values class.Overtaken = values atom.Overtaken
@@ -107,7 +107,7 @@ module _ (detect : Detect) (act : Act) (tick : ℕ) where
   of_kind state seen answers values class.Passing = values atom.Passing
   of_kind state seen answers values class.Unclassified = values atom.Unclassified
 
-  by_state : (state : EngagementState) (seen : Option PairStep) (answers : Atom → Verdict) → AreAnswers detect act tick state seen answers
+  by_state : (state : EngagementState) (seen : Option PairStep) (answers : Atom → Verdict) → AreAnswers terms both_power_driven state seen answers
       → (clear : Verdict) → at_four (answers atom.Engaged) (λ kind. answers (atom_of kind)) clear ≡ implied (answers atom.Engaged) clear
   by_state Apart seen answers values clear =
       let engaged : answers atom.Engaged ≡ No = no_of (IsSome (age_of Apart)) (answers atom.Engaged) (values atom.Engaged) (λ some. cc) in
@@ -121,7 +121,7 @@ module _ (detect : Detect) (act : Act) (tick : ℕ) where
 
   -- ---- at a position of a trace
 
-  module _ (steps : List (Option PairStep)) (trace : Trace) (metres i : ℕ) (rows : AreRows detect act tick steps trace) where
+  module _ (steps : List (Option PairStep)) (trace : Trace) (metres i : ℕ) (rows : AreRows terms steps trace) where
     abbrev answered : Atom → Option (Atom → Verdict) → Verdict
     answered a o = answer_at (λ row. row) trace a o
 
@@ -133,8 +133,8 @@ module _ (detect : Detect) (act : Act) (tick : ℕ) where
         let in_trace : i < length trace = slice_get_within trace i answers some in
         let count = rows.count in
         let within : i < length steps = omega arith in
-        let row : IsAtomRow detect act tick steps i answers =
-        subst (λ (o : Option (Atom → Verdict)). IsSomeAnd o (IsAtomRow detect act tick steps i)) some (rows.each i within) in
+        let row : IsAtomRow terms steps i answers =
+        subst (λ (o : Option (Atom → Verdict)). IsSomeAnd o (IsAtomRow terms steps i)) some (rows.each i within) in
         by_state row.state (seen_at steps i) answers row.values (answers (atom.Clear metres))
 
     pub equal_distances : value_in trace (passes_safely (PerKind metres metres metres metres)) i ≡ value_in trace (passes_safely (One metres)) i

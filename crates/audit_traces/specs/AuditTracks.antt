@@ -19,7 +19,7 @@ use Rattle.audit_rows.specs.declared.mark.Mark.TheVariants.{Nothing, Broken, Und
 use Rattle.audit_rows.specs.declared.topic.Topic.{Topic}
 use Rattle.audit_rows.specs.declared.topic.Topic.TheVariants.{Meeting, Verdict as OfVerdict}
 use Rattle.audit_traces.specs.ValueMarks.{mark_of}
-use Rattle.audit_traces.specs.Audited.{Begins, Numbers, Sighting, trace_steps}
+use Rattle.audit_traces.specs.Audited.{Begins, Numbers, Sighting, terms_of, trace_steps}
 
 -- ---- a position of a trace with these steps
 
@@ -51,7 +51,7 @@ module _ (numbers : Numbers) (ticks : List Sighting) where
   -- what each step of the trace answers to the atoms
   pub record IsTraceOf (pair : Pair) (start : ℕ) (trace : Trace) : Type 0 where
     pub begins : Begins numbers ticks pair start
-    pub rows : AreRows numbers.detect numbers.act numbers.tick (trace_steps numbers ticks pair start) trace
+    pub rows : AreRows (terms_of numbers) (trace_steps numbers ticks pair start) trace
 
   -- the marks of a rule, one for each step of the trace: the values of its formula there
   pub record AreRuleMarks (pair : Pair) (rule start : ℕ) (marks : List Mark) : Type 0 where

@@ -8,6 +8,7 @@ use Rattle.encounters.specs.Directions.{HasDirection}
 use Rattle.encounters.specs.declared.act.Act.{Act}
 use Rattle.encounters.specs.declared.detect.Detect.{Detect}
 use Rattle.encounters.specs.declared.pair_step.PairStep.{PairStep}
+use Rattle.meetings.specs.Terms.{Terms}
 use Rattle.meetings.specs.Traces.{BeginsTrace, IsShortMove, step_between, steps_from}
 use Rattle.meetings.specs.declared.pair.Pair.{Pair}
 use Rattle.motion.specs.declared.leg.TickState.{TickState}
@@ -21,6 +22,10 @@ pub record Numbers : Type 0 where
   pub last_tick : ℕ
   pub subjects : List ℕ
   pub rules : List NamedTree
+
+-- by what the meetings of two vessels are told
+abbrev pub terms_of : Numbers → Terms
+terms_of numbers = record { detect = numbers.detect; act = numbers.act; tick = numbers.tick }
 
 -- the vessels that are seen at a tick, each by her MMSI, with her state there
 abbrev pub Sighting : Type 0

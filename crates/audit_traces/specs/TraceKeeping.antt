@@ -15,7 +15,7 @@ use Rattle.audit_rows.specs.Stretches.{mark_at}
 use Rattle.audit_rows.specs.Tracks.{Track}
 use Rattle.audit_rows.specs.declared.mark.Mark.{Mark}
 use Rattle.audit_rows.specs.declared.topic.Topic.TheVariants as topic
-use Rattle.audit_traces.specs.Audited.{Numbers}
+use Rattle.audit_traces.specs.Audited.{Numbers, terms_of}
 use Rattle.audit_traces.specs.AuditTracks.{IsMeetingMark}
 use Rattle.audit_traces.specs.ValueMarks.{mark_of}
 use Rattle.audit_rows.specs.declared.row.Row.{Row}
@@ -101,8 +101,8 @@ steps_of trace = monitor.fed_of trace.values
 pub record StandsFor (program : Program) (numbers : Numbers) (trace : AuditTrace) (known : Known) : Type 0 where
   pub pair : trace.pair ≡ known.pair
   pub start : trace.start ≡ known.start
-  pub follows : meetings.Follows trace.follower numbers.detect numbers.act numbers.tick known.steps
-  pub rows : AreRows numbers.detect numbers.act numbers.tick known.steps known.trace
+  pub follows : meetings.Follows trace.follower (terms_of numbers) known.steps
+  pub rows : AreRows (terms_of numbers) known.steps known.trace
   pub values : monitor.Follows program trace.values (formulas_of numbers) known.trace
 
 -- ---- what a step and the end come to, among the tracks of other traces

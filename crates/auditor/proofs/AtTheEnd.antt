@@ -4,7 +4,7 @@ use Rattle.std.specs.List.{Contains}
 use Rattle.mtl_formulas.specs.FormulaTree.{FormulaTree}
 use Rattle.meetings.specs.Atoms.{AreRows}
 use Rattle.audit_rows.specs.Tracks.{EndAt, Track}
-use Rattle.audit_traces.specs.Audited.{Numbers}
+use Rattle.audit_traces.specs.Audited.{Numbers, terms_of}
 use Rattle.audit_traces.specs.TraceKeeping.{AreRuleMarksWhole, AreRuleTracks, AreTracks, Known, formulas_of}
 use Rattle.auditor.specs.Inner.AuditKeeping.{AreTracksOfAll}
 use Rattle.auditor.specs.Inner.TracesKept.{IsAtStep}
@@ -15,7 +15,7 @@ pub record EndsAt (end : ℕ) (known : Known) : Type 0 where
   pub steps : end ≡ known.start + length known.steps
   pub rows : end ≡ known.start + length known.trace
 
-pub last_step : (numbers : Numbers) (end : ℕ) (known : Known) → IsAtStep end known → AreRows numbers.detect numbers.act numbers.tick known.steps known.trace → EndsAt end known
+pub last_step : (numbers : Numbers) (end : ℕ) (known : Known) → IsAtStep end known → AreRows (terms_of numbers) known.steps known.trace → EndsAt end known
 last_step numbers end known at rows = let count = rows.count in let is = at.0 in record { steps = is; rows = omega arith }
 
 end_append : (end : ℕ) (xs ys : List Track) → EndAt end xs → EndAt end ys → EndAt end (xs ++ ys)

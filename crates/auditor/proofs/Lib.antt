@@ -13,7 +13,6 @@ mod UnderWay
 mod Beginning
 mod NextTick
 mod AtTheEnd
-mod OneValue
 mod Stepping
 mod TotalsOf
 mod MoreTicks

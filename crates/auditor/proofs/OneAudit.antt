@@ -6,11 +6,13 @@ use Rattle.std.proofs.lemmas.Option.{slice_get-get_or}
 use Rattle.mtl_formulas.specs.declared.verdict.Verdict.TheVariants.{No, Open, Yes}
 use Rattle.rule_set.specs.NamedTrees.{rule_at}
 use Rattle.meetings.specs.declared.pair.Pair.{Pair}
+use Rattle.meetings.specs.Ranks.{all_power_driven}
+use Rattle.meetings.proofs.ForCallers.{one_list as one_trace}
 use Rattle.audit_rows.specs.Rows.{IsRow, IsRowOf}
 use Rattle.audit_rows.specs.Tracks.{Track}
 use Rattle.audit_rows.specs.declared.row.Row.{Row}
 use Rattle.audit_rows.proofs.ForCallers.{one_list}
-use Rattle.audit_traces.specs.Audited.{Numbers, Sighting, trace_steps}
+use Rattle.audit_traces.specs.Audited.{Numbers, Sighting, terms_of, trace_steps}
 use Rattle.audit_traces.specs.AuditTracks.{IsTraceOf}
 use Rattle.audit_traces.specs.RuleCounts.{told}
 use Rattle.audit_traces.specs.declared.total.Total.{Total}
@@ -18,7 +20,6 @@ use Rattle.auditor.specs.AuditRows.{AreAuditRows, IsAuditRow}
 use Rattle.auditor.specs.AuditTotals.{AreTotals, AreTraces, IsTotal, Traced, positions_with}
 use Rattle.auditor.proofs.Different.{different_from_map, from_map, same_sum}
 use Rattle.auditor.proofs.Members.{in_cons, in_head, in_none, in_tail}
-use Rattle.auditor.proofs.OneValue.{same_trace}
 use Rattle.auditor.proofs.Ticks.{one_beginning}
 
 module _ (numbers : Numbers) (ticks : List Sighting) where
@@ -60,7 +61,7 @@ module _ (numbers : Numbers) (ticks : List Sighting) where
       let begun : t.start ≡ other.start = one_beginning numbers ticks other.pair t.start other.start here.begins k.begins in
       let there : IsTraceOf numbers ticks other.pair other.start t.trace = subst (λ (n : ℕ). IsTraceOf numbers ticks other.pair n t.trace) begun here in
       let answers : t.trace ≡ other.trace =
-      same_trace numbers.detect numbers.act numbers.tick (trace_steps numbers ticks other.pair other.start) t.trace other.trace there.rows k.rows in
+      one_trace (terms_of numbers) all_power_driven (trace_steps numbers ticks other.pair other.start) t.trace other.trace there.rows k.rows in
       λ i. record { pair = e i; start = begun i; trace = answers i }
 
   traced_too : (traces others : List Traced) → AreTraces numbers ticks traces → AreTraces numbers ticks others → (t : Traced) → Contains traces t → Contains others t

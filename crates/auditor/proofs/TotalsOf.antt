@@ -16,7 +16,7 @@ use Rattle.audit_rows.specs.declared.mark.Mark.{Mark}
 use Rattle.audit_rows.specs.declared.row.Row.{Row}
 use Rattle.audit_rows.specs.declared.topic.Topic.{Topic}
 use Rattle.audit_rows.specs.declared.topic.Topic.TheVariants as topic
-use Rattle.audit_traces.specs.Audited.{Numbers, Sighting}
+use Rattle.audit_traces.specs.Audited.{Numbers, Sighting, terms_of}
 use Rattle.auditor.specs.AuditTotals.{AreTotals, AreTraces, IsTotal, Traced, is_value, positions_with}
 use Rattle.audit_traces.specs.AuditTracks.{IsTraceOf}
 use Rattle.auditor.specs.Inner.AuditKeeping.{AreKnown, AreTracksOfAll, pairs_of}
@@ -45,7 +45,7 @@ are_traces numbers ticks knowns are rows = record {
       let is = are.each known j in
       let of : IsTraceOf numbers ticks known.pair known.start known.trace = record {
         begins = is.begins;
-        rows = subst (λ (s : List (Option PairStep)). AreRows numbers.detect numbers.act numbers.tick s known.trace) is.steps (rows known j);
+        rows = subst (λ (s : List (Option PairStep)). AreRows (terms_of numbers) s known.trace) is.steps (rows known j);
       } in
       subst (λ (u : Traced). IsTraceOf numbers ticks u.pair u.start u.trace) e of);
   all = λ pair start begins. subst (λ (ps : List Pair). Contains ps pair) (sym (same_pairs knowns)) (are.all pair start begins);

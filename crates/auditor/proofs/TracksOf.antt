@@ -9,17 +9,18 @@ use Rattle.rule_set.specs.NamedTrees.{NamedTree, rule_at}
 use Rattle.encounters.specs.declared.pair_step.PairStep.{PairStep}
 use Rattle.meetings.specs.Atoms.{AreRows}
 use Rattle.meetings.specs.declared.pair.Pair.{Pair}
+use Rattle.meetings.specs.Ranks.{all_power_driven}
+use Rattle.meetings.proofs.ForCallers.{one_list as one_trace}
 use Rattle.audit_rows.specs.Tracks.{Track}
 use Rattle.audit_rows.specs.declared.mark.Mark.{Mark}
 use Rattle.audit_rows.specs.declared.topic.Topic.{Topic}
 use Rattle.audit_rows.specs.declared.topic.Topic.TheVariants.{Meeting, Verdict}
 use Rattle.auditor.proofs.Members.{in_cons, in_head, in_none, in_tail}
-use Rattle.audit_traces.specs.Audited.{Begins, Numbers, Sighting, trace_steps}
+use Rattle.audit_traces.specs.Audited.{Begins, Numbers, Sighting, terms_of, trace_steps}
 use Rattle.audit_traces.specs.AuditTracks.{AreMarksOf, AreMeetingMarks, AreRuleMarks, IsTrack}
 use Rattle.auditor.specs.Inner.AuditKeeping.{AreKnown, AreTracksOfAll, IsKnown}
 use Rattle.audit_traces.specs.TraceKeeping.{AreMeetingMarksSoFar, AreRuleMarksWhole, AreRuleTracks, AreTracks, IsMeetingTrack, IsRuleTrack, Known}
 use Rattle.auditor.proofs.Different.{from_map}
-use Rattle.auditor.proofs.OneValue.{same_trace}
 use Rattle.auditor.proofs.SameMarks.{same_meeting_marks, same_rule_marks}
 use Rattle.auditor.proofs.Ticks.{one_beginning}
 
@@ -124,7 +125,7 @@ module _ (AreMarks : FormulaTree → Trace → List Mark → Type 0) (numbers : 
 
 -- what is kept of each trace is its answers to the atoms
 abbrev pub HaveRows : Numbers → List Known → Type 0
-HaveRows numbers knowns = (known : Known) → Contains knowns known → AreRows numbers.detect numbers.act numbers.tick known.steps known.trace
+HaveRows numbers knowns = (known : Known) → Contains knowns known → AreRows (terms_of numbers) known.steps known.trace
 
 module _ (Rest : List Mark → Type 0) (AreMarks : FormulaTree → Trace → List Mark → Type 0) (none : Rest [])
     (go_on : (tree : FormulaTree) (trace : Trace) (marks : List Mark) → AreMarks tree trace marks → GoesOn Rest tree trace marks)
@@ -155,7 +156,7 @@ module _ (Rest : List Mark → Type 0) (AreMarks : FormulaTree → Trace → Lis
             (is_track track (Meeting known.pair) known.start track.marks h.topic h.first all);
       }
 
-  rule_becomes : (known : Known) (track : Track) → IsKnown numbers ticks known → AreRows numbers.detect numbers.act numbers.tick known.steps known.trace
+  rule_becomes : (known : Known) (track : Track) → IsKnown numbers ticks known → AreRows (terms_of numbers) known.steps known.trace
       → RuleFound AreMarks numbers known 0 numbers.rules track → Becomes track
   rule_becomes known track is rows f =
       let h = f.is in
@@ -168,14 +169,14 @@ module _ (Rest : List Mark → Type 0) (AreMarks : FormulaTree → Trace → Lis
         trace = known.trace;
         of = record {
           begins = is.begins;
-          rows = subst (λ (s : List (Option PairStep)). AreRows numbers.detect numbers.act numbers.tick s known.trace) is.steps rows;
+          rows = subst (λ (s : List (Option PairStep)). AreRows (terms_of numbers) s known.trace) is.steps rows;
         };
         count = whole.count;
         each = whole.each;
       } in
       record { more = g.more; rest = g.rest; is = is_track track (Verdict known.pair f.index) known.start (track.marks ++ g.more) topic h.first all }
 
-  one_becomes : (known : Known) (mine : List Track) (track : Track) → IsKnown numbers ticks known → AreRows numbers.detect numbers.act numbers.tick known.steps known.trace
+  one_becomes : (known : Known) (mine : List Track) (track : Track) → IsKnown numbers ticks known → AreRows (terms_of numbers) known.steps known.trace
       → AreTracks AreMarks numbers known mine → Contains mine track → Becomes track
   one_becomes known [] track is rows h i = absurd h
   one_becomes known (meeting ∷ rules) track is rows h i =
@@ -248,9 +249,9 @@ module _ (Rest : List Mark → Type 0) (AreMarks : FormulaTree → Trace → Lis
         let topic : p.track.topic ≡ Verdict pair rule = is.topic ∙ (ap (λ (n : ℕ). Verdict known.pair n) at ∙ ap (λ (q : Pair). Verdict q rule) e) in
         let tree : FormulaTree = (rule_at numbers.rules rule).tree in
         let n = go_on tree known.trace p.track.marks is.marks in
-        let mine_rows : AreRows numbers.detect numbers.act numbers.tick (trace_steps numbers ticks pair start) known.trace =
-        subst (λ (s : List (Option PairStep)). AreRows numbers.detect numbers.act numbers.tick s known.trace) g (rows known i) in
-        let same : known.trace ≡ h.trace = same_trace numbers.detect numbers.act numbers.tick (trace_steps numbers ticks pair start) known.trace h.trace mine_rows h.of.rows in
+        let mine_rows : AreRows (terms_of numbers) (trace_steps numbers ticks pair start) known.trace =
+        subst (λ (s : List (Option PairStep)). AreRows (terms_of numbers) s known.trace) g (rows known i) in
+        let same : known.trace ≡ h.trace = one_trace (terms_of numbers) all_power_driven (trace_steps numbers ticks pair start) known.trace h.trace mine_rows h.of.rows in
         let whole : AreRuleMarksWhole tree h.trace (p.track.marks ++ n.more) = subst (λ (r : Trace). AreRuleMarksWhole tree r (p.track.marks ++ n.more)) same n.whole in
         let marks_are : p.track.marks ++ n.more ≡ marks = same_rule_marks tree h.trace (p.track.marks ++ n.more) marks whole (record { count = h.count; each = h.each }) in
         record {

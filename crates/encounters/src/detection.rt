@@ -5,16 +5,8 @@ ghost use Rattle.encounters.specs.Risk.{HasRisk, IsDetect, IsOpening, IsPastClea
 
 use crate::detect::Detect;
 use closest_approach::enters_within;
-use fixed_geometry::{dot, norm2};
+use fixed_geometry::{dot, norm2, square};
 use motion::Step;
-
-/// The square of a distance.
-fn square(distance: u64) -> u128
-    requires { distance ≤ 1000000000 }
-    ensures { result ≡ distance * distance }
-{
-    u128::from(distance) * u128::from(distance)
-}
 
 /// Whether the vessels are at most so far apart at the step's beginning.
 fn is_within(step: &Step, distance: u64) -> bool
@@ -59,8 +51,17 @@ pub fn past_clear(detect: &Detect, step: &Step) -> bool
     requires { IsDetect detect.now }
     ensures { IsTrue result ↔ IsPastClear detect.now step.now }
 {
-    if opening(step) && is_beyond(step, detect.clear) {
-        !risk(detect, step)
+    is_past_clear(detect, step, risk(detect, step))
+}
+
+/// The same where it is known whether there is risk.
+pub(crate) fn is_past_clear(detect: &Detect, step: &Step, risk: bool) -> bool
+    requires detect { IsDetect detect.now }
+    requires risk { IsTrue risk ↔ HasRisk detect.now step.now }
+    ensures { IsTrue result ↔ IsPastClear detect.now step.now }
+{
+    if !risk && opening(step) {
+        is_beyond(step, detect.clear)
     } else {
         false
     }

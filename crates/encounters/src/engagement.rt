@@ -1,102 +1,87 @@
 //! The engagement of an ordered pair of vessels, step by step.
-ghost use Rattle.std.specs.Prelude.{ℕ, ◌≡◌, ◌<◌, ◌^◌, ◌++◌, ◌∷◌, [], List, Option, Some, None, length, IfSome};
+ghost use Rattle.std.specs.Prelude.{ℕ, ◌≡◌, ◌↔◌, ◌<◌, ◌^◌, ◌++◌, ◌∷◌, [], List, Option, length, IfSome, IsSomeAnd, IsTrue};
 ghost use Rattle.std.specs.Option.{option_copied};
 ghost use Rattle.encounters.specs.declared.detect.Detect.{Detect};
 ghost use Rattle.encounters.specs.declared.pair_step.PairStep.{PairStep};
-ghost use Rattle.encounters.specs.declared.engagement_state.EngagementState.TheVariants.{Apart, Engaged};
-ghost use Rattle.encounters.specs.Directions.{HasDirection, HaveDirections, HaveDirectionsSince};
-ghost use Rattle.encounters.specs.Engagement.{IsState};
+ghost use Rattle.encounters.specs.declared.engagement_state.EngagementState.TheVariants.{Engaged};
+ghost use Rattle.encounters.specs.Directions.{HaveDirections, HaveDirectionsSince};
+ghost use Rattle.encounters.specs.Engagement.{IsState, class_at};
 ghost use Rattle.encounters.specs.Inner.Following.{Follows};
-ghost use Rattle.encounters.specs.Risk.{IsDetect};
+ghost use Rattle.encounters.specs.Risk.{HasRisk, IsDetect};
 ghost use Rattle.encounters.specs.Standing.{IsStateAfter, StandsFor};
 
 use crate::detect::Detect;
-use crate::detection::{past_clear, risk};
+use crate::detection::{is_past_clear, risk};
 use crate::engagement_state::EngagementState;
 use crate::pair_step::PairStep;
-use motion::TickState;
-use sectors::{Class, class_of};
+use sectors::class_of;
 use std::marker::Model;
 
-/// The state at a step that is seen, after one at which the vessels are apart.
-fn after_apart(detect: &Detect, pair: &PairStep) -> EngagementState
-    requires detect { IsDetect detect.now }
-    requires directions { HaveDirections pair.now }
-    ensures follows { Follows detect.now Apart pair.now result }
-    ensures directions { HaveDirectionsSince result }
-{
-    if risk(detect, &pair.step) {
-        EngagementState::Engaged {
-            kind: class_of(
-                &pair.step,
-                pair.a.direction,
-                pair.b.direction,
-                &detect.angles,
-            ),
-            age: 0,
-            a: pair.a,
-            b: pair.b,
-        }
-    } else {
-        EngagementState::Apart
-    }
-}
-
-/// The state at a step that is seen, after one at which they are engaged. Where there is risk they are not past and clear.
-fn after_engaged(
-    detect: &Detect,
-    pair: &PairStep,
-    kind: Class,
-    age: u32,
-    a: TickState,
-    b: TickState,
-) -> EngagementState
-    requires detect { IsDetect detect.now }
-    requires a { HasDirection a }
-    requires b { HasDirection b }
-    ensures follows { Follows detect.now (Engaged kind age a b) pair.now result }
-    ensures directions { HaveDirectionsSince result }
-{
-    if past_clear(detect, &pair.step) {
-        EngagementState::Apart
-    } else {
-        EngagementState::Engaged {
-            kind,
-            age: age.saturating_add(1),
-            a,
-            b,
-        }
-    }
-}
-
-/// The state at a step that is seen, after another.
-fn after_seen(detect: &Detect, state: EngagementState, pair: &PairStep) -> EngagementState
+/// The state at the beginning of an engagement.
+fn engaged_at(detect: &Detect, pair: &PairStep) -> EngagementState
     requires detect { IsDetect detect.now }
     requires pair { HaveDirections pair.now }
-    requires state { HaveDirectionsSince state }
-    ensures follows { Follows detect.now state pair.now result }
+    ensures begins { result ≡ Engaged (class_at detect.now pair.now) 0 pair.now.a pair.now.b }
     ensures directions { HaveDirectionsSince result }
 {
-    match state {
-        EngagementState::Apart => after_apart(detect, pair),
-        EngagementState::Engaged { kind, age, a, b } => after_engaged(
-            detect, pair, kind, age, a, b,
+    EngagementState::Engaged {
+        kind: class_of(
+            &pair.step,
+            pair.a.direction,
+            pair.b.direction,
+            &detect.angles,
         ),
+        age: 0,
+        a: pair.a,
+        b: pair.b,
     }
 }
 
-/// The state at a step, after another.
-fn after_step(detect: &Detect, state: EngagementState, seen: Option<&PairStep>) -> EngagementState
+/// Takes a step that is seen, where it is known whether there is risk.
+fn take_seen(state: &mut EngagementState, detect: &Detect, pair: &PairStep, risk: bool)
+    requires detect { IsDetect detect.now }
+    requires pair { HaveDirections pair.now }
+    requires risk { IsTrue risk ↔ HasRisk detect.now pair.now.step }
+    requires state { HaveDirectionsSince state.old }
+    ensures follows { Follows detect.now state.old pair.now state.new }
+    ensures directions { HaveDirectionsSince state.new }
+{
+    match state {
+        EngagementState::Apart => {
+            if risk {
+                *state = engaged_at(detect, pair);
+            }
+        }
+        EngagementState::Engaged { age, .. } => {
+            if is_past_clear(detect, &pair.step, risk) {
+                *state = EngagementState::Apart;
+            } else {
+                *age = age.saturating_add(1);
+            }
+        }
+    }
+}
+
+/// Takes a step, and tells whether there is risk at it.
+fn take_step(state: &mut EngagementState, detect: &Detect, seen: Option<&PairStep>) -> bool
     requires detect { IsDetect detect.now }
     requires seen { IfSome (option_copied seen) HaveDirections }
-    requires state { HaveDirectionsSince state }
-    ensures state { (steps : List (Option PairStep)) → length steps < 2 ^ 31 → IsStateAfter detect.now steps state
-        → IsState detect.now (steps ++ option_copied seen.entry ∷ []) (length steps) result }
-    ensures directions { HaveDirectionsSince result }
+    requires state { HaveDirectionsSince state.old }
+    ensures risk { IsTrue result ↔ IsSomeAnd (option_copied seen.entry) (λ pair. HasRisk detect.now pair.step) }
+    ensures state { (steps : List (Option PairStep)) → length steps < 2 ^ 31 → IsStateAfter detect.now steps state.old
+        → IsState detect.now (steps ++ option_copied seen.entry ∷ []) (length steps) state.new }
+    ensures directions { HaveDirectionsSince state.new }
 {
     match seen {
-        None => EngagementState::Apart,
-        Some(pair) => after_seen(detect, state, pair),
+        None => {
+            *state = EngagementState::Apart;
+            false
+        }
+        Some(pair) => {
+            let risk = risk(detect, &pair.step);
+            take_seen(state, detect, pair, risk);
+            risk
+        }
     }
 }
 
@@ -149,11 +134,31 @@ impl Engagement {
         self.latest
     }
 
-    /// The state at the next step, which is seen, or is not. Over fewer than 2^31 steps it is the definition's: the vessels are
-    /// engaged where some step had risk, all since are seen, and none after it is past and clear; the kind is the class at the
-    /// engagement's beginning (Rule 13 (d): a later change of bearing does not make an overtaking vessel a crossing one).
-    /// Directions are below 3600.
+    /// The same in place.
+    pub fn latest(&self) -> &EngagementState
+        ensures value { result.now ≡ self.now.latest }
+        ensures directions { HaveDirectionsSince result.now }
+    {
+        &self.latest
+    }
+
+    /// Takes the next step, which is seen, or is not, and tells whether there is risk of collision at it. Over fewer than 2^31
+    /// steps the state is the definition's: the vessels are engaged where some step had risk, all since are seen, and none after
+    /// it is past and clear; the kind is the class at the engagement's beginning (Rule 13 (d): a later change of bearing does not
+    /// make an overtaking vessel a crossing one). Directions are below 3600.
     #[inline(always)]
+    pub fn take(&mut self, seen: Option<&PairStep>) -> bool
+        requires { IfSome (option_copied seen) HaveDirections }
+        ensures risk { IsTrue result ↔ IsSomeAnd (option_copied seen.entry) (λ pair. HasRisk self.old.detect pair.step) }
+        ensures state { (detect : Detect) (steps : List (Option PairStep)) → length steps < 2 ^ 31 → StandsFor self.old detect steps
+            → IsState detect (steps ++ option_copied seen.entry ∷ []) (length steps) self.new.latest }
+        ensures stands { (detect : Detect) (steps : List (Option PairStep)) → length steps < 2 ^ 31 → StandsFor self.old detect steps
+            → StandsFor self.new detect (steps ++ option_copied seen.entry ∷ []) }
+    {
+        take_step(&mut self.latest, &self.detect, seen)
+    }
+
+    /// The state at the next step, which is taken.
     pub fn step(&mut self, seen: Option<&PairStep>) -> EngagementState
         requires { IfSome (option_copied seen) HaveDirections }
         ensures state { (detect : Detect) (steps : List (Option PairStep)) → length steps < 2 ^ 31 → StandsFor self.old detect steps
@@ -162,8 +167,7 @@ impl Engagement {
             → StandsFor self.new detect (steps ++ option_copied seen.entry ∷ []) }
         ensures directions { HaveDirectionsSince result }
     {
-        let state = after_step(&self.detect, self.latest, seen);
-        self.latest = state;
-        state
+        self.take(seen);
+        self.latest
     }
 }

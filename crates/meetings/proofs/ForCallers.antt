@@ -6,12 +6,18 @@ use Rattle.mtl_formulas.specs.declared.atom.Atom.{Atom}
 use Rattle.mtl_formulas.specs.declared.verdict.Verdict.{Verdict}
 use Rattle.encounters.specs.Engagement.{seen_at}
 use Rattle.encounters.specs.Risk.{HasRisk}
-use Rattle.encounters.specs.declared.act.Act.{Act}
 use Rattle.encounters.specs.declared.detect.Detect.{Detect}
 use Rattle.encounters.specs.declared.pair_step.PairStep.{PairStep}
 use Rattle.encounters.proofs.ForCallers.{agree_back, agree_front, engagement_of-agree, seen_at-behind, seen_at-front, state_behind, state_over_more}
-use Rattle.meetings.specs.Atoms.{AreRows, IsAtomRow}
+use Rattle.encounters.specs.declared.engagement_state.EngagementState.{EngagementState}
+use Rattle.encounters.specs.declared.engagement_state.EngagementState.TheVariants.{Apart, Engaged}
+use Rattle.encounters.specs.Engagement.{IsState}
+use Rattle.meetings.specs.Atoms.{AreAnswers, AreRankedRows, IsRankedRow}
+use Rattle.meetings.specs.Ranks.{beginning_at}
+use Rattle.meetings.specs.Terms.{Terms}
 use Rattle.meetings.specs.Traces.{AreInContact, BeginsTrace, step_at, step_between, steps_from}
+use Rattle.meetings.specs.declared.by_rank.ByRank.{ByRank}
+pub use Rattle.meetings.proofs.Rows.{one_list, one_value, same_answers}
 
 -- ---- steps
 
@@ -72,32 +78,38 @@ module _ (detect : Detect) (a b : ℕ → Option TickState) (end start : ℕ) (b
 
 -- ---- rows
 
-module _ (detect : Detect) (act : Act) (tick : ℕ) where
+-- where an engagement began is the same where the steps are counted from further back
+begun_behind : (detect : Detect) (steps : List (Option PairStep)) (n i : ℕ) (state : EngagementState) → IsState detect steps i state
+    → n + beginning_at i state ≡ beginning_at (n + i) state
+begun_behind detect steps n i Apart h = refl
+begun_behind detect steps n i (Engaged kind age a b) h = let since = h.since in omega arith
+
+module _ (terms : Terms) (ranks : ℕ → ByRank) where
   pub row_over_more : (steps more : List (Option PairStep)) (i : ℕ) (answers : Atom → Verdict) → i < length steps
-      → IsAtomRow detect act tick steps i answers → IsAtomRow detect act tick (steps ++ more) i answers
+      → IsRankedRow terms ranks steps i answers → IsRankedRow terms ranks (steps ++ more) i answers
   row_over_more steps more i answers lt row = record {
     state = row.state;
-    is_state = state_over_more detect steps more i row.state lt row.is_state;
+    is_state = state_over_more terms.detect steps more i row.state lt row.is_state;
     values = rw (seen_at-front steps more i lt) row.values;
   }
 
   pub row_over_less : (steps more : List (Option PairStep)) (i : ℕ) (answers : Atom → Verdict) → i < length steps
-      → IsAtomRow detect act tick (steps ++ more) i answers → IsAtomRow detect act tick steps i answers
+      → IsRankedRow terms ranks (steps ++ more) i answers → IsRankedRow terms ranks steps i answers
   row_over_less steps more i answers lt row = record {
     state = row.state;
-    is_state = engagement_of-agree detect (steps ++ more) steps i row.state (agree_back steps (steps ++ more) i (agree_front steps more i lt)) row.is_state;
+    is_state = engagement_of-agree terms.detect (steps ++ more) steps i row.state (agree_back steps (steps ++ more) i (agree_front steps more i lt)) row.is_state;
     values = rw (← seen_at-front steps more i lt) row.values;
   }
 
   -- the rows of a front of the steps are a front of the rows
-  pub rows_of_front : (steps more : List (Option PairStep)) (rows : List (Atom → Verdict)) → AreRows detect act tick (steps ++ more) rows
-      → AreRows detect act tick steps (take (length steps) rows)
+  pub rows_of_front : (steps more : List (Option PairStep)) (rows : List (Atom → Verdict)) → AreRankedRows terms ranks (steps ++ more) rows
+      → AreRankedRows terms ranks steps (take (length steps) rows)
   rows_of_front steps more rows h =
       let count = h.count in
       record {
         count = omega (arith, length-append steps more, length-take (length steps) rows);
         each = λ i lt.
-            subst (λ (o : Option (Atom → Verdict)). IsSomeAnd o (IsAtomRow detect act tick steps i)) (sym (taken rows (length steps) i lt))
+            subst (λ (o : Option (Atom → Verdict)). IsSomeAnd o (IsRankedRow terms ranks steps i)) (sym (taken rows (length steps) i lt))
             (row_of (slice_get rows i) i lt (h.each i (omega (arith, length-append steps more))));
       }
     where
@@ -108,33 +120,34 @@ module _ (detect : Detect) (act : Act) (tick : ℕ) where
       taken (x ∷ rows) (suc n) zero lt = refl
       taken (x ∷ rows) (suc n) (suc i) lt = taken rows n i (omega arith)
 
-      row_of : (o : Option (Atom → Verdict)) (i : ℕ) → i < length steps → IsSomeAnd o (IsAtomRow detect act tick (steps ++ more) i)
-          → IsSomeAnd o (IsAtomRow detect act tick steps i)
+      row_of : (o : Option (Atom → Verdict)) (i : ℕ) → i < length steps → IsSomeAnd o (IsRankedRow terms ranks (steps ++ more) i)
+          → IsSomeAnd o (IsRankedRow terms ranks steps i)
       row_of None i lt h = h
       row_of (Some x) i lt h = row_over_less steps more i x lt h
 
-  pub row_behind : (front steps : List (Option PairStep)) → ((k : ℕ) → k < length front → IfSome (seen_at front k) (λ pair. ¬ HasRisk detect pair.step))
-      → (i : ℕ) (answers : Atom → Verdict) → IsAtomRow detect act tick steps i answers → IsAtomRow detect act tick (front ++ steps) (length front + i) answers
+  pub row_behind : (front steps : List (Option PairStep)) → ((k : ℕ) → k < length front → IfSome (seen_at front k) (λ pair. ¬ HasRisk terms.detect pair.step))
+      → (i : ℕ) (answers : Atom → Verdict) → IsRankedRow terms (λ k. ranks (length front + k)) steps i answers → IsRankedRow terms ranks (front ++ steps) (length front + i) answers
   row_behind front steps riskless i answers row = record {
     state = row.state;
-    is_state = state_behind detect front steps riskless i row.state row.is_state;
-    values = rw (seen_at-behind front steps i) row.values;
+    is_state = state_behind terms.detect front steps riskless i row.state row.is_state;
+    values = rw (seen_at-behind front steps i)
+        (subst (λ (k : ℕ). AreAnswers terms (ranks k) row.state (seen_at steps i) answers) (begun_behind terms.detect steps (length front) i row.state row.is_state) row.values);
   }
 
   -- the rows of steps, then that of one more
   pub rows_then : (steps : List (Option PairStep)) (rows : List (Atom → Verdict)) (step : Option PairStep) (answers : Atom → Verdict)
-      → AreRows detect act tick steps rows → IsAtomRow detect act tick (steps ++ step ∷ []) (length steps) answers
-      → AreRows detect act tick (steps ++ step ∷ []) (rows ++ answers ∷ [])
+      → AreRankedRows terms ranks steps rows → IsRankedRow terms ranks (steps ++ step ∷ []) (length steps) answers
+      → AreRankedRows terms ranks (steps ++ step ∷ []) (rows ++ answers ∷ [])
   rows_then steps rows step answers h row =
       let count = h.count in
       record {
         count = omega (arith, length-append steps (step ∷ []), length-append rows (answers ∷ []));
         each = λ i lt. elim (same_or_earlier i (length steps) (omega (arith, length-append steps (step ∷ [])))) [
           | inl same ↦ (let at_end : i ≡ length rows = omega arith in
-              subst (λ (o : Option (Atom → Verdict)). IsSomeAnd o (IsAtomRow detect act tick (steps ++ step ∷ []) i)) (sym (last_row rows answers i at_end))
-              (subst (λ (k : ℕ). IsAtomRow detect act tick (steps ++ step ∷ []) k answers) (sym same) row))
+              subst (λ (o : Option (Atom → Verdict)). IsSomeAnd o (IsRankedRow terms ranks (steps ++ step ∷ []) i)) (sym (last_row rows answers i at_end))
+              (subst (λ (k : ℕ). IsRankedRow terms ranks (steps ++ step ∷ []) k answers) (sym same) row))
           | inr earlier ↦ (let early : i < length rows = omega arith in
-              subst (λ (o : Option (Atom → Verdict)). IsSomeAnd o (IsAtomRow detect act tick (steps ++ step ∷ []) i)) (sym (front_row rows answers i early))
+              subst (λ (o : Option (Atom → Verdict)). IsSomeAnd o (IsRankedRow terms ranks (steps ++ step ∷ []) i)) (sym (front_row rows answers i early))
               (row_of (slice_get rows i) i earlier (h.each i earlier)))
         ];
       }
@@ -153,7 +166,7 @@ module _ (detect : Detect) (act : Act) (tick : ℕ) where
       front_row (x ∷ rows) answers zero lt = refl
       front_row (x ∷ rows) answers (suc i) lt = front_row rows answers i (omega arith)
 
-      row_of : (o : Option (Atom → Verdict)) (i : ℕ) → i < length steps → IsSomeAnd o (IsAtomRow detect act tick steps i)
-          → IsSomeAnd o (IsAtomRow detect act tick (steps ++ step ∷ []) i)
+      row_of : (o : Option (Atom → Verdict)) (i : ℕ) → i < length steps → IsSomeAnd o (IsRankedRow terms ranks steps i)
+          → IsSomeAnd o (IsRankedRow terms ranks (steps ++ step ∷ []) i)
       row_of None i lt h = h
       row_of (Some x) i lt h = row_over_more steps (step ∷ []) i x lt h

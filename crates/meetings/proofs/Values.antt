@@ -1,6 +1,6 @@
 -- What a row answers by what it keeps are the atoms' values.
 use Rattle.std.proofs.Common.{◌≡◌, ℕ, zero, suc, ◌*◌, ◌≤◌, IsTrue, refl, sym, ap, ◌∙◌, arith}
-use Rattle.std.specs.Prelude.{Bool, true, false, ◌==◌, ◌↔◌, Option, None, Some, IsSomeAnd, IsSome, is_some, nat_le}
+use Rattle.std.specs.Prelude.{Bool, true, false, ◌&&◌, ◌==◌, not, ◌↔◌, Option, None, Some, IsSomeAnd, IsSome, is_some, nat_le}
 use Rattle.std.proofs.lemmas.Int.{ints}
 use Rattle.std.proofs.lemmas.Option.{same_Some}
 use Rattle.fixed_geometry.specs.Bearing.{bearing_of, lies_to_port}
@@ -8,9 +8,7 @@ use Rattle.motion.specs.Steps.{RelativeMove}
 use Rattle.sectors.specs.declared.class.Class.{Class}
 use Rattle.sectors.specs.declared.class.Class.TheVariants as class
 use Rattle.mtl_formulas.specs.declared.atom.Atom.TheVariants as atom
-use Rattle.mtl_formulas.specs.declared.verdict.Verdict.TheVariants.{No}
 use Rattle.encounters.specs.Risk.{HasRisk, IsOpening}
-use Rattle.encounters.specs.declared.act.Act.{Act}
 use Rattle.encounters.specs.declared.detect.Detect.{Detect}
 use Rattle.encounters.specs.declared.engagement_state.EngagementState.{EngagementState}
 use Rattle.encounters.specs.declared.engagement_state.EngagementState.TheVariants.{Apart, Engaged}
@@ -18,9 +16,11 @@ use Rattle.encounters.specs.declared.pair_step.PairStep.{PairStep}
 use Rattle.closest_approach.specs.Separation.{IsSeparated}
 use Rattle.meetings.specs.Ahead.{crosses_ahead}
 use Rattle.meetings.specs.Answers.{Kept, answer_of}
-use Rattle.meetings.specs.Atoms.{AreAnswers, IsClose, IsOnPort, Tells, WhereKnown, metres}
-use Rattle.meetings.specs.Inner.Tests.{ahead, class_index, direction_of, is_age, is_close, is_first, is_kind, is_opening, is_separated, meeting_of, on_port, on_port_by, other_direction_of, seen_as, step_of, told}
+use Rattle.meetings.specs.Atoms.{AreAnswers, IsClose, RankCounts, Tells, WhereKnown, metres}
+use Rattle.meetings.specs.Inner.Tests.{ahead, class_index, direction_of, is_age, is_close, is_first, is_kind, is_opening, is_separated, meeting_of, on_port, on_port_by, other_direction_of, rank_counts, seen_as, step_of, told}
 use Rattle.meetings.specs.SinceBeginning.{age_of, changes_at, kind_of}
+use Rattle.meetings.specs.Terms.{Terms}
+use Rattle.meetings.specs.declared.by_rank.ByRank.{ByRank}
 use Rattle.meetings.proofs.SeparatedByEnds.{separated_exactly}
 
 tells : (P : Type 0) (b : Bool) → (IsTrue b → P) → (P → IsTrue b) → Tells P (told b)
@@ -97,12 +97,12 @@ close : (m : ℕ) (seen : Option PairStep) → WhereKnown seen (λ pair. Tells (
 close m None = refl
 close m (Some pair) = tells (IsClose m pair) (is_close (metres m) pair.step) (λ h. grind (arith, ints, h)) (λ h. grind (arith, ints, h))
 
-port_by : (direction bearing : Option ℕ) → WhereKnown direction (λ d. WhereKnown bearing (λ b. Tells (IsOnPort d b))) (on_port_by direction bearing)
+port_by : (direction bearing : Option ℕ) → WhereKnown direction (λ d. WhereKnown bearing (λ b. Tells (IsTrue (lies_to_port d b)))) (on_port_by direction bearing)
 port_by None bearing = refl
 port_by (Some d) None = refl
-port_by (Some d) (Some b) = tells (IsOnPort d b) (lies_to_port d b) (λ h. (grind (arith, h), grind (arith, h))) (λ h. grind (arith, h.0, h.1))
+port_by (Some d) (Some b) = tells (IsTrue (lies_to_port d b)) (lies_to_port d b) (λ h. h) (λ h. h)
 
-port : (seen : Option PairStep) → WhereKnown seen (λ pair. WhereKnown pair.a.direction (λ d. WhereKnown (bearing_of pair.step.p) (λ b. Tells (IsOnPort d b))))
+port : (seen : Option PairStep) → WhereKnown seen (λ pair. WhereKnown pair.a.direction (λ d. WhereKnown (bearing_of pair.step.p) (λ b. Tells (IsTrue (lies_to_port d b)))))
     (seen_as (on_port (direction_of seen)) (step_of seen))
 port None = refl
 port (Some pair) = port_by pair.a.direction (bearing_of pair.step.p)
@@ -116,29 +116,45 @@ crosses : (seen : Option PairStep) → WhereKnown seen (λ pair. WhereKnown pair
 crosses None = refl
 crosses (Some pair) = ahead_by pair.b.direction pair.step
 
+-- ---- of the ranks
+
+both : (P : Type 0) (holds by_rank : Bool) → Tells P (told holds) → Tells (P × IsTrue by_rank) (told (holds && by_rank))
+both P true true h = (h, refl)
+both P true false h = λ p. let no : false ≡ true = p.1 in cc
+both P false by_rank h = λ p. h p.0
+
+counts_by : (state : EngagementState) (met overtaking overtaken : Bool) → Tells (IsSome (age_of state)) (told met) → Tells (kind_of state ≡ Some class.Overtaking) (told overtaking)
+    → Tells (kind_of state ≡ Some class.Overtaken) (told overtaken) → Tells (RankCounts state) (told (met && (not overtaking && not overtaken)))
+counts_by state false overtaking overtaken h k l = λ counts. h counts.engaged
+counts_by state true true overtaken h k l = λ counts. counts.not_overtaking k
+counts_by state true false true h k l = λ counts. counts.not_overtaken l
+counts_by state true false false h k l = record { engaged = h; not_overtaking = k; not_overtaken = l }
+
+counts : (state : EngagementState) → Tells (RankCounts state) (told (rank_counts (meeting_of state)))
+counts state = counts_by state (is_some (meeting_of state)) (is_kind class.Overtaking (meeting_of state)) (is_kind class.Overtaken (meeting_of state))
+    (engaged state) (of_kind class.Overtaking state) (of_kind class.Overtaken state)
+
 -- ---- all atoms
 
-abbrev pub row_of : Act → ℕ → EngagementState → Option PairStep → Bool → Kept
-row_of act tick state seen risk = record {
+abbrev pub row_of : Terms → ByRank → EngagementState → Option PairStep → Bool → Kept
+row_of terms ranks state seen risk = record {
   step = step_of seen;
   direction = direction_of seen;
   other_direction = other_direction_of seen;
   risk = risk;
   meeting = meeting_of state;
-  tick = tick;
-  changes = changes_at act state seen;
-  rank_gives = No;
-  rank_stands = No;
-  both_power = told (is_some (meeting_of state));
+  tick = terms.tick;
+  changes = changes_at terms.act state seen;
+  by_rank = ranks;
 }
 
-module _ (detect : Detect) (act : Act) (tick : ℕ) (state : EngagementState) (seen : Option PairStep) (risk : Bool)
-    (decides : IsTrue risk ↔ IsSomeAnd seen (λ pair. HasRisk detect pair.step)) where
-  pub values : AreAnswers detect act tick state seen (answer_of (row_of act tick state seen risk))
+module _ (terms : Terms) (ranks : ByRank) (state : EngagementState) (seen : Option PairStep) (risk : Bool)
+    (decides : IsTrue risk ↔ IsSomeAnd seen (λ pair. HasRisk terms.detect pair.step)) where
+  pub values : AreAnswers terms ranks state seen (answer_of (row_of terms ranks state seen risk))
   values atom.Always = refl
   values atom.Never = refl
   values atom.Seen = is_seen seen
-  values atom.Risk = at_risk detect seen risk decides
+  values atom.Risk = at_risk terms.detect seen risk decides
   values atom.Engaged = engaged state
   values atom.Begin = first state
   values atom.Overtaking = of_kind class.Overtaking state
@@ -148,7 +164,7 @@ module _ (detect : Detect) (act : Act) (tick : ℕ) (state : EngagementState) (s
   values atom.CrossingStands = of_kind class.CrossingStands state
   values atom.Passing = of_kind class.Passing state
   values atom.Unclassified = of_kind class.Unclassified state
-  values (atom.Age seconds) = lasts tick seconds state
+  values (atom.Age seconds) = lasts terms.tick seconds state
   values atom.Opening = opening seen
   values (atom.Clear m) = clear m seen
   values (atom.Close m) = close m seen
@@ -159,6 +175,42 @@ module _ (detect : Detect) (act : Act) (tick : ℕ) (state : EngagementState) (s
   values atom.ToStarboard = refl
   values atom.ToPort = refl
   values atom.OtherApparent = refl
-  values atom.RankGives = refl
-  values atom.RankStands = refl
-  values atom.BothPower = engaged state
+  values atom.RankGives = both (RankCounts state) (rank_counts (meeting_of state)) ranks.gives (counts state)
+  values atom.RankStands = both (RankCounts state) (rank_counts (meeting_of state)) ranks.stands (counts state)
+  values atom.BothPower = both (IsSome (age_of state)) (is_some (meeting_of state)) ranks.both_power (engaged state)
+
+-- The same row by other ranks: only the atoms of ranks answer by these.
+module _ (terms : Terms) (before ranks : ByRank) (state : EngagementState) (seen : Option PairStep) (row : Kept)
+    (are : AreAnswers terms before state seen (answer_of row)) where
+  counts_too : Tells (RankCounts state) (told (rank_counts row.meeting))
+  counts_too = counts_by state (is_some row.meeting) (is_kind class.Overtaking row.meeting) (is_kind class.Overtaken row.meeting)
+      (are atom.Engaged) (are atom.Overtaking) (are atom.Overtaken)
+
+  pub ranked : AreAnswers terms ranks state seen (answer_of (record row { by_rank = ranks }))
+  ranked atom.RankGives = both (RankCounts state) (rank_counts row.meeting) ranks.gives counts_too
+  ranked atom.RankStands = both (RankCounts state) (rank_counts row.meeting) ranks.stands counts_too
+  ranked atom.BothPower = both (IsSome (age_of state)) (is_some row.meeting) ranks.both_power (are atom.Engaged)
+  ranked atom.Always = are atom.Always
+  ranked atom.Never = are atom.Never
+  ranked atom.Seen = are atom.Seen
+  ranked atom.Risk = are atom.Risk
+  ranked atom.Engaged = are atom.Engaged
+  ranked atom.Begin = are atom.Begin
+  ranked atom.Overtaking = are atom.Overtaking
+  ranked atom.Overtaken = are atom.Overtaken
+  ranked atom.HeadOn = are atom.HeadOn
+  ranked atom.CrossingGives = are atom.CrossingGives
+  ranked atom.CrossingStands = are atom.CrossingStands
+  ranked atom.Passing = are atom.Passing
+  ranked atom.Unclassified = are atom.Unclassified
+  ranked (atom.Age seconds) = are (atom.Age seconds)
+  ranked atom.Opening = are atom.Opening
+  ranked (atom.Clear m) = are (atom.Clear m)
+  ranked (atom.Close m) = are (atom.Close m)
+  ranked atom.OtherOnPort = are atom.OtherOnPort
+  ranked atom.Ahead = are atom.Ahead
+  ranked atom.Alters = are atom.Alters
+  ranked atom.Apparent = are atom.Apparent
+  ranked atom.ToStarboard = are atom.ToStarboard
+  ranked atom.ToPort = are atom.ToPort
+  ranked atom.OtherApparent = are atom.OtherApparent

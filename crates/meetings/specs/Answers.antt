@@ -1,5 +1,5 @@
 -- What a row answers to each atom, by what it keeps.
-use Rattle.std.specs.Prelude.{ℕ, Bool, Option, is_some}
+use Rattle.std.specs.Prelude.{ℕ, Bool, ◌&&◌, Option, is_some}
 use Rattle.motion.specs.Steps.{RelativeMove}
 use Rattle.sectors.specs.declared.class.Class.TheVariants as class
 use Rattle.mtl_formulas.specs.declared.atom.Atom.{Atom}
@@ -7,9 +7,10 @@ use Rattle.mtl_formulas.specs.declared.atom.Atom.TheVariants.{Always, Never, See
 use Rattle.mtl_formulas.specs.declared.verdict.Verdict.{Verdict}
 use Rattle.mtl_formulas.specs.declared.verdict.Verdict.TheVariants.{No, Yes}
 use Rattle.meetings.specs.Atoms.{metres}
-use Rattle.meetings.specs.Inner.Tests.{ahead, is_age, is_close, is_first, is_kind, is_opening, is_separated, on_port, seen_as, told}
+use Rattle.meetings.specs.Inner.Tests.{ahead, is_age, is_close, is_first, is_kind, is_opening, is_separated, on_port, rank_counts, seen_as, told}
 use Rattle.encounters.specs.declared.changes.Changes.{Changes}
 use Rattle.meetings.specs.declared.atom_row.Meeting.{Meeting}
+use Rattle.meetings.specs.declared.by_rank.ByRank.{ByRank}
 
 -- what a row keeps: the step, where it is seen, the vessels' directions there, and what the engagement tells
 pub record Kept : Type 0 where
@@ -20,9 +21,7 @@ pub record Kept : Type 0 where
   pub meeting : Option Meeting
   pub tick : ℕ
   pub changes : Changes
-  pub rank_gives : Verdict
-  pub rank_stands : Verdict
-  pub both_power : Verdict
+  pub by_rank : ByRank
 
 abbrev pub answer_of : Kept → Atom → Verdict
 answer_of row Always = Yes
@@ -49,6 +48,6 @@ answer_of row Apparent = row.changes.apparent
 answer_of row ToStarboard = row.changes.to_starboard
 answer_of row ToPort = row.changes.to_port
 answer_of row OtherApparent = row.changes.other_apparent
-answer_of row RankGives = row.rank_gives
-answer_of row RankStands = row.rank_stands
-answer_of row BothPower = row.both_power
+answer_of row RankGives = told (rank_counts row.meeting && row.by_rank.gives)
+answer_of row RankStands = told (rank_counts row.meeting && row.by_rank.stands)
+answer_of row BothPower = told (is_some row.meeting && row.by_rank.both_power)

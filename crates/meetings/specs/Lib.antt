@@ -8,7 +8,9 @@ pub use Rattle.sectors.specs.Class
 pub use Rattle.encounters.specs.Risk
 pub use Rattle.encounters.specs.Engagement
 pub use Rattle.encounters.specs.Alterations
+pub mod Terms
 pub mod SinceBeginning
+pub mod Ranks
 pub mod Ahead
 pub mod Atoms
 pub mod Answers

@@ -2,10 +2,10 @@
 use Rattle.std.specs.Prelude.{ℕ, ◌≡◌, List, map, Option}
 use Rattle.encounters.specs.Standing as encounters
 use Rattle.encounters.specs.declared.act.Act.{Act}
-use Rattle.encounters.specs.declared.detect.Detect.{Detect}
 use Rattle.encounters.specs.declared.pair_step.PairStep.{PairStep}
 use Rattle.meetings.specs.Answers.{Kept, answer_of}
 use Rattle.meetings.specs.Atoms.{AreRows}
+use Rattle.meetings.specs.Terms.{Terms}
 use Rattle.meetings.specs.declared.pair.Pair.{Pair}
 
 -- what a follower keeps: its numbers, and the engagement
@@ -15,10 +15,10 @@ pub record Following : Type 0 where
   pub engagement : encounters.Kept
 
 -- A follower follows these steps, by these numbers.
-pub record Follows (following : Following) (numbers : Detect) (act : Act) (tick : ℕ) (steps : List (Option PairStep)) : Type 0 where
-  pub by_act : following.act ≡ act
-  pub by_tick : following.tick ≡ tick
-  pub engagement : encounters.StandsFor following.engagement numbers steps
+pub record Follows (following : Following) (terms : Terms) (steps : List (Option PairStep)) : Type 0 where
+  pub by_act : following.act ≡ terms.act
+  pub by_tick : following.tick ≡ terms.tick
+  pub engagement : encounters.StandsFor following.engagement terms.detect steps
 
 -- what a trace keeps: its pair, what follows the pair, and the rows so far
 pub record Traced : Type 0 where
@@ -27,7 +27,7 @@ pub record Traced : Type 0 where
   pub rows : List Kept
 
 -- A trace of this pair has these steps so far, by these numbers.
-pub record StandsFor (traced : Traced) (pair : Pair) (detect : Detect) (act : Act) (tick : ℕ) (steps : List (Option PairStep)) : Type 0 where
+pub record StandsFor (traced : Traced) (pair : Pair) (terms : Terms) (steps : List (Option PairStep)) : Type 0 where
   pub of_pair : traced.pair ≡ pair
-  pub follows : Follows traced.following detect act tick steps
-  pub rows : AreRows detect act tick steps (map answer_of traced.rows)
+  pub follows : Follows traced.following terms steps
+  pub rows : AreRows terms steps (map answer_of traced.rows)

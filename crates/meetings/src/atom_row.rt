@@ -1,9 +1,10 @@
 //! What one step of an ordered pair answers to the atoms.
 ghost use Rattle.std.specs.Prelude.{◌≡◌, ◌*◌, ◌≤◌, nat_le};
 ghost use Rattle.meetings.specs.Atoms.{metres};
-ghost use Rattle.meetings.specs.Inner.Tests.{ahead, is_age, is_close, is_first, is_kind, is_opening, is_separated, on_port, seen_as, told};
+ghost use Rattle.meetings.specs.Inner.Tests.{ahead, is_age, is_close, is_first, is_kind, is_opening, is_separated, on_port, rank_counts, seen_as, told};
 
 use crate::ahead::crosses_ahead;
+use crate::by_rank::ByRank;
 use closest_approach::separated;
 use encounters::{Changes, opening};
 use fixed_geometry::{norm2, to_port};
@@ -39,10 +40,8 @@ pub struct AtomRow {
     pub(crate) tick: u32,
     /// How the vessels have altered since the engagement began.
     pub(crate) changes: Changes,
-    /// Whether A gives way by rank (Rule 18), or B does, or neither.
-    pub(crate) rank_gives: Verdict,
-    pub(crate) rank_stands: Verdict,
-    pub(crate) both_power: Verdict,
+    /// What the vessels' ranks say where the engagement begins.
+    pub(crate) by_rank: ByRank,
 }
 
 impl Model for AtomRow {
@@ -51,11 +50,11 @@ impl Model for AtomRow {
 
     ghost Value = { Kept };
 
-    ghost view = { λ row. record { step = row.step; direction = row.direction; other_direction = row.other_direction; risk = row.risk; meeting = row.meeting; tick = row.tick; changes = row.changes; rank_gives = row.rank_gives; rank_stands = row.rank_stands; both_power = row.both_power } };
+    ghost view = { λ row. record { step = row.step; direction = row.direction; other_direction = row.other_direction; risk = row.risk; meeting = row.meeting; tick = row.tick; changes = row.changes; by_rank = row.by_rank } };
 
     ghost invariant = { λ row. IfSome row.direction (λ d. d < 3600) × IfSome row.other_direction (λ d. d < 3600) };
 
-    ghost inverse = { λ kept. record { step = kept.step; direction = kept.direction; other_direction = kept.other_direction; risk = kept.risk; meeting = kept.meeting; tick = kept.tick; changes = kept.changes; rank_gives = kept.rank_gives; rank_stands = kept.rank_stands; both_power = kept.both_power } };
+    ghost inverse = { λ kept. record { step = kept.step; direction = kept.direction; other_direction = kept.other_direction; risk = kept.risk; meeting = kept.meeting; tick = kept.tick; changes = kept.changes; by_rank = kept.by_rank } };
 }
 
 pub(crate) fn told(holds: bool) -> Verdict
@@ -162,6 +161,15 @@ impl AtomRow {
             Some(meeting) => meeting.age == 0,
         }
     }
+
+    /// Whether the vessels' ranks count: they do not where the one overtakes the other.
+    fn rank_counts(&self) -> bool
+        ensures { result ≡ rank_counts self.now.meeting }
+    {
+        self.meeting.is_some()
+            && !self.is_of_kind(Class::Overtaking)
+            && !self.is_of_kind(Class::Overtaken)
+    }
 }
 
 // All atoms are asked at each position. So the choice among them is in line, and those that reckon more are calls of their own.
@@ -197,9 +205,9 @@ impl Atoms for AtomRow {
             Atom::ToStarboard => self.changes.to_starboard,
             Atom::ToPort => self.changes.to_port,
             Atom::OtherApparent => self.changes.other_apparent,
-            Atom::RankGives => self.rank_gives,
-            Atom::RankStands => self.rank_stands,
-            Atom::BothPower => self.both_power,
+            Atom::RankGives => told(self.rank_counts() && self.by_rank.gives),
+            Atom::RankStands => told(self.rank_counts() && self.by_rank.stands),
+            Atom::BothPower => told(self.meeting.is_some() && self.by_rank.both_power),
         }
     }
 }

@@ -1,14 +1,21 @@
 //! The answers of a step by the state of the engagement there.
-ghost use Rattle.std.specs.Prelude.{◌≡◌, ◌↔◌, ◌<◌, IfSome, IsSomeAnd, IsTrue};
+ghost use Rattle.std.specs.Prelude.{◌≡◌, ◌↔◌, ◌<◌, Option, IfSome, IsSomeAnd, IsTrue};
 ghost use Rattle.std.specs.Option.{option_copied};
 ghost use Rattle.encounters.specs.Directions.{HaveDirections, HaveDirectionsSince};
 ghost use Rattle.encounters.specs.Risk.{HasRisk, IsDetect};
+ghost use Rattle.encounters.specs.declared.detect.Detect.{Detect};
+ghost use Rattle.encounters.specs.declared.engagement_state.EngagementState.{EngagementState};
+ghost use Rattle.encounters.specs.declared.pair_step.PairStep.{PairStep};
 ghost use Rattle.meetings.specs.Atoms.{AreAnswers};
 ghost use Rattle.meetings.specs.Answers.{answer_of};
 ghost use Rattle.meetings.specs.Inner.Tests.{direction_of, meeting_of, other_direction_of, step_of};
+ghost use Rattle.meetings.specs.Ranks.{both_power_driven};
 ghost use Rattle.meetings.specs.SinceBeginning.{changes_at};
+ghost use Rattle.meetings.specs.Terms.{Terms};
+ghost use Rattle.meetings.specs.declared.by_rank.ByRank.{ByRank};
 
-use crate::atom_row::{AtomRow, Meeting, told};
+use crate::atom_row::{AtomRow, Meeting};
+use crate::by_rank::ByRank;
 use encounters::{Act, Changes, Detect, EngagementState, PairStep, changes_since, risk};
 use motion::Step;
 use mtl_formulas::Verdict;
@@ -77,10 +84,38 @@ fn other_direction(seen: Option<&PairStep>) -> Option<u16>
     seen?.b.direction
 }
 
-/// What a step of an ordered pair (A, B) answers to each atom, where `state` is that of their engagement at the step. A step of
-/// an engagement is seen; of one that is not seen the alterations are No. Risk and the alterations are found here, all else
-/// when it is asked. A tick lasts so many seconds. Directions are below 3600. Without ranks `rank_gives` and `rank_stands` are
-/// No, and `both_power` tells whether they are engaged.
+/// The row of a step, where it is known whether there is risk.
+pub(crate) fn row_at(
+    state: &EngagementState,
+    seen: Option<&PairStep>,
+    risk: bool,
+    act: &Act,
+    tick: u32,
+) -> AtomRow
+    requires seen { IfSome (option_copied seen) HaveDirections }
+    requires since { HaveDirectionsSince state.now }
+    ensures { (detect : Detect) → (IsTrue risk ↔ IsSomeAnd (option_copied seen.entry) (λ pair. HasRisk detect pair.step)) →
+        AreAnswers (record { detect = detect; act = act.now; tick = tick }) both_power_driven state.now (option_copied seen.entry) (answer_of result) }
+{
+    AtomRow {
+        step: step_of(seen),
+        direction: direction(seen),
+        other_direction: other_direction(seen),
+        risk,
+        meeting: meeting_of(state),
+        tick,
+        changes: changes_at(act, state, seen),
+        by_rank: ByRank {
+            gives: false,
+            stands: false,
+            both_power: true,
+        },
+    }
+}
+
+/// What a step of an ordered pair (A, B) answers to each atom with both power-driven, where `state` is that of their engagement
+/// at the step. A step of an engagement is seen; of one that is not seen the alterations are No. Risk and the alterations are
+/// found here, all else when it is asked. A tick lasts so many seconds. Directions are below 3600.
 pub fn atoms_at(
     detect: &Detect,
     state: &EngagementState,
@@ -91,19 +126,23 @@ pub fn atoms_at(
     requires detect { IsDetect detect.now }
     requires seen { IfSome (option_copied seen) HaveDirections }
     requires since { HaveDirectionsSince state.now }
-    ensures { AreAnswers detect.now act.now tick state.now (option_copied seen.entry) (answer_of result) }
+    ensures { AreAnswers (record { detect = detect.now; act = act.now; tick = tick }) both_power_driven state.now (option_copied seen.entry) (answer_of result) }
 {
-    let meeting = meeting_of(state);
+    row_at(state, seen, has_risk(detect, seen), act, tick)
+}
+
+/// The same row with these ranks where the engagement begins: whether A gives way to B by rank (Rule 18), whether B does to A,
+/// and whether both are power-driven.
+pub fn with_ranks(row: &AtomRow, gives: bool, stands: bool, both_power: bool) -> AtomRow
+    ensures { (terms : Terms) (before : ByRank) (state : EngagementState) (seen : Option PairStep) → AreAnswers terms before state seen (answer_of row.now) →
+        AreAnswers terms (record { gives = gives; stands = stands; both_power = both_power }) state seen (answer_of result) }
+{
     AtomRow {
-        step: step_of(seen),
-        direction: direction(seen),
-        other_direction: other_direction(seen),
-        risk: has_risk(detect, seen),
-        meeting,
-        tick,
-        changes: changes_at(act, state, seen),
-        rank_gives: Verdict::No,
-        rank_stands: Verdict::No,
-        both_power: told(meeting.is_some()),
+        by_rank: ByRank {
+            gives,
+            stands,
+            both_power,
+        },
+        ..*row
     }
 }

@@ -12,6 +12,7 @@
 mod ahead;
 mod atom_row;
 mod atoms;
+mod by_rank;
 mod follower;
 pub mod laws;
 mod pair;
@@ -19,7 +20,8 @@ mod pair_trace;
 mod ticks;
 
 pub use atom_row::AtomRow;
-pub use atoms::atoms_at;
+pub use atoms::{atoms_at, with_ranks};
+pub use by_rank::ByRank;
 pub use follower::Follower;
 pub use pair::Pair;
 pub use pair_trace::PairTrace;

@@ -2,12 +2,11 @@
 ghost use Rattle.std.specs.Prelude.{ℕ, ◌≡◌, ◌<◌, ◌^◌, ◌++◌, ◌∷◌, [], List, Option, length, map, IfSome, OnErr, OnOk};
 ghost use Rattle.encounters.specs.Directions.{HaveDirections};
 ghost use Rattle.encounters.specs.Risk.{IsDetect};
-ghost use Rattle.encounters.specs.declared.act.Act.{Act};
-ghost use Rattle.encounters.specs.declared.detect.Detect.{Detect};
 ghost use Rattle.encounters.specs.declared.pair_step.PairStep.{PairStep};
 ghost use Rattle.meetings.specs.Atoms.{AreRows};
 ghost use Rattle.meetings.specs.Answers.{answer_of};
 ghost use Rattle.meetings.specs.Standing.{StandsFor};
+ghost use Rattle.meetings.specs.Terms.{Terms};
 ghost use Rattle.meetings.specs.declared.pair.Pair.{Pair};
 
 use crate::atom_row::AtomRow;
@@ -39,7 +38,7 @@ impl PairTrace {
     /// A trace of no steps yet. A tick lasts so many seconds. This takes no memory.
     pub fn new(alloc: Global, pair: Pair, detect: Detect, act: Act, tick: u32) -> PairTrace
         requires { IsDetect detect }
-        ensures { StandsFor result pair detect act tick [] }
+        ensures { StandsFor result pair (record { detect = detect; act = act; tick = tick }) [] }
     {
         PairTrace {
             pair,
@@ -52,8 +51,8 @@ impl PairTrace {
     /// memory for its row, the trace is as before.
     pub fn push(&mut self, seen: Option<PairStep>) -> Result<(), Memory>
         requires { IfSome seen HaveDirections }
-        ensures ok { OnOk result ((pair : Pair) (detect : Detect) (act : Act) (tick : ℕ) (steps : List (Option PairStep)) → length steps < 2 ^ 31
-            → StandsFor self.old pair detect act tick steps → StandsFor self.new pair detect act tick (steps ++ seen ∷ [])) }
+        ensures ok { OnOk result ((pair : Pair) (terms : Terms) (steps : List (Option PairStep)) → length steps < 2 ^ 31
+            → StandsFor self.old pair terms steps → StandsFor self.new pair terms (steps ++ seen ∷ [])) }
         ensures memory { OnErr result (self.new ≡ self.old) }
     {
         self.rows.try_reserve(1)?;
@@ -64,16 +63,16 @@ impl PairTrace {
 
     /// The rows of the steps, one a step: each answers every atom by its value at that step.
     pub fn rows(&self) -> &[AtomRow]
-        ensures { (pair : Pair) (detect : Detect) (act : Act) (tick : ℕ) (steps : List (Option PairStep)) →
-            StandsFor self.now pair detect act tick steps → AreRows detect act tick steps (map answer_of result.now) }
+        ensures { (pair : Pair) (terms : Terms) (steps : List (Option PairStep)) →
+            StandsFor self.now pair terms steps → AreRows terms steps (map answer_of result.now) }
     {
         &self.rows
     }
 
     /// The pair whose trace it is.
     pub fn pair(&self) -> Pair
-        ensures { (pair : Pair) (detect : Detect) (act : Act) (tick : ℕ) (steps : List (Option PairStep)) →
-            StandsFor self.now pair detect act tick steps → result ≡ pair }
+        ensures { (pair : Pair) (terms : Terms) (steps : List (Option PairStep)) →
+            StandsFor self.now pair terms steps → result ≡ pair }
     {
         self.pair
     }

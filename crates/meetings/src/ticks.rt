@@ -1,34 +1,13 @@
 //! Two vessels at a tick, and from one tick to the next.
-ghost use Rattle.std.specs.Prelude.{◌≡◌, ◌↔◌, ◌≤◌, ◌*◌, ◌^◌, IfSome, IsTrue};
+ghost use Rattle.std.specs.Prelude.{◌≡◌, ◌↔◌, ◌≤◌, ◌^◌, IfSome, IsTrue};
 ghost use Rattle.std.specs.Option.{option_copied};
 ghost use Rattle.encounters.specs.Directions.{HasDirection, HaveDirections};
 ghost use Rattle.fixed_geometry.specs.Sizes.{IsBelow};
-ghost use Rattle.motion.specs.Displacement.{displacement};
 ghost use Rattle.meetings.specs.Traces.{IsContact, IsPlaced, IsShortMove, step_between};
 
 use encounters::PairStep;
-use fixed_geometry::{Point, norm2};
+use fixed_geometry::within;
 use motion::{Step, TickState};
-
-/// The displacement from `a` to `b`.
-fn displacement(a: Point, b: Point) -> Point
-    requires a { IsBelow (2 ^ 33) a }
-    requires b { IsBelow (2 ^ 33) b }
-    ensures value { result ≡ displacement a b }
-    ensures small { IsBelow (2 ^ 34) result }
-{
-    Point {
-        x: b.x - a.x,
-        y: b.y - a.y,
-    }
-}
-
-fn square(distance: u64) -> u128
-    requires { distance ≤ 1000000000 }
-    ensures { result ≡ distance * distance }
-{
-    u128::from(distance) * u128::from(distance)
-}
 
 /// Whether A and B are at most `watch` apart: tenths of a millimetre, at most 10^9. Components of their points are below 2^33
 /// in size. A pair's trace begins where they first are.
@@ -38,7 +17,7 @@ pub fn contact(a: &TickState, b: &TickState, watch: u64) -> bool
     requires watch { watch ≤ 1000000000 }
     ensures { IsTrue result ↔ IsContact watch a.now b.now }
 {
-    norm2(displacement(a.point, b.point)) <= square(watch)
+    within(a.point, b.point, watch)
 }
 
 /// The step of A and B from one tick, where they are seen as `a0` and `b0`, to the next, where they are seen as `a1` and `b1`:

@@ -1,6 +1,6 @@
 -- Which vessels are near own ship at now: those whose latest accepted report is fresh, and whose points at now are within range of
 -- hers. She is one of them; the others are her targets.
-use Rattle.std.specs.Prelude.{ℕ, ◌*◌, ◌==◌, Bool, ◌&&◌, not, nat_le, unsigned_abs, List, [], filter, Option, Some, None, if◌then◌else◌}
+use Rattle.std.specs.Prelude.{ℕ, ◌*◌, ◌==◌, Bool, ◌&&◌, not, int_le, pos, List, [], filter, Option, Some, None, if◌then◌else◌}
 use Rattle.std.specs.List.{filter_map}
 use Rattle.fixed_geometry.specs.Plane.{norm2_of}
 use Rattle.fixed_geometry.specs.declared.point.Point.{Point}
@@ -18,7 +18,7 @@ point_now now latest = (predicted_state latest [] now now).point
 
 -- At most so many tenths of a millimetre lie between two points.
 abbrev pub is_within : ℕ → Point → Point → Bool
-is_within range a b = nat_le (unsigned_abs (norm2_of (displacement a b))) (range * range)
+is_within range a b = int_le (norm2_of (displacement a b)) (pos (range * range))
 
 -- a vessel with her latest accepted report, where she is near a point
 abbrev pub near_by : ℕ → ℕ → ℕ → Point → ℕ → Option Accepted → Option Near

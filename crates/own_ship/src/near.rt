@@ -2,7 +2,6 @@
 ghost use Rattle.std.specs.Prelude.{ℕ, ◌≡◌, ◌≤◌, ◌+◌, ◌*◌, ◌^◌, List, IfOk, IfSome, Some, All};
 ghost use Rattle.std.specs.Option.{option_copied};
 ghost use Rattle.fixed_geometry.specs.Sizes.{IsWithin};
-ghost use Rattle.motion.specs.Displacement.{displacement};
 ghost use Rattle.tracks.specs.AcceptedReports.{Numbers};
 ghost use Rattle.tracks.specs.Standing.{IsAccepted, StandsFor};
 ghost use Rattle.tracks.specs.VesselsHeld.{Sent};
@@ -11,7 +10,7 @@ ghost use Rattle.own_ship.specs.NearVessels.{is_within, near_by, near_of, point_
 ghost use Rattle.own_ship.specs.Inner.Facts.{IsFresh, IsNear};
 
 use crate::readiness::is_fresh;
-use fixed_geometry::{Point, norm2};
+use fixed_geometry::{Point, within};
 use outside::Memory;
 use planner::predicted;
 use std::alloc::Global;
@@ -37,34 +36,13 @@ pub(crate) fn point_now(now: u64, latest: &Accepted) -> Point
     predicted(latest, &[], now, now).point
 }
 
-/// From one point to another.
-fn displacement(a: Point, b: Point) -> Point
-    requires a { IsWithin 7900640400 a }
-    requires b { IsWithin 7900640400 b }
-    ensures value { result ≡ displacement a b }
-    ensures small { IsWithin 15801280800 result }
-{
-    Point {
-        x: b.x - a.x,
-        y: b.y - a.y,
-    }
-}
-
-fn square(range: u64) -> u128
-    requires { range ≤ 1000000000 }
-    ensures { result ≡ range * range }
-{
-    u128::from(range) * u128::from(range)
-}
-
 /// Whether two points lie at most so far apart.
 fn is_within(range: u64, a: Point, b: Point) -> bool
-    requires range { range ≤ 1000000000 }
     requires a { IsWithin 7900640400 a }
     requires b { IsWithin 7900640400 b }
     ensures { result ≡ is_within range a b }
 {
-    norm2(displacement(a, b)) <= square(range)
+    within(a, b, range)
 }
 
 /// Around which point, how far, and when vessels are near.

@@ -20,7 +20,7 @@ use Rattle.planner.specs.Inner.Levels.{StandsAt, StaysOut, lasts}
 use Rattle.planner.specs.Inner.Paths.{EntersAlong, HasReached, start_of}
 use Rattle.planner.specs.Inner.Watching.{Stands, StandsFor}
 use Rattle.planner.specs.Prefixes.{PrefixFails, reached, told_by}
-use Rattle.planner.specs.Situations.{now_of, own_at, target_at}
+use Rattle.planner.specs.Situations.{now_of, own_at, target_at, terms_of}
 use Rattle.planner.specs.declared.basis.Basis.{Basis}
 use Rattle.planner.specs.declared.situation.Situation.{Situation}
 use Rattle.planner.specs.declared.situation.Target.{Target}
@@ -98,7 +98,7 @@ module _ (s : Situation) (X Y : List ℕ) (n : ℕ) (same : (step : ℕ) → ste
       rows = has.rows;
       begins = begins_too s X Y n same at told T at has.start (omega arith) has.begins;
       are_rows = rows_too s X Y n same at told T has.start has.rows (omega arith) has.are_rows;
-      follows = subst (λ (steps : List (Option PairStep)). meetings.Follows w.follower s.detect s.act s.tick steps) (same_steps s X Y n same T has.start (at - has.start) (omega arith)) has.follows;
+      follows = subst (λ (steps : List (Option PairStep)). meetings.Follows w.follower (terms_of s) steps) (same_steps s X Y n same T has.start (at - has.start) (omega arith)) has.follows;
       values = has.values;
     };
     waits = λ fails_so. let waits = h.waits fails_so in record {

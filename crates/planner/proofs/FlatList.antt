@@ -6,13 +6,13 @@ use Rattle.std.specs.Prelude.{Option, slice_get, IsSomeAnd}
 use Rattle.mtl_formulas.specs.FormulaTree.{FormulaTree}
 use Rattle.mtl_monitor.specs.Traces.{Trace}
 use Rattle.rule_set.specs.NamedTrees.{NamedTree}
-use Rattle.encounters.specs.declared.act.Act.{Act}
-use Rattle.encounters.specs.declared.detect.Detect.{Detect}
 use Rattle.encounters.specs.declared.pair_step.PairStep.{PairStep}
 use Rattle.meetings.specs.Answers.{Kept, answer_of}
 use Rattle.meetings.specs.Atoms.{AreRows, IsAtomRow}
 use Rattle.meetings.specs.Traces.{IsContactAt, step_at, steps_from}
 use Rattle.meetings.proofs.ForCallers.{rows_then, steps_from-last, steps_from-length}
+use Rattle.meetings.specs.Ranks.{all_power_driven}
+use Rattle.meetings.specs.Terms.{Terms}
 use Rattle.motion.specs.declared.leg.TickState.{TickState}
 use Rattle.planner.specs.FailingPlans.{AreTraceRows, BeginsAt, BreaksARule, IsNewlyBroken, NewlyBreaks, Some_}
 use Rattle.planner.specs.Situations.{now_of, own_at, target_at}
@@ -102,15 +102,15 @@ steps_more a b start k le =
     let there : start + (k - start) ≡ k = omega arith in
     ap (steps_from a b start) count ∙ (steps_from-last a b start (k - start) ∙ ap (λ (i : ℕ). steps_from a b start (k - start) ++ step_at a b i ∷ []) there)
 
-pub rows_more : (detect : Detect) (act : Act) (tick : ℕ) (a b : ℕ → Option TickState) (start k : ℕ) (rows new : List Kept) (row : Kept) → start ≤ k
-    → AreRows detect act tick (steps_from a b start (k - start)) (map answer_of rows)
-    → IsAtomRow detect act tick (steps_from a b start (k - start) ++ step_at a b k ∷ []) (length (steps_from a b start (k - start))) (answer_of row)
-    → new ≡ rows ++ row ∷ [] → AreRows detect act tick (steps_from a b start (k + 1 - start)) (map answer_of new)
-rows_more detect act tick a b start k rows new row le are is e =
-    subst (λ (xs : List (Option PairStep)). AreRows detect act tick xs (map answer_of new)) (sym (steps_more a b start k le))
-    (subst (λ (r : Trace). AreRows detect act tick (steps_from a b start (k - start) ++ step_at a b k ∷ []) r) (sym (ap (map answer_of) e ∙ map-append answer_of rows (row ∷ [])))
-    (rows_then detect act tick (steps_from a b start (k - start)) (map answer_of rows) (step_at a b k) (answer_of row) are is))
+pub rows_more : (terms : Terms) (a b : ℕ → Option TickState) (start k : ℕ) (rows new : List Kept) (row : Kept) → start ≤ k
+    → AreRows terms (steps_from a b start (k - start)) (map answer_of rows)
+    → IsAtomRow terms (steps_from a b start (k - start) ++ step_at a b k ∷ []) (length (steps_from a b start (k - start))) (answer_of row)
+    → new ≡ rows ++ row ∷ [] → AreRows terms (steps_from a b start (k + 1 - start)) (map answer_of new)
+rows_more terms a b start k rows new row le are is e =
+    subst (λ (xs : List (Option PairStep)). AreRows terms xs (map answer_of new)) (sym (steps_more a b start k le))
+    (subst (λ (r : Trace). AreRows terms (steps_from a b start (k - start) ++ step_at a b k ∷ []) r) (sym (ap (map answer_of) e ∙ map-append answer_of rows (row ∷ [])))
+    (rows_then terms all_power_driven (steps_from a b start (k - start)) (map answer_of rows) (step_at a b k) (answer_of row) are is))
 
-pub as_many : (detect : Detect) (act : Act) (tick : ℕ) (a b : ℕ → Option TickState) (start k : ℕ) (rows : List Kept)
-    → AreRows detect act tick (steps_from a b start (k - start)) (map answer_of rows) → length rows ≡ k - start
-as_many detect act tick a b start k rows are = sym (length-map rows answer_of) ∙ (are.count ∙ steps_from-length a b start (k - start))
+pub as_many : (terms : Terms) (a b : ℕ → Option TickState) (start k : ℕ) (rows : List Kept)
+    → AreRows terms (steps_from a b start (k - start)) (map answer_of rows) → length rows ≡ k - start
+as_many terms a b start k rows are = sym (length-map rows answer_of) ∙ (are.count ∙ steps_from-length a b start (k - start))

@@ -1,5 +1,4 @@
 pub mod SecondBySecond
-pub mod OneValue
 pub mod CommonLegs
 pub mod OwnStates
 pub mod Lifting

@@ -8,7 +8,6 @@ use Rattle.encounters.specs.declared.pair_step.PairStep.{PairStep}
 use Rattle.lattice.specs.OwnMotion.{choice_in_force}
 use Rattle.meetings.specs.Atoms.{AreRows}
 use Rattle.meetings.specs.Traces.{steps_from}
-use Rattle.meetings.proofs.ForCallers.{rows_of_front, steps_from-length, steps_from-split}
 use Rattle.mtl_formulas.proofs.PrefixLaw.{Stays-value, decided-Stays}
 use Rattle.mtl_formulas.specs.FormulaTree.{FormulaTree}
 use Rattle.mtl_formulas.specs.declared.verdict.Verdict.{Verdict}
@@ -16,11 +15,12 @@ use Rattle.mtl_formulas.specs.declared.verdict.Verdict.TheVariants.{No, Open}
 use Rattle.mtl_monitor.specs.Traces.{Trace, value_in}
 use Rattle.rule_set.specs.NamedTrees.{NamedTree}
 use Rattle.planner.specs.FailingPlans.{AreTraceRows, BeginsAt, BreaksARule, EntersDomain, FailsBy, FailsTowards, IsNewlyBroken, NewlyBreaks, Some_}
-use Rattle.planner.specs.Situations.{now_of, own_at, target_at}
+use Rattle.planner.specs.Situations.{now_of, own_at, target_at, terms_of}
 use Rattle.planner.specs.declared.situation.Situation.{Situation}
 use Rattle.planner.specs.declared.situation.Target.{Target}
 use Rattle.planner.proofs.CommonLegs.{same_contact, same_step, same_steps}
-use Rattle.planner.proofs.OneValue.{one_row_list}
+use Rattle.meetings.proofs.ForCallers.{one_list, rows_of_front, steps_from-length, steps_from-split}
+use Rattle.meetings.specs.Ranks.{all_power_driven}
 
 -- ---- of some element
 
@@ -54,7 +54,7 @@ one_start s X T at later start other h k =
     ]
 
 pub one_trace : (s : Situation) (X : List ℕ) (T : Target) (at start : ℕ) (rows others : Trace) → AreTraceRows s X at T start rows → AreTraceRows s X at T start others → rows ≡ others
-one_trace s X T at start rows others h k = one_row_list s.detect s.act s.tick (steps_from (own_at s X) (target_at s T) start (at - start)) rows others h k
+one_trace s X T at start rows others h k = one_list (terms_of s) all_power_driven (steps_from (own_at s X) (target_at s T) start (at - start)) rows others h k
 
 pub trace_length : (s : Situation) (X : List ℕ) (T : Target) (at start : ℕ) (rows : Trace) → AreTraceRows s X at T start rows → length rows ≡ at - start
 trace_length s X T at start rows h = h.count ∙ steps_from-length (own_at s X) (target_at s T) start (at - start)
@@ -69,8 +69,8 @@ earlier_rows s X T at later start rows from le h =
     let front = steps_from a b start (at - start) in
     let more = steps_from a b (start + (at - start)) (later - at) in
     let split : steps_from a b start (later - start) ≡ front ++ more = ap (steps_from a b start) (sym e) ∙ steps_from-split a b start (at - start) (later - at) in
-    let h' = subst (λ (steps : List (Option PairStep)). AreRows s.detect s.act s.tick steps rows) split h in
-    subst (λ (n : ℕ). AreRows s.detect s.act s.tick front (take n rows)) (steps_from-length a b start (at - start)) (rows_of_front s.detect s.act s.tick front more rows h')
+    let h' = subst (λ (steps : List (Option PairStep)). AreRows (terms_of s) steps rows) split h in
+    subst (λ (n : ℕ). AreRows (terms_of s) front (take n rows)) (steps_from-length a b start (at - start)) (rows_of_front (terms_of s) all_power_driven front more rows h')
 
 -- ---- from one plan to another
 
@@ -92,10 +92,10 @@ module _ (s : Situation) (X Y : List ℕ) (n : ℕ) (same : (step : ℕ) → ste
     same_trace start le = same_steps s X Y n same T start (at - start) (omega arith)
 
     pub rows_too : (start : ℕ) (rows : Trace) → start ≤ at → AreTraceRows s X at T start rows → AreTraceRows s Y at T start rows
-    rows_too start rows le h = subst (λ (steps : List (Option PairStep)). AreRows s.detect s.act s.tick steps rows) (same_trace start le) h
+    rows_too start rows le h = subst (λ (steps : List (Option PairStep)). AreRows (terms_of s) steps rows) (same_trace start le) h
 
     rows_back : (start : ℕ) (rows : Trace) → start ≤ at → AreTraceRows s Y at T start rows → AreTraceRows s X at T start rows
-    rows_back start rows le h = subst (λ (steps : List (Option PairStep)). AreRows s.detect s.act s.tick steps rows) (sym (same_trace start le)) h
+    rows_back start rows le h = subst (λ (steps : List (Option PairStep)). AreRows (terms_of s) steps rows) (sym (same_trace start le)) h
 
     module _ (later : ℕ) (le : at ≤ later) (from_now : now_of s ≤ at) where
       broken_too : (f : FormulaTree) (start : ℕ) (rows : Trace) → start < at → IsNewlyBroken (now_of s - start) (take (at - start) rows) f → IsNewlyBroken (now_of s - start) rows f

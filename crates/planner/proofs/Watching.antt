@@ -8,6 +8,7 @@ use Rattle.meetings.specs.Atoms.{AreRows, IsAtomRow}
 use Rattle.meetings.specs.Standing as meetings
 use Rattle.meetings.specs.Traces.{IsContactAt, step_at, steps_from}
 use Rattle.meetings.proofs.ForCallers.{rows_then, steps_from-last, steps_from-length}
+use Rattle.meetings.specs.Ranks.{all_power_driven}
 use Rattle.mtl_formulas.proofs.ReachLaw.{equal-AgreeAt, value_of-same}
 use Rattle.mtl_formulas.proofs.Values.{value_of-past}
 use Rattle.mtl_formulas.specs.FormulaMeasures.{reach_of}
@@ -22,7 +23,7 @@ use Rattle.rule_set.specs.NamedTrees.{NamedTree}
 use Rattle.planner.specs.FailingPlans.{AreTraceRows, BeginsAt, BreaksARule, NewlyBreaks}
 use Rattle.planner.specs.Inner.Breaking.{IsNewlyBrokenAt, formulas_of}
 use Rattle.planner.specs.Inner.Watching.{HasBegun, HasNotBegun, IsCutAtNow, IsUnbroken, Stands, StandsFor}
-use Rattle.planner.specs.Situations.{now_of, own_at, target_at}
+use Rattle.planner.specs.Situations.{now_of, own_at, target_at, terms_of}
 use Rattle.planner.specs.declared.situation.Situation.{Situation}
 use Rattle.planner.specs.declared.situation.Target.{Target}
 use Rattle.planner.specs.declared.watched.Watched.{Watched}
@@ -90,12 +91,12 @@ module _ (program : Program) (s : Situation) (X : List ℕ) (T : Target) (at : �
   -- One more row was fed.
   pub record IsFedOn (steps : List (Option PairStep)) (rows : Trace) : Type 0 where
     pub row : Atom → Verdict
-    pub is_row : IsAtomRow s.detect s.act s.tick (steps ++ step_at (own_at s X) (target_at s T) at ∷ []) (length steps) row
-    pub follows : meetings.Follows next.follower s.detect s.act s.tick (steps ++ step_at (own_at s X) (target_at s T) at ∷ [])
+    pub is_row : IsAtomRow (terms_of s) (steps ++ step_at (own_at s X) (target_at s T) at ∷ []) (length steps) row
+    pub follows : meetings.Follows next.follower (terms_of s) (steps ++ step_at (own_at s X) (target_at s T) at ∷ [])
     pub values : monitor.Follows program next.values (formulas_of s) (rows ++ row ∷ [])
 
   abbrev pub FeedsOn : Type 0
-  FeedsOn = (steps : List (Option PairStep)) (rows : Trace) → length steps < 2 ^ 31 → meetings.Follows w.follower s.detect s.act s.tick steps
+  FeedsOn = (steps : List (Option PairStep)) (rows : Trace) → length steps < 2 ^ 31 → meetings.Follows w.follower (terms_of s) steps
       → monitor.Follows program w.values (formulas_of s) rows → IsFedOn steps rows
 
   steps_on : (start : ℕ) → start ≤ at → steps_from (own_at s X) (target_at s T) start (at + 1 - start)
@@ -117,9 +118,9 @@ module _ (program : Program) (s : Situation) (X : List ℕ) (T : Target) (at : �
         start = start;
         rows = rows ++ fed.row ∷ [];
         begins = begins;
-        are_rows = subst (λ (xs : List (Option PairStep)). AreRows s.detect s.act s.tick xs (rows ++ fed.row ∷ [])) (sym (steps_on start le))
-            (rows_then s.detect s.act s.tick steps rows here fed.row are fed.is_row);
-        follows = subst (λ (xs : List (Option PairStep)). meetings.Follows next.follower s.detect s.act s.tick xs) (sym (steps_on start le)) fed.follows;
+        are_rows = subst (λ (xs : List (Option PairStep)). AreRows (terms_of s) xs (rows ++ fed.row ∷ [])) (sym (steps_on start le))
+            (rows_then (terms_of s) all_power_driven steps rows here fed.row are fed.is_row);
+        follows = subst (λ (xs : List (Option PairStep)). meetings.Follows next.follower (terms_of s) xs) (sym (steps_on start le)) fed.follows;
         values = fed.values;
       }
 
@@ -141,9 +142,9 @@ module _ (program : Program) (s : Situation) (X : List ℕ) (T : Target) (at : �
       let a = own_at s X in
       let b = target_at s T in
       let empty : steps_from a b at (at - at) ≡ [] = ap (steps_from a b at) none in
-      let no_rows : AreRows s.detect s.act s.tick [] [] = record { count = refl; each = λ i lt. absurd (omega arith) } in
+      let no_rows : AreRows (terms_of s) [] [] = record { count = refl; each = λ i lt. absurd (omega arith) } in
       let fed = feeds [] [] (omega arith) h.follows h.values in
-      fed_at at [] (omega arith) (subst (λ (xs : List (Option PairStep)). AreRows s.detect s.act s.tick xs []) (sym empty) no_rows)
+      fed_at at [] (omega arith) (subst (λ (xs : List (Option PairStep)). AreRows (terms_of s) xs []) (sym empty) no_rows)
       (subst (λ (xs : List (Option PairStep)). IsFedOn xs []) (sym empty) fed)
       (record { before_end = omega arith; contact = contact; least = h.apart })
 

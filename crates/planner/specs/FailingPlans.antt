@@ -7,7 +7,7 @@ use Rattle.meetings.specs.Traces.{BeginsTrace, step_at, steps_from}
 use Rattle.mtl_formulas.specs.FormulaTree.{FormulaTree}
 use Rattle.mtl_formulas.specs.declared.verdict.Verdict.TheVariants.{No}
 use Rattle.mtl_monitor.specs.Traces.{Trace, value_in}
-use Rattle.planner.specs.Situations.{end_of, now_of, own_at, target_at}
+use Rattle.planner.specs.Situations.{end_of, now_of, own_at, target_at, terms_of}
 use Rattle.planner.specs.declared.situation.Situation.{Situation}
 use Rattle.planner.specs.declared.situation.Target.{Target}
 
@@ -30,7 +30,7 @@ module _ (situation : Situation) (plan : List ℕ) (last : ℕ) (target : Target
   -- What its steps answer to the atoms: a list of steps has exactly one list of rows (`meetings::laws::there_are_rows`, `at_most_one_row`).
   abbrev pub AreTraceRows : ℕ → Trace → Type 0
   AreTraceRows start rows =
-      AreRows situation.detect situation.act situation.tick (steps_from (own_at situation plan) (target_at situation target) start (last - start)) rows
+      AreRows (terms_of situation) (steps_from (own_at situation plan) (target_at situation target) start (last - start)) rows
 
   -- A formula is newly broken over the trace, by each list of rows of it. The cut is at now, and keeps the steps before it.
   pub record NewlyBreaks (formula : FormulaTree) : Type 0 where

@@ -4,11 +4,16 @@ use Rattle.encounters.specs.Directions.{HasDirection}
 use Rattle.encounters.specs.Risk.{IsDetect}
 use Rattle.lattice.specs.Grids.{choices_of, positions_of}
 use Rattle.lattice.specs.OwnMotion.{own_state}
+use Rattle.meetings.specs.Terms.{Terms}
 use Rattle.meetings.specs.Traces.{IsPlaced, IsShortMove}
 use Rattle.motion.specs.TickStates.{IsTickState}
 use Rattle.motion.specs.declared.leg.TickState.{TickState}
 use Rattle.planner.specs.declared.situation.Situation.{Situation}
 use Rattle.planner.specs.declared.situation.Target.{Target}
+
+-- by what the meetings with the targets are told
+abbrev pub terms_of : Situation → Terms
+terms_of situation = record { detect = situation.detect; act = situation.act; tick = situation.tick }
 
 -- the tick of now, and the last planned tick
 abbrev pub now_of : Situation → ℕ

@@ -3,7 +3,6 @@ use Rattle.std.proofs.Common.{◌≡◌, ℕ, ◌+◌, ◌-◌, ◌<◌, ◌≤�
 use Rattle.std.specs.Prelude.{◌↔◌}
 use Rattle.std.specs.List.{Contains}
 use Rattle.std.proofs.lemmas.List.FromFn.{get_or-map-range_with_len, length-map-range_with_len}
-use Rattle.meetings.proofs.Rows.{OneValue}
 use Rattle.audit_rows.specs.Order.{InOrder, last_of, place_of}
 use Rattle.audit_rows.specs.declared.row.Row.{Row}
 use Rattle.audit_traces.specs.Audited.{Sighting}
@@ -57,14 +56,14 @@ module _ (scenario : Scenario) where
   abbrev decided_at : Row → ℕ
   decided_at row = last_of row + reach_of (audit_numbers scenario) + 2
 
-  module _ (one : OneValue) (lines more : List (List ℕ)) (row : Row) (h : IsSettled scenario lines (decided_at row)) where
+  module _ (lines more : List (List ℕ)) (row : Row) (h : IsSettled scenario lines (decided_at row)) where
     row_stays : IsAuditRow (audit_numbers scenario) (sighted scenario (sent scenario lines)) row
         → IsAuditRow (audit_numbers scenario) (sighted scenario (sent scenario (lines ++ more))) row
     row_stays is =
         let within = h.within in
         let count = sighted_count (sent scenario lines) in
         let other_count = sighted_count (sent scenario (lines ++ more)) in
-        same_row one (audit_numbers scenario) (sighted scenario (sent scenario lines)) (sighted scenario (sent scenario (lines ++ more))) row (omega arith) (omega arith)
+        same_row (audit_numbers scenario) (sighted scenario (sent scenario lines)) (sighted scenario (sent scenario (lines ++ more))) row (omega arith) (omega arith)
         (λ k le. sym (settled_seen lines more k (settled_ticks_are_first scenario lines (decided_at row) k h le))) is
 
     row_was : IsAuditRow (audit_numbers scenario) (sighted scenario (sent scenario (lines ++ more))) row
@@ -73,15 +72,15 @@ module _ (scenario : Scenario) where
         let within = h.within in
         let count = sighted_count (sent scenario lines) in
         let other_count = sighted_count (sent scenario (lines ++ more)) in
-        same_row one (audit_numbers scenario) (sighted scenario (sent scenario (lines ++ more))) (sighted scenario (sent scenario lines)) row (omega arith) (omega arith)
+        same_row (audit_numbers scenario) (sighted scenario (sent scenario (lines ++ more))) (sighted scenario (sent scenario lines)) row (omega arith) (omega arith)
         (λ k le. settled_seen lines more k (settled_ticks_are_first scenario lines (decided_at row) k h le)) is
 
   -- The decided rows are a front of all rows in order that are the audit's by more lines and that have them.
-  module _ (one : OneValue) (lines more : List (List ℕ)) (rows all : List Row) (h : AreDecided scenario lines rows) (ordered : InOrder all)
+  module _ (lines more : List (List ℕ)) (rows all : List Row) (h : AreDecided scenario lines rows) (ordered : InOrder all)
       (held : (row : Row) → IsAuditRow (audit_numbers scenario) (sighted scenario (sent scenario (lines ++ more))) row → IsSettled scenario lines (decided_at row) → Contains all row)
       (audited : (row : Row) → Contains all row → IsAuditRow (audit_numbers scenario) (sighted scenario (sent scenario (lines ++ more))) row) where
     inside : (row : Row) → Contains rows row → Contains all row
-    inside row i = let is = (h.each row).0 i in held row (row_stays one lines more row is.1 is.0) is.1
+    inside row i = let is = (h.each row).0 i in held row (row_stays lines more row is.1 is.0) is.1
 
     settled_too : (x y : Row) → last_of y ≤ last_of x → IsSettled scenario lines (decided_at x) → IsSettled scenario lines (decided_at y)
     settled_too x y le settled = settled_ticks_are_first scenario lines (decided_at x) (decided_at y) settled (omega arith)
@@ -90,14 +89,14 @@ module _ (scenario : Scenario) where
     begin_all =
         front rows all h.ordered ordered inside (λ x y i j before.
         let settled : IsSettled scenario lines (decided_at y) = settled_too x y (no_later (place_of y) (place_of x) before) ((h.each x).0 i).1 in
-        (h.each y).1 (row_was one lines more y settled (audited y j), settled))
+        (h.each y).1 (row_was lines more y settled (audited y j), settled))
 
 -- ---- the laws
 
-pub rows_by_settled_ticks : OneValue → (scenario : Scenario) (lines : List (List ℕ)) (s : ℕ) (rows : List Row) → ((i : ℕ) → IsSettled scenario lines i ↔ (i < s))
+pub rows_by_settled_ticks : (scenario : Scenario) (lines : List (List ℕ)) (s : ℕ) (rows : List Row) → ((i : ℕ) → IsSettled scenario lines i ↔ (i < s))
     → AreAuditRowsBelow (audit_numbers scenario) (seen_first scenario (sent scenario lines) s) (settled_by (audit_numbers scenario) (s - 1)) rows
     → AreDecided scenario lines rows
-rows_by_settled_ticks one scenario lines s rows settled h = record {
+rows_by_settled_ticks scenario lines s rows settled h = record {
   each = λ row. (
     λ i. let is = (h.each row).0 i in
         let below = is.1 in
@@ -121,7 +120,7 @@ rows_by_settled_ticks one scenario lines s rows settled h = record {
         let within = ((settled (decided_at scenario row)).1 lt).within in
         let count = first_count scenario (sent scenario lines) s in
         let other_count = sighted_count scenario (sent scenario lines) in
-        same_row one (audit_numbers scenario) (seen_first scenario (sent scenario lines) s) (sighted scenario (sent scenario lines)) row (omega arith) (omega arith)
+        same_row (audit_numbers scenario) (seen_first scenario (sent scenario lines) s) (sighted scenario (sent scenario lines)) row (omega arith) (omega arith)
         (agree row lt) is
 
     here : (row : Row) → decided_at scenario row < s → IsAuditRow (audit_numbers scenario) (sighted scenario (sent scenario lines)) row
@@ -130,7 +129,7 @@ rows_by_settled_ticks one scenario lines s rows settled h = record {
         let within = ((settled (decided_at scenario row)).1 lt).within in
         let count = first_count scenario (sent scenario lines) s in
         let other_count = sighted_count scenario (sent scenario lines) in
-        same_row one (audit_numbers scenario) (sighted scenario (sent scenario lines)) (seen_first scenario (sent scenario lines) s) row (omega arith) (omega arith)
+        same_row (audit_numbers scenario) (sighted scenario (sent scenario lines)) (seen_first scenario (sent scenario lines) s) row (omega arith) (omega arith)
         (λ k le. sym (agree row lt k le)) is
 
 pub one_list_of_decided_rows : (scenario : Scenario) (lines : List (List ℕ)) (rows others : List Row) → AreDecided scenario lines rows → AreDecided scenario lines others
@@ -138,14 +137,14 @@ pub one_list_of_decided_rows : (scenario : Scenario) (lines : List (List ℕ)) (
 one_list_of_decided_rows scenario lines rows others h k =
     same_rows rows others h.ordered k.ordered (λ row i. (k.each row).1 ((h.each row).0 i)) (λ row i. (h.each row).1 ((k.each row).0 i))
 
-pub decided_rows_are_a_front : OneValue → (scenario : Scenario) (lines more : List (List ℕ)) (rows later : List Row) → AreDecided scenario lines rows
+pub decided_rows_are_a_front : (scenario : Scenario) (lines more : List (List ℕ)) (rows later : List Row) → AreDecided scenario lines rows
     → AreDecided scenario (lines ++ more) later → (rest : List Row) × (later ≡ rows ++ rest)
-decided_rows_are_a_front one scenario lines more rows later h k =
-    begin_all scenario one lines more rows later h k.ordered
+decided_rows_are_a_front scenario lines more rows later h k =
+    begin_all scenario lines more rows later h k.ordered
     (λ row is settled. (k.each row).1 (is, settled_ticks_stay scenario lines more (decided_at scenario row) settled))
     (λ row i. ((k.each row).0 i).0)
 
-pub decided_rows_begin_the_report : OneValue → (scenario : Scenario) (lines more : List (List ℕ)) (rows all : List Row) → AreDecided scenario lines rows
+pub decided_rows_begin_the_report : (scenario : Scenario) (lines more : List (List ℕ)) (rows all : List Row) → AreDecided scenario lines rows
     → AreAuditRows (audit_numbers scenario) (sighted scenario (sent scenario (lines ++ more))) all → (rest : List Row) × (all ≡ rows ++ rest)
-decided_rows_begin_the_report one scenario lines more rows all h k =
-    begin_all scenario one lines more rows all h k.ordered (λ row is settled. (k.each row).1 is) (λ row i. (k.each row).0 i)
+decided_rows_begin_the_report scenario lines more rows all h k =
+    begin_all scenario lines more rows all h k.ordered (λ row is settled. (k.each row).1 is) (λ row i. (k.each row).0 i)

@@ -12,16 +12,16 @@ use Rattle.mtl_monitor.specs.Following.{greatest_reach}
 use Rattle.mtl_monitor.specs.Traces.{Trace, value_in}
 use Rattle.rule_set.specs.NamedTrees.{NamedTree, rule_at}
 use Rattle.encounters.specs.Engagement.{seen_at}
-use Rattle.encounters.specs.declared.act.Act.{Act}
 use Rattle.encounters.specs.declared.detect.Detect.{Detect}
 use Rattle.encounters.specs.declared.pair_step.PairStep.{PairStep}
 use Rattle.encounters.proofs.ForCallers.{Agree, agree_back, agree_front, engaged_of-agree, engagement_of-agree, seen_at-front}
 use Rattle.meetings.specs.Atoms.{IsAtomRow}
+use Rattle.meetings.specs.Terms.{Terms}
 use Rattle.meetings.specs.Traces.{AreInContact, step_at, steps_from}
 use Rattle.meetings.specs.declared.pair.Pair.{Pair}
-use Rattle.meetings.proofs.ForCallers.{row_over_less, row_over_more, steps_from-length, steps_from-split}
-use Rattle.meetings.proofs.Rows.{OneValue, same_answers}
+use Rattle.meetings.proofs.ForCallers.{row_over_less, row_over_more, same_answers, steps_from-length, steps_from-split}
 use Rattle.meetings.proofs.SomeRows.{some_rows}
+use Rattle.meetings.specs.Ranks.{all_power_driven}
 use Rattle.audit_rows.specs.Order.{first_of, last_of}
 use Rattle.audit_rows.specs.Rows.{IsRowOf}
 use Rattle.audit_rows.specs.Stretches.{mark_at}
@@ -33,7 +33,7 @@ use Rattle.audit_rows.specs.declared.topic.Topic.{Topic}
 use Rattle.audit_rows.specs.declared.topic.Topic.TheVariants.{Meeting, Verdict as OfVerdict}
 use Rattle.audit_rows.proofs.ForCallers.{row_stays, row_was, row_within}
 use Rattle.audit_traces.specs.AuditTracks.{AreMarksOf, AreMeetingMarks, AreRuleMarks, IsLeast, IsMeetingMark, IsTraceOf}
-use Rattle.audit_traces.specs.Audited.{Begins, Numbers, Sighting, state_at, state_in, step_of, trace_steps}
+use Rattle.audit_traces.specs.Audited.{Begins, Numbers, Sighting, state_at, state_in, step_of, terms_of, trace_steps}
 use Rattle.audit_traces.specs.ValueMarks.{mark_of}
 use Rattle.auditor.specs.AuditRows.{IsAuditRow}
 use Rattle.auditor.specs.Standing.{reach_of}
@@ -69,17 +69,17 @@ steps_agree a b c d i (suc count) same =
     ap₂ (λ (x : Option PairStep) (xs : List (Option PairStep)). x ∷ xs) (same i (omega arith)) (steps_agree a b c d (i + 1) count (λ k lt. same k (omega arith)))
 
 -- Two steps' answers, where the one step's are also the other's.
-same_answered : OneValue → (detect : Detect) (act : Act) (tick : ℕ) (steps others : List (Option PairStep)) (k : ℕ) (o p : Option (Atom → Verdict))
-    → ((answers : Atom → Verdict) → IsAtomRow detect act tick steps k answers → IsAtomRow detect act tick others k answers)
-    → IsSomeAnd o (IsAtomRow detect act tick steps k) → IsSomeAnd p (IsAtomRow detect act tick others k) → o ≡ p
-same_answered one detect act tick steps others k None p too row other = absurd row
-same_answered one detect act tick steps others k (Some answers) None too row other = absurd other
-same_answered one detect act tick steps others k (Some answers) (Some replies) too row other =
-    ap Some (same_answers one detect act tick others k answers replies (too answers row) other)
+same_answered : (terms : Terms) (steps others : List (Option PairStep)) (k : ℕ) (o p : Option (Atom → Verdict))
+    → ((answers : Atom → Verdict) → IsAtomRow terms steps k answers → IsAtomRow terms others k answers)
+    → IsSomeAnd o (IsAtomRow terms steps k) → IsSomeAnd p (IsAtomRow terms others k) → o ≡ p
+same_answered terms steps others k None p too row other = absurd row
+same_answered terms steps others k (Some answers) None too row other = absurd other
+same_answered terms steps others k (Some answers) (Some replies) too row other =
+    ap Some (same_answers terms all_power_driven others k answers replies (too answers row) other)
 
 -- ---- ticks that agree up to one
 
-module _ (one : OneValue) (numbers : Numbers) (ticks others : List Sighting) (until : ℕ) (here : until < length ticks) (there : until < length others)
+module _ (numbers : Numbers) (ticks others : List Sighting) (until : ℕ) (here : until < length ticks) (there : until < length others)
     (agree : (k : ℕ) → k ≤ until → get_or ticks k [] ≡ get_or others k []) where
   module _ (pair : Pair) (start : ℕ) (begun : start ≤ until) where
     begins_too : Begins numbers ticks pair start → Begins numbers others pair start
@@ -132,21 +132,21 @@ module _ (one : OneValue) (numbers : Numbers) (ticks others : List Sighting) (un
         (front_mark numbers.detect (front_of ticks) (rest_of ticks) (rest_of others) i mark (omega arith)
         (subst (λ (steps : List (Option PairStep)). IsMeetingMark numbers.detect steps i mark) (split ticks here) h))
 
-    row_too : (i : ℕ) (answers : Atom → Verdict) → start + i < until → IsAtomRow numbers.detect numbers.act numbers.tick (trace_steps numbers ticks pair start) i answers
-        → IsAtomRow numbers.detect numbers.act numbers.tick (trace_steps numbers others pair start) i answers
+    row_too : (i : ℕ) (answers : Atom → Verdict) → start + i < until → IsAtomRow (terms_of numbers) (trace_steps numbers ticks pair start) i answers
+        → IsAtomRow (terms_of numbers) (trace_steps numbers others pair start) i answers
     row_too i answers lt h =
         let long = front_length in
-        subst (λ (steps : List (Option PairStep)). IsAtomRow numbers.detect numbers.act numbers.tick steps i answers) (sym split_others)
-        (row_over_more numbers.detect numbers.act numbers.tick (front_of ticks) (rest_of others) i answers (omega arith)
-        (row_over_less numbers.detect numbers.act numbers.tick (front_of ticks) (rest_of ticks) i answers (omega arith)
-        (subst (λ (steps : List (Option PairStep)). IsAtomRow numbers.detect numbers.act numbers.tick steps i answers) (split ticks here) h)))
+        subst (λ (steps : List (Option PairStep)). IsAtomRow (terms_of numbers) steps i answers) (sym split_others)
+        (row_over_more (terms_of numbers) all_power_driven (front_of ticks) (rest_of others) i answers (omega arith)
+        (row_over_less (terms_of numbers) all_power_driven (front_of ticks) (rest_of ticks) i answers (omega arith)
+        (subst (λ (steps : List (Option PairStep)). IsAtomRow (terms_of numbers) steps i answers) (split ticks here) h)))
 
     answers_too : (trace other : Trace) → IsTraceOf numbers ticks pair start trace → IsTraceOf numbers others pair start other → (k : ℕ) → start + k < until
         → slice_get trace k ≡ slice_get other k
     answers_too trace other h g k lt =
         let long = steps_length ticks in
         let other_long = steps_length others in
-        same_answered one numbers.detect numbers.act numbers.tick (trace_steps numbers ticks pair start) (trace_steps numbers others pair start) k
+        same_answered (terms_of numbers) (trace_steps numbers ticks pair start) (trace_steps numbers others pair start) k
         (slice_get trace k) (slice_get other k) (λ answers row. row_too k answers lt row) (h.rows.each k (omega arith)) (g.rows.each k (omega arith))
 
     value_too : (trace other : Trace) → IsTraceOf numbers ticks pair start trace → IsTraceOf numbers others pair start other → (tree : FormulaTree) (i : ℕ)
@@ -173,7 +173,7 @@ module _ (one : OneValue) (numbers : Numbers) (ticks others : List Sighting) (un
         → (rest : List Mark) × AreRuleMarks numbers others pair rule start (take n marks ++ rest)
     rule_too rule marks n le h =
         let tree : FormulaTree = (rule_at numbers.rules rule).tree in
-        let rows = some_rows numbers.detect numbers.act numbers.tick (trace_steps numbers others pair start) in
+        let rows = some_rows (terms_of numbers) all_power_driven (trace_steps numbers others pair start) in
         let other : Trace = rows.0 in
         let is : IsTraceOf numbers others pair start other = record { begins = begins_too h.of.begins; rows = rows.1 } in
         let count = h.count in
@@ -203,18 +203,18 @@ module _ (one : OneValue) (numbers : Numbers) (ticks others : List Sighting) (un
   marks_count (OfVerdict pair rule) first marks le h = rule_count pair first le rule marks h
 
 -- A row of the audit of ticks is one of the audit of other ticks that agree up to the farthest rule's reach and two behind its last step.
-pub same_row : OneValue → (numbers : Numbers) (ticks others : List Sighting) (row : Row)
+pub same_row : (numbers : Numbers) (ticks others : List Sighting) (row : Row)
     → last_of row + reach_of numbers + 2 < length ticks → last_of row + reach_of numbers + 2 < length others
     → ((k : ℕ) → k ≤ last_of row + reach_of numbers + 2 → get_or ticks k [] ≡ get_or others k [])
     → IsAuditRow numbers ticks row → IsAuditRow numbers others row
-same_row one numbers ticks others row here there agree (track, (is, of)) =
+same_row numbers ticks others row here there agree (track, (is, of)) =
     let until : ℕ = last_of row + reach_of numbers + 2 in
     let within : (track.first ≤ first_of row) × (first_of row ≤ last_of row) × (last_of row < next_step track) = row_within track row of in
     let from = within.0 in
     let ordered = within.1 in
     let n : ℕ = (last_of row + 2) - track.first in
-    let count = marks_count one numbers ticks others until here there agree track.topic track.first track.marks (omega arith) is in
-    let more = marks_too one numbers ticks others until here there agree track.topic track.first track.marks n (omega arith) is in
+    let count = marks_count numbers ticks others until here there agree track.topic track.first track.marks (omega arith) is in
+    let more = marks_too numbers ticks others until here there agree track.topic track.first track.marks n (omega arith) is in
     let front : Track = record track { marks = take n track.marks } in
     let taken = length-take n track.marks in
     let known : last_of row + 1 < track.first + length (take n track.marks) = omega arith in

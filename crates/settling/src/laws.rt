@@ -14,8 +14,6 @@ ghost use Rattle.settling.specs.SettledTicks.{HaveManySettled, IsSettled};
 ghost use Rattle.settling.specs.Sightings.{audit_numbers, seen_first, sighted};
 ghost use Rattle.tracks.specs.SeenVessels.{seen_of};
 
-use meetings::laws::at_most_one_value;
-
 /// A tick that is settled stays so, whatever lines follow.
 pub fn settled_ticks_stay()
     ensures { (scenario : Scenario) (lines more : List (List ℕ)) (i : ℕ) → IsSettled scenario lines i → IsSettled scenario (lines ++ more) i }
@@ -44,18 +42,14 @@ pub fn rows_look_so_far_ahead()
         last_of row + reach_of numbers + 2 < length ticks → last_of row + reach_of numbers + 2 < length others →
         ((k : ℕ) → k ≤ last_of row + reach_of numbers + 2 → get_or ticks k [] ≡ get_or others k []) →
         IsAuditRow numbers ticks row → IsAuditRow numbers others row }
-{
-    at_most_one_value();
-}
+{}
 
 /// Where the first `s` ticks are the settled ones, the rows that an audit of them has decided are those that the lines decide.
 pub fn rows_by_settled_ticks()
     ensures { (scenario : Scenario) (lines : List (List ℕ)) (s : ℕ) (rows : List Row) → ((i : ℕ) → IsSettled scenario lines i ↔ (i < s)) →
         AreAuditRowsBelow (audit_numbers scenario) (seen_first scenario (sent scenario lines) s) (settled_by (audit_numbers scenario) (s - 1)) rows →
         AreDecided scenario lines rows }
-{
-    at_most_one_value();
-}
+{}
 
 /// Lines decide one list of rows at most.
 pub fn one_list_of_decided_rows()
@@ -67,14 +61,10 @@ pub fn one_list_of_decided_rows()
 pub fn decided_rows_are_a_front()
     ensures { (scenario : Scenario) (lines more : List (List ℕ)) (rows later : List Row) → AreDecided scenario lines rows →
         AreDecided scenario (lines ++ more) later → (rest : List Row) × (later ≡ rows ++ rest) }
-{
-    at_most_one_value();
-}
+{}
 
 /// The rows that are decided are a front of the whole report's, whatever lines follow.
 pub fn decided_rows_begin_the_report()
     ensures { (scenario : Scenario) (lines more : List (List ℕ)) (rows all : List Row) → AreDecided scenario lines rows →
         AreAuditRows (audit_numbers scenario) (sighted scenario (sent scenario (lines ++ more))) all → (rest : List Row) × (all ≡ rows ++ rest) }
-{
-    at_most_one_value();
-}
+{}

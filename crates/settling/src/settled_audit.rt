@@ -18,7 +18,6 @@ ghost use Rattle.tracks.specs.declared.keeping.Keeping.TheVariants.{Tracks};
 
 use auditor::{Audit, AuditEnd, AuditFault, Row};
 use judged_lines::Judge;
-use meetings::laws::at_most_one_value;
 use motion::TickState;
 use outside::Memory;
 use scenario::Scenario;
@@ -128,7 +127,6 @@ impl SettledAudit {
         ensures few { OnOk result ((lines more : List (List ℕ)) (given : List Row) → StandsFor self.old scenario.now lines given
             → JudgeStandsFor judge.now scenario.now (lines ++ more) → HaveManySettled scenario.now (lines ++ more) → ⊥) }
     {
-        at_most_one_value();
         let mut rows = Vec::new(self.alloc);
         while self.is_settled(scenario, judge) {
             let further = self.step(scenario, judge)?;

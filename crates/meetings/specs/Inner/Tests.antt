@@ -1,5 +1,5 @@
 -- The tests that answer the atoms.
-use Rattle.std.specs.Prelude.{ℕ, ◌*◌, Bool, true, false, ◌&&◌, ◌||◌, ◌==◌, nat_le, Option, Some, None, pos, neg_ℤ, ◌*ℤ◌, int_le, int_lt}
+use Rattle.std.specs.Prelude.{ℕ, ◌*◌, Bool, true, false, ◌&&◌, ◌||◌, ◌==◌, not, nat_le, Option, Some, None, is_some, pos, neg_ℤ, ◌*ℤ◌, int_le, int_lt}
 use Rattle.fixed_geometry.specs.Bearing.{bearing_of, lies_to_port}
 use Rattle.fixed_geometry.specs.Plane.{dot_of, norm2_of, turn_of}
 use Rattle.motion.specs.Steps.{RelativeMove}
@@ -68,6 +68,10 @@ is_age tick seconds (Some meeting) = nat_le seconds (meeting.age * tick)
 abbrev pub is_first : Option Meeting → Bool
 is_first None = false
 is_first (Some meeting) = meeting.age == 0
+
+-- engaged, and neither overtakes the other
+abbrev pub rank_counts : Option Meeting → Bool
+rank_counts meeting = is_some meeting && (not (is_kind class.Overtaking meeting) && not (is_kind class.Overtaken meeting))
 
 -- what a row keeps of the state and of the step
 abbrev pub meeting_of : EngagementState → Option Meeting

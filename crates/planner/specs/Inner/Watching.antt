@@ -7,7 +7,7 @@ use Rattle.mtl_monitor.specs.Traces.{Trace}
 use Rattle.mtl_monitor.specs.declared.program.Program.{Program}
 use Rattle.planner.specs.FailingPlans.{AreTraceRows, BeginsAt}
 use Rattle.planner.specs.Inner.Breaking.{IsNewlyBrokenAt, formulas_of}
-use Rattle.planner.specs.Situations.{now_of, own_at, target_at}
+use Rattle.planner.specs.Situations.{now_of, own_at, target_at, terms_of}
 use Rattle.planner.specs.declared.situation.Situation.{Situation}
 use Rattle.planner.specs.declared.situation.Target.{Target}
 use Rattle.planner.specs.declared.watched.Watched.{Watched}
@@ -27,7 +27,7 @@ module _ (program : Program) (situation : Situation) (plan : List ℕ) (target :
   -- The vessels were not in contact before this tick.
   pub record HasNotBegun (at : ℕ) (watched : Watched) : Type 0 where
     pub apart : (k : ℕ) → k < at → ¬ IsContactAt (own_at situation plan) (target_at situation target) situation.detect.watch k
-    pub follows : meetings.Follows watched.follower situation.detect situation.act situation.tick []
+    pub follows : meetings.Follows watched.follower (terms_of situation) []
     pub values : monitor.Follows program watched.values (formulas_of situation) []
 
   -- Their trace has these rows up to this tick.
@@ -36,7 +36,7 @@ module _ (program : Program) (situation : Situation) (plan : List ℕ) (target :
     pub rows : Trace
     pub begins : BeginsAt situation plan at target start
     pub are_rows : AreTraceRows situation plan at target start rows
-    pub follows : meetings.Follows watched.follower situation.detect situation.act situation.tick (steps_from (own_at situation plan) (target_at situation target) start (at - start))
+    pub follows : meetings.Follows watched.follower (terms_of situation) (steps_from (own_at situation plan) (target_at situation target) start (at - start))
     pub values : monitor.Follows program watched.values (formulas_of situation) rows
 
   pub record StandsFor (at : ℕ) (watched : Watched) : Type 0 where

@@ -2,4 +2,4 @@ use Rattle.settling.proofs.DecidedRows.{rows_by_settled_ticks}
 use Rattle.settling.proofs.laws.rows_by_settled_ticks.Goals as goal
 
 pub returns : goal.returns
-returns c = rows_by_settled_ticks c.at_most_one_value.ensures
+returns c = rows_by_settled_ticks

@@ -2,4 +2,4 @@ use Rattle.settling.proofs.SameRows.{same_row}
 use Rattle.settling.proofs.laws.rows_look_so_far_ahead.Goals as goal
 
 pub returns : goal.returns
-returns c = same_row c.at_most_one_value.ensures
+returns c = same_row

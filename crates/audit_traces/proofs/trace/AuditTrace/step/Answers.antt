@@ -2,11 +2,13 @@ use Rattle.std.proofs.Common.{◌<◌, ◌^◌, ◌++◌, ◌∷◌, [], length,
 use Rattle.std.specs.Option.{option_copied}
 use Rattle.meetings.specs.Answers.{answer_of}
 use Rattle.meetings.proofs.ForCallers.{rows_then}
+use Rattle.meetings.specs.Ranks.{all_power_driven}
 use Rattle.audit_traces.specs.TraceKeeping.{formulas_of}
 use Rattle.audit_traces.proofs.RowAnswers.{on_ok}
 use Rattle.audit_traces.proofs.Resting.{rested}
 use Rattle.audit_traces.proofs.TraceKeeping.{meeting_marked, stepped}
 use Rattle.audit_traces.proofs.trace.AuditTrace.step.Goals as goal
+use Rattle.audit_traces.specs.Audited.{terms_of}
 
 pub returns-clause-stands : goal.returns-clause-stands
 returns-clause-stands c = on_ok c.mark_rules.result
@@ -16,9 +18,9 @@ returns-clause-stands c = on_ok c.mark_rules.result
     let steps = stands.rows.count in
     let fed = stands.values.all_fed in
     let short : length known.steps < 2 ^ 31 = omega (arith, c.requires.few) in
-    let follows = c.step-row.ensures.follows numbers.detect numbers.act numbers.tick known.steps short stands.follows in
-    let was = c.state-was.ensures numbers.detect numbers.act numbers.tick known.steps stands.follows in
-    let is = c.state-is.ensures numbers.detect numbers.act numbers.tick (known.steps ++ seen ∷ []) follows in
+    let follows = c.step-row.ensures.follows (terms_of numbers) known.steps short stands.follows in
+    let was = c.state-was.ensures (terms_of numbers) known.steps stands.follows in
+    let is = c.state-is.ensures (terms_of numbers) (known.steps ++ seen ∷ []) follows in
     let is_mark = c.meeting_mark.ensures numbers.detect known.steps is in
     let begins = stands.start in
     let apart = c.stays_apart-apart.ensures in
@@ -30,8 +32,8 @@ returns-clause-stands c = on_ok c.mark_rules.result
       pair = stands.pair;
       start = stands.start;
       follows = follows;
-      rows = rows_then numbers.detect numbers.act numbers.tick known.steps known.trace seen row stands.rows
-          (c.step-row.ensures.row numbers.detect numbers.act numbers.tick known.steps short stands.follows);
+      rows = rows_then (terms_of numbers) all_power_driven known.steps known.trace seen row stands.rows
+          (c.step-row.ensures.row (terms_of numbers) known.steps short stands.follows);
       values = c.feed-changes.ensures.follows (formulas_of numbers) known.trace stands.values;
     })
     is_mark c.args.first c.args.marks.now c.mark_or_repeat.new.marks c.mark_rules.new.marks meets marks
@@ -45,9 +47,9 @@ returns-then-has_answered-clause-stands c = λ numbers known before mine after b
     let steps = stands.rows.count in
     let fed = stands.values.all_fed in
     let short : length known.steps < 2 ^ 31 = omega (arith, c.requires.few) in
-    let follows = c.step-row.ensures.follows numbers.detect numbers.act numbers.tick known.steps short stands.follows in
-    let was = c.state-was.ensures numbers.detect numbers.act numbers.tick known.steps stands.follows in
-    let is = c.state-is.ensures numbers.detect numbers.act numbers.tick (known.steps ++ seen ∷ []) follows in
+    let follows = c.step-row.ensures.follows (terms_of numbers) known.steps short stands.follows in
+    let was = c.state-was.ensures (terms_of numbers) known.steps stands.follows in
+    let is = c.state-is.ensures (terms_of numbers) (known.steps ++ seen ∷ []) follows in
     let is_mark = c.meeting_mark.ensures numbers.detect known.steps is in
     let begins = stands.start in
     let apart = c.stays_apart-apart.ensures in
@@ -60,8 +62,8 @@ returns-then-has_answered-clause-stands c = λ numbers known before mine after b
       pair = stands.pair;
       start = stands.start;
       follows = follows;
-      rows = rows_then numbers.detect numbers.act numbers.tick known.steps known.trace seen row stands.rows
-          (c.step-row.ensures.row numbers.detect numbers.act numbers.tick known.steps short stands.follows);
+      rows = rows_then (terms_of numbers) all_power_driven known.steps known.trace seen row stands.rows
+          (c.step-row.ensures.row (terms_of numbers) known.steps short stands.follows);
       values = c.feed-changes.ensures.follows (formulas_of numbers) known.trace stands.values;
     })
     is_mark _ stands.values (c.feed-changes.ensures.same c.if-not-changes.true) (omega arith)

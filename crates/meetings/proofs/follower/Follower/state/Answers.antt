@@ -3,7 +3,7 @@ use Rattle.meetings.specs.Standing.{Following, Follows}
 use Rattle.meetings.proofs.follower.Follower.state.Goals as goal
 
 pub returns : goal.returns
-returns c = λ detect act tick steps follows.
-    let before : Follows (record { act = c.self.inside.act; tick = c.self.inside.tick; engagement = c.self.inside.engagement }) detect act tick steps =
-    subst (λ (f : Following). Follows f detect act tick steps) (sym c.self.view_is) follows in
-    c.state.ensures detect steps before.engagement
+returns c = λ terms steps follows.
+    let before : Follows (record { act = c.self.inside.act; tick = c.self.inside.tick; engagement = c.self.inside.engagement }) terms steps =
+    subst (λ (f : Following). Follows f terms steps) (sym c.self.view_is) follows in
+    c.state.ensures terms.detect steps before.engagement

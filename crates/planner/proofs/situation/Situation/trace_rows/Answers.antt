@@ -7,7 +7,7 @@ use Rattle.meetings.specs.Atoms.{IsAtomRow}
 use Rattle.meetings.specs.Standing.{Follows}
 use Rattle.meetings.specs.Traces.{step_at, steps_from}
 use Rattle.meetings.proofs.ForCallers.{steps_from-length}
-use Rattle.planner.specs.Situations.{own_at, target_at}
+use Rattle.planner.specs.Situations.{own_at, target_at, terms_of}
 use Rattle.planner.proofs.FlatList.{as_many, rows_more, steps_more}
 use Rattle.planner.proofs.situation.Situation.trace_rows.Goals as goal
 
@@ -24,13 +24,13 @@ loop-k-preserved c =
     let count = steps_from-length a b c.args.start (k - c.args.start) in
     let short : length steps < 2 ^ 31 = omega arith in
     let seen : option_copied c.as_ref.result ≡ step_at a b k = c.as_ref.ensures.value ∙ c.step_at.ensures.value in
-    let follows = c.step.ensures.follows s.detect s.act s.tick steps short c.loop-k.invariant.follows in
-    let row = c.step.ensures.row s.detect s.act s.tick steps short c.loop-k.invariant.follows in
+    let follows = c.step.ensures.follows (terms_of s) steps short c.loop-k.invariant.follows in
+    let row = c.step.ensures.row (terms_of s) steps short c.loop-k.invariant.follows in
     record {
-      follows = subst (λ (xs : List (Option PairStep)). Follows c.step.new.self s.detect s.act s.tick xs) (sym (steps_more a b c.args.start k le))
-          (subst (λ (o : Option PairStep). Follows c.step.new.self s.detect s.act s.tick (steps ++ o ∷ [])) seen follows);
-      are_rows = rows_more s.detect s.act s.tick a b c.args.start k c.loop-k.rows.items c.push.new.self.items c.step.result le c.loop-k.invariant.are_rows
-          (subst (λ (o : Option PairStep). IsAtomRow s.detect s.act s.tick (steps ++ o ∷ []) (length steps) (answer_of c.step.result)) seen row)
+      follows = subst (λ (xs : List (Option PairStep)). Follows c.step.new.self (terms_of s) xs) (sym (steps_more a b c.args.start k le))
+          (subst (λ (o : Option PairStep). Follows c.step.new.self (terms_of s) (steps ++ o ∷ [])) seen follows);
+      are_rows = rows_more (terms_of s) a b c.args.start k c.loop-k.rows.items c.push.new.self.items c.step.result le c.loop-k.invariant.are_rows
+          (subst (λ (o : Option PairStep). IsAtomRow (terms_of s) (steps ++ o ∷ []) (length steps) (answer_of c.step.result)) seen row)
           c.in_ok-push.ensures.items;
     }
 
@@ -40,5 +40,5 @@ returns-clause-count c =
     let start = c.requires.start in
     let le = c.loop-k-test.false in
     let ge = c.loop-k.auto.k-end in
-    let many = as_many c.args.self.now.detect c.args.self.now.act c.args.self.now.tick (own_at c.args.self.now c.args.plan.now) (target_at c.args.self.now c.args.target.now) c.args.start c.loop-k.k c.loop-k.rows.items c.loop-k.invariant.are_rows in
+    let many = as_many (terms_of c.args.self.now) (own_at c.args.self.now c.args.plan.now) (target_at c.args.self.now c.args.target.now) c.args.start c.loop-k.k c.loop-k.rows.items c.loop-k.invariant.are_rows in
     omega arith

@@ -5,6 +5,7 @@ use Rattle.meetings.specs.Answers.{answer_of}
 use Rattle.meetings.specs.Atoms.{IsAtomRow}
 use Rattle.meetings.specs.Standing.{Follows}
 use Rattle.planner.specs.Inner.Breaking.{formulas_of}
+use Rattle.planner.specs.Situations.{terms_of}
 use Rattle.planner.proofs.Watching.{with_row, without_row}
 use Rattle.planner.proofs.watched.Watched.take.Goals as goal
 
@@ -13,8 +14,8 @@ returns-then-self-clause-stands c = λ s X T at stands contact seen.
     with_row c.args.program.now s X T at c.args.self.now _ c.args.in_contact stands contact c.requires.few (sym c.has_begun-self.ensures ∙ c.if-self.true) c.if-self.true
     (λ steps rows short follows values. record {
       row = answer_of c.step-row.result;
-      is_row = subst (λ (o : Option PairStep). IsAtomRow s.detect s.act s.tick (steps ++ o ∷ []) (length steps) (answer_of c.step-row.result)) seen (c.step-row.ensures.row s.detect s.act s.tick steps short follows);
-      follows = subst (λ (o : Option PairStep). Follows c.step-row.new.self s.detect s.act s.tick (steps ++ o ∷ [])) seen (c.step-row.ensures.follows s.detect s.act s.tick steps short follows);
+      is_row = subst (λ (o : Option PairStep). IsAtomRow (terms_of s) (steps ++ o ∷ []) (length steps) (answer_of c.step-row.result)) seen (c.step-row.ensures.row (terms_of s) steps short follows);
+      follows = subst (λ (o : Option PairStep). Follows c.step-row.new.self (terms_of s) (steps ++ o ∷ [])) seen (c.step-row.ensures.follows (terms_of s) steps short follows);
       values = c.feed.ensures.follows (formulas_of s) rows values;
     })
 

@@ -52,7 +52,7 @@ pub returns-clause-decided : goal.returns-clause-decided
 returns-clause-decided c = λ lines more given stands judged.
     let new = stands_then c.args.scenario.now c.loop-self.self (lines ++ more) (given ++ c.loop-self.rows.items) (c.loop-self.invariant lines more given stands judged)
     (c.is_settled.ensures.open c.loop-self-test.false (lines ++ more) judged) in
-    rows_by_settled_ticks c.at_most_one_value.ensures c.args.scenario.now (lines ++ more) c.loop-self.self.next (given ++ c.loop-self.rows.items) new.settled new.audited.rows
+    rows_by_settled_ticks c.args.scenario.now (lines ++ more) c.loop-self.self.next (given ++ c.loop-self.rows.items) new.settled new.audited.rows
 
 pub returns-clause-few : goal.returns-clause-few
 returns-clause-few c = λ lines more given stands judged.

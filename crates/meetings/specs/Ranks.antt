@@ -1,0 +1,18 @@
+-- The ranks of two vessels (Rule 18 of the COLREGs 1972), where their engagement begins.
+use Rattle.std.specs.Prelude.{ℕ, ◌-◌, true, false}
+use Rattle.encounters.specs.declared.engagement_state.EngagementState.{EngagementState}
+use Rattle.encounters.specs.declared.engagement_state.EngagementState.TheVariants.{Apart, Engaged}
+use Rattle.meetings.specs.declared.by_rank.ByRank.{ByRank}
+
+-- Neither of two power-driven vessels gives way by rank. So it is of vessels whose ranks are not told.
+abbrev pub both_power_driven : ByRank
+both_power_driven = record { gives = false; stands = false; both_power = true }
+
+-- the same at each step
+abbrev pub all_power_driven : ℕ → ByRank
+all_power_driven i = both_power_driven
+
+-- the step at which the engagement at step i began; step i itself, where there is none
+abbrev pub beginning_at : ℕ → EngagementState → ℕ
+beginning_at i Apart = i
+beginning_at i (Engaged kind age a b) = i - age
