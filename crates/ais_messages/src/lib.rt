@@ -14,6 +14,3 @@ pub use decoding::{decode, place, position};
 pub use encoding::encode_position;
 pub use message::{Decoded, Message, MessageCause, PositionReport, ShipData, StaticReport};
 pub use text::{Text20, text6};
-
-#[cfg(test)]
-mod tests;

@@ -1,5 +1,5 @@
 //! One happy path of each kind, its failing call, and pieces of one byte.
-use crate::{
+use outside::{
     Fetched, FileShelf, MemoryShelf, MemorySink, MemorySource, PlainShelf, PlainSource, Put,
     ReadFault, Shelf, Sink, Source, StdSink, StdSource, Taken, Word, put_all, read_whole,
 };

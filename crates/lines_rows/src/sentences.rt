@@ -1,4 +1,5 @@
-use super::*;
+//! Lines as sentences, and sentences joined to messages.
+use aivdm::{Bits, Body, Joined, Joiner, LineCause, read_line, write_sentence};
 use std::test::Fail;
 
 /// What a line completes, received at a time.

@@ -1,4 +1,7 @@
-use super::*;
+//! Messages with known fields.
+use ais_messages::{
+    Decoded, Message, MessageCause, PositionReport, ShipData, decode, encode_position,
+};
 use aivdm::{Body, Joined, Joiner, read_line, write_sentence};
 use std::alloc::Global;
 use std::test::Fail;
