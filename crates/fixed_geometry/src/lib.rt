@@ -23,6 +23,3 @@ pub use point::{Point, dot, isqrt, norm2, turn};
 pub use projection::{Reference, project};
 pub use rounding::round_quotient;
 pub use velocities::velocity;
-
-#[cfg(test)]
-mod tests;

@@ -11,8 +11,6 @@ mod numbers;
 mod orders;
 mod own_motion;
 mod plan;
-#[cfg(test)]
-mod tests;
 mod under_way;
 
 pub use lattice::Lattice;

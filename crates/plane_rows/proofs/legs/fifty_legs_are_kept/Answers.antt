@@ -2,7 +2,7 @@ use Rattle.std.proofs.Common.{◌≡◌, ◌+◌, ◌*◌, ◌≤◌, List, [], 
 use Rattle.std.specs.Prelude.{Option}
 use Rattle.std.specs.List.{last_or}
 use Rattle.motion.specs.declared.leg.Leg.{Leg}
-use Rattle.motion.proofs.tests.fifty_legs_are_kept.Goals as goal
+use Rattle.plane_rows.proofs.legs.fifty_legs_are_kept.Goals as goal
 
 last_or-push : (o : Option Leg) (xs : List Leg) (x : Leg) → last_or o (xs ++ x ∷ []) ≡ Some x
 last_or-push o [] x = refl

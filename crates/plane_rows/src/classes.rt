@@ -1,8 +1,9 @@
+//! Classes of encounters.
 ghost use Rattle.std.specs.Prelude.{◌<◌, IfSome};
 
-use super::*;
 use fixed_geometry::Point;
 use motion::Step;
+use sectors::{Angles, Class, class_of};
 use std::test::Fail;
 
 const ANGLES: Angles = Angles {

@@ -1,4 +1,8 @@
-use super::*;
+//! Published values of the plane and the compass.
+use fixed_geometry::{
+    Point, Reference, bearing, dot, isqrt, norm2, project, relative, swing, to_port, turn, unit,
+    velocity,
+};
 use std::test::Fail;
 
 #[test]

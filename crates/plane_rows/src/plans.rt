@@ -1,7 +1,7 @@
 //! Worked plans and motions.
-use crate::Lattice;
-use crate::laws::{numbers_and_plans_are_inverse, orders_are_taken_at_once};
 use fixed_geometry::Point;
+use lattice::Lattice;
+use lattice::laws::{numbers_and_plans_are_inverse, orders_are_taken_at_once};
 use motion::TickState;
 
 const NORTHWARD: TickState = TickState {

@@ -1,7 +1,11 @@
+//! Engagements, and alterations since their beginning.
 ghost use Rattle.std.specs.Prelude.{◌<◌, IfSome};
 ghost use Rattle.encounters.specs.Directions.{HasDirection, HaveDirections};
 
-use super::*;
+use encounters::{
+    Act, Changes, Detect, Engagement, EngagementState, PairStep, changes_since, opening,
+    past_clear, risk,
+};
 use fixed_geometry::Point;
 use motion::{Step, TickState};
 use mtl_formulas::Verdict;

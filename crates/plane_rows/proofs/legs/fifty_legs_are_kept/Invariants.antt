@@ -1,6 +1,6 @@
 use Rattle.std.proofs.Common.{◌*◌, ◌≤◌, IfSome, None}
 use Rattle.std.specs.List.{last_or}
-use Rattle.motion.proofs.tests.fifty_legs_are_kept.Given as goal
+use Rattle.plane_rows.proofs.legs.fifty_legs_are_kept.Given as goal
 
 -- Each leg is over where the next begins.
 abbrev pub invariant-loop-k : goal.invariant-loop-k

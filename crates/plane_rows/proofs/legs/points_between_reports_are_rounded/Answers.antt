@@ -1,5 +1,5 @@
 use Rattle.std.proofs.Common.{lit<, lit≤}
-use Rattle.motion.proofs.tests.points_between_reports_are_rounded.Goals as goal
+use Rattle.plane_rows.proofs.legs.points_between_reports_are_rounded.Goals as goal
 
 pub push-requires-clause-leg : goal.push-requires-clause-leg
 push-requires-clause-leg g c = rw c.leg.ensures (record {

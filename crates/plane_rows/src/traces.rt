@@ -1,12 +1,12 @@
-//! What no clause says: worked numbers, and that each call can succeed.
+//! The answers of two vessels' steps to the atoms.
 ghost use Rattle.std.specs.Prelude.{◌≡◌, ◌<◌, IfSome};
 ghost use Rattle.std.specs.Option.{option_copied};
 ghost use Rattle.mtl_formulas.specs.FormulaMeasures.{IsValidAtom};
 ghost use Rattle.encounters.specs.Directions.{HasDirection, HaveDirections};
 
-use super::*;
 use encounters::{Act, Detect, EngagementState, PairStep, past_clear};
 use fixed_geometry::Point;
+use meetings::{AtomRow, Follower, Pair, PairTrace, atoms_at, contact, step_between};
 use motion::{Step, TickState};
 use mtl_formulas::{Atom, Atoms, Verdict};
 use sectors::{Angles, Class};

@@ -1,8 +1,9 @@
+//! Legs between reports, and steps.
 ghost use Rattle.std.specs.Prelude.{◌≡◌, ◌+◌, ◌<◌, ◌^◌};
 ghost use Rattle.motion.specs.TickStates.{IsLeg};
 
-use super::*;
 use fixed_geometry::Point;
+use motion::{Leg, Legs, Step};
 use std::alloc::Global;
 use std::test::Fail;
 

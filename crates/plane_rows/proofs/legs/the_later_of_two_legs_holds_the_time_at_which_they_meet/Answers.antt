@@ -1,5 +1,5 @@
 use Rattle.std.proofs.Common.{lit<, lit≤}
-use Rattle.motion.proofs.tests.the_later_of_two_legs_holds_the_time_at_which_they_meet.Goals as goal
+use Rattle.plane_rows.proofs.legs.the_later_of_two_legs_holds_the_time_at_which_they_meet.Goals as goal
 
 pub push-requires-clause-leg : goal.push-requires-clause-leg
 push-requires-clause-leg g c = rw c.leg.ensures (record {

@@ -1,4 +1,5 @@
-use super::*;
+//! How near two vessels come to each other in a step.
+use closest_approach::{Moment, enters_within, entry, least, separated};
 use fixed_geometry::Point;
 use motion::Step;
 use std::test::Fail;
