@@ -28,6 +28,3 @@ pub use book::Book;
 pub use entry::{BookFault, Entry, ReportCause};
 pub use keeping::Keeping;
 pub use statics::Statics;
-
-#[cfg(test)]
-mod tests;

@@ -1,8 +1,8 @@
+//! What reports come to in a book of vessels.
 ghost use Rattle.std.specs.Prelude.{◌≡◌, ◌≤◌, ◌<◌, IfOk, unsigned_abs};
 ghost use Rattle.ais_messages.specs.MessageFields.{IsMessage, IsReport, IsStatic};
 ghost use Rattle.tracks.specs.declared.keeping.Keeping.TheVariants.{Tracks};
 
-use super::*;
 use ais_messages::{Decoded, Message, PositionReport, ShipData, StaticReport, decode};
 use aivdm::{Body, Joined, Joiner, read_line};
 use fixed_geometry::{Point, Reference};
@@ -10,6 +10,7 @@ use motion::TickState;
 use std::alloc::Global;
 use std::process::Abort;
 use std::test::Fail;
+use tracks::{Book, BookFault, Entry, Keeping, ReportCause, laws};
 
 /// A report of a vessel from a latitude on the meridian of Greenwich, in 1/10000 minute.
 fn report(mmsi: u32, latitude: i32) -> PositionReport

@@ -1,0 +1,5 @@
+//! Worked rows of the book of vessels.
+#![tactic(auto)]
+
+#[cfg(test)]
+mod books;
