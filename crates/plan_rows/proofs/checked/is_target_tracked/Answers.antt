@@ -5,7 +5,7 @@ use Rattle.meetings.specs.Traces.{IsPlaced, IsShortMove}
 use Rattle.motion.specs.declared.leg.TickState.{TickState}
 use Rattle.planner.specs.Situations.{target_at}
 use Rattle.planner.proofs.Grown.{grow}
-use Rattle.planner.proofs.checked.is_target_tracked.Goals as goal
+use Rattle.plan_rows.proofs.checked.is_target_tracked.Goals as goal
 
 pub loop-k-preserved : goal.loop-k-preserved
 loop-k-preserved c = record {

@@ -2,7 +2,7 @@ use Rattle.std.proofs.Common.{◌<◌, List, length, get_or, ap, subst, refl, �
 use Rattle.planner.specs.Situations.{IsTarget}
 use Rattle.planner.specs.declared.situation.Target.{Target}
 use Rattle.planner.proofs.Grown.{grow_item}
-use Rattle.planner.proofs.checked.are_targets.Goals as goal
+use Rattle.plan_rows.proofs.checked.are_targets.Goals as goal
 
 pub loop-target-preserved : goal.loop-target-preserved
 loop-target-preserved c =

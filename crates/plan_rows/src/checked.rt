@@ -9,10 +9,10 @@ ghost use Rattle.motion.specs.Displacement.{displacement};
 ghost use Rattle.motion.specs.TickStates.{IsTickState};
 ghost use Rattle.planner.specs.Situations.{end_of, known_at, now_of, sighting, target_at, IsSituation, IsTarget, IsTracked};
 
-use crate::situation::{Situation, Target};
 use encounters::Detect;
 use fixed_geometry::Point;
 use motion::TickState;
+use planner::{Situation, Target};
 
 fn is_within(point: &Point, size: u64) -> bool
     ensures { IsTrue result → IsWithin size point.now }

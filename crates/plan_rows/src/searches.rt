@@ -5,17 +5,13 @@ ghost use Rattle.lattice.specs.PlanNumbers.{IsPlan};
 ghost use Rattle.planner.specs.Situations.{IsSituation};
 
 use crate::checked::checked;
-use crate::flat::least_plan;
-use crate::lists::{Ahead, Past, Targets};
-use crate::prediction::predicted;
-use crate::search::Search;
-use crate::situation::{Situation, Target};
 use ais_messages::PositionReport;
 use encounters::{Act, Detect};
 use fixed_geometry::Point;
 use lattice::{Lattice, Plan};
 use motion::TickState;
 use outside::Memory;
+use planner::{Ahead, Past, Search, Situation, Target, Targets, least_plan, predicted};
 use predictions::Change;
 use rand_core::utils::NextWord;
 use rand_pcg::Pcg32;
