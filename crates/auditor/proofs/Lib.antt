@@ -18,5 +18,3 @@ mod Stepping
 mod TotalsOf
 mod MoreTicks
 mod OneAudit
-mod WorkedMeeting
-mod StillVessels

@@ -2,7 +2,7 @@ use Rattle.std.proofs.Common.{◌≡◌, ℕ, ◌*◌, ◌≤◌}
 use Rattle.std.specs.List.{All}
 use Rattle.motion.specs.declared.leg.TickState.{TickState}
 use Rattle.audit_traces.specs.Audited.{AreAscending, ArePlaced}
-use Rattle.audit_traces.proofs.contact_tests.fleet.Given as goal
+use Rattle.auditor_rows.proofs.contacts.fleet.Given as goal
 
 abbrev pub invariant-loop-x : goal.invariant-loop-x
 invariant-loop-x l = record {

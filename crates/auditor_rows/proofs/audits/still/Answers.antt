@@ -2,8 +2,8 @@ use Rattle.std.proofs.Common.{ℕ, ◌+◌, arith}
 use Rattle.std.specs.Prelude.{None, pos}
 use Rattle.std.proofs.lemmas.Int.{ints}
 use Rattle.motion.specs.declared.leg.TickState.{TickState}
-use Rattle.auditor.proofs.StillVessels.{all_less, still_ascending, still_placed}
-use Rattle.auditor.proofs.tests.still.Goals as goal
+use Rattle.auditor_rows.proofs.StillVessels.{all_less, still_ascending, still_placed}
+use Rattle.auditor_rows.proofs.audits.still.Goals as goal
 
 pub loop-k-preserved : goal.loop-k-preserved
 loop-k-preserved c =

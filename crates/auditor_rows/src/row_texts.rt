@@ -1,5 +1,5 @@
 //! Each kind of row as text, by the worked reports.
-use crate::{ReportRow, row_bytes};
+use audit_report::{ReportRow, row_bytes};
 use audit_traces::Total;
 use fixed_geometry::Point;
 use judged_lines::LineOutcome;

@@ -1,4 +1,5 @@
-use super::*;
+//! Rows of stretches of marks.
+use audit_rows::{Mark, MarkCounts, Row, RowQueue, Topic};
 use meetings::Pair;
 use sectors::Class;
 use std::test::Fail;

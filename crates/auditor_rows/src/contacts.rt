@@ -1,9 +1,10 @@
+//! Which vessels are in contact.
 ghost use Rattle.std.specs.Prelude.{◌≡◌, ◌≤◌, ◌^◌, length, IfOk};
 ghost use Rattle.encounters.specs.Directions.{HasDirection};
 ghost use Rattle.fixed_geometry.specs.Sizes.{IsBelow};
 ghost use Rattle.audit_traces.specs.Audited.{AreAscending, ArePlaced};
 
-use super::*;
+use audit_traces::{contacts, state_of};
 use fixed_geometry::Point;
 use meetings::{Pair, contact};
 use motion::TickState;

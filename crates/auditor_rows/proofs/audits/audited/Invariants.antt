@@ -1,8 +1,8 @@
 use Rattle.std.proofs.Common.{◌≡◌}
 use Rattle.audit_traces.specs.Audited.{MoveLittle}
-use Rattle.auditor.specs.Inner.WorkedMeeting.{head_on_at}
+use Rattle.auditor_rows.specs.WorkedMeeting.{head_on_at}
 use Rattle.auditor.specs.Standing.{IsSound, given_of, last_tick_of, latest_of}
-use Rattle.auditor.proofs.tests.audited.Given as goal
+use Rattle.auditor_rows.proofs.audits.audited.Given as goal
 
 abbrev pub invariant-loop-k : goal.invariant-loop-k
 invariant-loop-k l = record {

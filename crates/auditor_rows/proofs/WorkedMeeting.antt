@@ -8,7 +8,7 @@ use Rattle.motion.specs.Displacement.{displacement}
 use Rattle.motion.specs.declared.leg.TickState.{TickState}
 use Rattle.meetings.specs.Traces.{IsShortMove}
 use Rattle.audit_traces.specs.Audited.{MoveLittle, Sighting}
-use Rattle.auditor.specs.Inner.WorkedMeeting.{head_on_at}
+use Rattle.auditor_rows.specs.WorkedMeeting.{head_on_at}
 
 pub from_none : (seen : Sighting) → MoveLittle [] seen
 from_none seen mmsi = tt

@@ -1,10 +1,10 @@
-//! What no clause says: a worked trace, and that each call can succeed.
+//! A worked trace.
 ghost use Rattle.std.specs.Prelude.{◌≡◌, ◌<◌, IfOk, IfSome};
 ghost use Rattle.encounters.specs.Directions.{HasDirection, HaveDirections};
 ghost use Rattle.mtl_monitor.specs.Following.{count_of};
 
-use super::{AuditTrace, Marks, Total};
 use audit_rows::Row;
+use audit_traces::{AuditTrace, Marks, Total};
 use encounters::{Act, Detect, PairStep};
 use fixed_geometry::Point;
 use meetings::Pair;

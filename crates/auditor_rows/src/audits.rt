@@ -1,9 +1,12 @@
+//! Whole audits of a few vessels.
 ghost use Rattle.std.specs.Prelude.{ℤ, ◌≡◌, ◌+◌, ◌*◌, ◌<◌, ◌≤◌, ◌-ℤ◌, pos, [], IfOk, OnOk};
 ghost use Rattle.audit_traces.specs.Audited.{AreAscending, ArePlaced, MoveLittle};
-ghost use Rattle.auditor.specs.Inner.WorkedMeeting.{head_on_at};
+ghost use Rattle.auditor_rows.specs.WorkedMeeting.{head_on_at};
 ghost use Rattle.auditor.specs.Standing.{IsSound, given_of, last_tick_of, latest_of};
 
-use super::*;
+use audit_rows::Row;
+use audit_traces::Total;
+use auditor::{Audit, AuditEnd, AuditFault};
 use encounters::{Act, Detect};
 use fixed_geometry::Point;
 use meetings::Pair;

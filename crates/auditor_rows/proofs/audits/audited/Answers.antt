@@ -1,8 +1,8 @@
 use Rattle.std.proofs.Common.{sym, subst, ◌∙◌}
 use Rattle.audit_traces.specs.Audited.{MoveLittle, Sighting}
-use Rattle.auditor.specs.Inner.WorkedMeeting.{head_on_at}
-use Rattle.auditor.proofs.WorkedMeeting.{from_none}
-use Rattle.auditor.proofs.tests.audited.Goals as goal
+use Rattle.auditor_rows.specs.WorkedMeeting.{head_on_at}
+use Rattle.auditor_rows.proofs.WorkedMeeting.{from_none}
+use Rattle.auditor_rows.proofs.audits.audited.Goals as goal
 
 pub loop-k-init : goal.loop-k-init
 loop-k-init c = record {

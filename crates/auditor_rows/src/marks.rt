@@ -1,6 +1,6 @@
-//! What no clause says: worked traces, and that each call can succeed.
-use super::{Marks, Total};
+//! The marks of traces, their rows and their totals.
 use audit_rows::{Mark, Row};
+use audit_traces::{Marks, Total};
 use meetings::Pair;
 use sectors::Class;
 use std::test::Fail;
