@@ -1,13 +1,12 @@
+//! The log that a seed makes.
 ghost use Rattle.std.specs.Prelude.{◌≤◌};
 
-use crate::drill_log;
+use crate::SCENARIO;
 use ais_messages::{Decoded, Message, PositionReport, decode};
 use aivdm::{Body, Joined, Joiner, read_line};
+use drill_log::drill_log;
 use std::alloc::Global;
 use std::test::Fail;
-
-const SCENARIO: &str =
-    "version = 1\n[window]\nstart = 1700000000\ntick = 10\nticks = 40\n[reference]\nlat = 0\nlon = 0\n[log]\ngap = 600\nslack = 60\nmax_speed = 500\n[detect]\nwatch = 5000\nrisk = 500\nclear = 1000\nhorizon = 600\ndoubt = 0\nahead = 100\nreciprocal = 100\n[act]\nsteady_turn = 50\napparent_turn = 200\nsteady_speed = 10\napparent_speed = 50\n[rules]\nsafe = 200\novertake = 200\nclose = 300\nt8 = 60\nta = 60\ntl = 20\ntw = 100\nte = 600\n";
 
 /// The log with a seed. Its reports are of 7 minutes, each in a line of 65 bytes.
 fn log_with(alloc: Global, seed: u32) -> Result<Vec<u8>, Fail>

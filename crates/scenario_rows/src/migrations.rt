@@ -1,7 +1,7 @@
 //! Scenarios of version 1 as ones of version 2.
-use crate::tests::{ACT, DETECT, GOOD, is_rule, second_version, with_own, with_predictions};
-use crate::{migrate, read};
+use crate::values::{ACT, DETECT, good, is_rule, second_version, with_own, with_predictions};
 use outside::Memory;
+use scenario::{migrate, read};
 use std::alloc::{AllocError, Global};
 
 /// The text that a scenario is migrated to, or its fault.
@@ -21,7 +21,8 @@ const SAME_FOR_EACH_KIND: &str =
 
 #[test]
 fn a_migrated_scenario_has_the_same_values(rt: HostRuntime) -> Result<(), Memory> {
-    let text = moved(rt.alloc(), GOOD)?;
+    let first = good(rt.alloc())?;
+    let text = moved(rt.alloc(), first.as_str())?;
     match read(rt.alloc(), text.as_bytes(), false) {
         Ok(scenario) => {
             assert_eq!(rt; scenario.window.start, 1_700_000_000);
@@ -104,6 +105,7 @@ fn scenarios_that_are_not_migrated(rt: HostRuntime) -> Result<(), AllocError> {
     let second = second_version(rt.alloc())?;
     let told = moved(rt.alloc(), second.as_str())?;
     assert_eq!(rt; told.as_str(), "version: range");
+    let first = good(rt.alloc())?;
     let own = with_own(rt.alloc())?;
     for (good, old, new, expected) in [
         (second.as_str(), "tick = 10", "tick = 0", "version: range"),
@@ -113,10 +115,25 @@ fn scenarios_that_are_not_migrated(rt: HostRuntime) -> Result<(), AllocError> {
             "",
             "version: range",
         ),
-        (GOOD, "version = 1", "version = 3", "version: range"),
-        (GOOD, "version = 1", "version = ", "document: not toml"),
-        (GOOD, "safe = 201\n", "", "rules.safe: missing"),
-        (GOOD, "te = 620\n", "te = 615\n", "rules.te: multiple"),
+        (
+            first.as_str(),
+            "version = 1",
+            "version = 3",
+            "version: range",
+        ),
+        (
+            first.as_str(),
+            "version = 1",
+            "version = ",
+            "document: not toml",
+        ),
+        (first.as_str(), "safe = 201\n", "", "rules.safe: missing"),
+        (
+            first.as_str(),
+            "te = 620\n",
+            "te = 615\n",
+            "rules.te: multiple",
+        ),
         (own.as_str(), "tail = 10\n", "", "own.tail: missing"),
     ] {
         let bad = good.replace(rt.alloc(), old, new)?;

@@ -1,10 +1,36 @@
 //! Scenarios that are refused: each key with each of its causes.
-use crate::read;
-use crate::tests::{GOOD, second_version, with_formulas, with_own, with_predictions};
+use crate::values::{good, second_version, with_formulas, with_own, with_predictions};
+use scenario::read;
 use std::alloc::{AllocError, Global};
 
 /// What is put for a part of a scenario, and the fault of what this gives.
 type Case = (&'static str, &'static str, &'static str);
+
+/// A scenario without a fault.
+#[derive(Clone, Copy)]
+enum Good {
+    First,
+    Second,
+    WithFormulas,
+    WithOwn,
+    WithPredictions,
+}
+
+impl Good {
+    fn text(self, alloc: Global) -> Result<String, AllocError> {
+        match self {
+            Good::First => good(alloc),
+            Good::Second => second_version(alloc),
+            Good::WithFormulas => with_formulas(alloc),
+            Good::WithOwn => with_own(alloc),
+            Good::WithPredictions => with_predictions(alloc),
+        }
+    }
+
+    fn needs_own(self) -> bool {
+        matches!(self, Good::WithOwn | Good::WithPredictions)
+    }
+}
 
 /// The text of the fault of a scenario, and an empty one where it has none.
 pub(crate) fn told(alloc: Global, text: &str, need_own: bool) -> Result<String, AllocError> {
@@ -89,13 +115,6 @@ const FIRST: [Case; 48] = [
     ("max_speed", "max_bytes = 1073741825\nmax_speed", "log.max_bytes: range"),
 ];
 
-#[test]
-fn first_keys(rt: HostRuntime) -> Result<(), AllocError> {
-    let otherwise = first_otherwise(rt.alloc(), GOOD, &FIRST, false)?;
-    assert_eq!(rt; otherwise, None);
-    Ok(())
-}
-
 /// Faults of the keys of `detect`.
 #[rattlefmt::skip]
 const DETECT: [Case; 31] = [
@@ -132,13 +151,6 @@ const DETECT: [Case; 31] = [
     ("horizon = 610", "horizon = 7205", "detect.horizon: range"),
 ];
 
-#[test]
-fn keys_of_detect(rt: HostRuntime) -> Result<(), AllocError> {
-    let otherwise = first_otherwise(rt.alloc(), GOOD, &DETECT, false)?;
-    assert_eq!(rt; otherwise, None);
-    Ok(())
-}
-
 /// Faults of the keys of `act`.
 #[rattlefmt::skip]
 const ACT: [Case; 17] = [
@@ -160,13 +172,6 @@ const ACT: [Case; 17] = [
     ("\napparent_speed = 51\n", "\napparent_speed = 0\n", "act.apparent_speed: range"),
     ("\napparent_speed = 51\n", "\napparent_speed = 1023\n", "act.apparent_speed: range"),
 ];
-
-#[test]
-fn keys_of_act(rt: HostRuntime) -> Result<(), AllocError> {
-    let otherwise = first_otherwise(rt.alloc(), GOOD, &ACT, false)?;
-    assert_eq!(rt; otherwise, None);
-    Ok(())
-}
 
 /// Faults of the keys of `rules`.
 #[rattlefmt::skip]
@@ -213,13 +218,6 @@ const RULES: [Case; 40] = [
     ("t8 = 60", "t8 = -5", "rules.t8: range"),
 ];
 
-#[test]
-fn keys_of_rules(rt: HostRuntime) -> Result<(), AllocError> {
-    let otherwise = first_otherwise(rt.alloc(), GOOD, &RULES, false)?;
-    assert_eq!(rt; otherwise, None);
-    Ok(())
-}
-
 /// Faults of `subjects`.
 #[rattlefmt::skip]
 const SUBJECTS: [Case; 6] = [
@@ -230,13 +228,6 @@ const SUBJECTS: [Case; 6] = [
     ("version = 1\n", "version = 1\nsubjects = [799999999, 800000000, 1]\n", "subjects[1]: range"),
     ("version = 1\n", "version = 1\n[[subjects]]\n[a]\n", "subjects[0]: type"),
 ];
-
-#[test]
-fn items_of_subjects(rt: HostRuntime) -> Result<(), AllocError> {
-    let otherwise = first_otherwise(rt.alloc(), GOOD, &SUBJECTS, false)?;
-    assert_eq!(rt; otherwise, None);
-    Ok(())
-}
 
 /// Faults of `formula`, and formulas that have none.
 #[rattlefmt::skip]
@@ -270,13 +261,6 @@ const FORMULAS: [Case; 27] = [
     ("te = 620\n", "te = 620\n[[formula]]\nname = 'u'\ntext = 'ahead'\n", ""),
 ];
 
-#[test]
-fn names_and_texts_of_formulas(rt: HostRuntime) -> Result<(), AllocError> {
-    let otherwise = first_otherwise(rt.alloc(), GOOD, &FORMULAS, false)?;
-    assert_eq!(rt; otherwise, None);
-    Ok(())
-}
-
 /// Two formulas in place of the good ones: what is put for the name and the text of the second, and the fault of all.
 #[rattlefmt::skip]
 const SECOND: [Case; 3] = [
@@ -284,14 +268,6 @@ const SECOND: [Case; 3] = [
     ("'seen'", "'seen)'", "formula.text[1]: formula at 4"),
     ("'r18'", "'u2'", ""),
 ];
-
-#[test]
-fn the_second_of_two_formulas(rt: HostRuntime) -> Result<(), AllocError> {
-    let good = with_formulas(rt.alloc())?;
-    let otherwise = first_otherwise(rt.alloc(), good.as_str(), &SECOND, false)?;
-    assert_eq!(rt; otherwise, None);
-    Ok(())
-}
 
 /// The eleven rules of the good scenario weigh 515. With the first three formulas they weigh 65,535, and with the last, of one
 /// node, 65,536; `!seen` has two.
@@ -301,16 +277,9 @@ const WEIGHTS: [Case; 2] = [
     ("version = 1", "version = 1\nformula = [{ name = 'a', text = 'F[0,7200] F[0,7200] F[0,7200] F[0,7200] F[0,7200] F[0,7200] F[0,7200] F[0,7200] seen' }, { name = 'b', text = 'F[0,7200] F[0,7200] seen' }, { name = 'c', text = 'F[0,5450] seen' }, { name = 'd', text = '!seen' }]", "formulas: product"),
 ];
 
-#[test]
-fn weights_of_formulas(rt: HostRuntime) -> Result<(), AllocError> {
-    let otherwise = first_otherwise(rt.alloc(), GOOD, &WEIGHTS, false)?;
-    assert_eq!(rt; otherwise, None);
-    Ok(())
-}
-
 /// The good scenario with a formula of one word and so many spaces.
 fn with_spaces(alloc: Global, spaces: usize) -> Result<String, AllocError> {
-    let mut text = GOOD.to_owned(alloc)?;
+    let mut text = good(alloc)?;
     text.push_str("[[formula]]\nname = 'u'\ntext = 'seen")?;
     for _ in 0..spaces {
         text.push_str(" ")?;
@@ -338,13 +307,6 @@ const ORDER: [Case; 4] = [
     ("gap = 600\nslack = 60\n", "slack = -1\n", "log.gap: missing"),
 ];
 
-#[test]
-fn the_first_of_two_faults(rt: HostRuntime) -> Result<(), AllocError> {
-    let otherwise = first_otherwise(rt.alloc(), GOOD, &ORDER, false)?;
-    assert_eq!(rt; otherwise, None);
-    Ok(())
-}
-
 /// Faults of the keys of version 2.
 #[rattlefmt::skip]
 const VERSION_TWO: [Case; 10] = [
@@ -359,14 +321,6 @@ const VERSION_TWO: [Case; 10] = [
     ("safe_other = 100000\novertake = 202", "overtake = 0", "rules.safe_other: missing"),
     ("safe_other = 100000\novertake = 202", "safe_other = 5\nsafe = 0\novertake = 0", "rules.overtake: range"),
 ];
-
-#[test]
-fn keys_of_version_two(rt: HostRuntime) -> Result<(), AllocError> {
-    let good = second_version(rt.alloc())?;
-    let otherwise = first_otherwise(rt.alloc(), good.as_str(), &VERSION_TWO, false)?;
-    assert_eq!(rt; otherwise, None);
-    Ok(())
-}
 
 /// Faults of the keys of own ship.
 #[rattlefmt::skip]
@@ -438,22 +392,6 @@ const WITHIN: [Case; 5] = [
 ];
 
 #[test]
-fn keys_of_own_ship(rt: HostRuntime) -> Result<(), AllocError> {
-    let good = with_own(rt.alloc())?;
-    let otherwise = first_otherwise(rt.alloc(), good.as_str(), &OWN, true)?;
-    assert_eq!(rt; otherwise, None);
-    Ok(())
-}
-
-#[test]
-fn bounds_of_own_ship(rt: HostRuntime) -> Result<(), AllocError> {
-    let good = with_own(rt.alloc())?;
-    let otherwise = first_otherwise(rt.alloc(), good.as_str(), &WITHIN, true)?;
-    assert_eq!(rt; otherwise, None);
-    Ok(())
-}
-
-#[test]
 fn own_ship_is_not_looked_at_where_she_is_not_needed(rt: HostRuntime) -> Result<(), AllocError> {
     let good = with_own(rt.alloc())?;
     let text = good.as_str().replace(rt.alloc(), "legs = 3", "legs = 0")?;
@@ -501,14 +439,6 @@ const PREDICT: [Case; 34] = [
     ("mmsi = 369190000", "mmsi = 477553000", "predict.mmsi[0]: range"),
 ];
 
-#[test]
-fn what_is_predicted(rt: HostRuntime) -> Result<(), AllocError> {
-    let good = with_predictions(rt.alloc())?;
-    let otherwise = first_otherwise(rt.alloc(), good.as_str(), &PREDICT, true)?;
-    assert_eq!(rt; otherwise, None);
-    Ok(())
-}
-
 /// Other lists in place of the tables of `predict`.
 #[rattlefmt::skip]
 const NO_PREDICTIONS: [Case; 4] = [
@@ -517,14 +447,6 @@ const NO_PREDICTIONS: [Case; 4] = [
     ("version = 1", "version = 1\npredict = [{}, []]", "predict: type"),
     ("version = 1", "version = 1\npredict = []", ""),
 ];
-
-#[test]
-fn lists_of_predictions(rt: HostRuntime) -> Result<(), AllocError> {
-    let good = with_own(rt.alloc())?;
-    let otherwise = first_otherwise(rt.alloc(), good.as_str(), &NO_PREDICTIONS, true)?;
-    assert_eq!(rt; otherwise, None);
-    Ok(())
-}
 
 /// The good scenario with own ship and so many empty tables of `predict`.
 fn with_tables(alloc: Global, many: usize) -> Result<String, AllocError> {
@@ -541,6 +463,34 @@ fn at_most_64_vessels_are_predicted(rt: HostRuntime) -> Result<(), AllocError> {
         let text = with_tables(rt.alloc(), many)?;
         let told = told(rt.alloc(), text.as_str(), true)?;
         assert_eq!(rt; told.as_str(), expected);
+    }
+    Ok(())
+}
+
+/// What the cases of a table show, the scenario whose parts they replace, and the cases.
+const TABLES: [(&str, Good, &[Case]); 14] = [
+    ("the first keys", Good::First, &FIRST),
+    ("keys of detect", Good::First, &DETECT),
+    ("keys of act", Good::First, &ACT),
+    ("keys of rules", Good::First, &RULES),
+    ("items of subjects", Good::First, &SUBJECTS),
+    ("names and texts of formulas", Good::First, &FORMULAS),
+    ("the second of two formulas", Good::WithFormulas, &SECOND),
+    ("weights of formulas", Good::First, &WEIGHTS),
+    ("the first of two faults", Good::First, &ORDER),
+    ("keys of version 2", Good::Second, &VERSION_TWO),
+    ("keys of own ship", Good::WithOwn, &OWN),
+    ("bounds of own ship", Good::WithOwn, &WITHIN),
+    ("what is predicted", Good::WithPredictions, &PREDICT),
+    ("lists of predictions", Good::WithOwn, &NO_PREDICTIONS),
+];
+
+#[test]
+fn each_scenario_is_told_by_its_first_fault(rt: HostRuntime) -> Result<(), AllocError> {
+    for (name, good, cases) in &TABLES {
+        let text = good.text(rt.alloc())?;
+        let otherwise = first_otherwise(rt.alloc(), text.as_str(), cases, good.needs_own())?;
+        assert_eq!(rt; otherwise, None, "{name}");
     }
     Ok(())
 }

@@ -1,15 +1,37 @@
 //! Scenarios with known values, known first faults and known texts.
-use crate::refusal_tests::told;
-use crate::{Cause, Change, Key, ScenarioFault, Subjects, read};
+use crate::SCENARIO;
+use crate::refusals::told;
 use encounters::{Act, Detect};
 use mtl_formulas::print;
 use outside::Memory;
 use rule_set::RuleSet;
+use scenario::{Cause, Change, Key, ScenarioFault, Subjects, read};
 use sectors::Angles;
 use std::alloc::{AllocError, Global};
 
-pub(crate) const GOOD: &str =
-    "version = 1\n[window]\nstart = 1700000000\ntick = 10\nticks = 40\n[reference]\nlat = 0\nlon = -7\n[log]\ngap = 600\nslack = 60\nmax_speed = 500\n[detect]\nwatch = 5000\nrisk = 501\nclear = 1000\nhorizon = 610\ndoubt = 0\nahead = 100\nreciprocal = 101\n[act]\nsteady_turn = 50\napparent_turn = 200\nsteady_speed = 11\napparent_speed = 51\n[rules]\nsafe = 201\novertake = 202\nclose = 300\nt8 = 60\nta = 70\ntl = 20\ntw = 110\nte = 620\n";
+/// A value of its own for each key that could stand for another.
+const OWN_VALUES: [(&str, &str); 11] = [
+    ("lon = 0", "lon = -7"),
+    ("risk = 500", "risk = 501"),
+    ("horizon = 600", "horizon = 610"),
+    ("reciprocal = 100", "reciprocal = 101"),
+    ("steady_speed = 10", "steady_speed = 11"),
+    ("apparent_speed = 50", "apparent_speed = 51"),
+    ("safe = 200", "safe = 201"),
+    ("overtake = 200", "overtake = 202"),
+    ("ta = 60", "ta = 70"),
+    ("tw = 100", "tw = 110"),
+    ("te = 600", "te = 620"),
+];
+
+/// The good scenario: that of all worked rows, with values of their own.
+pub(crate) fn good(alloc: Global) -> Result<String, AllocError> {
+    let mut text = SCENARIO.to_owned(alloc)?;
+    for (old, new) in OWN_VALUES {
+        text = text.as_str().replace(alloc, old, new)?;
+    }
+    Ok(text)
+}
 
 pub(crate) const DETECT: Detect = Detect {
     watch: 50_000_000,
@@ -47,7 +69,9 @@ pub(crate) fn is_rule(
 
 /// The good scenario in version 2.
 pub(crate) fn second_version(alloc: Global) -> Result<String, AllocError> {
-    let text = GOOD.replace(alloc, "version = 1", "version = 2")?;
+    let text = good(alloc)?
+        .as_str()
+        .replace(alloc, "version = 1", "version = 2")?;
     text.as_str().replace(
         alloc,
         "safe = 201\n",
@@ -57,7 +81,7 @@ pub(crate) fn second_version(alloc: Global) -> Result<String, AllocError> {
 
 /// The good scenario with own ship.
 pub(crate) fn with_own(alloc: Global) -> Result<String, AllocError> {
-    let mut text = GOOD.to_owned(alloc)?;
+    let mut text = good(alloc)?;
     text.push_str(
         "[own]\nmmsi = 369190000\ncourses = [0, 300, -600]\nspeeds = [0, -5]\nlegs = 3\nleg_ticks = 30\ntail = 10\nbase = 301\nlengths = 2\nrange = 50000\nturn_rate = 100\n",
     )?;
@@ -127,7 +151,8 @@ fn own_ship_has_her_plans(rt: HostRuntime) -> Result<(), AllocError> {
 
 #[test]
 fn values_of_a_good_scenario(rt: HostRuntime) -> Result<(), Memory> {
-    match read(rt.alloc(), GOOD.as_bytes(), false) {
+    let text = good(rt.alloc())?;
+    match read(rt.alloc(), text.as_bytes(), false) {
         Ok(scenario) => {
             assert_eq!(rt; scenario.window.start, 1_700_000_000);
             assert_eq!(rt; scenario.window.tick, 10);
@@ -174,7 +199,7 @@ fn version_two_has_a_safe_distance_for_each_kind(rt: HostRuntime) -> Result<(), 
 
 /// The good scenario with two formulas.
 pub(crate) fn with_formulas(alloc: Global) -> Result<String, AllocError> {
-    let mut text = GOOD.to_owned(alloc)?;
+    let mut text = good(alloc)?;
     text.push_str(
         "[[formula]]\nname = 'u1'\ntext = 'F[0,20] risk & !seen'\n[[formula]]\nname = 'r18'\ntext = 'seen'\n",
     )?;
@@ -228,7 +253,7 @@ fn with_subjects(alloc: Global, many: usize, last: &str) -> Result<String, Alloc
     }
     text.push_str(last)?;
     text.push_str("]\n")?;
-    text.push_str(GOOD)?;
+    text.push_str(good(alloc)?.as_str())?;
     Ok(text)
 }
 
