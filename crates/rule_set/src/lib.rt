@@ -8,8 +8,6 @@ mod name;
 mod numbers;
 mod rule;
 mod rule_set;
-#[cfg(test)]
-mod tests;
 mod words;
 
 pub use name::Name;

@@ -1,8 +1,8 @@
 //! The texts of the rules, their weights, and rules that are added.
 ghost use Rattle.std.specs.Prelude.{◌<◌, ◌≤◌, length};
 
-use crate::{Name, RuleNumbers, RuleSet, Safe};
-use mtl_formulas::{ParseFault, parse, print, weight};
+use mtl_formulas::{parse, print, weight};
+use rule_set::{Name, RuleNumbers, RuleSet, Safe};
 use std::alloc::Global;
 use std::process::Abort;
 use std::test::Fail;
@@ -46,95 +46,6 @@ fn is_printed(
     Ok(())
 }
 
-#[test]
-fn each_rule_is_printed(rt: HostRuntime) -> Result<(), Fail> {
-    let alloc = rt.alloc();
-    let set = RuleSet::new(alloc, &NUMBERS, TICK)?;
-    assert_eq!(rt; set.len(), 11);
-    is_printed(
-        &rt,
-        alloc,
-        &set,
-        0,
-        b"r8b",
-        b"(alters -> F[0,60] (apparent | !engaged))",
-    )?;
-    is_printed(&rt, alloc, &set, 1, b"r8d", b"(engaged -> clear(200))")?;
-    is_printed(
-        &rt,
-        alloc,
-        &set,
-        2,
-        b"r13",
-        b"((engaged & overtaking) -> clear(250))",
-    )?;
-    is_printed(
-        &rt,
-        alloc,
-        &set,
-        3,
-        b"r14a",
-        b"((begin & head_on) -> F[0,70] (to_starboard | !engaged))",
-    )?;
-    is_printed(
-        &rt,
-        alloc,
-        &set,
-        4,
-        b"r14b",
-        b"((engaged & head_on) -> !to_port)",
-    )?;
-    is_printed(
-        &rt,
-        alloc,
-        &set,
-        5,
-        b"r14p",
-        b"(((engaged & head_on) & opening) -> other_on_port)",
-    )?;
-    is_printed(
-        &rt,
-        alloc,
-        &set,
-        6,
-        b"r15",
-        b"((engaged & crossing_gives) -> !ahead)",
-    )?;
-    is_printed(
-        &rt,
-        alloc,
-        &set,
-        7,
-        b"r16",
-        b"((begin & (overtaking | crossing_gives)) -> F[0,70] (apparent | !engaged))",
-    )?;
-    is_printed(
-        &rt,
-        alloc,
-        &set,
-        8,
-        b"r17a",
-        b"(((engaged & (overtaken | crossing_stands)) & !(engaged S[0,600] ((age(100) & H[0,100] ((engaged & risk) & !other_apparent)) | ((engaged & risk) & close(300))))) -> !alters)",
-    )?;
-    is_printed(
-        &rt,
-        alloc,
-        &set,
-        9,
-        b"r17b",
-        b"(((overtaken | crossing_stands) & ((engaged & risk) & close(300))) -> F[0,20] (apparent | !engaged))",
-    )?;
-    is_printed(
-        &rt,
-        alloc,
-        &set,
-        10,
-        b"r17c",
-        b"((((engaged & crossing_stands) & (engaged S[0,600] ((age(100) & H[0,100] ((engaged & risk) & !other_apparent)) | ((engaged & risk) & close(300))))) & !((engaged & risk) & close(300))) -> !to_port)",
-    )?;
-    Ok(())
-}
-
 /// The rule at an index is what this text means.
 fn is_meant(
     rt: &impl Abort,
@@ -151,63 +62,70 @@ fn is_meant(
     Ok(())
 }
 
+/// The rules in their order: the name of each, how it is printed, and a text that means it.
+const RULES: [(&[u8], &[u8], &[u8]); 11] = [
+    (
+        b"r8b",
+        b"(alters -> F[0,60] (apparent | !engaged))",
+        b"alters -> F[0,60] (apparent | !engaged)",
+    ),
+    (b"r8d", b"(engaged -> clear(200))", b"engaged -> clear(200)"),
+    (
+        b"r13",
+        b"((engaged & overtaking) -> clear(250))",
+        b"engaged & overtaking -> clear(250)",
+    ),
+    (
+        b"r14a",
+        b"((begin & head_on) -> F[0,70] (to_starboard | !engaged))",
+        b"begin & head_on -> F[0,70] (to_starboard | !engaged)",
+    ),
+    (
+        b"r14b",
+        b"((engaged & head_on) -> !to_port)",
+        b"engaged & head_on -> !to_port",
+    ),
+    (
+        b"r14p",
+        b"(((engaged & head_on) & opening) -> other_on_port)",
+        b"engaged & head_on & opening -> other_on_port",
+    ),
+    (
+        b"r15",
+        b"((engaged & crossing_gives) -> !ahead)",
+        b"engaged & crossing_gives -> !ahead",
+    ),
+    (
+        b"r16",
+        b"((begin & (overtaking | crossing_gives)) -> F[0,70] (apparent | !engaged))",
+        b"begin & (overtaking | crossing_gives) -> F[0,70] (apparent | !engaged)",
+    ),
+    (
+        b"r17a",
+        b"(((engaged & (overtaken | crossing_stands)) & !(engaged S[0,600] ((age(100) & H[0,100] ((engaged & risk) & !other_apparent)) | ((engaged & risk) & close(300))))) -> !alters)",
+        b"engaged & (overtaken | crossing_stands) & !(engaged S[0,600] ((age(100) & H[0,100] (engaged & risk & !other_apparent)) | (engaged & risk & close(300)))) -> !alters",
+    ),
+    (
+        b"r17b",
+        b"(((overtaken | crossing_stands) & ((engaged & risk) & close(300))) -> F[0,20] (apparent | !engaged))",
+        b"(overtaken | crossing_stands) & (engaged & risk & close(300)) -> F[0,20] (apparent | !engaged)",
+    ),
+    (
+        b"r17c",
+        b"((((engaged & crossing_stands) & (engaged S[0,600] ((age(100) & H[0,100] ((engaged & risk) & !other_apparent)) | ((engaged & risk) & close(300))))) & !((engaged & risk) & close(300))) -> !to_port)",
+        b"engaged & crossing_stands & (engaged S[0,600] ((age(100) & H[0,100] (engaged & risk & !other_apparent)) | (engaged & risk & close(300)))) & !(engaged & risk & close(300)) -> !to_port",
+    ),
+];
+
 #[test]
-fn each_rule_is_what_its_text_means(rt: HostRuntime) -> Result<(), Fail> {
+fn each_rule_is_printed_as_its_text_means(rt: HostRuntime) -> Result<(), Fail> {
     let alloc = rt.alloc();
     let set = RuleSet::new(alloc, &NUMBERS, TICK)?;
-    is_meant(
-        &rt,
-        alloc,
-        &set,
-        0,
-        b"alters -> F[0,60] (apparent | !engaged)",
-    )?;
-    is_meant(&rt, alloc, &set, 1, b"engaged -> clear(200)")?;
-    is_meant(&rt, alloc, &set, 2, b"engaged & overtaking -> clear(250)")?;
-    is_meant(
-        &rt,
-        alloc,
-        &set,
-        3,
-        b"begin & head_on -> F[0,70] (to_starboard | !engaged)",
-    )?;
-    is_meant(&rt, alloc, &set, 4, b"engaged & head_on -> !to_port")?;
-    is_meant(
-        &rt,
-        alloc,
-        &set,
-        5,
-        b"engaged & head_on & opening -> other_on_port",
-    )?;
-    is_meant(&rt, alloc, &set, 6, b"engaged & crossing_gives -> !ahead")?;
-    is_meant(
-        &rt,
-        alloc,
-        &set,
-        7,
-        b"begin & (overtaking | crossing_gives) -> F[0,70] (apparent | !engaged)",
-    )?;
-    is_meant(
-        &rt,
-        alloc,
-        &set,
-        8,
-        b"engaged & (overtaken | crossing_stands) & !(engaged S[0,600] ((age(100) & H[0,100] (engaged & risk & !other_apparent)) | (engaged & risk & close(300)))) -> !alters",
-    )?;
-    is_meant(
-        &rt,
-        alloc,
-        &set,
-        9,
-        b"(overtaken | crossing_stands) & (engaged & risk & close(300)) -> F[0,20] (apparent | !engaged)",
-    )?;
-    is_meant(
-        &rt,
-        alloc,
-        &set,
-        10,
-        b"engaged & crossing_stands & (engaged S[0,600] ((age(100) & H[0,100] (engaged & risk & !other_apparent)) | (engaged & risk & close(300)))) & !(engaged & risk & close(300)) -> !to_port",
-    )?;
+    assert_eq!(rt; set.len(), RULES.len());
+    for (k, (name, printed, meant)) in RULES.iter().enumerate() {
+        is_printed(&rt, alloc, &set, k, name, printed)?;
+        is_meant(&rt, alloc, &set, k, meant)?;
+    }
     Ok(())
 }
 

@@ -6,8 +6,8 @@ ghost use Rattle.mtl_monitor.specs.Inner.Compiling.{kind_index};
 ghost use Rattle.mtl_monitor.specs.Following.{count_of};
 ghost use Rattle.mtl_monitor.specs.Monitoring.{fed_rows, past_rows};
 
-use super::{Monitor, Program, TraceState};
 use mtl_formulas::{Atom, Atoms, Formula, Verdict, future_reach, parse, value};
+use mtl_monitor::{Monitor, Program, TraceState};
 use outside::Memory;
 use rand_core::utils::NextWord;
 use rand_pcg::Pcg32;

@@ -2,7 +2,10 @@
 ghost use Rattle.std.specs.Prelude.{◌≤◌, length};
 ghost use Rattle.mtl_formulas.specs.FormulaText.{IsTick};
 
-use super::*;
+use mtl_formulas::{
+    Atom, Atoms, Formula, ParseFault, SpanKind, Verdict, future_reach, laws, nodes, parse, print,
+    value, weight,
+};
 use std::alloc::{AllocError, Global};
 use std::process::Abort;
 use std::test::Fail;
@@ -123,4 +126,59 @@ fn reach_7200_is_taken(rt: HostRuntime) {
     let alloc = rt.alloc();
     is_taken(&rt, alloc, b"F[0,7200] O[0,1] risk");
     is_too_large(&rt, alloc, b"F[0,7200] G[0,1] risk");
+}
+
+#[test]
+fn a_window_of_three_positions_is_measured(rt: HostRuntime) -> Result<(), Fail> {
+    let ahead = Formula::span(rt.alloc(), SpanKind::F, 0, 2, Formula::leaf(Atom::Risk))?;
+    assert_eq!(rt; future_reach(&ahead), 2);
+    assert_eq!(rt; nodes(&ahead), 2);
+    assert_eq!(rt; weight(&ahead), 2 * (2 + 1) + (2 + 1));
+    Ok(())
+}
+
+/// A row that gives this value to each atom.
+#[derive(Clone, Copy)]
+struct Row {
+    each: Verdict,
+}
+
+impl Atoms for Row {
+    ghost answer = { λ row atom. row.each };
+
+    fn value(&self, _atom: Atom) -> Verdict {
+        self.each
+    }
+}
+
+const QUIET: [Row; 4] = [Row { each: Verdict::No }; 4];
+
+#[test]
+fn risk_within_a_window_that_passes_the_end_is_open(rt: HostRuntime) -> Result<(), Fail> {
+    let ahead = Formula::span(rt.alloc(), SpanKind::F, 0, 2, Formula::leaf(Atom::Risk))?;
+    for (position, answer) in [
+        (0, Verdict::No),
+        (1, Verdict::No),
+        (2, Verdict::Open),
+        (3, Verdict::Open),
+    ] {
+        assert_eq!(rt; value(&ahead, &QUIET, position), answer);
+    }
+    Ok(())
+}
+
+#[test]
+fn nothing_lies_before_the_first_row(rt: HostRuntime) -> Result<(), Fail> {
+    for kind in [SpanKind::O, SpanKind::H] {
+        let back = Formula::span(rt.alloc(), kind, 0, 2, Formula::leaf(Atom::Risk))?;
+        assert_eq!(rt; value(&back, &QUIET, 0), Verdict::No);
+    }
+    Ok(())
+}
+
+#[test]
+fn the_laws_can_be_cited() {
+    laws::decided_values_stay();
+    laws::reach();
+    laws::answers_suffice::<Row>();
 }
