@@ -1,22 +1,13 @@
-//! Lines that strangers wrote, and devices that fail.
-ghost use Rattle.outside.specs.Calls.{AreCallNumbers};
-
-use crate::tests::{HEAD_ON, about_zero, run_words};
-use crate::{Status, run};
-use outside::{MemorySink, MemorySource, PlainShelf, PlainSource, Word};
+//! Lines that strangers wrote.
+use crate::whole_run::{SOUND, edited, ended};
+use crate::worked_row::POINTS;
 use std::alloc::Global;
 use std::test::Fail;
 
 /// The rows of the counts that are not 0 at the end of the report on a log.
 fn counted(alloc: Global, log: &[u8]) -> Result<String, Fail> {
-    let scenario = about_zero(alloc)?;
-    let mut log = PlainSource::new(log.to_vec(alloc)?, 50);
-    let ended = run_words(
-        alloc,
-        &["points", "scenario.toml"],
-        scenario.as_str(),
-        &mut log,
-    )?;
+    let scenario = edited(alloc, &[])?;
+    let ended = ended(alloc, POINTS, scenario.as_str(), log, SOUND)?;
     let mut counts = String::new(alloc);
     if let Ok(text) = std::str::from_utf8(ended.out.bytes()) {
         for line in text.lines() {
@@ -99,76 +90,5 @@ fn lines_of_the_greatest_length_and_of_a_byte_more(rt: HostRuntime) -> Result<()
     log[1025] = b'\n';
     let counts = counted(rt.alloc(), log.as_slice())?;
     assert_eq!(rt; counts.as_str(), "lines,long,1,,,,\nlines,other,1,,,,\n");
-    Ok(())
-}
-
-const SETTLED: &[u8] = b"verdict,369190000,477553000,r14a,broken,0,0
-verdict,477553000,369190000,r14a,broken,0,0
-verdict,369190000,477553000,r8d,broken,18,21
-verdict,477553000,369190000,r8d,broken,18,21
-";
-
-/// Runs `audit` on the head-on log and a line that settles four rows, where these reads and these writes fail.
-fn audit(alloc: Global, reads: Vec<u64>, writes: Vec<u64>) -> Result<(Status, MemorySink), Fail>
-    requires reads { AreCallNumbers reads.items }
-    requires writes { AreCallNumbers writes.items }
-{
-    let words = vec![in alloc;
-        Word::new(alloc, "audit")?,
-        Word::new(alloc, "scenario.toml")?,
-    ]?;
-    let text = about_zero(alloc)?;
-    let file = (
-        Word::new(alloc, "scenario.toml")?,
-        text.as_bytes().to_vec(alloc)?,
-    );
-    let mut shelf = PlainShelf::new(vec![in alloc; file]?);
-    let mut bytes = HEAD_ON.to_vec(alloc)?;
-    bytes.extend_from_slice(b"\\c:1700000951*52\\x\n")?;
-    let mut log = MemorySource::new(bytes, 64, reads);
-    let mut out = MemorySink::new(alloc, 100, writes);
-    let mut err = MemorySink::new(alloc, 100, vec![in alloc; 0]?);
-    let status = run(
-        alloc,
-        words.as_slice(),
-        &mut shelf,
-        &mut log,
-        &mut out,
-        &mut err,
-    );
-    Ok((status, out))
-}
-
-// Standard error fails each time, and changes no status. The line that settles the rows ends in the seventh piece.
-#[test]
-fn each_read_that_fails_leaves_what_was_settled(rt: HostRuntime) -> Result<(), Fail> {
-    for call in 0..10u64 {
-        let reads = vec![in rt.alloc(); call]?;
-        let (status, out) = audit(rt.alloc(), reads, Vec::new(rt.alloc()))?;
-        if call < 8 {
-            assert_eq!(rt; status, Status::ReadFault);
-            let settled: &[u8] = if call < 7 { b"" } else { SETTLED };
-            assert_eq!(rt; out.bytes(), settled);
-        } else {
-            assert_eq!(rt; status, Status::Done);
-        }
-    }
-    Ok(())
-}
-
-#[test]
-fn each_write_that_fails_leaves_a_front_of_the_report(rt: HostRuntime) -> Result<(), Fail> {
-    let (status, whole) = audit(rt.alloc(), Vec::new(rt.alloc()), Vec::new(rt.alloc()))?;
-    assert_eq!(rt; status, Status::Done);
-    for call in 0..20u64 {
-        let writes = vec![in rt.alloc(); call]?;
-        let (status, out) = audit(rt.alloc(), Vec::new(rt.alloc()), writes)?;
-        assert!(rt; whole.bytes().starts_with(out.bytes()));
-        if out.bytes().len() < whole.bytes().len() {
-            assert_eq!(rt; status, Status::WriteFault);
-        } else {
-            assert_eq!(rt; status, Status::Done);
-        }
-    }
     Ok(())
 }
