@@ -1,4 +1,4 @@
-//! Worked rows of scenarios: their values, their first faults, and the log of a drill. And the scenario of all worked rows.
+//! Worked rows of scenarios: their values, their first faults, and the log of a drill. And the scenario of all worked rows, with a log.
 #![tactic(auto)]
 
 #[cfg(test)]
@@ -11,4 +11,4 @@ mod text;
 #[cfg(test)]
 mod values;
 
-pub use text::SCENARIO;
+pub use text::{HEAD_ON, SCENARIO};

@@ -1,8 +1,11 @@
 //! Scenarios of version 1 as ones of version 2.
-use crate::values::{ACT, DETECT, good, is_rule, second_version, with_own, with_predictions};
-use outside::Memory;
-use scenario::{migrate, read};
+use crate::values::{
+    ACT, DETECT, LOG, WINDOW, good, is_rule, scenario_of, second_version, with_own,
+    with_predictions,
+};
+use scenario::migrate;
 use std::alloc::{AllocError, Global};
+use std::test::Fail;
 
 /// The text that a scenario is migrated to, or its fault.
 fn moved(alloc: Global, text: &str) -> Result<String, AllocError> {
@@ -20,27 +23,17 @@ const SAME_FOR_EACH_KIND: &str =
     "(((((engaged & head_on) -> clear(201)) & ((engaged & (overtaking | overtaken)) -> clear(201))) & ((engaged & (crossing_gives | crossing_stands)) -> clear(201))) & ((engaged & (passing | unclassified)) -> clear(201)))";
 
 #[test]
-fn a_migrated_scenario_has_the_same_values(rt: HostRuntime) -> Result<(), Memory> {
+fn a_migrated_scenario_has_the_same_values(rt: HostRuntime) -> Result<(), Fail> {
     let first = good(rt.alloc())?;
     let text = moved(rt.alloc(), first.as_str())?;
-    match read(rt.alloc(), text.as_bytes(), false) {
-        Ok(scenario) => {
-            assert_eq!(rt; scenario.window.start, 1_700_000_000);
-            assert_eq!(rt; (scenario.window.tick, scenario.window.ticks), (10, 40));
-            assert_eq!(rt; (scenario.log.gap, scenario.log.slack), (600, 60));
-            assert_eq!(rt;
-                (scenario.log.max_speed, scenario.log.max_bytes),
-                (500, 1 << 30)
-            );
-            assert_eq!(rt; scenario.detect, DETECT);
-            assert_eq!(rt; scenario.act, ACT);
-            assert_eq!(rt; scenario.rules.len(), 11);
-            let is = is_rule(rt.alloc(), &scenario.rules, 1, "r8d", SAME_FOR_EACH_KIND)?;
-            assert!(rt; is);
-            assert_eq!(rt; scenario.subjects.as_slice().len(), 0);
-        }
-        Err(fault) => assert!(rt; false, "{fault}"),
-    }
+    let scenario = scenario_of(rt.alloc(), text.as_str(), false)?;
+    assert_eq!(rt; scenario.window, WINDOW);
+    assert_eq!(rt; scenario.log, LOG);
+    assert_eq!(rt; scenario.detect, DETECT);
+    assert_eq!(rt; scenario.act, ACT);
+    assert_eq!(rt; scenario.rules.len(), 11);
+    assert!(rt; is_rule(rt.alloc(), &scenario.rules, 1, "r8d", SAME_FOR_EACH_KIND)?);
+    assert_eq!(rt; scenario.subjects.as_slice().len(), 0);
     Ok(())
 }
 
@@ -76,27 +69,19 @@ fn known_keys_alone_are_kept(rt: HostRuntime) -> Result<(), AllocError> {
 }
 
 #[test]
-fn own_ship_and_what_is_predicted_are_kept(rt: HostRuntime) -> Result<(), AllocError> {
+fn own_ship_and_what_is_predicted_are_kept(rt: HostRuntime) -> Result<(), Fail> {
     let good = with_predictions(rt.alloc())?;
     let text = moved(rt.alloc(), good.as_str())?;
-    match read(rt.alloc(), text.as_bytes(), true) {
-        Ok(scenario) => match &scenario.own {
-            Some(own) => {
-                assert_eq!(rt; own.mmsi, 369_190_000);
-                assert_eq!(rt; (own.lattice.plans(), own.lattice.positions()), (216, 100));
-                assert_eq!(rt; (own.base, own.lengths, own.range), (301, 2, 50_000));
-                match own.predict.as_slice() {
-                    [first, second] => {
-                        assert_eq!(rt; (first.mmsi, second.mmsi), (477_553_000, 477_553_001));
-                        assert_eq!(rt; first.changes.as_slice().len(), 2);
-                    }
-                    _ => assert!(rt; false, "not two vessels"),
-                }
-            }
-            None => assert!(rt; false, "no own ship"),
-        },
-        Err(fault) => assert!(rt; false, "{fault}"),
-    }
+    let scenario = scenario_of(rt.alloc(), text.as_str(), true)?;
+    let own = scenario.own.as_ref().ok_or("own ship")?;
+    assert_eq!(rt; own.mmsi, 369_190_000);
+    assert_eq!(rt; (own.lattice.plans(), own.lattice.positions()), (216, 100));
+    assert_eq!(rt; (own.base, own.lengths, own.range), (301, 2, 50_000));
+    let [first, second] = own.predict.as_slice() else {
+        return Err("two vessels".into());
+    };
+    assert_eq!(rt; (first.mmsi, second.mmsi), (477_553_000, 477_553_001));
+    assert_eq!(rt; first.changes.as_slice().len(), 2);
     Ok(())
 }
 

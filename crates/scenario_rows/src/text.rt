@@ -1,4 +1,5 @@
-//! The one scenario of the worked rows, whatever crate they are of. A row that needs another one replaces a part of it.
+//! The one scenario of the worked rows, whatever crate they are of, and a log of two vessels. A row that needs another scenario replaces a
+//! part of this.
 
 /// A window of 40 ticks of ten seconds, about the place at 0 north and 0 east.
 pub const SCENARIO: &str = "version = 1
@@ -35,4 +36,14 @@ te = 600
 gap = 600
 slack = 60
 max_speed = 500
+";
+
+/// Two vessels that meet head on, each with a report at the beginning and one 400 seconds later.
+pub const HEAD_ON: &[u8] =
+    b"\\c:1700000000*5F\\!AIVDM,2,1,3,B,55P5TL01VIaAL@7WKO@mBplU@<PDhh000000001S;AJ::4A80?4i@E53,0*3E
+!AIVDM,2,2,3,B,1@0000000000000,2*55
+\\c:1700000000*5F\\!AIVDM,1,1,,A,15P5TL0P2l00001wwHt000000000,0*5C
+\\c:1700000000*5F\\!AIVDM,1,1,,A,177KQJ0P2lOwwtp00W4725`00000,0*31
+\\c:1700000400*5B\\!AIVDM,1,1,,A,15P5TL0P2l0000000W4000000000,0*02
+\\c:1700000400*5B\\!AIVDM,1,1,,A,177KQJ0P2lOwwtqwwHt725`00000,0*6F
 ";

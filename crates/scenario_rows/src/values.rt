@@ -5,9 +5,10 @@ use encounters::{Act, Detect};
 use mtl_formulas::print;
 use outside::Memory;
 use rule_set::RuleSet;
-use scenario::{Cause, Change, Key, ScenarioFault, Subjects, read};
+use scenario::{Cause, Change, Key, LogNumbers, Scenario, ScenarioFault, Subjects, Window, read};
 use sectors::Angles;
 use std::alloc::{AllocError, Global};
+use std::test::Fail;
 
 /// A value of its own for each key that could stand for another.
 const OWN_VALUES: [(&str, &str); 11] = [
@@ -32,6 +33,19 @@ pub(crate) fn good(alloc: Global) -> Result<String, AllocError> {
     }
     Ok(text)
 }
+
+pub(crate) const WINDOW: Window = Window {
+    start: 1_700_000_000,
+    tick: 10,
+    ticks: 40,
+};
+
+pub(crate) const LOG: LogNumbers = LogNumbers {
+    gap: 600,
+    slack: 60,
+    max_speed: 500,
+    max_bytes: 1 << 30,
+};
 
 pub(crate) const DETECT: Detect = Detect {
     watch: 50_000_000,
@@ -110,73 +124,58 @@ const CHANGES: [Change; 2] = [
     },
 ];
 
+/// The scenario that a text has.
+pub(crate) fn scenario_of(alloc: Global, text: &str, need_own: bool) -> Result<Scenario, Fail> {
+    Ok(read(alloc, text.as_bytes(), need_own)?)
+}
+
 #[test]
-fn changes_are_predicted_of_other_vessels(rt: HostRuntime) -> Result<(), AllocError> {
+fn changes_are_predicted_of_other_vessels(rt: HostRuntime) -> Result<(), Fail> {
     let text = with_predictions(rt.alloc())?;
-    match read(rt.alloc(), text.as_bytes(), true) {
-        Ok(scenario) => match &scenario.own {
-            Some(own) => match own.predict.as_slice() {
-                [first, second] => {
-                    assert_eq!(rt; (first.mmsi, second.mmsi), (477_553_000, 477_553_001));
-                    assert!(rt; first.changes.as_slice() == CHANGES.as_slice());
-                    assert_eq!(rt; second.changes.as_slice().len(), 1);
-                }
-                _ => assert!(rt; false, "not two vessels"),
-            },
-            None => assert!(rt; false, "no own ship"),
-        },
-        Err(fault) => assert!(rt; false, "{fault}"),
-    }
+    let scenario = scenario_of(rt.alloc(), text.as_str(), true)?;
+    let own = scenario.own.as_ref().ok_or("own ship")?;
+    let [first, second] = own.predict.as_slice() else {
+        return Err("two vessels".into());
+    };
+    assert_eq!(rt; (first.mmsi, second.mmsi), (477_553_000, 477_553_001));
+    assert!(rt; first.changes.as_slice() == CHANGES.as_slice());
+    assert_eq!(rt; second.changes.as_slice().len(), 1);
     Ok(())
 }
 
 #[test]
-fn own_ship_has_her_plans(rt: HostRuntime) -> Result<(), AllocError> {
+fn own_ship_has_her_plans(rt: HostRuntime) -> Result<(), Fail> {
     let text = with_own(rt.alloc())?;
-    match read(rt.alloc(), text.as_bytes(), true) {
-        Ok(scenario) => match &scenario.own {
-            Some(own) => {
-                assert_eq!(rt; own.mmsi, 369_190_000);
-                assert_eq!(rt; own.lattice.choices(), 6);
-                assert_eq!(rt; own.lattice.plans(), 216);
-                assert_eq!(rt; own.lattice.positions(), 100);
-                assert_eq!(rt; (own.base, own.lengths, own.range), (301, 2, 50_000));
-            }
-            None => assert!(rt; false, "no own ship"),
-        },
-        Err(fault) => assert!(rt; false, "{fault}"),
-    }
+    let scenario = scenario_of(rt.alloc(), text.as_str(), true)?;
+    let own = scenario.own.as_ref().ok_or("own ship")?;
+    assert_eq!(rt; own.mmsi, 369_190_000);
+    assert_eq!(rt; own.lattice.choices(), 6);
+    assert_eq!(rt; own.lattice.plans(), 216);
+    assert_eq!(rt; own.lattice.positions(), 100);
+    assert_eq!(rt; (own.base, own.lengths, own.range), (301, 2, 50_000));
     Ok(())
 }
 
 #[test]
-fn values_of_a_good_scenario(rt: HostRuntime) -> Result<(), Memory> {
+fn values_of_a_good_scenario(rt: HostRuntime) -> Result<(), Fail> {
     let text = good(rt.alloc())?;
-    match read(rt.alloc(), text.as_bytes(), false) {
-        Ok(scenario) => {
-            assert_eq!(rt; scenario.window.start, 1_700_000_000);
-            assert_eq!(rt; scenario.window.tick, 10);
-            assert_eq!(rt; scenario.window.ticks, 40);
-            assert_eq!(rt; scenario.log.gap, 600);
-            assert_eq!(rt; scenario.log.slack, 60);
-            assert_eq!(rt; scenario.log.max_speed, 500);
-            assert_eq!(rt; scenario.log.max_bytes, 1 << 30);
-            assert_eq!(rt; scenario.detect, DETECT);
-            assert_eq!(rt; scenario.act, ACT);
-            assert_eq!(rt; scenario.rules.len(), 11);
-            let is = is_rule(
-                rt.alloc(),
-                &scenario.rules,
-                1,
-                "r8d",
-                "(engaged -> clear(201))",
-            )?;
-            assert!(rt; is);
-            assert_eq!(rt; scenario.subjects.as_slice().len(), 0);
-            assert!(rt; scenario.own.is_none());
-        }
-        Err(fault) => assert!(rt; false, "{fault}"),
-    }
+    let scenario = scenario_of(rt.alloc(), text.as_str(), false)?;
+    assert_eq!(rt; scenario.window, WINDOW);
+    assert_eq!(rt; scenario.log, LOG);
+    assert_eq!(rt; scenario.detect, DETECT);
+    assert_eq!(rt; scenario.act, ACT);
+    assert_eq!(rt; scenario.rules.len(), 11);
+    assert!(rt;
+        is_rule(
+            rt.alloc(),
+            &scenario.rules,
+            1,
+            "r8d",
+            "(engaged -> clear(201))"
+        )?
+    );
+    assert_eq!(rt; scenario.subjects.as_slice().len(), 0);
+    assert!(rt; scenario.own.is_none());
     Ok(())
 }
 
@@ -185,15 +184,10 @@ const SAFE_PER_KIND: &str =
     "(((((engaged & head_on) -> clear(1)) & ((engaged & (overtaking | overtaken)) -> clear(2))) & ((engaged & (crossing_gives | crossing_stands)) -> clear(3))) & ((engaged & (passing | unclassified)) -> clear(100000)))";
 
 #[test]
-fn version_two_has_a_safe_distance_for_each_kind(rt: HostRuntime) -> Result<(), Memory> {
+fn version_two_has_a_safe_distance_for_each_kind(rt: HostRuntime) -> Result<(), Fail> {
     let text = second_version(rt.alloc())?;
-    match read(rt.alloc(), text.as_bytes(), false) {
-        Ok(scenario) => {
-            let is = is_rule(rt.alloc(), &scenario.rules, 1, "r8d", SAFE_PER_KIND)?;
-            assert!(rt; is);
-        }
-        Err(fault) => assert!(rt; false, "{fault}"),
-    }
+    let scenario = scenario_of(rt.alloc(), text.as_str(), false)?;
+    assert!(rt; is_rule(rt.alloc(), &scenario.rules, 1, "r8d", SAFE_PER_KIND)?);
     Ok(())
 }
 
@@ -207,41 +201,29 @@ pub(crate) fn with_formulas(alloc: Global) -> Result<String, AllocError> {
 }
 
 #[test]
-fn formulas_stand_behind_the_rules(rt: HostRuntime) -> Result<(), Memory> {
+fn formulas_stand_behind_the_rules(rt: HostRuntime) -> Result<(), Fail> {
     let text = with_formulas(rt.alloc())?;
-    match read(rt.alloc(), text.as_bytes(), false) {
-        Ok(scenario) => {
-            assert_eq!(rt; scenario.rules.len(), 13);
-            let first = is_rule(
-                rt.alloc(),
-                &scenario.rules,
-                11,
-                "u1",
-                "(F[0,20] risk & !seen)",
-            )?;
-            assert!(rt; first);
-            let second = is_rule(rt.alloc(), &scenario.rules, 12, "r18", "seen")?;
-            assert!(rt; second);
-        }
-        Err(fault) => assert!(rt; false, "{fault}"),
+    let scenario = scenario_of(rt.alloc(), text.as_str(), false)?;
+    assert_eq!(rt; scenario.rules.len(), 13);
+    for (k, name, printed) in [(11, "u1", "(F[0,20] risk & !seen)"), (12, "r18", "seen")] {
+        assert!(rt; is_rule(rt.alloc(), &scenario.rules, k, name, printed)?);
     }
     Ok(())
 }
 
+/// The greatest value of each key of the first tables, and a key that nobody knows.
+const GREATEST: &str =
+    "version = 1\n[window]\nstart = 9999999999\ntick = 60\nticks = 20000\n[reference]\nlat = 45000000\nlon = -108000000\n[log]\ngap = 3600\nslack = 3600\nmax_speed = 1022\nmax_bytes = 1073741824\nunknown = 1.5\n[detect]\nwatch = 100000\nrisk = 100000\nclear = 100000\nhorizon = 7200\ndoubt = 1124\nahead = 900\nreciprocal = 900\n[act]\nsteady_turn = 1800\napparent_turn = 1800\nsteady_speed = 1022\napparent_speed = 1022\n[rules]\nsafe = 100000\novertake = 100000\nclose = 100000\nt8 = 7200\nta = 7200\ntl = 7200\ntw = 7200\nte = 7200\n";
+
 #[test]
-fn the_greatest_values_are_read(rt: HostRuntime) {
-    let text =
-        "version = 1\n[window]\nstart = 9999999999\ntick = 60\nticks = 20000\n[reference]\nlat = 45000000\nlon = -108000000\n[log]\ngap = 3600\nslack = 3600\nmax_speed = 1022\nmax_bytes = 1073741824\nunknown = 1.5\n[detect]\nwatch = 100000\nrisk = 100000\nclear = 100000\nhorizon = 7200\ndoubt = 1124\nahead = 900\nreciprocal = 900\n[act]\nsteady_turn = 1800\napparent_turn = 1800\nsteady_speed = 1022\napparent_speed = 1022\n[rules]\nsafe = 100000\novertake = 100000\nclose = 100000\nt8 = 7200\nta = 7200\ntl = 7200\ntw = 7200\nte = 7200\n";
-    match read(rt.alloc(), text.as_bytes(), false) {
-        Ok(scenario) => {
-            assert_eq!(rt; scenario.window.start, 9_999_999_999);
-            assert_eq!(rt; scenario.log.gap, 3600);
-            assert_eq!(rt; scenario.log.max_bytes, 1 << 30);
-            assert_eq!(rt; scenario.detect.watch, 1_000_000_000);
-            assert_eq!(rt; scenario.detect.horizon, 120);
-        }
-        Err(fault) => assert!(rt; false, "{fault}"),
-    }
+fn the_greatest_values_are_read(rt: HostRuntime) -> Result<(), Fail> {
+    let scenario = scenario_of(rt.alloc(), GREATEST, false)?;
+    assert_eq!(rt; scenario.window.start, 9_999_999_999);
+    assert_eq!(rt; scenario.log.gap, 3600);
+    assert_eq!(rt; scenario.log.max_bytes, 1 << 30);
+    assert_eq!(rt; scenario.detect.watch, 1_000_000_000);
+    assert_eq!(rt; scenario.detect.horizon, 120);
+    Ok(())
 }
 
 /// The good scenario with a list of so many subjects, of which the last is this text.
@@ -258,17 +240,13 @@ fn with_subjects(alloc: Global, many: usize, last: &str) -> Result<String, Alloc
 }
 
 #[test]
-fn a_list_has_at_most_its_length(rt: HostRuntime) -> Result<(), AllocError> {
+fn a_list_has_at_most_its_length(rt: HostRuntime) -> Result<(), Fail> {
     let most = with_subjects(rt.alloc(), 64, "799999999")?;
-    match read(rt.alloc(), most.as_bytes(), false) {
-        Ok(scenario) => {
-            let subjects = scenario.subjects.as_slice();
-            assert_eq!(rt; subjects.len(), 64);
-            assert_eq!(rt; subjects.first(), Some(&200_000_000));
-            assert_eq!(rt; subjects.last(), Some(&799_999_999));
-        }
-        Err(fault) => assert!(rt; false, "{fault}"),
-    }
+    let scenario = scenario_of(rt.alloc(), most.as_str(), false)?;
+    let subjects = scenario.subjects.as_slice();
+    assert_eq!(rt; subjects.len(), 64);
+    assert_eq!(rt; subjects.first(), Some(&200_000_000));
+    assert_eq!(rt; subjects.last(), Some(&799_999_999));
     for (many, last, expected) in [
         (65, "1", "subjects[0]: range"),
         (65, "true", "subjects[64]: type"),
@@ -295,14 +273,21 @@ fn texts_of_faults(rt: HostRuntime) -> Result<(), AllocError> {
     let key = Key { row: 9, item: 0 };
     let line = format!(in rt.alloc(); "scenario: {key}: {}\n", Cause::Formula(1024))?;
     assert_eq!(rt; line.as_str(), "scenario: log.max_speed: formula at 1024\n");
-    let fault = ScenarioFault::Fault(key, Cause::Multiple);
-    let text = format!(in rt.alloc(); "{fault}")?;
-    assert_eq!(rt; text.as_str(), "log.max_speed: multiple");
     let item = format!(in rt.alloc(); "{}", Key { row: 30, item: 7 })?;
     assert_eq!(rt; item.as_str(), "subjects[7]");
-    let product = format!(in rt.alloc(); "{}", Cause::Product)?;
-    assert_eq!(rt; product.as_str(), "product");
-    let memory = format!(in rt.alloc(); "{}", ScenarioFault::from(Memory))?;
-    assert_eq!(rt; memory.as_str(), "out of memory");
+    for (fault, expected) in [
+        (
+            ScenarioFault::Fault(key, Cause::Multiple),
+            "log.max_speed: multiple",
+        ),
+        (
+            ScenarioFault::Fault(key, Cause::Product),
+            "log.max_speed: product",
+        ),
+        (ScenarioFault::from(Memory), "out of memory"),
+    ] {
+        let text = format!(in rt.alloc(); "{fault}")?;
+        assert_eq!(rt; text.as_str(), expected);
+    }
     Ok(())
 }
