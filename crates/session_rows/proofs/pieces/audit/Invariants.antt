@@ -1,5 +1,5 @@
 use Rattle.sessions.specs.Standing.{IsInUse}
-use Rattle.sessions.proofs.tests.audit.Given as goal
+use Rattle.session_rows.proofs.pieces.audit.Given as goal
 
 -- the session goes on
 abbrev pub invariant-loop-piece : goal.invariant-loop-piece

@@ -1,4 +1,5 @@
-use super::*;
+//! A line that comes in pieces.
+use growing_log::OpenLine;
 
 fn has_line(open: &OpenLine, bytes: &[u8]) -> bool {
     match open.line() {
