@@ -1,5 +1,6 @@
 //! Lines as sentences, and sentences joined to messages.
 use aivdm::{Bits, Body, Joined, Joiner, LineCause, read_line, write_sentence};
+use std::process::Abort;
 use std::test::Fail;
 
 /// What a line completes, received at a time.
@@ -13,21 +14,52 @@ fn joined(joiner: &mut Joiner, line: &[u8], time: u64) -> Result<Joined, Fail> {
     }
 }
 
+/// What a line completes that is received at once, where it completes a message.
+fn message(joiner: &mut Joiner, line: &[u8]) -> Result<Bits, Fail> {
+    match joined(joiner, line, 0)? {
+        Joined::Message(bits) => Ok(bits),
+        _ => Err("it is a message".into()),
+    }
+}
+
+/// Lines that leave what they belong to waiting.
+fn are_waited_for(rt: &impl Abort, joiner: &mut Joiner, lines: &[&[u8]]) -> Result<(), Fail> {
+    for line in lines {
+        assert!(rt; matches!(joined(joiner, line, 0)?, Joined::Waiting));
+    }
+    Ok(())
+}
+
+/// A number in some bits: the first of them, how many they are, and the number.
+type Field = (usize, u32, u32);
+
+/// Compares the numbers that stand in a message.
+fn hold(rt: &impl Abort, bits: &Bits, fields: &[Field]) {
+    for (first, width, number) in fields {
+        assert!(rt; 1 <= *width && *width <= 32);
+        assert!(rt; *first <= bits.len() && *width as usize <= bits.len() - *first);
+        assert_eq!(rt;
+            bits.unsigned(*first, *width),
+            *number,
+            "from bit {first} on"
+        );
+    }
+}
+
 // The sentence of the AIVDM/AIVDO protocol decoding page of gpsd (Eric S. Raymond), and its fields there.
 #[test]
 fn sentence_off_the_air(rt: HostRuntime) -> Result<(), Fail> {
     let mut joiner = Joiner::new(rt.alloc());
     let line = b"!AIVDM,1,1,,B,177KQJ5000G?tO`K>RA1wUbN0TKH,0*5C";
-    let Joined::Message(bits) = joined(&mut joiner, line, 0)? else {
-        return Err("it is a message".into());
-    };
+    let bits = message(&mut joiner, line)?;
     assert_eq!(rt; bits.len(), 168);
-    assert_eq!(rt; bits.unsigned(0, 6), 1);
-    assert_eq!(rt; bits.unsigned(8, 30), 477553000);
-    assert_eq!(rt; bits.unsigned(38, 4), 5);
+    hold(
+        &rt,
+        &bits,
+        &[(0, 6, 1), (8, 30, 477553000), (38, 4, 5), (116, 12, 510)],
+    );
     assert_eq!(rt; bits.signed(61, 28), -73407500);
     assert_eq!(rt; bits.signed(89, 27), 28549700);
-    assert_eq!(rt; bits.unsigned(116, 12), 510);
     Ok(())
 }
 
@@ -37,45 +69,30 @@ fn message_of_two_sentences(rt: HostRuntime) -> Result<(), Fail> {
     let mut joiner = Joiner::new(rt.alloc());
     let first = b"!AIVDM,2,1,3,B,55P5TL01VIaAL@7WKO@mBplU@<PDhh000000001S;AJ::4A80?4i@E53,0*3E";
     let second = b"!AIVDM,2,2,3,B,1@0000000000000,2*55";
-    assert!(rt; matches!(joined(&mut joiner, first, 0)?, Joined::Waiting));
-    let Joined::Message(bits) = joined(&mut joiner, second, 30)? else {
-        return Err("it is a message".into());
-    };
+    are_waited_for(&rt, &mut joiner, &[first])?;
+    let bits = message(&mut joiner, second)?;
     assert_eq!(rt; bits.len(), 424);
-    assert_eq!(rt; bits.unsigned(0, 6), 5);
-    assert_eq!(rt; bits.unsigned(8, 30), 369190000);
-    assert_eq!(rt; bits.unsigned(232, 8), 99);
+    hold(&rt, &bits, &[(0, 6, 5), (8, 30, 369190000), (232, 8, 99)]);
     // The message is closed.
-    assert!(rt; matches!(joined(&mut joiner, second, 30)?, Joined::Orphan));
+    assert!(rt; matches!(joined(&mut joiner, second, 0)?, Joined::Orphan));
     Ok(())
 }
 
+// 1 and 3 in six bits each, and 2 and 4, without the last two bits.
 #[test]
 fn two_keys_interleaved(rt: HostRuntime) -> Result<(), Fail> {
     let mut joiner = Joiner::new(rt.alloc());
-    assert!(rt;
-        matches!(
-            joined(&mut joiner, b"!AIVDM,2,1,3,A,1,0*27", 0)?,
-            Joined::Waiting
-        )
-    );
-    assert!(rt;
-        matches!(
-            joined(&mut joiner, b"!AIVDM,2,1,3,B,2,0*27", 0)?,
-            Joined::Waiting
-        )
-    );
-    let Joined::Message(first) = joined(&mut joiner, b"!AIVDM,2,2,3,A,3,2*24", 0)? else {
-        return Err("it is a message".into());
-    };
-    let Joined::Message(second) = joined(&mut joiner, b"!AIVDM,2,2,3,B,4,2*20", 0)? else {
-        return Err("it is a message".into());
-    };
-    // 1 and 3 in six bits each, and 2 and 4, without the last two bits
-    assert_eq!(rt; first.len(), 10);
-    assert_eq!(rt; first.unsigned(0, 10), 0b000001_0000);
-    assert_eq!(rt; second.len(), 10);
-    assert_eq!(rt; second.unsigned(0, 10), 0b000010_0001);
+    let begun: [&[u8]; 2] = [b"!AIVDM,2,1,3,A,1,0*27", b"!AIVDM,2,1,3,B,2,0*27"];
+    are_waited_for(&rt, &mut joiner, &begun)?;
+    let ends: [(&[u8], u32); 2] = [
+        (b"!AIVDM,2,2,3,A,3,2*24", 0b000001_0000),
+        (b"!AIVDM,2,2,3,B,4,2*20", 0b000010_0001),
+    ];
+    for (line, number) in ends {
+        let bits = message(&mut joiner, line)?;
+        assert_eq!(rt; bits.len(), 10);
+        hold(&rt, &bits, &[(0, 10, number)]);
+    }
     Ok(())
 }
 
@@ -92,33 +109,52 @@ fn nine_parts(rt: HostRuntime) -> Result<(), Fail> {
         b"!AIVDM,9,7,5,A,w,0*6A",
         b"!AIVDM,9,8,5,A,0,0*22",
     ];
-    for line in lines {
-        assert!(rt; matches!(joined(&mut joiner, line, 0)?, Joined::Waiting));
-    }
-    let Joined::Message(bits) = joined(&mut joiner, b"!AIVDM,9,9,5,A,w,0*64", 0)? else {
-        return Err("it is a message".into());
-    };
+    are_waited_for(&rt, &mut joiner, &lines)?;
+    let bits = message(&mut joiner, b"!AIVDM,9,9,5,A,w,0*64")?;
     assert_eq!(rt; bits.len(), 54);
-    assert_eq!(rt; bits.unsigned(0, 18), 0b111111_000000_111111);
-    assert_eq!(rt; bits.unsigned(36, 18), 0b111111_000000_111111);
+    hold(
+        &rt,
+        &bits,
+        &[
+            (0, 18, 0b111111_000000_111111),
+            (36, 18, 0b111111_000000_111111),
+        ],
+    );
     Ok(())
 }
 
+/// What a line completes.
+#[derive(Clone, Copy, Debug, PartialEq, Eq)]
+enum Completes {
+    AMessage,
+    NothingYet,
+    Nothing,
+}
+
+fn completes(joined: &Joined) -> Completes {
+    match joined {
+        Joined::Message(_) => Completes::AMessage,
+        Joined::Waiting => Completes::NothingYet,
+        Joined::Orphan => Completes::Nothing,
+    }
+}
+
+// A part may be older than the first one.
 #[test]
 fn thirty_seconds_from_the_first_part_on(rt: HostRuntime) -> Result<(), Fail> {
-    let lines: [&[u8]; 3] = [
-        b"!AIVDM,3,1,,B,5,0*12",
-        b"!AIVDM,3,2,,B,5,0*11",
-        b"!AIVDM,3,3,,B,5,0*10",
+    let parts: [(&[u8], u64, Completes); 6] = [
+        (b"!AIVDM,3,1,,B,5,0*12", 1000, Completes::NothingYet),
+        (b"!AIVDM,3,2,,B,5,0*11", 1020, Completes::NothingYet),
+        (b"!AIVDM,3,3,,B,5,0*10", 1031, Completes::Nothing),
+        (b"!AIVDM,3,1,,B,5,0*12", 2000, Completes::NothingYet),
+        (b"!AIVDM,3,2,,B,5,0*11", 2030, Completes::NothingYet),
+        (b"!AIVDM,3,3,,B,5,0*10", 1000, Completes::AMessage),
     ];
     let mut joiner = Joiner::new(rt.alloc());
-    assert!(rt; matches!(joined(&mut joiner, lines[0], 1000)?, Joined::Waiting));
-    assert!(rt; matches!(joined(&mut joiner, lines[1], 1020)?, Joined::Waiting));
-    assert!(rt; matches!(joined(&mut joiner, lines[2], 1031)?, Joined::Orphan));
-    // A part may be older than the first one.
-    assert!(rt; matches!(joined(&mut joiner, lines[0], 2000)?, Joined::Waiting));
-    assert!(rt; matches!(joined(&mut joiner, lines[1], 2030)?, Joined::Waiting));
-    assert!(rt; matches!(joined(&mut joiner, lines[2], 1000)?, Joined::Message(_)));
+    for (line, time, expected) in parts {
+        let joined = joined(&mut joiner, line, time)?;
+        assert_eq!(rt; completes(&joined), expected, "at {time}");
+    }
     Ok(())
 }
 
@@ -146,21 +182,17 @@ fn sum_of_another_sentence(rt: HostRuntime) {
 fn message_written_again(rt: HostRuntime) -> Result<(), Fail> {
     let mut joiner = Joiner::new(rt.alloc());
     let line = b"!AIVDM,1,1,,A,15P5TL0P2l00001wwHt000000000,0*5C";
-    let Joined::Message(bits) = joined(&mut joiner, line, 0)? else {
-        return Err("it is a message".into());
-    };
+    let stamped = b"\\c:1700000000*5F\\!AIVDM,1,1,,A,15P5TL0P2l00001wwHt000000000,0*5C";
+    let bits = message(&mut joiner, line)?;
     assert_eq!(rt; bits.len(), 168);
     let Ok(plain) = write_sentence(rt.alloc(), None, &bits, b'A') else {
         return Err("there is memory".into());
     };
     assert!(rt; plain.as_slice() == line.as_slice());
-    let Ok(stamped) = write_sentence(rt.alloc(), Some(1700000000), &bits, b'A') else {
+    let Ok(told) = write_sentence(rt.alloc(), Some(1700000000), &bits, b'A') else {
         return Err("there is memory".into());
     };
-    assert!(rt;
-        stamped.as_slice()
-            == b"\\c:1700000000*5F\\!AIVDM,1,1,,A,15P5TL0P2l00001wwHt000000000,0*5C".as_slice()
-    );
+    assert!(rt; told.as_slice() == stamped.as_slice());
     Ok(())
 }
 
@@ -172,9 +204,7 @@ fn numbers_appended(rt: HostRuntime) -> Result<(), Fail> {
     assert!(rt; bits.append(0xffff_ffff, 32).is_ok());
     assert!(rt; bits.append(0, 1).is_ok());
     assert_eq!(rt; bits.len(), 39);
-    assert_eq!(rt; bits.unsigned(0, 6), 1);
-    assert_eq!(rt; bits.unsigned(6, 32), 0xffff_ffff);
+    hold(&rt, &bits, &[(0, 6, 1), (6, 32, 0xffff_ffff), (38, 1, 0)]);
     assert_eq!(rt; bits.signed(6, 4), -1);
-    assert_eq!(rt; bits.unsigned(38, 1), 0);
     Ok(())
 }
