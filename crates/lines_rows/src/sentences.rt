@@ -131,7 +131,7 @@ enum Completes {
     Nothing,
 }
 
-fn completes(joined: &Joined) -> Completes {
+fn completion_of(joined: &Joined) -> Completes {
     match joined {
         Joined::Message(_) => Completes::AMessage,
         Joined::Waiting => Completes::NothingYet,
@@ -153,7 +153,7 @@ fn thirty_seconds_from_the_first_part_on(rt: HostRuntime) -> Result<(), Fail> {
     let mut joiner = Joiner::new(rt.alloc());
     for (line, time, expected) in parts {
         let joined = joined(&mut joiner, line, time)?;
-        assert_eq!(rt; completes(&joined), expected, "at {time}");
+        assert_eq!(rt; completion_of(&joined), expected, "at {time}");
     }
     Ok(())
 }

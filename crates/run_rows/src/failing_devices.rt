@@ -1,6 +1,6 @@
 //! Devices that fail: what a run has written by then, and that it asks for no more.
 use crate::logs::{ABOUT_SEATTLE, FIRST_FOUR, FIRST_TWO, LOG, REPORT};
-use crate::whole_run::{Devices, Ended, SOUND, edited, ended};
+use crate::whole_run::{Devices, RunEnd, SOUND, edited, ended};
 use crate::worked_row::{AUDIT, POINTS};
 use colregs_program::Status;
 use outside::Taken;
@@ -28,7 +28,7 @@ fn a_source_that_fails_after_a_hundred_bytes(rt: HostRuntime) -> Result<(), Fail
 }
 
 /// Runs `audit` on the head-on log and one line more.
-fn audited(alloc: Global, last: &[u8], devices: Devices) -> Result<Ended, Fail> {
+fn audited(alloc: Global, last: &[u8], devices: Devices) -> Result<RunEnd, Fail> {
     let scenario = edited(alloc, &[])?;
     let mut log = HEAD_ON.to_vec(alloc)?;
     log.extend_from_slice(last)?;

@@ -32,7 +32,7 @@ pub(crate) const SOUND: Devices = Devices {
 
 /// What a run ended with, what it wrote, and what a read behind it gives.
 #[derive(Drop)]
-pub(crate) struct Ended {
+pub(crate) struct RunEnd {
     pub(crate) status: Status,
     pub(crate) out: MemorySink,
     pub(crate) err: MemorySink,
@@ -71,7 +71,7 @@ pub(crate) fn ended(
     scenario: &str,
     log: &[u8],
     devices: Devices,
-) -> Result<Ended, Fail> {
+) -> Result<RunEnd, Fail> {
     let words = words_of(alloc, texts)?;
     let mut shelf = shelf_of(alloc, scenario)?;
     let reads = calls(alloc, devices.failing_read)?;
@@ -82,7 +82,7 @@ pub(crate) fn ended(
     let status = run(alloc, words, &mut shelf, &mut source, &mut out, &mut err);
     let mut room = [0u8; 100];
     let next = source.read(&mut room);
-    Ok(Ended {
+    Ok(RunEnd {
         status,
         out,
         err,

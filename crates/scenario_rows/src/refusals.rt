@@ -8,7 +8,7 @@ type Case = (&'static str, &'static str, &'static str);
 
 /// A scenario without a fault.
 #[derive(Clone, Copy)]
-enum Good {
+enum Faultless {
     First,
     Second,
     WithFormulas,
@@ -16,19 +16,19 @@ enum Good {
     WithPredictions,
 }
 
-impl Good {
+impl Faultless {
     fn text(self, alloc: Global) -> Result<String, AllocError> {
         match self {
-            Good::First => good(alloc),
-            Good::Second => second_version(alloc),
-            Good::WithFormulas => with_formulas(alloc),
-            Good::WithOwn => with_own(alloc),
-            Good::WithPredictions => with_predictions(alloc),
+            Faultless::First => good(alloc),
+            Faultless::Second => second_version(alloc),
+            Faultless::WithFormulas => with_formulas(alloc),
+            Faultless::WithOwn => with_own(alloc),
+            Faultless::WithPredictions => with_predictions(alloc),
         }
     }
 
     fn needs_own(self) -> bool {
-        matches!(self, Good::WithOwn | Good::WithPredictions)
+        matches!(self, Faultless::WithOwn | Faultless::WithPredictions)
     }
 }
 
@@ -468,21 +468,25 @@ fn at_most_64_vessels_are_predicted(rt: HostRuntime) -> Result<(), AllocError> {
 }
 
 /// What the cases of a table show, the scenario whose parts they replace, and the cases.
-const TABLES: [(&str, Good, &[Case]); 14] = [
-    ("the first keys", Good::First, &FIRST),
-    ("keys of detect", Good::First, &DETECT),
-    ("keys of act", Good::First, &ACT),
-    ("keys of rules", Good::First, &RULES),
-    ("items of subjects", Good::First, &SUBJECTS),
-    ("names and texts of formulas", Good::First, &FORMULAS),
-    ("the second of two formulas", Good::WithFormulas, &SECOND),
-    ("weights of formulas", Good::First, &WEIGHTS),
-    ("the first of two faults", Good::First, &ORDER),
-    ("keys of version 2", Good::Second, &VERSION_TWO),
-    ("keys of own ship", Good::WithOwn, &OWN),
-    ("bounds of own ship", Good::WithOwn, &WITHIN),
-    ("what is predicted", Good::WithPredictions, &PREDICT),
-    ("lists of predictions", Good::WithOwn, &NO_PREDICTIONS),
+const TABLES: [(&str, Faultless, &[Case]); 14] = [
+    ("the first keys", Faultless::First, &FIRST),
+    ("keys of detect", Faultless::First, &DETECT),
+    ("keys of act", Faultless::First, &ACT),
+    ("keys of rules", Faultless::First, &RULES),
+    ("items of subjects", Faultless::First, &SUBJECTS),
+    ("names and texts of formulas", Faultless::First, &FORMULAS),
+    (
+        "the second of two formulas",
+        Faultless::WithFormulas,
+        &SECOND,
+    ),
+    ("weights of formulas", Faultless::First, &WEIGHTS),
+    ("the first of two faults", Faultless::First, &ORDER),
+    ("keys of version 2", Faultless::Second, &VERSION_TWO),
+    ("keys of own ship", Faultless::WithOwn, &OWN),
+    ("bounds of own ship", Faultless::WithOwn, &WITHIN),
+    ("what is predicted", Faultless::WithPredictions, &PREDICT),
+    ("lists of predictions", Faultless::WithOwn, &NO_PREDICTIONS),
 ];
 
 #[test]
