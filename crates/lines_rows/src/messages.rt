@@ -1,4 +1,5 @@
 //! Messages with known fields.
+use crate::compared::{is, is_true};
 use ais_messages::{
     Decoded, Message, MessageCause, PositionReport, ShipData, decode, encode_position,
 };
@@ -30,9 +31,10 @@ fn moored_ship(rt: HostRuntime) -> Result<(), Fail> {
         heading: Some(181),
         second: 15,
     };
-    assert_eq!(rt;
+    is(
+        &rt,
         message(rt.alloc(), line)?,
-        Decoded::Message(Message::Position(report))
+        Decoded::Message(Message::Position(report)),
     );
     Ok(())
 }
@@ -50,9 +52,10 @@ fn ship_under_way(rt: HostRuntime) -> Result<(), Fail> {
         heading: Some(0),
         second: 0,
     };
-    assert_eq!(rt;
+    is(
+        &rt,
         message(rt.alloc(), line)?,
-        Decoded::Message(Message::Position(report))
+        Decoded::Message(Message::Position(report)),
     );
     Ok(())
 }
@@ -73,20 +76,26 @@ fn report_written_as_a_sentence(rt: HostRuntime) -> Result<(), Fail> {
     let Ok(bits) = encode_position(rt.alloc(), &report) else {
         return Err("there is memory".into());
     };
-    assert_eq!(rt; decode(&bits), Decoded::Message(Message::Position(report)));
+    is(
+        &rt,
+        decode(&bits),
+        Decoded::Message(Message::Position(report)),
+    );
     let Ok(line) = write_sentence(rt.alloc(), None, &bits, b'A') else {
         return Err("there is memory".into());
     };
-    assert_eq!(rt;
+    is(
+        &rt,
         line.as_slice(),
-        b"!AIVDM,1,1,,A,15P5TL0P2l00001wwHt000000000,0*5C".as_slice()
+        b"!AIVDM,1,1,,A,15P5TL0P2l00001wwHt000000000,0*5C".as_slice(),
     );
     let Ok(line) = write_sentence(rt.alloc(), Some(1700000000), &bits, b'A') else {
         return Err("there is memory".into());
     };
-    assert_eq!(rt;
+    is(
+        &rt,
         line.as_slice(),
-        b"\\c:1700000000*5F\\!AIVDM,1,1,,A,15P5TL0P2l00001wwHt000000000,0*5C".as_slice()
+        b"\\c:1700000000*5F\\!AIVDM,1,1,,A,15P5TL0P2l00001wwHt000000000,0*5C".as_slice(),
     );
     Ok(())
 }
@@ -107,8 +116,12 @@ fn absent_fields_are_read_as_absent(rt: HostRuntime) -> Result<(), Fail> {
     let Ok(bits) = encode_position(rt.alloc(), &report) else {
         return Err("there is memory".into());
     };
-    assert_eq!(rt; bits.len(), 168);
-    assert_eq!(rt; decode(&bits), Decoded::Message(Message::Position(report)));
+    is(&rt, bits.len(), 168);
+    is(
+        &rt,
+        decode(&bits),
+        Decoded::Message(Message::Position(report)),
+    );
     Ok(())
 }
 
@@ -139,10 +152,11 @@ fn ship_by_her_name_and_size(rt: HostRuntime) -> Result<(), Fail> {
     else {
         return Err("it is a static report".into());
     };
-    assert_eq!(rt; report.mmsi, 369190000);
-    assert_eq!(rt;
+    is(&rt, report.mmsi, 369190000);
+    is(
+        &rt,
         report.name.ok_or("it has a name")?.bytes(),
-        b"MT.MITCHELL".as_slice()
+        b"MT.MITCHELL".as_slice(),
     );
     let ship = ShipData {
         kind: 99,
@@ -151,7 +165,7 @@ fn ship_by_her_name_and_size(rt: HostRuntime) -> Result<(), Fail> {
         port: 10,
         starboard: 10,
     };
-    assert_eq!(rt; report.ship, Some(ship));
+    is(&rt, report.ship, Some(ship));
     Ok(())
 }
 
@@ -162,13 +176,14 @@ fn long_range_report(rt: HostRuntime) -> Result<(), Fail> {
     let Decoded::Message(Message::Position(report)) = decoded else {
         return Err("it is a position report".into());
     };
-    assert_eq!(rt; report.kind, 27);
-    assert_eq!(rt; report.place, Some((-10000, 0)));
-    assert_eq!(rt;
+    is(&rt, report.kind, 27);
+    is(&rt, report.place, Some((-10000, 0)));
+    is(
+        &rt,
         (report.sog, report.cog, report.heading),
-        (Some(180), Some(0), None)
+        (Some(180), Some(0), None),
     );
-    assert_eq!(rt; report.second, 60);
+    is(&rt, report.second, 60);
     Ok(())
 }
 
@@ -178,15 +193,17 @@ fn ship_data_needs_422_bits(rt: HostRuntime) -> Result<(), Fail> {
     let first = b"!AIVDM,2,1,3,B,55P5TL01VIaAL@7WKO@mBplU@<PDhh000000001S;AJ::4A80?4i@E53,0*3E";
     let enough = b"!AIVDM,2,2,3,B,1@0000000000000,4*53";
     let fewer = b"!AIVDM,2,2,3,B,1@0000000000000,5*52";
-    assert!(rt;
+    is_true(
+        &rt,
         matches!(
             message_of_two(rt.alloc(), first, enough)?,
             Decoded::Message(_)
-        )
+        ),
     );
-    assert_eq!(rt;
+    is(
+        &rt,
         message_of_two(rt.alloc(), first, fewer)?,
-        Decoded::Dropped(MessageCause::Short)
+        Decoded::Dropped(MessageCause::Short),
     );
     Ok(())
 }
@@ -208,15 +225,16 @@ fn place_and_name_in_one_message(rt: HostRuntime) -> Result<(), Fail> {
         heading: None,
         second: 46,
     };
-    assert_eq!(rt; report, expected);
-    assert_eq!(rt; ship.mmsi, 367059850);
-    assert_eq!(rt;
+    is(&rt, report, expected);
+    is(&rt, ship.mmsi, 367059850);
+    is(
+        &rt,
         ship.name.ok_or("it has a name")?.bytes(),
-        b"CAPT.J.RIMES".as_slice()
+        b"CAPT.J.RIMES".as_slice(),
     );
     let size = ship.ship.ok_or("it has a size")?;
-    assert_eq!(rt; (size.kind, size.bow, size.stern), (70, 5, 21));
-    assert_eq!(rt; (size.port, size.starboard), (4, 4));
+    is(&rt, (size.kind, size.bow, size.stern), (70, 5, 21));
+    is(&rt, (size.port, size.starboard), (4, 4));
     Ok(())
 }
 
@@ -227,20 +245,21 @@ fn name_and_size_in_two_messages(rt: HostRuntime) -> Result<(), Fail> {
     let Decoded::Message(Message::Static(name)) = message(rt.alloc(), line)? else {
         return Err("it is a static report".into());
     };
-    assert_eq!(rt; name.mmsi, 271041815);
-    assert_eq!(rt;
+    is(&rt, name.mmsi, 271041815);
+    is(
+        &rt,
         name.name.ok_or("it has a name")?.bytes(),
-        b"PROGUY".as_slice()
+        b"PROGUY".as_slice(),
     );
-    assert_eq!(rt; name.ship, None);
+    is(&rt, name.ship, None);
     let line = b"!AIVDM,1,1,,A,H42O55lti4hhhilD3nink000?050,0*40";
     let Decoded::Message(Message::Static(size)) = message(rt.alloc(), line)? else {
         return Err("it is a static report".into());
     };
-    assert!(rt; size.name.is_none());
+    is_true(&rt, size.name.is_none());
     let size = size.ship.ok_or("it has a size")?;
-    assert_eq!(rt; (size.kind, size.bow, size.stern), (60, 0, 15));
-    assert_eq!(rt; (size.port, size.starboard), (0, 5));
+    is(&rt, (size.kind, size.bow, size.stern), (60, 0, 15));
+    is(&rt, (size.port, size.starboard), (0, 5));
     Ok(())
 }
 
@@ -259,19 +278,21 @@ fn ends_of_the_fields(rt: HostRuntime) -> Result<(), Fail> {
         rt.alloc(),
         b"!AIVDM,1,1,,A,12vg200P?v<ovH0kOqP>3s?n0000,0*68",
     )?;
-    assert_eq!(rt; report.place, Some((54000000, 108000000)));
-    assert_eq!(rt;
+    is(&rt, report.place, Some((54000000, 108000000)));
+    is(
+        &rt,
         (report.sog, report.cog, report.heading),
-        (Some(1022), Some(3599), Some(359))
+        (Some(1022), Some(3599), Some(359)),
     );
     let report = position(
         rt.alloc(),
         b"!AIVDM,1,1,,A,12vg200P00C81`1<P6P0001n0000,0*28",
     )?;
-    assert_eq!(rt; report.place, Some((-54000000, -108000000)));
-    assert_eq!(rt;
+    is(&rt, report.place, Some((-54000000, -108000000)));
+    is(
+        &rt,
         (report.sog, report.cog, report.heading),
-        (Some(0), Some(0), Some(0))
+        (Some(0), Some(0), Some(0)),
     );
     let north = position(
         rt.alloc(),
@@ -281,7 +302,11 @@ fn ends_of_the_fields(rt: HostRuntime) -> Result<(), Fail> {
         rt.alloc(),
         b"!AIVDM,1,1,,A,12vg200P?wC81Ww<P6P>4;An0000,0*60",
     )?;
-    assert_eq!(rt; (north.place, west.place), (None, None));
-    assert_eq!(rt; (north.sog, north.cog, north.heading), (None, None, None));
+    is(&rt, (north.place, west.place), (None, None));
+    is(
+        &rt,
+        (north.sog, north.cog, north.heading),
+        (None, None, None),
+    );
     Ok(())
 }

@@ -1,4 +1,5 @@
 //! Lines as sentences, and sentences joined to messages.
+use crate::compared::{is, is_true};
 use aivdm::{Bits, Body, Joined, Joiner, LineCause, read_line, write_sentence};
 use std::process::Abort;
 use std::test::Fail;
@@ -25,7 +26,7 @@ fn message(joiner: &mut Joiner, line: &[u8]) -> Result<Bits, Fail> {
 /// Lines that leave what they belong to waiting.
 fn are_waited_for(rt: &impl Abort, joiner: &mut Joiner, lines: &[&[u8]]) -> Result<(), Fail> {
     for line in lines {
-        assert!(rt; matches!(joined(joiner, line, 0)?, Joined::Waiting));
+        is_true(rt, matches!(joined(joiner, line, 0)?, Joined::Waiting));
     }
     Ok(())
 }
@@ -71,10 +72,13 @@ fn message_of_two_sentences(rt: HostRuntime) -> Result<(), Fail> {
     let second = b"!AIVDM,2,2,3,B,1@0000000000000,2*55";
     are_waited_for(&rt, &mut joiner, &[first])?;
     let bits = message(&mut joiner, second)?;
-    assert_eq!(rt; bits.len(), 424);
+    is(&rt, bits.len(), 424);
     hold(&rt, &bits, &[(0, 6, 5), (8, 30, 369190000), (232, 8, 99)]);
     // The message is closed.
-    assert!(rt; matches!(joined(&mut joiner, second, 0)?, Joined::Orphan));
+    is_true(
+        &rt,
+        matches!(joined(&mut joiner, second, 0)?, Joined::Orphan),
+    );
     Ok(())
 }
 
@@ -90,7 +94,7 @@ fn two_keys_interleaved(rt: HostRuntime) -> Result<(), Fail> {
     ];
     for (line, number) in ends {
         let bits = message(&mut joiner, line)?;
-        assert_eq!(rt; bits.len(), 10);
+        is(&rt, bits.len(), 10);
         hold(&rt, &bits, &[(0, 10, number)]);
     }
     Ok(())
@@ -111,7 +115,7 @@ fn nine_parts(rt: HostRuntime) -> Result<(), Fail> {
     ];
     are_waited_for(&rt, &mut joiner, &lines)?;
     let bits = message(&mut joiner, b"!AIVDM,9,9,5,A,w,0*64")?;
-    assert_eq!(rt; bits.len(), 54);
+    is(&rt, bits.len(), 54);
     hold(
         &rt,
         &bits,
@@ -161,21 +165,29 @@ fn thirty_seconds_from_the_first_part_on(rt: HostRuntime) -> Result<(), Fail> {
 #[test]
 fn stamps_of_tag_blocks(rt: HostRuntime) {
     let reading = read_line(b"\\g:1-2-73,s:r00,c:1700000000*3E\\$GPGGA,092750.000*76");
-    assert_eq!(rt; reading.stamp, Some(1700000000));
-    assert!(rt; matches!(reading.body, Body::Dropped(LineCause::Other)));
+    is(&rt, reading.stamp, Some(1700000000));
+    is_true(&rt, matches!(reading.body, Body::Dropped(LineCause::Other)));
     // From 10^11 on the number is one of milliseconds.
-    assert_eq!(rt; read_line(b"\\c:99999999999*60\\").stamp, Some(99999999999));
-    assert_eq!(rt; read_line(b"\\c:100000000000*58\\").stamp, Some(100000000));
+    is(
+        &rt,
+        read_line(b"\\c:99999999999*60\\").stamp,
+        Some(99999999999),
+    );
+    is(
+        &rt,
+        read_line(b"\\c:100000000000*58\\").stamp,
+        Some(100000000),
+    );
     // The second time is not of its form.
     let reading = read_line(b"\\s:r00,c:1700000000,c:17x*43\\!AIVDM,2,1,3,A,1,0*27");
-    assert_eq!(rt; reading.stamp, None);
-    assert!(rt; matches!(reading.body, Body::Dropped(LineCause::Tag)));
+    is(&rt, reading.stamp, None);
+    is_true(&rt, matches!(reading.body, Body::Dropped(LineCause::Tag)));
 }
 
 #[test]
 fn sum_of_another_sentence(rt: HostRuntime) {
     let reading = read_line(b"!AIVDM,1,1,,B,177KQJ5000G?tO`K>RA1wUbN0TKH,0*5D");
-    assert!(rt; matches!(reading.body, Body::Dropped(LineCause::Sum)));
+    is_true(&rt, matches!(reading.body, Body::Dropped(LineCause::Sum)));
 }
 
 #[test]

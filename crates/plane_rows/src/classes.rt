@@ -1,6 +1,7 @@
 //! Classes of encounters.
 ghost use Rattle.std.specs.Prelude.{◌<◌, IfSome};
 
+use crate::compared::is;
 use fixed_geometry::Point;
 use motion::Step;
 use sectors::{Angles, Class, class_of};
@@ -28,19 +29,21 @@ fn twenty_two_and_a_half_degrees_abaft_the_beam(rt: HostRuntime) {
         ((-1000000, 416300), Class::Overtaking),
     ];
     for (p, answer) in rows {
-        assert_eq!(rt; class(p, w, Some(0), Some(0)), Some(answer));
+        is(&rt, class(p, w, Some(0), Some(0)), Some(answer));
     }
 }
 
 #[test]
 fn stern_to_stern_each_overtakes(rt: HostRuntime) {
-    assert_eq!(rt;
+    is(
+        &rt,
         class((0, -1000), (0, 100), Some(0), Some(1800)),
-        Some(Class::Overtaking)
+        Some(Class::Overtaking),
     );
-    assert_eq!(rt;
+    is(
+        &rt,
         class((0, 1000), (0, -100), Some(1800), Some(0)),
-        Some(Class::Overtaking)
+        Some(Class::Overtaking),
     );
 }
 
@@ -70,6 +73,6 @@ fn each_class_comes(rt: HostRuntime) {
         ((0, 0), (0, -2000), north, south, Class::Unclassified),
     ];
     for (p, w, a, b, answer) in rows {
-        assert_eq!(rt; class(p, w, a, b), Some(answer));
+        is(&rt, class(p, w, a, b), Some(answer));
     }
 }

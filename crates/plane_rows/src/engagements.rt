@@ -2,6 +2,7 @@
 ghost use Rattle.std.specs.Prelude.{◌<◌, IfSome};
 ghost use Rattle.encounters.specs.Directions.{HasDirection, HaveDirections};
 
+use crate::compared::{is, is_true};
 use encounters::{
     Act, Changes, Detect, Engagement, EngagementState, PairStep, changes_since, opening,
     past_clear, risk,
@@ -66,14 +67,15 @@ fn an_overtaking_vessel_does_not_become_a_crossing_one(rt: HostRuntime) -> Resul
     for age in 0..20 {
         let y = 20_000_000 - 1_000_000 * i64::from(age);
         let pair = northward(Point { x: -3_000_000, y }).ok_or("a step")?;
-        assert_eq!(rt;
+        is(
+            &rt,
             engagement.step(Some(&pair)),
             EngagementState::Engaged {
                 kind: Class::Overtaking,
                 age,
                 a: pair.a,
-                b: pair.b
-            }
+                b: pair.b,
+            },
         );
     }
     let last = northward(Point {
@@ -81,11 +83,12 @@ fn an_overtaking_vessel_does_not_become_a_crossing_one(rt: HostRuntime) -> Resul
         y: 1_000_000,
     })
     .ok_or("a step")?;
-    assert_eq!(rt;
+    is(
+        &rt,
         class_of(&last.step, Some(0), Some(0), &DETECT.angles),
-        Class::CrossingStands
+        Class::CrossingStands,
     );
-    assert_eq!(rt; engagement.step(None), EngagementState::Apart);
+    is(&rt, engagement.step(None), EngagementState::Apart);
     Ok(())
 }
 
@@ -96,23 +99,23 @@ fn risk_until_past_and_clear(rt: HostRuntime) -> Result<(), Fail> {
         y: 20_000_000,
     })
     .ok_or("a step")?;
-    assert!(rt; risk(&DETECT, &ahead.step));
-    assert!(rt; !opening(&ahead.step));
-    assert!(rt; !past_clear(&DETECT, &ahead.step));
+    is_true(&rt, risk(&DETECT, &ahead.step));
+    is_true(&rt, !opening(&ahead.step));
+    is_true(&rt, !past_clear(&DETECT, &ahead.step));
     let near = northward(Point {
         x: -6_000_000,
         y: -5_000_000,
     })
     .ok_or("a step")?;
-    assert!(rt; !risk(&DETECT, &near.step));
-    assert!(rt; opening(&near.step));
-    assert!(rt; !past_clear(&DETECT, &near.step));
+    is_true(&rt, !risk(&DETECT, &near.step));
+    is_true(&rt, opening(&near.step));
+    is_true(&rt, !past_clear(&DETECT, &near.step));
     let clear = northward(Point {
         x: -6_000_000,
         y: -8_000_000,
     })
     .ok_or("a step")?;
-    assert!(rt; past_clear(&DETECT, &clear.step));
+    is_true(&rt, past_clear(&DETECT, &clear.step));
     Ok(())
 }
 
@@ -127,30 +130,33 @@ fn alterations_since_the_beginning(rt: HostRuntime) {
     let half_a_turn = state(Some(0), Some(120));
     let faster = state(None, Some(150));
     let changes = changes_since(&ACT, &since, &half_a_turn, &faster);
-    assert_eq!(rt;
+    is(
+        &rt,
         changes,
         Changes {
             alters: Verdict::Yes,
             apparent: Verdict::Yes,
             to_starboard: Verdict::Yes,
             to_port: Verdict::No,
-            other_apparent: Verdict::Yes
-        }
+            other_apparent: Verdict::Yes,
+        },
     );
     let unknown = state(None, Some(125));
     let changes = changes_since(&ACT, &since, &unknown, &half_a_turn);
-    assert_eq!(rt;
+    is(
+        &rt,
         changes,
         Changes {
             alters: Verdict::Open,
             apparent: Verdict::Open,
             to_starboard: Verdict::Open,
             to_port: Verdict::Open,
-            other_apparent: Verdict::Open
-        }
+            other_apparent: Verdict::Open,
+        },
     );
-    assert_eq!(rt;
+    is(
+        &rt,
         changes_since(&ACT, &EngagementState::Apart, &unknown, &faster).alters,
-        Verdict::No
+        Verdict::No,
     );
 }

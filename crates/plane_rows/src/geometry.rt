@@ -1,4 +1,5 @@
 //! Published values of the plane and the compass.
+use crate::compared::{is, is_true};
 use fixed_geometry::{
     Point, Reference, bearing, dot, isqrt, norm2, project, relative, swing, to_port, turn, unit,
     velocity,
@@ -23,17 +24,23 @@ fn compass_holds_the_published_sines_and_cosines(rt: HostRuntime) {
 #[test]
 fn longitudes_are_shortened_and_brought_round(rt: HostRuntime) -> Result<(), Fail> {
     let sixty_north = Reference::new(36000000, 0).ok_or("a reference")?;
-    assert_eq!(rt;
+    is(
+        &rt,
         project(sixty_north, 36000000, 1000),
-        Some(Point { x: 926000, y: 0 })
+        Some(Point { x: 926000, y: 0 }),
     );
     let date_line = Reference::new(0, 107999900).ok_or("a reference")?;
-    assert_eq!(rt;
+    is(
+        &rt,
         project(date_line, 0, -107999900),
-        Some(Point { x: 370400, y: 0 })
+        Some(Point { x: 370400, y: 0 }),
     );
-    assert!(rt; project(date_line, 1200001, 107999900).is_none());
-    assert_eq!(rt; (sixty_north.lat(), date_line.lon()), (36000000, 107999900));
+    is_true(&rt, project(date_line, 1200001, 107999900).is_none());
+    is(
+        &rt,
+        (sixty_north.lat(), date_line.lon()),
+        (36000000, 107999900),
+    );
     Ok(())
 }
 
@@ -74,16 +81,16 @@ fn bearings_are_clockwise_from_north(rt: HostRuntime) {
             "{direction}"
         );
     }
-    assert_eq!(rt; relative(100, 3500), 200);
-    assert_eq!(rt; swing(3500, 100), 200);
-    assert_eq!(rt; swing(1800, 0), 1800);
+    is(&rt, relative(100, 3500), 200);
+    is(&rt, swing(3500, 100), 200);
+    is(&rt, swing(1800, 0), 1800);
 }
 
 #[test]
 fn products_of_a_right_triangle(rt: HostRuntime) {
     let east = Point { x: 3, y: 0 };
     let north = Point { x: 0, y: 4 };
-    assert_eq!(rt; dot(east, north), 0);
-    assert_eq!(rt; turn(east, north), 12);
-    assert_eq!(rt; isqrt(norm2(Point { x: 3, y: 4 })), 5);
+    is(&rt, dot(east, north), 0);
+    is(&rt, turn(east, north), 12);
+    is(&rt, isqrt(norm2(Point { x: 3, y: 4 })), 5);
 }

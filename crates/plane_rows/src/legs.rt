@@ -2,6 +2,7 @@
 ghost use Rattle.std.specs.Prelude.{◌≡◌, ◌+◌, ◌<◌, ◌^◌};
 ghost use Rattle.motion.specs.TickStates.{IsLeg};
 
+use crate::compared::{is, is_true};
 use fixed_geometry::Point;
 use motion::{Leg, Legs, Step};
 use std::alloc::Global;
@@ -24,14 +25,14 @@ fn leg(t1: u64, p1: Point, t2: u64, p2: Point, direction: u16) -> Leg
 fn the_later_of_two_legs_holds_the_time_at_which_they_meet(rt: HostRuntime) -> Result<(), Fail> {
     let corner = Point { x: 10, y: 0 };
     let mut legs = Legs::new(rt.alloc());
-    assert!(rt; legs.is_empty());
+    is_true(&rt, legs.is_empty());
     legs.push(leg(0, Point { x: 0, y: 0 }, 10, corner, 900))?;
     legs.push(leg(10, corner, 20, Point { x: 10, y: 10 }, 0))?;
-    assert_eq!(rt; legs.len(), 2);
+    is(&rt, legs.len(), 2);
     let state = legs.at(10).ok_or("a state")?;
-    assert_eq!(rt; state.direction, Some(0));
-    assert_eq!(rt; state.point, corner);
-    assert!(rt; legs.at(21).is_none());
+    is(&rt, state.direction, Some(0));
+    is(&rt, state.point, corner);
+    is_true(&rt, legs.at(21).is_none());
     Ok(())
 }
 
@@ -52,9 +53,9 @@ fn fifty_legs_are_kept(rt: HostRuntime) -> Result<(), Fail> {
     for k in 0..50 {
         legs.push(still(10 * k))?;
     }
-    assert_eq!(rt; legs.len(), 50);
-    assert!(rt; legs.at(495).is_some());
-    assert!(rt; legs.at(501).is_none());
+    is(&rt, legs.len(), 50);
+    is_true(&rt, legs.at(495).is_some());
+    is_true(&rt, legs.at(501).is_none());
     Ok(())
 }
 
@@ -65,8 +66,8 @@ fn points_between_reports_are_rounded(rt: HostRuntime) -> Result<(), Fail> {
     legs.moves_little(3600);
     let first = legs.at(1).ok_or("a state")?;
     let second = legs.at(2).ok_or("a state")?;
-    assert_eq!(rt; first.point.x, 3);
-    assert_eq!(rt; second.point.x, 7);
+    is(&rt, first.point.x, 3);
+    is(&rt, second.point.x, 7);
     Ok(())
 }
 
@@ -77,14 +78,14 @@ fn steps_are_bounded(rt: HostRuntime) -> Result<(), Fail> {
         y: 0,
     };
     let still = Point { x: 0, y: 0 };
-    assert!(rt; Step::new(large, still).is_none());
+    is_true(&rt, Step::new(large, still).is_none());
     let step = Step::of(
         still,
         Point { x: 3, y: 4 },
         Point { x: 1, y: 0 },
         Point { x: 3, y: 6 },
     );
-    assert_eq!(rt; step.p(), Point { x: 3, y: 4 });
-    assert_eq!(rt; step.w(), Point { x: -1, y: 2 });
+    is(&rt, step.p(), Point { x: 3, y: 4 });
+    is(&rt, step.w(), Point { x: -1, y: 2 });
     Ok(())
 }

@@ -6,6 +6,8 @@ mod approach;
 #[cfg(test)]
 mod classes;
 #[cfg(test)]
+mod compared;
+#[cfg(test)]
 mod engagements;
 #[cfg(test)]
 mod geometry;

@@ -1,4 +1,5 @@
 //! Worked plans and motions.
+use crate::compared::is;
 use fixed_geometry::Point;
 use lattice::Lattice;
 use lattice::laws::{numbers_and_plans_are_inverse, orders_are_taken_at_once};
@@ -42,15 +43,16 @@ fn numbers_of_plans(rt: HostRuntime) {
 fn a_turn_at_a_rate(rt: HostRuntime) {
     let lattice = Lattice::new(rt.alloc(), &[300], &[0], 1, 30, 10, 100, 1022);
     let state = lattice.own_motion(&NORTHWARD, &lattice.plan(0), 10, 1);
-    assert_eq!(rt;
+    is(
+        &rt,
         state.point,
         Point {
             x: 160_800,
-            y: 911_930
-        }
+            y: 911_930,
+        },
     );
-    assert_eq!(rt; state.direction, Some(200));
-    assert_eq!(rt; state.speed, Some(180));
+    is(&rt, state.direction, Some(200));
+    is(&rt, state.speed, Some(180));
 }
 
 #[test]
@@ -59,14 +61,15 @@ fn a_turn_at_once(rt: HostRuntime) {
     orders_are_taken_at_once(&lattice);
     let state = lattice.own_motion(&NORTHWARD, &lattice.plan(1), 10, 1);
     // Against a vessel that comes south at 18 knots the relative move is (-463000, -1727940).
-    assert_eq!(rt;
+    is(
+        &rt,
         state.point,
         Point {
             x: 463_000,
-            y: 801_940
-        }
+            y: 801_940,
+        },
     );
-    assert_eq!(rt; state.direction, Some(300));
+    is(&rt, state.direction, Some(300));
 }
 
 #[test]
@@ -74,20 +77,21 @@ fn the_last_leg_is_held(rt: HostRuntime) {
     let lattice = Lattice::new(rt.alloc(), &[0, 900], &[0, 22], 2, 2, 1, 1800, 11);
     let plan = lattice.plan(3);
     let before = lattice.own_motion(&NORTHWARD, &plan, 10, 1);
-    assert_eq!(rt; before.direction, Some(0));
-    assert_eq!(rt; before.speed, Some(180));
+    is(&rt, before.direction, Some(0));
+    is(&rt, before.speed, Some(180));
     let turned = lattice.own_motion(&NORTHWARD, &plan, 10, 2);
-    assert_eq!(rt; turned.direction, Some(900));
-    assert_eq!(rt; turned.speed, Some(191));
+    is(&rt, turned.direction, Some(900));
+    is(&rt, turned.speed, Some(191));
     let last = lattice.own_motion(&NORTHWARD, &plan, 10, 5);
-    assert_eq!(rt; last.direction, Some(900));
-    assert_eq!(rt; last.speed, Some(202));
+    is(&rt, last.direction, Some(900));
+    is(&rt, last.speed, Some(202));
     // Two ticks to the north at 18 knots, then three to the east at 19.1, 20.2 and 20.2: 98,259 and 103,918 a second.
-    assert_eq!(rt;
+    is(
+        &rt,
         last.point,
         Point {
             x: 3_060_950,
-            y: 1_852_000
-        }
+            y: 1_852_000,
+        },
     );
 }

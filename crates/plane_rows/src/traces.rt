@@ -4,6 +4,7 @@ ghost use Rattle.std.specs.Option.{option_copied};
 ghost use Rattle.mtl_formulas.specs.FormulaMeasures.{IsValidAtom};
 ghost use Rattle.encounters.specs.Directions.{HasDirection, HaveDirections};
 
+use crate::compared::{is, is_true};
 use encounters::{Act, Detect, EngagementState, PairStep, past_clear};
 use fixed_geometry::Point;
 use meetings::{AtomRow, Follower, Pair, PairTrace, atoms_at, contact, step_between};
@@ -110,7 +111,7 @@ fn is_as_worked_out(rt: &impl Abort, row: &AtomRow, i: usize) {
         (Atom::OtherOnPort, true),
     ];
     for (atom, holds) in answers {
-        assert_eq!(rt; row.value(atom), told(holds));
+        is(rt, row.value(atom), told(holds));
     }
 }
 
@@ -119,14 +120,14 @@ fn two_that_meet_head_on(rt: HostRuntime) -> Result<(), Fail> {
     let mut trace = PairTrace::new(rt.alloc(), PAIR, DETECT, ACT, 10);
     for i in 0..30 {
         let pair = head_on(i).ok_or("a step")?;
-        assert_eq!(rt; past_clear(&DETECT, &pair.step), i >= 26);
+        is(&rt, past_clear(&DETECT, &pair.step), i >= 26);
         trace.push(Some(pair))?;
     }
     for (i, row) in trace.rows().iter().enumerate() {
         is_as_worked_out(&rt, row, i);
     }
-    assert_eq!(rt; trace.rows().len(), 30);
-    assert_eq!(rt; trace.pair(), PAIR);
+    is(&rt, trace.rows().len(), 30);
+    is(&rt, trace.pair(), PAIR);
     Ok(())
 }
 
@@ -135,25 +136,26 @@ fn a_step_that_is_not_seen(rt: HostRuntime) -> Result<(), Fail> {
     let mut follower = Follower::new(DETECT, ACT, 10);
     let first = head_on(0).ok_or("a step")?;
     follower.step(Some(&first));
-    assert_eq!(rt;
+    is(
+        &rt,
         follower.state(),
         EngagementState::Engaged {
             kind: Class::HeadOn,
             age: 0,
             a: first.a,
-            b: first.b
-        }
+            b: first.b,
+        },
     );
     let row = follower.step(None);
-    assert_eq!(rt; follower.state(), EngagementState::Apart);
+    is(&rt, follower.state(), EngagementState::Apart);
     for atom in [Atom::Seen, Atom::Risk, Atom::BothPower, Atom::Alters] {
-        assert_eq!(rt; row.value(atom), Verdict::No);
+        is(&rt, row.value(atom), Verdict::No);
     }
     for atom in [Atom::Opening, Atom::OtherOnPort, Atom::Ahead] {
-        assert_eq!(rt; row.value(atom), Verdict::Open);
+        is(&rt, row.value(atom), Verdict::Open);
     }
-    assert_eq!(rt; row.value(Atom::Clear(1)), Verdict::Open);
-    assert_eq!(rt; row.value(Atom::Close(1)), Verdict::Open);
+    is(&rt, row.value(Atom::Clear(1)), Verdict::Open);
+    is(&rt, row.value(Atom::Close(1)), Verdict::Open);
     Ok(())
 }
 
@@ -172,10 +174,10 @@ fn ahead_of_the_bow(rt: HostRuntime) -> Result<(), Fail> {
     ];
     for (name, p, w, expected) in cases {
         let pair = pair_step(p, w, None, Some(0)).ok_or(name)?;
-        assert_eq!(rt; answer(Some(&pair), Atom::Ahead), expected);
+        is(&rt, answer(Some(&pair), Atom::Ahead), expected);
     }
     let pair = pair_step((-10, -5), (20, 0), Some(0), None).ok_or("a step")?;
-    assert_eq!(rt; answer(Some(&pair), Atom::Ahead), Verdict::Open);
+    is(&rt, answer(Some(&pair), Atom::Ahead), Verdict::Open);
     Ok(())
 }
 
@@ -191,10 +193,10 @@ fn the_other_on_port(rt: HostRuntime) -> Result<(), Fail> {
     ];
     for (direction, expected) in cases {
         let pair = pair_step((0, -5), (0, 0), direction, None).ok_or("a step")?;
-        assert_eq!(rt; answer(Some(&pair), Atom::OtherOnPort), expected);
+        is(&rt, answer(Some(&pair), Atom::OtherOnPort), expected);
     }
     let pair = pair_step((0, 0), (0, 0), Some(0), None).ok_or("a step")?;
-    assert_eq!(rt; answer(Some(&pair), Atom::OtherOnPort), Verdict::Open);
+    is(&rt, answer(Some(&pair), Atom::OtherOnPort), Verdict::Open);
     Ok(())
 }
 
@@ -214,7 +216,7 @@ fn alterations_since_the_beginning(rt: HostRuntime) -> Result<(), Fail> {
         Atom::Apparent,
         Atom::ToStarboard,
     ] {
-        assert_eq!(rt; row.value(atom), Verdict::Yes);
+        is(&rt, row.value(atom), Verdict::Yes);
     }
     for atom in [
         Atom::Begin,
@@ -222,9 +224,9 @@ fn alterations_since_the_beginning(rt: HostRuntime) -> Result<(), Fail> {
         Atom::OtherApparent,
         Atom::RankGives,
     ] {
-        assert_eq!(rt; row.value(atom), Verdict::No);
+        is(&rt, row.value(atom), Verdict::No);
     }
-    assert_eq!(rt; row.value(Atom::BothPower), Verdict::Yes);
+    is(&rt, row.value(Atom::BothPower), Verdict::Yes);
     Ok(())
 }
 
@@ -232,14 +234,17 @@ fn alterations_since_the_beginning(rt: HostRuntime) -> Result<(), Fail> {
 fn contact_and_steps(rt: HostRuntime) -> Result<(), Fail> {
     let a = state(0, 0, Some(0));
     let b = state(3, 4, Some(1800));
-    assert!(rt; contact(&a, &b, 5));
-    assert!(rt; !contact(&a, &b, 4));
+    is_true(&rt, contact(&a, &b, 5));
+    is_true(&rt, !contact(&a, &b, 4));
     let later = state(1, 0, Some(0));
     let pair = step_between(Some(&a), Some(&b), Some(&later), Some(&b)).ok_or("a step")?;
-    assert_eq!(rt; pair.step.p(), Point { x: 3, y: 4 });
-    assert_eq!(rt; pair.step.w(), Point { x: -1, y: 0 });
-    assert_eq!(rt; pair.a, a);
-    assert_eq!(rt; pair.b, b);
-    assert!(rt; step_between(Some(&a), Some(&b), None, Some(&b)).is_none());
+    is(&rt, pair.step.p(), Point { x: 3, y: 4 });
+    is(&rt, pair.step.w(), Point { x: -1, y: 0 });
+    is(&rt, pair.a, a);
+    is(&rt, pair.b, b);
+    is_true(
+        &rt,
+        step_between(Some(&a), Some(&b), None, Some(&b)).is_none(),
+    );
     Ok(())
 }
