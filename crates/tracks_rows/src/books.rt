@@ -3,6 +3,7 @@ ghost use Rattle.std.specs.Prelude.{◌≡◌, ◌≤◌, ◌<◌, IfOk, unsigne
 ghost use Rattle.ais_messages.specs.MessageFields.{IsMessage, IsReport, IsStatic};
 ghost use Rattle.tracks.specs.declared.keeping.Keeping.TheVariants.{Tracks};
 
+use crate::compared::{is, is_true};
 use ais_messages::{Decoded, Message, PositionReport, ShipData, StaticReport, decode};
 use aivdm::{Body, Joined, Joiner, read_line};
 use fixed_geometry::{Point, Reference};
@@ -79,20 +80,23 @@ fn repeats_and_jumps(rt: HostRuntime) -> Result<(), Fail> {
     let mut book = book(rt.alloc(), 500)?;
     let first = Message::Position(report(OWN, 0));
     let away = Message::Position(report(OWN, 10800));
-    assert_eq!(rt;
+    is(
+        &rt,
         book.take(&first, 1700000000),
-        Ok(Entry::Point(Point { x: 0, y: 0 }))
+        Ok(Entry::Point(Point { x: 0, y: 0 })),
     );
-    assert_eq!(rt;
+    is(
+        &rt,
         book.take(&first, 1700000005),
-        Ok(Entry::Dropped(ReportCause::Repeat))
+        Ok(Entry::Dropped(ReportCause::Repeat)),
     );
-    assert_eq!(rt;
+    is(
+        &rt,
         book.take(&away, 1700000010),
-        Ok(Entry::Dropped(ReportCause::Jump))
+        Ok(Entry::Dropped(ReportCause::Jump)),
     );
-    assert_eq!(rt; book.points(OWN).len(), 1);
-    assert_eq!(rt; book.vessels(), 1);
+    is(&rt, book.points(OWN).len(), 1);
+    is(&rt, book.vessels(), 1);
     Ok(())
 }
 
@@ -100,39 +104,48 @@ fn repeats_and_jumps(rt: HostRuntime) -> Result<(), Fail> {
 fn equal_reports_30_and_31_seconds_apart(rt: HostRuntime) -> Result<(), Fail> {
     let mut book = book(rt.alloc(), 500)?;
     let still = Message::Position(report(OWN, 0));
-    assert!(rt; book.take(&still, 1000).is_ok());
-    assert_eq!(rt;
+    is_true(&rt, book.take(&still, 1000).is_ok());
+    is(
+        &rt,
         book.take(&still, 1000),
-        Ok(Entry::Dropped(ReportCause::Back))
+        Ok(Entry::Dropped(ReportCause::Back)),
     );
-    assert_eq!(rt;
+    is(
+        &rt,
         book.take(&still, 1030),
-        Ok(Entry::Dropped(ReportCause::Repeat))
+        Ok(Entry::Dropped(ReportCause::Repeat)),
     );
-    assert_eq!(rt;
+    is(
+        &rt,
         book.take(&still, 1031),
-        Ok(Entry::Point(Point { x: 0, y: 0 }))
+        Ok(Entry::Point(Point { x: 0, y: 0 })),
     );
     let legs = book.legs(OWN).ok_or("the vessel is held")?;
-    assert_eq!(rt; legs.len(), 1);
+    is(&rt, legs.len(), 1);
     Ok(())
 }
 
 #[test]
 fn the_greatest_speed_exactly(rt: HostRuntime) -> Result<(), Fail> {
     let mut book = book(rt.alloc(), 18)?;
-    assert!(rt; book.take(&Message::Position(report(OWN, 0)), 1000).is_ok());
-    assert!(rt;
+    is_true(
+        &rt,
+        book.take(&Message::Position(report(OWN, 0)), 1000).is_ok(),
+    );
+    is_true(
+        &rt,
         book.take(&Message::Position(report(OTHER, 0)), 1000)
-            .is_ok()
+            .is_ok(),
     );
-    assert_eq!(rt;
+    is(
+        &rt,
         book.take(&Message::Position(report(OWN, 5)), 1001),
-        Ok(Entry::Point(Point { x: 0, y: 9260 }))
+        Ok(Entry::Point(Point { x: 0, y: 9260 })),
     );
-    assert_eq!(rt;
+    is(
+        &rt,
         book.take(&Message::Position(report(OTHER, 6)), 1001),
-        Ok(Entry::Dropped(ReportCause::Jump))
+        Ok(Entry::Dropped(ReportCause::Jump)),
     );
     Ok(())
 }
@@ -141,21 +154,26 @@ fn the_greatest_speed_exactly(rt: HostRuntime) -> Result<(), Fail> {
 fn more_than_the_gap_later_is_no_jump(rt: HostRuntime) -> Result<(), Fail> {
     let mut book = book(rt.alloc(), 18)?;
     let away = Message::Position(report(OWN, 1000000));
-    assert!(rt; book.take(&Message::Position(report(OWN, 0)), 1000).is_ok());
-    assert_eq!(rt;
-        book.take(&away, 1900),
-        Ok(Entry::Dropped(ReportCause::Jump))
+    is_true(
+        &rt,
+        book.take(&Message::Position(report(OWN, 0)), 1000).is_ok(),
     );
-    assert_eq!(rt;
+    is(
+        &rt,
+        book.take(&away, 1900),
+        Ok(Entry::Dropped(ReportCause::Jump)),
+    );
+    is(
+        &rt,
         book.take(&away, 1901),
         Ok(Entry::Point(Point {
             x: 0,
-            y: 1852000000
-        }))
+            y: 1852000000,
+        })),
     );
-    assert_eq!(rt; book.points(OWN).len(), 2);
+    is(&rt, book.points(OWN).len(), 2);
     let legs = book.legs(OWN).ok_or("the vessel is held")?;
-    assert!(rt; legs.is_empty());
+    is_true(&rt, legs.is_empty());
     Ok(())
 }
 
@@ -167,20 +185,25 @@ fn a_dropped_position_leaves_its_static_part(rt: HostRuntime) -> Result<(), Fail
         ..report(OWN, 0)
     };
     let far = Message::Position(report(OTHER, 1200001));
-    assert_eq!(rt; book.take(&far, 1000), Ok(Entry::Dropped(ReportCause::Far)));
-    assert_eq!(rt; book.vessels(), 0);
-    let both = Message::Both(lost, hull(OWN, 90));
-    assert_eq!(rt;
-        book.take(&both, 1000),
-        Ok(Entry::Dropped(ReportCause::NoPos))
+    is(
+        &rt,
+        book.take(&far, 1000),
+        Ok(Entry::Dropped(ReportCause::Far)),
     );
-    assert_eq!(rt; book.vessels(), 1);
-    assert!(rt; book.points(OWN).is_empty());
+    is(&rt, book.vessels(), 0);
+    let both = Message::Both(lost, hull(OWN, 90));
+    is(
+        &rt,
+        book.take(&both, 1000),
+        Ok(Entry::Dropped(ReportCause::NoPos)),
+    );
+    is(&rt, book.vessels(), 1);
+    is_true(&rt, book.points(OWN).is_empty());
     let statics = book.statics(OWN).ok_or("the vessel is held")?;
-    assert!(rt; statics.name.is_none());
+    is_true(&rt, statics.name.is_none());
     let ship = statics.ship.ok_or("she told her size")?;
-    assert_eq!(rt; ship.bow, 90);
-    assert!(rt; book.statics(OTHER).is_none());
+    is(&rt, ship.bow, 90);
+    is_true(&rt, book.statics(OTHER).is_none());
     Ok(())
 }
 
@@ -211,34 +234,37 @@ fn a_name_stays_when_ship_data_comes(rt: HostRuntime) -> Result<(), Fail> {
         rt.alloc(),
         b"!AIVDM,1,1,,A,H42O55lti4hhhilD3nink000?050,0*40",
     )?;
-    assert_eq!(rt; book.take(&name, 1000), Ok(Entry::Static));
-    assert_eq!(rt; book.take(&ship, 1000), Ok(Entry::Static));
-    assert_eq!(rt; book.vessels(), 1);
+    is(&rt, book.take(&name, 1000), Ok(Entry::Static));
+    is(&rt, book.take(&ship, 1000), Ok(Entry::Static));
+    is(&rt, book.vessels(), 1);
     let statics = book.statics(271041815).ok_or("the vessel is held")?;
     let name = statics.name.as_ref().ok_or("she told her name")?;
-    assert_eq!(rt; name.bytes(), b"PROGUY".as_slice());
+    is(&rt, name.bytes(), b"PROGUY".as_slice());
     let ship = statics.ship.ok_or("she told her size")?;
-    assert_eq!(rt; ship.kind, 60);
-    assert_eq!(rt; ship.stern, 15);
+    is(&rt, ship.kind, 60);
+    is(&rt, ship.stern, 15);
     Ok(())
 }
 
 #[test]
 fn vessels_in_ascending_order(rt: HostRuntime) -> Result<(), Fail> {
     let mut book = book(rt.alloc(), 500)?;
-    assert_eq!(rt;
+    is(
+        &rt,
         book.take(&Message::Static(hull(OTHER, 20)), 1000),
-        Ok(Entry::Static)
+        Ok(Entry::Static),
     );
-    assert_eq!(rt;
+    is(
+        &rt,
         book.take(&Message::Static(hull(OWN, 90)), 1000),
-        Ok(Entry::Static)
+        Ok(Entry::Static),
     );
-    assert_eq!(rt;
+    is(
+        &rt,
         book.take(&Message::Static(hull(OTHER, 30)), 1000),
-        Ok(Entry::Static)
+        Ok(Entry::Static),
     );
-    assert_eq!(rt; book.vessels(), 2);
+    is(&rt, book.vessels(), 2);
     let first = if book.vessels() == 2 {
         book.vessel(0)
     } else {
@@ -249,8 +275,8 @@ fn vessels_in_ascending_order(rt: HostRuntime) -> Result<(), Fail> {
     } else {
         0
     };
-    assert_eq!(rt; first, OWN);
-    assert_eq!(rt; second, OTHER);
+    is(&rt, first, OWN);
+    is(&rt, second, OTHER);
     Ok(())
 }
 
@@ -270,26 +296,27 @@ fn vessels_seen_in_ascending_order(rt: HostRuntime) -> Result<(), Fail> {
     let north = Message::Position(report(OTHER, 10));
     let south = Message::Position(report(OTHER, 0));
     let still = Message::Position(report(OWN, 0));
-    assert!(rt; book.take(&south, 1000).is_ok());
-    assert!(rt; book.take(&still, 1000).is_ok());
-    assert!(rt; book.take(&still, 1050).is_ok());
-    assert!(rt; book.take(&north, 1100).is_ok());
+    is_true(&rt, book.take(&south, 1000).is_ok());
+    is_true(&rt, book.take(&still, 1000).is_ok());
+    is_true(&rt, book.take(&still, 1050).is_ok());
+    is_true(&rt, book.take(&north, 1100).is_ok());
     book.moves_little();
     let mut seen = Vec::new(rt.alloc());
     book.look(1050, &mut seen)?;
-    assert_eq!(rt;
+    is(
+        &rt,
         seen.as_slice(),
-        [(OWN, state(0)), (OTHER, state(9260))].as_slice()
+        [(OWN, state(0)), (OTHER, state(9260))].as_slice(),
     );
     book.look(1100, &mut seen)?;
-    assert_eq!(rt; seen.as_slice(), [(OTHER, state(18520))].as_slice());
+    is(&rt, seen.as_slice(), [(OTHER, state(18520))].as_slice());
     Ok(())
 }
 
 /// Gives two books a report of own ship from so far north, and compares what it comes to.
 fn take_in_both(rt: &impl Abort, latest: &mut Book, tracks: &mut Book, north: u16, time: u64) {
     let message = Message::Position(report(OWN, i32::from(north)));
-    assert_eq!(rt; latest.take(&message, time), tracks.take(&message, time));
+    is(rt, latest.take(&message, time), tracks.take(&message, time));
 }
 
 #[test]
@@ -310,23 +337,24 @@ fn the_latest_report_alone_serves_to_judge(rt: HostRuntime) -> Result<(), Fail> 
     ] {
         take_in_both(&rt, &mut latest, &mut tracks, north, time);
     }
-    assert_eq!(rt;
+    is(
+        &rt,
         latest.take_report(&moved, 3000),
-        tracks.take_report(&moved, 3000)
+        tracks.take_report(&moved, 3000),
     );
     let lost = PositionReport {
         place: None,
         ..moved
     };
     let both = Message::Both(lost, hull(OWN, 90));
-    assert_eq!(rt; latest.take(&both, 3100), tracks.take(&both, 3100));
-    assert_eq!(rt; latest.vessels(), 1);
-    assert_eq!(rt; tracks.points(OWN).len(), 5);
-    assert_eq!(rt; latest.points(OWN).len(), 1);
-    assert_eq!(rt; latest.points(OWN).last(), tracks.points(OWN).last());
-    assert_eq!(rt; latest.statics(OWN), tracks.statics(OWN));
+    is(&rt, latest.take(&both, 3100), tracks.take(&both, 3100));
+    is(&rt, latest.vessels(), 1);
+    is(&rt, tracks.points(OWN).len(), 5);
+    is(&rt, latest.points(OWN).len(), 1);
+    is(&rt, latest.points(OWN).last(), tracks.points(OWN).last());
+    is(&rt, latest.statics(OWN), tracks.statics(OWN));
     let legs = latest.legs(OWN).ok_or("the vessel is held")?;
-    assert!(rt; legs.is_empty());
+    is_true(&rt, legs.is_empty());
     Ok(())
 }
 
@@ -340,7 +368,7 @@ fn take_many(rt: &impl Abort, book: &mut Book, count: u32) -> u32
         if entry == Err(BookFault::TooManyVessels) {
             refused = refused.saturating_add(1);
         } else {
-            assert!(rt; entry.is_ok());
+            is_true(rt, entry.is_ok());
         }
     }
     refused
@@ -357,8 +385,8 @@ fn laws_do_nothing() {
 #[test]
 fn vessel_4097_is_refused(rt: HostRuntime) -> Result<(), Fail> {
     let mut book = book(rt.alloc(), 500)?;
-    assert_eq!(rt; take_many(&rt, &mut book, 4096), 0);
-    assert_eq!(rt; take_many(&rt, &mut book, 4097), 1);
-    assert_eq!(rt; book.vessels(), 4096);
+    is(&rt, take_many(&rt, &mut book, 4096), 0);
+    is(&rt, take_many(&rt, &mut book, 4097), 1);
+    is(&rt, book.vessels(), 4096);
     Ok(())
 }
