@@ -2,6 +2,7 @@
 ghost use Rattle.std.specs.Prelude.{◌≤◌, length};
 ghost use Rattle.mtl_formulas.specs.FormulaText.{IsTick};
 
+use crate::compared::is;
 use mtl_formulas::{
     Atom, Atoms, Formula, ParseFault, SpanKind, Verdict, future_reach, laws, nodes, parse, print,
     value, weight,
@@ -43,61 +44,79 @@ fn is_too_large(rt: &impl Abort, alloc: Global, text: &[u8]) {
 fn operators_and_spaces_are_printed_in_one_way(rt: HostRuntime) -> Result<(), Fail> {
     let alloc = rt.alloc();
     let text = reprinted(alloc, b"F[0,20] risk & !seen", 10)?;
-    assert_eq!(rt; text.as_slice(), b"(F[0,20] risk & !seen)".as_slice());
+    is(&rt, text.as_slice(), b"(F[0,20] risk & !seen)".as_slice());
     let text = reprinted(alloc, b" risk->seen ->age( 0020)|close(7) ", 10)?;
-    assert_eq!(rt;
+    is(
+        &rt,
         text.as_slice(),
-        b"(risk -> (seen -> (age(20) | close(7))))".as_slice()
+        b"(risk -> (seen -> (age(20) | close(7))))".as_slice(),
     );
     let text = reprinted(alloc, b"rank_gives U[0,20]!begin", 10)?;
-    assert_eq!(rt; text.as_slice(), b"(rank_gives U[0,20] !begin)".as_slice());
+    is(
+        &rt,
+        text.as_slice(),
+        b"(rank_gives U[0,20] !begin)".as_slice(),
+    );
     Ok(())
 }
 
 #[test]
 fn a_wrong_token_is_told_by_its_index(rt: HostRuntime) {
     let alloc = rt.alloc();
-    assert_eq!(rt;
+    is(
+        &rt,
         parse(alloc, b"risk &", 10).err(),
-        Some(ParseFault::Syntax(6))
+        Some(ParseFault::Syntax(6)),
     );
-    assert_eq!(rt; parse(alloc, b"", 10).err(), Some(ParseFault::Syntax(0)));
-    assert_eq!(rt;
+    is(
+        &rt,
+        parse(alloc, b"", 10).err(),
+        Some(ParseFault::Syntax(0)),
+    );
+    is(
+        &rt,
         parse(alloc, b"risky", 10).err(),
-        Some(ParseFault::Syntax(0))
+        Some(ParseFault::Syntax(0)),
     );
-    assert_eq!(rt;
+    is(
+        &rt,
         parse(alloc, b"risk\t& seen", 10).err(),
-        Some(ParseFault::Syntax(4))
+        Some(ParseFault::Syntax(4)),
     );
-    assert_eq!(rt;
+    is(
+        &rt,
         parse(alloc, b"F[0,1234567890] risk", 10).err(),
-        Some(ParseFault::Syntax(4))
+        Some(ParseFault::Syntax(4)),
     );
-    assert_eq!(rt;
+    is(
+        &rt,
         parse(alloc, b"risk U[0,10] seen U[0,10] risk", 10).err(),
-        Some(ParseFault::Syntax(18))
+        Some(ParseFault::Syntax(18)),
     );
 }
 
 #[test]
 fn a_refused_number_is_told_by_its_index(rt: HostRuntime) {
     let alloc = rt.alloc();
-    assert_eq!(rt;
+    is(
+        &rt,
         parse(alloc, b"F[0,25] risk", 10).err(),
-        Some(ParseFault::Number(4))
+        Some(ParseFault::Number(4)),
     );
-    assert_eq!(rt;
+    is(
+        &rt,
         parse(alloc, b"F[20,10] risk", 10).err(),
-        Some(ParseFault::Number(5))
+        Some(ParseFault::Number(5)),
     );
-    assert_eq!(rt;
+    is(
+        &rt,
         parse(alloc, b"clear(100001)", 10).err(),
-        Some(ParseFault::Number(6))
+        Some(ParseFault::Number(6)),
     );
-    assert_eq!(rt;
+    is(
+        &rt,
         parse(alloc, b"F[0,25] risk risk", 10).err(),
-        Some(ParseFault::Syntax(13))
+        Some(ParseFault::Syntax(13)),
     );
 }
 
@@ -131,9 +150,9 @@ fn reach_7200_is_taken(rt: HostRuntime) {
 #[test]
 fn a_window_of_three_positions_is_measured(rt: HostRuntime) -> Result<(), Fail> {
     let ahead = Formula::span(rt.alloc(), SpanKind::F, 0, 2, Formula::leaf(Atom::Risk))?;
-    assert_eq!(rt; future_reach(&ahead), 2);
-    assert_eq!(rt; nodes(&ahead), 2);
-    assert_eq!(rt; weight(&ahead), 2 * (2 + 1) + (2 + 1));
+    is(&rt, future_reach(&ahead), 2);
+    is(&rt, nodes(&ahead), 2);
+    is(&rt, weight(&ahead), 2 * (2 + 1) + (2 + 1));
     Ok(())
 }
 
@@ -162,7 +181,7 @@ fn risk_within_a_window_that_passes_the_end_is_open(rt: HostRuntime) -> Result<(
         (2, Verdict::Open),
         (3, Verdict::Open),
     ] {
-        assert_eq!(rt; value(&ahead, &QUIET, position), answer);
+        is(&rt, value(&ahead, &QUIET, position), answer);
     }
     Ok(())
 }
@@ -171,7 +190,7 @@ fn risk_within_a_window_that_passes_the_end_is_open(rt: HostRuntime) -> Result<(
 fn nothing_lies_before_the_first_row(rt: HostRuntime) -> Result<(), Fail> {
     for kind in [SpanKind::O, SpanKind::H] {
         let back = Formula::span(rt.alloc(), kind, 0, 2, Formula::leaf(Atom::Risk))?;
-        assert_eq!(rt; value(&back, &QUIET, 0), Verdict::No);
+        is(&rt, value(&back, &QUIET, 0), Verdict::No);
     }
     Ok(())
 }

@@ -6,6 +6,7 @@ ghost use Rattle.mtl_monitor.specs.Inner.Compiling.{kind_index};
 ghost use Rattle.mtl_monitor.specs.Following.{count_of};
 ghost use Rattle.mtl_monitor.specs.Monitoring.{fed_rows, past_rows};
 
+use crate::compared::is;
 use mtl_formulas::{Atom, Atoms, Formula, Verdict, future_reach, parse, value};
 use mtl_monitor::{Monitor, Program, TraceState};
 use outside::Memory;
@@ -88,7 +89,7 @@ fn a_window_ahead_is_answered_late_and_open_at_the_end(rt: HostRuntime) -> Resul
         None,
         None,
     ];
-    assert_eq!(rt; all.as_slice(), expected.as_slice());
+    is(&rt, all.as_slice(), expected.as_slice());
     Ok(())
 }
 
@@ -105,7 +106,7 @@ fn once_and_then_soon(rt: HostRuntime) -> Result<(), Fail> {
         None,
         None,
     ];
-    assert_eq!(rt; all.as_slice(), expected.as_slice());
+    is(&rt, all.as_slice(), expected.as_slice());
     Ok(())
 }
 
@@ -125,7 +126,7 @@ fn the_past_of_the_future_at_the_beginning(rt: HostRuntime) -> Result<(), Fail> 
         None,
         None,
     ];
-    assert_eq!(rt; all.as_slice(), expected.as_slice());
+    is(&rt, all.as_slice(), expected.as_slice());
     let mut historically = monitor_of(alloc, b"H[10,20] F[0,10] risk")?;
     let all = answers(alloc, &mut historically, &rows)?;
     let expected = [
@@ -138,7 +139,7 @@ fn the_past_of_the_future_at_the_beginning(rt: HostRuntime) -> Result<(), Fail> 
         None,
         None,
     ];
-    assert_eq!(rt; all.as_slice(), expected.as_slice());
+    is(&rt, all.as_slice(), expected.as_slice());
     Ok(())
 }
 

@@ -1,6 +1,7 @@
 //! The texts of the rules, their weights, and rules that are added.
 ghost use Rattle.std.specs.Prelude.{◌<◌, ◌≤◌, length};
 
+use crate::compared::is;
 use mtl_formulas::{parse, print, weight};
 use rule_set::{Name, RuleNumbers, RuleSet, Safe};
 use std::alloc::Global;
@@ -121,7 +122,7 @@ const RULES: [(&[u8], &[u8], &[u8]); 11] = [
 fn each_rule_is_printed_as_its_text_means(rt: HostRuntime) -> Result<(), Fail> {
     let alloc = rt.alloc();
     let set = RuleSet::new(alloc, &NUMBERS, TICK)?;
-    assert_eq!(rt; set.len(), RULES.len());
+    is(&rt, set.len(), RULES.len());
     for (k, (name, printed, meant)) in RULES.iter().enumerate() {
         is_printed(&rt, alloc, &set, k, name, printed)?;
         is_meant(&rt, alloc, &set, k, meant)?;
@@ -163,10 +164,10 @@ fn the_rules_have_their_weights(rt: HostRuntime) -> Result<(), Fail> {
     let alloc = rt.alloc();
     // 7 * 7 + 7, 3, 5, 9 * 8 + 8, 6, 7, 6, 11 * 8 + 8, 27 + 11 + 61, 15 * 3 + 3, 31 + 11 + 61.
     let set = RuleSet::new(alloc, &NUMBERS, TICK)?;
-    assert_eq!(rt; all_weigh(&set), 509);
+    is(&rt, all_weigh(&set), 509);
     // The rule of the safe distance has 29 nodes in place of 3.
     let set = RuleSet::new(alloc, &PER_KIND, TICK)?;
-    assert_eq!(rt; all_weigh(&set), 535);
+    is(&rt, all_weigh(&set), 535);
     Ok(())
 }
 
