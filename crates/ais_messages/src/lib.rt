@@ -16,6 +16,3 @@ pub use encoding::encode_position;
 pub use identity::is_ship;
 pub use message::{Decoded, Message, MessageCause, PositionReport, ShipData, StaticReport};
 pub use text::{Text20, text6};
-
-#[cfg(test)]
-mod tests;

@@ -33,6 +33,3 @@ pub use joiner::{Joined, Joiner};
 pub use line::read_line;
 pub use sentence::{Body, LineCause, Reading, Sentence};
 pub use writer::write_sentence;
-
-#[cfg(test)]
-mod tests;

@@ -7,8 +7,6 @@
 mod digits;
 mod report_row;
 mod report_text;
-#[cfg(test)]
-mod tests;
 
 pub use report_row::ReportRow;
 pub use report_text::{ReportText, row_bytes};

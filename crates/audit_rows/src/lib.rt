@@ -24,6 +24,3 @@ pub use mark::Mark;
 pub use row::Row;
 pub use row_queue::RowQueue;
 pub use topic::Topic;
-
-#[cfg(test)]
-mod tests;

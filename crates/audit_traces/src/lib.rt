@@ -15,10 +15,3 @@ pub use marks::Marks;
 pub use sightings::state_of;
 pub use total::Total;
 pub use trace::AuditTrace;
-
-#[cfg(test)]
-mod contact_tests;
-#[cfg(test)]
-mod tests;
-#[cfg(test)]
-mod trace_tests;

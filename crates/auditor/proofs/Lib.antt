@@ -17,5 +17,3 @@ mod Stepping
 mod TotalsOf
 mod MoreTicks
 mod OneAudit
-mod WorkedMeeting
-mod StillVessels

@@ -1,3 +1,2 @@
 pub mod AuditKeeping
 pub mod TracesKept
-pub mod WorkedMeeting

@@ -15,6 +15,3 @@ pub use audit::{Audit, AuditEnd};
 pub use audit_rows::Row;
 pub use audit_traces::Total;
 pub use fault::AuditFault;
-
-#[cfg(test)]
-mod tests;

@@ -13,6 +13,3 @@ mod separation;
 
 pub use nearest::Moment;
 pub use separation::{enters_within, entry, least, separated};
-
-#[cfg(test)]
-mod tests;

@@ -6,12 +6,8 @@
 #![tactic(auto)]
 
 mod fault_line;
-#[cfg(test)]
-mod hostile_tests;
 pub mod laws;
 mod migrate;
-#[cfg(test)]
-mod plan_tests;
 mod program;
 mod report;
 mod set_up;
@@ -19,8 +15,6 @@ mod status;
 mod stream_status;
 mod streaming;
 mod telling;
-#[cfg(test)]
-mod tests;
 
 pub use command_line::Mode;
 pub use own_ship::Unready;

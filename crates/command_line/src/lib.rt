@@ -7,8 +7,6 @@ pub mod laws;
 mod mode;
 mod number;
 mod request;
-#[cfg(test)]
-mod tests;
 
 pub use help::{Told, told_text, told_word};
 pub use mode::Mode;

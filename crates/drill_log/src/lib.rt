@@ -9,8 +9,6 @@
 pub mod laws;
 mod log;
 mod numbers;
-#[cfg(test)]
-mod tests;
 mod vessel;
 
 pub use log::drill_log;

@@ -26,6 +26,3 @@ pub use detection::{opening, past_clear, risk};
 pub use engagement::Engagement;
 pub use engagement_state::EngagementState;
 pub use pair_step::PairStep;
-
-#[cfg(test)]
-mod tests;

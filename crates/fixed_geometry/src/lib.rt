@@ -23,6 +23,3 @@ pub use point::{Point, displacement, dot, isqrt, norm2, square, turn, within};
 pub use projection::{REGION_SIZE, Reference, project};
 pub use rounding::round_quotient;
 pub use velocities::{GREATEST_VELOCITY, velocity};
-
-#[cfg(test)]
-mod tests;

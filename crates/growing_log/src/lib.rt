@@ -8,6 +8,3 @@ pub mod laws;
 mod open_line;
 
 pub use open_line::OpenLine;
-
-#[cfg(test)]
-mod tests;

@@ -12,8 +12,6 @@ mod orders;
 mod own_motion;
 mod passage;
 mod plan;
-#[cfg(test)]
-mod tests;
 mod under_way;
 
 pub use lattice::Lattice;

@@ -26,6 +26,3 @@ pub use follower::Follower;
 pub use pair::Pair;
 pub use pair_trace::PairTrace;
 pub use ticks::{contact, step_between};
-
-#[cfg(test)]
-mod tests;

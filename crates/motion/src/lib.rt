@@ -16,6 +16,3 @@ mod step;
 pub use leg::{FARTHEST, Leg, TickState};
 pub use legs::Legs;
 pub use step::Step;
-
-#[cfg(test)]
-mod tests;

@@ -29,6 +29,3 @@ pub use measures::{future_reach, nodes, weight};
 pub use parsing::{ParseFault, parse};
 pub use printing::print;
 pub use verdict::Verdict;
-
-#[cfg(test)]
-mod tests;

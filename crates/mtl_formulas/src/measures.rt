@@ -59,20 +59,3 @@ fn windows(formula: &Formula) -> u64
         Root::Link(_, _, upper, a, b) => windows(a) + windows(b) + (*upper as u64 + 1),
     }
 }
-
-#[cfg(test)]
-mod tests {
-    use super::{future_reach, nodes, weight};
-    use crate::atom::Atom;
-    use crate::formula::{Formula, SpanKind};
-    use std::test::Fail;
-
-    #[test]
-    fn a_window_of_three_positions_is_measured(rt: HostRuntime) -> Result<(), Fail> {
-        let ahead = Formula::span(rt.alloc(), SpanKind::F, 0, 2, Formula::leaf(Atom::Risk))?;
-        assert_eq!(rt; future_reach(&ahead), 2);
-        assert_eq!(rt; nodes(&ahead), 2);
-        assert_eq!(rt; weight(&ahead), 2 * (2 + 1) + (2 + 1));
-        Ok(())
-    }
-}

@@ -28,6 +28,3 @@ mod verdicts;
 pub use monitor::Monitor;
 pub use program::Program;
 pub use trace_state::TraceState;
-
-#[cfg(test)]
-mod tests;

@@ -10,8 +10,6 @@ mod schedule;
 mod shelf;
 mod sink;
 mod source;
-#[cfg(test)]
-mod tests;
 mod whole;
 mod word;
 

@@ -4,8 +4,6 @@
 
 mod already;
 mod basis;
-#[cfg(test)]
-mod checked;
 mod explore;
 mod flat;
 pub mod laws;
@@ -15,8 +13,6 @@ mod path;
 mod prediction;
 mod search;
 mod situation;
-#[cfg(test)]
-mod tests;
 mod ticks;
 mod watched;
 

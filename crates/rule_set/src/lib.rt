@@ -9,8 +9,6 @@ mod numbers;
 mod ranked_duties;
 mod rule;
 mod rule_set;
-#[cfg(test)]
-mod tests;
 mod words;
 
 pub use name::Name;

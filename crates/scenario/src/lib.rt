@@ -9,17 +9,11 @@ mod first;
 mod integers;
 mod listed;
 mod migration;
-#[cfg(test)]
-mod migration_tests;
 mod own_part;
 mod plan_sizes;
 mod reading;
-#[cfg(test)]
-mod refusal_tests;
 mod rules;
 mod subjects;
-#[cfg(test)]
-mod tests;
 mod values;
 
 pub use migration::migrate;

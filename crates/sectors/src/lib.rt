@@ -14,6 +14,3 @@ mod class;
 
 pub use angles::Angles;
 pub use class::{Class, class_of};
-
-#[cfg(test)]
-mod tests;

@@ -17,8 +17,6 @@ mod points;
 mod session;
 mod session_fault;
 mod stretches;
-#[cfg(test)]
-mod tests;
 mod totals;
 mod vessels;
 mod work;

@@ -4,6 +4,3 @@
 mod streamed_lines;
 
 pub use streamed_lines::{EndedLines, StreamedLines};
-
-#[cfg(test)]
-mod tests;

@@ -30,6 +30,3 @@ pub use direction::reported_direction;
 pub use entry::{BookFault, Entry, ReportCause};
 pub use keeping::Keeping;
 pub use statics::Statics;
-
-#[cfg(test)]
-mod tests;

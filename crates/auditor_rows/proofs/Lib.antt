@@ -1,0 +1,2 @@
+mod WorkedMeeting
+mod StillVessels

@@ -1,0 +1,15 @@
+//! Worked rows of an audit: stretches, traces, whole audits, and the texts of their rows.
+#![tactic(auto)]
+
+#[cfg(test)]
+mod audits;
+#[cfg(test)]
+mod contacts;
+#[cfg(test)]
+mod marks;
+#[cfg(test)]
+mod row_texts;
+#[cfg(test)]
+mod stretches;
+#[cfg(test)]
+mod traces;

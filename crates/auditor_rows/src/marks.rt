@@ -1,0 +1,131 @@
+//! The marks of traces, their rows and their totals.
+use audit_rows::{Mark, Row};
+use audit_traces::{Marks, Total};
+use meetings::Pair;
+use sectors::Class;
+use std::test::Fail;
+
+const PAIR: Pair = Pair {
+    subject: 1,
+    other: 2,
+};
+
+const REVERSE: Pair = Pair {
+    subject: 2,
+    other: 1,
+};
+
+fn meeting(first: u32, last: u32, least: u64) -> Row {
+    Row::Meeting {
+        pair: PAIR,
+        kind: Class::HeadOn,
+        first,
+        last,
+        least,
+    }
+}
+
+fn verdict(pair: Pair, rule: u32, undecided: bool, first: u32, last: u32) -> Row {
+    Row::Verdict {
+        pair,
+        rule,
+        undecided,
+        first,
+        last,
+    }
+}
+
+fn engaged(least: u64) -> Mark {
+    Mark::Engaged {
+        kind: Class::HeadOn,
+        least,
+    }
+}
+
+#[test]
+fn a_trace_gives_its_rows_as_they_are_decided_and_its_total(rt: HostRuntime) -> Result<(), Fail> {
+    let mut marks = Marks::new(rt.alloc(), 1)?;
+    marks.begin(PAIR)?;
+    marks.mark(0, 0, engaged(300))?;
+    marks.mark(0, 1, engaged(200))?;
+    marks.mark(0, 2, Mark::Nothing)?;
+    marks.mark(0, 3, engaged(400))?;
+    marks.mark(1, 0, Mark::Nothing)?;
+    marks.mark(1, 1, Mark::Broken)?;
+    marks.mark(1, 2, Mark::Broken)?;
+    let early = marks.rows_below(2)?;
+    assert_eq!(rt; early.as_slice(), [meeting(0, 1, 200)].as_slice());
+    marks.mark(1, 3, Mark::Undecided)?;
+    let (late, totals) = marks.finish(4)?;
+    assert_eq!(rt;
+        late.as_slice(),
+        [
+            verdict(PAIR, 0, false, 1, 2),
+            meeting(3, 3, 400),
+            verdict(PAIR, 0, true, 3, 3),
+        ]
+        .as_slice()
+    );
+    assert_eq!(rt;
+        totals.as_slice(),
+        [Total {
+            positions: 4,
+            yes: 1,
+            no: 2,
+            undecided: 1,
+            runs: 1,
+        }]
+        .as_slice()
+    );
+    Ok(())
+}
+
+#[test]
+fn each_rule_has_one_total_over_the_traces_of_all_pairs(rt: HostRuntime) -> Result<(), Fail> {
+    let mut marks = Marks::new(rt.alloc(), 2)?;
+    marks.begin(PAIR)?;
+    marks.begin(REVERSE)?;
+    for index in [0, 3] {
+        marks.mark(index, 5, Mark::Nothing)?;
+        marks.mark(index, 6, Mark::Nothing)?;
+    }
+    marks.mark(1, 5, Mark::Broken)?;
+    marks.mark(1, 6, Mark::Nothing)?;
+    marks.mark(2, 5, Mark::Nothing)?;
+    marks.mark(2, 6, Mark::Nothing)?;
+    marks.mark(4, 5, Mark::Broken)?;
+    marks.mark(4, 6, Mark::Nothing)?;
+    marks.mark(5, 5, Mark::Undecided)?;
+    marks.mark(5, 6, Mark::Undecided)?;
+    let (rows, totals) = marks.finish(7)?;
+    assert_eq!(rt;
+        rows.as_slice(),
+        [
+            verdict(PAIR, 0, false, 5, 5),
+            verdict(REVERSE, 0, false, 5, 5),
+            verdict(REVERSE, 1, true, 5, 6),
+        ]
+        .as_slice()
+    );
+    assert_eq!(rt;
+        totals.as_slice(),
+        [
+            Total {
+                positions: 4,
+                yes: 2,
+                no: 2,
+                undecided: 0,
+                runs: 2,
+            },
+            Total {
+                positions: 4,
+                yes: 2,
+                no: 0,
+                undecided: 2,
+                runs: 0,
+            },
+        ]
+        .as_slice()
+    );
+    Ok(())
+}

@@ -1,0 +1,156 @@
+//! A worked trace.
+ghost use Rattle.std.specs.Prelude.{◌≡◌, ◌<◌, IfOk, IfSome};
+ghost use Rattle.encounters.specs.Directions.{HasDirection, HaveDirections};
+ghost use Rattle.mtl_monitor.specs.Following.{count_of};
+
+use audit_rows::Row;
+use audit_traces::{AuditTrace, Marks, Total};
+use encounters::{Act, Detect, PairStep};
+use fixed_geometry::Point;
+use meetings::Pair;
+use motion::{Step, TickState};
+use mtl_formulas::parse;
+use mtl_monitor::Program;
+use sectors::{Angles, Class};
+use std::alloc::Global;
+use std::test::Fail;
+
+const DETECT: Detect = Detect {
+    watch: 50_000_000,
+    risk: 5_000_000,
+    clear: 10_000_000,
+    horizon: 60,
+    angles: Angles {
+        doubt: 0,
+        ahead: 100,
+        reciprocal: 100,
+    },
+};
+
+const ACT: Act = Act {
+    steady_turn: 50,
+    apparent_turn: 200,
+    steady_speed: 10,
+    apparent_speed: 50,
+};
+
+const PAIR: Pair = Pair {
+    subject: 369_190_000,
+    other: 477_553_000,
+};
+
+fn state(direction: u16) -> TickState
+    requires { direction < 3600 }
+    ensures { HasDirection result }
+{
+    TickState {
+        point: Point { x: 0, y: 0 },
+        direction: Some(direction),
+        speed: Some(180),
+    }
+}
+
+/// A step of two vessels that meet head-on at 18 knots each, 18.52 metres aside of each other and so far apart along their tracks.
+fn head_on(ahead: i64) -> Option<PairStep>
+    ensures { IfSome result HaveDirections }
+{
+    let p = Point {
+        x: -185_200,
+        y: ahead,
+    };
+    let w = Point {
+        x: 0,
+        y: -1_852_000,
+    };
+    Some(PairStep {
+        step: Step::new(p, w)?,
+        a: state(0),
+        b: state(1800),
+    })
+}
+
+/// Whether the vessels are engaged, and whether they are so within two steps, at a tick of 10 seconds.
+fn two_rules(alloc: Global) -> Result<Program, Fail>
+    ensures { IfOk result (λ program. count_of program ≡ 2) }
+{
+    let engaged = parse(alloc, b"engaged", 10)?;
+    let soon = parse(alloc, b"F[0,20] engaged", 10)?;
+    Ok(Program::new(alloc).with(&engaged)?.with(&soon)?)
+}
+
+#[test]
+fn an_engagement_that_ends_at_the_last_step(rt: HostRuntime) -> Result<(), Fail> {
+    let alloc = rt.alloc();
+    let program = two_rules(alloc)?;
+    let mut marks = Marks::new(alloc, 2)?;
+    marks.begin(PAIR)?;
+    let mut trace = AuditTrace::new(alloc, &program, PAIR, 5, DETECT, ACT, 10)?;
+    assert_eq!(rt; trace.pair(), PAIR);
+    // They pass at the end of the first step, are 1111 metres past each other at the end of the second, and are clear in the third.
+    trace.step(&program, head_on(1_852_000).as_ref(), 5, &mut marks, 0)?;
+    trace.step(&program, head_on(-9_260_000).as_ref(), 6, &mut marks, 0)?;
+    trace.step(&program, head_on(-11_112_000).as_ref(), 7, &mut marks, 0)?;
+    trace.end(&program, &mut marks, 0)?;
+    let (rows, totals) = marks.finish(8)?;
+    assert_eq!(rt;
+        rows.as_slice(),
+        [
+            Row::Meeting {
+                pair: PAIR,
+                kind: Class::HeadOn,
+                first: 5,
+                last: 6,
+                least: 185_200,
+            },
+            Row::Verdict {
+                pair: PAIR,
+                rule: 0,
+                undecided: false,
+                first: 7,
+                last: 7,
+            },
+            Row::Verdict {
+                pair: PAIR,
+                rule: 1,
+                undecided: true,
+                first: 7,
+                last: 7,
+            },
+        ]
+        .as_slice()
+    );
+    assert_eq!(rt;
+        totals.as_slice(),
+        [
+            Total {
+                positions: 3,
+                yes: 2,
+                no: 1,
+                undecided: 0,
+                runs: 1,
+            },
+            Total {
+                positions: 3,
+                yes: 2,
+                no: 0,
+                undecided: 1,
+                runs: 0,
+            },
+        ]
+        .as_slice()
+    );
+    Ok(())
+}
+
+#[test]
+fn a_trace_of_no_steps_has_no_rows(rt: HostRuntime) -> Result<(), Fail> {
+    let alloc = rt.alloc();
+    let program = two_rules(alloc)?;
+    let mut marks = Marks::new(alloc, 2)?;
+    marks.begin(PAIR)?;
+    let mut trace = AuditTrace::new(alloc, &program, PAIR, 5, DETECT, ACT, 10)?;
+    trace.end(&program, &mut marks, 0)?;
+    let (rows, _totals) = marks.finish(5)?;
+    assert_eq!(rt; rows.len(), 0);
+    Ok(())
+}

@@ -1,0 +1,359 @@
+//! What no clause says: worked rows, many random formulas, and that each call can succeed.
+ghost use Rattle.std.specs.Prelude.{◌≡◌, ◌≤◌, ◌<◌, ◌+◌, ◌^◌, length, IfOk, if◌then◌else◌};
+ghost use Rattle.mtl_formulas.specs.FormulaTree.{tree_of};
+ghost use Rattle.mtl_formulas.specs.FormulaMeasures.{IsValid};
+ghost use Rattle.mtl_formulas.specs.declared.atom.Atom.TheVariants.{Risk};
+ghost use Rattle.mtl_monitor.specs.Inner.Compiling.{same_atom};
+ghost use Rattle.mtl_monitor.specs.Following.{count_of};
+ghost use Rattle.mtl_monitor.specs.Monitoring.{fed_rows, past_rows};
+
+use crate::compared::is;
+use mtl_formulas::{Atom, Atoms, Formula, Verdict, future_reach, parse, value};
+use mtl_monitor::{Monitor, Program, TraceState};
+use outside::Memory;
+use rand_core::utils::NextWord;
+use rand_pcg::Pcg32;
+use std::alloc::{AllocError, Global};
+use std::process::Abort;
+use std::test::Fail;
+
+/// A row with an answer to `risk`, and one to all other atoms.
+#[derive(Clone, Copy)]
+struct Row {
+    risk: Verdict,
+    other: Verdict,
+}
+
+impl Atoms for Row {
+    ghost answer = { λ row atom. (if same_atom atom Risk then row.risk else row.other) };
+
+    fn value(&self, atom: Atom) -> Verdict {
+        if atom == Atom::Risk {
+            self.risk
+        } else {
+            self.other
+        }
+    }
+}
+
+const NO: Row = Row {
+    risk: Verdict::No,
+    other: Verdict::No,
+};
+
+const YES: Row = Row {
+    risk: Verdict::Yes,
+    other: Verdict::Yes,
+};
+
+/// The monitor of a text at a tick of 10 seconds.
+fn monitor_of(alloc: Global, text: &[u8]) -> Result<Monitor, Fail>
+    requires { length text.now ≤ 1024 }
+    ensures fed { IfOk result (λ m. fed_rows m ≡ 0) }
+    ensures past { IfOk result (λ m. past_rows m ≡ 0) }
+{
+    let formula = parse(alloc, text, 10)?;
+    Ok(Monitor::new(alloc, &formula)?)
+}
+
+/// Feeds the rows, and then finishes: all answers in order.
+fn answers(
+    alloc: Global,
+    monitor: &mut Monitor,
+    rows: &[Row],
+) -> Result<Vec<Option<(u32, Verdict)>>, AllocError>
+    requires past { past_rows monitor.old ≡ 0 }
+    requires fed { fed_rows monitor.old ≡ 0 }
+    requires few { length rows.now < 1000 }
+{
+    let mut all = Vec::new(alloc);
+    for row in rows {
+        all.push(monitor.feed(row))?;
+    }
+    for _ in 0..rows.len() {
+        all.push(monitor.finish_next())?;
+    }
+    Ok(all)
+}
+
+#[test]
+fn a_window_ahead_is_answered_late_and_open_at_the_end(rt: HostRuntime) -> Result<(), Fail> {
+    let alloc = rt.alloc();
+    let mut monitor = monitor_of(alloc, b"F[0,20] risk")?;
+    let all = answers(alloc, &mut monitor, &[NO, NO, NO, NO])?;
+    let expected = [
+        None,
+        None,
+        Some((0, Verdict::No)),
+        Some((1, Verdict::No)),
+        Some((2, Verdict::Open)),
+        Some((3, Verdict::Open)),
+        None,
+        None,
+    ];
+    is(&rt, all.as_slice(), expected.as_slice());
+    Ok(())
+}
+
+#[test]
+fn once_and_then_soon(rt: HostRuntime) -> Result<(), Fail> {
+    let alloc = rt.alloc();
+    let mut monitor = monitor_of(alloc, b"F[0,10] O[0,10] risk")?;
+    let all = answers(alloc, &mut monitor, &[NO, YES, NO])?;
+    let expected = [
+        None,
+        Some((0, Verdict::Yes)),
+        Some((1, Verdict::Yes)),
+        Some((2, Verdict::Yes)),
+        None,
+        None,
+    ];
+    is(&rt, all.as_slice(), expected.as_slice());
+    Ok(())
+}
+
+#[test]
+fn the_past_of_the_future_at_the_beginning(rt: HostRuntime) -> Result<(), Fail> {
+    let alloc = rt.alloc();
+    let rows = [NO, NO, YES, NO];
+    let mut once = monitor_of(alloc, b"O[10,20] F[0,10] risk")?;
+    let all = answers(alloc, &mut once, &rows)?;
+    let expected = [
+        None,
+        Some((0, Verdict::No)),
+        Some((1, Verdict::No)),
+        Some((2, Verdict::Yes)),
+        Some((3, Verdict::Yes)),
+        None,
+        None,
+        None,
+    ];
+    is(&rt, all.as_slice(), expected.as_slice());
+    let mut historically = monitor_of(alloc, b"H[10,20] F[0,10] risk")?;
+    let all = answers(alloc, &mut historically, &rows)?;
+    let expected = [
+        None,
+        Some((0, Verdict::Yes)),
+        Some((1, Verdict::No)),
+        Some((2, Verdict::No)),
+        Some((3, Verdict::Yes)),
+        None,
+        None,
+        None,
+    ];
+    is(&rt, all.as_slice(), expected.as_slice());
+    Ok(())
+}
+
+/// How many of the answers have this value.
+fn count(answers: &[Option<(u32, Verdict)>], wanted: Verdict) -> usize {
+    answers
+        .iter()
+        .filter(|answer| match answer {
+            Some((_, value)) => *value as u8 == wanted as u8,
+            None => false,
+        })
+        .count()
+}
+
+#[test]
+fn many_windows_in_one_another(rt: HostRuntime) -> Result<(), Fail> {
+    let alloc = rt.alloc();
+    let mut text = Vec::new(alloc);
+    for _ in 0..16u8 {
+        text.extend_from_slice(b"G[0,100] ")?;
+    }
+    text.extend_from_slice(b"seen")?;
+    assert!(rt; text.len() <= 1024);
+    let mut monitor = monitor_of(alloc, &text)?;
+    let all = answers(alloc, &mut monitor, &[YES; 40])?;
+    assert_eq!(rt; count(&all, Verdict::Open), 40);
+    assert_eq!(rt; count(&all, Verdict::Yes), 0);
+    Ok(())
+}
+
+/// One of so many, at most 256.
+fn below(source: &mut Pcg32, many: u32) -> u32
+    requires { 0 < many }
+    ensures { result < many }
+{
+    (source.next_word() >> 8) % many
+}
+
+const BOUNDS: [&str; 5] = ["[0,0] ", "[0,20] ", "[10,30] ", "[20,20] ", "[10,70] "];
+
+/// Writes a random formula of so many operators in one another.
+fn write_random(source: &mut Pcg32, text: &mut String, depth: u8) -> Result<(), AllocError> {
+    if depth == 0 {
+        text.push_str(ATOMS[below(source, 3) as usize])?;
+        return Ok(());
+    }
+    let operator = below(source, 10) as usize;
+    if operator == 0 {
+        text.push_str("!")?;
+        return write_random(source, text, depth - 1);
+    }
+    if operator <= 4 {
+        text.push_str(SPANS[operator - 1])?;
+        text.push_str(BOUNDS[below(source, 5) as usize])?;
+        return write_random(source, text, depth - 1);
+    }
+    text.push_str("(")?;
+    write_random(source, text, depth - 1)?;
+    text.push_str(LINKS[operator - 5])?;
+    if operator >= 8 {
+        text.push_str(BOUNDS[below(source, 5) as usize])?;
+    }
+    write_random(source, text, depth - 1)?;
+    text.push_str(")")?;
+    Ok(())
+}
+
+const ATOMS: [&str; 3] = ["risk", "seen", "true"];
+
+const SPANS: [&str; 4] = ["F", "G", "O", "H"];
+
+const LINKS: [&str; 5] = [" & ", " | ", " -> ", " U", " S"];
+
+/// A random row. Most rows are as the one before, so that nodes come to rest.
+fn random_row(source: &mut Pcg32, last: Row) -> Row {
+    match below(source, 12) {
+        0 => NO,
+        1 => YES,
+        2 => Row {
+            risk: Verdict::Open,
+            other: Verdict::Yes,
+        },
+        3 => Row {
+            risk: Verdict::Yes,
+            other: Verdict::No,
+        },
+        _ => last,
+    }
+}
+
+/// Random rows.
+fn random_rows(alloc: Global, source: &mut Pcg32) -> Result<Vec<Row>, AllocError>
+    ensures { IfOk result (λ rows. length rows.items ≡ 30) }
+{
+    let mut rows = Vec::new(alloc);
+    let mut last = NO;
+    for _ in 0..30u8 {
+        last = random_row(source, last);
+        rows.push(last)?;
+    }
+    Ok(rows)
+}
+
+/// Whether an answer is that of the definition's plain program over these rows.
+fn is_right(
+    answer: Option<(u32, Verdict)>,
+    formula: &Formula,
+    rows: &[Row],
+    position: usize,
+) -> bool
+    requires { IsValid (tree_of formula.now) }
+{
+    match answer {
+        Some((at, given)) => {
+            at as usize == position && given as u8 == value(formula, rows, position) as u8
+        }
+        None => false,
+    }
+}
+
+/// Feeds the rows to a monitor and finishes it, and tells whether each answer is as the plain program has it.
+fn agrees(alloc: Global, formula: &Formula, rows: &[Row]) -> Result<bool, Memory>
+    requires valid { IsValid (tree_of formula.now) }
+    requires few { length rows.now < 1000 }
+{
+    let mut monitor = Monitor::new(alloc, formula)?;
+    let reach = future_reach(formula) as usize;
+    let mut right = true;
+    for i in 0..rows.len() {
+        let answer = monitor.feed(&rows[i]);
+        if i < reach {
+            right = right && answer.is_none();
+        } else {
+            right = right && is_right(answer, formula, &rows[..i + 1], i - reach);
+        }
+    }
+    for position in rows.len().saturating_sub(reach)..rows.len() {
+        right = right && is_right(monitor.finish_next(), formula, rows, position);
+    }
+    Ok(right && monitor.finish_next().is_none())
+}
+
+/// Tries one random formula over random rows.
+fn one_agrees(rt: &impl Abort, alloc: Global, source: &mut Pcg32, depth: u8) -> Result<(), Fail> {
+    let mut text = String::new(alloc);
+    write_random(source, &mut text, depth)?;
+    let rows = random_rows(alloc, source)?;
+    assert!(rt; text.len() <= 1024);
+    let formula = parse(alloc, text.as_bytes(), 10)?;
+    assert!(rt; agrees(alloc, &formula, &rows)?, "{text}");
+    Ok(())
+}
+
+#[test]
+fn random_formulas_agree_with_the_plain_program(rt: HostRuntime) -> Result<(), Fail> {
+    let alloc = rt.alloc();
+    let mut source = Pcg32::new(42, 54);
+    for _ in 0..120u8 {
+        one_agrees(&rt, alloc, &mut source, 1)?;
+        one_agrees(&rt, alloc, &mut source, 2)?;
+        one_agrees(&rt, alloc, &mut source, 3)?;
+    }
+    Ok(())
+}
+
+/// The program of two formulas that share a part.
+fn program_of_two(alloc: Global) -> Result<Program, Fail>
+    ensures { IfOk result (λ p. count_of p ≡ 2) }
+{
+    let soon = parse(alloc, b"F[0,10] risk", 10)?;
+    let not_soon = parse(alloc, b"!F[0,10] risk", 10)?;
+    let program = Program::new(alloc).with(&soon)?.with(&not_soon)?;
+    Ok(program)
+}
+
+#[test]
+fn two_formulas_over_two_traces(rt: HostRuntime) -> Result<(), Fail> {
+    let alloc = rt.alloc();
+    let program = program_of_two(alloc)?;
+    assert_eq!(rt; program.formula_count(), 2);
+    assert_eq!(rt; program.reach(), 1);
+    let mut one = TraceState::new(alloc, &program)?;
+    let mut two = TraceState::new(alloc, &program)?;
+    let _first = one.feed(&program, &NO);
+    let _first = two.feed(&program, &NO);
+    assert_eq!(rt; one.answer(&program, 0), None);
+    let _second = one.feed(&program, &YES);
+    let _second = two.feed(&program, &NO);
+    assert_eq!(rt; one.answer(&program, 0), Some((0, Verdict::Yes)));
+    assert_eq!(rt; one.answer(&program, 1), Some((0, Verdict::No)));
+    assert_eq!(rt; two.answer(&program, 1), Some((0, Verdict::Yes)));
+    two.copy_from(&one);
+    two.pass_end(&program);
+    assert_eq!(rt; two.answer(&program, 0), Some((1, Verdict::Yes)));
+    assert_eq!(rt; two.answer(&program, 1), Some((1, Verdict::No)));
+    Ok(())
+}
+
+#[test]
+fn a_monitor_takes_over_another(rt: HostRuntime) -> Result<(), Fail> {
+    let alloc = rt.alloc();
+    let formula = parse(alloc, b"risk U[0,10] seen", 10)?;
+    let mut one = Monitor::new(alloc, &formula)?;
+    let mut two = Monitor::new(alloc, &formula)?;
+    let first = one.feed(&YES);
+    assert_eq!(rt; first, None);
+    two.copy_from(&one);
+    let answer = two.feed(&NO);
+    assert_eq!(rt; answer, Some((0, Verdict::Yes)));
+    let next = two.finish_next();
+    assert_eq!(rt; next, Some((1, Verdict::No)));
+    let last = two.finish_next();
+    assert_eq!(rt; last, None);
+    Ok(())
+}

@@ -1,4 +1,0 @@
-use Rattle.mtl_monitor.proofs.tests.+write_random.Given as goal
-
-abbrev pub decreases-write_random : goal.decreases-write_random
-decreases-write_random l = l.depth

@@ -1,0 +1,15 @@
+use Rattle.std.proofs.Common.{ℕ, ◌+◌, ◌<◌}
+use Rattle.std.specs.Prelude.{IfSome}
+use Rattle.encounters.specs.Directions.{HasDirection}
+use Rattle.meetings.specs.Traces.{IsPlaced, IsShortMove}
+use Rattle.planner.specs.Situations.{target_at}
+use Rattle.plan_rows.proofs.checked.is_target_tracked.Given as goal
+
+abbrev pub invariant-loop-k : goal.invariant-loop-k
+invariant-loop-k l = record {
+  placed : (i : ℕ) → i < l.k → IsPlaced (target_at l.situation l.target i);
+  heads : (i : ℕ) → i < l.k → IfSome (target_at l.situation l.target i) HasDirection;
+}
+
+abbrev pub invariant-loop-k-2 : goal.invariant-loop-k-2
+invariant-loop-k-2 l = (i : ℕ) → i < l.k → IsShortMove (target_at l.situation l.target i) (target_at l.situation l.target (i + 1))

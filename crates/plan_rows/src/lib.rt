@@ -1,0 +1,7 @@
+//! Worked situations, and the pruned search against the flat list.
+#![tactic(auto)]
+
+#[cfg(test)]
+mod checked;
+#[cfg(test)]
+mod searches;

@@ -1,0 +1,162 @@
+//! Engagements, and alterations since their beginning.
+ghost use Rattle.std.specs.Prelude.{◌<◌, IfSome};
+ghost use Rattle.encounters.specs.Directions.{HasDirection, HaveDirections};
+
+use crate::compared::{is, is_true};
+use encounters::{
+    Act, Changes, Detect, Engagement, EngagementState, PairStep, changes_since, opening,
+    past_clear, risk,
+};
+use fixed_geometry::Point;
+use motion::{Step, TickState};
+use mtl_formulas::Verdict;
+use sectors::{Angles, Class, class_of};
+use std::test::Fail;
+
+const DETECT: Detect = Detect {
+    watch: 50_000_000,
+    risk: 5_000_000,
+    clear: 10_000_000,
+    horizon: 60,
+    angles: Angles {
+        doubt: 0,
+        ahead: 100,
+        reciprocal: 100,
+    },
+};
+
+const ACT: Act = Act {
+    steady_turn: 50,
+    apparent_turn: 200,
+    steady_speed: 10,
+    apparent_speed: 50,
+};
+
+fn state(direction: Option<u16>, speed: Option<u16>) -> TickState
+    requires { IfSome direction (λ d. d < 3600) }
+    ensures { HasDirection result }
+{
+    TickState {
+        point: Point { x: 0, y: 0 },
+        direction,
+        speed,
+    }
+}
+
+/// Both head north, A faster by 100 metres in a tick.
+fn northward(p: Point) -> Option<PairStep>
+    ensures { IfSome result HaveDirections }
+{
+    let step = Step::new(
+        p,
+        Point {
+            x: 0,
+            y: -1_000_000,
+        },
+    )?;
+    Some(PairStep {
+        step,
+        a: state(Some(0), Some(200)),
+        b: state(Some(0), Some(100)),
+    })
+}
+
+#[test]
+fn an_overtaking_vessel_does_not_become_a_crossing_one(rt: HostRuntime) -> Result<(), Fail> {
+    let mut engagement = Engagement::new(DETECT);
+    for age in 0..20 {
+        let y = 20_000_000 - 1_000_000 * i64::from(age);
+        let pair = northward(Point { x: -3_000_000, y }).ok_or("a step")?;
+        is(
+            &rt,
+            engagement.step(Some(&pair)),
+            EngagementState::Engaged {
+                kind: Class::Overtaking,
+                age,
+                a: pair.a,
+                b: pair.b,
+            },
+        );
+    }
+    let last = northward(Point {
+        x: -3_000_000,
+        y: 1_000_000,
+    })
+    .ok_or("a step")?;
+    is(
+        &rt,
+        class_of(&last.step, Some(0), Some(0), &DETECT.angles),
+        Class::CrossingStands,
+    );
+    is(&rt, engagement.step(None), EngagementState::Apart);
+    Ok(())
+}
+
+#[test]
+fn risk_until_past_and_clear(rt: HostRuntime) -> Result<(), Fail> {
+    let ahead = northward(Point {
+        x: -3_000_000,
+        y: 20_000_000,
+    })
+    .ok_or("a step")?;
+    is_true(&rt, risk(&DETECT, &ahead.step));
+    is_true(&rt, !opening(&ahead.step));
+    is_true(&rt, !past_clear(&DETECT, &ahead.step));
+    let near = northward(Point {
+        x: -6_000_000,
+        y: -5_000_000,
+    })
+    .ok_or("a step")?;
+    is_true(&rt, !risk(&DETECT, &near.step));
+    is_true(&rt, opening(&near.step));
+    is_true(&rt, !past_clear(&DETECT, &near.step));
+    let clear = northward(Point {
+        x: -6_000_000,
+        y: -8_000_000,
+    })
+    .ok_or("a step")?;
+    is_true(&rt, past_clear(&DETECT, &clear.step));
+    Ok(())
+}
+
+#[test]
+fn alterations_since_the_beginning(rt: HostRuntime) {
+    let since = EngagementState::Engaged {
+        kind: Class::HeadOn,
+        age: 3,
+        a: state(Some(1800), Some(120)),
+        b: state(None, Some(100)),
+    };
+    let half_a_turn = state(Some(0), Some(120));
+    let faster = state(None, Some(150));
+    let changes = changes_since(&ACT, &since, &half_a_turn, &faster);
+    is(
+        &rt,
+        changes,
+        Changes {
+            alters: Verdict::Yes,
+            apparent: Verdict::Yes,
+            to_starboard: Verdict::Yes,
+            to_port: Verdict::No,
+            other_apparent: Verdict::Yes,
+        },
+    );
+    let unknown = state(None, Some(125));
+    let changes = changes_since(&ACT, &since, &unknown, &half_a_turn);
+    is(
+        &rt,
+        changes,
+        Changes {
+            alters: Verdict::Open,
+            apparent: Verdict::Open,
+            to_starboard: Verdict::Open,
+            to_port: Verdict::Open,
+            other_apparent: Verdict::Open,
+        },
+    );
+    is(
+        &rt,
+        changes_since(&ACT, &EngagementState::Apart, &unknown, &faster).alters,
+        Verdict::No,
+    );
+}

@@ -1,7 +1,0 @@
-use Rattle.std.proofs.Common.{ℕ, ◌<◌, get_or}
-use Rattle.planner.specs.Situations.{IsTarget}
-use Rattle.planner.specs.declared.situation.Target.{Target}
-use Rattle.planner.proofs.checked.are_targets.Given as goal
-
-abbrev pub invariant-loop-target : goal.invariant-loop-target
-invariant-loop-target l = (i : ℕ) (d : Target) → i < l.target-index → IsTarget l.situation (get_or l.situation.targets i d)

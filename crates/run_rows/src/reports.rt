@@ -1,0 +1,253 @@
+//! The report of each mode.
+use crate::logs::{ABOUT_SEATTLE, HEAD_ON_AUDITED, LOG, POINT, REPORT};
+use crate::whole_run::{Devices, Edit, SOUND, edited, ended};
+use crate::worked_row::{AUDIT, NOTHING, POINTS, Row, Written, is_as_worked_out};
+use colregs_program::Status;
+use judged_lines::laws;
+use scenario_rows::HEAD_ON;
+use std::test::Fail;
+
+/// Five parts of two keys, and three lines with times: own ship at second 100, and the other at seconds 0 and -1000.
+const PARTS_AND_TIMES: &[u8] =
+    b"!AIVDM,2,1,3,A,55P5TL01VIaAL@7WKO@mBplU@<PDhh000000001S;AJ::4A80?4i@E53,0*3D
+!AIVDM,2,1,3,B,55P5TL01VIaAL@7WKO@mBplU@<PDhh000000001S;AJ::4A80?4i@E53,0*3E
+!AIVDM,2,2,3,A,1@0000000000000,2*56
+!AIVDM,2,2,3,B,1@0000000000000,2*55
+!AIVDM,2,2,3,B,1@0000000000000,2*55
+\\c:1700000100*5E\\!AIVDM,1,1,,A,15P5TL0P2l00001wwHt000000000,0*5C
+\\c:1700000000*5F\\!AIVDM,1,1,,A,177KQJ0P2lOwwtp00W4725`00000,0*31
+\\c:1699999000*57\\!AIVDM,1,1,,A,177KQJ0P2lOwwtp00W4725`00000,0*31
+";
+
+const PARTS_AND_TIMES_COUNTED: &[u8] = b"lines,outside,1,,,,
+lines,late,1,,,,
+lines,part,2,,,,
+lines,orphan,1,,,,
+lines,short,0,,,,
+lines,kind,0,,,,
+lines,notship,0,,,,
+lines,nopos,0,,,,
+lines,far,0,,,,
+lines,back,0,,,,
+lines,repeat,0,,,,
+lines,jump,0,,,,
+lines,static,2,,,,
+lines,point,1,,,,
+";
+
+const HEAD_ON_TO_TICK_FOUR: Written = Written::Ends(
+    b"verdict,369190000,477553000,r14a,open,0,0
+verdict,477553000,369190000,r14a,open,0,0
+meeting,369190000,477553000,head_on,0,3,29632578
+meeting,477553000,369190000,head_on,0,3,29632578
+vessel,369190000,MT.MITCHELL,99,180,2,1
+",
+    b"",
+);
+
+/// The totals of the drill, as another program has them.
+const DRILLED: &[u8] = b"total,r8b,48304,48304,0,0,0
+total,r8d,48304,48134,170,0,24
+total,r13,48304,48273,31,0,2
+total,r14a,48304,48294,10,0,10
+total,r14b,48304,48304,0,0,0
+total,r14p,48304,48254,50,0,5
+total,r15,48304,48297,7,0,7
+total,r16,48304,48268,36,0,36
+total,r17a,48304,48304,0,0,0
+total,r17b,48304,48194,110,0,12
+total,r17c,48304,48304,0,0,0
+lines,empty,0,,,,
+";
+
+/// Now is one tick behind the start, and she may go on, or turn to starboard by 30 or 60 degrees.
+const OWN: Edit = (
+    "max_speed = 500\n",
+    "max_speed = 500\n[own]\nmmsi = 369190000\ncourses = [0, 300, 600]\nspeeds = [0]\nlegs = 1\nleg_ticks = 30\ntail = 10\nbase = 300\nlengths = 0\nrange = 50000\n",
+);
+
+const ONE_TICK: Edit = ("ticks = 40", "ticks = 1");
+
+const PLAN: &[&str] = &["plan", "scenario.toml"];
+
+/// Own ship and a vessel that she meets head on, each with a report at now.
+const HEAD_ON_NOW: &[u8] = b"\\c:1700000000*5F\\!AIVDM,1,1,,A,15P5TL0P2l00001wwHt000000000,0*5C
+\\c:1700000000*5F\\!AIVDM,1,1,,A,177KQJ0P2lOwwtp00W4725`00000,0*31
+";
+
+const REPORTS: [Row; 11] = [
+    Row {
+        shows: "a log without its last line feed",
+        edits: &[ABOUT_SEATTLE],
+        log: &[b"!AIVDM,1,1,,B,177KQJ5000G?tO`K>RA1wUbN0TKH,0*5C"],
+        out: Written::All(REPORT),
+        ..NOTHING
+    },
+    Row {
+        shows: "an empty log",
+        out: Written::Ends(b"lines,empty,0,,,,\n", b"lines,point,0,,,,\n"),
+        ..NOTHING
+    },
+    Row {
+        shows: "parts of two keys, and times out of order",
+        log: &[PARTS_AND_TIMES],
+        out: Written::Ends(b"point,", PARTS_AND_TIMES_COUNTED),
+        ..NOTHING
+    },
+    // Each breaks the rule on nearly reciprocal courses, and they pass too near.
+    Row {
+        shows: "two vessels meet head on, and neither alters",
+        words: AUDIT,
+        log: &[HEAD_ON],
+        out: Written::Ends(HEAD_ON_AUDITED, b"lines,static,1,,,,\nlines,point,4,,,,\n"),
+        ..NOTHING
+    },
+    Row {
+        shows: "four ticks, by an option before the words",
+        words: &["--ticks", "4", "audit", "scenario.toml"],
+        log: &[HEAD_ON],
+        out: HEAD_ON_TO_TICK_FOUR,
+        ..NOTHING
+    },
+    Row {
+        shows: "four ticks, by an option between the words",
+        words: &["audit", "--ticks", "4", "scenario.toml"],
+        log: &[HEAD_ON],
+        out: HEAD_ON_TO_TICK_FOUR,
+        ..NOTHING
+    },
+    Row {
+        shows: "four ticks, by an option behind the words",
+        words: &["audit", "scenario.toml", "--ticks", "4"],
+        log: &[HEAD_ON],
+        out: HEAD_ON_TO_TICK_FOUR,
+        ..NOTHING
+    },
+    // A log that is given is not read: this one fails at the first read.
+    Row {
+        shows: "a drill of forty vessels",
+        words: &["drill", "scenario.toml"],
+        failing_read: Some(0),
+        out: Written::Ends(DRILLED, b"lines,static,0,,,,\nlines,point,280,,,,\n"),
+        ..NOTHING
+    },
+    // The first plan goes on as she does, and breaks the rule on nearly reciprocal courses.
+    Row {
+        shows: "own ship turns to starboard",
+        words: PLAN,
+        edits: &[ONE_TICK, OWN],
+        log: &[HEAD_ON_NOW],
+        out: Written::Ends(
+            b"vessel,369190000,,0,0,1,0
+vessel,477553000,,0,0,1,0
+plan,1,0,300,180,1,41
+lines,empty,0,,,,
+",
+            b"lines,point,2,,,,\n",
+        ),
+        ..NOTHING
+    },
+    // She may only go on, and that breaks the rule.
+    Row {
+        shows: "every plan fails",
+        words: PLAN,
+        edits: &[ONE_TICK, OWN, ("[0, 300, 600]", "[0]")],
+        log: &[HEAD_ON_NOW],
+        status: Status::NoManoeuvre,
+        number: 1,
+        out: Written::Ends(
+            b"vessel,369190000,,0,0,1,0
+vessel,477553000,,0,0,1,0
+none,1,,,,,
+lines,empty,0,,,,
+",
+            b"lines,point,2,,,,\n",
+        ),
+        ..NOTHING
+    },
+    // The first line is whole within the limit, and the second is not.
+    Row {
+        shows: "a log that is too long leaves the rows of its whole lines",
+        edits: &[
+            ABOUT_SEATTLE,
+            ("max_speed = 500\n", "max_speed = 500\nmax_bytes = 95\n"),
+        ],
+        log: &[LOG, LOG],
+        status: Status::Limit(colregs_program::Which::Log, 95),
+        number: 7,
+        out: Written::All(POINT),
+        err: b"limit: log 95\n",
+        ..NOTHING
+    },
+];
+
+#[test]
+fn each_mode_writes_the_report_that_was_worked_out(rt: HostRuntime) -> Result<(), Fail> {
+    for row in &REPORTS {
+        is_as_worked_out(&rt, rt.alloc(), row)?;
+    }
+    laws::each_line_has_one_outcome();
+    Ok(())
+}
+
+#[test]
+fn a_log_in_pieces_of_any_length(rt: HostRuntime) -> Result<(), Fail> {
+    let scenario = edited(rt.alloc(), &[ABOUT_SEATTLE])?;
+    for piece in [1, 7, 46, 4096] {
+        let devices = Devices { piece, ..SOUND };
+        let ended = ended(rt.alloc(), POINTS, scenario.as_str(), LOG, devices)?;
+        assert_eq!(rt; ended.status, Status::Done, "in pieces of {piece}");
+        assert_eq!(rt; ended.out.bytes(), REPORT, "in pieces of {piece}");
+        assert!(rt; ended.err.bytes().is_empty());
+    }
+    Ok(())
+}
+
+// Long enough that each of its lines, and the report, ask for memory more than once.
+#[test]
+fn a_log_of_three_hundred_lines(rt: HostRuntime) -> Result<(), Fail> {
+    let scenario = edited(rt.alloc(), &[ABOUT_SEATTLE])?;
+    let mut log = Vec::new(rt.alloc());
+    for _ in 0..300u32 {
+        log.extend_from_slice(LOG)?;
+    }
+    let devices = Devices {
+        piece: 1000,
+        ..SOUND
+    };
+    let ended = ended(
+        rt.alloc(),
+        POINTS,
+        scenario.as_str(),
+        log.as_slice(),
+        devices,
+    )?;
+    assert_eq!(rt; ended.status, Status::Done);
+    assert!(rt;
+        ended.out.bytes().ends_with(
+            b"lines,back,299,,,,\nlines,repeat,0,,,,\nlines,jump,0,,,,\nlines,static,0,,,,\nlines,point,1,,,,\n"
+        )
+    );
+    Ok(())
+}
+
+// The log of the migration fails at its first read, so it is not read; its options count for nothing.
+#[test]
+fn a_migrated_scenario_audits_the_head_on_log_alike(rt: HostRuntime) -> Result<(), Fail> {
+    let words = ["migrate", "scenario.toml", "--ticks", "7", "--seed=3"];
+    let devices = Devices {
+        failing_read: Some(0),
+        ..SOUND
+    };
+    let scenario = edited(rt.alloc(), &[])?;
+    let migrated = ended(rt.alloc(), &words, scenario.as_str(), b"", devices)?;
+    assert_eq!(rt; migrated.status, Status::Done);
+    let text = match std::str::from_utf8(migrated.out.bytes()) {
+        Ok(text) => text,
+        Err(_) => "",
+    };
+    assert!(rt; text.contains("ticks = 40\n"));
+    let again = ended(rt.alloc(), AUDIT, text, HEAD_ON, SOUND)?;
+    assert!(rt; again.out.bytes().starts_with(HEAD_ON_AUDITED));
+    Ok(())
+}

@@ -1,0 +1,100 @@
+//! A run of the program in memory. It stands alone, so that `run` is called in one place.
+ghost use Rattle.std.specs.Prelude.{IfOk};
+ghost use Rattle.outside.specs.Calls.{AreCallNumbers};
+
+use colregs_program::{Status, run};
+use outside::{MemorySink, MemorySource, PlainShelf, Source, Taken, Word};
+use scenario_rows::SCENARIO;
+use std::alloc::Global;
+use std::test::Fail;
+
+/// A part of the scenario, and what is put for it.
+pub(crate) type Edit = (&'static str, &'static str);
+
+/// How the log comes, and which call of each device fails, counted from 0.
+#[derive(Clone, Copy)]
+pub(crate) struct Devices {
+    /// The greatest number of bytes that a read gives.
+    pub(crate) piece: usize,
+    pub(crate) failing_read: Option<u32>,
+    pub(crate) failing_write: Option<u32>,
+    /// Of standard error.
+    pub(crate) failing_line: Option<u32>,
+}
+
+/// Devices of which none fails.
+pub(crate) const SOUND: Devices = Devices {
+    piece: 64,
+    failing_read: None,
+    failing_write: None,
+    failing_line: None,
+};
+
+/// What a run ended with, what it wrote, and what a read behind it gives.
+#[derive(Drop)]
+pub(crate) struct RunEnd {
+    pub(crate) status: Status,
+    pub(crate) out: MemorySink,
+    pub(crate) err: MemorySink,
+    pub(crate) next: Taken,
+}
+
+/// The numbers of the calls that fail, where this one is to.
+fn calls(alloc: Global, failing: Option<u32>) -> Result<Vec<u64>, Fail>
+    ensures { IfOk result (λ calls. AreCallNumbers calls.items) }
+{
+    match failing {
+        Some(call) => Ok(vec![in alloc; u64::from(call)]?),
+        None => Ok(Vec::new(alloc)),
+    }
+}
+
+fn words_of(alloc: Global, texts: &[&str]) -> Result<Vec<Word>, Fail> {
+    let mut words = Vec::new(alloc);
+    for text in texts {
+        words.push(Word::new(alloc, text)?)?;
+    }
+    Ok(words)
+}
+
+/// A shelf that holds this scenario under `scenario.toml`.
+fn shelf_of(alloc: Global, scenario: &str) -> Result<PlainShelf, Fail> {
+    let name = Word::new(alloc, "scenario.toml")?;
+    let file = (name, scenario.as_bytes().to_vec(alloc)?);
+    Ok(PlainShelf::new(vec![in alloc; file]?))
+}
+
+/// Runs the program with these words, where this scenario lies under `scenario.toml`, on a log.
+pub(crate) fn ended(
+    alloc: Global,
+    texts: &[&str],
+    scenario: &str,
+    log: &[u8],
+    devices: Devices,
+) -> Result<RunEnd, Fail> {
+    let words = words_of(alloc, texts)?;
+    let mut shelf = shelf_of(alloc, scenario)?;
+    let reads = calls(alloc, devices.failing_read)?;
+    let mut source = MemorySource::new(log.to_vec(alloc)?, devices.piece.max(1), reads);
+    let mut out = MemorySink::new(alloc, 100, calls(alloc, devices.failing_write)?);
+    let mut err = MemorySink::new(alloc, 100, calls(alloc, devices.failing_line)?);
+    let words = words.as_slice();
+    let status = run(alloc, words, &mut shelf, &mut source, &mut out, &mut err);
+    let mut room = [0u8; 100];
+    let next = source.read(&mut room);
+    Ok(RunEnd {
+        status,
+        out,
+        err,
+        next,
+    })
+}
+
+/// The scenario of the worked rows, where these parts are replaced.
+pub(crate) fn edited(alloc: Global, edits: &[Edit]) -> Result<String, Fail> {
+    let mut text = SCENARIO.to_owned(alloc)?;
+    for (old, new) in edits {
+        text = text.as_str().replace(alloc, old, new)?;
+    }
+    Ok(text)
+}

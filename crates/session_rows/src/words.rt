@@ -1,0 +1,189 @@
+//! Words that are accepted and words that are not, as a user writes them.
+use command_line::{Mode, Options, Request, Told, WordsFault, request_of, told_text, told_word};
+use outside::{Memory, Word};
+use std::alloc::{AllocError, Global};
+use std::process::Abort;
+
+fn words(alloc: Global, texts: &[&str]) -> Result<Vec<Word>, Memory> {
+    let mut words = Vec::new(alloc);
+    for text in texts {
+        words.push(Word::new(alloc, text)?)?;
+    }
+    Ok(words)
+}
+
+fn asked(alloc: Global, texts: &[&str]) -> Result<Request, WordsFault> {
+    match words(alloc, texts) {
+        Ok(words) => request_of(alloc, words.as_slice()),
+        Err(Memory) => Err(WordsFault::Memory),
+    }
+}
+
+const BARE: Options = Options {
+    start: None,
+    ticks: None,
+    seed: 1,
+};
+
+/// Words, and what they ask for: a mode, the name of a scenario, and options.
+type Asked = (&'static [&'static str], Mode, &'static str, Options);
+
+/// Whether the words of each row ask for what stands behind them.
+fn are_asked(rt: &impl Abort, alloc: Global, rows: &[Asked]) {
+    for (texts, mode, name, options) in rows {
+        match asked(alloc, texts) {
+            Ok(request) => {
+                assert_eq!(rt; request.mode, *mode);
+                assert_eq!(rt; request.name.text(), *name);
+                assert_eq!(rt; request.options, *options);
+            }
+            Err(_) => assert!(rt; false, "{name}"),
+        }
+    }
+}
+
+/// Whether the words of each row ask for nothing.
+fn are_usage(rt: &impl Abort, alloc: Global, rows: &[&'static [&'static str]]) {
+    for texts in rows {
+        assert!(rt; matches!(asked(alloc, texts), Err(WordsFault::Usage)));
+    }
+}
+
+const OF_EVERY_MODE: [Asked; 6] = [
+    (&["points", "a.toml"], Mode::Points, "a.toml", BARE),
+    (&["audit", "a.toml"], Mode::Audit, "a.toml", BARE),
+    (&["plan", "a.toml"], Mode::Plan, "a.toml", BARE),
+    (&["drill", "a.toml"], Mode::Drill, "a.toml", BARE),
+    (&["migrate", "a.toml"], Mode::Migrate, "a.toml", BARE),
+    (&["audit", ""], Mode::Audit, "", BARE),
+];
+
+#[test]
+fn two_words_of_every_mode(rt: HostRuntime) {
+    are_asked(&rt, rt.alloc(), &OF_EVERY_MODE);
+}
+
+const FOUR: Options = Options {
+    start: None,
+    ticks: Some(4),
+    seed: 1,
+};
+
+const ALL: Options = Options {
+    start: Some(9_999_999_999),
+    ticks: Some(20_000),
+    seed: 0,
+};
+
+#[rattlefmt::skip]
+const WITH_OPTIONS: [Asked; 6] = [
+    (&["audit", "a", "--ticks", "4"], Mode::Audit, "a", FOUR),
+    (&["--ticks", "4", "audit", "a"], Mode::Audit, "a", FOUR),
+    (&["audit", "--ticks=4", "a"], Mode::Audit, "a", FOUR),
+    (&["audit", "--ticks", "4", "--", "a"], Mode::Audit, "a", FOUR),
+    (&["audit", "--", "--ticks"], Mode::Audit, "--ticks", BARE),
+    (&["--seed", "0", "drill", "--start=9999999999", "a", "--ticks", "20000"], Mode::Drill, "a", ALL),
+];
+
+#[test]
+fn options_stand_anywhere(rt: HostRuntime) {
+    are_asked(&rt, rt.alloc(), &WITH_OPTIONS);
+}
+
+#[rattlefmt::skip]
+const NO_NUMBERS: [&[&str]; 13] = [
+    &["audit", "a", "--ticks", "0"],
+    &["audit", "a", "--ticks", "20001"],
+    &["audit", "a", "--ticks", "x"],
+    &["audit", "a", "--ticks", ""],
+    &["audit", "a", "--ticks", "+4"],
+    &["audit", "a", "--ticks", "04"],
+    &["audit", "a", "--ticks", "-4"],
+    &["audit", "a", "--ticks", "4 "],
+    &["audit", "a", "--ticks", "18446744073709551617"],
+    &["audit", "a", "--start=x"],
+    &["audit", "a", "--start", "10000000000"],
+    &["audit", "a", "--seed=1000000"],
+    &["audit", "a", "--seed", "00"],
+];
+
+#[test]
+fn numbers_out_of_form_or_range(rt: HostRuntime) {
+    are_usage(&rt, rt.alloc(), &NO_NUMBERS);
+}
+
+#[rattlefmt::skip]
+const NO_COMMAND_LINES: [&[&str]; 11] = [
+    &[],
+    &["audit"],
+    &["fly", "a"],
+    &["Audit", "a"],
+    &["audit", "a", "b"],
+    &["audit", "-a"],
+    &["audit", "a", "--tick", "4"],
+    &["audit", "a", "--ticks"],
+    &["audit", "a", "--ticks", "4", "--ticks", "4"],
+    &["audit", "a", "--", "--ticks", "4"],
+    &["audit", "a", "--help"],
+];
+
+#[test]
+fn words_that_are_no_command_line(rt: HostRuntime) {
+    are_usage(&rt, rt.alloc(), &NO_COMMAND_LINES);
+}
+
+fn told(alloc: Global, texts: &[&str]) -> Result<Option<Told>, Memory> {
+    let words = words(alloc, texts)?;
+    Ok(told_word(words.as_slice()))
+}
+
+/// Words, and what they ask the program to tell of itself.
+const TOLD: [(&[&str], Option<Told>); 7] = [
+    (&["--help"], Some(Told::Help)),
+    (&["-h"], Some(Told::Summary)),
+    (&["--version"], Some(Told::Version)),
+    (&["-V"], Some(Told::Version)),
+    (&["audit"], None),
+    (&["audit", "--help"], None),
+    (&[], None),
+];
+
+#[test]
+fn a_single_word_is_told(rt: HostRuntime) -> Result<(), Memory> {
+    for (texts, expected) in TOLD {
+        assert_eq!(rt; told(rt.alloc(), texts)?, expected);
+    }
+    Ok(())
+}
+
+fn holds(text: &Result<String, Memory>, part: &str) -> bool {
+    match text {
+        Ok(text) => text.as_str().contains(part),
+        Err(_) => false,
+    }
+}
+
+/// What stands in the texts that the program tells of itself.
+#[rattlefmt::skip]
+const PARTS: [(Told, &str); 13] = [
+    (Told::Help, "- points: "),
+    (Told::Help, "- audit:  "),
+    (Told::Help, "- plan:   "),
+    (Told::Help, "- drill:  "),
+    (Told::Help, "- migrate:"),
+    (Told::Help, "0 to 9999999999"),
+    (Told::Help, "1 to 20000"),
+    (Told::Help, "0 to 999999"),
+    (Told::Help, "[default: 1]"),
+    (Told::Help, "  2  the words are no command line\n"),
+    (Told::Help, "colregs audit scenario.toml --ticks 60 < log.nmea\n"),
+    (Told::Summary, "Usage: colregs [OPTIONS] <MODE> <SCENARIO>\n"),
+    (Told::Version, "colregs 0.1.0\n"),
+];
+
+#[test]
+fn help_names_modes_options_statuses_and_an_example(rt: HostRuntime) {
+    for (word, part) in PARTS {
+        assert!(rt; holds(&told_text(rt.alloc(), word), part), "{part}");
+    }
+}
