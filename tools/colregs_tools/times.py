@@ -1,6 +1,6 @@
 """The chart of times: for each ordered pair its meetings, and the steps at which a rule was broken or open."""
-from rules import INK, clock, colour, date, meaning, nice
-from svg import Picture, width_of
+from .rules import INK, clock, colour, date, meaning, nice
+from .svg import Picture, width_of
 
 LEFT, WIDE, HEAD, ROW = 240, 640, 92, 18
 

@@ -2,8 +2,8 @@
 import math
 import sys
 
-from rules import INK, clock, colour, date, meaning, nice
-from svg import Labels, Picture
+from .rules import INK, clock, colour, date, meaning, nice
+from .svg import Labels, Picture
 
 TRACK, QUIET = "#3c4650", "#a9b2ba"
 

@@ -1,9 +1,9 @@
 """The picture of a plan: the tracks up to now, own ship's planned legs, and the domains of the others along their predicted motion."""
 import math
 
-from reports import Case, along, least_part, rows, whole
-from rules import INK, clock, date
-from tracks import Chart, draw_frame, draw_head, draw_scale, seen_parts, QUIET, TRACK
+from .reports import Case, along, least_part, rows, whole
+from .rules import INK, clock, date
+from .tracks import Chart, draw_frame, draw_head, draw_scale, seen_parts, QUIET, TRACK
 
 KNOT = 1852 / 36000     # metres a second of 1/10 knot
 LEGS = ["#0072b2", "#009e73"]
