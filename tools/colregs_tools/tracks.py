@@ -1,6 +1,6 @@
 """The picture of the tracks: the plane of the scenario, north up."""
+import itertools
 import math
-import sys
 
 from .rules import INK, clock, colour, date, meaning, nice
 from .svg import Labels, Picture
@@ -11,7 +11,7 @@ TRACK, QUIET = "#3c4650", "#a9b2ba"
 def seen_parts(places):
     """The runs of ticks at which a vessel is seen."""
     part = []
-    for place in places + [None]:
+    for place in itertools.chain(places, [None]):
         if place is not None:
             part.append(place)
         elif part:
@@ -94,12 +94,12 @@ def draw_scale(chart):
         chart.picture.line((at, y - 4), (at, y + 4), INK, 1.5)
     words = "%g km" % (length / 1000) if length >= 1000 else "%d m" % length
     chart.picture.words((x + end) / 2, y - 7, words, 11, anchor="middle")
-    chart.labels.boxes.append((x - 6, y - 22, end + 6, y + 8))
+    chart.labels.keep_box((x - 6, y - 22, end + 6, y + 8))
     x, y = chart.right - 22, chart.top + 16
     chart.picture.words(x, y + 3, "N", 12, anchor="middle", weight="bold")
     chart.picture.path([(x, y + 36), (x, y + 8)], INK, 1.5)
     chart.picture.add("path", d="M%d %d l-4 9 h8 z" % (x, y + 7), fill=INK)
-    chart.labels.boxes.append((x - 10, y - 10, x + 10, y + 40))
+    chart.labels.keep_box((x - 10, y - 10, x + 10, y + 40))
 
 
 def draw_tracks(chart):
