@@ -1,5 +1,7 @@
 """The rules with their colours and a few words each, and how times and lengths are told."""
+import datetime
 import math
+import re
 import time
 
 RULES = {
@@ -32,6 +34,24 @@ def clock(seconds):
 
 def date(seconds):
     return time.strftime("%d %B %Y", time.gmtime(seconds)).lstrip("0")
+
+
+def moment(words, start):
+    """The seconds since the Unix epoch that words of UTC tell: 1700000000, 2023-11-14T22:13:20Z, or a clock's 22:13 or 22:13:20 on the
+    first such moment from a day's start on."""
+    if re.fullmatch(r"\d{9,10}", words):
+        return int(words)
+    found = re.fullmatch(r"(\d\d):(\d\d)(?::(\d\d))?", words)
+    if found:
+        hours, minutes, seconds = (int(part or 0) for part in found.groups())
+        if hours < 24 and minutes < 60 and seconds < 60:
+            at = start - start % 86400 + hours * 3600 + minutes * 60 + seconds
+            return at if at >= start - start % 60 else at + 86400
+    try:
+        told = datetime.datetime.fromisoformat(words)
+    except ValueError:
+        raise ValueError("`%s` is no time: write 22:13:20, 2023-11-14T22:13:20Z or 1700000000" % words) from None
+    return int((told if told.tzinfo else told.replace(tzinfo=datetime.timezone.utc)).timestamp())
 
 
 def nice(value):

@@ -27,10 +27,11 @@ def thinned(points, most=0.35):
     while parts:
         first, last = parts.pop()
         (x, y), (u, v) = points[first], points[last]
-        size, far, at = math.hypot(u - x, v - y), most, None
+        square, far, at = (u - x) ** 2 + (v - y) ** 2 or 1, most, None
         for k in range(first + 1, last):
             a, b = points[k]
-            off = abs((u - x) * (b - y) - (v - y) * (a - x)) / size if size > most else math.hypot(a - x, b - y)
+            part = min(1, max(0, ((a - x) * (u - x) + (b - y) * (v - y)) / square))
+            off = math.hypot(x + (u - x) * part - a, y + (v - y) * part - b)
             if off > far:
                 far, at = off, k
         if at is not None:
