@@ -106,27 +106,6 @@ class Track:
         self.times, self.xs, self.ys = array("q"), array("d"), array("d")
         self.speeds, self.courses = array("h"), array("h")
 
-    def take(self, time, x, y, speed, course):
-        self.times.append(time)
-        self.xs.append(x / 10000)
-        self.ys.append(y / 10000)
-        self.speeds.append(int(speed) if speed else NONE)
-        self.courses.append(int(course) if course else NONE)
-
-    def at(self, seconds, gap, before=None):
-        """Her place where a leg holds the time, else nothing: legs are no longer than the gap."""
-        times = self.times
-        k = bisect.bisect_right(times, seconds) - 1 if before is None else before
-        if k < 0:
-            return None
-        first, following = times[k], k + 1 < len(times) and times[k + 1] - times[k] <= gap
-        if first == seconds and (following or k > 0 and first - times[k - 1] <= gap):
-            return self.xs[k], self.ys[k]
-        if not following or first == seconds:
-            return None
-        part = (seconds - first) / (times[k + 1] - first)
-        return self.xs[k] + (self.xs[k + 1] - self.xs[k]) * part, self.ys[k] + (self.ys[k + 1] - self.ys[k]) * part
-
     def between(self, first, last):
         """The numbers of the reports from the last one at or before a time on to the first one at or behind another."""
         begin = max(0, bisect.bisect_right(self.times, first) - 1)
@@ -138,15 +117,11 @@ class Places:
 
     def __init__(self, track, gap, tick, steps):
         self.xs, self.ys = array("d", [math.nan]) * (steps + 1), array("d", [math.nan]) * (steps + 1)
-        k, times = 0, track.times
-        begin = max(0, -(-times[0] // tick)) if times else steps + 1
-        for step in range(begin, min(steps, times[-1] // tick if times else 0) + 1):
-            at = step * tick
-            while k + 1 < len(times) and times[k + 1] <= at:
-                k += 1
-            place = track.at(at, gap, k)
-            if place:
-                self.xs[step], self.ys[step] = place
+        for first, last, x, u, y, v in zip(track.times, track.times[1:], track.xs, track.xs[1:], track.ys, track.ys[1:]):
+            if 0 < last - first <= gap:
+                for step in range(max(0, -(-first // tick)), min(steps, last // tick) + 1):
+                    part = (step * tick - first) / (last - first)
+                    self.xs[step], self.ys[step] = x + (u - x) * part, y + (v - y) * part
 
     def __len__(self):
         return len(self.xs)
@@ -204,7 +179,11 @@ class Case:
                 track = self.tracks.get(mmsi)
                 if track is None:
                     track = self.tracks[mmsi] = Track()
-                track.take(int(time) - self.start, int(x), int(y), speed, course)
+                track.times.append(int(time) - self.start)
+                track.xs.append(int(x) / 10000)
+                track.ys.append(int(y) / 10000)
+                track.speeds.append(int(speed) if speed else NONE)
+                track.courses.append(int(course) if course else NONE)
         except (ValueError, OverflowError):
             raise Fault("the points: `%s` is no row of a report" % line[:80]) from None
         for number, row in others:
@@ -276,8 +255,8 @@ class Case:
         """Whether the two are seen at the meeting's steps, and as near as the report says."""
         if not self.tracks:
             return True
-        ticks = range(meeting["first"], meeting["last"] + 2)
-        if any(self.places[mmsi][tick] is None for mmsi in meeting["pair"] for tick in ticks):
+        ticks = slice(meeting["first"], meeting["last"] + 2)
+        if any(x != x for mmsi in meeting["pair"] for x in self.places[mmsi].xs[ticks]):
             return False
         _, one, two = self.nearest(meeting)
         return abs(math.dist(one, two) - meeting["least"]) <= NEAR
@@ -296,16 +275,15 @@ class Case:
 
     def nearest(self, meeting):
         """The moment of least distance in a meeting, in seconds after the start, and both places there; straight between ticks."""
-        best = None
-        ends = [[self.places[mmsi][step] for step in range(meeting["first"], meeting["last"] + 2)] for mmsi in meeting["pair"]]
-        for k in range(len(ends[0]) - 1):
-            (a, b), (c, d) = ends[0][k:k + 2], ends[1][k:k + 2]
-            part = least_part((c[0] - a[0], c[1] - a[1]), (d[0] - b[0], d[1] - b[1]))
-            one, two = along(a, b, part), along(c, d, part)
-            far = math.dist(one, two)
-            if best is None or far < best[0]:
-                best = far, (meeting["first"] + k + part) * self.tick, one, two
-        return best[1:]
+        first, steps = meeting["first"], meeting["last"] + 1 - meeting["first"]
+        one, two = (self.places[mmsi] for mmsi in meeting["pair"])
+        behind = slice(first, first + steps + 1)
+        p = list(zip((u - x for x, u in zip(one.xs[behind], two.xs[behind])), (v - y for y, v in zip(one.ys[behind], two.ys[behind]))))
+        parts = [least_part(a, b) for a, b in zip(p, p[1:])]
+        fars = [math.hypot(*along(a, b, part)) for a, b, part in zip(p, p[1:], parts)]
+        k = fars.index(min(fars))
+        step, part = first + k, parts[k]
+        return (step + part) * self.tick, *(along(places[step], places[step + 1], part) for places in (one, two))
 
     def narrow(self, pair=None, begin=None, end=None):
         """Keeps two vessels alone, and the steps between two moments, in seconds since the Unix epoch."""
