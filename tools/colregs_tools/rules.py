@@ -17,6 +17,35 @@ RULES = {
     "r17b": ("#b2182b", "Rule 17(b): acts in extremis"),
     "r17c": ("#01665e", "Rule 17(c): does not alter to port"),
 }
+DUTIES = {
+    "r8b": "Rule 8(b): an alteration of course or speed is large enough to be readily apparent to the other vessel",
+    "r8d": "Rule 8(d): action to avoid collision results in passing at a safe distance",
+    "r13": "Rule 13(a): a vessel that overtakes another keeps out of her way",
+    "r14a": "Rule 14(a): two vessels that meet head-on each alter course to starboard",
+    "r14b": "Rule 14(a): two vessels that meet head-on do not alter course to port",
+    "r14p": "Rule 14(a): two vessels that meet head-on pass on each other's port side",
+    "r15": "Rule 15: the vessel that gives way in a crossing does not cross ahead of the other",
+    "r16": "Rule 16: the vessel that gives way takes early and substantial action to keep well clear",
+    "r17a": "Rule 17(a): the vessel that stands on keeps her course and speed, until she may act",
+    "r17b": "Rule 17(b): the vessel that stands on acts when the other alone can no longer avoid collision",
+    "r17c": "Rule 17(c): in a crossing, the vessel that stands on does not alter to port for one on her own port side",
+}
+ENCOUNTERS = {
+    "overtaking": "overtakes", "overtaken": "is overtaken", "head_on": "meets head-on", "crossing_gives": "crosses, gives way",
+    "crossing_stands": "crosses, stands on", "passing": "passes", "unclassified": "is not classed",
+}
+OUTCOMES = {
+    "empty": "no byte", "long": "more than 1024 bytes", "tag": "a tag block of another form, or with another sum",
+    "other": "no sentence of AIS", "form": "a sentence of another form", "sum": "a sentence whose sum is wrong: damaged on the way",
+    "armour": "a byte that no payload has", "outside": "a time outside the window",
+    "late": "a time that lies further than log.slack behind the latest: lines out of order",
+    "part": "a part of a message that goes on in a later line", "orphan": "a part of a message whose beginning is missing",
+    "short": "fewer bits than the message needs", "kind": "a message of a type that is not looked at, such as that of a base station",
+    "notship": "sent under an MMSI that is no ship's", "nopos": "a report without a place",
+    "far": "a place too far from the scenario's reference", "back": "a report that is not later than the one before of this vessel",
+    "repeat": "the same report again, within 30 s", "jump": "a report that asks for more than log.max_speed: a wrong place, or a shared MMSI",
+    "static": "what a ship tells of herself: name, type, size", "point": "an accepted report: a point of a track",
+}
 INK = "#222222"
 
 
@@ -26,6 +55,11 @@ def colour(rule):
 
 def meaning(rule):
     return RULES.get(rule, ("", "a formula of the scenario"))[1]
+
+
+def duty(rule):
+    """What a rule asks, in words."""
+    return DUTIES.get(rule, "a formula of the scenario")
 
 
 def clock(seconds):
