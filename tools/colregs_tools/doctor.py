@@ -1,0 +1,208 @@
+"""Looks for what is amiss with a scenario, a log and a report, and says it: `findings`. It judges no meeting anew; it counts rows of the program."""
+import collections
+import csv
+import io
+import time
+import tomllib
+
+from . import log_checks, scenario_checks
+from .packing import Fault
+from .program import Run
+from .scenario_checks import Finding, numbers_at
+from .scenarios import place, sampled
+
+REFUSED = {3: "the first key with a fault is told; docs/SCENARIO.md has its range", 4: "is its name right, and may it be read",
+           7: "docs/ROWS.md says what to do at a limit", 9: "own ship must be in the log before the window's end, with course and speed"}
+WORDS = ("points", "audit", "plan")
+STILL = 5                               # 1/10 knot: who never makes this lies still
+
+
+def clock(seconds):
+    return time.strftime("%Y-%m-%d %H:%M:%S", time.gmtime(seconds))
+
+
+def mode_of(report):
+    """The mode that wrote a report, by its rows; nothing where it has none that tells."""
+    kinds = {line.split(b",", 1)[0] for line in report.split(b"\n")}
+    if kinds & {b"plan", b"none"}:
+        return "plan"
+    return "audit" if kinds & {b"total", b"vessel"} else "points" if b"lines" in kinds else None
+
+
+class Patient:
+    """A scenario's values, a log, a report, and what the program writes of them."""
+
+    def __init__(self, scenario, log, report, program):
+        self.scenario, self.log, self.program = scenario, log, program
+        self.values = read_scenario(scenario)
+        self.report = None if report is None else read_whole(report)
+        self.audit, self.points = (Run(program, mode, scenario, log) for mode in ("audit", "points"))
+        self.counts = self.audit.counts() if self.audit.status == 0 else {}
+        self.ships, self.times, _, _, self.speeds, self.courses = self.points.columns() if self.points.status == 0 else [[]] * 6
+        self.vessels = {int(fields[1]): fields for fields in self.rows("vessel")}
+        self.sentences = sum(self.counts.values()) - sum(self.counts.get(name, 0) for name in ("empty", "long", "tag", "other", "form", "sum", "armour"))
+
+    def rows(self, kind):
+        text = self.audit.text.decode("utf-8", "replace")
+        return [fields for fields in csv.reader(io.StringIO(text)) if fields and fields[0] == kind]
+
+    def window(self):
+        start, tick, ticks = (numbers_at(self.values, "window." + word)[0] for word in ("start", "tick", "ticks"))
+        return start, start + tick * ticks
+
+
+def read_whole(path):
+    try:
+        with open(path, "rb") as source:
+            return source.read()
+    except OSError as error:
+        raise Fault("%s cannot be read: %s" % (path, (error.strerror or str(error)).lower())) from None
+
+
+def read_scenario(path):
+    """The values of a scenario; none where it is no TOML, which the program tells."""
+    try:
+        return tomllib.loads(read_whole(path).decode("utf-8", "replace"))
+    except tomllib.TOMLDecodeError:
+        return {}
+
+
+def refused(patient):
+    run = patient.audit if patient.audit.status else patient.points
+    if run.status:
+        yield Finding("refused run", "the program ends with status %d, %s: %s" % (run.status, run.words, REFUSED.get(run.status, "docs/ROWS.md has the status")))
+
+
+def other_report(patient):
+    if patient.report is None or patient.audit.status:
+        return
+    mode = mode_of(patient.report)
+    if mode is None:
+        yield Finding("no whole report", "the report has no rows `lines`, with which each report ends")
+        return
+    fresh = {"audit": patient.audit, "points": patient.points}.get(mode) or Run(patient.program, mode, patient.scenario, patient.log)
+    if fresh.status not in (0, 1):
+        yield Finding("refused run", "the program ends `%s` with status %d, %s: %s" % (mode, fresh.status, fresh.words, REFUSED.get(fresh.status, "")))
+    elif fresh.text != patient.report:
+        yield Finding("report of something else", "`%s` with this scenario and log writes another report: was it cut off, or had it other values, "
+                      "`--start`, `--ticks` or another log" % mode)
+
+
+def no_times(patient):
+    any_line, told, looked = log_checks.times_of(patient.log)
+    if any_line and not told:
+        yield Finding("no times", "no tag block tells a time: of each vessel the first report alone counts. tools/tagged gives times")
+    elif any_line and patient.counts.get("point", 0) and 2 * patient.counts.get("back", 0) > patient.sentences:
+        yield Finding("no times", "%d of %d sentences bring a report that is no later than the one before: few lines have a time of their own" % (
+            patient.counts["back"], patient.sentences))
+
+
+def window_misses(patient):
+    _, told, _ = log_checks.times_of(patient.log)
+    if not told or not patient.counts:
+        return
+    first, last = patient.window()
+    begin, end = (min(told), max(told)) if not patient.times else (min([*told, *patient.times]), max([*told, *patient.times]))
+    held = min(last, end) - max(first, begin)
+    if 2 * max(held, 0) < last - first and last - first > 1:
+        hint = ""
+        hours = round((begin - first) / 3600)
+        if hours and abs(begin - first - 3600 * hours) < 300 and abs(hours) <= 14:
+            hint = ". They lie %d whole hours apart: is one of them in local time" % abs(hours)
+        yield Finding("window misses the log", "the window is from %s to %s UTC, and the log from %s to %s%s" % (
+            clock(first), clock(last), clock(begin), clock(end), hint))
+
+
+def region_misses(patient):
+    far, near = patient.counts.get("far", 0), patient.counts.get("point", 0)
+    if far <= near:
+        return
+    places = [told for told in map(place, sampled(patient.log)) if told]
+    latitude, longitude = (sorted(told[k] for told in places)[len(places) // 2] if places else 0 for k in (0, 1))
+    reference = [numbers_at(patient.values, "reference." + word)[0] for word in ("lat", "lon")]
+    hint = ""
+    if close(reference, (longitude, latitude)):
+        hint = ". Latitude and longitude look exchanged"
+    elif any(close(reference, (one * latitude, two * longitude)) for one, two in ((-1, 1), (1, -1), (-1, -1))):
+        hint = ". South and west are below nought"
+    yield Finding("region misses the log", "%d reports lie too far from the reference %d, %d; most lie about %d, %d%s" % (
+        far, *reference, latitude, longitude, hint))
+
+
+def close(one, two):
+    return all(abs(a - b) <= 1200000 for a, b in zip(one, two))
+
+
+def unsorted(patient):
+    late = patient.counts.get("late", 0)
+    if 100 * late > patient.sentences:
+        yield Finding("unsorted lines", "%d of %d sentences come later than `log.slack` behind others: tools/tagged sorts them" % (late, patient.sentences))
+
+
+def damaged(patient):
+    """Lines that are lost in numbers that no good log has."""
+    lines = sum(patient.counts.values())
+    for names, part, name, words in (
+            (("form", "sum", "armour"), 10, "damaged sentences", "a receiver, or what copied the log, damages sentences"),
+            (("tag",), 100, "damaged tag blocks", "they have another sum or form, and their lines are lost"),
+            (("nopos",), 2, "reports without a place", "their receivers have none")):
+        count = sum(patient.counts.get(name, 0) for name in names)
+        if part * count > lines:
+            yield Finding(name, "%d of %d lines: %s" % (count, lines, words))
+    if patient.counts.get("orphan", 0) > patient.counts.get("part", 0):
+        yield Finding("parts without their messages", "%d parts of messages lack the parts before them: were lines taken out" % patient.counts["orphan"])
+
+
+def absent(patient):
+    """Subjects and own ship that the log does not have."""
+    if patient.audit.status or not patient.vessels:
+        return
+    for name in ("subjects", "own.mmsi"):
+        for mmsi in numbers_at(patient.values, name):
+            if 200000000 <= mmsi <= 799999999 and mmsi not in patient.ships:
+                yield Finding("subject not in the log", "`%s` has %d, of whom the log has no report in the window" % (name, mmsi))
+
+
+def unseen(patient):
+    """Vessels with reports that no legs join, tracks that tell nothing, and a window in which nobody is watched."""
+    points, legs = (sum(int(fields[k]) for fields in patient.vessels.values()) for k in (5, 6))
+    if patient.vessels and points > 3 * len(patient.vessels) and 2 * legs < points - len(patient.vessels):
+        yield Finding("gap shorter than reports are apart", "%d of %d reports follow the one before by more than `log.gap`: such vessels are not seen" % (
+            points - len(patient.vessels) - legs, points - len(patient.vessels)))
+    if patient.speeds and 2 * sum(not speed or not course for speed, course in zip(patient.speeds, patient.courses)) > len(patient.speeds):
+        yield Finding("no course or no speed", "most reports tell no course or no speed: rules that need them stay open")
+    totals = patient.rows("total")
+    if len(patient.vessels) > 1 and totals and all(fields[2] == "0" for fields in totals) and legs:
+        yield Finding("nobody is watched", "no two vessels come within `detect.watch = %s` m of each other in the window" % (
+            numbers_at(patient.values, "detect.watch") or [""])[0])
+
+
+def senders(patient):
+    found = log_checks.Senders(patient.log)
+    yield from found.shared()
+    yield from found.no_ships({mmsi: fields[2] for mmsi, fields in patient.vessels.items() if mmsi in set(patient.ships)})
+
+
+def at_rest(patient):
+    """Verdicts of subjects that never make half a knot."""
+    fastest = {}
+    for mmsi, speed in zip(patient.ships, patient.speeds):
+        if speed:
+            fastest[mmsi] = max(fastest.get(mmsi, 0), int(speed))
+    still = collections.Counter(int(fields[1]) for fields in patient.rows("verdict") if fastest.get(int(fields[1]), STILL) < STILL)
+    for mmsi, count in sorted(still.items()):
+        yield Finding("verdicts at rest", "%d never makes 0.5 knots, and has %d of the verdicts" % (mmsi, count))
+
+
+CHECKS = (refused, other_report, no_times, window_misses, region_misses, unsorted, damaged, absent, unseen, senders, at_rest)
+
+
+def findings(scenario, log, report, program):
+    """What is amiss, each with a name and words. The report may be None."""
+    patient = Patient(scenario, log, report, program)
+    found = list(scenario_checks.findings(patient.values))
+    form = list(log_checks.form_of(log))
+    found += form
+    for check in CHECKS if not form else (refused, other_report):
+        found += check(patient)
+    return found
