@@ -12,15 +12,13 @@ import subprocess
 import tomllib
 from array import array
 
+from .packing import Fault
+
 FIELDS = 7
 OUTCOMES = 21           # a whole report counts the lines by as many outcomes
 NEAR = 0.5              # metres by which a least distance that is reckoned here may differ from the report's
 KINDS = ("point", "meeting", "verdict", "vessel", "total", "plan", "none", "lines")
 NONE = -1               # stands for a speed or a course that a report does not tell
-
-
-class Fault(Exception):
-    """Why a report, a scenario or a case cannot be used, in words for the user."""
 
 
 def run(program, mode, scenario, log, good=(0,), options=()):
