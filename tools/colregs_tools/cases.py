@@ -121,7 +121,11 @@ class Making:
     def commands(self):
         """How to make the reports again in the folder of the case."""
         words = "".join(" " + word for word in self.options)
-        made = ["colregs-case %s -o CASE" % " ".join(shlex.quote(os.path.basename(name)) for name in self.given.logs)]
+        given = [os.path.basename(name) for name in self.given.logs]
+        for name in ("scenario", "start", "ticks", "mmsi", "chart"):
+            value = getattr(self.given, name)
+            given += [] if value is None else ["--" + name, os.path.basename(str(value))]
+        made = ["colregs-case %s -o CASE" % shlex.join(given)]
         return made + ["colregs %s %s%s < %s > %s" % (mode, SCENARIO, words, LOG, name) for mode, name in (("points", POINTS), ("audit", REPORT))]
 
     def files(self, names):

@@ -6,11 +6,21 @@ from . import rest
 from .earth import iso
 from .rules import OUTCOMES
 
+FEW = 4                                 # findings of one name that are told
 USED = ("point", "static", "part")      # the outcomes of lines that tell something
 
 
 def count(number, one, many=None):
     return "%s %s" % ("no" if number == 0 else format(number, ","), one if number == 1 else many or one + "s")
+
+
+def lengths(metres):
+    """In metres and nautical miles."""
+    return "%s m (%s nautical miles)" % (format(metres, ".1f" if metres < 10 else ",.0f"), format(metres / 1852, ".3f" if metres < 185 else ".2f"))
+
+
+def capital(words):
+    return words[:1].upper() + words[1:]
 
 
 def plain(moment):
@@ -44,20 +54,20 @@ def nearest_words(case, met):
     near = min(moving, key=lambda row: row["least"])
     seconds = case.nearest(near)[0]
     kind = "of those under way" if not near["rest"] else "though one of the two lies still"
-    return "The nearest, %s: %s and %s, %.0f m (%.2f nautical miles) at %s UTC." % (
-        kind, case.name(near["pair"][0]), case.name(near["pair"][1]), near["least"], near["least"] / 1852, plain(round(case.start + seconds)))
+    return "The nearest, %s: %s and %s, %s at %s UTC." % (
+        kind, case.name(near["pair"][0]), case.name(near["pair"][1]), lengths(near["least"]), plain(round(case.start + seconds)))
 
 
 def meeting_words(case):
     met = unordered(case.meetings)
     broken, open_ = ([row for row in case.verdicts if row["value"] == value] for value in ("broken", "open"))
     yield "%s had positions between %s and %s UTC, which is the window that was audited." % (
-        count(len(case.tracks), "vessel").capitalize(), plain(case.start), plain(case.moment(case.steps)))
+        count(len(case.tracks), "vessel"), plain(case.start), plain(case.moment(case.steps)))
     if not met:
         yield "No two vessels met: none came so near, with risk of collision, as the scenario asks."
         return
     yield "%s of two vessels; rules broken in %s, and undecided in %s." % (
-        count(len(met), "meeting").capitalize(), count(len(broken), "stretch", "stretches"), count(len(open_), "stretch", "stretches"))
+        count(len(met), "meeting"), count(len(broken), "stretch", "stretches"), count(len(open_), "stretch", "stretches"))
     yield nearest_words(case, met)
 
 
@@ -67,9 +77,14 @@ def summary(case, gathered):
 
 def doubts(case, gathered, findings):
     """What is doubtful, most of it by the doctor's words."""
-    found = ["%s: %s" % (finding.name.capitalize(), finding.words) for finding in findings if finding.name != "verdicts at rest"]
-    if len(found) > 40:
-        found[40:] = ["and %d more; tools/colregs-doctor tells all." % (len(found) - 40)]
+    found, by_name = [], {}
+    for finding in findings:
+        by_name.setdefault(finding.name, []).append(finding.words)
+    by_name.pop("verdicts at rest", None)       # told below, stretch by stretch
+    for name, words in by_name.items():
+        found += ["%s: %s." % (capital(name), line) for line in words[:FEW]]
+        if len(words) > FEW:
+            found.append("%s: and %d more; tools/colregs-doctor tells all." % (capital(name), len(words) - FEW))
     still = [row for row in case.verdicts if rest.marked(row)]
     if still:
         found.append("%s of %s of vessels that never make half a knot in the stretch. They may lie at anchor or alongside, where the rules ask"
@@ -77,7 +92,7 @@ def doubts(case, gathered, findings):
                          format(len(still), ","), count(len(case.verdicts), "verdict is", "verdicts are")))
     for name, told in gathered.unread.items():
         found.append("Not understood, and left out: %s: %s. One of them: %s" % (count(told.count, "line"), name, told.example))
-    return found + [words[:1].upper() + words[1:] for words in gathered.notes]
+    return found + [capital(words) + "." for words in gathered.notes]
 
 
 def with_window(text, case):

@@ -2,7 +2,8 @@
 "use strict";
 const MapView = (() => {
   const view = {};
-  let map = null, net = null, chosen = null, dots = [];
+  const named = HELD.vessels.length <= 40;      // then each vessel has her name on the map
+  let map = null, net = null, chosen = null, held = null, dots = [];
 
   // Parts of a track without the points that nobody sees on a map.
   function lines(track, first, last) {
@@ -44,7 +45,7 @@ const MapView = (() => {
     }
     for (let k = Math.ceil(bounds.getWest() / wide); k * wide < bounds.getEast(); k++) {
       line([[bounds.getSouth(), k * wide], [bounds.getNorth(), k * wide]]);
-      word([bounds.getNorth(), k * wide], degrees(((k * wide + 540) % 360) - 180, "EW"), [-3, 0]);
+      if (map.latLngToContainerPoint([0, k * wide]).x < size.x - 140) word([bounds.getNorth(), k * wide], degrees(((k * wide + 540) % 360) - 180, "EW"), [-3, 0]);
     }
   }
 
@@ -66,8 +67,8 @@ const MapView = (() => {
       const style = { color: met.has(number) ? "#5b6770" : "#a9b2ba", weight: 1.4, opacity: 0.9 };
       L.polyline(parts, style).bindTooltip(fullName(number), { sticky: true }).addTo(map);
       const end = parts[parts.length - 1].slice(-1)[0];
-      L.circleMarker(end, { radius: 2.5, color: style.color, fillOpacity: 1 }).bindTooltip(fullName(number)).addTo(map);
-      if (HELD.vessels.length <= 40) {
+      L.circleMarker(end, { radius: TRACKS.length > 60 ? 1.2 : 2.5, color: style.color, fillOpacity: 1 }).bindTooltip(fullName(number)).addTo(map);
+      if (named) {
         L.tooltip({ permanent: true, className: "name", direction: "right", offset: [4, 0] }).setLatLng(parts[0][0]).setContent(escaped(nameOf(number))).addTo(map);
       }
       all.push(...parts.flat());
@@ -97,15 +98,25 @@ const MapView = (() => {
     view.whole();
   };
 
-  view.whole = () => { if (map && view.bounds) map.fitBounds(view.bounds, { animate: false }); };
-  view.resize = () => { if (map) map.invalidateSize({ animate: false }); };
+  // Shows a part of the earth, and keeps it where the map comes to have another size.
+  function show(bounds) {
+    held = bounds;
+    map.fitBounds(bounds, { animate: false, maxZoom: 18 });
+  }
+
+  view.whole = () => { if (map && view.bounds) show(view.bounds); };
+  view.resize = () => {
+    if (!map) return;
+    map.invalidateSize({ animate: false });
+    if (held) show(held);
+  };
 
   function drawPair(meeting, first, last) {
     meeting.pair.forEach((number, k) => {
       const way = stretch(TRACKS[number], first, last), within = stretch(TRACKS[number], begins(meeting), ends(meeting));
       L.polyline(way, { color: PAIR_COLOURS[k], weight: 2, opacity: 0.8, interactive: false }).addTo(chosen);
       L.polyline(within, { color: PAIR_COLOURS[k], weight: 4, interactive: false }).addTo(chosen);
-      if (way.length) L.tooltip({ permanent: true, className: "name", direction: k ? "left" : "right" }).setLatLng(way[0]).setContent(escaped(nameOf(number))).addTo(chosen);
+      if (way.length && !named) L.tooltip({ permanent: true, className: "name", direction: k ? "left" : "right" }).setLatLng(way[0]).setContent(escaped(nameOf(number))).addTo(chosen);
       drawArrow(way, PAIR_COLOURS[k]);
     });
   }
@@ -140,7 +151,7 @@ const MapView = (() => {
     const words = `${metres(meeting.least)} m at ${clockOnly(meeting.nearest)}`;
     L.tooltip({ permanent: true, className: "name", direction: "bottom", offset: [0, 6] }).setLatLng(L.latLngBounds(ends_).getCenter()).setContent(words).addTo(chosen);
     const around = meeting.pair.flatMap((number) => stretch(TRACKS[number], begins(meeting), ends(meeting))).concat(ends_);
-    map.fitBounds(L.latLngBounds(around).pad(0.2), { animate: false, maxZoom: 18 });
+    show(L.latLngBounds(around).pad(0.2));
   };
 
   // Where the two are at a moment, while the pointer is over a chart.

@@ -22,6 +22,12 @@ const Page = (() => {
     }));
   }
 
+  // When a row ends; with its day where that is another than that of its beginning.
+  function endWords(row) {
+    const [begin, end] = [utc(begins(row)), utc(ends(row))];
+    return begin.slice(0, -8) === end.slice(0, -8) ? end.slice(-8) : end;
+  }
+
   function link(number) { return element("a", String(number + 1), { href: `#meeting${number + 1}` }); }
 
   function fillMeetings() {
@@ -29,7 +35,7 @@ const Page = (() => {
     const columns = [
       { title: "No.", kind: "number", of: (m) => link(m.number), by: (m) => m.number },
       { title: "Begins (UTC)", kind: "time", of: (m) => utc(begins(m)), by: (m) => m.first },
-      { title: "Ends", kind: "time", of: (m) => clockOnly(ends(m)), by: (m) => m.last },
+      { title: "Ends", kind: "time", of: (m) => endWords(m), by: (m) => m.last },
       { title: "First vessel", of: (m) => pairWords(m, 0), by: (m) => nameOf(m.pair[0]) },
       { title: "Second vessel", of: (m) => pairWords(m, 1), by: (m) => nameOf(m.pair[1]) },
       { title: "Nearest, m", kind: "number", of: (m) => metres(m.least), by: (m) => m.least },
@@ -57,7 +63,7 @@ const Page = (() => {
     const columns = [
       { title: "Meeting", kind: "number", of: (v) => v.meeting === null ? "none" : link(v.meeting), by: (v) => v.meeting === null ? -1 : v.meeting },
       { title: "From (UTC)", kind: "time", of: (v) => utc(begins(v)), by: (v) => v.first },
-      { title: "to", kind: "time", of: (v) => clockOnly(ends(v)), by: (v) => v.last },
+      { title: "to", kind: "time", of: (v) => endWords(v), by: (v) => v.last },
       { title: "Who is bound", of: (v) => fullName(v.pair[0]), by: (v) => nameOf(v.pair[0]) },
       { title: "Towards", of: (v) => fullName(v.pair[1]), by: (v) => nameOf(v.pair[1]) },
       { title: "Verdict", of: (v) => chip(v), by: (v) => HELD.rules[v.rule].name + v.broken },
@@ -96,7 +102,7 @@ const Page = (() => {
     const [a, b] = meeting.pair;
     const part = (k) => `${nameOf(meeting.pair[k])} ${meeting.kinds[k]}`;
     byId("chosen").textContent = `Meeting ${meeting.number + 1}: ${nameOf(a)} and ${nameOf(b)}`;
-    const words = element("span", `${utc(begins(meeting))} to ${clockOnly(ends(meeting))} UTC. ${part(0)}; ${part(1)}. Nearest ${metres(meeting.least)} m (${miles(meeting.least)} nautical miles) at ${clockOnly(meeting.nearest)}. `);
+    const words = element("span", `${utc(begins(meeting))} to ${endWords(meeting)} UTC. ${part(0)}; ${part(1)}. Nearest ${metres(meeting.least)} m (${miles(meeting.least)} nautical miles) at ${clockOnly(meeting.nearest)}. `);
     const still = meeting.rest.length ? [element("span", stillWords(meeting.rest, meeting.pair), { class: "still" }), " "] : [];
     const rules = meeting.verdicts.flatMap((v) => [element("br"), chip(v), `${nameOf(v.pair[0])}, ${clockOnly(begins(v))} to ${clockOnly(ends(v))}: ${HELD.rules[v.rule].words}`]);
     byId("chosen-words").replaceChildren(words, ...still, ...(rules.length ? rules : [element("span", "No rule is broken or open.")]));
@@ -142,10 +148,17 @@ const Page = (() => {
     byId("whole").addEventListener("click", () => MapView.whole());
     addEventListener("hashchange", followHash);
     addEventListener("resize", () => Times.draw());
-    addEventListener("beforeprint", () => { MapView.resize(); Times.draw(60); });
-    addEventListener("afterprint", () => { MapView.resize(); Times.draw(); });
+    addEventListener("beforeprint", () => paper(true));
+    addEventListener("afterprint", () => paper(false));
     if (!followHash() && HELD.meetings.length) showFirst();
     document.documentElement.dataset.ready = "yes";
+  }
+
+  // On paper map and chart by time have the paper's width.
+  function paper(on) {
+    document.body.classList.toggle("paper", on);
+    MapView.resize();
+    if (on) Times.draw(45, 690); else Times.draw();
   }
 
   // At the beginning the nearest meeting of those with a broken rule stands in the charts, and the map shows all.
@@ -155,6 +168,7 @@ const Page = (() => {
     choose(from.reduce((best, m) => (m.least < best.least ? m : best)));
     MapView.whole();
     history.replaceState(null, "", location.pathname);
+    scrollTo(0, 0);
   }
   return { start };
 })();

@@ -1,7 +1,8 @@
 // The chart by time: a row for each two vessels, of which only those that are seen are drawn.
 "use strict";
 const Times = (() => {
-  const ROW = 20, LEFT = 250, RIGHT = 14;
+  const ROW = 20, RIGHT = 14;
+  let LEFT = 250;
   const box = document.getElementById("times-rows"), space = document.getElementById("times-space");
   const view = { onChoose() {} };
   let pairs = [], wide = 900, first = 0, last = 1, chosen = null;
@@ -59,9 +60,11 @@ const Times = (() => {
     return svg;
   }
 
-  view.draw = (most) => {
+  // Draws what is seen; or for paper so many rows, of so many pixels.
+  view.draw = (most, paper) => {
     if (!pairs.length) { space.replaceChildren(); return; }
-    wide = Math.max(600, box.clientWidth - 2);
+    box.style.height = `${most ? Math.min(most, pairs.length) * ROW + 4 : Math.min(360, pairs.length * ROW + 4)}px`;
+    wide = paper || Math.max(600, box.clientWidth - 2);
     const marks = axis(), low = most ? 0 : Math.max(0, Math.floor(box.scrollTop / ROW) - 5);
     const high = Math.min(pairs.length, most || low + Math.ceil(box.clientHeight / ROW) + 10);
     space.style.height = `${(most ? high : pairs.length) * ROW}px`;
@@ -75,7 +78,6 @@ const Times = (() => {
     document.getElementById("times-words").textContent = meetings.length
       ? `${meetings.length} meetings of ${pairs.length} pairs, as the table of meetings is filtered. Grey: the meeting, light where a vessel lies still. Below it, in the colours of the rules: stretches that are broken (filled) or open (hollow).`
       : "No meeting.";
-    box.style.height = `${Math.min(360, pairs.length * ROW + 4)}px`;
     view.draw();
   };
 
