@@ -14,6 +14,7 @@ from .scenarios import place, sampled
 REFUSED = {3: "the first key with a fault is told; docs/SCENARIO.md has its range", 4: "is its name right, and may it be read",
            7: "docs/ROWS.md says what to do at a limit", 9: "own ship must be in the log before the window's end, with course and speed"}
 WORDS = ("points", "audit", "plan")
+SHOWN = 5                               # of more findings of one name than this the number is told
 STILL = 5                               # 1/10 knot: who never makes this lies still
 
 
@@ -89,16 +90,17 @@ def other_report(patient):
 
 
 def no_times(patient):
-    any_line, told, looked = log_checks.times_of(patient.log)
-    if any_line and not told:
+    looked, told = log_checks.times_of(patient.log)
+    dropped = sum(patient.counts.get(name, 0) for name in ("back", "repeat", "jump"))
+    if looked and not told:
         yield Finding("no times", "no tag block tells a time: of each vessel the first report alone counts. tools/tagged gives times")
-    elif any_line and patient.counts.get("point", 0) and 2 * patient.counts.get("back", 0) > patient.sentences:
-        yield Finding("no times", "%d of %d sentences bring a report that is no later than the one before: few lines have a time of their own" % (
-            patient.counts["back"], patient.sentences))
+    elif looked > 2 * len(told) and dropped > patient.counts.get("point", 0):
+        yield Finding("no times", "%d of %d lines that were looked at tell no time of their own, and have that of a line before" % (
+            looked - len(told), looked))
 
 
 def window_misses(patient):
-    _, told, _ = log_checks.times_of(patient.log)
+    _, told = log_checks.times_of(patient.log)
     if not told or not patient.counts:
         return
     first, last = patient.window()
@@ -145,6 +147,7 @@ def damaged(patient):
     for names, part, name, words in (
             (("form", "sum", "armour"), 10, "damaged sentences", "a receiver, or what copied the log, damages sentences"),
             (("tag",), 100, "damaged tag blocks", "they have another sum or form, and their lines are lost"),
+            (("jump",), 20, "many jumps", "to come there a vessel would be faster than `log.max_speed`"),
             (("nopos",), 2, "reports without a place", "their receivers have none")):
         count = sum(patient.counts.get(name, 0) for name in names)
         if part * count > lines:
@@ -197,6 +200,18 @@ def at_rest(patient):
 CHECKS = (refused, other_report, no_times, window_misses, region_misses, unsorted, damaged, absent, unseen, senders, at_rest)
 
 
+def shortened(found):
+    """The findings, of which a few stand for many of one name."""
+    counts = collections.Counter()
+    for finding in found:
+        counts[finding.name] += 1
+        if counts[finding.name] <= SHOWN:
+            yield finding
+    for name, count in counts.items():
+        if count > SHOWN:
+            yield Finding(name, "and %d more such" % (count - SHOWN))
+
+
 def findings(scenario, log, report, program):
     """What is amiss, each with a name and words. The report may be None."""
     patient = Patient(scenario, log, report, program)
@@ -205,4 +220,4 @@ def findings(scenario, log, report, program):
     found += form
     for check in CHECKS if not form else (refused, other_report):
         found += check(patient)
-    return found
+    return list(shortened(found))

@@ -13,7 +13,8 @@ MOST_SPEED = 102.2 * 1852 / 3600         # metres a second: what no ship makes
 PLACES = {1: (61, 89), 2: (61, 89), 3: (61, 89), 18: (57, 85), 19: (57, 85)}
 STATIONS = {4: "a base station's time", 9: "an aircraft's report", 11: "a base station's time", 21: "an aid to navigation's report"}
 FLOATS = re.compile(r"\bBUOY|\bBEACON|\bNETS?\b|\bNETMARK|\d+ ?%|\d\d?\.\d ?V\b")
-STEADY = 3                               # so many reports in a line make a second ship
+STEADY = 3                               # so many reports of either of two tracks make two ships
+MOVED = 600                              # s: a track without a report for so long has gone over into the other
 
 
 def form_of(log):
@@ -35,27 +36,30 @@ def form_of(log):
 
 
 def times_of(log):
-    """Whether the log tells times, and the first and last of those that were looked at."""
+    """How many sentences were looked at, and the times that they tell."""
     lines = [line for line in sampled(log) if CUT.search(line)]
-    told = [at for at in map(stamp, lines) if at is not None]
-    return bool(lines), told, len(lines)
+    return len(lines), [at for at in map(stamp, lines) if at is not None]
 
 
 class Track:
-    """The reports of one MMSI: the latest, and the latest that does not fit to it, with how many followed it."""
+    """The reports of one MMSI: the latest, and the latest that does not fit to it. Where both go on side by side, two ships send them."""
 
     def __init__(self, report):
-        self.main, self.second, self.followed, self.most = report, None, 0, 0
+        self.main, self.second, self.fits, self.most = report, None, [0, 0], 0
 
     def take(self, report):
-        if near(self.main, report):
+        to_main, to_second = near(self.main, report), self.second is not None and near(self.second, report)
+        if to_main:
+            self.fits[0] += self.second is not None and not to_second
             self.main = report
-        elif self.second and near(self.second, report):
-            self.followed += 1
-            self.most = max(self.most, self.followed)
+        elif to_second:
+            self.fits[1] += 1
             self.second = report
         else:
-            self.second, self.followed = report, 0
+            self.second, self.fits = report, [0, 0]
+        self.most = max(self.most, min(self.fits))
+        if self.second and self.second[0] - self.main[0] > MOVED:
+            self.main, self.second = self.second, None
 
 
 def near(one, two):
@@ -93,7 +97,7 @@ class Senders:
     def shared(self):
         for mmsi, track in sorted(self.tracks.items()):
             if track.most >= STEADY:
-                yield Finding("shared MMSI", "%d tells of two places at a time, in %d reports and more: two ships may share it" % (mmsi, track.most + 1))
+                yield Finding("shared MMSI", "%d goes on at two places at a time: two ships may share it" % mmsi)
 
     def no_ships(self, vessels):
         for mmsi in sorted(set(self.stations) & set(vessels)):

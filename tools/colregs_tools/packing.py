@@ -119,15 +119,27 @@ def stream_lines(stream, part):
     yield from cleaned(wide_lines(buffered, part.encoding) if wide else raw_lines(buffered), part)
 
 
-def parts(path):
-    """Each log within the file, as a Part with its lines."""
-    packed = packing(path)
+@contextlib.contextmanager
+def told(path, packed):
+    """Turns what can happen to a file into words."""
     try:
-        for name, opened in members(path, packed):
-            part = Part(name, packed)
-            with opened() as stream:
-                yield part, stream_lines(stream, part)
+        yield
     except DAMAGE:
         raise Fault("%s is packed by %s, and damaged or cut off" % (path, packed)) from None
     except OSError as error:
         raise Fault("%s cannot be read: %s" % (path, (error.strerror or str(error)).lower())) from None
+
+
+def whole_lines(path, stream, part):
+    with told(path, part.packed):
+        yield from stream_lines(stream, part)
+
+
+def parts(path):
+    """Each log within the file, as a Part with its lines."""
+    packed = packing(path)
+    with told(path, packed):
+        for name, opened in members(path, packed):
+            part = Part(name, packed)
+            with opened() as stream:
+                yield part, whole_lines(path, stream, part)

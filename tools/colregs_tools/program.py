@@ -24,7 +24,7 @@ class Run:
             with open(log, "rb") as source:
                 done = subprocess.run([program, mode, scenario], stdin=source, stdout=subprocess.PIPE, stderr=subprocess.PIPE)
         except OSError as error:
-            raise Fault("%s: %s" % (error.filename, (error.strerror or str(error)).lower())) from None
+            raise Fault("%s cannot be opened: %s" % (error.filename, (error.strerror or str(error)).lower())) from None
         self.status, self.text, self.words = done.returncode, done.stdout, done.stderr.decode("utf-8", "replace").strip()
 
     def rows(self, kind):

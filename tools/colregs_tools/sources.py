@@ -4,7 +4,6 @@ A sentence takes its time from its tag block, else from behind its sum, else fro
 line before. A line that gives nothing is counted too: `aside` where it is known and of no use here, `unread` with an example where it is not understood.
 """
 import collections
-import contextlib
 import os
 import re
 import shutil
@@ -327,29 +326,37 @@ def gather(paths, out, *, mmsi=None, offset=0):
 
     Times without a zone are UTC, less `offset` seconds. Where no line of any log tells a time, the sentences are written as they stand.
     """
-    gathered = Gathered()
     if any(os.path.exists(path) and os.path.exists(out) and os.path.samefile(path, out) for path in paths):
         raise Fault("%s is a log that is read, and cannot be written too" % out)
-    with contextlib.ExitStack() as stack:
-        try:
-            log = Log(stack.enter_context(open(out, "wb", buffering=1 << 20)), gathered)
-        except OSError as error:
-            raise Fault("%s cannot be written: %s" % (out, (error.strerror or str(error)).lower())) from None
-        untimed = stack.enter_context(tempfile.TemporaryFile())
-        for path in paths:
-            for part, lines in parts(path):
-                gathered.files.append(part)
-                reader = Reader(part, log, gathered, untimed, mmsi, offset)
-                reader.read(lines)
-                told_apart(reader, part.name, gathered)
-        if gathered.untimed and gathered.first is None:
-            untimed.seek(0)
-            shutil.copyfileobj(untimed, log.out)
-        elif gathered.untimed:
-            untimed.seek(0)
-            gathered.unread["a sentence before the first time of its log"] = Unread(gathered.untimed, untimed.readline().decode()[:SAMPLE].strip())
-    ended(out, gathered, log, mmsi)
+    gathered = Gathered()
+    try:
+        with open(out, "wb", buffering=1 << 20) as made, tempfile.TemporaryFile() as untimed:
+            log = Log(made, gathered)
+            for path in paths:
+                read_file(path, log, untimed, mmsi, offset)
+            leave_untimed(gathered, untimed, made)
+        ended(out, gathered, log, mmsi)
+    except OSError as error:
+        raise Fault("%s cannot be written: %s" % (out, (error.strerror or str(error)).lower())) from None
     return gathered
+
+
+def read_file(path, log, untimed, mmsi, offset):
+    for part, lines in parts(path):
+        log.gathered.files.append(part)
+        reader = Reader(part, log, log.gathered, untimed, mmsi, offset)
+        reader.read(lines)
+        told_apart(reader, part.name, log.gathered)
+
+
+def leave_untimed(gathered, untimed, made):
+    """What has no time becomes the log where nothing has one, and else is told."""
+    untimed.seek(0)
+    if gathered.untimed and gathered.first is None:
+        shutil.copyfileobj(untimed, made)
+    elif gathered.untimed:
+        example = untimed.readline().decode("utf-8", "replace")[:SAMPLE].strip()
+        gathered.unread["a sentence before the first time of its log"] = Unread(gathered.untimed, example)
 
 
 def ended(out, gathered, log, mmsi):
