@@ -57,6 +57,8 @@ def new_folder(path):
         os.chmod(place, 0o755)
         yield place
         os.rename(place, path)
+    except Fault as fault:
+        raise Fault(str(fault).replace(place + os.sep, "").replace(place, path)) from None
     finally:
         shutil.rmtree(place, ignore_errors=True)
 

@@ -30,7 +30,7 @@ def run(program, mode, scenario, log, good=(0,), options=()):
     except OSError as error:
         raise Fault("%s: %s" % (error.filename or program, error.strerror)) from None
     if done.returncode not in good:
-        raise Fault("%s %s: status %d, %s" % (mode, scenario, done.returncode, done.stderr.decode(errors="replace").strip()))
+        raise Fault("the program ends `%s` with status %d, %s" % (mode, done.returncode, done.stderr.decode(errors="replace").strip()))
     return done.stdout.decode()
 
 

@@ -16,7 +16,7 @@ def count(number, one, many=None):
 
 def lengths(metres):
     """In metres and nautical miles."""
-    return "%s m (%s nautical miles)" % (format(metres, ".1f" if metres < 10 else ",.0f"), format(metres / 1852, ".3f" if metres < 185 else ".2f"))
+    return "%s m (%s nautical miles)" % (format(metres, ".1f" if metres < 10 else ",.0f"), format(metres / 1852, ".3f" if metres < 92 else ".2f"))
 
 
 def capital(words):

@@ -56,7 +56,7 @@ function clockOnly(seconds) { return utc(seconds).slice(-8); }
 function begins(row) { return row.first * HELD.tick; }
 function ends(row) { return (row.last + 1) * HELD.tick; }
 function metres(value) { return value < 10 ? value.toFixed(1) : Math.round(value).toLocaleString("en"); }
-function miles(value) { return (value / MILE).toFixed(value < 0.1 * MILE ? 3 : 2); }
+function miles(value) { return (value / MILE).toFixed(value < 0.05 * MILE ? 3 : 2); }
 function nameOf(number) { return HELD.vessels[number].name; }
 function fullName(number) {
   const vessel = HELD.vessels[number];
