@@ -7,6 +7,8 @@ from .sentences import NO_COURSE, NO_HEADING, NO_SPEED, class_a, has_sum, senten
 PLAIN = re.compile(rb"\$([A-Z]{2}(?:RMC|ZDA|HDT),[^*$!\\]*)\*([0-9A-Fa-f]{2})")
 DAY, WEEKS = 86400, 1024 * 7 * 86400     # a date that lags at midnight; the weeks that GPS counts before it begins anew
 LONGEST_GAP = 60                         # s: between two times of the receiver farther apart than this, nobody knows the time
+DAMAGED = "a sentence of the receiver with a wrong sum", "RMC with too few fields"
+HEADING = "own ship's heading (HDT)"
 OLDEST = 852076800                       # 1 January 1997, before there was AIS: a clock that tells less is not set
 
 
@@ -67,7 +69,7 @@ class Receiver:
         if not found:
             return None
         if not has_sum(found[1], found[2]):
-            return "a sentence of the receiver with a wrong sum", None
+            return DAMAGED[0], None
         fields = found[1].split(b",")
         kind = fields[0][2:]
         if kind == b"HDT":
@@ -77,11 +79,11 @@ class Receiver:
     def head(self, fields):
         if re.fullmatch(rb"\d{1,3}(?:\.\d+)?", fields[1]):
             self.heading = round(float(fields[1])) % 360, self.time
-        return "own ship's heading (HDT)", None
+        return HEADING, None
 
     def fix(self, fields):
         if len(fields) < 10:
-            return "RMC with too few fields", None
+            return DAMAGED[1], None
         fix = Fix(fields)
         self.void = not fix.valid
         if not fix.valid:

@@ -13,7 +13,7 @@ import tempfile
 from . import jsons, tables
 from .forms import Times, Unsure
 from .packing import TOO_LONG, Fault, parts
-from .receivers import LONGEST_GAP, Receiver
+from .receivers import DAMAGED, HEADING, LONGEST_GAP, Receiver
 from .sentences import block, has_sum
 
 SENTENCE = re.compile(rb"![A-Z0-9]{2}VD[MO],[^*!\\]*\*[0-9A-Fa-f]{2}")
@@ -81,7 +81,7 @@ class Waiting:
     """Sentences between two times of a receiver: they have the first where both are near to each other, and none otherwise."""
 
     def __init__(self, put, cannot):
-        self.put, self.cannot, self.time, self.held, self.over, self.usual = put, cannot, None, [], 0, 10
+        self.put, self.cannot, self.time, self.held, self.usual, self.sure = put, cannot, None, [], 10, SLOTS
 
     def add(self, words):
         if len(self.held) < SLOTS:
@@ -89,16 +89,20 @@ class Waiting:
         else:
             self.cannot("a sentence too far behind the receiver's time", words)
 
+    def doubt(self):
+        """The receiver says that it has no fix: what follows has the time before only where a next time comes soon."""
+        self.sure = min(self.sure, len(self.held))
+
     def until(self, time):
         """The receiver's next time comes; or none, at the end."""
-        gone = self.held, self.time
-        self.held, self.time = [], time
+        gone, sure = (self.held, self.time), self.sure
+        self.held, self.time, self.sure = [], time, SLOTS
         if gone[1] is None or not gone[0]:
             return
         near = time is not None and 0 <= time - gone[1] <= LONGEST_GAP
         if near:
             self.usual = max(self.usual, len(gone[0]))
-        known = len(gone[0]) if near else min(len(gone[0]), self.usual) if time is None or time < gone[1] else 0
+        known = len(gone[0]) if near else min(len(gone[0]), self.usual, sure) if time is None or time < gone[1] else 0
         for words in gone[0][:known]:
             self.put(gone[1], words)
         for words in gone[0][known:]:
@@ -169,8 +173,13 @@ class Reader:
 
     def of_receiver(self, line, name, time):
         """A sentence of the receiver's: its time sets the clock, and where an own time stands in the line, tells how far that is off."""
-        self.gathered.forms[name] += 1
+        if name in DAMAGED:
+            self.gathered.cannot(name, line)
+            return
+        (self.gathered.forms if time is not None or name == HEADING else self.gathered.aside)[name] += 1
         if time is None:
+            if name.startswith("RMC"):
+                self.waiting.doubt()
             return
         try:
             own = self.own_time(line, line.find(b"$"), line.rfind(b"*") + 3)

@@ -99,7 +99,7 @@ class WrongUses(InFolder):
         more = [report(1700000002 + 10 * k, 200000011, BEFORE + 100000, MIDDLE - 40 * k) for k in range(12)]
         told = words_of(self.found(TOML, by_time(LOG.splitlines() + more)))
         self.assertEqual(len(told), 1)
-        self.assertRegex(told[0], "^shared MMSI: 200000011 tells of two places")
+        self.assertRegex(told[0], "^shared MMSI: 200000011 goes on at two places")
 
     def test_one_wild_place_is_no_shared_mmsi(self):
         self.assertEqual(self.names(TOML, by_time(LOG.splitlines() + [report(1700000102, 200000011, BEFORE + 300000, MIDDLE)])), [])

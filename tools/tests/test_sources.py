@@ -58,9 +58,11 @@ class Receivers(Sources):
         found, made = self.gathered("\n".join([void, S, sentence("GPZDA,221331,06,01,1980,00,00"), T]))
         self.assertEqual((found.sentences, found.untimed), (0, 2))
         self.assertEqual(made, [S, T])                                           # no time in all the log: as they stand
-        self.assertEqual(found.forms["RMC without a valid fix"], 1)
+        self.assertEqual(found.aside["RMC without a valid fix"], 1)
+        _, made = self.gathered("\n".join([rmc("221321", "141123"), S, void, T]))
+        self.assertEqual(made, ["\\c:1700000001*5E\\" + S])                    # nobody knows how long after
         unset = rmc("000010", "060180")
-        self.assertEqual(self.gathered(unset + "\n" + S)[0].forms["RMC of a clock that is not set"], 1)
+        self.assertEqual(self.gathered(unset + "\n" + S)[0].aside["RMC of a clock that is not set"], 1)
 
     def test_in_a_gap_of_the_receiver_no_time_is_made_up(self):
         log = [rmc("221321", "141123"), S, rmc("222321", "141123"), T]
