@@ -80,7 +80,7 @@ class Making:
 
     def read_logs(self):
         self.sums = [(name, *self.sum_of_given(name)) for name in self.given.logs]
-        self.gathered = sources.gather(self.given.logs, self.path(LOG), mmsi=self.given.mmsi)
+        self.gathered = sources.gather(self.given.logs, self.path(LOG), mmsi=self.given.mmsi, offset=self.given.offset)
 
     @staticmethod
     def sum_of_given(name):
@@ -127,6 +127,8 @@ class Making:
         for name in ("scenario", "start", "ticks", "mmsi", "chart"):
             value = getattr(self.given, name)
             given += [] if value is None else ["--" + name, os.path.basename(str(value))]
+        ahead = self.given.offset
+        given += ["--offset=%s%02d:%02d" % ("-" if ahead < 0 else "+", *divmod(abs(ahead) // 60, 60))] if ahead else []
         made = ["colregs-case %s -o CASE" % shlex.join(given)]
         return made + ["colregs %s %s%s < %s > %s" % (mode, SCENARIO, words, LOG, name) for mode, name in (("points", POINTS), ("audit", REPORT))]
 
@@ -156,7 +158,8 @@ class Making:
         return {
             "title": self.title(), "version": self.version, "program_sha256": sum_of(self.program)[0], "python": platform.python_version(),
             "window": {"start": case.start, "tick": case.tick, "ticks": case.steps, "begins": iso(case.start), "ends": iso(case.moment(case.steps))},
-            "options": {"start": self.given.start, "ticks": self.given.ticks, "mmsi": self.given.mmsi}, "commands": self.commands(),
+            "options": {"start": self.given.start, "ticks": self.given.ticks, "mmsi": self.given.mmsi,
+                        "offset": self.given.offset}, "commands": self.commands(),
             "given": [{"name": os.path.basename(name), "sha256": total, "bytes": size} for name, total, size in self.sums],
             "read": {"forms": dict(gathered.forms), "of_no_use": dict(gathered.aside),
                      "not_understood": {name: {"count": told.count, "example": told.example} for name, told in gathered.unread.items()}},
