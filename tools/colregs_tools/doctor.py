@@ -33,22 +33,26 @@ def mode_of(report):
 class Patient:
     """A scenario's values, a log, a report, and what the program writes of them."""
 
-    def __init__(self, scenario, log, report, program):
-        self.scenario, self.log, self.program = scenario, log, program
+    def __init__(self, scenario, log, report, program, options):
+        self.scenario, self.log, self.program, self.options = scenario, log, program, options
         self.values = read_scenario(scenario)
         self.report = None if report is None else read_whole(report)
-        self.audit, self.points = (Run(program, mode, scenario, log) for mode in ("audit", "points"))
+        self.audit, self.points = (self.run(mode) for mode in ("audit", "points"))
         self.counts = self.audit.counts() if self.audit.status == 0 else {}
         self.ships, self.times, _, _, self.speeds, self.courses = self.points.columns() if self.points.status == 0 else [[]] * 6
         self.vessels = {int(fields[1]): fields for fields in self.rows("vessel")}
         self.sentences = sum(self.counts.values()) - sum(self.counts.get(name, 0) for name in ("empty", "long", "tag", "other", "form", "sum", "armour"))
+
+    def run(self, mode):
+        return Run(self.program, mode, self.scenario, self.log, self.options)
 
     def rows(self, kind):
         text = self.audit.text.decode("utf-8", "replace")
         return [fields for fields in csv.reader(io.StringIO(text)) if fields and fields[0] == kind]
 
     def window(self):
-        start, tick, ticks = (numbers_at(self.values, "window." + word)[0] for word in ("start", "tick", "ticks"))
+        given = {option[0]: int(option[1]) for option in (word[2:].split("=") for word in self.options)}
+        start, tick, ticks = (given.get(word, numbers_at(self.values, "window." + word)[0]) for word in ("start", "tick", "ticks"))
         return start, start + tick * ticks
 
 
@@ -64,7 +68,7 @@ def read_scenario(path):
     """The values of a scenario; none where it is no TOML, which the program tells."""
     try:
         return tomllib.loads(read_whole(path).decode("utf-8", "replace"))
-    except tomllib.TOMLDecodeError:
+    except (ValueError, RecursionError):
         return {}
 
 
@@ -81,7 +85,7 @@ def other_report(patient):
     if mode is None:
         yield Finding("no whole report", "the report has no rows `lines`, with which each report ends")
         return
-    fresh = {"audit": patient.audit, "points": patient.points}.get(mode) or Run(patient.program, mode, patient.scenario, patient.log)
+    fresh = {"audit": patient.audit, "points": patient.points}.get(mode) or patient.run(mode)
     if fresh.status not in (0, 1):
         yield Finding("refused run", "the program ends `%s` with status %d, %s: %s" % (mode, fresh.status, fresh.words, REFUSED.get(fresh.status, "")))
     elif fresh.text != patient.report:
@@ -212,9 +216,9 @@ def shortened(found):
             yield Finding(name, "and %d more such" % (count - SHOWN))
 
 
-def findings(scenario, log, report, program):
-    """What is amiss, each with a name and words. The report may be None."""
-    patient = Patient(scenario, log, report, program)
+def findings(scenario, log, report, program, options=()):
+    """What is amiss, each with a name and words. The report may be None; options are those of the program, as `--ticks=60`."""
+    patient = Patient(scenario, log, report, program, options)
     found = list(scenario_checks.findings(patient.values))
     form = list(log_checks.form_of(log))
     found += form

@@ -2,9 +2,10 @@
 import collections
 import re
 
+from .logs import stamp, timed
 from .packing import encoding, packing
 from .scenario_checks import Finding
-from .scenarios import sampled, stamp
+from .scenarios import sampled
 from .sentences import lone_message
 from .sources import CUT
 from .tables import table_of
@@ -72,13 +73,12 @@ class Senders:
     """Who sent what: ships that share an MMSI, and MMSIs that send what no ship sends."""
 
     def __init__(self, log):
-        self.tracks, self.stations, at = {}, collections.defaultdict(collections.Counter), 0
+        self.tracks, self.stations = {}, collections.defaultdict(collections.Counter)
         with open(log, "rb") as source:
-            for line in source:
-                at = stamp(line) or at
+            for at, line in timed(source):
                 message = lone_message(line)
                 if message and message.length >= 38:
-                    self.take(at, message)
+                    self.take(at or 0, message)
 
     def take(self, at, message):
         kind, mmsi = message.number(0, 6), message.number(8, 30)

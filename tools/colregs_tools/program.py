@@ -19,10 +19,10 @@ def found(given=None):
 class Run:
     """A run of the program: its status, what it wrote, and its line on standard error."""
 
-    def __init__(self, program, mode, scenario, log):
+    def __init__(self, program, mode, scenario, log, options=()):
         try:
             with open(log, "rb") as source:
-                done = subprocess.run([program, mode, scenario], stdin=source, stdout=subprocess.PIPE, stderr=subprocess.PIPE)
+                done = subprocess.run([program, mode, scenario, *options], stdin=source, stdout=subprocess.PIPE, stderr=subprocess.PIPE)
         except OSError as error:
             raise Fault("%s cannot be opened: %s" % (error.filename, (error.strerror or str(error)).lower())) from None
         self.status, self.text, self.words = done.returncode, done.stdout, done.stderr.decode("utf-8", "replace").strip()

@@ -11,7 +11,6 @@ LOOKS = {"1/10 degree": ("degrees for tenths", 10, "degrees"), "1/10 knot": ("kn
          "m": ("miles for metres", 1, "m")}
 AT_ODDS = [("act.steady_turn", "act.apparent_turn"), ("act.steady_speed", "act.apparent_speed"), ("detect.risk", "detect.watch"),
            ("detect.clear", "detect.watch"), ("detect.risk", "detect.clear"), ("rules.close", "detect.watch")]
-OF_VERSION = {1: "rules.safe_", 2: None}
 
 
 def value_at(values, name):
@@ -32,9 +31,8 @@ def unknown_keys(values):
         doubt = keys.doubt(name)
         if doubt:
             yield Finding(*doubt)
-    ignored = OF_VERSION.get(values.get("version"))
     for name in keys.names_of(values):
-        if ignored and name.startswith(ignored):
+        if values.get("version") == 1 and name.startswith("rules.safe_") and name in keys.units():
             yield Finding("key of another version", "`%s` is ignored in version 1: give `version = 2` and all four safe distances" % name)
 
 
@@ -52,7 +50,7 @@ def wrong_units(values):
         yield Finding("degrees for the reference", "`reference` is %g, %g: the unit is 1/10000 minute, so a degree is 600000" % (latitude[0], longitude[0]))
     start = numbers_at(values, "window.start")
     if start and start[0] >= 10 ** 11:
-        yield Finding("milliseconds for seconds", "`window.start = %d` looks like milliseconds: the unit is seconds" % start[0])
+        yield Finding("milliseconds for seconds", "`window.start = %s` looks like milliseconds: the unit is seconds" % start[0])
 
 
 def at_odds(values):

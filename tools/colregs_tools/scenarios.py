@@ -6,13 +6,13 @@ import re
 import statistics
 import time
 
+from .logs import stamp
 from .packing import Fault
 from .program import run
 from .sentences import lone_message
 
 TICKS = [1, 2, 3, 5, 6, 10, 15, 30, 60]
 LONGEST = 20000                                              # ticks of a window at most
-STAMP = re.compile(rb"\\(?:[^\\]*,)?c:(\d{1,15})[,*][^\\]*\\")
 PLACES = {1: (61, 89), 2: (61, 89), 3: (61, 89), 18: (57, 85), 19: (57, 85)}
 SOUGHT, REACH = 64, 1200000                                  # places in the log that are looked at; how far north or south the plane goes
 MARGIN = 3600                                                # s: what of a log may lie before or behind the times of these places
@@ -92,15 +92,6 @@ def sampled(log):
             if place:
                 source.readline(1025)
             yield from (source.readline(1025) for _ in range(SOUGHT if place < size - 64 * 1024 else 1000))
-
-
-def stamp(line):
-    """The time that the tag block of a line tells, or nothing."""
-    found = STAMP.match(line)
-    if not found:
-        return None
-    value = int(found[1])
-    return value // 1000 if value >= 10 ** 11 else value
 
 
 def place(line):

@@ -191,10 +191,10 @@ class Reader:
             self.before = None
             self.waiting.until(time)
         if name == "RMC":
-            self.own_ship(own[0] if own else time)
+            at = own[0] if own else time
+            self.own_ship(at, self.receiver.own_report(at))
 
-    def own_ship(self, time, words=None):
-        words = words or self.receiver.own_report(time)
+    def own_ship(self, time, words):
         if words:
             self.gathered.own += 1
             self.log.put(time, words)
@@ -377,7 +377,8 @@ def ended(out, gathered, log, mmsi):
     if gathered.untimed and gathered.first is None:
         gathered.forms["sentence without a time"] = gathered.untimed
         gathered.notes.append("no line tells a time: the log is left without times")
-    if mmsi is None and gathered.forms.get("RMC") and not gathered.own:
-        gathered.notes.append("own ship's places stand in %d RMC: with her MMSI they become hers" % gathered.forms["RMC"])
+    fixes = gathered.forms["RMC"] + gathered.forms["gpsd's TPV"]
+    if mmsi is None and fixes:
+        gathered.notes.append("own ship's places stand in %d lines (RMC or TPV): with her MMSI they become hers" % fixes)
     if not gathered.sentences and not gathered.untimed:
         gathered.notes.append("no sentence and no row was read")

@@ -2,6 +2,7 @@
 import gzip
 import os
 import re
+import subprocess
 import unittest
 
 from given import EXAMPLES, InFolder, PROGRAM, example, text_of, with_program
@@ -133,11 +134,11 @@ class WrongUses(InFolder):
             self.assertEqual(self.names(TOML, LOG, other), [name])
         with_options = self.program_with("--ticks", "40")
         self.assertEqual(self.names(TOML, LOG, with_options), ["report of something else"])
+        self.assertEqual(findings(example("crossing.toml"), example("crossing.log"), self.path("report"), PROGRAM, ["--ticks=40"]), [])
         points = self.program("points", example("crossing.toml"), example("crossing.log"))
         self.assertEqual(self.names(TOML, LOG, points), [])
 
     def program_with(self, *options):
-        import subprocess
         with open(example("crossing.log"), "rb") as source:
             return subprocess.run([PROGRAM, "audit", example("crossing.toml"), *options], stdin=source, capture_output=True).stdout.decode()
 

@@ -43,7 +43,7 @@ class Receivers(Sources):
         found, made = self.gathered("\n".join(log))
         self.assertEqual(made, ["\\c:1700000001*5E\\" + S, "\\c:1700000011*5F\\" + T, "\\c:1700000021*5C\\" + S])
         self.assertEqual(found.aside, {"other sentence (GGA)": 1})
-        self.assertIn("own ship's places stand in 2 RMC", found.notes[0])
+        self.assertIn("own ship's places stand in 2 lines", found.notes[0])
 
     def test_the_date_rolls_over_at_new_year_and_where_it_lags(self):
         new_year = [rmc("235959", "311223"), S, rmc("000000", "010124"), T]
