@@ -108,17 +108,7 @@ class Making:
         rest.mark(self.case)
 
     def ask_doctor(self):
-        scenario = self.path(SCENARIO)
-        with tempfile.NamedTemporaryFile("w", suffix=".toml", encoding="utf-8") as out:
-            if self.options:
-                text = summaries.with_window(read_text(scenario), self.case)
-                if text is None:
-                    self.doubts.append("The doctor was not asked, since the window of the scenario is not written in the plain way.")
-                    return
-                out.write(text)
-                out.flush()
-                scenario = out.name
-            self.findings = list(doctor.findings(scenario, self.path(LOG), self.path(REPORT), self.program))
+        self.findings = list(doctor.findings(self.path(SCENARIO), self.path(LOG), self.path(REPORT), self.program, self.options))
 
     def commands(self):
         """How to make the reports again in the folder of the case."""
@@ -174,7 +164,6 @@ def make(given, program):
     page.coast(given.chart)         # a chart that is none is told before the work
     with new_folder(given.out) as folder:
         making = Making(given, program, folder)
-        making.findings = []
         making.read_logs()
         making.choose_scenario()
         making.run_program()

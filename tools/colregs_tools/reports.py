@@ -36,7 +36,7 @@ def run(program, mode, scenario, log, good=(0,), options=()):
 
 def window_options(start=None, ticks=None):
     """The program's words for a window that is given."""
-    return [word for name, value in (("--start", start), ("--ticks", ticks)) if value is not None for word in (name, str(value))]
+    return ["%s=%d" % (name, value) for name, value in (("--start", start), ("--ticks", ticks)) if value is not None]
 
 
 def read_text(name):

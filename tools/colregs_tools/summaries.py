@@ -1,12 +1,9 @@
 """A case in plain words: what was read, what was not and why, how many meetings there were, and what is doubtful."""
-import re
-import tomllib
-
 from . import rest
 from .earth import iso
 from .rules import OUTCOMES
 
-FEW = 4                                 # findings of one name that are told
+REST = "verdicts at rest"               # the doctor's finding by vessels; here the stretches are counted
 USED = ("point", "static", "part")      # the outcomes of lines that tell something
 
 
@@ -77,14 +74,7 @@ def summary(case, gathered):
 
 def doubts(case, gathered, findings):
     """What is doubtful, most of it by the doctor's words."""
-    found, by_name = [], {}
-    for finding in findings:
-        by_name.setdefault(finding.name, []).append(finding.words)
-    by_name.pop("verdicts at rest", None)       # told below, stretch by stretch
-    for name, words in by_name.items():
-        found += ["%s: %s." % (capital(name), line) for line in words[:FEW]]
-        if len(words) > FEW:
-            found.append("%s: and %d more; tools/colregs-doctor tells all." % (capital(name), len(words) - FEW))
+    found = ["%s: %s." % (capital(finding.name), finding.words) for finding in findings if finding.name != REST]
     still = [row for row in case.verdicts if rest.marked(row)]
     if still:
         found.append("%s of %s of vessels that never make half a knot in the stretch. They may lie at anchor or alongside, where the rules ask"
@@ -93,11 +83,3 @@ def doubts(case, gathered, findings):
     for name, told in gathered.unread.items():
         found.append("Not understood, and left out: %s: %s. One of them: %s" % (count(told.count, "line"), name, told.example))
     return found + [capital(words) + "." for words in gathered.notes]
-
-
-def with_window(text, case):
-    """The scenario's text with the window of the run in it, or nothing where it cannot be put there plainly."""
-    for name, value in (("start", case.start), ("ticks", case.steps)):
-        text = re.sub(r"(?m)^(\s*%s\s*=\s*)\d+" % name, lambda found, value=value: found[1] + str(value), text, count=1)
-    window = tomllib.loads(text).get("window", {})
-    return text if (window.get("start"), window.get("ticks")) == (case.start, case.steps) else None
