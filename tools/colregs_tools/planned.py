@@ -28,9 +28,16 @@ class Planned(Case):
         super().__init__(scenario, points, plan, start, ticks)
         if self.refused is None and not self.legs:
             raise Fault("the report is none of `plan`")
-        own = self.values["own"]
+        try:
+            self.predict_all(self.values["own"])
+        except (KeyError, TypeError, StopIteration) as error:
+            raise Fault("%s: `own` or `predict` lacks what the plan needs: %s" % (scenario, error)) from None
+
+    def predict_all(self, own):
         self.now, self.own, self.targets = self.start + self.steps * self.tick, own["mmsi"], [m for m in self.names if m != own["mmsi"]]
         self.last_tick = own["legs"] * own["leg_ticks"] + own["tail"]
+        if not 0 < self.last_tick <= 7200:
+            raise Fault("own.legs, own.leg_ticks and own.tail come to %d ticks" % self.last_tick)
         self.paths = {mmsi: self.predicted(mmsi) for mmsi in self.names}
         if self.legs:
             self.paths[self.own] = self.planned(self.paths[self.own][0])

@@ -85,7 +85,10 @@ def split_rows(text):
         elif line:
             others.append(line)
             numbers.append(number)
-    return points, list(zip(numbers, csv.reader(others)))
+    try:
+        return points, list(zip(numbers, csv.reader(others)))
+    except csv.Error as error:
+        raise Fault("no report: %s" % error) from None
 
 
 def rows(text):
@@ -165,8 +168,14 @@ class Case:
                 window["start"] if start is None else start, window["tick"], window["ticks"] if ticks is None else ticks))
             self.gap, self.reference = int(self.values["log"]["gap"]), self.values["reference"]
             whole([self.reference["lat"], self.reference["lon"]])
-        except (KeyError, TypeError, ValueError) as error:
+        except (KeyError, TypeError, ValueError, OverflowError) as error:
             raise Fault("%s: window, log.gap or reference is missing or is no number: %s" % (scenario, error)) from None
+        for name, value, low, high in (("window.start", self.start, 0, 9999999999), ("window.tick", self.tick, 1, 60),
+                                       ("window.ticks", self.steps, 1, 20000), ("log.gap", self.gap, 1, 3600),
+                                       ("reference.lat", int(self.reference["lat"]), -45000000, 45000000),
+                                       ("reference.lon", int(self.reference["lon"]), -108000000, 108000000)):
+            if not low <= value <= high:
+                raise Fault("%s: %s is not in %d to %d" % (scenario, name, low, high))
 
     def take_points(self, text):
         points, others = split_rows(text)
@@ -177,7 +186,10 @@ class Case:
                 track = self.tracks.get(mmsi)
                 if track is None:
                     track = self.tracks[mmsi] = Track()
-                track.times.append(int(time) - self.start)
+                at = int(time) - self.start
+                if track.times and at <= track.times[-1]:
+                    raise Fault("the points: those of %d are not in the order of their times" % mmsi)
+                track.times.append(at)
                 track.xs.append(int(x) / 10000)
                 track.ys.append(int(y) / 10000)
                 track.speeds.append(int(speed) if speed else NONE)
@@ -185,8 +197,8 @@ class Case:
         except (ValueError, OverflowError):
             raise Fault("the points: `%s` is no row of a report" % line[:80]) from None
         for number, row in others:
-            if row[0] != "lines" or len(row) != FIELDS:
-                raise Fault("the points, line %d: a row `%s` is none of `points`" % (number, row[0][:40]))
+            if row[0] != "lines" or len(row) != FIELDS or not row[2].isdecimal():
+                raise Fault("the points, line %d: `%s` is no row of `points`" % (number, ",".join(row)[:80]))
             self.point_lines[row[1]] = int(row[2])
 
     def take_all(self, text, name):
@@ -198,7 +210,7 @@ class Case:
                 if len(row) != FIELDS or row[0] not in KINDS:
                     raise ValueError
                 self.take(row)
-            except ValueError:
+            except (ValueError, OverflowError):
                 raise Fault("%s, line %d: `%s` is no row of a report" % (name, number, ",".join(row)[:80])) from None
         if len(self.lines) != OUTCOMES and not self.joined:
             raise Fault("%s: it is not whole: the counts of lines at its end are missing" % name)

@@ -69,7 +69,7 @@ const MapView = (() => {
       const end = parts[parts.length - 1].slice(-1)[0];
       L.circleMarker(end, { radius: TRACKS.length > 60 ? 1.2 : 2.5, color: style.color, fillOpacity: 1 }).bindTooltip(fullName(number)).addTo(map);
       if (named) {
-        L.tooltip({ permanent: true, className: "name", direction: "right", offset: [4, 0] }).setLatLng(parts[0][0]).setContent(escaped(nameOf(number))).addTo(map);
+        L.tooltip({ permanent: true, className: "name", direction: "auto" }).setLatLng(parts[0][0]).setContent(escaped(nameOf(number))).addTo(map);
       }
       all.push(...parts.flat());
     });
@@ -116,7 +116,7 @@ const MapView = (() => {
       const way = stretch(TRACKS[number], first, last), within = stretch(TRACKS[number], begins(meeting), ends(meeting));
       L.polyline(way, { color: PAIR_COLOURS[k], weight: 2, opacity: 0.8, interactive: false }).addTo(chosen);
       L.polyline(within, { color: PAIR_COLOURS[k], weight: 4, interactive: false }).addTo(chosen);
-      if (way.length && !named) L.tooltip({ permanent: true, className: "name", direction: k ? "left" : "right" }).setLatLng(way[0]).setContent(escaped(nameOf(number))).addTo(chosen);
+      if (way.length && !named) L.tooltip({ permanent: true, className: "name", direction: "auto" }).setLatLng(way[0]).setContent(escaped(nameOf(number))).addTo(chosen);
       drawArrow(way, PAIR_COLOURS[k]);
     });
   }
