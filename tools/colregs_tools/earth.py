@@ -19,11 +19,18 @@ class Earth:
         return [round((self.longitude + round(x * self.east)) / 600000, 7), round((self.latitude + round(y * self.north)) / 600000, 7)]
 
 
+    def words(self, xs, ys):
+        """The places as GeoJSON writes a line of them."""
+        return "[%s]" % ",".join(["[%.7f,%.7f]" % ((self.longitude + round(x * self.east)) / 600000, (self.latitude + round(y * self.north)) / 600000)
+                                  for x, y in zip(xs, ys)])
+
+
 def iso(seconds):
     return time.strftime("%Y-%m-%dT%H:%M:%SZ", time.gmtime(seconds))
 
 
 def feature(shape, places, **more):
-    """The text of a feature of GeoJSON."""
+    """The text of a feature of GeoJSON; its places are text too, or numbers."""
     return '{"type":"Feature","geometry":{"type":"%s","coordinates":%s},"properties":%s}' % (
-        shape, json.dumps(places, separators=(",", ":")), json.dumps(more, separators=(",", ":"), ensure_ascii=False))
+        shape, places if isinstance(places, str) else json.dumps(places, separators=(",", ":")),
+        json.dumps(more, separators=(",", ":"), ensure_ascii=False))

@@ -39,12 +39,12 @@ def tracks(case, earth):
     for mmsi, track in sorted(case.tracks.items()):
         about = {"mmsi": mmsi, "name": case.name(mmsi)}
         for part in parts_of(track, case.gap):
-            places = [earth.degrees(track.xs[k], track.ys[k]) for k in part]
+            xs, ys = (values[part.start:part.stop] for values in (track.xs, track.ys))
             first, last = (iso(case.start + track.times[k]) for k in (part[0], part[-1]))
             if len(part) > 1:
-                yield feature("LineString", places, kind="track", **about, first=first, last=last)
-            for end, place, moment in (("first", places[0], first), ("last", places[-1], last)):
-                yield feature("Point", place, kind="end", **about, end=end, time=moment)
+                yield feature("LineString", earth.words(xs, ys), kind="track", **about, first=first, last=last)
+            for end, k, moment in (("first", 0, first), ("last", -1, last)):
+                yield feature("Point", earth.degrees(xs[k], ys[k]), kind="end", **about, end=end, time=moment)
 
 
 def about(case, row):
@@ -56,18 +56,22 @@ def about(case, row):
 
 
 def stretch(case, earth, row):
-    """The subject's way in a stretch."""
-    places = case.places[row["pair"][0]][row["first"]:row["last"] + 2] if row["pair"][0] in case.places else []
-    return [earth.degrees(*place) for place in places if place]
+    """The subject's way in a stretch, as text; nothing where she is not seen at two ticks of it."""
+    if row["pair"][0] not in case.places:
+        return None
+    places = case.places[row["pair"][0]]
+    xs, ys = (values[row["first"]:row["last"] + 2] for values in (places.xs, places.ys))
+    seen = [(x, y) for x, y in zip(xs, ys) if x == x]
+    return earth.words(*zip(*seen)) if len(seen) > 1 else None
 
 
 def meetings(case, earth):
     """The subject's way in each meeting; and where the two were nearest, a line between them and the subject's point."""
     for row in case.meetings:
         more = {**about(case, row), "encounter": row["kind"], "least": row["least"]}
-        places = stretch(case, earth, row)
-        if len(places) > 1:
-            yield feature("LineString", places, kind="meeting", **more)
+        way = stretch(case, earth, row)
+        if way:
+            yield feature("LineString", way, kind="meeting", **more)
             seconds, one, two = case.nearest(row)
             more["time"] = more["end"] = iso(round(case.start + seconds))
             one, two = earth.degrees(*one), earth.degrees(*two)
@@ -77,9 +81,9 @@ def meetings(case, earth):
 
 def verdicts(case, earth):
     for row in case.verdicts:
-        places = stretch(case, earth, row)
-        if len(places) > 1:
-            yield feature("LineString", places, kind="verdict", **about(case, row), rule=row["rule"], value=row["value"])
+        way = stretch(case, earth, row)
+        if way:
+            yield feature("LineString", way, kind="verdict", **about(case, row), rule=row["rule"], value=row["value"])
 
 
 def geojson(case):

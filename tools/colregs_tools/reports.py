@@ -4,6 +4,7 @@ The window is that of the run: the scenario's, with the run's --start and --tick
 the scenario tells them. A report that is not whole, or that does not fit the window or the other report, is refused as a `Fault`.
 """
 import bisect
+import collections.abc
 import csv
 import json
 import math
@@ -144,6 +145,24 @@ class Places:
             self.xs[k] = math.nan
 
 
+class AllPlaces(collections.abc.Mapping):
+    """The places of each vessel, which are reckoned when they are asked for."""
+
+    def __init__(self, tracks, *window):
+        self.tracks, self.window, self.known = tracks, window, {}
+
+    def __getitem__(self, mmsi):
+        if mmsi not in self.known:
+            self.known[mmsi] = Places(self.tracks[mmsi], *self.window)
+        return self.known[mmsi]
+
+    def __iter__(self):
+        return iter(self.tracks)
+
+    def __len__(self):
+        return len(self.tracks)
+
+
 class Case:
     """A scenario's window, each vessel's places at its ticks in metres, the meetings and the verdicts of a run."""
 
@@ -158,7 +177,7 @@ class Case:
         self.take_points(points)
         if audit is not None:
             self.take_all(audit, "the report")
-        self.places = {mmsi: Places(track, self.gap, self.tick, self.steps) for mmsi, track in self.tracks.items()}
+        self.places = AllPlaces(self.tracks, self.gap, self.tick, self.steps)
         self.check()
 
     def set_window(self, scenario, start, ticks):
@@ -179,27 +198,30 @@ class Case:
 
     def take_points(self, text):
         points, others = split_rows(text)
+        told = {}
+        for line in points:
+            told.setdefault(line[6:line.find(",", 6)], []).append(line)
         try:
-            for line in points:
-                _, mmsi, time, x, y, speed, course = line.split(",")
-                mmsi = int(mmsi)
-                track = self.tracks.get(mmsi)
-                if track is None:
-                    track = self.tracks[mmsi] = Track()
-                at = int(time) - self.start
-                if track.times and at <= track.times[-1]:
-                    raise Fault("the points: those of %d are not in the order of their times" % mmsi)
-                track.times.append(at)
-                track.xs.append(int(x) / 10000)
-                track.ys.append(int(y) / 10000)
-                track.speeds.append(int(speed) if speed else NONE)
-                track.courses.append(int(course) if course else NONE)
-        except (ValueError, OverflowError):
-            raise Fault("the points: `%s` is no row of a report" % line[:80]) from None
+            for mmsi, lines in told.items():
+                self.tracks[int(mmsi)] = self.track_of(lines)
+        except (ValueError, OverflowError) as error:
+            raise Fault("the points of %s: a row is none of a report: %s" % (mmsi[:20], error)) from None
         for number, row in others:
             if row[0] != "lines" or len(row) != FIELDS or not row[2].isdecimal():
                 raise Fault("the points, line %d: `%s` is no row of `points`" % (number, ",".join(row)[:80]))
             self.point_lines[row[1]] = int(row[2])
+
+    def track_of(self, lines):
+        """The track of one vessel's rows, column by column; a ValueError where one is no row."""
+        if any(line.count(",") != FIELDS - 1 for line in lines):
+            raise ValueError("a row has other than %d fields" % FIELDS)
+        fields, track = ",".join(lines).split(","), Track()
+        track.times = array("q", [int(time) - self.start for time in fields[2::FIELDS]])
+        track.xs, track.ys = (array("d", [int(value) / 10000 for value in fields[k::FIELDS]]) for k in (3, 4))
+        track.speeds, track.courses = (array("h", [int(value or NONE) for value in fields[k::FIELDS]]) for k in (5, 6))
+        if any(first >= second for first, second in zip(track.times, track.times[1:])):
+            raise ValueError("they are not in the order of their times")
+        return track
 
     def take_all(self, text, name):
         points, others = split_rows(text)
