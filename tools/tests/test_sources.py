@@ -2,8 +2,10 @@
 import bz2
 import gzip
 import lzma
+import os
 import shutil
 import subprocess
+import time
 import unittest
 import zipfile
 
@@ -223,6 +225,23 @@ class Files(Sources):
         status, _, error = self.tool("tagged", source=b"\x00" * 3000000 + b"\n" + bytes(range(256)) * 40)
         self.assertEqual(status, 1)
         self.assertIn("more than a million bytes", error)
+
+    def test_a_pipe_is_read_and_a_device_is_not(self):
+        os.mkfifo(self.path("pipe"))
+        with subprocess.Popen(["sh", "-c", "gzip -c > pipe"], stdin=subprocess.PIPE, cwd=self.folder) as child:
+            child.stdin.write(self.TEXT)
+            child.stdin.close()
+            found = gather([self.path("pipe")], self.path("out"))
+        self.assertEqual((text_of(self.path("out")).splitlines(), found.files[0].name, found.files[0].packed), (self.MADE, "pipe", "gzip"))
+        with self.assertRaisesRegex(Fault, "is a device"):
+            gather(["/dev/zero"], self.path("out"))
+
+    def test_sentences_are_stamped_as_they_come(self):
+        before = int(time.time())
+        status, out, _ = self.tool("tagged", "--now", source=("%s\r\nnothing\n\\c:1700000001*5E\\%s\n" % (S, T)).encode())
+        lines = out.splitlines()
+        self.assertEqual((status, lines[0][17:], lines[1:]), (0, S, ["nothing", "\\c:1700000001*5E\\" + T]))
+        self.assertTrue(before <= int(lines[0][3:13]) <= time.time())
 
     def test_a_log_is_not_written_over(self):
         log = self.write("log", self.TEXT)
