@@ -13,7 +13,7 @@ from .scenarios import place, sampled
 
 REFUSED = {3: "the first key with a fault is told; docs/SCENARIO.md has its range", 4: "is its name right, and may it be read",
            7: "docs/ROWS.md says what to do at a limit", 9: "own ship must be in the log before the window's end, with course and speed"}
-WORDS = ("points", "audit", "plan")
+NO_SENTENCE = ("empty", "long", "tag", "other", "form", "sum", "armour")
 SHOWN = 5                               # of more findings of one name than this the number is told
 STILL = 5                               # 1/10 knot: who never makes this lies still
 
@@ -41,7 +41,7 @@ class Patient:
         self.counts = self.audit.counts() if self.audit.status == 0 else {}
         self.ships, self.times, _, _, self.speeds, self.courses = self.points.columns() if self.points.status == 0 else [[]] * 6
         self.vessels = {int(fields[1]): fields for fields in self.rows("vessel")}
-        self.sentences = sum(self.counts.values()) - sum(self.counts.get(name, 0) for name in ("empty", "long", "tag", "other", "form", "sum", "armour"))
+        self.sentences = sum(count for name, count in self.counts.items() if name not in NO_SENTENCE)
 
     def run(self, mode):
         return Run(self.program, mode, self.scenario, self.log, self.options)
@@ -72,10 +72,14 @@ def read_scenario(path):
         return {}
 
 
+def refusal(mode, run):
+    more = REFUSED.get(run.status, "docs/ROWS.md has the status")
+    return Finding("refused run", "the program ends `%s` with status %d, %s: %s" % (mode, run.status, run.words, more))
+
+
 def refused(patient):
-    run = patient.audit if patient.audit.status else patient.points
-    if run.status:
-        yield Finding("refused run", "the program ends with status %d, %s: %s" % (run.status, run.words, REFUSED.get(run.status, "docs/ROWS.md has the status")))
+    if patient.audit.status or patient.points.status:
+        yield refusal("audit", patient.audit) if patient.audit.status else refusal("points", patient.points)
 
 
 def other_report(patient):
@@ -87,7 +91,7 @@ def other_report(patient):
         return
     fresh = {"audit": patient.audit, "points": patient.points}.get(mode) or patient.run(mode)
     if fresh.status not in (0, 1):
-        yield Finding("refused run", "the program ends `%s` with status %d, %s: %s" % (mode, fresh.status, fresh.words, REFUSED.get(fresh.status, "")))
+        yield refusal(mode, fresh)
     elif fresh.text != patient.report:
         yield Finding("report of something else", "`%s` with this scenario and log writes another report: was it cut off, or had it other values, "
                       "`--start`, `--ticks` or another log" % mode)
@@ -142,7 +146,8 @@ def close(one, two):
 def unsorted(patient):
     late = patient.counts.get("late", 0)
     if 100 * late > patient.sentences:
-        yield Finding("unsorted lines", "%d of %d sentences come later than `log.slack` behind others: tools/tagged sorts them" % (late, patient.sentences))
+        yield Finding("unsorted lines", "%d of %d sentences come later than `log.slack` behind others: tools/tagged sorts them" % (
+            late, patient.sentences))
 
 
 def damaged(patient):
@@ -157,7 +162,8 @@ def damaged(patient):
         if part * count > lines:
             yield Finding(name, "%d of %d lines: %s" % (count, lines, words))
     if patient.counts.get("orphan", 0) > patient.counts.get("part", 0):
-        yield Finding("parts without their messages", "%d parts of messages lack the parts before them: were lines taken out" % patient.counts["orphan"])
+        yield Finding("parts without their messages", "%d parts of messages lack the parts before them: were lines taken out" % (
+            patient.counts["orphan"]))
 
 
 def absent(patient):
@@ -174,8 +180,9 @@ def unseen(patient):
     """Vessels with reports that no legs join, tracks that tell nothing, and a window in which nobody is watched."""
     points, legs = (sum(int(fields[k]) for fields in patient.vessels.values()) for k in (5, 6))
     if patient.vessels and points > 3 * len(patient.vessels) and 2 * legs < points - len(patient.vessels):
-        yield Finding("gap shorter than reports are apart", "%d of %d reports follow the one before by more than `log.gap`: such vessels are not seen" % (
-            points - len(patient.vessels) - legs, points - len(patient.vessels)))
+        follow = points - len(patient.vessels)
+        yield Finding("gap shorter than reports are apart", "%d of %d reports follow the one before by more than `log.gap`: "
+                      "such vessels are not seen" % (follow - legs, follow))
     if patient.speeds and 2 * sum(not speed or not course for speed, course in zip(patient.speeds, patient.courses)) > len(patient.speeds):
         yield Finding("no course or no speed", "most reports tell no course or no speed: rules that need them stay open")
     totals = patient.rows("total")

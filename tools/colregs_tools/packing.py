@@ -160,7 +160,11 @@ def parts(path):
     with seekable(path) as file:
         packed = packing(file)
         with told(path, packed):
-            for name, opened in members(file, packed):
-                part = Part(name if file == path else os.path.basename(path), packed)
-                with opened() as stream:
-                    yield part, whole_lines(path, stream, part)
+            yield from open_parts(path, file, packed)
+
+
+def open_parts(path, file, packed):
+    for name, opened in members(file, packed):
+        part = Part(name if file == path else os.path.basename(path), packed)
+        with opened() as stream:
+            yield part, whole_lines(path, stream, part)

@@ -47,7 +47,8 @@ def wrong_units(values):
             name, value_at(values, name), format(max(told) / part, "g"), word, {"m": "metres"}.get(unit, unit)))
     latitude, longitude = (numbers_at(values, "reference." + word) for word in ("lat", "lon"))
     if latitude and longitude and (latitude[0] or longitude[0]) and abs(latitude[0]) <= 90 and abs(longitude[0]) <= 180:
-        yield Finding("degrees for the reference", "`reference` is %g, %g: the unit is 1/10000 minute, so a degree is 600000" % (latitude[0], longitude[0]))
+        yield Finding("degrees for the reference", "`reference` is %g, %g: the unit is 1/10000 minute, so a degree is 600000" % (
+            latitude[0], longitude[0]))
     start = numbers_at(values, "window.start")
     if start and start[0] >= 10 ** 11:
         yield Finding("milliseconds for seconds", "`window.start = %s` looks like milliseconds: the unit is seconds" % start[0])
@@ -66,7 +67,8 @@ def no_ships(values):
         for mmsi in numbers_at(values, name):
             if not 200000000 <= mmsi <= 799999999:
                 kind = "an aid to navigation" if 990000000 <= mmsi else "a coast station" if mmsi < 10000000 else "no ship"
-                yield Finding("station that is no ship", "`%s` has %s, which is %s: a ship's MMSI is from 200000000 to 799999999" % (name, mmsi, kind))
+                yield Finding("station that is no ship", "`%s` has %s, which is %s: a ship's MMSI is from 200000000 to 799999999" % (
+                    name, mmsi, kind))
 
 
 def findings(values):

@@ -121,7 +121,7 @@ def where(log):
 
 
 class Found:
-    """What the program read of the log: the places and times of accepted reports, and for each vessel under way the median of the seconds between hers."""
+    """What the program read of the log: places and times of accepted reports, and of each vessel under way the median seconds between hers."""
 
     def __init__(self, done, reference):
         if done.status != 0:

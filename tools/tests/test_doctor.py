@@ -129,7 +129,8 @@ class WrongUses(InFolder):
     def test_a_report_of_something_else_is_named(self):
         audit = text_of(example("crossing.csv"))
         self.assertEqual(self.names(TOML, LOG, audit), [])
-        for name, other in (("report of something else", text_of(example("head_on.csv"))), ("report of something else", audit.replace(",10,10", ",11,11")),
+        other_log, other_steps = text_of(example("head_on.csv")), audit.replace(",10,10", ",11,11")
+        for name, other in (("report of something else", other_log), ("report of something else", other_steps),
                             ("no whole report", audit[:200]), ("no whole report", "")):
             self.assertEqual(self.names(TOML, LOG, other), [name])
         with_options = self.program_with("--ticks", "40")
@@ -167,7 +168,7 @@ class Keys(unittest.TestCase):
     def test_the_keys_are_those_of_the_page(self):
         known = keys.units()
         self.assertEqual(len(known), 54 - 2)                 # rows 0 to 53, less the text as a whole and the weight of all formulas
-        self.assertEqual((known["detect.watch"], known["act.apparent_turn"], known["rules.safe_other"], known["rules.te"]), ("m", "1/10 degree", "m", "s"))
+        self.assertEqual([known[key] for key in ("detect.watch", "act.apparent_turn", "rules.safe_other", "rules.te")], ["m", "1/10 degree", "m", "s"])
 
 
 def report(at, mmsi, latitude, longitude, way=100, course=900, heading=90):

@@ -175,7 +175,8 @@ class Blocks(Sources):
         found, _ = self.gathered(log.encode("latin-1"))
         counted = sum(found.forms.values()) + sum(found.aside.values()) + sum(told.count for told in found.unread.values())
         self.assertEqual((counted, found.lines()), (10, 10))
-        self.assertEqual(sorted(found.unread), ["JSON without a sentence", "a line with no sentence and no row", "a sentence without its sum, or cut off"])
+        self.assertEqual(sorted(found.unread), [
+            "JSON without a sentence", "a line with no sentence and no row", "a sentence without its sum, or cut off"])
 
 
 def gather_lines(test, lines):
@@ -201,7 +202,8 @@ class Files(Sources):
                 self.assertEqual((lines, found.files[0].packed, found.files[0].lines), (self.MADE, name, 2))
 
     def test_a_file_that_is_damaged_or_cut_off_is_refused(self):
-        for packed in (gzip.compress(self.TEXT)[:-10], lzma.compress(self.TEXT)[:-10], b"PK\x03\x04nonsense", b"\x1f\x8bnonsense", b"\x28\xb5\x2f\xfd.."):
+        cut_off = gzip.compress(self.TEXT)[:-10], lzma.compress(self.TEXT)[:-10]
+        for packed in (*cut_off, b"PK\x03\x04nonsense", b"\x1f\x8bnonsense", b"\x28\xb5\x2f\xfd.."):
             with self.subTest(packed[:4]), self.assertRaisesRegex(Fault, "damaged or cut off|zstd is not here"):
                 self.gathered(packed)
 
@@ -218,7 +220,8 @@ class Files(Sources):
         self.assertEqual((text_of(self.path("out")).splitlines(), [part.name for part in found.files]), (self.MADE, ["b", "a"]))
 
     def test_what_is_no_log_ends_with_words_and_a_status(self):
-        for words, told in ((["nothing"], "cannot be read: no such file"), (["."], "is a folder"), ([self.write("empty", "")], "no sentence and no row")):
+        empty = [self.write("empty", "")]
+        for words, told in ((["nothing"], "cannot be read: no such file"), (["."], "is a folder"), (empty, "no sentence and no row")):
             status, out, error = self.tool("tagged", *words)
             self.assertEqual((status, out), (1, ""))
             self.assertIn(told, error)
