@@ -2,6 +2,7 @@
 import collections
 import csv
 import io
+import math
 import time
 import tomllib
 
@@ -39,7 +40,7 @@ class Patient:
         self.report = None if report is None else read_whole(report)
         self.audit, self.points = (self.run(mode) for mode in ("audit", "points"))
         self.counts = self.audit.counts() if self.audit.status == 0 else {}
-        self.ships, self.times, _, _, self.speeds, self.courses = self.points.columns() if self.points.status == 0 else [[]] * 6
+        self.ships, self.times, _, self.norths, self.speeds, self.courses = self.points.columns() if self.points.status == 0 else [[]] * 6
         self.vessels = {int(fields[1]): fields for fields in self.rows("vessel")}
         self.sentences = sum(count for name, count in self.counts.items() if name not in NO_SENTENCE)
 
@@ -139,6 +140,27 @@ def region_misses(patient):
         far, *reference, latitude, longitude, hint))
 
 
+def reference_far(patient):
+    """A reference so far to the north or south that lengths to the east are wrong by more than a hundredth."""
+    if not patient.norths:
+        return
+    told = numbers_at(patient.values, "reference.lat")[0] / 600000
+    middle = told + sorted(patient.norths)[len(patient.norths) // 2] / 1852 / 600000
+    wrong = math.cos(math.radians(told)) / math.cos(math.radians(middle)) - 1
+    if abs(wrong) > 0.01:
+        yield Finding("reference far from the traffic", "the middle of the reports is at latitude %d, and lengths to the east are %.1f %% too %s there" % (
+            round(middle * 600000), abs(wrong) * 100, "great" if wrong > 0 else "small"))
+
+
+def no_reports(patient):
+    """A log of which the program accepts nothing, and what came of its lines instead."""
+    if patient.counts and not patient.counts.get("point"):
+        most = sorted((name for name, count in patient.counts.items() if count), key=patient.counts.get, reverse=True)
+        told = ", ".join("%d `%s`" % (patient.counts[name], name) for name in most[:3])
+        hint = ": tools/tagged reads lines that do not begin with a sentence" if most[:1] == ["other"] else ""
+        yield Finding("no reports", "no position report is accepted; the lines came to %s%s" % (told, hint))
+
+
 def close(one, two):
     return all(abs(a - b) <= 1200000 for a, b in zip(one, two))
 
@@ -193,7 +215,13 @@ def unseen(patient):
 
 def senders(patient):
     found = log_checks.Senders(patient.log)
-    yield from found.shared()
+    yield from found.clock()
+    shared = list(found.shared())
+    yield from shared
+    jumps, points = patient.counts.get("jump", 0), collections.Counter(patient.ships)
+    for mmsi, reports, kept in found.lost(points) if not shared else ():
+        if jumps >= reports - kept:
+            yield Finding("many jumps", "%d of %d reports of %d are accepted: is she faster than `log.max_speed`" % (kept, reports, mmsi))
     yield from found.no_ships({mmsi: fields[2] for mmsi, fields in patient.vessels.items() if mmsi in set(patient.ships)})
 
 
@@ -208,7 +236,7 @@ def at_rest(patient):
         yield Finding("verdicts at rest", "%d never makes 0.5 knots, and has %d of the verdicts" % (mmsi, count))
 
 
-CHECKS = (refused, other_report, no_times, window_misses, region_misses, unsorted, damaged, absent, unseen, senders, at_rest)
+CHECKS = (refused, other_report, no_reports, no_times, window_misses, region_misses, reference_far, unsorted, damaged, absent, unseen, senders, at_rest)
 
 
 def shortened(found):
