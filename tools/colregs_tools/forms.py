@@ -39,6 +39,7 @@ UNSURE = [
     form("a ctime date with a zone in letters", MONTH + r" +\d{1,2} \d\d:\d\d:\d\d [A-Z]{3,4} \d{4}", 0),
     form("a date whose day and month may be exchanged", r"\d\d?[/-]\d\d?[/-]\d{4}[T ,;_\t]*\d\d?:\d\d"),
     form("a date that is none", r"\d{4}[-/.]\d\d[-/.]\d\d(?:T|[ _,;\t]+)\d\d:\d\d:\d\d\S*"),
+    form("a date and time without seconds", r"\d{4}[-/.]\d\d[-/.]\d\d(?:T|[ _,;\t]+)\d\d:\d\d"),
     form("a date without a year", MONTH + r" +\d{1,2} \d\d:\d\d:\d\d"),
     form("a time of day without a date", r"\d\d:\d\d(?::\d\d)?(?:[.,]\d+)?"),
     form("a date without a time of day", r"\d{4}-\d\d-\d\d"),

@@ -170,6 +170,11 @@ class Blocks(Sources):
         self.assertEqual((made, found.back > 0), (gather_lines(self, lines), True))
         self.assertIn("sorted by time", " ".join(found.notes))
 
+    def test_a_clock_that_was_not_set_is_told(self):
+        log = "\n".join("%d %s" % (1700000000 + 10 * k, S) for k in range(2000)) + "\n1000000000 " + T
+        self.assertIn("1 sentences have times more than a day off nearly all others, as 2001-09-09", "".join(self.gathered(log)[0].notes))
+        self.assertEqual(self.gathered("1700000000 %s\n1700090000 %s" % (S, T))[0].notes, [])
+
     def test_every_line_is_counted_once(self):
         log = "\n\n# a comment\n%s,1700000001\nnonsense\n$GPGGA,1*00\n!AIVDM,1,1,,A,123\n{\"a\":1}\n{broken\n\xff\xfe\n" % S
         found, _ = self.gathered(log.encode("latin-1"))
