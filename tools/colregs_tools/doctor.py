@@ -2,6 +2,7 @@
 import collections
 import csv
 import io
+import math
 import time
 import tomllib
 
@@ -13,7 +14,7 @@ from .scenarios import place, sampled
 
 REFUSED = {3: "the first key with a fault is told; docs/SCENARIO.md has its range", 4: "is its name right, and may it be read",
            7: "docs/ROWS.md says what to do at a limit", 9: "own ship must be in the log before the window's end, with course and speed"}
-WORDS = ("points", "audit", "plan")
+NO_SENTENCE = ("empty", "long", "tag", "other", "form", "sum", "armour")
 SHOWN = 5                               # of more findings of one name than this the number is told
 STILL = 5                               # 1/10 knot: who never makes this lies still
 
@@ -39,9 +40,9 @@ class Patient:
         self.report = None if report is None else read_whole(report)
         self.audit, self.points = (self.run(mode) for mode in ("audit", "points"))
         self.counts = self.audit.counts() if self.audit.status == 0 else {}
-        self.ships, self.times, _, _, self.speeds, self.courses = self.points.columns() if self.points.status == 0 else [[]] * 6
+        self.ships, self.times, _, self.norths, self.speeds, self.courses = self.points.columns() if self.points.status == 0 else [[]] * 6
         self.vessels = {int(fields[1]): fields for fields in self.rows("vessel")}
-        self.sentences = sum(self.counts.values()) - sum(self.counts.get(name, 0) for name in ("empty", "long", "tag", "other", "form", "sum", "armour"))
+        self.sentences = sum(count for name, count in self.counts.items() if name not in NO_SENTENCE)
 
     def run(self, mode):
         return Run(self.program, mode, self.scenario, self.log, self.options)
@@ -72,10 +73,14 @@ def read_scenario(path):
         return {}
 
 
+def refusal(mode, run):
+    more = REFUSED.get(run.status, "docs/ROWS.md has the status")
+    return Finding("refused run", "the program ends `%s` with status %d, %s: %s" % (mode, run.status, run.words, more))
+
+
 def refused(patient):
-    run = patient.audit if patient.audit.status else patient.points
-    if run.status:
-        yield Finding("refused run", "the program ends with status %d, %s: %s" % (run.status, run.words, REFUSED.get(run.status, "docs/ROWS.md has the status")))
+    if patient.audit.status or patient.points.status:
+        yield refusal("audit", patient.audit) if patient.audit.status else refusal("points", patient.points)
 
 
 def other_report(patient):
@@ -87,7 +92,7 @@ def other_report(patient):
         return
     fresh = {"audit": patient.audit, "points": patient.points}.get(mode) or patient.run(mode)
     if fresh.status not in (0, 1):
-        yield Finding("refused run", "the program ends `%s` with status %d, %s: %s" % (mode, fresh.status, fresh.words, REFUSED.get(fresh.status, "")))
+        yield refusal(mode, fresh)
     elif fresh.text != patient.report:
         yield Finding("report of something else", "`%s` with this scenario and log writes another report: was it cut off, or had it other values, "
                       "`--start`, `--ticks` or another log" % mode)
@@ -135,6 +140,27 @@ def region_misses(patient):
         far, *reference, latitude, longitude, hint))
 
 
+def reference_far(patient):
+    """A reference so far to the north or south that lengths to the east are wrong by more than a hundredth."""
+    if not patient.norths:
+        return
+    told = numbers_at(patient.values, "reference.lat")[0] / 600000
+    middle = told + sorted(patient.norths)[len(patient.norths) // 2] / 1852 / 600000
+    wrong = math.cos(math.radians(told)) / math.cos(math.radians(middle)) - 1
+    if abs(wrong) > 0.01:
+        yield Finding("reference far from the traffic", "the middle of the reports is at latitude %d, and lengths to the east are %.1f %% too %s there" % (
+            round(middle * 600000), abs(wrong) * 100, "great" if wrong > 0 else "small"))
+
+
+def no_reports(patient):
+    """A log of which the program accepts nothing, and what came of its lines instead."""
+    if patient.counts and not patient.counts.get("point"):
+        most = sorted((name for name, count in patient.counts.items() if count), key=patient.counts.get, reverse=True)
+        told = ", ".join("%d `%s`" % (patient.counts[name], name) for name in most[:3])
+        hint = ": tools/tagged reads lines that do not begin with a sentence" if most[:1] == ["other"] else ""
+        yield Finding("no reports", "no position report is accepted; the lines came to %s%s" % (told, hint))
+
+
 def close(one, two):
     return all(abs(a - b) <= 1200000 for a, b in zip(one, two))
 
@@ -142,7 +168,8 @@ def close(one, two):
 def unsorted(patient):
     late = patient.counts.get("late", 0)
     if 100 * late > patient.sentences:
-        yield Finding("unsorted lines", "%d of %d sentences come later than `log.slack` behind others: tools/tagged sorts them" % (late, patient.sentences))
+        yield Finding("unsorted lines", "%d of %d sentences come later than `log.slack` behind others: tools/tagged sorts them" % (
+            late, patient.sentences))
 
 
 def damaged(patient):
@@ -157,7 +184,8 @@ def damaged(patient):
         if part * count > lines:
             yield Finding(name, "%d of %d lines: %s" % (count, lines, words))
     if patient.counts.get("orphan", 0) > patient.counts.get("part", 0):
-        yield Finding("parts without their messages", "%d parts of messages lack the parts before them: were lines taken out" % patient.counts["orphan"])
+        yield Finding("parts without their messages", "%d parts of messages lack the parts before them: were lines taken out" % (
+            patient.counts["orphan"]))
 
 
 def absent(patient):
@@ -174,8 +202,9 @@ def unseen(patient):
     """Vessels with reports that no legs join, tracks that tell nothing, and a window in which nobody is watched."""
     points, legs = (sum(int(fields[k]) for fields in patient.vessels.values()) for k in (5, 6))
     if patient.vessels and points > 3 * len(patient.vessels) and 2 * legs < points - len(patient.vessels):
-        yield Finding("gap shorter than reports are apart", "%d of %d reports follow the one before by more than `log.gap`: such vessels are not seen" % (
-            points - len(patient.vessels) - legs, points - len(patient.vessels)))
+        follow = points - len(patient.vessels)
+        yield Finding("gap shorter than reports are apart", "%d of %d reports follow the one before by more than `log.gap`: "
+                      "such vessels are not seen" % (follow - legs, follow))
     if patient.speeds and 2 * sum(not speed or not course for speed, course in zip(patient.speeds, patient.courses)) > len(patient.speeds):
         yield Finding("no course or no speed", "most reports tell no course or no speed: rules that need them stay open")
     totals = patient.rows("total")
@@ -186,7 +215,13 @@ def unseen(patient):
 
 def senders(patient):
     found = log_checks.Senders(patient.log)
-    yield from found.shared()
+    yield from found.clock()
+    shared = list(found.shared())
+    yield from shared
+    jumps, points = patient.counts.get("jump", 0), collections.Counter(patient.ships)
+    for mmsi, reports, kept in found.lost(points) if not shared else ():
+        if jumps >= reports - kept:
+            yield Finding("many jumps", "%d of %d reports of %d are accepted: is she faster than `log.max_speed`" % (kept, reports, mmsi))
     yield from found.no_ships({mmsi: fields[2] for mmsi, fields in patient.vessels.items() if mmsi in set(patient.ships)})
 
 
@@ -201,7 +236,7 @@ def at_rest(patient):
         yield Finding("verdicts at rest", "%d never makes 0.5 knots, and has %d of the verdicts" % (mmsi, count))
 
 
-CHECKS = (refused, other_report, no_times, window_misses, region_misses, unsorted, damaged, absent, unseen, senders, at_rest)
+CHECKS = (refused, other_report, no_reports, no_times, window_misses, region_misses, reference_far, unsorted, damaged, absent, unseen, senders, at_rest)
 
 
 def shortened(found):

@@ -1,7 +1,7 @@
 """The forms in which a line of a log tells its time, before a sentence or behind it.
 
-A time without a zone is taken to be in UTC, less an offset where the reader gives one. A time that can be read in two ways, or that lacks its date, is
-told as what it is and not guessed.
+A time without a zone is taken to be in UTC, less an offset where the reader gives one. A time that can be read in two ways, or that lacks its
+date, is told as what it is and not guessed.
 """
 import datetime
 import re
@@ -39,6 +39,7 @@ UNSURE = [
     form("a ctime date with a zone in letters", MONTH + r" +\d{1,2} \d\d:\d\d:\d\d [A-Z]{3,4} \d{4}", 0),
     form("a date whose day and month may be exchanged", r"\d\d?[/-]\d\d?[/-]\d{4}[T ,;_\t]*\d\d?:\d\d"),
     form("a date that is none", r"\d{4}[-/.]\d\d[-/.]\d\d(?:T|[ _,;\t]+)\d\d:\d\d:\d\d\S*"),
+    form("a date and time without seconds", r"\d{4}[-/.]\d\d[-/.]\d\d(?:T|[ _,;\t]+)\d\d:\d\d"),
     form("a date without a year", MONTH + r" +\d{1,2} \d\d:\d\d:\d\d"),
     form("a time of day without a date", r"\d\d:\d\d(?::\d\d)?(?:[.,]\d+)?"),
     form("a date without a time of day", r"\d{4}-\d\d-\d\d"),
@@ -109,7 +110,7 @@ class Times:
         return re.match(rb" ?(?:%s)(?!\w)" % LOCAL.replace(" ", "|").encode(), text[found.end():found.end() + 6]) is not None
 
     def read(self, text, last=False):
-        """The time that a text tells and the name of its form, or nothing; the first time, or the last. Unsure where there is one that is not read."""
+        """The first or the last time that a text tells and the name of its form, or nothing. Unsure where there is one that is not read."""
         if not text or not any(48 <= byte < 58 for byte in text):
             return None
         answer = self.tried(text, last)

@@ -102,7 +102,8 @@ class Objects:
         if not 0 <= mmsi < 1 << 30:
             raise ValueError(mmsi)
         sides = [units.number(held.get("to_" + side, "")) for side in ("bow", "stern", "port", "starboard")]
-        made += self.ship.static(mmsi, held.get("shipname", ""), units.kind(held.get("shiptype", "")), units.hull(sides, 0, 0), held.get("callsign", ""))
+        made += self.ship.static(mmsi, held.get("shipname", ""), units.kind(held.get("shiptype", "")), units.hull(sides, 0, 0),
+                                 held.get("callsign", ""))
         if held.get("type") in (1, 2, 3, 18, 19):
             whole = held.get("scaled", True) is False
             place, part = (600000, 10) if whole else (1, 1)

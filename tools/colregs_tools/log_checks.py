@@ -1,7 +1,9 @@
 """What a doctor sees in a log itself, before the program reads it: how it is packed, whether it has sentences and times, who shares an MMSI."""
 import collections
 import re
+import statistics
 
+from .forms import seconds_of
 from .logs import stamp, timed
 from .packing import encoding, packing
 from .scenario_checks import Finding
@@ -15,6 +17,8 @@ PLACES = {1: (61, 89), 2: (61, 89), 3: (61, 89), 18: (57, 85), 19: (57, 85)}
 STATIONS = {4: "a base station's time", 9: "an aircraft's report", 11: "a base station's time", 21: "an aid to navigation's report"}
 FLOATS = re.compile(r"\bBUOY|\bBEACON|\bNETS?\b|\bNETMARK|\d+ ?%|\d\d?\.\d ?V\b")
 STEADY = 3                               # so many reports of either of two tracks make two ships
+CLOCKS = 4, 11                           # messages that tell the UTC of their sender
+OFF = 60                                 # s: a log's clock that is farther off than this is told
 MOVED = 600                              # s: a track without a report for so long has gone over into the other
 
 
@@ -46,9 +50,10 @@ class Track:
     """The reports of one MMSI: the latest, and the latest that does not fit to it. Where both go on side by side, two ships send them."""
 
     def __init__(self, report):
-        self.main, self.second, self.fits, self.most = report, None, [0, 0], 0
+        self.main, self.second, self.fits, self.most, self.reports = report, None, [0, 0], 0, 1
 
     def take(self, report):
+        self.reports += 1
         to_main, to_second = near(self.main, report), self.second is not None and near(self.second, report)
         if to_main:
             self.fits[0] += self.second is not None and not to_second
@@ -73,12 +78,14 @@ class Senders:
     """Who sent what: ships that share an MMSI, and MMSIs that send what no ship sends."""
 
     def __init__(self, log):
-        self.tracks, self.stations = {}, collections.defaultdict(collections.Counter)
+        self.tracks, self.stations, self.apart = {}, collections.defaultdict(collections.Counter), []
         with open(log, "rb") as source:
             for at, line in timed(source):
                 message = lone_message(line)
                 if message and message.length >= 38:
                     self.take(at or 0, message)
+                    if at is not None and message.number(0, 6) in CLOCKS:
+                        self.compare(at, message)
 
     def take(self, at, message):
         kind, mmsi = message.number(0, 6), message.number(8, 30)
@@ -93,6 +100,26 @@ class Senders:
                     self.tracks[mmsi].take(report)
                 else:
                     self.tracks[mmsi] = Track(report)
+
+    def compare(self, at, message):
+        """How far a line's time is from the UTC that its base station tells."""
+        fields = [message.number(first, width) for first, width in ((38, 14), (52, 4), (56, 5), (61, 5), (66, 6), (72, 6))]
+        try:
+            self.apart.append(at - seconds_of(*fields))
+        except ValueError:
+            return
+
+    def clock(self):
+        apart = round(statistics.median(self.apart)) if self.apart else 0
+        if abs(apart) > OFF:
+            yield Finding("clock that is off", "the log's times are %d s (%.2f hours) %s the UTC that base stations tell in %d messages" % (
+                abs(apart), abs(apart) / 3600, "ahead of" if apart > 0 else "behind", len(self.apart)))
+
+    def lost(self, points):
+        """Ships most of whose reports are not accepted, by how many are."""
+        for mmsi, track in sorted(self.tracks.items()):
+            if track.reports >= 10 and 2 * points.get(mmsi, 0) < track.reports:
+                yield mmsi, track.reports, points.get(mmsi, 0)
 
     def shared(self):
         for mmsi, track in sorted(self.tracks.items()):

@@ -10,7 +10,9 @@ import io
 import lzma
 import os
 import shutil
+import stat
 import subprocess
+import tempfile
 import zipfile
 import zlib
 
@@ -135,11 +137,34 @@ def whole_lines(path, stream, part):
         yield from stream_lines(stream, part)
 
 
+@contextlib.contextmanager
+def seekable(path):
+    """The path of a file with what stands there, which of a pipe is a copy."""
+    try:
+        kind = os.stat(path).st_mode
+    except OSError:
+        kind = stat.S_IFREG           # that it is not there is told where it is opened
+    if stat.S_ISCHR(kind) or stat.S_ISBLK(kind) or stat.S_ISSOCK(kind):
+        raise Fault("%s is a device, and no log" % path)
+    if not stat.S_ISFIFO(kind):
+        yield path
+        return
+    with tempfile.NamedTemporaryFile() as copy, open(path, "rb") as source:
+        shutil.copyfileobj(source, copy)
+        copy.flush()
+        yield copy.name
+
+
 def parts(path):
     """Each log within the file, as a Part with its lines."""
-    packed = packing(path)
-    with told(path, packed):
-        for name, opened in members(path, packed):
-            part = Part(name, packed)
-            with opened() as stream:
-                yield part, whole_lines(path, stream, part)
+    with seekable(path) as file:
+        packed = packing(file)
+        with told(path, packed):
+            yield from open_parts(path, file, packed)
+
+
+def open_parts(path, file, packed):
+    for name, opened in members(file, packed):
+        part = Part(name if file == path else os.path.basename(path), packed)
+        with opened() as stream:
+            yield part, whole_lines(path, stream, part)

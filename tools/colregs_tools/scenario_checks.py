@@ -7,6 +7,7 @@ Finding = collections.namedtuple("Finding", "name words")
 
 LEAST = {"1/10 degree": 20, "1/10 knot": 3, "m": 20}      # below this a number that is not nought looks like one of another unit
 LEAST_OF = {"act.apparent_turn": 50, "act.apparent_speed": 10, "log.max_speed": 100, "own.courses": 100, "own.speeds": 10, "detect.doubt": 2}
+LEAST_SECONDS = {"detect.horizon": 60, "rules.te": 60, "rules.tw": 20, "rules.ta": 20, "rules.t8": 10, "rules.tl": 5}
 LOOKS = {"1/10 degree": ("degrees for tenths", 10, "degrees"), "1/10 knot": ("knots for tenths", 10, "knots"),
          "m": ("miles for metres", 1, "m")}
 AT_ODDS = [("act.steady_turn", "act.apparent_turn"), ("act.steady_speed", "act.apparent_speed"), ("detect.risk", "detect.watch"),
@@ -45,9 +46,17 @@ def wrong_units(values):
         finding, part, word = LOOKS[unit]
         yield Finding(finding, "`%s = %s` is %s %s: the unit is %s" % (
             name, value_at(values, name), format(max(told) / part, "g"), word, {"m": "metres"}.get(unit, unit)))
+    for name, least in LEAST_SECONDS.items():
+        if any(0 < number < least for number in numbers_at(values, name)):
+            yield Finding("minutes for seconds", "`%s = %s` is so short that it looks like minutes: the unit is s" % (name, value_at(values, name)))
+    yield from wrong_place_and_time(values)
+
+
+def wrong_place_and_time(values):
     latitude, longitude = (numbers_at(values, "reference." + word) for word in ("lat", "lon"))
     if latitude and longitude and (latitude[0] or longitude[0]) and abs(latitude[0]) <= 90 and abs(longitude[0]) <= 180:
-        yield Finding("degrees for the reference", "`reference` is %g, %g: the unit is 1/10000 minute, so a degree is 600000" % (latitude[0], longitude[0]))
+        yield Finding("degrees for the reference", "`reference` is %g, %g: the unit is 1/10000 minute, so a degree is 600000" % (
+            latitude[0], longitude[0]))
     start = numbers_at(values, "window.start")
     if start and start[0] >= 10 ** 11:
         yield Finding("milliseconds for seconds", "`window.start = %s` looks like milliseconds: the unit is seconds" % start[0])
@@ -66,7 +75,8 @@ def no_ships(values):
         for mmsi in numbers_at(values, name):
             if not 200000000 <= mmsi <= 799999999:
                 kind = "an aid to navigation" if 990000000 <= mmsi else "a coast station" if mmsi < 10000000 else "no ship"
-                yield Finding("station that is no ship", "`%s` has %s, which is %s: a ship's MMSI is from 200000000 to 799999999" % (name, mmsi, kind))
+                yield Finding("station that is no ship", "`%s` has %s, which is %s: a ship's MMSI is from 200000000 to 799999999" % (
+                    name, mmsi, kind))
 
 
 def findings(values):

@@ -121,17 +121,18 @@ def where(log):
 
 
 class Found:
-    """What the program read of the log: the places and times of accepted reports, and the seconds between those of vessels under way."""
+    """What the program read of the log: places and times of accepted reports, and of each vessel under way the median seconds between hers."""
 
     def __init__(self, done, reference):
         if done.status != 0:
             raise Fault("the program ended with status %d: %s" % (done.status, done.words))
         ships, self.times, self.easts, self.norths, speeds, _ = done.columns()
-        self.apart, latest = [], {}
+        apart, latest = {}, {}
         for mmsi, at, speed in zip(ships, self.times, speeds):
             if mmsi in latest and (len(speed) > 1 or speed >= b"5"):
-                self.apart.append(at - latest[mmsi])
+                apart.setdefault(mmsi, []).append(at - latest[mmsi])
             latest[mmsi] = at
+        self.apart = [statistics.median(told) for told in apart.values()]
         self.vessels, self.counts, self.first = len(latest), done.counts(), reference
 
     def reference(self):

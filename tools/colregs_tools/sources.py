@@ -1,7 +1,8 @@
 """Makes one log of any logs: `gather` writes sentences with tag blocks, sorted by time, and counts each line by the form in which it was read.
 
-A sentence takes its time from its tag block, else from behind its sum, else from before it, else from the receiver's own clock (RMC, ZDA), else from the
-line before. A line that gives nothing is counted too: `aside` where it is known and of no use here, `unread` with an example where it is not understood.
+A sentence takes its time from its tag block, else from behind its sum, else from before it. A line without a time has that of the receiver's own
+clock (RMC, ZDA) or of the line before, whichever came last. A line that gives nothing is counted too: `aside` where it is known and of no use here,
+`unread` with an example where it is not understood.
 """
 import collections
 import os
@@ -9,6 +10,7 @@ import re
 import shutil
 import subprocess
 import tempfile
+import time
 
 from . import jsons, tables
 from .forms import Times, Unsure
@@ -25,6 +27,7 @@ HEAD = re.compile(rb"\w[\w \"]*(?:[,;\t]\w[\w \"]*)+")
 PROSE = re.compile(rb"\s*(?:#|//|--)")
 NMEA = re.compile(rb"[$!]([A-Z0-9]{2,6}),")
 SLOTS = 4500                    # of two channels in a minute: more sentences were never heard between two times of a receiver
+DAY = 86400                     # s
 LATEST = 9999999999             # the greatest time that ten digits hold
 SAMPLE = 200                    # letters of an example
 
@@ -65,7 +68,7 @@ class Log:
     """The log that is written: lines with their times go on as they come, and are sorted at the end where times run back."""
 
     def __init__(self, out, gathered):
-        self.out, self.gathered, self.latest = out, gathered, 0
+        self.out, self.gathered, self.latest, self.days = out, gathered, 0, collections.Counter()
 
     def put(self, time, words, stamp=None):
         if time < self.latest:
@@ -74,6 +77,7 @@ class Log:
             self.latest = time
         self.gathered.first = time if self.gathered.first is None else min(time, self.gathered.first)
         self.gathered.sentences += 1
+        self.days[time // DAY] += 1
         self.out.write(b"%s%s\n" % (stamp or block(time), words))
 
 
@@ -323,6 +327,17 @@ def told_apart(reader, name, gathered):
             name, "ahead of" if apart > 0 else "behind", hours, minutes, "+" if apart > 0 else "-", hours, minutes))
 
 
+def far_off(days):
+    """How many sentences have times more than a day before or behind nearly all others, and one of their days."""
+    most, seen, kept = sum(days.values()), 0, []
+    for day in sorted(days):
+        seen += days[day]
+        if 1000 * seen > most and 1000 * (seen - days[day]) < 999 * most:
+            kept.append(day)
+    lost = [day for day in days if not kept[0] - 1 <= day <= kept[-1] + 1]
+    return sum(days[day] for day in lost), min(lost, default=None)
+
+
 def sort(path):
     """Sorts the log by its times; lines of one time keep their order."""
     command = ["sort", "-s", "-k", "1.1,1.13", "-T", os.path.dirname(os.path.abspath(path)), "-o", path, path]
@@ -371,6 +386,10 @@ def leave_untimed(gathered, untimed, made):
 def ended(out, gathered, log, mmsi):
     """Sorts the log where it has to be, and says what the reader is to know of the whole."""
     gathered.last = log.latest if gathered.first is not None else None
+    count, day = far_off(log.days) if gathered.sentences else (0, None)
+    if count:
+        gathered.notes.append("%d sentences have times more than a day off nearly all others, as %s: was a clock not set" % (
+            count, time.strftime("%Y-%m-%d", time.gmtime(day * DAY))))
     if gathered.back:
         sort(out)
         gathered.notes.append("%d sentences stood behind later ones: the log is sorted by time" % gathered.back)

@@ -30,11 +30,15 @@ SCENARIOS = [
     ("miles for metres", "risk = 500", "risk = 1", False),
     ("degrees for the reference", "lat = 28950000\nlon = -74100000", "lat = 48\nlon = -124", False),
     ("milliseconds for seconds", "start = 1700000000", "start = 1700000000000", True),
+    ("minutes for seconds", "horizon = 900", "horizon = 20", False),
     ("numbers at odds", "steady_turn = 50", "steady_turn = 300", False),
     ("window misses the log", "start = 1700000000", "start = 1700003600", False),
     ("window misses the log", "ticks = 75", "ticks = 750", False),
     ("region misses the log", "lon = -74100000", "lon = 74100000", False),
     ("region misses the log", "lat = 28950000\nlon = -74100000", "lat = 7200000\nlon = 33000000", False),
+    ("reference far from the traffic", "lat = 28950000", "lat = 28050000", False),
+    ("no reports", "lon = -74100000", "lon = 74100000", False),
+    ("many jumps", "max_speed = 400", "max_speed = 130", False),
     ("subject not in the log", "version = 1", "version = 1\nsubjects = [200000099]", False),
     ("station that is no ship", "version = 1", "version = 1\nsubjects = [2655651]", True),
     ("nobody is watched", "watch = 4000", "watch = 300", False),
@@ -85,6 +89,7 @@ class WrongUses(InFolder):
         bare = re.sub(r"(?m)^\\[^\\]*\\", "", LOG)
         sent = re.compile(r"(?m)\*..$")
         for name, log in (("no times", bare), ("no times", "\n".join(lines[:20]) + bare), ("unsorted lines", "\n".join(lines[150:] + lines[:150])),
+                          ("no reports", "\n".join("1700000001 " + line for line in lines)),
                           ("damaged sentences", sent.sub("*00", LOG)), ("damaged tag blocks", LOG.replace("*5", "*6", 200)),
                           ("parts without their messages", "\n".join(line for line in lines if ",2,1," not in line))):
             with self.subTest(name):
@@ -113,6 +118,16 @@ class WrongUses(InFolder):
         name = sentences.block(1700000300) + sentences.sentence(sentences.name_part(200000014, "NET 14 86%"))
         self.assertEqual(self.names(TOML, by_time(LOG.splitlines() + [name.decode()])), ["station that is no ship"])
 
+    def test_a_clock_in_local_time_is_named_by_base_stations(self):
+        """A base station (message 4) that tells 22:15:00 UTC of 14 November 2023 in a line of an hour later."""
+        fields = [(4, 6), (0, 2), (2655651, 30), (2023, 14), (11, 4), (14, 5), (22, 5), (15, 6), (0, 6), (0, 90)]
+        line = (sentences.block(1700000100 + 3600) + sentences.sentence(sentences.joined(fields))).decode()
+        later = re.sub(r"\\c:17000(\d{5})\*..\\", lambda found: sentences.block(1700000000 + int(found[1]) + 3600).decode(), LOG)
+        toml = TOML.replace("start = 1700000000", "start = 1700003600")
+        self.assertEqual(self.names(toml, later), [])
+        told = words_of(self.found(toml, by_time(later.splitlines() + [line])))
+        self.assertEqual(told, ["clock that is off: the log's times are 3600 s (1.00 hours) ahead of the UTC that base stations tell in 1 messages"])
+
     def test_verdicts_of_vessels_that_lie_still_are_named(self):
         """The vessel that is to give way tells 0.3 knots all the time, as one that drifts about her anchor, and another passes near."""
         still = [report(1700000001 + 30 * k, 200000041, BEFORE, MIDDLE, way=3, course=0, heading=0) for k in range(26)]
@@ -129,7 +144,8 @@ class WrongUses(InFolder):
     def test_a_report_of_something_else_is_named(self):
         audit = text_of(example("crossing.csv"))
         self.assertEqual(self.names(TOML, LOG, audit), [])
-        for name, other in (("report of something else", text_of(example("head_on.csv"))), ("report of something else", audit.replace(",10,10", ",11,11")),
+        other_log, other_steps = text_of(example("head_on.csv")), audit.replace(",10,10", ",11,11")
+        for name, other in (("report of something else", other_log), ("report of something else", other_steps),
                             ("no whole report", audit[:200]), ("no whole report", "")):
             self.assertEqual(self.names(TOML, LOG, other), [name])
         with_options = self.program_with("--ticks", "40")
@@ -167,7 +183,7 @@ class Keys(unittest.TestCase):
     def test_the_keys_are_those_of_the_page(self):
         known = keys.units()
         self.assertEqual(len(known), 54 - 2)                 # rows 0 to 53, less the text as a whole and the weight of all formulas
-        self.assertEqual((known["detect.watch"], known["act.apparent_turn"], known["rules.safe_other"], known["rules.te"]), ("m", "1/10 degree", "m", "s"))
+        self.assertEqual([known[key] for key in ("detect.watch", "act.apparent_turn", "rules.safe_other", "rules.te")], ["m", "1/10 degree", "m", "s"])
 
 
 def report(at, mmsi, latitude, longitude, way=100, course=900, heading=90):

@@ -28,6 +28,12 @@ class Suggested(InFolder):
         self.assertEqual(values["reference"], {"lat": 600050, "lon": 1200050})
         self.assertIn("202 position reports of 2 vessels", reasons)
 
+    def test_a_ship_that_reports_often_does_not_rule_the_tick(self):
+        """Own ship each second beside three that report each 10 s."""
+        often = [(1700000000 + k, 200000031) for k in range(301)]
+        log = sorted(often + [(1700000000 + 10 * k, mmsi) for k in range(31) for mmsi in (200000001, 200000002, 200000003)])
+        self.assertEqual(self.values(b"".join(report(at, mmsi, 600000, 1200000) for at, mmsi in log))[0]["window"]["tick"], 10)
+
     def test_a_log_over_the_date_line_has_its_reference_there(self):
         log = b"".join(report(1700000000 + 10 * k, 200000001, -600000, (107999800 + 20 * k + 108000000) % 216000000 - 108000000) for k in range(21))
         self.assertEqual(self.values(log)[0]["reference"], {"lat": -600000, "lon": -108000000})

@@ -2,8 +2,10 @@
 import bz2
 import gzip
 import lzma
+import os
 import shutil
 import subprocess
+import time
 import unittest
 import zipfile
 
@@ -168,12 +170,18 @@ class Blocks(Sources):
         self.assertEqual((made, found.back > 0), (gather_lines(self, lines), True))
         self.assertIn("sorted by time", " ".join(found.notes))
 
+    def test_a_clock_that_was_not_set_is_told(self):
+        log = "\n".join("%d %s" % (1700000000 + 10 * k, S) for k in range(2000)) + "\n1000000000 " + T
+        self.assertIn("1 sentences have times more than a day off nearly all others, as 2001-09-09", "".join(self.gathered(log)[0].notes))
+        self.assertEqual(self.gathered("1700000000 %s\n1700090000 %s" % (S, T))[0].notes, [])
+
     def test_every_line_is_counted_once(self):
         log = "\n\n# a comment\n%s,1700000001\nnonsense\n$GPGGA,1*00\n!AIVDM,1,1,,A,123\n{\"a\":1}\n{broken\n\xff\xfe\n" % S
         found, _ = self.gathered(log.encode("latin-1"))
         counted = sum(found.forms.values()) + sum(found.aside.values()) + sum(told.count for told in found.unread.values())
         self.assertEqual((counted, found.lines()), (10, 10))
-        self.assertEqual(sorted(found.unread), ["JSON without a sentence", "a line with no sentence and no row", "a sentence without its sum, or cut off"])
+        self.assertEqual(sorted(found.unread), [
+            "JSON without a sentence", "a line with no sentence and no row", "a sentence without its sum, or cut off"])
 
 
 def gather_lines(test, lines):
@@ -199,7 +207,8 @@ class Files(Sources):
                 self.assertEqual((lines, found.files[0].packed, found.files[0].lines), (self.MADE, name, 2))
 
     def test_a_file_that_is_damaged_or_cut_off_is_refused(self):
-        for packed in (gzip.compress(self.TEXT)[:-10], lzma.compress(self.TEXT)[:-10], b"PK\x03\x04nonsense", b"\x1f\x8bnonsense", b"\x28\xb5\x2f\xfd.."):
+        cut_off = gzip.compress(self.TEXT)[:-10], lzma.compress(self.TEXT)[:-10]
+        for packed in (*cut_off, b"PK\x03\x04nonsense", b"\x1f\x8bnonsense", b"\x28\xb5\x2f\xfd.."):
             with self.subTest(packed[:4]), self.assertRaisesRegex(Fault, "damaged or cut off|zstd is not here"):
                 self.gathered(packed)
 
@@ -216,13 +225,31 @@ class Files(Sources):
         self.assertEqual((text_of(self.path("out")).splitlines(), [part.name for part in found.files]), (self.MADE, ["b", "a"]))
 
     def test_what_is_no_log_ends_with_words_and_a_status(self):
-        for words, told in ((["nothing"], "cannot be read: no such file"), (["."], "is a folder"), ([self.write("empty", "")], "no sentence and no row")):
+        empty = [self.write("empty", "")]
+        for words, told in ((["nothing"], "cannot be read: no such file"), (["."], "is a folder"), (empty, "no sentence and no row")):
             status, out, error = self.tool("tagged", *words)
             self.assertEqual((status, out), (1, ""))
             self.assertIn(told, error)
         status, _, error = self.tool("tagged", source=b"\x00" * 3000000 + b"\n" + bytes(range(256)) * 40)
         self.assertEqual(status, 1)
         self.assertIn("more than a million bytes", error)
+
+    def test_a_pipe_is_read_and_a_device_is_not(self):
+        os.mkfifo(self.path("pipe"))
+        with subprocess.Popen(["sh", "-c", "gzip -c > pipe"], stdin=subprocess.PIPE, cwd=self.folder) as child:
+            child.stdin.write(self.TEXT)
+            child.stdin.close()
+            found = gather([self.path("pipe")], self.path("out"))
+        self.assertEqual((text_of(self.path("out")).splitlines(), found.files[0].name, found.files[0].packed), (self.MADE, "pipe", "gzip"))
+        with self.assertRaisesRegex(Fault, "is a device"):
+            gather(["/dev/zero"], self.path("out"))
+
+    def test_sentences_are_stamped_as_they_come(self):
+        before = int(time.time())
+        status, out, _ = self.tool("tagged", "--now", source=("%s\r\nnothing\n\\c:1700000001*5E\\%s\n" % (S, T)).encode())
+        lines = out.splitlines()
+        self.assertEqual((status, lines[0][17:], lines[1:]), (0, S, ["nothing", "\\c:1700000001*5E\\" + T]))
+        self.assertTrue(before <= int(lines[0][3:13]) <= time.time())
 
     def test_a_log_is_not_written_over(self):
         log = self.write("log", self.TEXT)

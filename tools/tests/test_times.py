@@ -31,6 +31,8 @@ FORMS = [
     "2023-11-14 22:13:21;AIS;udp;" + S,
     "Tue Nov 14 22:13:21 2023: " + S,                 # gpspipe -r -t
     "$AITAG,1700000001," + S,
+    S + " ( MSG: 1, REPEAT: 0, MMSI: 200000011, signalpower: -31.2, ppm: 1, timestamp: 20231114221321)",      # AIS-catcher on a screen
+    S + " 20231114 221321",
     S + ",1700000001000",
     S + ",2023-11-14T22:13:21Z",
     S + " 1700000001",
@@ -48,6 +50,7 @@ UNSURE = {
     "2023-11-14 23:13:21 CET " + S: "a time with a zone in letters, or of twelve hours",
     "2023-11-14 10:13:21 PM " + S: "a time with a zone in letters, or of twelve hours",
     "2023-13-14 22:13:21 " + S: "a date that is none",
+    "2023-11-14 22:13 " + S: "a date and time without seconds",
 }
 
 
