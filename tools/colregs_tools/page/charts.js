@@ -122,7 +122,10 @@ const Charts = (() => {
     const y = frame(svg, top, title, low, most, every);
     shade(svg, top, meeting, null);
     both.forEach((parts, k) => line(svg, parts, y, PAIR_COLOURS[k], field));
-    if (!both.flat().length) svg.append(drawn("text", { x: LEFT + across / 2, y: top + HIGH / 2, "font-size": 11, fill: "#555555", "text-anchor": "middle" }, "no report tells it"));
+    if (!both.flat().length) {
+      const middle = { x: LEFT + across / 2, y: top + HIGH / 2, "font-size": 11, fill: "#555555", "text-anchor": "middle" };
+      svg.append(drawn("text", middle, "no report tells it"));
+    }
   }
 
   function legend(svg, top, meeting) {

@@ -127,7 +127,8 @@ const MapView = (() => {
     const end = way[way.length - 1], back = way[Math.max(0, way.length - 4)];
     const turn = Math.atan2((end[1] - back[1]) * Math.cos(end[0] * Math.PI / 180), end[0] - back[0]) * 180 / Math.PI;
     if (end[0] === back[0] && end[1] === back[1]) return;
-    const html = `<svg width="16" height="16" viewBox="-8 -8 16 16" style="display:block"><path d="M0 -7 L5 6 L0 3 L-5 6 z" fill="${colour}" transform="rotate(${turn.toFixed(1)})"/></svg>`;
+    const arrow = `<path d="M0 -7 L5 6 L0 3 L-5 6 z" fill="${colour}" transform="rotate(${turn.toFixed(1)})"/>`;
+    const html = `<svg width="16" height="16" viewBox="-8 -8 16 16" style="display:block">${arrow}</svg>`;
     L.marker(end, { icon: L.divIcon({ className: "", html, iconSize: [16, 16], iconAnchor: [8, 8] }), interactive: false, keyboard: false }).addTo(chosen);
   }
 
@@ -135,7 +136,8 @@ const MapView = (() => {
     meeting.verdicts.forEach((verdict) => {
       const rule = HELD.rules[verdict.rule], way = stretch(TRACKS[verdict.pair[0]], begins(verdict), ends(verdict));
       const words = `${rule.name} ${verdict.broken ? "broken" : "open"} by ${nameOf(verdict.pair[0])}, ${utc(begins(verdict))} to ${clockOnly(ends(verdict))}`;
-      L.polyline(way, { color: rule.colour, weight: 10, opacity: 0.45, dashArray: verdict.broken ? null : "4 8", lineCap: "butt" }).bindTooltip(escaped(words), { sticky: true }).addTo(chosen);
+      const style = { color: rule.colour, weight: 10, opacity: 0.45, dashArray: verdict.broken ? null : "4 8", lineCap: "butt" };
+      L.polyline(way, style).bindTooltip(escaped(words), { sticky: true }).addTo(chosen);
     });
   }
 
@@ -158,8 +160,9 @@ const MapView = (() => {
   view.point = (meeting, seconds) => {
     if (!map) return;
     dots.forEach((dot) => dot.remove());
-    dots = seconds === null ? [] : meeting.pair.map((number, k) => [placeAt(TRACKS[number], seconds), k]).filter(([place]) => place).map(
-      ([place, k]) => L.circleMarker(latLng(...place), { radius: 6, color: "#ffffff", weight: 2, fillColor: PAIR_COLOURS[k], fillOpacity: 1, interactive: false }).addTo(map));
+    const places = seconds === null ? [] : meeting.pair.map((number, k) => [placeAt(TRACKS[number], seconds), k]).filter(([place]) => place);
+    const style = { radius: 6, color: "#ffffff", weight: 2, fillOpacity: 1, interactive: false };
+    dots = places.map(([place, k]) => L.circleMarker(latLng(...place), { ...style, fillColor: PAIR_COLOURS[k] }).addTo(map));
   };
   return view;
 })();

@@ -102,9 +102,11 @@ const Page = (() => {
     const [a, b] = meeting.pair;
     const part = (k) => `${nameOf(meeting.pair[k])} ${meeting.kinds[k]}`;
     byId("chosen").textContent = `Meeting ${meeting.number + 1}: ${nameOf(a)} and ${nameOf(b)}`;
-    const words = element("span", `${utc(begins(meeting))} to ${endWords(meeting)} UTC. ${part(0)}; ${part(1)}. Nearest ${metres(meeting.least)} m (${miles(meeting.least)} nautical miles) at ${clockOnly(meeting.nearest)}. `);
+    const near = `${metres(meeting.least)} m (${miles(meeting.least)} nautical miles) at ${clockOnly(meeting.nearest)}`;
+    const words = element("span", `${utc(begins(meeting))} to ${endWords(meeting)} UTC. ${part(0)}; ${part(1)}. Nearest ${near}. `);
     const still = meeting.rest.length ? [element("span", stillWords(meeting.rest, meeting.pair), { class: "still" }), " "] : [];
-    const rules = meeting.verdicts.flatMap((v) => [element("br"), chip(v), `${nameOf(v.pair[0])}, ${clockOnly(begins(v))} to ${clockOnly(ends(v))}: ${HELD.rules[v.rule].words}`]);
+    const when = (v) => `${clockOnly(begins(v))} to ${clockOnly(ends(v))}`;
+    const rules = meeting.verdicts.flatMap((v) => [element("br"), chip(v), `${nameOf(v.pair[0])}, ${when(v)}: ${HELD.rules[v.rule].words}`]);
     byId("chosen-words").replaceChildren(words, ...still, ...(rules.length ? rules : [element("span", "No rule is broken or open.")]));
   }
 
@@ -150,7 +152,8 @@ const Page = (() => {
     addEventListener("resize", () => Times.draw());
     addEventListener("beforeprint", () => paper(true));
     addEventListener("afterprint", () => paper(false));
-    if (!followHash() && HELD.meetings.length) showFirst();
+    if (!HELD.meetings.length) byId("chosen").textContent = "No two vessels met";
+    else if (!followHash()) showFirst();
     document.documentElement.dataset.ready = "yes";
   }
 

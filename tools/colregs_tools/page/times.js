@@ -1,8 +1,9 @@
 // The chart by time: a row for each two vessels, of which only those that are seen are drawn.
 "use strict";
 const Times = (() => {
-  const ROW = 20, RIGHT = 14;
-  let LEFT = 250;
+  const ROW = 20, LEFT = 250, RIGHT = 14;
+  const LEGEND = "Grey: the meeting, light where a vessel lies still. Below it, in the colours of the rules: stretches that are broken "
+    + "(filled) or open (hollow).";
   const box = document.getElementById("times-rows"), space = document.getElementById("times-space");
   const view = { onChoose() {} };
   let pairs = [], wide = 900, first = 0, last = 1, chosen = null;
@@ -76,7 +77,7 @@ const Times = (() => {
     first = 0;
     last = HELD.steps * HELD.tick;
     document.getElementById("times-words").textContent = meetings.length
-      ? `${meetings.length} meetings of ${pairs.length} pairs, as the table of meetings is filtered. Grey: the meeting, light where a vessel lies still. Below it, in the colours of the rules: stretches that are broken (filled) or open (hollow).`
+      ? `${meetings.length} meetings of ${pairs.length} pairs, as the table of meetings is filtered. ${LEGEND}`
       : "No meeting.";
     view.draw();
   };
