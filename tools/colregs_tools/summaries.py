@@ -58,6 +58,10 @@ def nearest_words(case, met):
 def meeting_words(case):
     met = unordered(case.meetings)
     broken, open_ = ([row for row in case.verdicts if row["value"] == value] for value in ("broken", "open"))
+    if not case.tracks:
+        yield "Nothing was audited: no vessel has a position between %s and %s UTC, the scenario's window." % (
+            plain(case.start), plain(case.moment(case.steps)))
+        return
     yield "%s had positions between %s and %s UTC, which is the window that was audited." % (
         count(len(case.tracks), "vessel"), plain(case.start), plain(case.moment(case.steps)))
     if not met:

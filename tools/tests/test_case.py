@@ -133,7 +133,13 @@ class Pages(Cases):
         self.assertEqual((broken["first"], broken["last"]), passing.UNSAFE)
         self.assertIn("passing at a safe distance", held["rules"][broken["rule"]]["words"])
 
-    def test_words_of_a_log_are_no_markup(self):
+    def test_a_name_is_kept_as_it_was_told(self):
+        self.make()
+        with sqlite3.connect(self.path("made/case.db")) as base:
+            self.assertEqual(base.execute("select name from vessel where mmsi = ?", (passing.STILL,)).fetchone(), (passing.HOSTILE,))
+        base.close()
+
+    def test_words_of_a_title_are_no_markup(self):
         self.make("--title", "</script><script>document.title='taken'</script>")
         self.assertNotIn("<script>document.title", self.held("case.html"))
 
@@ -162,7 +168,7 @@ class Pages(Cases):
                 "HELD.meetings.filter(m => m.pair.some(k => HELD.vessels[k].name === 'WEST')).length"))
             if page.leaflet()[0]:
                 self.assertEqual(tab.value("document.querySelectorAll('#map canvas').length"), 1)
-            tab.picture(self.path("seen.png"))
+            self.assertEqual(tab.value("document.querySelectorAll('img').length"), 0, "a name became markup")
             self.assertEqual(tab.errors, [])
             self.assertEqual([address for address in tab.asked if not address.startswith(("file://", "data:"))], [])
 

@@ -65,9 +65,9 @@ const MapView = (() => {
       const parts = lines(track, -Infinity, Infinity);
       if (!parts.length) return;
       const style = { color: met.has(number) ? "#5b6770" : "#a9b2ba", weight: 1.4, opacity: 0.9 };
-      L.polyline(parts, style).bindTooltip(fullName(number), { sticky: true }).addTo(map);
+      L.polyline(parts, style).bindTooltip(escaped(fullName(number)), { sticky: true }).addTo(map);
       const end = parts[parts.length - 1].slice(-1)[0];
-      L.circleMarker(end, { radius: TRACKS.length > 60 ? 1.2 : 2.5, color: style.color, fillOpacity: 1 }).bindTooltip(fullName(number)).addTo(map);
+      L.circleMarker(end, { radius: TRACKS.length > 60 ? 1.2 : 2.5, color: style.color, fillOpacity: 1 }).bindTooltip(escaped(fullName(number))).addTo(map);
       if (named) {
         L.tooltip({ permanent: true, className: "name", direction: "auto" }).setLatLng(parts[0][0]).setContent(escaped(nameOf(number))).addTo(map);
       }
@@ -91,6 +91,7 @@ const MapView = (() => {
       pointToLayer: (_, at) => L.circleMarker(at, { radius: 2, color: "#8a7a5c" }) }).addTo(map);
     net.addTo(map);
     const all = addTracks();
+    if (!all.length) document.getElementById("no-map").textContent = "No vessel has a position in the window.";
     view.bounds = all.length ? L.latLngBounds(all).pad(0.05) : null;
     chosen = L.layerGroup().addTo(map);
     addScale();
@@ -109,6 +110,15 @@ const MapView = (() => {
     if (!map) return;
     map.invalidateSize({ animate: false });
     if (held) show(held);
+  };
+
+  // One vessel's track, in the first colour.
+  view.vessel = (number) => {
+    const parts = map ? lines(TRACKS[number], -Infinity, Infinity) : [];
+    if (!parts.length) return;
+    chosen.clearLayers();
+    L.polyline(parts, { color: PAIR_COLOURS[0], weight: 3 }).bindTooltip(escaped(fullName(number)), { permanent: true, className: "name" }).addTo(chosen);
+    show(L.latLngBounds(parts.flat()).pad(0.1));
   };
 
   function drawPair(meeting, first, last) {
