@@ -9,6 +9,7 @@ import csv
 import json
 import math
 import os
+import stat
 import subprocess
 import tomllib
 from array import array
@@ -31,7 +32,8 @@ def run(program, mode, scenario, log, good=(0,), options=()):
     except OSError as error:
         raise Fault("%s: %s" % (error.filename or program, error.strerror)) from None
     if done.returncode not in good:
-        raise Fault("the program ends `%s` with status %d, %s" % (mode, done.returncode, done.stderr.decode(errors="replace").strip()))
+        raise Fault("the program ends `%s` with status %d, %s; docs/ROWS.md says what to do at each status" % (
+            mode, done.returncode, done.stderr.decode(errors="replace").strip()))
     return done.stdout.decode()
 
 
@@ -42,6 +44,8 @@ def window_options(start=None, ticks=None):
 
 def read_text(name):
     try:
+        if stat.S_ISCHR(os.stat(name).st_mode):
+            raise Fault("%s is a device, and no file" % name)
         with open(name, encoding="utf-8", newline="") as source:
             return source.read()
     except OSError as error:

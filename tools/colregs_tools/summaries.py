@@ -76,9 +76,21 @@ def summary(case, gathered):
     return [*read_words(case, gathered), *meeting_words(case)]
 
 
+def outside(case, gathered):
+    """How much of the log the window leaves out, where that is more than a tenth."""
+    if gathered.first is None or gathered.last is None:
+        return []
+    left = max(0, case.start - gathered.first) + max(0, gathered.last - case.moment(case.steps))
+    if 10 * left <= gathered.last - gathered.first:
+        return []
+    return ["The window is from %s to %s UTC, and the log from %s to %s: what lies outside was not audited. --start and --ticks set another window, and"
+            " tools/many cuts a long log." % (plain(case.start), plain(case.moment(case.steps)), plain(gathered.first), plain(gathered.last))]
+
+
 def doubts(case, gathered, findings):
     """What is doubtful, most of it by the doctor's words."""
     found = ["%s: %s." % (capital(finding.name), finding.words) for finding in findings if finding.name != REST]
+    found += outside(case, gathered) if case.tracks else []
     still = [row for row in case.verdicts if rest.marked(row)]
     if still:
         found.append("%s of %s of vessels that never make half a knot in the stretch. They may lie at anchor or alongside, where the rules ask"

@@ -12,6 +12,16 @@ from given import InFolder, PROGRAM, with_program
 from colregs_tools import page
 
 MOMENT = "2023-11-14T22:21:40Z"
+WRONG_USES = [
+    (["none.log"], "none.log"),
+    (["/dev/zero"], "/dev/zero is no file"),
+    (["passing.log", "--scenario", "none.toml"], "none.toml"),
+    (["passing.log", "--scenario", "/dev/zero"], "/dev/zero is a device"),
+    (["passing.log", "--scenario", "passing.log"], "status 3, scenario: document: not toml"),
+    (["passing.log", "--program", "none"], "no program"),
+    (["passing.log", "--chart", "passing.toml"], "GeoJSON"),
+    (["passing.log", "-o", "."], "is there already"),
+]
 
 
 @with_program
@@ -59,11 +69,9 @@ class Files(Cases):
         self.assertIn("The scenario was guessed", said)
 
     def test_what_goes_wrong_is_named_and_leaves_nothing(self):
-        for words, told in ((["none.log"], "none.log"), (["passing.log", "--scenario", "none.toml"], "none.toml"),
-                            (["passing.log", "--scenario", "passing.log"], "status 3, scenario: document: not toml"), (["passing.log", "--program", "none"], "no program"),
-                            (["passing.log", "--chart", "passing.toml"], "GeoJSON"), (["passing.log", "-o", "."], "is there already")):
-            status, _, error = self.tool("colregs-case", *(["--program", PROGRAM] if "--program" not in words else []), *(["-o", "made"]
-                                         if "-o" not in words else []), *words)
+        for words, told in WRONG_USES:
+            usual = (("--program", PROGRAM), ("-o", "made"))
+            status, _, error = self.tool("colregs-case", *words, *(word for pair in usual if pair[0] not in words for word in pair))
             self.assertEqual(status, 1, words)
             self.assertRegex(error, "^case: .*" + re.escape(told))
             self.assertNotIn("Traceback", error)

@@ -126,7 +126,7 @@ const MapView = (() => {
       const way = stretch(TRACKS[number], first, last), within = stretch(TRACKS[number], begins(meeting), ends(meeting));
       L.polyline(way, { color: PAIR_COLOURS[k], weight: 2, opacity: 0.8, interactive: false }).addTo(chosen);
       L.polyline(within, { color: PAIR_COLOURS[k], weight: 4, interactive: false }).addTo(chosen);
-      if (way.length && !named) L.tooltip({ permanent: true, className: "name", direction: "auto" }).setLatLng(way[0]).setContent(escaped(nameOf(number))).addTo(chosen);
+      if (way.length && !named) L.tooltip({ permanent: true, className: "name", direction: k ? "left" : "right" }).setLatLng(way[0]).setContent(escaped(nameOf(number))).addTo(chosen);
       drawArrow(way, PAIR_COLOURS[k]);
     });
   }
