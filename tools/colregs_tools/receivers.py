@@ -1,14 +1,18 @@
-"""What a receiver's own sentences tell: its UTC (RMC and ZDA of IEC 61162-1), and where own ship was (RMC, with HDT for her heading)."""
+"""What tells the time in a log without times: a receiver's own UTC (RMC and ZDA of IEC 61162-1), and that of base stations (message 4 of ITU-R M.1371).
+
+RMC, with HDT for her heading, tells where own ship was too.
+"""
 import re
 
 from .forms import seconds_of
-from .sentences import NO_COURSE, NO_HEADING, NO_SPEED, class_a, has_sum, sentence
+from .sentences import NO_COURSE, NO_HEADING, NO_SPEED, class_a, has_sum, lone_message, sentence
 
 PLAIN = re.compile(rb"\$([A-Z]{2}(?:RMC|ZDA|HDT),[^*$!\\]*)\*([0-9A-Fa-f]{2})")
 DAY, WEEKS = 86400, 1024 * 7 * 86400     # a date that lags at midnight; the weeks that GPS counts before it begins anew
 LONGEST_GAP = 60                         # s: between two times of the receiver farther apart than this, nobody knows the time
 DAMAGED = "a sentence of the receiver with a wrong sum", "RMC with too few fields"
 HEADING = "own ship's heading (HDT)"
+BASE_STATION = 4 << 2                    # type 4, not repeated, in the first 8 bits
 OLDEST = 852076800                       # 1 January 1997, before there was AIS: a clock that tells less is not set
 
 
@@ -35,6 +39,18 @@ def angle(digits, side):
 
 def tenths(field, none, most):
     return min(most, round(float(field) * 10)) if field else none
+
+
+def base_time(line):
+    """The UTC that a base station tells in a sentence, or nothing. One that was repeated by another station comes late, and is passed over."""
+    message = lone_message(line)
+    if message is None or message.length < 168 or message.number(0, 8) != BASE_STATION:
+        return None
+    try:
+        time = seconds_of(*(message.number(first, width) for first, width in ((38, 14), (52, 4), (56, 5), (61, 5), (66, 6), (72, 6))))
+    except ValueError:
+        return None
+    return time if time >= OLDEST else None
 
 
 class Fix:

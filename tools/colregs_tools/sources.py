@@ -1,7 +1,7 @@
 """Makes one log of any logs: `gather` writes sentences with tag blocks, sorted by time, and counts each line by the form in which it was read.
 
 A sentence takes its time from its tag block, else from behind its sum, else from before it. A line without a time has that of the receiver's own
-clock (RMC, ZDA) or of the line before, whichever came last. A line that gives nothing is counted too: `aside` where it is known and of no use here,
+clock (RMC, ZDA) or of the line before, whichever came last, and where neither is told that of base stations (message 4). A line that gives nothing is counted too: `aside` where it is known and of no use here,
 `unread` with an example where it is not understood.
 """
 import collections
@@ -15,7 +15,7 @@ import time
 from . import jsons, tables
 from .forms import Times, Unsure
 from .packing import TOO_LONG, Fault, parts
-from .receivers import DAMAGED, HEADING, LONGEST_GAP, Receiver
+from .receivers import DAMAGED, HEADING, LONGEST_GAP, Receiver, base_time
 from .sentences import block, has_sum
 
 SENTENCE = re.compile(rb"![A-Z0-9]{2}VD[MO],[^*!\\]*\*[0-9A-Fa-f]{2}")
@@ -121,9 +121,10 @@ class Reader:
         self.times, self.receiver, self.offset = Times(offset), Receiver(mmsi), offset
         self.json, self.waiting = jsons.Objects(self.times), Waiting(self.clocked, gathered.cannot)
         self.table, self.before, self.apart, self.head = None, None, collections.Counter(), None
+        self.clock, self.by_receiver = "", False
 
     def clocked(self, time, words):
-        self.gathered.forms["no time of its own: the receiver's (RMC or ZDA)"] += 1
+        self.gathered.forms["no time of its own: %s" % self.clock] += 1
         self.log.put(time, words)
 
     def read(self, lines):
@@ -192,11 +193,25 @@ class Reader:
         if own:
             self.apart[round((own[0] - time) / 60) * 60] += 1
         else:
-            self.before = None
-            self.waiting.until(time)
+            self.ticks(time)
         if name == "RMC":
             at = own[0] if own else time
             self.own_ship(at, self.receiver.own_report(at))
+
+    def ticks(self, time):
+        """The receiver's own clock tells a time: from now on it alone counts where a line has none."""
+        if not self.by_receiver:
+            self.waiting.until(None)
+            self.clock, self.by_receiver = "the receiver's (RMC, ZDA or TPV)", True
+        self.before = None
+        self.waiting.until(time)
+
+    def by_base_station(self, words):
+        """A base station tells the time, in a log where nothing else does."""
+        time = base_time(words) if not self.by_receiver and words[:1] == b"!" else None
+        if time is not None:
+            self.clock = "that of a base station (message 4)"
+            self.waiting.until(time)
 
     def own_ship(self, time, words):
         if words:
@@ -256,7 +271,12 @@ class Reader:
         elif self.before is not None:
             self.gathered.forms["no time of its own: that of the line before"] += 1
             self.log.put(self.before, words)
-        elif self.waiting.time is not None:
+        else:
+            self.by_base_station(words)
+            self.wait(words)
+
+    def wait(self, words):
+        if self.waiting.time is not None:
             self.waiting.add(words)
         else:
             self.gathered.untimed += 1
@@ -280,8 +300,7 @@ class Reader:
         time = what.time if what.time is not None else outer
         if what.form == "gpsd's TPV":
             self.gathered.forms[what.form] += 1
-            self.before = None
-            self.waiting.until(what.time)
+            self.ticks(what.time)
             if what.fix and self.receiver.mmsi is not None:
                 self.own_ship(what.time, self.receiver.placed(what.fix, what.time))
             return

@@ -10,6 +10,7 @@ import unittest
 import zipfile
 
 from given import InFolder, example, needs, text_of, with_program
+from colregs_tools import sentences
 from colregs_tools.packing import Fault
 from colregs_tools.sources import gather
 
@@ -26,6 +27,11 @@ def sentence(body):
 
 def rmc(clock, date, valid="A", place="4815.0000,N,12334.9406,W", way="14.0,090.0", talker="GP"):
     return sentence("%sRMC,%s,%s,%s,%s,%s,,,A" % (talker, clock, valid, place, way, date))
+
+
+def base_station(second, repeat=0):
+    fields = [(4, 6), (repeat, 2), (2655651, 30), (2023, 14), (11, 4), (14, 5), (22, 5), (13, 6), (second, 6), (0, 90)]
+    return sentences.sentence(sentences.joined(fields)).decode()
 
 
 class Sources(InFolder):
@@ -71,6 +77,16 @@ class Receivers(Sources):
         found, made = self.gathered("\n".join(log))
         self.assertEqual(made, ["\\c:1700000601*58\\" + T])
         self.assertEqual(found.unread["a sentence in a gap of the receiver's time"], (1, S))
+
+    def test_base_stations_tell_the_time_where_nothing_else_does(self):
+        """Message 4 of 2023-11-14 22:13:21 and :31; of a receiver's clock beside it the receiver's counts, and a repeated one never does."""
+        base = [base_station(second) for second in (21, 31)]
+        found, made = self.gathered("\n".join([base[0], S, base[1], T]))
+        self.assertEqual([(int(line[3:13]), line[17:]) for line in made], list(zip((1700000001,) * 2 + (1700000011,) * 2, (base[0], S, base[1], T))))
+        self.assertEqual(found.forms, {"no time of its own: that of a base station (message 4)": 4})
+        self.assertEqual(self.times("\n".join([rmc("221351", "141123"), base[0], S])), [1700000031] * 2)
+        self.assertEqual(self.times("\n".join(["1700000100 " + T, base[0], S])), [1700000100] * 3)
+        self.assertEqual(self.gathered(base_station(21, repeat=1) + "\n" + S)[0].first, None)
 
     def test_what_stands_before_the_first_time_is_told(self):
         found, made = self.gathered("\n".join([S, rmc("221331", "141123"), T]))
