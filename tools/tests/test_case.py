@@ -59,7 +59,8 @@ class Files(Cases):
     def test_a_window_that_is_given_is_kept_for_the_other_tools(self):
         self.make("--start", str(passing.START + 100), "--ticks", "80")
         self.assertEqual(json.loads(self.held("case.json"))["window"]["start"], passing.START + 100)
-        self.assertEqual(self.tool("draw", "made", "picture")[0], 0)
+        for words in (["made"], ["made/scenario.toml", "--points", "made/points.csv", "--audit", "made/report.csv"]):
+            self.assertEqual(self.tool("draw", words[0], "picture", *words[1:])[0], 0)
         with open(self.path("picture.svg"), encoding="utf-8") as source:
             self.assertIn("185 m at 22:21:40", source.read())
 
@@ -150,6 +151,14 @@ class Pages(Cases):
     def test_words_of_a_title_are_no_markup(self):
         self.make("--title", "</script><script>document.title='taken'</script>")
         self.assertNotIn("<script>document.title", self.held("case.html"))
+
+    def test_each_place_that_the_script_fills_is_in_the_page(self):
+        self.make()
+        text = self.held("case.html")
+        there = set(re.findall(r' id="([\w-]+)"', text))
+        asked = set(re.findall(r'(?:byId|getElementById|list|plain)\("([\w-]+)"', text))
+        self.assertGreater(len(asked), 20)
+        self.assertEqual(asked - there, set())
 
     def test_without_leaflet_the_page_says_that_it_has_no_map(self):
         self.assertEqual(page.leaflet(self.folder), ("", ""))
