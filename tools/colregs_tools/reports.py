@@ -202,6 +202,8 @@ class Case:
 
     def take_points(self, text):
         points, others = split_rows(text)
+        if not points and not others:
+            raise Fault("the points: there is no row in them")
         told = {}
         for line in points:
             told.setdefault(line[6:line.find(",", 6)], []).append(line)
@@ -284,13 +286,11 @@ class Case:
         for row in self.meetings + self.verdicts:
             if not 0 <= row["first"] <= row["last"] < self.steps:
                 raise Fault("a row has steps %d to %d, and the window has %d: give the run's --ticks" % (row["first"], row["last"], self.steps))
-            if self.tracks and not all(mmsi in self.tracks for mmsi in row["pair"]):
+            if not all(mmsi in self.tracks for mmsi in row["pair"]):
                 raise Fault("a row is of %d and %d, and the points are not" % row["pair"])
 
     def fits(self, meeting):
         """Whether the two are seen at the meeting's steps, and as near as the report says."""
-        if not self.tracks:
-            return True
         ticks = slice(meeting["first"], meeting["last"] + 2)
         if any(x != x for mmsi in meeting["pair"] for x in self.places[mmsi].xs[ticks]):
             return False
