@@ -4,6 +4,7 @@ from .earth import iso
 from .rules import OUTCOMES
 
 REST = "verdicts at rest"               # the doctor's finding by vessels; here the stretches are counted
+HEAVY = 2000000                         # reports, beyond which a page is slow
 USED = ("point", "static", "part")      # the outcomes of lines that tell something
 
 
@@ -91,6 +92,9 @@ def doubts(case, gathered, findings):
     """What is doubtful, most of it by the doctor's words."""
     found = ["%s: %s." % (capital(finding.name), finding.words) for finding in findings if finding.name != REST]
     found += outside(case, gathered) if case.tracks else []
+    reports = sum(len(track.times) for track in case.tracks.values())
+    if reports > HEAVY:
+        found.append("The page holds %s reports, which a browser shows slowly: a smaller window makes a lighter page." % format(reports, ","))
     still = [row for row in case.verdicts if rest.marked(row)]
     if still:
         found.append("%s of %s of vessels that never make half a knot in the stretch. They may lie at anchor or alongside, where the rules ask"

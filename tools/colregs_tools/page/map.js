@@ -137,7 +137,7 @@ const MapView = (() => {
     const end = way[way.length - 1], back = way[Math.max(0, way.length - 4)];
     const turn = Math.atan2((end[1] - back[1]) * Math.cos(end[0] * Math.PI / 180), end[0] - back[0]) * 180 / Math.PI;
     if (end[0] === back[0] && end[1] === back[1]) return;
-    const arrow = `<path d="M0 -7 L5 6 L0 3 L-5 6 z" fill="${colour}" transform="rotate(${turn.toFixed(1)})"/>`;
+    const arrow = `<path d="M0 -7 L5.5 6 L-5.5 6 z" fill="${colour}" stroke="#ffffff" stroke-width="1" transform="rotate(${turn.toFixed(1)})"/>`;
     const html = `<svg width="16" height="16" viewBox="-8 -8 16 16" style="display:block">${arrow}</svg>`;
     L.marker(end, { icon: L.divIcon({ className: "", html, iconSize: [16, 16], iconAnchor: [8, 8] }), interactive: false, keyboard: false }).addTo(chosen);
   }
