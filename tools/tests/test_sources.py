@@ -31,7 +31,7 @@ def rmc(clock, date, valid="A", place="4815.0000,N,12334.9406,W", way="14.0,090.
 
 def base_station(second, repeat=0):
     fields = [(4, 6), (repeat, 2), (2655651, 30), (2023, 14), (11, 4), (14, 5), (22, 5), (13, 6), (second, 6), (0, 90)]
-    return sentences.sentence(sentences.joined(fields)).decode()
+    return sentences.sentence(fields).decode()
 
 
 class Sources(InFolder):
