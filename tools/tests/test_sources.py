@@ -76,7 +76,7 @@ class Receivers(Sources):
         log = [rmc("221321", "141123"), S, rmc("222321", "141123"), T]
         found, made = self.gathered("\n".join(log))
         self.assertEqual(made, ["\\c:1700000601*58\\" + T])
-        self.assertEqual(found.unread["a sentence in a gap of the receiver's time"], (1, S))
+        self.assertEqual(found.unread["a sentence in a gap between two times"], (1, S))
 
     def test_base_stations_tell_the_time_where_nothing_else_does(self):
         """Message 4 of 2023-11-14 22:13:21 and :31; of a receiver's clock beside it the receiver's counts, and a repeated one never does."""
@@ -179,6 +179,15 @@ class Blocks(Sources):
         found, made = self.gathered(text_of(example("crossing.log")))
         self.assertEqual(made[1], "\\c:1700000000*5F\\!AIVDM,2,2,0,A,1@0000000000000,2*55")
         self.assertEqual((found.sentences, found.back, found.unread), (312, 0, {}))
+
+    def test_a_time_holds_for_few_lines_behind_it(self):
+        """A part has the time of its message whatever comes; other lines have it as long as the next time is near, or few stand behind it."""
+        parts = ["\\c:1700000000*5F\\!AIVDM,2,1,0,A,52vg22h000000000000Dhl000000000000000016;@N::000004i@E53,0*77",
+                 "!AIVDM,2,2,0,A,1@0000000000000,2*55"]
+        self.assertEqual(self.times("\n".join([*parts, "1700009000 " + T])), [1700000000, 1700000000, 1700009000])
+        self.assertEqual(self.times("\n".join(["1700000000 " + S] + [T] * 30 + ["1700000001 " + S])), [1700000000] * 31 + [1700000001])
+        found, made = self.gathered("\n".join(["1700000000 " + S] + [T] * 300))
+        self.assertEqual((len(made), found.unread["a sentence in a gap between two times"].count), (11, 290))
 
     def test_lines_that_run_back_are_sorted_and_parts_stay_in_order(self):
         lines = text_of(example("crossing.log")).splitlines()
