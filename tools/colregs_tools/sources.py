@@ -22,6 +22,7 @@ SENTENCE = re.compile(rb"![A-Z0-9]{2}VD[MO],[^*!\\]*\*[0-9A-Fa-f]{2}")
 TAGGED = re.compile(rb"(\\c:(\d{10})\*[0-9A-F]{2}\\)(![A-Z0-9]{2}VD[MO],[^*!\\]*\*[0-9A-Fa-f]{2})")
 BLOCK = re.compile(rb"\\([^\\*]+)\*([0-9A-Fa-f]{2})\\")
 STAMP = re.compile(rb"c:(\d{1,15})(?:\.\d*)?")
+LATER_PART = re.compile(rb"![A-Z0-9]{2}VD[MO],[2-9],[2-9],")
 CUT = re.compile(rb"![A-Z0-9]{2}VD[MO],")
 HEAD = re.compile(rb"\w[\w \"]*(?:[,;\t]\w[\w \"]*)+")
 PROSE = re.compile(rb"\s*(?:#|//|--)")
@@ -277,7 +278,7 @@ class Reader:
             self.own(own[0])
             self.gathered.forms[own[1]] += 1
             self.log.put(own[0], words, block(own[0], own[2]) if own[2] else None)
-        elif self.previous is not None and words.split(b",", 3)[2] != b"1":
+        elif self.previous is not None and LATER_PART.match(words):
             self.gathered.forms["no time of its own: %s" % LINES] += 1
             self.log.put(self.previous, words)
         else:
