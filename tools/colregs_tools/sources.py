@@ -1,8 +1,8 @@
 """Makes one log of any logs: `gather` writes sentences with tag blocks, sorted by time, and counts each line by the form in which it was read.
 
 A sentence takes its time from its tag block, else from behind its sum, else from before it. A line without a time has that of the receiver's own
-clock (RMC, ZDA) or of the line before, whichever came last, and where neither is told that of base stations (message 4). A line that gives nothing is counted too: `aside` where it is known and of no use here,
-`unread` with an example where it is not understood.
+clock (RMC, ZDA) or of the line before, whichever came last, and where neither is told that of base stations (message 4). A line that gives nothing
+is counted too: `aside` where it is known and of no use here, `unread` with an example where it is not understood.
 """
 import collections
 import os

@@ -3,12 +3,15 @@ import bz2
 import gzip
 import lzma
 import os
+import random
 import shutil
 import subprocess
 import time
 import unittest
 import zipfile
 
+import test_tables
+import test_times
 from given import InFolder, example, needs, text_of, with_program
 from colregs_tools import sentences
 from colregs_tools.packing import Fault
@@ -212,6 +215,29 @@ class Blocks(Sources):
 def gather_lines(test, lines):
     gather([test.write("whole", "\n".join(lines))], test.path("sorted"))
     return text_of(test.path("sorted")).splitlines()
+
+
+class Mutated(Sources):
+    def test_whatever_the_bytes_nothing_breaks_and_no_line_is_lost(self):
+        """Lines of all forms and tables with bytes put in, taken out and changed, from seeds."""
+        chance = random.Random(1)
+        clocks = rmc("221321", "141123"), sentence("HEHDT,091.4,T"), base_station(21)
+        plain = [line.encode() for line in (*test_times.FORMS, *test_times.UNSURE, *clocks)]
+        tables = [table.encode().splitlines() for table in (test_tables.CADASTRE, test_tables.DMA, test_tables.HUB_RAW)]
+        for _ in range(150):
+            lines = [chance.choice(plain) for _ in range(8)] + (chance.choice(tables) if chance.random() < 0.5 else [])
+            log = self.write("log", b"\n".join(mutated(chance, line) for line in lines))
+            found = gather([log], self.path("out"), mmsi=200000031)
+            counted = sum(found.forms.values()) + sum(found.aside.values()) + sum(told.count for told in found.unread.values())
+            self.assertGreaterEqual(counted, found.lines())
+
+
+def mutated(chance, line):
+    """The line with up to three bytes put in, changed or taken out, of which some mean much here."""
+    for _ in range(chance.randrange(4)):
+        at, byte = chance.randrange(len(line) + 1), bytes([chance.choice([chance.randrange(256), *b",.;:\"\\!$*{}[]0"])])
+        line = line[:at] + chance.choice([byte, b""]) + line[at + chance.randrange(3):]
+    return line
 
 
 class Files(Sources):
