@@ -148,8 +148,8 @@ def reference_far(patient):
     middle = told + sorted(patient.norths)[len(patient.norths) // 2] / 1852 / 600000
     wrong = math.cos(math.radians(told)) / math.cos(math.radians(middle)) - 1
     if abs(wrong) > 0.01:
-        yield Finding("reference far from the traffic", "the middle of the reports is at latitude %d, and lengths to the east are %.1f %% too %s there" % (
-            round(middle * 600000), abs(wrong) * 100, "great" if wrong > 0 else "small"))
+        yield Finding("reference far from the traffic", "the middle of the reports is at latitude %d, and lengths to the east are "
+                      "%.1f %% too %s there" % (round(middle * 600000), abs(wrong) * 100, "great" if wrong > 0 else "small"))
 
 
 def no_reports(patient):
@@ -236,7 +236,8 @@ def at_rest(patient):
         yield Finding("verdicts at rest", "%d never makes 0.5 knots, and has %d of the verdicts" % (mmsi, count))
 
 
-CHECKS = (refused, other_report, no_reports, no_times, window_misses, region_misses, reference_far, unsorted, damaged, absent, unseen, senders, at_rest)
+CHECKS = (refused, other_report, no_reports, no_times, window_misses, region_misses, reference_far, unsorted, damaged, absent, unseen,
+          senders, at_rest)
 
 
 def shortened(found):

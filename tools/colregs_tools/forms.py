@@ -33,6 +33,8 @@ COUNTED = [
     form("microseconds", r"(?P<count>[1-3]\d{15})(?:\.\d*)?"),
     form("nanoseconds", r"(?P<count>[1-3]\d{18})"),
 ]
+DIGIT = re.compile(rb"\d")
+NAMED = re.compile(rb" ?(?:%s)(?!\w)" % LOCAL.replace(" ", "|").encode())
 PER_SECOND = {"seconds": 1, "milliseconds": 10 ** 3, "microseconds": 10 ** 6, "nanoseconds": 10 ** 9}
 UNSURE = [
     form("a time with a zone in letters, or of twelve hours", r"\d\d?:\d\d(?::\d\d(?:[.,]\d+)?)?(?: \d{4})? ?(?:%s)" % "|".join(LOCAL.split()), 0),
@@ -84,7 +86,7 @@ class Times:
     """Reads the times of a log's lines; the form that was read last is tried first."""
 
     def __init__(self, offset=0):
-        self.offset, self.order = offset, DATED + COUNTED
+        self.offset, self.order, self.latest = offset, DATED + COUNTED, (None, None)
 
     def tried(self, text, last):
         for k, (name, pattern) in enumerate(self.order):
@@ -107,15 +109,19 @@ class Times:
         """Whether what stands behind a date says that it is not in UTC, by a name."""
         if "hour" not in found.re.groupindex or found["zone"] is not None:
             return False
-        return re.match(rb" ?(?:%s)(?!\w)" % LOCAL.replace(" ", "|").encode(), text[found.end():found.end() + 6]) is not None
+        return NAMED.match(text, found.end()) is not None
 
     def read(self, text, last=False):
         """The first or the last time that a text tells and the name of its form, or nothing. Unsure where there is one that is not read."""
-        if not text or not any(48 <= byte < 58 for byte in text):
+        if not text or not DIGIT.search(text):
             return None
+        if text == self.latest[0] and not last:
+            return self.latest[1]
         answer = self.tried(text, last)
         if answer is None:
             for name, pattern in UNSURE:
                 if pattern.search(text):
                     raise Unsure(name)
+        if answer and not last:
+            self.latest = text, answer
         return answer

@@ -1,6 +1,6 @@
-"""What tells the time in a log without times: a receiver's own UTC (RMC and ZDA of IEC 61162-1), and that of base stations (message 4 of ITU-R M.1371).
+"""What tells the time in a log without times: a receiver's own UTC (RMC and ZDA of IEC 61162-1), and that of base stations.
 
-RMC, with HDT for her heading, tells where own ship was too.
+Base stations tell it in message 4 (ITU-R M.1371). RMC, with HDT for her heading, tells where own ship was too.
 """
 import re
 

@@ -15,6 +15,7 @@ TICKS = [1, 2, 3, 5, 6, 10, 15, 30, 60]
 LONGEST = 20000                                              # ticks of a window at most
 PLACES = {1: (61, 89), 2: (61, 89), 3: (61, 89), 18: (57, 85), 19: (57, 85)}
 SOUGHT, REACH = 64, 1200000                                  # places in the log that are looked at; how far north or south the plane goes
+MOST_PAIRS, WATCHES = 4096, (5000, 3000, 2000, 1500, 1000)   # the pairs that the program follows; the distances in m that are tried
 MARGIN = 3600                                                # s: what of a log may lie before or behind the times of these places
 LOOK = """version = 1
 window = {{ start = {start}, tick = 60, ticks = {ticks} }}
@@ -43,7 +44,7 @@ slack = 30            # s: a sentence that comes later than this behind the late
 max_speed = 500       # 50 knots: a report that asks for a faster vessel is dropped as a jump
 
 [detect]
-watch = 5000          # m: two vessels are watched from this distance on
+watch = {watch}          # m: two vessels are watched from this distance on
 risk = 500            # m: at risk are two that come nearer than this where both go on as they do
 clear = 1000          # m: past and clear is drawing apart, without risk, at this distance
 horizon = {horizon}         # s: so far ahead risk is looked for
@@ -180,6 +181,42 @@ def reference(found, reasons):
     return held, longitude
 
 
+def text_of(guess):
+    """The scenario's text, with the comments in one column."""
+    tick, ticks, interval = guess["tick"], guess["ticks"], guess["interval"]
+    times = {name: -(-value // tick) * tick for name, value in (
+        ("horizon", 900), ("t8", 60), ("ta", 120), ("tl", 30), ("tw", 120), ("te", 600))}
+    told = "nothing told how far reports are apart" if interval is None else "reports of vessels under way are about %g s apart" % interval
+    text = TEXT.format(**{
+        **guess, **times, "interval": told, "clock": time.strftime("%Y-%m-%d %H:%M:%S UTC", time.gmtime(guess["start"])),
+        "length": "%d minutes" % (ticks * tick // 60) if ticks * tick >= 120 else "%d s" % (ticks * tick), "gap": max(200, tick)})
+    return re.sub(r"(?m)^([a-z0-9_]+ = \S+) +# ", lambda line: "%-22s# " % line[1], text)
+
+
+def fitted(guess, vessels, log, program, reasons):
+    """The guess with a watch, and if need be a window, with which no more pairs come into contact than the program follows."""
+    if vessels * (vessels - 1) <= MOST_PAIRS:
+        return guess
+    for watch in WATCHES:
+        guess = {**guess, "watch": watch}
+        if fits(guess, log, program):
+            break
+    whole = guess["ticks"]
+    while guess["ticks"] > 1 and guess["watch"] == WATCHES[-1] and not fits(guess, log, program):
+        guess = {**guess, "ticks": guess["ticks"] // 2}
+    if guess["ticks"] < whole:
+        reasons.append("the window is cut to %d of %d ticks: more than %d pairs come into contact. tools/many cuts a log into windows" % (
+            guess["ticks"], whole, MOST_PAIRS))
+    if guess["watch"] != WATCHES[0]:
+        reasons.append("the watch is %d m in place of %d: more than %d pairs would come into contact" % (guess["watch"], WATCHES[0], MOST_PAIRS))
+    return guess
+
+
+def fits(guess, log, program):
+    done = run(program, "audit", text_of(guess), log)
+    return not (done.status == 7 and "pairs" in done.words)
+
+
 def suggested(log, program):
     """A scenario's text for a log with tag blocks, and the reasons for what in it was guessed. A Fault where the log has no position report."""
     reasons = []
@@ -191,15 +228,12 @@ def suggested(log, program):
         raise Fault("the program accepts no position report of the log")
     start, tick, ticks, interval = window(found, timed, reasons)
     latitude, longitude = reference(found, reasons)
+    guess = {"start": start, "tick": tick, "ticks": ticks, "interval": interval, "lat": latitude, "lon": longitude, "watch": WATCHES[0]}
+    guess = fitted(guess, found.vessels, log, program, reasons)
     reasons.append("%d position reports of %d vessels" % (len(found.times), found.vessels))
     if interval is not None:
-        reasons.append("the window is from the first report to the last: %d s from %d on" % (ticks * tick, start))
+        whole = "to the last" if guess["ticks"] == ticks else "on, and is cut"
+        reasons.append("the window is from the first report %s: %d s from %d on" % (whole, guess["ticks"] * tick, start))
         reasons.append("the tick is %d s: reports of vessels under way are %g s apart, by their median" % (tick, interval))
     reasons.append("the reference is the middle of the places: latitude %d, longitude %d" % (latitude, longitude))
-    times = {name: -(-value // tick) * tick for name, value in (
-        ("horizon", 900), ("t8", 60), ("ta", 120), ("tl", 30), ("tw", 120), ("te", 600))}
-    text = TEXT.format(
-        start=start, clock=time.strftime("%Y-%m-%d %H:%M:%S UTC", time.gmtime(start)), tick=tick, ticks=ticks, lat=latitude, lon=longitude,
-        interval="nothing told how far reports are apart" if interval is None else "reports of vessels under way are about %g s apart" % interval,
-        length="%d minutes" % (ticks * tick // 60) if ticks * tick >= 120 else "%d s" % (ticks * tick), gap=max(200, tick), **times)
-    return re.sub(r"(?m)^([a-z0-9_]+ = \S+) +# ", lambda line: "%-22s# " % line[1], text), reasons
+    return text_of(guess), reasons

@@ -8,7 +8,7 @@ LONE = re.compile(rb"!([A-Z0-9]{2}VD[MO],1,1,\d?,[A-Za-z0-9]?,([0-W`-w]+),([0-5]
 NO_SPEED, NO_COURSE, NO_HEADING, NO_LATITUDE, NO_LONGITUDE = 1023, 3600, 511, 91 * 600000, 181 * 600000
 LETTERS = b"ABCDEFGHIJKLMNOPQRSTUVWXYZabcdefghijklmnopqrstuvwxyz0123456789+/"
 SIX = bytes(range(48, 88)) + bytes(range(96, 120))
-TO_64 = bytes.maketrans(SIX, LETTERS)
+TO_64, FROM_64 = bytes.maketrans(SIX, LETTERS), bytes.maketrans(LETTERS, SIX)
 
 
 def total(body):
@@ -27,55 +27,49 @@ def block(at, more=b""):
     return b"\\%s*%02X\\" % (fields, total(fields))
 
 
-def bits(value, width):
-    return format(value & ((1 << width) - 1), "0%db" % width)
-
-
-def joined(fields):
-    return "".join(bits(value, width) for value, width in fields)
-
-
 def six_bit_text(words, characters):
-    """Letters of the six-bit set; what it lacks becomes a blank."""
-    plain = [ord(letter) for letter in words.upper()]
-    kept = [code if 32 <= code < 96 and code != 64 else 32 for code in plain][:characters]
-    codes = kept + [64] * (characters - len(kept))
-    return "".join(bits(code - 64 if code >= 64 else code, 6) for code in codes)
+    """The fields of letters of the six-bit set; what it lacks becomes a blank."""
+    codes = [ord(letter) for letter in words.upper()[:characters]]
+    kept = [code if 32 <= code < 96 and code != 64 else 32 for code in codes]
+    return [(code & 63, 6) for code in kept + [64] * (characters - len(kept))]
 
 
-def sentence(text, talker=b"AIVDM", channel=b"A"):
-    """One sentence with these bits, of which 360 go into one."""
-    fill = -len(text) % 6
-    text += "0" * fill
-    payload = bytes(SIX[int(text[at:at + 6], 2)] for at in range(0, len(text), 6))
-    body = b"%s,1,1,,%s,%s,%d" % (talker, channel, payload, fill)
+def sentence(fields, talker=b"AIVDM", channel=b"A"):
+    """One sentence of fields, each a value and its width in bits. 360 bits go into one."""
+    value = width = 0
+    for number, size in fields:
+        value = value << size | number & (1 << size) - 1
+        width += size
+    fill, units = -width % 6, -(-width // 6)
+    value <<= fill + 6 * (-units % 4)                     # so that six bits by six bits make whole groups of three bytes
+    letters = base64.b64encode(value.to_bytes(-(-units // 4) * 3, "big"))[:units]
+    body = b"%s,1,1,,%s,%s,%d" % (talker, channel, letters.translate(FROM_64), fill)
     return b"!%s*%02X" % (body, total(body))
 
 
 def class_a(mmsi, report, status=15):
     """A position report of message 1. A report has latitude, longitude, speed, course, heading and second in the units of the message."""
     latitude, longitude, speed, course, heading, second = report
-    return joined([(1, 6), (0, 2), (mmsi, 30), (status, 4), (128, 8), (speed, 10), (0, 1), (longitude, 28), (latitude, 27), (course, 12),
-                   (heading, 9), (second, 6), (0, 25)])
+    return [(1, 6), (0, 2), (mmsi, 30), (status, 4), (128, 8), (speed, 10), (0, 1), (longitude, 28), (latitude, 27), (course, 12),
+            (heading, 9), (second, 6), (0, 25)]
 
 
 def class_b(mmsi, report):
     """A position report of message 18."""
     latitude, longitude, speed, course, heading, second = report
-    return joined([(18, 6), (0, 2), (mmsi, 30), (0, 8), (speed, 10), (0, 1), (longitude, 28), (latitude, 27), (course, 12), (heading, 9),
-                   (second, 6), (0, 29)])
+    return [(18, 6), (0, 2), (mmsi, 30), (0, 8), (speed, 10), (0, 1), (longitude, 28), (latitude, 27), (course, 12), (heading, 9),
+            (second, 6), (0, 29)]
 
 
 def name_part(mmsi, name):
     """Message 24, part 0: the name."""
-    return joined([(24, 6), (0, 2), (mmsi, 30), (0, 2)]) + six_bit_text(name, 20)
+    return [(24, 6), (0, 2), (mmsi, 30), (0, 2)] + six_bit_text(name, 20)
 
 
 def hull_part(mmsi, kind, hull, call=""):
     """Message 24, part 1: type of ship and her size as metres to bow, stern, port and starboard."""
-    bow, stern, port, starboard = hull
-    return (joined([(24, 6), (0, 2), (mmsi, 30), (1, 2), (kind, 8), (0, 42)]) + six_bit_text(call, 7)
-            + joined([(bow, 9), (stern, 9), (port, 6), (starboard, 6), (0, 6)]))
+    sides = list(zip(hull, (9, 9, 6, 6)))
+    return [(24, 6), (0, 2), (mmsi, 30), (1, 2), (kind, 8), (0, 42)] + six_bit_text(call, 7) + sides + [(0, 6)]
 
 
 class Message:

@@ -1,8 +1,8 @@
 """Makes one log of any logs: `gather` writes sentences with tag blocks, sorted by time, and counts each line by the form in which it was read.
 
 A sentence takes its time from its tag block, else from behind its sum, else from before it. A line without a time has that of the receiver's own
-clock (RMC, ZDA) or of the line before, whichever came last, and where neither is told that of base stations (message 4). A line that gives nothing is counted too: `aside` where it is known and of no use here,
-`unread` with an example where it is not understood.
+clock (RMC, ZDA) or of the line before, whichever came last, and where neither is told that of base stations (message 4). A line that gives nothing
+is counted too: `aside` where it is known and of no use here, `unread` with an example where it is not understood.
 """
 import collections
 import os
@@ -22,12 +22,14 @@ SENTENCE = re.compile(rb"![A-Z0-9]{2}VD[MO],[^*!\\]*\*[0-9A-Fa-f]{2}")
 TAGGED = re.compile(rb"(\\c:(\d{10})\*[0-9A-F]{2}\\)(![A-Z0-9]{2}VD[MO],[^*!\\]*\*[0-9A-Fa-f]{2})")
 BLOCK = re.compile(rb"\\([^\\*]+)\*([0-9A-Fa-f]{2})\\")
 STAMP = re.compile(rb"c:(\d{1,15})(?:\.\d*)?")
+LATER_PART = re.compile(rb"![A-Z0-9]{2}VD[MO],[2-9],[2-9],")
 CUT = re.compile(rb"![A-Z0-9]{2}VD[MO],")
 HEAD = re.compile(rb"\w[\w \"]*(?:[,;\t]\w[\w \"]*)+")
 PROSE = re.compile(rb"\s*(?:#|//|--)")
 NMEA = re.compile(rb"[$!]([A-Z0-9]{2,6}),")
 SLOTS = 4500                    # of two channels in a minute: more sentences were never heard between two times of a receiver
 DAY = 86400                     # s
+LINES, RECEIVER, BASE = "that of the line before", "the receiver's (RMC, ZDA or TPV)", "that of a base station (message 4)"
 LATEST = 9999999999             # the greatest time that ten digits hold
 SAMPLE = 200                    # letters of an example
 
@@ -82,35 +84,41 @@ class Log:
 
 
 class Waiting:
-    """Sentences between two times of a receiver: they have the first where both are near to each other, and none otherwise."""
+    """Sentences without a time, between two times that are told: they have the first where both are near to each other.
+
+    Where they are not, or none comes, as many have it as usually stand between two times. In a gap of a receiver's clock none has.
+    """
 
     def __init__(self, put, cannot):
-        self.put, self.cannot, self.time, self.held, self.usual, self.sure = put, cannot, None, [], 10, SLOTS
+        self.put, self.cannot, self.time, self.clock, self.held, self.usual, self.sure = put, cannot, None, None, [], 10, SLOTS
 
     def add(self, words):
         if len(self.held) < SLOTS:
             self.held.append(words)
         else:
-            self.cannot("a sentence too far behind the receiver's time", words)
+            self.cannot("a sentence too far behind the last time", words)
 
     def doubt(self):
         """The receiver says that it has no fix: what follows has the time before only where a next time comes soon."""
         self.sure = min(self.sure, len(self.held))
 
-    def until(self, time):
-        """The receiver's next time comes; or none, at the end."""
-        gone, sure = (self.held, self.time), self.sure
-        self.held, self.time, self.sure = [], time, SLOTS
-        if gone[1] is None or not gone[0]:
-            return
-        near = time is not None and 0 <= time - gone[1] <= LONGEST_GAP
+    def until(self, time, clock=None):
+        """The next time comes, and which clock tells it; or none, at the end."""
+        if self.held:
+            self.leave(time)
+        self.time, self.clock, self.sure = time, clock, SLOTS
+
+    def leave(self, time):
+        held, self.held = self.held, []
+        near = time is not None and 0 <= time - self.time <= LONGEST_GAP
         if near:
-            self.usual = max(self.usual, len(gone[0]))
-        known = len(gone[0]) if near else min(len(gone[0]), self.usual, sure) if time is None or time < gone[1] else 0
-        for words in gone[0][:known]:
-            self.put(gone[1], words)
-        for words in gone[0][known:]:
-            self.cannot("a sentence in a gap of the receiver's time", words)
+            self.usual = max(self.usual, len(held))
+        stands_alone = time is None or time < self.time or self.clock == LINES
+        known = len(held) if near else min(len(held), self.usual, self.sure) if stands_alone else 0
+        for words in held[:known]:
+            self.put(self.time, words)
+        for words in held[known:]:
+            self.cannot("a sentence in a gap between two times", words)
 
 
 class Reader:
@@ -120,20 +128,24 @@ class Reader:
         self.part, self.log, self.gathered, self.untimed = part, log, gathered, untimed
         self.times, self.receiver, self.offset = Times(offset), Receiver(mmsi), offset
         self.json, self.waiting = jsons.Objects(self.times), Waiting(self.clocked, gathered.cannot)
-        self.table, self.before, self.apart, self.head = None, None, collections.Counter(), None
-        self.clock, self.by_receiver = "", False
+        self.table, self.previous, self.apart, self.head, self.by_receiver = None, None, collections.Counter(), None, False
 
     def clocked(self, time, words):
-        self.gathered.forms["no time of its own: %s" % self.clock] += 1
+        self.gathered.forms["no time of its own: %s" % self.waiting.clock] += 1
         self.log.put(time, words)
+
+    def own(self, time):
+        """A sentence tells its own time: parts that follow have it too, and others as long as the next time is near."""
+        self.previous = time
+        self.waiting.until(time, LINES)
 
     def read(self, lines):
         for line in lines:
             found = TAGGED.fullmatch(line)
             if found and found[1] == block(int(found[2])):
-                self.before = int(found[2])
+                self.own(int(found[2]))
                 self.gathered.forms["tag block"] += 1
-                self.log.put(self.before, found[3], found[1])
+                self.log.put(self.previous, found[3], found[1])
             else:
                 self.line(line)
         self.waiting.until(None)
@@ -200,18 +212,16 @@ class Reader:
 
     def ticks(self, time):
         """The receiver's own clock tells a time: from now on it alone counts where a line has none."""
-        if not self.by_receiver:
+        if not self.by_receiver and self.waiting.clock == BASE:
             self.waiting.until(None)
-            self.clock, self.by_receiver = "the receiver's (RMC, ZDA or TPV)", True
-        self.before = None
-        self.waiting.until(time)
+        self.by_receiver = True
+        self.waiting.until(time, RECEIVER)
 
     def by_base_station(self, words):
         """A base station tells the time, in a log where nothing else does."""
-        time = base_time(words) if not self.by_receiver and words[:1] == b"!" else None
+        time = base_time(words) if self.waiting.clock in (None, BASE) else None
         if time is not None:
-            self.clock = "that of a base station (message 4)"
-            self.waiting.until(time)
+            self.waiting.until(time, BASE)
 
     def own_ship(self, time, words):
         if words:
@@ -256,7 +266,7 @@ class Reader:
         try:
             own = self.own_time(line, found[0].start(), found[-1].end())
         except Unsure as doubt:
-            if self.waiting.time is None or "tag block" in str(doubt):
+            if self.waiting.clock in (None, LINES) or "tag block" in str(doubt):
                 self.gathered.cannot(str(doubt), line)
                 return
             own = None
@@ -265,13 +275,14 @@ class Reader:
 
     def put(self, own, words):
         if own:
-            self.before = own[0]
+            self.own(own[0])
             self.gathered.forms[own[1]] += 1
             self.log.put(own[0], words, block(own[0], own[2]) if own[2] else None)
-        elif self.before is not None:
-            self.gathered.forms["no time of its own: that of the line before"] += 1
-            self.log.put(self.before, words)
+        elif self.previous is not None and LATER_PART.match(words):
+            self.gathered.forms["no time of its own: %s" % LINES] += 1
+            self.log.put(self.previous, words)
         else:
+            self.previous = None
             self.by_base_station(words)
             self.wait(words)
 

@@ -20,6 +20,8 @@ COLUMNS = {
     "class": ("transceiverclass", "transceiver", "typeofmobile"),
 }
 UNUSED = {"imo", "draft", "draught", "cargo", "cargotype", "rot", "dest", "destination", "eta", "typeofpositionfixingdevice", "datasourcetype"}
+MOVING = ("latitude", "longitude", "speed", "course", "heading")
+STATIC = ("name", "kind", "call", "length", "width", "a", "b", "c", "d")
 NEEDED = ("mmsi", "time", "latitude", "longitude")
 DAY_FIRST = re.compile(r"(\d\d)[/-](\d\d)[/-](\d{4}) (\d\d):(\d\d):(\d\d)")
 NO_SHIPS = ("base", "aton", "aid", "sar", "search", "man over")
@@ -59,6 +61,8 @@ class Table:
 
     def __init__(self, heads, delimiter):
         self.width, self.delimiter, self.ship, found = len(heads), delimiter, units.Ship(), [plain(head) for head in heads]
+        self.told = {}                               # of each ship, her static fields as they were told last
+        self.latest = None, None                     # the text of a time, and what it told: many rows have one time
         self.at = {name: found.index(word) for name, words in COLUMNS.items() for word in reversed(words) if word in found}
         used = set(self.at.values())
         self.unknown = [heads[k].strip() for k, word in enumerate(found) if k not in used and word not in UNUSED]
@@ -79,7 +83,9 @@ class Table:
         told = {name: fields[at].strip() for name, at in self.at.items()}
         if told.get("class", "").lower().startswith(NO_SHIPS):
             raise RowFault("a row of a station that is no ship")
-        time, counted = self.time(told["time"], times)
+        if told["time"] != self.latest[0]:
+            self.latest = told["time"], self.time(told["time"], times)
+        time, counted = self.latest[1]
         mmsi = told["mmsi"]
         if not re.fullmatch(r"[0-9]{1,9}", mmsi):
             raise RowFault("a row whose MMSI is no number")
@@ -103,18 +109,26 @@ class Table:
 
     def sentences(self, mmsi, told, time, counted):
         try:
-            values = {name: units.number(told.get(name, "")) for name in (
-                "latitude", "longitude", "speed", "course", "heading", "length", "width", "a", "b", "c", "d")}
+            static = self.static(mmsi, told)
+            values = {name: units.number(told.get(name, "")) for name in MOVING}
         except ValueError:
             raise RowFault("a row with a field that is no number") from None
         if self.name == "AISHub" and counted and "." not in told["latitude"] + told["longitude"]:
             raw_units(values)
         report = (units.latitude(values["latitude"]), units.longitude(values["longitude"]), units.speed(values["speed"]),
                   units.course(values["course"]), units.heading(values["heading"]), time % 60)
-        hull = units.hull([values[side] for side in "abcd"], values["length"], values["width"])
-        static = self.ship.static(mmsi, told.get("name", ""), units.kind(told.get("kind", "")), hull, told.get("call", ""))
         small = told.get("class", "").upper() in ("B", "CLASS B")
         return static + [self.ship.position(mmsi, report, small, units.status(told.get("status", "")))]
+
+    def static(self, mmsi, told):
+        """The sentences of what a row tells of the ship, where it is told otherwise than in her row before."""
+        words = tuple(told.get(name, "") for name in STATIC)
+        if self.told.get(mmsi) == words:
+            return []
+        name, kind, call, length, width, *sides = words
+        hull = units.hull([units.number(side) for side in sides], units.number(length), units.number(width))
+        self.told[mmsi] = words
+        return self.ship.static(mmsi, name, units.kind(kind), hull, call)
 
 
 def raw_units(values):

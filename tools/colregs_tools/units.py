@@ -12,12 +12,18 @@ KINDS = {"fishing": 30, "towing": 31, "towing long/wide": 32, "dredging": 33, "d
 
 def number(text):
     """The number of a field, or nothing where the field tells nothing; ValueError where it is none, or no finite one."""
-    plain = str(text).strip()
-    if plain.lower() in NOTHING:
+    if text is None:
         return None
-    value = float(plain)
-    if value != value or abs(value) > 1e12:
-        raise ValueError(plain)
+    try:
+        value = float(text)
+    except ValueError:
+        if text.strip().lower() in NOTHING:
+            return None
+        raise
+    if value != value:
+        return None
+    if abs(value) > 1e12:
+        raise ValueError(text)
     return value
 
 

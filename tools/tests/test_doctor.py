@@ -112,7 +112,7 @@ class WrongUses(InFolder):
 
     def test_a_station_that_is_no_ship_is_named(self):
         """A buoy (message 21) with a ship's number that sends positions too."""
-        aid = sentences.sentence(sentences.joined([(21, 6), (0, 2), (200000014, 30), (0, 234)]))
+        aid = sentences.sentence([(21, 6), (0, 2), (200000014, 30), (0, 234)])
         told = words_of(self.found(TOML, by_time(LOG.splitlines() + ["\\c:1700000300*5C\\" + aid.decode()])))
         self.assertEqual(told, ["station that is no ship: 200000014 is judged as a vessel, and sends an aid to navigation's report (message 21)"])
         name = sentences.block(1700000300) + sentences.sentence(sentences.name_part(200000014, "NET 14 86%"))
@@ -121,7 +121,7 @@ class WrongUses(InFolder):
     def test_a_clock_in_local_time_is_named_by_base_stations(self):
         """A base station (message 4) that tells 22:15:00 UTC of 14 November 2023 in a line of an hour later."""
         fields = [(4, 6), (0, 2), (2655651, 30), (2023, 14), (11, 4), (14, 5), (22, 5), (15, 6), (0, 6), (0, 90)]
-        line = (sentences.block(1700000100 + 3600) + sentences.sentence(sentences.joined(fields))).decode()
+        line = (sentences.block(1700000100 + 3600) + sentences.sentence(fields)).decode()
         later = re.sub(r"\\c:17000(\d{5})\*..\\", lambda found: sentences.block(1700000000 + int(found[1]) + 3600).decode(), LOG)
         toml = TOML.replace("start = 1700000000", "start = 1700003600")
         self.assertEqual(self.names(toml, later), [])
@@ -183,7 +183,8 @@ class Keys(unittest.TestCase):
     def test_the_keys_are_those_of_the_page(self):
         known = keys.units()
         self.assertEqual(len(known), 54 - 2)                 # rows 0 to 53, less the text as a whole and the weight of all formulas
-        self.assertEqual([known[key] for key in ("detect.watch", "act.apparent_turn", "rules.safe_other", "rules.te")], ["m", "1/10 degree", "m", "s"])
+        some = ("detect.watch", "act.apparent_turn", "rules.safe_other", "rules.te")
+        self.assertEqual([known[key] for key in some], ["m", "1/10 degree", "m", "s"])
 
 
 def report(at, mmsi, latitude, longitude, way=100, course=900, heading=90):

@@ -53,6 +53,26 @@ class Suggested(InFolder):
         self.assertEqual(values["window"]["ticks"], 1)
         self.assertIn("no tag block tells a time", reasons)
 
+    def test_many_vessels_have_a_watch_with_which_the_program_follows_them(self):
+        """A row of 400 ships, each 299 m from the next: within 2000 m they make 4758 ordered pairs, within 1500 m 3970.
+
+        Of ordered pairs k apart in the row there are 2 (400 - k).
+        """
+        step = round(299 / 1852 * 10000)
+        log = b"".join(report(at, 200000001 + k, k * step, 1200000) for at in (1700000000, 1700000060) for k in range(400))
+        values, reasons = self.values(log)
+        self.assertEqual([sum(2 * (400 - k) for k in range(1, 1 + watch // 299)) for watch in (2000, 1500)], [4758, 3970])
+        self.assertEqual(values["detect"]["watch"], 1500)
+        self.assertIn("the watch is 1500 m in place of 5000", reasons)
+
+    def test_where_no_watch_does_the_window_is_cut(self):
+        """65 ships in one place, 4160 pairs, of whom the last comes in the second half."""
+        log = b"".join(report(1700000000 + 60 * minute, 200000001 + k, 600000, 1200000)
+                       for minute in range(21) for k in range(65) if k < 64 or minute > 14)
+        values, reasons = self.values(log)
+        self.assertEqual((values["window"]["ticks"], values["detect"]["watch"]), (10, 1000))
+        self.assertIn("the window is cut to 10 of 20 ticks", reasons)
+
     def test_a_long_log_begins_the_window_and_is_told(self):
         log = b"".join(report(1700000000 + 10000 * k, 200000001, 600000, 1200000 + 5 * k) for k in range(300))
         values, reasons = self.values(log)

@@ -3,12 +3,15 @@ import bz2
 import gzip
 import lzma
 import os
+import random
 import shutil
 import subprocess
 import time
 import unittest
 import zipfile
 
+import test_tables
+import test_times
 from given import InFolder, example, needs, text_of, with_program
 from colregs_tools import sentences
 from colregs_tools.packing import Fault
@@ -31,7 +34,7 @@ def rmc(clock, date, valid="A", place="4815.0000,N,12334.9406,W", way="14.0,090.
 
 def base_station(second, repeat=0):
     fields = [(4, 6), (repeat, 2), (2655651, 30), (2023, 14), (11, 4), (14, 5), (22, 5), (13, 6), (second, 6), (0, 90)]
-    return sentences.sentence(sentences.joined(fields)).decode()
+    return sentences.sentence(fields).decode()
 
 
 class Sources(InFolder):
@@ -76,7 +79,7 @@ class Receivers(Sources):
         log = [rmc("221321", "141123"), S, rmc("222321", "141123"), T]
         found, made = self.gathered("\n".join(log))
         self.assertEqual(made, ["\\c:1700000601*58\\" + T])
-        self.assertEqual(found.unread["a sentence in a gap of the receiver's time"], (1, S))
+        self.assertEqual(found.unread["a sentence in a gap between two times"], (1, S))
 
     def test_base_stations_tell_the_time_where_nothing_else_does(self):
         """Message 4 of 2023-11-14 22:13:21 and :31; of a receiver's clock beside it the receiver's counts, and a repeated one never does."""
@@ -180,6 +183,15 @@ class Blocks(Sources):
         self.assertEqual(made[1], "\\c:1700000000*5F\\!AIVDM,2,2,0,A,1@0000000000000,2*55")
         self.assertEqual((found.sentences, found.back, found.unread), (312, 0, {}))
 
+    def test_a_time_holds_for_few_lines_behind_it(self):
+        """A part has the time of its message whatever comes; other lines have it as long as the next time is near, or few stand behind it."""
+        parts = ["\\c:1700000000*5F\\!AIVDM,2,1,0,A,52vg22h000000000000Dhl000000000000000016;@N::000004i@E53,0*77",
+                 "!AIVDM,2,2,0,A,1@0000000000000,2*55"]
+        self.assertEqual(self.times("\n".join([*parts, "1700009000 " + T])), [1700000000, 1700000000, 1700009000])
+        self.assertEqual(self.times("\n".join(["1700000000 " + S] + [T] * 30 + ["1700000001 " + S])), [1700000000] * 31 + [1700000001])
+        found, made = self.gathered("\n".join(["1700000000 " + S] + [T] * 300))
+        self.assertEqual((len(made), found.unread["a sentence in a gap between two times"].count), (11, 290))
+
     def test_lines_that_run_back_are_sorted_and_parts_stay_in_order(self):
         lines = text_of(example("crossing.log")).splitlines()
         found, made = self.gathered("\n".join(lines[100:] + lines[:100]))
@@ -203,6 +215,29 @@ class Blocks(Sources):
 def gather_lines(test, lines):
     gather([test.write("whole", "\n".join(lines))], test.path("sorted"))
     return text_of(test.path("sorted")).splitlines()
+
+
+class Mutated(Sources):
+    def test_whatever_the_bytes_nothing_breaks_and_no_line_is_lost(self):
+        """Lines of all forms and tables with bytes put in, taken out and changed, from seeds."""
+        chance = random.Random(1)
+        clocks = rmc("221321", "141123"), sentence("HEHDT,091.4,T"), base_station(21)
+        plain = [line.encode() for line in (*test_times.FORMS, *test_times.UNSURE, *clocks)]
+        tables = [table.encode().splitlines() for table in (test_tables.CADASTRE, test_tables.DMA, test_tables.HUB_RAW)]
+        for _ in range(150):
+            lines = [chance.choice(plain) for _ in range(8)] + (chance.choice(tables) if chance.random() < 0.5 else [])
+            log = self.write("log", b"\n".join(mutated(chance, line) for line in lines))
+            found = gather([log], self.path("out"), mmsi=200000031)
+            counted = sum(found.forms.values()) + sum(found.aside.values()) + sum(told.count for told in found.unread.values())
+            self.assertGreaterEqual(counted, found.lines())
+
+
+def mutated(chance, line):
+    """The line with up to three bytes put in, changed or taken out, of which some mean much here."""
+    for _ in range(chance.randrange(4)):
+        at, byte = chance.randrange(len(line) + 1), bytes([chance.choice([chance.randrange(256), *b",.;:\"\\!$*{}[]0"])])
+        line = line[:at] + chance.choice([byte, b""]) + line[at + chance.randrange(3):]
+    return line
 
 
 class Files(Sources):

@@ -19,8 +19,8 @@ CADASTRE_NEW = ("mmsi,base_date_time,longitude,latitude,sog,cog,heading,vessel_n
                 "367000001,2023-11-14 22:13:22,-123.5823,48.2501,0.1,360,511,\"BOAT, SMALL\",,,37,,8,3,,,B\n")
 DMA = ("# Timestamp,Type of mobile,MMSI,Latitude,Longitude,Navigational status,ROT,SOG,COG,Heading,IMO,Callsign,Name,Ship type,Cargo type,Width,"
        "Length,Type of position fixing device,Draught,Destination,ETA,Data source type,A,B,C,D\n"
-       "14/11/2023 22:13:21,Class A,200000011,48.250000,-123.582340,Under way using engine,0.0,14.0,90.5,91,Unknown,WDA1234,ELM,Cargo,,20,120,GPS,5.0,"
-       "KOBENHAVN,,AIS,0,120,0,20\n14/11/2023 22:13:21,Base Station,2190068,55.6,12.6,Unknown value,,,,,Unknown,Unknown,,Undefined,,,,,,,,AIS,,,,\n"
+       "14/11/2023 22:13:21,Class A,200000011,48.250000,-123.582340,Under way using engine,0.0,14.0,90.5,91,Unknown,WDA1234,ELM,Cargo,,20,120,"
+       "GPS,5.0,KOBENHAVN,,AIS,0,120,0,20\n14/11/2023 22:13:21,Base Station,2190068,55.6,12.6,Unknown value,,,,,Unknown,Unknown,,Undefined,,,,,,,,AIS,,,,\n"
        "14/11/2023 22:13:22,Class B,367000001,48.2501,-123.5823,Unknown value,,0.1,360.0,511,Unknown,,\"BOAT, SMALL\",Pleasure,,3,8,GPS,,,,AIS,,,,\n")
 HUB = ("MMSI,TSTAMP,LATITUDE,LONGITUDE,COG,SOG,HEADING,ROT,NAVSTAT,IMO,NAME,CALLSIGN,TYPE,A,B,C,D,DRAUGHT,DEST,ETA\n"
        "200000011,2023-11-14 22:13:21 GMT,48.25,-123.58234,90.5,14,91,0,0,9123456,ELM,WDA1234,70,0,120,0,20,5,KIEL,11-20 10:00\n")
