@@ -84,6 +84,8 @@ class Making:
 
     @staticmethod
     def sum_of_given(name):
+        if os.path.exists(name) and not os.path.isfile(name):
+            raise Fault("%s is no file: a case keeps the sum of each log, so a folder, a pipe or a device is none" % name)
         try:
             return sum_of(name)
         except OSError as error:

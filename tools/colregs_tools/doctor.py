@@ -53,7 +53,7 @@ class Patient:
         """The rows of the audit by their kinds."""
         kinds = collections.defaultdict(list)
         for fields in csv.reader(io.StringIO(self.audit.text.decode("utf-8", "replace"))):
-            kinds[fields[0]].append(fields)
+            kinds[fields[0] if fields else ""].append(fields)
         return kinds
 
     def rows(self, kind):

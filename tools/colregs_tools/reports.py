@@ -9,6 +9,7 @@ import csv
 import json
 import math
 import os
+import stat
 import subprocess
 import tomllib
 from array import array
@@ -31,7 +32,8 @@ def run(program, mode, scenario, log, good=(0,), options=()):
     except OSError as error:
         raise Fault("%s: %s" % (error.filename or program, error.strerror)) from None
     if done.returncode not in good:
-        raise Fault("the program ends `%s` with status %d, %s" % (mode, done.returncode, done.stderr.decode(errors="replace").strip()))
+        raise Fault("the program ends `%s` with status %d, %s; docs/ROWS.md says what to do at each status" % (
+            mode, done.returncode, done.stderr.decode(errors="replace").strip()))
     return done.stdout.decode()
 
 
@@ -42,6 +44,8 @@ def window_options(start=None, ticks=None):
 
 def read_text(name):
     try:
+        if stat.S_ISCHR(os.stat(name).st_mode):
+            raise Fault("%s is a device, and no file" % name)
         with open(name, encoding="utf-8", newline="") as source:
             return source.read()
     except OSError as error:
@@ -198,6 +202,8 @@ class Case:
 
     def take_points(self, text):
         points, others = split_rows(text)
+        if not points and not others:
+            raise Fault("the points: there is no row in them")
         told = {}
         for line in points:
             told.setdefault(line[6:line.find(",", 6)], []).append(line)
@@ -280,13 +286,11 @@ class Case:
         for row in self.meetings + self.verdicts:
             if not 0 <= row["first"] <= row["last"] < self.steps:
                 raise Fault("a row has steps %d to %d, and the window has %d: give the run's --ticks" % (row["first"], row["last"], self.steps))
-            if self.tracks and not all(mmsi in self.tracks for mmsi in row["pair"]):
+            if not all(mmsi in self.tracks for mmsi in row["pair"]):
                 raise Fault("a row is of %d and %d, and the points are not" % row["pair"])
 
     def fits(self, meeting):
         """Whether the two are seen at the meeting's steps, and as near as the report says."""
-        if not self.tracks:
-            return True
         ticks = slice(meeting["first"], meeting["last"] + 2)
         if any(x != x for mmsi in meeting["pair"] for x in self.places[mmsi].xs[ticks]):
             return False

@@ -4,6 +4,7 @@ from .earth import iso
 from .rules import OUTCOMES
 
 REST = "verdicts at rest"               # the doctor's finding by vessels; here the stretches are counted
+HEAVY = 2000000                         # reports, beyond which a page is slow
 USED = ("point", "static", "part")      # the outcomes of lines that tell something
 
 
@@ -58,6 +59,10 @@ def nearest_words(case, met):
 def meeting_words(case):
     met = unordered(case.meetings)
     broken, open_ = ([row for row in case.verdicts if row["value"] == value] for value in ("broken", "open"))
+    if not case.tracks:
+        yield "Nothing was audited: no vessel has a position between %s and %s UTC, the scenario's window." % (
+            plain(case.start), plain(case.moment(case.steps)))
+        return
     yield "%s had positions between %s and %s UTC, which is the window that was audited." % (
         count(len(case.tracks), "vessel"), plain(case.start), plain(case.moment(case.steps)))
     if not met:
@@ -72,9 +77,24 @@ def summary(case, gathered):
     return [*read_words(case, gathered), *meeting_words(case)]
 
 
+def outside(case, gathered):
+    """How much of the log the window leaves out, where that is more than a tenth."""
+    if gathered.first is None or gathered.last is None:
+        return []
+    left = max(0, case.start - gathered.first) + max(0, gathered.last - case.moment(case.steps))
+    if 10 * left <= gathered.last - gathered.first:
+        return []
+    return ["The window is from %s to %s UTC, and the log from %s to %s: what lies outside was not audited. --start and --ticks set another window, and"
+            " tools/many cuts a long log." % (plain(case.start), plain(case.moment(case.steps)), plain(gathered.first), plain(gathered.last))]
+
+
 def doubts(case, gathered, findings):
     """What is doubtful, most of it by the doctor's words."""
     found = ["%s: %s." % (capital(finding.name), finding.words) for finding in findings if finding.name != REST]
+    found += outside(case, gathered) if case.tracks else []
+    reports = sum(len(track.times) for track in case.tracks.values())
+    if reports > HEAVY:
+        found.append("The page holds %s reports, which a browser shows slowly: a smaller window makes a lighter page." % format(reports, ","))
     still = [row for row in case.verdicts if rest.marked(row)]
     if still:
         found.append("%s of %s of vessels that never make half a knot in the stretch. They may lie at anchor or alongside, where the rules ask"

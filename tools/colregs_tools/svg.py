@@ -21,8 +21,24 @@ def cells(box):
     return [(a, b) for a in range(x, u + 1) for b in range(y, v + 1)]
 
 
+def apart(points, least):
+    """The line without points that lie nearer than this to the one before, but for its last."""
+    kept = [points[0]]
+    x, y = points[0]
+    for a, b in points:
+        if abs(a - x) > least or abs(b - y) > least:
+            kept.append((a, b))
+            x, y = a, b
+    return kept + [points[-1]]
+
+
 def thinned(points, most=0.35):
-    """The line without points that lie on it as far as can be seen: Douglas and Peucker's, `most` from it."""
+    """The line without points that lie on it as far as can be seen: Douglas and Peucker's, `most` from it.
+
+    Of a long line, those go first that lie within a part of this of the one before.
+    """
+    if len(points) > 500:
+        points = apart(points, most / 4)
     kept, parts = {0, len(points) - 1}, [(0, len(points) - 1)]
     while parts:
         first, last = parts.pop()

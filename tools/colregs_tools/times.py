@@ -28,7 +28,7 @@ def fewer(case, found):
         near[meeting["pair"]] = min(meeting["least"], near.get(meeting["pair"], meeting["least"]))
     kept = set(sorted(near, key=lambda pair: (near[pair], min(pair), max(pair)))[:MANY]) or {entry[0] for entry in found[:MANY]}
     few = [entry for entry in found if entry[0] in kept]
-    return few, "Of %d ordered pairs the %d that came nearest are drawn; draw --pair, --from and --to show others." % (len(found), len(few))
+    return few, "Of %d ordered pairs the %d that came nearest are drawn; --pair, --from and --to draw others." % (len(found), len(few))
 
 
 def across(case, step):

@@ -12,13 +12,9 @@ MANY = 60       # vessels, or meetings, beyond which only some have words, and t
 
 def seen_parts(places):
     """The runs of ticks at which a vessel is seen."""
-    part = []
-    for place in itertools.chain(places, [None]):
-        if place is not None:
-            part.append(place)
-        elif part:
-            yield part
-            part = []
+    for seen, group in itertools.groupby(zip(places.xs, places.ys), key=lambda place: place[0] == place[0]):
+        if seen:
+            yield list(group)
 
 
 class Chart:
@@ -47,6 +43,11 @@ class Chart:
 
     def at(self, place):
         return self.left + (place[0] - self.west) * self.scale, self.bottom - (place[1] - self.south) * self.scale
+
+    def line(self, places):
+        """The same of many places."""
+        left, bottom, scale, west, south = self.left, self.bottom, self.scale, self.west, self.south
+        return [(left + (x - west) * scale, bottom - (y - south) * scale) for x, y in places]
 
     def stretch(self, verdict):
         places = self.case.places[verdict["pair"][0]][verdict["first"]:verdict["last"] + 2]
@@ -112,7 +113,7 @@ def draw_tracks(chart):
     for mmsi, places in sorted(chart.case.places.items(), key=lambda entry: entry[0] in met):
         fill = TRACK if mmsi in met else QUIET
         for part in seen_parts(places):
-            line = [chart.at(place) for place in part]
+            line = chart.line(part)
             few = thinned(line)
             chart.picture.path(few, fill, 0.7 if chart.crowded else 1.3)
             chart.labels.keep_clear(few)
@@ -120,13 +121,16 @@ def draw_tracks(chart):
 
 
 def draw_head(chart, line, fill):
-    """An arrow at the end of a track, or a dot where the vessel stays."""
-    (x, y), (u, v) = line[max(0, len(line) - 4)], line[-1]
-    if math.hypot(u - x, v - y) < 1:
-        chart.picture.dot((u, v), 3, fill)
+    """An arrow at the end of a track, or a dot where the vessel stays: where she has not moved in ten minutes, as far as can be seen."""
+    (u, v), last, size = line[-1], len(line) - 1, 0.6 if chart.crowded else 1
+    back = [line[max(0, last - k)] for k in (3, *range(4, max(5, 600 // chart.case.tick + 1)))]
+    x, y = next((place for place in back if math.dist(place, (u, v)) >= 1), (u, v))
+    if (x, y) == (u, v):
+        chart.picture.dot((u, v), 3 * size, fill)
         return
     turn = math.degrees(math.atan2(v - y, u - x))
-    chart.picture.add("path", d="M5 0 L-5 -4 L-5 4 z", fill=fill, transform="translate(%.1f,%.1f) rotate(%.1f)" % (u, v, turn))
+    chart.picture.add("path", d="M%g 0 L-%g -%g L-%g %g z" % (5 * size, 5 * size, 4 * size, 5 * size, 4 * size), fill=fill,
+                      transform="translate(%.1f,%.1f) rotate(%.1f)" % (u, v, turn))
 
 
 def minutes_apart(chart):

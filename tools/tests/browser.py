@@ -5,11 +5,21 @@ import os
 import select
 import shutil
 import subprocess
+import sys
 import tempfile
 import time
 
 NAMES = ("chromium", "chromium-browser", "google-chrome")
 PATIENCE = 60
+# the browser reads its orders from file 3 and answers on file 4, whatever these are here
+LAUNCH = """
+import fcntl, os, sys
+ends = [fcntl.fcntl(int(word), fcntl.F_DUPFD, 100) for word in sys.argv[1:3]]
+for end, number in zip(ends, (3, 4)):
+    os.dup2(end, number)
+    os.close(end)
+os.execv(sys.argv[3], sys.argv[3:])
+"""
 
 
 def installed():
@@ -25,8 +35,9 @@ class Browser:
         words = [installed(), "--headless=new", "--no-sandbox", "--disable-gpu", "--remote-debugging-pipe", "--no-first-run", "--mute-audio",
                  "--disable-background-networking", "--disable-component-update", "--disable-dev-shm-usage", "--hide-scrollbars",
                  "--user-data-dir=" + self.folder.name, "--window-size=%d,%d" % (width, height), "about:blank"]
-        self.child = subprocess.Popen(["sh", "-c", 'exec "$@" 3<&%d 4>&%d' % (to_browser[0], from_browser[1]), "sh", *words], stdin=subprocess.DEVNULL,
-                                      stdout=subprocess.DEVNULL, stderr=subprocess.DEVNULL, pass_fds=(to_browser[0], from_browser[1]))
+        ends = to_browser[0], from_browser[1]
+        self.child = subprocess.Popen([sys.executable, "-c", LAUNCH, *map(str, ends), *words], stdin=subprocess.DEVNULL, stdout=subprocess.DEVNULL,
+                                      stderr=subprocess.DEVNULL, pass_fds=ends)
         os.close(to_browser[0])
         os.close(from_browser[1])
         self.out, self.source, self.held, self.number = to_browser[1], from_browser[0], b"", 0

@@ -12,6 +12,7 @@ EAST, WEST, STILL = 200000301, 200000302, 200000303
 START, TICK, STEPS = 1700000000, 10, 100
 NEAREST = START + 500           # 22:21:40 UTC on 14 November 2023
 LEAST = 185.2
+HOSTILE = '<IMG SRC=//X.TEST>,"'      # a name that six-bit text can hold
 UNSAFE = 45, 54                 # the first and the last step that have a moment within 41.8 s of that
 SCENARIO = """version = 1
 window = { start = 1700000000, tick = 10, ticks = 100 }
@@ -34,7 +35,7 @@ def name(mmsi, words):
 
 def log(still=False):
     """Their reports each 10 s; and, where it is asked, those of one who lies still beside the way of EAST, at 0.3 knots by her receiver."""
-    lines = [name(EAST, "EAST"), name(WEST, "WEST")]
+    lines = [name(EAST, "EAST"), name(WEST, "WEST")] + ([name(STILL, HOSTILE)] if still else [])
     for k in range(STEPS + 1):
         lines.append(line(10 * k, position_report(1, EAST, 0, 300 * k, 108, 900, 90, 0)))
         lines.append(line(10 * k, position_report(1, WEST, 1000, 30000 - 300 * k, 108, 2700, 270, 0)))

@@ -12,6 +12,16 @@ from given import InFolder, PROGRAM, with_program
 from colregs_tools import page
 
 MOMENT = "2023-11-14T22:21:40Z"
+WRONG_USES = [
+    (["none.log"], "none.log"),
+    (["/dev/zero"], "/dev/zero is no file"),
+    (["passing.log", "--scenario", "none.toml"], "none.toml"),
+    (["passing.log", "--scenario", "/dev/zero"], "/dev/zero is a device"),
+    (["passing.log", "--scenario", "passing.log"], "status 3, scenario: document: not toml"),
+    (["passing.log", "--program", "none"], "no program"),
+    (["passing.log", "--chart", "passing.toml"], "GeoJSON"),
+    (["passing.log", "-o", "."], "is there already"),
+]
 
 
 @with_program
@@ -49,7 +59,8 @@ class Files(Cases):
     def test_a_window_that_is_given_is_kept_for_the_other_tools(self):
         self.make("--start", str(passing.START + 100), "--ticks", "80")
         self.assertEqual(json.loads(self.held("case.json"))["window"]["start"], passing.START + 100)
-        self.assertEqual(self.tool("draw", "made", "picture")[0], 0)
+        for words in (["made"], ["made/scenario.toml", "--points", "made/points.csv", "--audit", "made/report.csv"]):
+            self.assertEqual(self.tool("draw", words[0], "picture", *words[1:])[0], 0)
         with open(self.path("picture.svg"), encoding="utf-8") as source:
             self.assertIn("185 m at 22:21:40", source.read())
 
@@ -59,11 +70,9 @@ class Files(Cases):
         self.assertIn("The scenario was guessed", said)
 
     def test_what_goes_wrong_is_named_and_leaves_nothing(self):
-        for words, told in ((["none.log"], "none.log"), (["passing.log", "--scenario", "none.toml"], "none.toml"),
-                            (["passing.log", "--scenario", "passing.log"], "status 3, scenario: document: not toml"), (["passing.log", "--program", "none"], "no program"),
-                            (["passing.log", "--chart", "passing.toml"], "GeoJSON"), (["passing.log", "-o", "."], "is there already")):
-            status, _, error = self.tool("colregs-case", *(["--program", PROGRAM] if "--program" not in words else []), *(["-o", "made"]
-                                         if "-o" not in words else []), *words)
+        for words, told in WRONG_USES:
+            usual = (("--program", PROGRAM), ("-o", "made"))
+            status, _, error = self.tool("colregs-case", *words, *(word for pair in usual if pair[0] not in words for word in pair))
             self.assertEqual(status, 1, words)
             self.assertRegex(error, "^case: .*" + re.escape(told))
             self.assertNotIn("Traceback", error)
@@ -133,9 +142,23 @@ class Pages(Cases):
         self.assertEqual((broken["first"], broken["last"]), passing.UNSAFE)
         self.assertIn("passing at a safe distance", held["rules"][broken["rule"]]["words"])
 
-    def test_words_of_a_log_are_no_markup(self):
+    def test_a_name_is_kept_as_it_was_told(self):
+        self.make()
+        with sqlite3.connect(self.path("made/case.db")) as base:
+            self.assertEqual(base.execute("select name from vessel where mmsi = ?", (passing.STILL,)).fetchone(), (passing.HOSTILE,))
+        base.close()
+
+    def test_words_of_a_title_are_no_markup(self):
         self.make("--title", "</script><script>document.title='taken'</script>")
         self.assertNotIn("<script>document.title", self.held("case.html"))
+
+    def test_each_place_that_the_script_fills_is_in_the_page(self):
+        self.make()
+        text = self.held("case.html")
+        there = set(re.findall(r' id="([\w-]+)"', text))
+        asked = set(re.findall(r'(?:byId|getElementById|list|plain)\("([\w-]+)"', text))
+        self.assertGreater(len(asked), 20)
+        self.assertEqual(asked - there, set())
 
     def test_without_leaflet_the_page_says_that_it_has_no_map(self):
         self.assertEqual(page.leaflet(self.folder), ("", ""))
@@ -162,7 +185,7 @@ class Pages(Cases):
                 "HELD.meetings.filter(m => m.pair.some(k => HELD.vessels[k].name === 'WEST')).length"))
             if page.leaflet()[0]:
                 self.assertEqual(tab.value("document.querySelectorAll('#map canvas').length"), 1)
-            tab.picture(self.path("seen.png"))
+            self.assertEqual(tab.value("document.querySelectorAll('img').length"), 0, "a name became markup")
             self.assertEqual(tab.errors, [])
             self.assertEqual([address for address in tab.asked if not address.startswith(("file://", "data:"))], [])
 

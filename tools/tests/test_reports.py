@@ -31,7 +31,8 @@ class Windows(InFolder):
         later = self.texts(passing.START + 100, 80)
         self.refused("give the run's --start and --ticks", *later)
         self.refused("outside the window", *self.texts(None, None), passing.START + 600, 40)
-        self.refused("the window has 20", *self.texts(None, None)[:0], "", self.texts(None, None)[1], None, 20)
+        self.refused("the window has 20", self.texts(None, 20)[0], self.texts()[1], None, 20)
+        self.refused("no row", "", self.texts()[1])
 
     def test_a_meeting_that_the_points_do_not_show_is_refused(self):
         points, audit = self.texts()

@@ -65,9 +65,9 @@ const MapView = (() => {
       const parts = lines(track, -Infinity, Infinity);
       if (!parts.length) return;
       const style = { color: met.has(number) ? "#5b6770" : "#a9b2ba", weight: 1.4, opacity: 0.9 };
-      L.polyline(parts, style).bindTooltip(fullName(number), { sticky: true }).addTo(map);
+      L.polyline(parts, style).bindTooltip(escaped(fullName(number)), { sticky: true }).addTo(map);
       const end = parts[parts.length - 1].slice(-1)[0];
-      L.circleMarker(end, { radius: TRACKS.length > 60 ? 1.2 : 2.5, color: style.color, fillOpacity: 1 }).bindTooltip(fullName(number)).addTo(map);
+      L.circleMarker(end, { radius: TRACKS.length > 60 ? 1.2 : 2.5, color: style.color, fillOpacity: 1 }).bindTooltip(escaped(fullName(number))).addTo(map);
       if (named) {
         L.tooltip({ permanent: true, className: "name", direction: "auto" }).setLatLng(parts[0][0]).setContent(escaped(nameOf(number))).addTo(map);
       }
@@ -91,6 +91,7 @@ const MapView = (() => {
       pointToLayer: (_, at) => L.circleMarker(at, { radius: 2, color: "#8a7a5c" }) }).addTo(map);
     net.addTo(map);
     const all = addTracks();
+    if (!all.length) document.getElementById("no-map").textContent = "No vessel has a position in the window.";
     view.bounds = all.length ? L.latLngBounds(all).pad(0.05) : null;
     chosen = L.layerGroup().addTo(map);
     addScale();
@@ -111,12 +112,21 @@ const MapView = (() => {
     if (held) show(held);
   };
 
+  // One vessel's track, in the first colour.
+  view.vessel = (number) => {
+    const parts = map ? lines(TRACKS[number], -Infinity, Infinity) : [];
+    if (!parts.length) return;
+    chosen.clearLayers();
+    L.polyline(parts, { color: PAIR_COLOURS[0], weight: 3 }).bindTooltip(escaped(fullName(number)), { permanent: true, className: "name" }).addTo(chosen);
+    show(L.latLngBounds(parts.flat()).pad(0.1));
+  };
+
   function drawPair(meeting, first, last) {
     meeting.pair.forEach((number, k) => {
       const way = stretch(TRACKS[number], first, last), within = stretch(TRACKS[number], begins(meeting), ends(meeting));
       L.polyline(way, { color: PAIR_COLOURS[k], weight: 2, opacity: 0.8, interactive: false }).addTo(chosen);
       L.polyline(within, { color: PAIR_COLOURS[k], weight: 4, interactive: false }).addTo(chosen);
-      if (way.length && !named) L.tooltip({ permanent: true, className: "name", direction: "auto" }).setLatLng(way[0]).setContent(escaped(nameOf(number))).addTo(chosen);
+      if (way.length && !named) L.tooltip({ permanent: true, className: "name", direction: k ? "left" : "right" }).setLatLng(way[0]).setContent(escaped(nameOf(number))).addTo(chosen);
       drawArrow(way, PAIR_COLOURS[k]);
     });
   }
@@ -127,7 +137,7 @@ const MapView = (() => {
     const end = way[way.length - 1], back = way[Math.max(0, way.length - 4)];
     const turn = Math.atan2((end[1] - back[1]) * Math.cos(end[0] * Math.PI / 180), end[0] - back[0]) * 180 / Math.PI;
     if (end[0] === back[0] && end[1] === back[1]) return;
-    const arrow = `<path d="M0 -7 L5 6 L0 3 L-5 6 z" fill="${colour}" transform="rotate(${turn.toFixed(1)})"/>`;
+    const arrow = `<path d="M0 -7 L5.5 6 L-5.5 6 z" fill="${colour}" stroke="#ffffff" stroke-width="1" transform="rotate(${turn.toFixed(1)})"/>`;
     const html = `<svg width="16" height="16" viewBox="-8 -8 16 16" style="display:block">${arrow}</svg>`;
     L.marker(end, { icon: L.divIcon({ className: "", html, iconSize: [16, 16], iconAnchor: [8, 8] }), interactive: false, keyboard: false }).addTo(chosen);
   }

@@ -88,7 +88,8 @@ const Page = (() => {
     plain("rules", [["Rule", 0], ["In words", 1], ["Steps of all pairs", 2, "number"], ["holds", 3, "number"], ["broken", 4, "number"],
       ["open", 5, "number"], ["Broken stretches", 6, "number"]], HELD.rules.map((rule) => [rule.name, rule.words, ...(rule.total || [])]));
     plain("vessels", [["MMSI", "mmsi", "number"], ["Name", "name"], ["Type of ship", "type", "number"], ["Length, m", "length", "number"],
-      ["Accepted reports", "reports", "number"]], HELD.vessels, { words: (v) => `${v.mmsi} ${v.name}` });
+      ["Accepted reports", "reports", "number"]], HELD.vessels.map((vessel, number) => ({ ...vessel, number })), { words: (v) => `${v.mmsi} ${v.name}`, isChosen: () => false,
+      choose: (v) => { MapView.vessel(v.number); byId("see").scrollIntoView(); } });
     plain("lines", [["Outcome", 0], ["Lines", 1, "number"], ["What it means", 2]], HELD.lines);
     list("sources", HELD.sources);
     plain("files", [["File", 0], ["Bytes", 2, "number"], ["SHA-256", 1, "sum"]], HELD.files);
@@ -152,7 +153,7 @@ const Page = (() => {
     addEventListener("resize", () => Times.draw());
     addEventListener("beforeprint", () => paper(true));
     addEventListener("afterprint", () => paper(false));
-    if (!HELD.meetings.length) byId("chosen").textContent = "No two vessels met";
+    if (!HELD.meetings.length) noMeeting();
     else if (!followHash()) showFirst();
     document.documentElement.dataset.ready = "yes";
   }
@@ -162,6 +163,12 @@ const Page = (() => {
     document.body.classList.toggle("paper", on);
     MapView.resize();
     if (on) Times.draw(45, 690); else Times.draw();
+  }
+
+  function noMeeting() {
+    byId("chosen").textContent = "No two vessels met";
+    byId("chosen-words").textContent = "So there are no charts.";
+    for (const id of ["earlier", "later"]) byId(id).hidden = true;
   }
 
   // At the beginning the nearest meeting of those with a broken rule stands in the charts, and the map shows all.
