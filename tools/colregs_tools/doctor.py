@@ -1,6 +1,7 @@
 """Looks for what is amiss with a scenario, a log and a report, and says it: `findings`. It judges no meeting anew; it counts rows of the program."""
 import collections
 import csv
+import functools
 import io
 import math
 import time
@@ -47,9 +48,16 @@ class Patient:
     def run(self, mode):
         return Run(self.program, mode, self.scenario, self.log, self.options)
 
+    @functools.cached_property
+    def kinds(self):
+        """The rows of the audit by their kinds."""
+        kinds = collections.defaultdict(list)
+        for fields in csv.reader(io.StringIO(self.audit.text.decode("utf-8", "replace"))):
+            kinds[fields[0] if fields else ""].append(fields)
+        return kinds
+
     def rows(self, kind):
-        text = self.audit.text.decode("utf-8", "replace")
-        return [fields for fields in csv.reader(io.StringIO(text)) if fields and fields[0] == kind]
+        return self.kinds.get(kind, [])
 
     def window(self):
         given = {option[0]: int(option[1]) for option in (word[2:].split("=") for word in self.options)}

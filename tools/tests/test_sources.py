@@ -14,8 +14,10 @@ import test_tables
 import test_times
 from given import InFolder, example, needs, text_of, with_program
 from colregs_tools import sentences
+from colregs_tools.logs import timed
 from colregs_tools.packing import Fault
 from colregs_tools.sources import gather
+from encounters import ENCOUNTERS
 
 S = "!AIVDM,1,1,,B,12vg22hP2<G:B?4KVut3Q2l20000,0*27"
 T = "!AIVDM,1,1,,B,12vg22hP2<G:BQDKVut3Q2lF0000,0*4D"
@@ -148,6 +150,32 @@ class Servers(Sources):
             again = subprocess.run(["gpsdecode", option], input="".join(line[17:] + "\n" for line in made), capture_output=True, text=True).stdout
             self.assertEqual(positions(again), positions(told))
 
+    @needs("gpsdecode")
+    @with_program
+    def test_the_examples_through_gpsds_json_have_the_same_report(self):
+        """gpsdecode reads each example; a TPV before each message tells its time. In the message's own units nothing is lost."""
+        for name in ENCOUNTERS:
+            bare, clocks = [], []
+            for at, line in timed(text_of(example(name + ".log")).encode().splitlines()):
+                bare.append(line.rpartition(b"\\")[2])
+                clocks += [] if bare[-1].startswith(b"!AIVDM,2,1,") else [at]
+            told = subprocess.run(["gpsdecode", "-ju"], input=b"\n".join(bare) + b"\n", capture_output=True).stdout.decode().splitlines()
+            self.assertEqual(len(told), len(clocks))
+            tpv = '{"class":"TPV","mode":3,"time":"%s.000Z"}\n%s\n'
+            log = "".join(tpv % (time.strftime("%Y-%m-%dT%H:%M:%S", time.gmtime(at)), line) for at, line in zip(clocks, told))
+            with self.subTest(name):
+                found, _ = self.gathered(log)
+                self.assertEqual(found.unread, {})
+                report = self.program("audit", example(name + ".toml"), self.path("out"))
+                self.assertEqual(counted_out(report), counted_out(text_of(example(name + ".csv"))))
+
+    def test_aiscatchers_values_become_a_report_where_it_keeps_no_sentence(self):
+        values = ('{"class":"AIS","device":"AIS-catcher","rxtime":"20231114221321","scaled":true,"channel":"B","type":1,"repeat":0,"mmsi":200000011,'
+                  '"status":0,"turn":-128,"speed":14.0,"accuracy":false,"lon":-123.582343,"lat":48.25,"course":90.0,"heading":90,"second":1}')
+        found, made = self.gathered(values)
+        self.assertEqual(made[0][17:], S.replace(",B,", ",A,").replace("*27", "*24"))       # A for B alone changes the sum, by 3
+        self.assertEqual((found.first, list(found.forms)), (1700000001, ["AIS-catcher's JSON (sentences made of its values)"]))
+
     def test_signalk_keeps_sentences_and_deltas(self):
         delta = ('1700000001000;I;{"context":"vessels.urn:mrn:imo:mmsi:200000011","updates":[{"timestamp":"2023-11-14T22:13:21.000Z","values":'
                  '[{"path":"navigation.position","value":{"latitude":48.25,"longitude":-123.5823433}},{"path":"navigation.speedOverGround",'
@@ -170,6 +198,11 @@ def positions(told):
     """The lines of position reports, from the MMSI on, but for the status and what the rest of a message 1 has."""
     return [line[line.index('"mmsi"'):].split('"status"')[0] + line[line.index('"speed"'):].split(',"maneuver"')[0]
             for line in told.splitlines() if '"type":1,' in line]
+
+
+def counted_out(report):
+    """A report without its counts of lines."""
+    return [row for row in report.splitlines() if not row.startswith("lines,")]
 
 
 class Blocks(Sources):
