@@ -88,6 +88,8 @@ class Making:
     def read_logs(self):
         self.sums = [(name, *self.sum_of_given(name)) for name in self.given.logs]
         self.gathered = sources.gather(self.given.logs, self.path(LOG), mmsi=self.given.mmsi, offset=self.given.offset)
+        if not self.gathered.sentences and not self.gathered.untimed:
+            raise Fault("no sentence and no row was read. " + "; ".join(self.gathered.words()))
 
     @staticmethod
     def sum_of_given(name):
@@ -114,6 +116,8 @@ class Making:
             self.write(name, [run(self.program, mode, self.path(SCENARIO), self.path(LOG), options=self.options)])
         texts = [read_text(self.path(name)) for name in (POINTS, REPORT)]
         self.case = Case(self.path(SCENARIO), *texts, start=self.given.start, ticks=self.given.ticks)
+        if not self.case.tracks:
+            raise Fault(" ".join(summaries.summary(self.case, self.gathered)))
         rest.mark(self.case)
 
     def ask_doctor(self):

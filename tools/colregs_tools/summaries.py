@@ -91,7 +91,7 @@ def outside(case, gathered):
 def doubts(case, gathered, findings):
     """What is doubtful, most of it by the doctor's words."""
     found = ["%s: %s." % (capital(finding.name), finding.words) for finding in findings if finding.name != REST]
-    found += outside(case, gathered) if case.tracks else []
+    found += outside(case, gathered)
     reports = sum(len(track.times) for track in case.tracks.values())
     if reports > HEAVY:
         found.append("The page holds %s reports, which a browser shows slowly: a smaller window makes a lighter page." % format(reports, ","))

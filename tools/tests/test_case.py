@@ -21,6 +21,8 @@ WRONG_USES = [
     (["passing.log", "--program", "none"], "no program"),
     (["passing.log", "--chart", "passing.toml"], "GeoJSON"),
     (["passing.log", "-o", "."], "is there already"),
+    (["passing.toml", "--scenario", "passing.toml"], "no sentence and no row was read"),
+    (["passing.log", "--scenario", "passing.toml", "--start", "1800000000"], "no vessel has a position between 2027-01-15 08:00:00"),
 ]
 
 
