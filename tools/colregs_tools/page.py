@@ -103,13 +103,22 @@ def coast(path):
     raise Fault("%s: not a map of lines or areas in GeoJSON" % path)
 
 
+def words_of(case, rule):
+    """What a rule asks; of a formula of the scenario its text."""
+    formulas = case.values.get("formula")
+    for entry in formulas if isinstance(formulas, list) else []:
+        if isinstance(entry, dict) and entry.get("name") == rule:
+            return "the scenario's formula: %s" % entry.get("text")
+    return duty(rule)
+
+
 def content(case, about):
     """All that the page shows. `about` has title, summary, findings, reasons, scenario, sources, files, commands, version and chart."""
     rest.mark(case)
     listed, earth = vessels(case), Earth(case.reference)
     numbers = {vessel["mmsi"]: k for k, vessel in enumerate(listed)}
     entries = meetings(case, numbers)
-    rules = [{"name": rule, "colour": colour(rule), "short": meaning(rule), "words": duty(rule), "total": case.totals.get(rule)}
+    rules = [{"name": rule, "colour": colour(rule), "short": meaning(rule), "words": words_of(case, rule), "total": case.totals.get(rule)}
              for rule in case.rules]
     lines = [[name, count, OUTCOMES.get(name, "")] for name, count in case.lines.items()]
     return {**about, "start": case.start, "tick": case.tick, "steps": case.steps, "gap": case.gap,
