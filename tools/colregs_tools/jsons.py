@@ -10,8 +10,7 @@ import re
 from . import units
 from .forms import Unsure
 
-TIMES = ("rxuxtime", "rxtime", "timestamp", "time", "received_at", "datetime", "toa", "ts")
-SENTENCES = ("nmea", "sentence", "raw", "message", "raw_data", "data", "aivdm")
+TIMES = ("rxuxtime", "rxtime", "timestamp", "@timestamp", "time", "received_at", "receivedAt", "datetime", "toa", "ts")
 KNOTS = 3600 / 1852
 HELD = re.compile(r"![A-Z0-9]{2}VD[MO],")
 
@@ -51,9 +50,8 @@ def time_of(held, times):
 
 
 def sentences_in(held):
-    """The sentences that stand in an object, as bytes."""
-    for key in SENTENCES:
-        entries = held.get(key)
+    """The sentences that stand in an object, as bytes: those of the first of its fields that has any."""
+    for entries in held.values():
         entries = [entries] if isinstance(entries, str) else entries if isinstance(entries, list) else []
         found = [entry.encode() for entry in entries if isinstance(entry, str) and HELD.search(entry)]
         if found:

@@ -41,6 +41,8 @@ FORMS = [
     "\\s:rPORT1,c:1700000001000*51\\" + S,
     '{"class":"AIS","device":"AIS-catcher","rxtime":"20231114221321","scaled":true,"channel":"B","nmea":["%s"],"type":1}' % S,
     '{"rxuxtime":1700000001.5,"nmea":"%s"}' % S,
+    '{"log":"%s\\n","stream":"stdout","time":"2023-11-14T22:13:21.123456789Z"}' % S,          # a container's log
+    'ais/station7 {"@timestamp":"2023-11-14T22:13:21Z","message":"%s"}' % S,
     '2023-11-14T22:13:21.500Z,NMEA0183,,ttyUSB0,"%s"' % S,                 # OpenCPN's VDR
 ]
 UNSURE = {
