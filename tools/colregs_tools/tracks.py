@@ -252,7 +252,7 @@ def draw_meetings(chart):
         chart.labels.keep_clear([a, b])
         middle = (a[0] + b[0]) / 2, (a[1] + b[1]) / 2
         chart.marked.update(meeting["pair"])
-        labels.append((middle, "%.0f m at %s" % (meeting["least"], clock(case.start + moment))))
+        labels.append((middle, "%.0f m at %s" % (meeting["least"], clock(round(case.start + moment)))))
     return labels
 
 
