@@ -11,6 +11,7 @@ import tempfile
 
 from . import database, doctor, maps, page, rest, scenarios, sources, summaries
 from .earth import iso
+from .program import TOP
 from .reports import Case, Fault, case_file, read_text, run, window_options
 
 LOG, SCENARIO, POINTS, REPORT = "case.log", "scenario.toml", "points.csv", "report.csv"
@@ -34,6 +35,12 @@ def sum_of(path):
             found.update(piece)
             size += len(piece)
     return found.hexdigest(), size
+
+
+def built(program):
+    """The built program, where `program` is the repository's own script that builds and runs it."""
+    place = os.path.join(TOP, "crates", "colregs", "out", "colregs")
+    return place if os.path.realpath(program) == os.path.join(TOP, "colregs") and os.path.isfile(place) else program
 
 
 def version_of(program):
@@ -148,7 +155,7 @@ class Making:
     def about(self):
         case, gathered = self.case, self.gathered
         return {
-            "title": self.title(), "version": self.version, "program_sha256": sum_of(self.program)[0], "python": platform.python_version(),
+            "title": self.title(), "version": self.version, "program_sha256": sum_of(built(self.program))[0], "python": platform.python_version(),
             "window": {"start": case.start, "tick": case.tick, "ticks": case.steps, "begins": iso(case.start), "ends": iso(case.moment(case.steps))},
             "options": {"start": self.given.start, "ticks": self.given.ticks, "mmsi": self.given.mmsi,
                         "offset": self.given.offset}, "commands": self.commands(),
