@@ -1,5 +1,5 @@
 #!/usr/bin/env python3
-"""Times the audit of a made archive of a day, cut into windows by examples/many, with 1, 2 and 4 jobs: windows.py PROGRAM [--vessels N]
+"""Times the audit of a made archive of a day, cut into windows by tools/many, with 1, 2 and 4 jobs: windows.py PROGRAM [--vessels N]
 
 The archive is the fleet of fleets.py, two hours long, twelve times one after the other. Each row has the jobs, the seconds, and how often
 one job's that is; the load of the machine stands above.
@@ -16,7 +16,7 @@ import time
 from fleets import SCENARIO, START, TICKS, lines
 from sentences import total
 
-MANY = os.path.join(os.path.dirname(os.path.abspath(__file__)), "..", "examples", "many")
+MANY = os.path.join(os.path.dirname(os.path.abspath(__file__)), "..", "tools", "many")
 
 
 def archive(out, vessels):

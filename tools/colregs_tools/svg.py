@@ -2,6 +2,7 @@
 import math
 from xml.sax.saxutils import escape
 
+CELL, CROWDED = 20, 60      # the side of a cell of the grid of labels, and how many points of one count
 FONT = "Helvetica, Arial, 'Liberation Sans', 'DejaVu Sans', sans-serif"
 
 
@@ -12,6 +13,47 @@ def number(value):
 def width_of(words, size, weight="normal"):
     """About how wide words are; seldom less, in the usual fonts."""
     return (0.74 if weight == "bold" else 0.62) * size * len(words)
+
+
+def cells(box):
+    """The cells of the grid that a box lies in."""
+    x, y, u, v = (int(value // CELL) for value in box)
+    return [(a, b) for a in range(x, u + 1) for b in range(y, v + 1)]
+
+
+def apart(points, least):
+    """The line without points that lie nearer than this to the one before, but for its last."""
+    kept = [points[0]]
+    x, y = points[0]
+    for a, b in points:
+        if abs(a - x) > least or abs(b - y) > least:
+            kept.append((a, b))
+            x, y = a, b
+    return kept + [points[-1]]
+
+
+def thinned(points, most=0.35):
+    """The line without points that lie on it as far as can be seen: Douglas and Peucker's, `most` from it.
+
+    Of a long line, those go first that lie within a part of this of the one before.
+    """
+    if len(points) > 500:
+        points = apart(points, most / 4)
+    kept, parts = {0, len(points) - 1}, [(0, len(points) - 1)]
+    while parts:
+        first, last = parts.pop()
+        (x, y), (u, v) = points[first], points[last]
+        square, far, at = (u - x) ** 2 + (v - y) ** 2 or 1, most, None
+        for k in range(first + 1, last):
+            a, b = points[k]
+            part = min(1, max(0, ((a - x) * (u - x) + (b - y) * (v - y)) / square))
+            off = math.hypot(x + (u - x) * part - a, y + (v - y) * part - b)
+            if off > far:
+                far, at = off, k
+        if at is not None:
+            kept.add(at)
+            parts += [(first, at), (at, last)]
+    return [points[k] for k in sorted(kept)]
 
 
 class Picture:
@@ -52,32 +94,49 @@ class Picture:
 
 
 class Labels:
-    """Puts words near a place where they cover as little as can be: other words, and the points that were told."""
+    """Puts words near a place where they cover as little as can be: other words, and the points that were told.
+
+    Boxes and points are kept by the cells of a grid, so that a picture with many of both is drawn in time.
+    """
 
     def __init__(self, picture, frame):
-        self.picture, self.frame, self.boxes, self.points = picture, frame, [], []
+        self.picture, self.frame, self.boxes, self.points = picture, frame, {}, {}
 
     def keep_clear(self, points):
         """Tells a line that words are not to cover."""
         for (x, y), (u, v) in zip(points, points[1:]):
             parts = max(1, int(math.hypot(u - x, v - y) / 5))
-            self.points += [(x + (u - x) * k / parts, y + (v - y) * k / parts) for k in range(parts + 1)]
+            for k in range(parts + 1):
+                a, b = x + (u - x) * k / parts, y + (v - y) * k / parts
+                cell = self.points.setdefault((int(a // CELL), int(b // CELL)), [])
+                if len(cell) < CROWDED:
+                    cell.append((a, b))
+
+    def keep_box(self, box):
+        """Tells a box that words are not to cover."""
+        for cell in cells(box):
+            self.boxes.setdefault(cell, set()).add(box)
 
     def cost(self, box):
         x, y, u, v = box
         left, top, right, bottom = self.frame
         out = max(0, left - x) + max(0, top - y) + max(0, u - right) + max(0, v - bottom)
-        over = sum(max(0, min(u, b[2]) - max(x, b[0])) * max(0, min(v, b[3]) - max(y, b[1])) for b in self.boxes)
-        return 1000 * out + 20 * over + 40 * sum(x - 2 <= a <= u + 2 and y - 2 <= b <= v + 2 for a, b in self.points)
+        near = [cell for cell in cells((x - 2, y - 2, u + 2, v + 2)) if cell in self.boxes or cell in self.points]
+        over = sum(max(0, min(u, b[2]) - max(x, b[0])) * max(0, min(v, b[3]) - max(y, b[1]))
+                   for b in set().union(*(self.boxes.get(cell, ()) for cell in near)))
+        return 1000 * out + 20 * over + 40 * sum(x - 2 <= a <= u + 2 and y - 2 <= b <= v + 2
+                                                 for cell in near for a, b in self.points.get(cell, ()))
 
     def keep_off(self, at, radius):
         """Tells a dot that words are not to cover."""
-        self.boxes.append((at[0] - radius, at[1] - radius, at[0] + radius, at[1] + radius))
+        self.keep_box((at[0] - radius, at[1] - radius, at[0] + radius, at[1] + radius))
 
     def best(self, at, width, height, reach):
         """The cheapest box round a place, with its cost and how far off it is."""
         best = None
         for far in reach:
+            if best and best[0] <= far:     # no box that is farther off costs less
+                return best
             for turn in range(0, 360, 15):
                 across, up = math.sin(math.radians(turn)), math.cos(math.radians(turn))
                 x, y = at[0] + (far + width / 2) * across, at[1] - (far + height / 2) * up
@@ -97,6 +156,6 @@ class Labels:
         if far > apart + 8:
             end = max(box[0], min(at[0], box[2])), max(box[1], min(at[1], box[3]))
             self.picture.line(at, end, "#888888", 0.7)
-        self.boxes.append(box)
+        self.keep_box(box)
         self.picture.words((box[0] + box[2]) / 2, (box[1] + box[3]) / 2 + size * 0.36, words, size, anchor="middle", weight=weight,
                            halo=True, **more)

@@ -1,5 +1,5 @@
 -- Tables and views for the rows of a report, for sqlite3 (3.32 or later):
---     sqlite3 case.db < examples/rows.sql
+--     sqlite3 case.db < tools/rows.sql
 --     sqlite3 case.db ".import --csv report.csv rows"
 -- Distances come out in metres, speeds in knots, courses in degrees. Steps and ticks stay as they are: step k begins at the window's
 -- start and k ticks.

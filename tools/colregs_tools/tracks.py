@@ -1,22 +1,20 @@
 """The picture of the tracks: the plane of the scenario, north up."""
+import itertools
 import math
-import sys
 
-from rules import INK, clock, colour, date, meaning, nice
-from svg import Labels, Picture
+from .reports import Fault
+from .rules import INK, clock, colour, date, meaning, nice
+from .svg import Labels, Picture, thinned
 
 TRACK, QUIET = "#3c4650", "#a9b2ba"
+MANY = 60       # vessels, or meetings, beyond which only some have words, and the picture says so
 
 
 def seen_parts(places):
     """The runs of ticks at which a vessel is seen."""
-    part = []
-    for place in places + [None]:
-        if place is not None:
-            part.append(place)
-        elif part:
-            yield part
-            part = []
+    for seen, group in itertools.groupby(zip(places.xs, places.ys), key=lambda place: place[0] == place[0]):
+        if seen:
+            yield list(group)
 
 
 class Chart:
@@ -25,7 +23,7 @@ class Chart:
     def __init__(self, case, title, legend=3):
         every = case.extent()
         if not every:
-            sys.exit("draw: no vessel is seen in the scenario's window")
+            raise Fault("no vessel is seen at the steps that are drawn: at most log.gap seconds may lie between two reports")
         xs, ys = [x for x, _ in every], [y for _, y in every]
         pad = 0.04 * max(max(xs) - min(xs), max(ys) - min(ys), 1000)
         wide, high = max(xs) - min(xs) + 2 * pad, max(ys) - min(ys) + 2.6 * pad
@@ -34,9 +32,10 @@ class Chart:
         self.west, self.south = (min(xs) + max(xs) - wide) / 2, (min(ys) + max(ys) - 0.6 * pad - high) / 2
         self.left, self.top, self.right, self.bottom = 60, 58, 60 + wide * self.scale, 58 + high * self.scale
         self.rules = [rule for rule in case.rules if any(v["rule"] == rule for v in case.verdicts)]
-        self.case, self.title = case, title
-        rows = legend + math.ceil(len(self.rules) / self.columns())
-        self.picture = Picture(self.right + 20, self.bottom + 46 + 17 * rows, title)
+        self.told, self.marked = "", set()      # what is left out, and the vessels whose nearest moment is marked
+        self.case, self.title, self.crowded = case, title, len(case.places) > MANY
+        self.rows = legend + math.ceil(len(self.rules) / self.columns()) + (len(case.places) > MANY or len(case.meetings) > 2 * MANY)
+        self.picture = Picture(self.right + 20, self.bottom + 46 + 17 * self.rows, title)
         self.labels = Labels(self.picture, (self.left + 2, self.top + 2, self.right - 2, self.bottom - 2))
 
     def columns(self):
@@ -45,13 +44,20 @@ class Chart:
     def at(self, place):
         return self.left + (place[0] - self.west) * self.scale, self.bottom - (place[1] - self.south) * self.scale
 
+    def line(self, places):
+        """The same of many places."""
+        left, bottom, scale, west, south = self.left, self.bottom, self.scale, self.west, self.south
+        return [(left + (x - west) * scale, bottom - (y - south) * scale) for x, y in places]
+
     def stretch(self, verdict):
         places = self.case.places[verdict["pair"][0]][verdict["first"]:verdict["last"] + 2]
         return [self.at(place) for place in places if place]
 
 
 def window_words(case):
-    return "%s, %s to %s UTC." % (date(case.start), clock(case.start), clock(case.start + case.steps * case.tick))
+    first, last = (case.moment(step) for step in case.shown)
+    until = clock(last) if date(first) == date(last) else "%s, %s" % (date(last), clock(last))
+    return "%s, %s to %s UTC." % (date(first), clock(first), until)
 
 
 def draw_frame(chart, words):
@@ -94,46 +100,53 @@ def draw_scale(chart):
         chart.picture.line((at, y - 4), (at, y + 4), INK, 1.5)
     words = "%g km" % (length / 1000) if length >= 1000 else "%d m" % length
     chart.picture.words((x + end) / 2, y - 7, words, 11, anchor="middle")
-    chart.labels.boxes.append((x - 6, y - 22, end + 6, y + 8))
+    chart.labels.keep_box((x - 6, y - 22, end + 6, y + 8))
     x, y = chart.right - 22, chart.top + 16
     chart.picture.words(x, y + 3, "N", 12, anchor="middle", weight="bold")
     chart.picture.path([(x, y + 36), (x, y + 8)], INK, 1.5)
     chart.picture.add("path", d="M%d %d l-4 9 h8 z" % (x, y + 7), fill=INK)
-    chart.labels.boxes.append((x - 10, y - 10, x + 10, y + 40))
+    chart.labels.keep_box((x - 10, y - 10, x + 10, y + 40))
 
 
 def draw_tracks(chart):
     met = {mmsi for meeting in chart.case.meetings for mmsi in meeting["pair"]}
-    for mmsi, places in chart.case.places.items():
+    for mmsi, places in sorted(chart.case.places.items(), key=lambda entry: entry[0] in met):
+        fill = TRACK if mmsi in met else QUIET
         for part in seen_parts(places):
-            line = [chart.at(place) for place in part]
-            chart.picture.path(line, TRACK if mmsi in met else QUIET, 1.3)
-            chart.labels.keep_clear(line)
-            draw_head(chart, line, TRACK if mmsi in met else QUIET)
+            line = chart.line(part)
+            few = thinned(line)
+            chart.picture.path(few, fill, 0.7 if chart.crowded else 1.3)
+            chart.labels.keep_clear(few)
+            draw_head(chart, line, fill)
 
 
 def draw_head(chart, line, fill):
-    """An arrow at the end of a track, or a dot where the vessel stays."""
-    (x, y), (u, v) = line[max(0, len(line) - 4)], line[-1]
-    if math.hypot(u - x, v - y) < 1:
-        chart.picture.dot((u, v), 3, fill)
+    """An arrow at the end of a track, or a dot where the vessel stays: where she has not moved in ten minutes, as far as can be seen."""
+    (u, v), last, size = line[-1], len(line) - 1, 0.6 if chart.crowded else 1
+    back = [line[max(0, last - k)] for k in (3, *range(4, max(5, 600 // chart.case.tick + 1)))]
+    x, y = next((place for place in back if math.dist(place, (u, v)) >= 1), (u, v))
+    if (x, y) == (u, v):
+        chart.picture.dot((u, v), 3 * size, fill)
         return
     turn = math.degrees(math.atan2(v - y, u - x))
-    chart.picture.add("path", d="M5 0 L-5 -4 L-5 4 z", fill=fill, transform="translate(%.1f,%.1f) rotate(%.1f)" % (u, v, turn))
+    chart.picture.add("path", d="M%g 0 L-%g -%g L-%g %g z" % (5 * size, 5 * size, 4 * size, 5 * size, 4 * size), fill=fill,
+                      transform="translate(%.1f,%.1f) rotate(%.1f)" % (u, v, turn))
 
 
 def minutes_apart(chart):
     """So many minutes between marks that those of a usual vessel lie apart."""
+    if chart.crowded:
+        return 60
     ways = sorted(sum(math.dist(a, b) for a, b in zip(part, part[1:])) * chart.scale / (len(part) - 1)
                   for places in chart.case.places.values() for part in seen_parts(places) if len(part) > 1)
-    each = ways[len(ways) * 2 // 3] / chart.case.tick * 60
+    each = ways[len(ways) * 2 // 3] / chart.case.tick * 60 if ways else 0
     return next((k for k in (1, 2, 5, 10, 15, 30) if k * each >= 40), 60)
 
 
 def draw_marks(chart, minutes):
-    every = minutes * 60 // chart.case.tick
-    marks = []
-    for places in chart.case.places.values():
+    """A mark on each way at each of these minutes; none where there are many vessels."""
+    every, marks = minutes * 60 // chart.case.tick, []
+    for places in chart.case.places.values() if not chart.crowded else ():
         ticks = [k for k in range(every, len(places) - 1, every) if places[k]]
         if len({(round(places[k][0], 0), round(places[k][1], 0)) for k in ticks}) > 1:
             marks += [(chart.at(places[k]), k * chart.case.tick // 60) for k in ticks]
@@ -192,7 +205,7 @@ def draw_stretches(chart):
     placed = []
     for mmsi in chart.case.places:
         until = -1
-        for verdict, lane in lanes([v for v in chart.case.verdicts if v["pair"][0] == mmsi]):
+        for verdict, lane in lanes([v for v in chart.case.verdicts if v["pair"][0] == mmsi and chart.stretch(v)]):
             middle, word = draw_stretch(chart, verdict, lane), (verdict["rule"], colour(verdict["rule"]))
             if verdict["first"] > until:
                 placed.append((middle, [word]))
@@ -202,15 +215,35 @@ def draw_stretches(chart):
     return placed
 
 
+def draw_dots(chart):
+    """A dot where each stretch begins, of the rule's colour; hollow where it stayed open. No words, for there are many."""
+    spots = {}
+    for verdict in chart.case.verdicts:
+        line = chart.stretch(verdict)
+        if line:
+            spots[round(line[0][0]), round(line[0][1]), verdict["rule"], verdict["value"]] = line[0]
+    for (_, _, rule, value), at in spots.items():
+        chart.picture.dot(at, 2.2, colour(rule) if value == "broken" else "#ffffff", stroke=colour(rule), stroke_width=0.8)
+    return []
+
+
 def unordered(meetings):
     """One meeting of each two that tell of the same vessels and steps."""
     return [m for m in meetings if m["pair"][0] < m["pair"][1]]
 
 
 def draw_meetings(chart):
-    labels = []
-    for meeting in unordered(chart.case.meetings):
-        moment, one, two = chart.case.nearest(meeting)
+    """Where two were nearest, of the nearest meetings where there are many; the words of each."""
+    labels, case = [], chart.case
+    meetings = unordered(case.meetings)
+    if len(meetings) > MANY:
+        near = {meeting["pair"]: meeting for meeting in sorted(meetings, key=lambda m: -m["least"])}
+        few = sorted(near.values(), key=lambda m: m["least"])[:MANY // 2]
+        chart.told = "Of %d meetings those of the %d pairs that came nearest are marked. " % (len(meetings), len(few))
+        meetings = few
+    found = [(m, m["moment"] if "moment" in m else case.nearest(m)) for m in meetings]
+    found = [(meeting, moment) for meeting, moment in found if moment]
+    for meeting, (moment, one, two) in found:
         a, b = chart.at(one), chart.at(two)
         chart.picture.line(a, b, INK, 1.2, stroke_dasharray="2 2")
         for end in (a, b):
@@ -218,22 +251,28 @@ def draw_meetings(chart):
             chart.labels.keep_off(end, 4)
         chart.labels.keep_clear([a, b])
         middle = (a[0] + b[0]) / 2, (a[1] + b[1]) / 2
-        labels.append((middle, "%.0f m at %s" % (meeting["least"], clock(chart.case.start + moment))))
+        chart.marked.update(meeting["pair"])
+        labels.append((middle, "%.0f m at %s" % (meeting["least"], clock(round(case.start + moment)))))
     return labels
 
 
 def draw_names(chart):
+    """The name of each vessel at her beginning; where there are many, of those alone whose nearest moment is marked."""
     for mmsi, places in chart.case.places.items():
         first = next((place for place in places if place), None)
-        if first:
-            chart.labels.put(chart.at(first), chart.case.names.get(mmsi, str(mmsi)), 11, weight="bold", fill=INK)
+        if first and (not chart.crowded or mmsi in chart.marked):
+            chart.labels.put(chart.at(first), chart.case.name(mmsi), 11, weight="bold", fill=INK)
+    if chart.crowded:
+        chart.told += "Of %d vessels these have names; --pair, --from and --to draw two of them, or a part of the time." % len(chart.case.places)
 
 
 def draw_legend(chart, minutes):
     picture, y = chart.picture, chart.bottom + 54
     each = "each minute" if minutes == 1 else "each %d minutes" % minutes
-    picture.words(chart.left, y, "Marks %s, with minutes since %s UTC. An arrow is where a vessel ends; a dot is one that stays." % (
-        each, clock(chart.case.start)), 11)
+    marks = "" if chart.crowded else "Marks %s, with minutes since %s UTC. " % (each, clock(chart.case.start))
+    dots = " A dot of a rule's colour is where a stretch of it begins." if chart.crowded else ""
+    picture.words(chart.left, y, marks + "An arrow is where a vessel ends; a dot is one that stays." + dots, 11)
+    picture.words(chart.left, chart.bottom + 30 + 17 * chart.rows, chart.told, 11)
     picture.line((chart.left, y + 13), (chart.left + 26, y + 13), INK, 1.2, stroke_dasharray="2 2")
     for x in (chart.left, chart.left + 26):
         picture.dot((x, y + 13), 3.6, "none", stroke=INK, stroke_width=1.4)
@@ -253,7 +292,7 @@ def tracks(case, title):
     draw_frame(chart, window_words(case))
     draw_scale(chart)
     draw_tracks(chart)
-    placed = draw_stretches(chart)
+    placed = draw_stretches(chart) if not chart.crowded else draw_dots(chart)
     minutes = minutes_apart(chart)
     marks = draw_marks(chart, minutes)
     meetings = draw_meetings(chart)

@@ -1,9 +1,9 @@
 """The picture of a plan: the tracks up to now, own ship's planned legs, and the domains of the others along their predicted motion."""
 import math
 
-from reports import Case, along, least_part, rows, whole
-from rules import INK, clock, date
-from tracks import Chart, draw_frame, draw_head, draw_scale, seen_parts, QUIET, TRACK
+from .reports import NONE, Case, Fault, along, least_part, whole
+from .rules import INK, clock, date
+from .tracks import Chart, draw_frame, draw_head, draw_scale, seen_parts, QUIET, TRACK
 
 KNOT = 1852 / 36000     # metres a second of 1/10 knot
 LEGS = ["#0072b2", "#009e73"]
@@ -23,13 +23,21 @@ def toward(now, aim, most):
 class Planned(Case):
     """What is drawn of a plan: places at the ticks up to now, and from now on those of own ship and of each target."""
 
-    def __init__(self, scenario, points, plan):
+    def __init__(self, scenario, points, plan, start=None, ticks=None):
         self.lengths, self.legs, self.refused = {}, [], None
-        super().__init__(scenario, points, plan)
-        own = self.values["own"]
+        super().__init__(scenario, points, plan, start, ticks)
+        if self.refused is None and not self.legs:
+            raise Fault("the report is none of `plan`")
+        try:
+            self.predict_all(self.values["own"])
+        except (KeyError, TypeError, StopIteration) as error:
+            raise Fault("%s: `own` or `predict` lacks what the plan needs: %s" % (scenario, error)) from None
+
+    def predict_all(self, own):
         self.now, self.own, self.targets = self.start + self.steps * self.tick, own["mmsi"], [m for m in self.names if m != own["mmsi"]]
         self.last_tick = own["legs"] * own["leg_ticks"] + own["tail"]
-        self.last_reports = {int(row[1]): row for row in rows(points) if row[0] == "point"}
+        if not 0 < self.last_tick <= 7200:
+            raise Fault("own.legs, own.leg_ticks and own.tail come to %d ticks" % self.last_tick)
         self.paths = {mmsi: self.predicted(mmsi) for mmsi in self.names}
         if self.legs:
             self.paths[self.own] = self.planned(self.paths[self.own][0])
@@ -44,14 +52,23 @@ class Planned(Case):
         elif row[0] == "none":
             self.refused = int(row[1])
 
+    def check_lines(self):
+        """Nothing: a plan looks at no line behind now, and `points` at those of a gap more, so that their counts may differ."""
+
     def predicted(self, mmsi):
         """Places at each tick from now on: on as in the last report, but for the changes of the scenario."""
-        row = self.last_reports[mmsi]
-        time, x, y = whole(row[2:5])
-        course, speed = (int(row[6]), int(row[5])) if row[5] and row[6] else (0, 0)
+        track = self.last_report_of(mmsi)
+        time, course, speed = self.start + track.times[-1], track.courses[-1], track.speeds[-1]
+        if NONE in (course, speed):
+            course, speed = 0, 0
         changes = next((entry["changes"] for entry in self.values.get("predict", []) if entry["mmsi"] == mmsi), [])
         parts = [(time, course, speed)] + [(self.now + after, *change) for after, *change in changes]
-        return [self.reached((x / 10000, y / 10000), parts, self.now + k * self.tick) for k in range(self.last_tick + 1)]
+        return [self.reached((track.xs[-1], track.ys[-1]), parts, self.now + k * self.tick) for k in range(self.last_tick + 1)]
+
+    def last_report_of(self, mmsi):
+        if mmsi not in self.tracks:
+            raise Fault("the plan is of %d, and the points are not" % mmsi)
+        return self.tracks[mmsi]
 
     def reached(self, place, parts, until):
         for (begin, course, speed), following in zip(parts, parts[1:] + [(until, 0, 0)]):
@@ -60,8 +77,8 @@ class Planned(Case):
 
     def planned(self, place):
         """Own ship's places at each tick from now on: each tick she turns and changes speed toward what the leg asks, and moves on so."""
-        row, own = self.last_reports[self.own], self.values["own"]
-        course, speed, path = int(row[6]), int(row[5]), [place]
+        track, own = self.last_report_of(self.own), self.values["own"]
+        course, speed, path = track.courses[-1], track.speeds[-1], [place]
         for tick in range(self.steps, self.steps + self.last_tick):
             _, _, aim, way, _, _ = next(leg for leg in self.legs if leg[4] <= tick < leg[5])
             course += toward(0, (aim - course + 1800) % 3600 - 1800, own.get("turn_rate", 1800))

@@ -1,0 +1,1 @@
+"""What the commands in tools/ share: logs, reports, pictures."""

@@ -1,0 +1,127 @@
+"""The forms in which a line of a log tells its time, before a sentence or behind it.
+
+A time without a zone is taken to be in UTC, less an offset where the reader gives one. A time that can be read in two ways, or that lacks its
+date, is told as what it is and not guessed.
+"""
+import datetime
+import re
+
+MONTHS = {name: k + 1 for k, name in enumerate("jan feb mar apr may jun jul aug sep oct nov dec".split())}
+EPOCH = datetime.date(1970, 1, 1).toordinal()
+CLOCK = r"(?P<hour>\d\d):(?P<minute>\d\d):(?P<second>\d\d)(?:[.,]\d{1,9})?"
+ZONE = r"(?: ?(?P<zone>Z|UTC|GMT|[+-]\d\d(?::?\d\d)?)(?!\w))?"
+BEGIN, END = r"(?<![\w./-])", r"(?![\w/-])"
+MONTH = r"(?P<month>Jan|Feb|Mar|Apr|May|Jun|Jul|Aug|Sep|Oct|Nov|Dec)[a-z]*"
+LOCAL = "CET CEST EET EEST WET WEST BST MSK EST EDT CST CDT MST MDT PST PDT AKST AKDT HST JST KST IST AEST AEDT NZST NZDT SGT HKT AM PM am pm"
+
+
+def form(name, pattern, flags=re.I):
+    return name, re.compile((BEGIN + pattern + END).encode(), flags)
+
+
+DATED = [
+    form("date and time", r"(?P<year>\d{4})([-/.])(?P<month>\d\d)\2(?P<day>\d\d)(?:T|[ _,;\t]+)" + CLOCK + ZONE),
+    form("date and time without separators",
+         r"(?P<year>\d{4})(?P<month>\d\d)(?P<day>\d\d)[T _-]?(?P<hour>\d\d)(?P<minute>\d\d)(?P<second>\d\d)(?:[.,]\d{1,9})?" + ZONE),
+    form("date with the month's name", r"(?P<day>\d{1,2})[- ]" + MONTH + r"[- ](?P<year>\d{4})(?:T|[ _,;\t]+)" + CLOCK + ZONE),
+    form("date as ctime writes it", MONTH + r" +(?P<day>\d{1,2}) " + CLOCK + r"(?: (?P<zone>UTC|GMT|Z))? (?P<year>\d{4})"),
+    form("date with points", r"(?P<day>\d\d?)\.(?P<month>\d\d?)\.(?P<year>\d{4})(?:T|[ _,;\t]+)" + CLOCK + ZONE),
+]
+COUNTED = [
+    form("seconds", r"(?P<count>[1-3]\d{9})(?:\.\d*)?"),
+    form("milliseconds", r"(?P<count>[1-3]\d{12})(?:\.\d*)?"),
+    form("microseconds", r"(?P<count>[1-3]\d{15})(?:\.\d*)?"),
+    form("nanoseconds", r"(?P<count>[1-3]\d{18})"),
+]
+DIGIT = re.compile(rb"\d")
+NAMED = re.compile(rb" ?(?:%s)(?!\w)" % LOCAL.replace(" ", "|").encode())
+PER_SECOND = {"seconds": 1, "milliseconds": 10 ** 3, "microseconds": 10 ** 6, "nanoseconds": 10 ** 9}
+UNSURE = [
+    form("a time with a zone in letters, or of twelve hours", r"\d\d?:\d\d(?::\d\d(?:[.,]\d+)?)?(?: \d{4})? ?(?:%s)" % "|".join(LOCAL.split()), 0),
+    form("a ctime date with a zone in letters", MONTH + r" +\d{1,2} \d\d:\d\d:\d\d [A-Z]{3,4} \d{4}", 0),
+    form("a date whose day and month may be exchanged", r"\d\d?[/-]\d\d?[/-]\d{4}[T ,;_\t]*\d\d?:\d\d"),
+    form("a date that is none", r"\d{4}[-/.]\d\d[-/.]\d\d(?:T|[ _,;\t]+)\d\d:\d\d:\d\d\S*"),
+    form("a date and time without seconds", r"\d{4}[-/.]\d\d[-/.]\d\d(?:T|[ _,;\t]+)\d\d:\d\d"),
+    form("a date without a year", MONTH + r" +\d{1,2} \d\d:\d\d:\d\d"),
+    form("a time of day without a date", r"\d\d:\d\d(?::\d\d)?(?:[.,]\d+)?"),
+    form("a date without a time of day", r"\d{4}-\d\d-\d\d"),
+]
+
+
+class Unsure(Exception):
+    """A time that stands there, and is not to be read; its words say what it is."""
+
+
+def seconds_of(year, month, day, hour, minute, second, zone=0):
+    """Seconds since the Unix epoch; ValueError where there is no such date or time."""
+    if hour > 23 or minute > 59 or second > 60 or not 1990 <= year <= 2099:
+        raise ValueError
+    return (datetime.date(year, month, day).toordinal() - EPOCH) * 86400 + hour * 3600 + minute * 60 + second - zone
+
+
+def zone_seconds(word):
+    """The offset of a zone from UTC; 0 of Z, UTC and GMT."""
+    digits = word.strip().replace(":", "")
+    if digits[:1] not in ("+", "-"):
+        return 0
+    size = int(digits[1:3]) * 3600 + int(digits[3:5] or 0) * 60
+    if size > 14 * 3600:
+        raise ValueError
+    return -size if digits[0] == "-" else size
+
+
+def moment(name, found, offset):
+    """The time that a match tells, and the name of its form."""
+    parts = {key: value.decode() for key, value in found.groupdict().items() if value is not None}
+    if "count" in parts:
+        return int(parts["count"]) // PER_SECOND[name], name
+    zone = parts.get("zone")
+    month = MONTHS.get(parts["month"][:3].lower()) or int(parts["month"])
+    shift = offset if zone is None else zone_seconds(zone)
+    named = name + (" with its offset" if zone and zone[0] in "+-" else "")
+    return seconds_of(int(parts["year"]), month, *(int(parts[key]) for key in ("day", "hour", "minute", "second")), shift), named
+
+
+class Times:
+    """Reads the times of a log's lines; the form that was read last is tried first."""
+
+    def __init__(self, offset=0):
+        self.offset, self.order, self.latest = offset, DATED + COUNTED, (None, None)
+
+    def tried(self, text, last):
+        for k, (name, pattern) in enumerate(self.order):
+            found = pattern.search(text)
+            if found is None or self.doubted(text, found):
+                continue
+            if last:
+                found = list(pattern.finditer(text))[-1]
+            try:
+                answer = moment(name, found, self.offset)
+            except ValueError:
+                continue
+            if k:
+                self.order.insert(0, self.order.pop(k))
+            return answer
+        return None
+
+    @staticmethod
+    def doubted(text, found):
+        """Whether what stands behind a date says that it is not in UTC, by a name."""
+        if "hour" not in found.re.groupindex or found["zone"] is not None:
+            return False
+        return NAMED.match(text, found.end()) is not None
+
+    def read(self, text, last=False):
+        """The first or the last time that a text tells and the name of its form, or nothing. Unsure where there is one that is not read."""
+        if not text or not DIGIT.search(text):
+            return None
+        if text == self.latest[0] and not last:
+            return self.latest[1]
+        answer = self.tried(text, last)
+        if answer is None:
+            for name, pattern in UNSURE:
+                if pattern.search(text):
+                    raise Unsure(name)
+        if answer and not last:
+            self.latest = text, answer
+        return answer

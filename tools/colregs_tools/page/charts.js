@@ -1,0 +1,171 @@
+// The charts of a meeting: distance, course and speed by time, with the stretches of the rules shaded.
+"use strict";
+const Charts = (() => {
+  const WIDE = 640, LEFT = 58, RIGHT = 46, HIGH = 132, GAP = 24;
+  const across = WIDE - LEFT - RIGHT;
+  let now = null;
+
+  // The values of a report's field between two times, in parts: a part ends where a report tells none or the next comes too late.
+  function told(track, field, first, last, wraps) {
+    const parts = [];
+    let part = [];
+    const close = () => { if (part.length) parts.push(part); part = []; };
+    for (let k = Math.max(0, before(track.times, first)); k < track.times.length && track.times[k] <= last; k++) {
+      const value = track[field][k] / 10, previous = part[part.length - 1];
+      if (track[field][k] < 0) { close(); continue; }
+      if (previous && (track.times[k] - previous[0] > HELD.gap || wraps && Math.abs(value - previous[1]) > 180)) close();
+      part.push([track.times[k], value]);
+    }
+    close();
+    return parts;
+  }
+
+  function distances(meeting, first, last) {
+    const [a, b] = meeting.pair.map((number) => TRACKS[number]);
+    const times = new Set([first, last, meeting.nearest]);
+    for (const track of [a, b]) for (const time of track.times) if (time > first && time < last) times.add(time);
+    const parts = [];
+    let part = [];
+    for (const time of [...times].sort((p, q) => p - q)) {
+      const one = placeAt(a, time), other = placeAt(b, time);
+      if (one && other) part.push([time, Math.hypot(one[0] - other[0], one[1] - other[1])]);
+      else { if (part.length) parts.push(part); part = []; }
+    }
+    if (part.length) parts.push(part);
+    return parts;
+  }
+
+  function x(time) { return LEFT + across * (time - now.first) / (now.last - now.first); }
+
+  function frame(svg, top, title, low, high, every, right) {
+    const y = (value) => top + HIGH - HIGH * (value - low) / (high - low || 1);
+    for (let value = Math.ceil(low / every) * every; value <= high + 1e-9; value += every) {
+      svg.append(drawn("line", { x1: LEFT, x2: WIDE - RIGHT, y1: y(value), y2: y(value), stroke: "#e3e8ec" }));
+      svg.append(drawn("text", { x: LEFT - 5, y: y(value) + 3.5, "font-size": 10, fill: "#555555", "text-anchor": "end" }, String(+value.toFixed(2))));
+      if (right) svg.append(drawn("text", { x: WIDE - RIGHT + 5, y: y(value) + 3.5, "font-size": 10, fill: "#555555" }, right(value)));
+    }
+    svg.append(drawn("text", { x: LEFT, y: top - 6, "font-size": 11, "font-weight": "bold", fill: "#222222" }, title));
+    svg.append(drawn("rect", { x: LEFT, y: top, width: across, height: HIGH, fill: "none", stroke: "#8a949d" }));
+    return y;
+  }
+
+  function times(svg, top, words) {
+    const every = [5, 10, 15, 30, 60, 120, 300, 600, 900, 1800, 3600, 7200, 21600].find((s) => (now.last - now.first) / s <= 8) || 43200;
+    const offset = ((HELD.start % every) + every) % every;
+    for (let time = Math.ceil((now.first + offset) / every) * every - offset; time <= now.last; time += every) {
+      svg.append(drawn("line", { x1: x(time), x2: x(time), y1: top, y2: top + HIGH, stroke: "#e9edf0" }));
+      if (words) svg.append(drawn("text", { x: x(time), y: top + HIGH + 14, "font-size": 10, fill: "#555555", "text-anchor": "middle" }, clockOnly(time)));
+    }
+  }
+
+  function shade(svg, top, meeting, who, lowest) {
+    const rows = meeting.verdicts.filter((verdict) => who === null || verdict.pair[0] === who);
+    rows.forEach((verdict) => {
+      const rule = HELD.rules[verdict.rule], left = x(begins(verdict)), wide = Math.max(2, x(ends(verdict)) - left);
+      const box = drawn("rect", { x: left, y: top, width: wide, height: HIGH, fill: rule.colour, "fill-opacity": verdict.broken ? 0.2 : 0.06, class: "shade" });
+      if (!verdict.broken) { box.setAttribute("stroke", rule.colour); box.setAttribute("stroke-dasharray", "3 3"); }
+      box.append(drawn("title", {}, `${rule.words}: ${verdict.broken ? "broken" : "open"} by ${nameOf(verdict.pair[0])}`));
+      svg.append(box);
+    });
+    for (const time of [begins(meeting), ends(meeting)]) {
+      svg.append(drawn("line", { x1: x(time), x2: x(time), y1: top, y2: top + HIGH, stroke: "#5b6770", "stroke-dasharray": "5 3" }));
+    }
+    svg.append(drawn("line", { x1: x(meeting.nearest), x2: x(meeting.nearest), y1: top, y2: top + HIGH, stroke: "#222222", "stroke-dasharray": "2 3" }));
+  }
+
+  // The names of the rules over the distance, in rows so that no two lie over each other.
+  function ruleWords(svg, top, meeting) {
+    const rows = [];
+    [...meeting.verdicts].sort((p, q) => p.first - q.first).forEach((verdict) => {
+      const rule = HELD.rules[verdict.rule], words = `${rule.name} ${nameOf(verdict.pair[0])}`, left = Math.min(x(begins(verdict)), WIDE - RIGHT - words.length * 5.6);
+      let row = rows.findIndex((until) => until < left);
+      if (row < 0) row = rows.push(0) - 1;
+      rows[row] = left + words.length * 6 + 6;
+      if (row < 9) svg.append(drawn("text", { x: left + 2, y: top + 11 + 12 * row, "font-size": 10, "font-weight": "bold", fill: rule.colour, stroke: "#ffffff",
+        "stroke-width": 2.5, "paint-order": "stroke" }, words));
+    });
+  }
+
+  function line(svg, parts, y, colour, class_) {
+    parts.forEach((part) => {
+      const inside = part.map(([time, value]) => [Math.min(Math.max(time, now.first), now.last), value]);
+      svg.append(drawn("polyline", { points: inside.map(([time, value]) => `${x(time).toFixed(1)},${y(value).toFixed(1)}`).join(" "), fill: "none", stroke: colour,
+        "stroke-width": 1.7, "stroke-linejoin": "round", class: class_ }));
+      if (part.length === 1) svg.append(drawn("circle", { cx: x(inside[0][0]), cy: y(inside[0][1]), r: 1.8, fill: colour }));
+    });
+  }
+
+  function greatest(parts, least) { return Math.max(least, ...parts.map((part) => part.reduce((most, [, value]) => Math.max(most, value), 0))); }
+
+  function distanceChart(svg, top, meeting) {
+    const parts = distances(meeting, now.first, now.last), high = greatest(parts, 1) * 1.08, every = nice(high / 5);
+    times(svg, top, false);
+    const y = frame(svg, top, "Distance, m (right: nautical miles)", 0, high, every, (value) => (value / MILE).toFixed(every < 200 ? 2 : 1));
+    shade(svg, top, meeting, null);
+    line(svg, parts, y, "#222222", "distance");
+    svg.append(drawn("circle", { cx: x(meeting.nearest), cy: y(meeting.least), r: 3.5, fill: "none", stroke: "#222222", "stroke-width": 1.5 }));
+    ruleWords(svg, top, meeting);
+  }
+
+  function courseRange(both) {
+    const values = both.flat().flat().map(([, value]) => value);
+    if (!values.length) return [0, 360, 90];
+    let low = Math.max(0, Math.floor((Math.min(...values) - 5) / 10) * 10), high = Math.min(360, Math.ceil((Math.max(...values) + 5) / 10) * 10);
+    return high - low > 200 ? [0, 360, 90] : [low, high, nice((high - low) / 4)];
+  }
+
+  function pairChart(svg, top, meeting, field, title) {
+    const both = meeting.pair.map((number) => told(TRACKS[number], field, now.first, now.last, field === "courses"));
+    const high = greatest(both.flat(), 1) * 1.1;
+    const [low, most, every] = field === "courses" ? courseRange(both) : [0, high, nice(high / 4)];
+    times(svg, top, field === "speeds");
+    const y = frame(svg, top, title, low, most, every);
+    shade(svg, top, meeting, null);
+    both.forEach((parts, k) => line(svg, parts, y, PAIR_COLOURS[k], field));
+    if (!both.flat().length) {
+      const middle = { x: LEFT + across / 2, y: top + HIGH / 2, "font-size": 11, fill: "#555555", "text-anchor": "middle" };
+      svg.append(drawn("text", middle, "no report tells it"));
+    }
+  }
+
+  function legend(svg, top, meeting) {
+    let left = LEFT;
+    meeting.pair.forEach((number, k) => {
+      svg.append(drawn("line", { x1: left, x2: left + 18, y1: top, y2: top, stroke: PAIR_COLOURS[k], "stroke-width": 3 }));
+      svg.append(drawn("text", { x: left + 23, y: top + 4, "font-size": 11, fill: PAIR_COLOURS[k], "font-weight": "bold" }, nameOf(number)));
+      left += 40 + nameOf(number).length * 7.5;
+    });
+    svg.append(drawn("text", { x: LEFT, y: top + 20, "font-size": 10, fill: "#555555" },
+      "Dashed: the meeting begins and ends. Dotted: nearest. Shaded: a rule is broken; in a dashed frame: open, undecided."));
+  }
+
+  function follow(svg, meeting) {
+    const hair = drawn("line", { x1: 0, x2: 0, y1: 0, y2: 0, stroke: "#0a7d3b", "stroke-width": 1 });
+    svg.append(hair);
+    const words = drawn("text", { x: WIDE - RIGHT, y: 10, "font-size": 11, fill: "#0a7d3b", "text-anchor": "end" }, "");
+    svg.append(words);
+    svg.addEventListener("mousemove", (event) => {
+      const box = svg.getBoundingClientRect(), at = (event.clientX - box.left) * WIDE / box.width;
+      const time = now.first + (at - LEFT) / across * (now.last - now.first);
+      if (time < now.first || time > now.last) return;
+      for (const [key, value] of [["x1", at], ["x2", at], ["y1", 16], ["y2", 16 + 3 * HIGH + 2 * GAP]]) hair.setAttribute(key, value);
+      const places = meeting.pair.map((number) => placeAt(TRACKS[number], time));
+      words.textContent = utc(time) + (places[0] && places[1] ? `, ${metres(Math.hypot(places[0][0] - places[1][0], places[0][1] - places[1][1]))} m` : "");
+      MapView.point(meeting, time);
+    });
+    svg.addEventListener("mouseleave", () => { words.textContent = ""; hair.setAttribute("y2", hair.getAttribute("y1")); MapView.point(meeting, null); });
+  }
+
+  function draw(meeting, first, last) {
+    now = { first, last };
+    const top = 24, step = HIGH + GAP;
+    const svg = drawn("svg", { viewBox: `0 0 ${WIDE} ${top + 3 * step + 44}`, "font-family": "Helvetica, Arial, 'Liberation Sans', sans-serif" });
+    distanceChart(svg, top, meeting);
+    pairChart(svg, top + step, meeting, "courses", "Course over ground, degrees");
+    pairChart(svg, top + 2 * step, meeting, "speeds", "Speed over ground, knots");
+    legend(svg, top + 3 * step + 12, meeting);
+    follow(svg, meeting);
+    document.getElementById("charts").replaceChildren(svg);
+  }
+  return { draw };
+})();
