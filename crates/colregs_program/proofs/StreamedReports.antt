@@ -25,19 +25,6 @@ use Rattle.colregs_program.specs.Inner.Streaming.{Ends, FromHere, HasWritten, Lo
 use Rattle.colregs_program.specs.declared.streaming.StreamFault.{StreamFault}
 use Rattle.colregs_program.specs.declared.streaming.StreamFault.TheVariants as fault
 
-pub on_ok : {A E : Type 0} (r : Result A E) (P Q : Type 0) → (P → Q) → OnOk r P → OnOk r Q
-on_ok (Ok a) P Q so p = so p
-on_ok (Err e) P Q so p = tt
-
-pub if_err : {A E : Type 0} (r : Result A E) (P Q : E → Type 0) → ((e : E) → P e → Q e) → IfErr r P → IfErr r Q
-if_err (Ok a) P Q so p = tt
-if_err (Err e) P Q so p = so e p
-
--- the fault that a `?` hands on has its cause
-pub err_cause : {T E : Type 0} (r : Result T E) (x : E) (P : E → Type 0) → IsErrAnd r (λ e. e ≡ x) → P x → IfErr r P
-err_cause (Ok v) x P is cause = tt
-err_cause (Err e) x P is cause = subst P (sym is) cause
-
 -- ---- what is put
 
 -- a proper front of more stands behind what was put before
@@ -342,10 +329,6 @@ none_begun m scenario (Some log) contents = record {
 }
 
 -- ---- a whole report
-
-pub if_ok : {A E : Type 0} (r : Result A E) (P Q : A → Type 0) → ((a : A) → P a → Q a) → IfOk r P → IfOk r Q
-if_ok (Ok a) P Q so p = so a p
-if_ok (Err e) P Q so p = tt
 
 pub cause_by : (m m' : Mode) (scenario scenario' : Scenario) (left left' contents contents' : Option (List ℕ)) (because : StreamFault) → m ≡ m' → scenario ≡ scenario'
     → StreamCause m scenario left left' contents contents' because → StreamCause m' scenario' left left' contents contents' because

@@ -31,14 +31,6 @@ use Rattle.judged_lines.proofs.OneOutcome.{each_after-length}
 use Rattle.judged_lines.proofs.Pushing.{calm-push, heard-push, judged-push, sent-push}
 use Rattle.judged_lines.proofs.Timing.{KeepsTimes-push, time_is}
 
-pub OnOk-weaker : {A E : Type 0} {P Q : Type 0} (r : Result A E) → (P → Q) → OnOk r P → OnOk r Q
-OnOk-weaker (Ok v) f p = f p
-OnOk-weaker (Err e) f p = tt
-
-pub IfOk-weaker : {A E : Type 0} {P Q : A → Type 0} (r : Result A E) → ((v : A) → P v → Q v) → IfOk r P → IfOk r Q
-IfOk-weaker (Ok v) f p = f v p
-IfOk-weaker (Err e) f p = tt
-
 -- what is not above the greatest number of vessels
 pub few_unless : (n : ℕ) → (greatest_held < n → ⊥) → n ≤ greatest_held
 few_unless n calm = decide (nat_lt greatest_held n) refl

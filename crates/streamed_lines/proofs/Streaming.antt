@@ -18,10 +18,6 @@ use Rattle.streamed_lines.specs.Pieces.{IsPiece}
 abbrev pub NoFeed : List ℕ → Type 0
 NoFeed part = All (λ byte. is_line_feed byte ≡ false) part
 
-pub on_ok : {A E : Type 0} (r : Result A E) (P Q : Type 0) → (P → Q) → OnOk r P → OnOk r Q
-on_ok (Ok a) P Q so p = so p
-on_ok (Err e) P Q so p = tt
-
 -- ---- a line that ends
 
 module _ (log part : List ℕ) (none : NoFeed part) where
