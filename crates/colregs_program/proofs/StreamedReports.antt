@@ -1,6 +1,6 @@
 -- A log that is read block by block, and what it decides, written as it is decided.
 use Rattle.std.proofs.Common.{ℕ, ◌≡◌, ◌+◌, ◌-◌, ◌<◌, ◌≤◌, inl, inr, Bool, List, [], ◌++◌, length, take, drop, append-nil, append_assoc, length-append, Option, None, Some, IfSome, Ok, Err, refl, sym, ap, subst, ◌∙◌, arith}
-use Rattle.std.specs.Prelude.{◌≢◌, IfErr, IfOk, IsErrAnd, MatchResult, OnOk, Result}
+use Rattle.std.specs.Prelude.{◌≢◌, IfErr, MatchResult, Result}
 use Rattle.std.specs.Io.KnownBytes.{Appends, Consumes, IsAtEnd, Keeps}
 use Rattle.std.proofs.KnownBytes.{Appends-nil, Appends-trans, Consumes-trans}
 use Rattle.std.proofs.Math.Seq.{take-append-add}
@@ -10,7 +10,7 @@ use Rattle.outside.specs.Streams.{AppendsPart}
 use Rattle.scenario.specs.declared.values.Scenario.{Scenario}
 use Rattle.command_line.specs.declared.mode.Mode.{Mode}
 use Rattle.sessions.specs.Endings.{IsAnswerTo, IsEnding}
-use Rattle.sessions.specs.Refusals.{IsMet, IsStopped}
+use Rattle.sessions.specs.Refusals.{IsStopped}
 use Rattle.sessions.specs.SettledText.{IsSettledText}
 use Rattle.audit_report.specs.ReportTexts.{HasText}
 use Rattle.audit_report.specs.declared.report_text.ReportText.{ReportText}

@@ -1,5 +1,5 @@
 -- The judge, behind one line more.
-use Rattle.std.proofs.Common.{◌≡◌, ℕ, ◌+◌, ◌-◌, ◌^◌, ◌<◌, ◌≤◌, Bool, true, false, nat_lt, min, List, [], ◌∷◌, ◌++◌, append-nil, length, slice_index, slice_set, Option, None, unwrap_or, Result, Ok, Err, OnOk, IfOk, refl, ap, sym, subst, ◌∙◌, arith}
+use Rattle.std.proofs.Common.{◌≡◌, ℕ, ◌+◌, ◌-◌, ◌^◌, ◌<◌, ◌≤◌, Bool, true, false, nat_lt, min, List, [], ◌∷◌, ◌++◌, append-nil, length, slice_index, slice_set, Option, None, unwrap_or, Result, Ok, Err, refl, ap, sym, subst, ◌∙◌, arith}
 use Rattle.std.proofs.lemmas.Bool.Decides.{nat_tests}
 use Rattle.aivdm.specs.FragmentJoining.{Taken, joined_of}
 use Rattle.aivdm.specs.OpenMessages.{StandsFor as JoinerStandsFor}

@@ -1,6 +1,5 @@
 -- The whole report of an audit, and why there is none.
-use Rattle.std.proofs.Common.{ℕ, ◌≡◌, ◌++◌, false, refl, List, append_assoc, ap, ap₂, sym, subst, ◌∙◌}
-use Rattle.std.specs.Prelude.{Result, Ok, Err, IfErr, IsErrAnd}
+use Rattle.std.proofs.Common.{ℕ, ◌≡◌, ◌++◌, false, refl, List, append_assoc, ap, ap₂, ◌∙◌}
 use Rattle.audit_rows.specs.declared.row.Row.{Row}
 use Rattle.audit_traces.specs.declared.total.Total.{Total}
 use Rattle.auditor.specs.Standing.{HaveMoreThan}

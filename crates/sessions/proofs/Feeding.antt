@@ -1,6 +1,6 @@
 -- A session that is fed.
 use Rattle.std.proofs.Common.{ℕ, zero, suc, ◌≡◌, ◌≢◌, ◌+◌, ◌-◌, ◌<◌, ◌≤◌, ◌^◌, List, [], ◌∷◌, ◌++◌, length, take, drop, Some, None, Result, Ok, Err, IsTrue, false, arith, append_assoc, append-nil, length-append, refl, ◌∙◌, ap, sym, subst}
-use Rattle.std.specs.Prelude.{All, IfErr, IfOk, IsErrAnd, OnOk, position}
+use Rattle.std.specs.Prelude.{All, IfErr, IsErrAnd, position}
 use Rattle.std.proofs.Math.Seq.{take-add}
 use Rattle.std.proofs.lemmas.List.Quantifiers.{position-Some}
 use Rattle.std.proofs.lemmas.List.Splits.{length-slice_split}

@@ -1,4 +1,4 @@
-use Rattle.std.proofs.Common.{ℕ, List, ◌∙◌, ◌++◌, length, ap, Err, [], ◌≡◌}
+use Rattle.std.proofs.Common.{ℕ, List, ◌∙◌, ◌++◌, length, ap, Err, []}
 use Rattle.outside.proofs.ForCallers.{err_cause}
 use Rattle.auditor.specs.AuditRows.{AreAuditRows}
 use Rattle.auditor.specs.AuditTotals.{AreTotals}
