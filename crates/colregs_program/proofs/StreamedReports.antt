@@ -1,6 +1,6 @@
 -- A log that is read block by block, and what it decides, written as it is decided.
 use Rattle.std.proofs.Common.{ℕ, ◌≡◌, ◌+◌, ◌-◌, ◌<◌, ◌≤◌, inl, inr, Bool, List, [], ◌++◌, length, take, drop, append-nil, append_assoc, length-append, Option, None, Some, IfSome, Ok, Err, refl, sym, ap, subst, ◌∙◌, arith}
-use Rattle.std.specs.Prelude.{◌≢◌, IfErr, IfOk, IsErrAnd, MatchResult, OnOk, Result}
+use Rattle.std.specs.Prelude.{◌≢◌, IfErr, MatchResult, Result}
 use Rattle.std.specs.Io.KnownBytes.{Appends, Consumes, IsAtEnd, Keeps}
 use Rattle.std.proofs.KnownBytes.{Appends-nil, Appends-trans, Consumes-trans}
 use Rattle.std.proofs.Math.Seq.{take-append-add}
@@ -10,7 +10,7 @@ use Rattle.outside.specs.Streams.{AppendsPart}
 use Rattle.scenario.specs.declared.values.Scenario.{Scenario}
 use Rattle.command_line.specs.declared.mode.Mode.{Mode}
 use Rattle.sessions.specs.Endings.{IsAnswerTo, IsEnding}
-use Rattle.sessions.specs.Refusals.{IsMet, IsStopped}
+use Rattle.sessions.specs.Refusals.{IsStopped}
 use Rattle.sessions.specs.SettledText.{IsSettledText}
 use Rattle.audit_report.specs.ReportTexts.{HasText}
 use Rattle.audit_report.specs.declared.report_text.ReportText.{ReportText}
@@ -24,19 +24,6 @@ use Rattle.colregs_program.specs.LogAnswers.{GainsFront, GainsPart, GainsSettled
 use Rattle.colregs_program.specs.Inner.Streaming.{Ends, FromHere, HasWritten, LogCount, OutCount, PieceCause, PutCause, RefusedCause, StreamCause, Stops}
 use Rattle.colregs_program.specs.declared.streaming.StreamFault.{StreamFault}
 use Rattle.colregs_program.specs.declared.streaming.StreamFault.TheVariants as fault
-
-pub on_ok : {A E : Type 0} (r : Result A E) (P Q : Type 0) → (P → Q) → OnOk r P → OnOk r Q
-on_ok (Ok a) P Q so p = so p
-on_ok (Err e) P Q so p = tt
-
-pub if_err : {A E : Type 0} (r : Result A E) (P Q : E → Type 0) → ((e : E) → P e → Q e) → IfErr r P → IfErr r Q
-if_err (Ok a) P Q so p = tt
-if_err (Err e) P Q so p = so e p
-
--- the fault that a `?` hands on has its cause
-pub err_cause : {T E : Type 0} (r : Result T E) (x : E) (P : E → Type 0) → IsErrAnd r (λ e. e ≡ x) → P x → IfErr r P
-err_cause (Ok v) x P is cause = tt
-err_cause (Err e) x P is cause = subst P (sym is) cause
 
 -- ---- what is put
 
@@ -342,10 +329,6 @@ none_begun m scenario (Some log) contents = record {
 }
 
 -- ---- a whole report
-
-pub if_ok : {A E : Type 0} (r : Result A E) (P Q : A → Type 0) → ((a : A) → P a → Q a) → IfOk r P → IfOk r Q
-if_ok (Ok a) P Q so p = so a p
-if_ok (Err e) P Q so p = tt
 
 pub cause_by : (m m' : Mode) (scenario scenario' : Scenario) (left left' contents contents' : Option (List ℕ)) (because : StreamFault) → m ≡ m' → scenario ≡ scenario'
     → StreamCause m scenario left left' contents contents' because → StreamCause m' scenario' left left' contents contents' because

@@ -1,5 +1,5 @@
 -- The judge, behind one line more.
-use Rattle.std.proofs.Common.{◌≡◌, ℕ, ◌+◌, ◌-◌, ◌^◌, ◌<◌, ◌≤◌, Bool, true, false, nat_lt, min, List, [], ◌∷◌, ◌++◌, append-nil, length, slice_index, slice_set, Option, None, unwrap_or, Result, Ok, Err, OnOk, IfOk, refl, ap, sym, subst, ◌∙◌, arith}
+use Rattle.std.proofs.Common.{◌≡◌, ℕ, ◌+◌, ◌-◌, ◌^◌, ◌<◌, ◌≤◌, Bool, true, false, nat_lt, min, List, [], ◌∷◌, ◌++◌, append-nil, length, slice_index, slice_set, Option, None, unwrap_or, Result, Ok, Err, refl, ap, sym, subst, ◌∙◌, arith}
 use Rattle.std.proofs.lemmas.Bool.Decides.{nat_tests}
 use Rattle.aivdm.specs.FragmentJoining.{Taken, joined_of}
 use Rattle.aivdm.specs.OpenMessages.{StandsFor as JoinerStandsFor}
@@ -30,14 +30,6 @@ use Rattle.judged_lines.proofs.Counting.{AreCounts-push}
 use Rattle.judged_lines.proofs.OneOutcome.{each_after-length}
 use Rattle.judged_lines.proofs.Pushing.{calm-push, heard-push, judged-push, sent-push}
 use Rattle.judged_lines.proofs.Timing.{KeepsTimes-push, time_is}
-
-pub OnOk-weaker : {A E : Type 0} {P Q : Type 0} (r : Result A E) → (P → Q) → OnOk r P → OnOk r Q
-OnOk-weaker (Ok v) f p = f p
-OnOk-weaker (Err e) f p = tt
-
-pub IfOk-weaker : {A E : Type 0} {P Q : A → Type 0} (r : Result A E) → ((v : A) → P v → Q v) → IfOk r P → IfOk r Q
-IfOk-weaker (Ok v) f p = f v p
-IfOk-weaker (Err e) f p = tt
 
 -- what is not above the greatest number of vessels
 pub few_unless : (n : ℕ) → (greatest_held < n → ⊥) → n ≤ greatest_held

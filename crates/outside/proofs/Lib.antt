@@ -1,3 +1,4 @@
 pub mod CallLists
+pub mod ForCallers
 pub mod Pieces
 pub mod Reading

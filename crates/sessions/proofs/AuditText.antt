@@ -1,6 +1,5 @@
 -- The whole report of an audit, and why there is none.
-use Rattle.std.proofs.Common.{ℕ, ◌≡◌, ◌++◌, false, refl, List, append_assoc, ap, ap₂, sym, subst, ◌∙◌}
-use Rattle.std.specs.Prelude.{Result, Ok, Err, IfErr, IsErrAnd}
+use Rattle.std.proofs.Common.{ℕ, ◌≡◌, ◌++◌, false, refl, List, append_assoc, ap, ap₂, ◌∙◌}
 use Rattle.audit_rows.specs.declared.row.Row.{Row}
 use Rattle.audit_traces.specs.declared.total.Total.{Total}
 use Rattle.auditor.specs.Standing.{HaveMoreThan}
@@ -16,15 +15,6 @@ use Rattle.sessions.specs.Inner.Faults.{EndCause, auditing_fault}
 use Rattle.sessions.proofs.Meeting.{too_many_drilled, too_many_traces}
 use Rattle.command_line.specs.declared.mode.Mode.TheVariants as mode
 use Rattle.settling.specs.Sightings.{audit_numbers}
-
--- the fault that a `?` hands on has its cause
-pub err_cause : {T E : Type 0} (r : Result T E) (x : E) (P : E → Type 0) → IsErrAnd r (λ e. e ≡ x) → P x → IfErr r P
-err_cause (Ok v) x P is cause = tt
-err_cause (Err e) x P is cause = subst P (sym is) cause
-
--- the fault that a `?` hands on
-pub same_fault : {T E : Type 0} (r : Result T E) (x t : E) → IsErrAnd r (λ e. e ≡ x) → r ≡ Err t → t ≡ x
-same_fault {T} {E} r x t h e = subst (λ (s : Result T E). IsErrAnd s (λ z. z ≡ x)) e h
 
 pub audit_cause : (scenario : Scenario) (log : List ℕ) (fault : AuditFault) → is_crowded scenario (lines_of log) ≡ false
     → (fault ≡ audit.TooManyPairs → HaveMoreThan greatest_traces (audit_numbers scenario) (sightings_of scenario log)) → EndCause mode.Audit scenario log (auditing_fault fault)

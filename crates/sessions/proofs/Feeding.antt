@@ -1,12 +1,13 @@
 -- A session that is fed.
 use Rattle.std.proofs.Common.{ℕ, zero, suc, ◌≡◌, ◌≢◌, ◌+◌, ◌-◌, ◌<◌, ◌≤◌, ◌^◌, List, [], ◌∷◌, ◌++◌, length, take, drop, Some, None, Result, Ok, Err, IsTrue, false, arith, append_assoc, append-nil, length-append, refl, ◌∙◌, ap, sym, subst}
-use Rattle.std.specs.Prelude.{All, IfErr, IfOk, IsErrAnd, OnOk, position}
+use Rattle.std.specs.Prelude.{All, IfErr, IsErrAnd, position}
 use Rattle.std.proofs.Math.Seq.{take-add}
 use Rattle.std.proofs.lemmas.List.Quantifiers.{position-Some}
 use Rattle.std.proofs.lemmas.List.Splits.{length-slice_split}
 use Rattle.std.proofs.lemmas.List.Sums.{count_by-le-length}
 use Rattle.std.proofs.lemmas.List.{get_or-take, length-drop, length-map, length-take-le, take-append-drop, take_all}
 use Rattle.std.specs.List.{slice_split}
+use Rattle.outside.proofs.ForCallers.{err_cause}
 use Rattle.aivdm.proofs.Parts.{position-fails}
 use Rattle.audit_report.specs.ReportTexts.{HasText}
 use Rattle.audit_report.specs.declared.report_text.ReportText.{ReportText}
@@ -33,7 +34,6 @@ use Rattle.sessions.specs.declared.work.Work.{Work}
 use Rattle.tracks.specs.declared.entry.BookFault.{BookFault}
 use Rattle.tracks.specs.declared.entry.BookFault.TheVariants as book
 use Rattle.sessions.specs.Inner.Faults.{judging_fault}
-use Rattle.sessions.proofs.AuditText.{err_cause}
 use Rattle.sessions.proofs.Refusing.{EndedStay, ManyStay, PartsGoOn, stopped_bytes, stopped_on, stopped_pairs, stopped_vessels}
 use Rattle.sessions.proofs.Working.{decided_by, few_by}
 
@@ -272,18 +272,6 @@ unless_weaker why.LogBytes P Q so p = so p
 unless_weaker (why.Own lack) P Q so p = so p
 unless_weaker why.Targets P Q so p = so p
 unless_weaker why.Memory P Q so p = tt
-
-pub on_ok : {A E : Type 0} (r : Result A E) (P Q : Type 0) → (P → Q) → OnOk r P → OnOk r Q
-on_ok (Ok a) P Q so p = so p
-on_ok (Err e) P Q so p = tt
-
-pub if_ok : {A E : Type 0} (r : Result A E) (P Q : A → Type 0) → ((a : A) → P a → Q a) → IfOk r P → IfOk r Q
-if_ok (Ok a) P Q so p = so a p
-if_ok (Err e) P Q so p = tt
-
-pub if_err : {A E : Type 0} (r : Result A E) (P Q : E → Type 0) → ((e : E) → P e → Q e) → IfErr r P → IfErr r Q
-if_err (Ok a) P Q so p = tt
-if_err (Err e) P Q so p = so e p
 
 -- ---- how much room is left
 

@@ -1,13 +1,15 @@
 use Rattle.std.proofs.Common.{◌∙◌, sym}
+use Rattle.std.proofs.lemmas.Result.{IfErr-weaker}
+use Rattle.outside.proofs.ForCallers.{err_cause}
 use Rattle.colregs_program.specs.AskedScenarios.{log_of}
 use Rattle.colregs_program.proofs.AskedLogs.{cause_of_read, made_cause}
 use Rattle.colregs_program.proofs.DrillVessels.{drill_result}
-use Rattle.colregs_program.proofs.StreamedReports.{err_cause, if_err, none_begun}
+use Rattle.colregs_program.proofs.StreamedReports.{none_begun}
 use Rattle.colregs_program.proofs.report.report_on.Goals as goal
 
 pub returns-then-reads_log-clause-cause : goal.returns-then-reads_log-clause-cause
 returns-then-reads_log-clause-cause g c =
-    if_err c.write_report.result _ _ (λ because cause. cause_of_read c.args.request.now c.args.scenario _ _ _ _ because (sym c.reads_log.ensures ∙ c.if-reads_log.true) cause) c.write_report.ensures.cause
+    IfErr-weaker c.write_report.result _ _ (λ because cause. cause_of_read c.args.request.now c.args.scenario _ _ _ _ because (sym c.reads_log.ensures ∙ c.if-reads_log.true) cause) c.write_report.ensures.cause
 
 pub returns-in_err-made-clause-cause : goal.returns-in_err-made-clause-cause
 returns-in_err-made-clause-cause g c =

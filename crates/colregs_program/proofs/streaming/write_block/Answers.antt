@@ -1,7 +1,8 @@
 use Rattle.std.proofs.Common.{take, arith}
 use Rattle.std.proofs.KnownBytes.{Keeps-refl}
 use Rattle.std.proofs.lemmas.List.{length-take}
-use Rattle.colregs_program.proofs.StreamedReports.{block_cause, err_cause, settled_left}
+use Rattle.outside.proofs.ForCallers.{err_cause}
+use Rattle.colregs_program.proofs.StreamedReports.{block_cause, settled_left}
 use Rattle.colregs_program.proofs.streaming.write_block.Goals as goal
 
 pub returns-in_err-write_piece-in-Got-clause-cause : goal.returns-in_err-write_piece-in-Got-clause-cause

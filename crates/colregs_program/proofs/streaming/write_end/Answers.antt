@@ -1,7 +1,8 @@
 use Rattle.std.proofs.Common.{List, ℕ, inr, subst}
 use Rattle.std.specs.Io.KnownBytes.{Appends}
+use Rattle.outside.proofs.ForCallers.{err_cause}
 use Rattle.outside.specs.Streams.{AppendsPart}
-use Rattle.colregs_program.proofs.StreamedReports.{end_cause, err_cause, report_part, report_written}
+use Rattle.colregs_program.proofs.StreamedReports.{end_cause, report_part, report_written}
 use Rattle.colregs_program.proofs.streaming.write_end.Goals as goal
 
 pub returns-in_err-ending-clause-cause : goal.returns-in_err-ending-clause-cause

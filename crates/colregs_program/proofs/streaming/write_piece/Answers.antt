@@ -1,14 +1,15 @@
 use Rattle.std.proofs.Common.{[]}
-use Rattle.colregs_program.proofs.StreamedReports.{if_err, on_ok, refused_cause, taken_cause, taken_written, unless_at}
+use Rattle.std.proofs.lemmas.Result.{on_ok_weaker, IfErr-weaker}
+use Rattle.colregs_program.proofs.StreamedReports.{refused_cause, taken_cause, taken_written, unless_at}
 use Rattle.colregs_program.proofs.streaming.write_piece.Goals as goal
 
 pub returns-in-Ok-clause-written : goal.returns-in-Ok-clause-written
 returns-in-Ok-clause-written g c =
-    on_ok c.put_text.result _ _ (λ put. taken_written c.args.session.now c.feed_into.new.self c.args.piece.now _ _ c.feed_into.new.text (c.in-Ok.ensures.taken [] c.new-text.ensures) put) c.put_text.ensures.put
+    on_ok_weaker c.put_text.result (λ put. taken_written c.args.session.now c.feed_into.new.self c.args.piece.now _ _ c.feed_into.new.text (c.in-Ok.ensures.taken [] c.new-text.ensures) put) c.put_text.ensures.put
 
 pub returns-in-Ok-clause-cause : goal.returns-in-Ok-clause-cause
 returns-in-Ok-clause-cause g c =
-    if_err c.put_text.result _ _ (λ because cause. taken_cause c.args.session.now c.feed_into.new.self c.args.piece.now _ _ c.feed_into.new.text because c.in-Ok.ensures.mode c.in-Ok.ensures.scenario
+    IfErr-weaker c.put_text.result _ _ (λ because cause. taken_cause c.args.session.now c.feed_into.new.self c.args.piece.now _ _ c.feed_into.new.text because c.in-Ok.ensures.mode c.in-Ok.ensures.scenario
     (c.in-Ok.ensures.taken [] c.new-text.ensures) cause) c.put_text.ensures.cause
 
 pub returns-in-Err-clause-cause : goal.returns-in-Err-clause-cause

@@ -1,6 +1,8 @@
 use Rattle.std.proofs.Common.{◌∙◌, Ok, refl, ap, arith}
+use Rattle.std.proofs.lemmas.Result.{IfOk-weaker}
+use Rattle.outside.proofs.ForCallers.{err_cause}
 use Rattle.scenario.specs.declared.values.Scenario.{Scenario}
-use Rattle.colregs_program.proofs.StreamedReports.{cause_by, err_cause, if_ok, none_begun, reports_by, written_from}
+use Rattle.colregs_program.proofs.StreamedReports.{cause_by, none_begun, reports_by, written_from}
 use Rattle.colregs_program.proofs.streaming.write_report.Goals as goal
 
 pub returns-in_err-session-clause-cause : goal.returns-in_err-session-clause-cause
@@ -44,5 +46,5 @@ pub returns-clause-report : goal.returns-clause-report
 returns-clause-report g c =
     let has = c.in_ok-write_block.ensures.written _ _ c.loop-block.invariant.written in
     let end = c.in_ok-write_block.ensures.end (ap Ok c.if-branch.false) in
-    if_ok c.write_end.result _ _ (λ none report. reports_by _ _ _ _ _ _ _ none (c.in_ok-write_block.ensures.mode ∙ c.loop-block.invariant.mode)
+    IfOk-weaker c.write_end.result _ _ (λ none report. reports_by _ _ _ _ _ _ _ none (c.in_ok-write_block.ensures.mode ∙ c.loop-block.invariant.mode)
     (c.in_ok-write_block.ensures.scenario ∙ c.loop-block.invariant.scenario) (report _ _ _ end has)) c.write_end.ensures.report

@@ -1,4 +1,5 @@
-use Rattle.std.proofs.Common.{ℕ, List, ◌∙◌, ◌++◌, length, ap, Err, [], ◌≡◌}
+use Rattle.std.proofs.Common.{ℕ, List, ◌∙◌, ◌++◌, length, ap, Err, []}
+use Rattle.outside.proofs.ForCallers.{err_cause}
 use Rattle.auditor.specs.AuditRows.{AreAuditRows}
 use Rattle.auditor.specs.AuditTotals.{AreTotals}
 use Rattle.auditor.specs.Standing.{HaveMoreThan}
@@ -9,7 +10,7 @@ use Rattle.settling.specs.SettledTicks.{greatest_traces}
 use Rattle.settling.specs.Sightings.{audit_numbers, sighted}
 use Rattle.sessions.specs.AuditReport.{rows_behind, sightings_of}
 use Rattle.sessions.proofs.AtEnds.{judged_parts, of_one_log, of_whole, whole_report}
-use Rattle.sessions.proofs.AuditText.{audit_cause, err_cause, whole_text}
+use Rattle.sessions.proofs.AuditText.{audit_cause, whole_text}
 use Rattle.sessions.proofs.Auditing.{last_of_rules, rows_of_rules}
 use Rattle.sessions.proofs.Meeting.{audit_done}
 use Rattle.sessions.proofs.OutcomeRows.{count_rows-from_counts}

@@ -1,4 +1,5 @@
 use Rattle.std.proofs.Common.{ℕ, List, ◌∙◌, ◌++◌, length, ap, ap₂, subst, Err, []}
+use Rattle.outside.proofs.ForCallers.{err_cause}
 use Rattle.audit_traces.specs.declared.total.Total.{Total}
 use Rattle.auditor.specs.AuditRows.{AreAuditRows}
 use Rattle.auditor.specs.AuditTotals.{AreTotals}
@@ -11,7 +12,7 @@ use Rattle.settling.specs.Sightings.{audit_numbers, sighted}
 use Rattle.sessions.specs.AuditReport.{sightings_of, total_rows}
 use Rattle.sessions.specs.DrillReport.{drill_text}
 use Rattle.sessions.proofs.AtEnds.{judged_parts, of_one_log, of_whole}
-use Rattle.sessions.proofs.AuditText.{drill_cause, err_cause}
+use Rattle.sessions.proofs.AuditText.{drill_cause}
 use Rattle.sessions.proofs.Meeting.{drill_done}
 use Rattle.sessions.proofs.OutcomeRows.{count_rows-from_counts}
 use Rattle.sessions.proofs.drill.end_drill.Goals as goal

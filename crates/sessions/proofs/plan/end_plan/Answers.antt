@@ -1,10 +1,10 @@
 use Rattle.std.proofs.Common.{[], ◌∙◌}
+use Rattle.outside.proofs.ForCallers.{err_cause}
 use Rattle.judged_lines.specs.JudgedLines.{judged_lines, numbers_of}
 use Rattle.judged_lines.specs.LogLines.{lines_of}
 use Rattle.judged_lines.specs.SentLines.{sent}
 use Rattle.own_ship.specs.PlanSituations.{vessels_near}
 use Rattle.sessions.specs.PlanReport.{manoeuvre_rows, near_rows, plan_text}
-use Rattle.sessions.proofs.AuditText.{err_cause}
 use Rattle.sessions.proofs.OutcomeRows.{count_rows-from_counts}
 use Rattle.sessions.proofs.PlanText.{three_parts}
 use Rattle.sessions.proofs.Seeking.{plan_answer, plan_cause}

@@ -1,4 +1,4 @@
-use Rattle.std.proofs.Common.{ℕ, ◌≡◌, ◌∙◌, List, ◌++◌, ap, sym, subst, append_assoc, true}
+use Rattle.std.proofs.Common.{ℕ, ◌∙◌, List, ◌++◌, ap, subst, append_assoc, true}
 use Rattle.std.proofs.lemmas.List.{take_all}
 use Rattle.audit_report.specs.CsvRows.{row_of}
 use Rattle.audit_report.specs.ReportTexts.{HasText}

@@ -1,11 +1,12 @@
 use Rattle.std.proofs.Common.{refl, sym, ap, subst, ◌∙◌, ◌∷◌, [], ◌++◌}
+use Rattle.std.proofs.lemmas.Result.{IfOk-weaker}
 use Rattle.aivdm.specs.FragmentJoining.{Taken}
 use Rattle.aivdm.specs.OpenMessages.{StandsFor as JoinerStandsFor}
 use Rattle.aivdm.specs.Sentences.{fields_seen}
 use Rattle.judged_lines.specs.SentLines.{sent_decoded}
 use Rattle.judged_lines.specs.declared.judge.Judge.{Judge}
 use Rattle.judged_lines.specs.declared.outcome.LineOutcome.TheVariants as outcome
-use Rattle.judged_lines.proofs.GoingOn.{GoesOn-message, GoesOn-silent, crowded_message, IfOk-weaker}
+use Rattle.judged_lines.proofs.GoingOn.{GoesOn-message, GoesOn-silent, crowded_message}
 use Rattle.judged_lines.proofs.judge.Judge.judge_part.Goals as goal
 
 pub returns-in-Message-clause-judged : goal.returns-in-Message-clause-judged
@@ -13,7 +14,7 @@ returns-in-Message-clause-judged c =
     let next : Taken = record { sentence = fields_seen c.args.sentence.now; time = c.args.time } in
     let judge = c.judge_decoded.new.self in
     let kept = ap (λ (j : Judge). j.joiner) c.judge_decoded.ensures.same in
-    IfOk-weaker c.judge_decoded.result
+    IfOk-weaker c.judge_decoded.result _ _
     (λ came enters numbers taken messages stands book few. GoesOn-message numbers judge came taken messages next _ c.decode.result
     (sym c.in-Message.is ∙ c.in_ok-bits.ensures.joined taken stands)
     (ap (sent_decoded c.args.time) (sym c.decode.ensures.fields))

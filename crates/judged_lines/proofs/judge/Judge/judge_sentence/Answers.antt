@@ -1,4 +1,5 @@
 use Rattle.std.proofs.Common.{sym, ap, subst, ◌∷◌, [], ◌++◌}
+use Rattle.std.proofs.lemmas.Result.{IfOk-weaker}
 use Rattle.aivdm.specs.FragmentJoining.{Taken, part_bits}
 use Rattle.aivdm.specs.OpenMessages.{StandsFor as JoinerStandsFor}
 use Rattle.aivdm.specs.Sentences.{fields_seen}
@@ -8,7 +9,7 @@ use Rattle.ais_messages.specs.declared.message.Decoded.TheVariants as decoded
 use Rattle.ais_messages.specs.declared.message.Message.TheVariants as message
 use Rattle.judged_lines.specs.SentLines.{sent_decoded}
 use Rattle.judged_lines.specs.declared.judge.Judge.{Judge}
-use Rattle.judged_lines.proofs.GoingOn.{GoesOn-message, crowded_message, IfOk-weaker}
+use Rattle.judged_lines.proofs.GoingOn.{GoesOn-message, crowded_message}
 use Rattle.judged_lines.proofs.judge.Judge.judge_sentence.Goals as goal
 
 pub returns-in-Some-clause-judged : goal.returns-in-Some-clause-judged
@@ -17,7 +18,7 @@ returns-in-Some-clause-judged c =
     let judge = c.judge_report.new.self in
     let kept = ap (λ (j : Judge). j.joiner) c.judge_report.ensures.same in
     let report = c.in-Some.ensures.report in
-    IfOk-weaker c.judge_report.result
+    IfOk-weaker c.judge_report.result _ _
     (λ came enters numbers taken messages stands book few.
     let whole = whole_message c.args.self.now.joiner taken next stands report.0 in
     GoesOn-message numbers judge came taken messages next (joined.Message (part_bits next)) (decoded.Message (message.Position c.in-Some.report)) whole.0

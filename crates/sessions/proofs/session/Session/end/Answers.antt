@@ -1,10 +1,11 @@
 use Rattle.std.proofs.Common.{ℕ, List, ◌++◌, Err, ap, sym, subst, ◌∙◌}
+use Rattle.std.proofs.lemmas.Result.{IfOk-weaker, IfErr-weaker}
+use Rattle.outside.proofs.ForCallers.{err_cause}
 use Rattle.command_line.specs.declared.mode.Mode.TheVariants as mode
 use Rattle.sessions.specs.Endings.{IsEnding}
 use Rattle.sessions.specs.Standing.{mode_by}
-use Rattle.sessions.proofs.AuditText.{err_cause}
 use Rattle.sessions.proofs.EndedSessions.{Refusal, answer_is, audit_here, audit_of, audit_refused, drill_here, drill_of, drill_refused, ended_judge, plan_answered, plan_own, plan_refused, plan_report, points_of, report_is}
-use Rattle.sessions.proofs.Feeding.{if_err, if_ok, vessels_refused}
+use Rattle.sessions.proofs.Feeding.{vessels_refused}
 use Rattle.sessions.proofs.Meeting.{crowded_answer, points_done}
 use Rattle.sessions.proofs.session.Session.end.Goals as goal
 
@@ -70,12 +71,12 @@ returns-in_ok-rest-in-Drill-clause-answer c = λ fed given stands.
 
 pub returns-in-Plan-clause-report : goal.returns-in-Plan-clause-report
 returns-in-Plan-clause-report c =
-    if_ok c.end_plan.result _ _ (λ ending report. plan_report c.args.self c.in_ok-ended.ended.judge c.in-Plan.is c.in_ok-ended.ensures.stands ending report) c.end_plan.ensures.report
+    IfOk-weaker c.end_plan.result _ _ (λ ending report. plan_report c.args.self c.in_ok-ended.ended.judge c.in-Plan.is c.in_ok-ended.ensures.stands ending report) c.end_plan.ensures.report
 
 pub returns-in-Plan-clause-answer : goal.returns-in-Plan-clause-answer
 returns-in-Plan-clause-answer c =
-    if_ok c.end_plan.result _ _ (λ ending answer. plan_answered c.args.self c.in_ok-ended.ended.judge c.in-Plan.is c.in_ok-ended.ensures.stands ending answer) c.end_plan.ensures.answer
+    IfOk-weaker c.end_plan.result _ _ (λ ending answer. plan_answered c.args.self c.in_ok-ended.ended.judge c.in-Plan.is c.in_ok-ended.ensures.stands ending answer) c.end_plan.ensures.answer
 
 pub returns-in-Plan-clause-refused : goal.returns-in-Plan-clause-refused
 returns-in-Plan-clause-refused c =
-    if_err c.end_plan.result _ _ (λ why cause. plan_refused c.args.self c.in_ok-ended.ended.judge c.in-Plan.is c.in_ok-ended.ensures.stands why cause) c.end_plan.ensures.cause
+    IfErr-weaker c.end_plan.result _ _ (λ why cause. plan_refused c.args.self c.in_ok-ended.ended.judge c.in-Plan.is c.in_ok-ended.ensures.stands why cause) c.end_plan.ensures.cause

@@ -1,6 +1,6 @@
 use Rattle.std.proofs.Common.{ℕ, List, [], ◌++◌, sym, subst}
+use Rattle.outside.proofs.ForCallers.{err_cause}
 use Rattle.sessions.specs.Standing.{StandsFor}
-use Rattle.sessions.proofs.AuditText.{err_cause}
 use Rattle.sessions.proofs.Feeding.{unless_weaker}
 use Rattle.sessions.proofs.session.Session.feed.Goals as goal
 

@@ -1,7 +1,7 @@
 use Rattle.std.proofs.Common.{ℕ, List, ◌+◌, ◌-◌, ◌++◌, length, take, drop, subst, ap, ◌∙◌, arith}
 use Rattle.std.proofs.lemmas.List.{length-drop, length-take-le, take_all}
+use Rattle.outside.proofs.ForCallers.{err_cause}
 use Rattle.sessions.specs.Feeding.{Takes}
-use Rattle.sessions.proofs.AuditText.{err_cause}
 use Rattle.sessions.proofs.Feeding.{cut_all, cut_on, refuses_more, rest_is, takes_more, unless_weaker}
 use Rattle.sessions.proofs.session.Session.feed_into.Goals as goal
 

@@ -7,7 +7,8 @@ use Rattle.growing_log.specs.GrowingLog.{ended_lines}
 use Rattle.judged_lines.specs.JudgedLines.{judged_lines}
 use Rattle.judged_lines.specs.declared.judged.Judged.{Judged}
 use Rattle.std.specs.Prelude.{Option}
-use Rattle.sessions.proofs.Feeding.{few_enough, on_ok, refused_by, refuses_bytes, refuses_pairs, refuses_vessels, takes_line, takes_part, too_many, vessels_refused, works_on}
+use Rattle.std.proofs.lemmas.Result.{on_ok_weaker}
+use Rattle.sessions.proofs.Feeding.{few_enough, refused_by, refuses_bytes, refuses_pairs, refuses_vessels, takes_line, takes_part, too_many, vessels_refused, works_on}
 use Rattle.sessions.proofs.session.Session.take.Goals as goal
 
 pub returns-then-piece-room-clause-refused : goal.returns-then-piece-room-clause-refused
@@ -51,7 +52,7 @@ go_on-requires-clause-ready c =
 
 pub returns-in-Some-clause-taken : goal.returns-in-Some-clause-taken
 returns-in-Some-clause-taken c =
-    on_ok c.go_on.result _ _ (λ goes front has.
+    on_ok_weaker c.go_on.result (λ goes front has.
     takes_line c.args.self.now c.args.piece.now front c.ended_lines_stay.ensures.ended c.judge.result.now c.in-Some.judged c.take.new.self
     (λ fed given stands. (
     let long = length-append fed c.args.piece.now in

@@ -1,10 +1,10 @@
 use Rattle.std.proofs.Common.{◌++◌, ◌≡◌, Err, ap, subst, sym, ◌∙◌}
+use Rattle.outside.proofs.ForCallers.{same_fault}
 use Rattle.auditor.specs.declared.fault.AuditFault.{AuditFault}
 use Rattle.auditor.specs.declared.fault.AuditFault.TheVariants as audit_fault
 use Rattle.sessions.specs.Refusals.{HasManySettled}
 use Rattle.sessions.specs.Standing.{IsDone, mode_by}
 use Rattle.sessions.specs.declared.work.Work.{Work}
-use Rattle.sessions.proofs.AuditText.{same_fault}
 use Rattle.sessions.proofs.Auditing.{last_of_rules, rows_of_rules_decided}
 use Rattle.sessions.proofs.Working.{audit_goes_on, pairs_alone, points_go_on}
 use Rattle.sessions.proofs.work.Work.go_on.Goals as goal

@@ -1,15 +1,16 @@
 use Rattle.std.proofs.Common.{◌≡◌, ◌<◌, ◌++◌, ◌∷◌, [], ℕ, List, ap, sym, subst, ◌∙◌, Err, arith}
 use Rattle.std.proofs.lemmas.Bool.Decides.{nat_tests}
+use Rattle.std.proofs.lemmas.Result.{on_ok_weaker}
 use Rattle.growing_log.specs.GrowingLog.{ended_lines, open_part}
 use Rattle.judged_lines.specs.JudgedLines.{greatest_held, held_behind, judged_line}
 use Rattle.judged_lines.specs.LogLines.{without_carriage_return}
 use Rattle.judged_lines.specs.Standing.{StandsFor as JudgeStandsFor}
-use Rattle.streamed_lines.proofs.Streaming.{begins_anew, ended, goes_on, no_length, on_ok}
+use Rattle.streamed_lines.proofs.Streaming.{begins_anew, ended, goes_on, no_length}
 use Rattle.streamed_lines.proofs.streamed_lines.StreamedLines.end_line.Goals as goal
 
 pub returns-then-is_empty-clause-stands : goal.returns-then-is_empty-clause-stands
 returns-then-is_empty-clause-stands c =
-    on_ok c.take.result _ _ (λ stood scenario log few stands.
+    on_ok_weaker c.take.result (λ stood scenario log few stands.
     let nothing : open_part log ≡ [] = no_length (open_part log) (let h = c.if-is_empty.ensures log stands.line in grind (arith, nat_tests, h)) in
     let same : c.strip_carriage_return.result.now ≡ without_carriage_return (open_part log ++ c.args.part.now) =
     c.strip_carriage_return.ensures ∙ ap (λ (o : List ℕ). without_carriage_return (o ++ c.args.part.now)) (sym nothing) in
