@@ -8,7 +8,7 @@ use Rattle.std.proofs.lemmas.List.Elements.{All-cons}
 use Rattle.toml.specs.Data.{Data, as_str}
 use Rattle.toml.specs.View.{view}
 use Rattle.toml.specs.declared.value.Value.{Value}
-use Rattle.rule_set.specs.NamedTrees.{NamedTree, holds, rules_of}
+use Rattle.rule_set.specs.NamedTrees.{NamedTree, has_rule, rules_of}
 use Rattle.rule_set.specs.declared.numbers.RuleNumbers.{RuleNumbers}
 use Rattle.scenario_keys.specs.FirstFaults.{with_before, IsFound}
 use Rattle.scenario_keys.specs.declared.key.Key.{Key}
@@ -16,13 +16,13 @@ use Rattle.scenario_keys.specs.declared.cause.Cause.{Cause}
 use Rattle.scenario_keys.specs.declared.cause.Cause.TheVariants as cause
 use Rattle.scenario_keys.proofs.ForCallers.{all_append, all_none, first_behind, first_here}
 use Rattle.scenario_keys.specs.KeyValues.{member_at}
-use Rattle.added_rules.specs.FormulaTables.{is_name, is_taken, name_cause, name_of, new_name_cause, rule_names, IsFaultBy, IsFormulaFault, IsTableFault, IsTextFault}
+use Rattle.added_rules.specs.FormulaTables.{is_rule_name, is_name_taken, name_cause, formula_name_in, new_name_cause, rule_names, IsFaultBy, IsFormulaFault, IsTableFault, IsTextFault}
 use Rattle.added_rules.specs.ScenarioRules.{AreAdded, AreScenarioRules, IsAdded}
 use Rattle.added_rules.specs.Inner.{Adds, Stands}
 
 -- their names, and how many they are
 
-names_added : (tick : ℕ) (tables : List Data) (added : List NamedTree) → AreAdded tick tables added → map (λ (rule : NamedTree). rule.name) added ≡ map name_of tables
+names_added : (tick : ℕ) (tables : List Data) (added : List NamedTree) → AreAdded tick tables added → map (λ (rule : NamedTree). rule.name) added ≡ map formula_name_in tables
 names_added tick [] [] h = refl
 names_added tick [] (rule ∷ added) h = absurd h
 names_added tick (here ∷ tables) [] h = absurd h
@@ -51,7 +51,7 @@ one_more_added tick (there ∷ tables) here (other ∷ added) rule h k = (h.0, o
 
 -- the names that the rules hold are those that are taken
 
-held_names : (rules : List NamedTree) (name : List ℕ) → holds rules name ≡ list_any (λ taken. bytes_eq taken name) (map (λ (rule : NamedTree). rule.name) rules)
+held_names : (rules : List NamedTree) (name : List ℕ) → has_rule rules name ≡ list_any (λ taken. bytes_eq taken name) (map (λ (rule : NamedTree). rule.name) rules)
 held_names [] name = refl
 held_names (rule ∷ rules) name = ap (λ b. bytes_eq rule.name name || b) (held_names rules name)
 
@@ -59,9 +59,9 @@ rule_names_are : (tick : ℕ) (numbers : RuleNumbers) → map (λ (rule : NamedT
 rule_names_are tick numbers = refl
 
 held_taken : (tick : ℕ) (numbers : RuleNumbers) (tables : List Data) (rules : List NamedTree) → AreScenarioRules tick numbers tables rules →
-    (name : List ℕ) → holds rules name ≡ is_taken tables name
+    (name : List ℕ) → has_rule rules name ≡ is_name_taken tables name
 held_taken tick numbers tables rules h name =
-    let e : map (λ (rule : NamedTree). rule.name) rules ≡ rule_names ++ map name_of tables =
+    let e : map (λ (rule : NamedTree). rule.name) rules ≡ rule_names ++ map formula_name_in tables =
     ap (map (λ (rule : NamedTree). rule.name)) h.order ∙ map-append (λ (rule : NamedTree). rule.name) (rules_of tick numbers) h.added
     ∙ ap (λ l. l ++ map (λ (rule : NamedTree). rule.name) h.added) (rule_names_are tick numbers)
     ∙ ap (λ l. rule_names ++ l) (names_added tick tables h.added h.are_added) in
@@ -69,7 +69,7 @@ held_taken tick numbers tables rules h name =
 
 same_new_cause : (t u : List ℕ → Bool) → ((name : List ℕ) → t name ≡ u name) → (found : Option (List ℕ)) → new_name_cause t found ≡ new_name_cause u found
 same_new_cause t u same None = refl
-same_new_cause t u same (Some name) = ap (λ b. if is_name name && not b then None else Some cause.Range) (same name)
+same_new_cause t u same (Some name) = ap (λ b. if is_rule_name name && not b then None else Some cause.Range) (same name)
 
 same_cause : (t u : List ℕ → Bool) → ((name : List ℕ) → t name ≡ u name) → (found : Option Data) → name_cause t found ≡ name_cause u found
 same_cause t u same None = refl
@@ -98,14 +98,14 @@ with_before-append front (x ∷ a) b =
 -- the table at which the tests stand: it has no fault, or it has the first
 
 pub one_more_table : (tick : ℕ) (numbers : RuleNumbers) (tables : List Data) (here : Data) (rules after : List NamedTree) (item : ℕ) →
-    Stands tick numbers tables rules item → Adds tick here rules after → IsFaultBy (holds rules) tick item here None →
+    Stands tick numbers tables rules item → Adds tick here rules after → IsFaultBy (has_rule rules) tick item here None →
     Stands tick numbers (tables ++ here ∷ []) after (item + 1)
 one_more_table tick numbers tables here rules after item h adds none =
     let many = length-append tables (here ∷ []) in
     let at = h.item in
     let passes : IsTableFault tick (tables, here) None =
-    subst (λ (n : ℕ). IsFaultBy (is_taken tables) tick n here None) at
-    (same_fault (holds rules) (is_taken tables) tick item here None (held_taken tick numbers tables rules h.rules) none) in
+    subst (λ (n : ℕ). IsFaultBy (is_name_taken tables) tick n here None) at
+    (same_fault (has_rule rules) (is_name_taken tables) tick item here None (held_taken tick numbers tables rules h.rules) none) in
     record {
       item = omega arith;
       rules = record {
@@ -123,13 +123,13 @@ one_more_table tick numbers tables here rules after item h adds none =
     append_assoc (x ∷ a) b c = ap (λ l. x ∷ l) (append_assoc a b c)
 
 pub fault_here : (tick : ℕ) (numbers : RuleNumbers) (all tables : List Data) (here : Data) (behind : List Data) (rules : List NamedTree) (item : ℕ) (told : Key × Cause) →
-    all ≡ tables ++ here ∷ behind → Stands tick numbers tables rules item → IsFaultBy (holds rules) tick item here (Some told) →
+    all ≡ tables ++ here ∷ behind → Stands tick numbers tables rules item → IsFaultBy (has_rule rules) tick item here (Some told) →
     IsFormulaFault tick all (Some told)
 fault_here tick numbers all tables here behind rules item told e h fault =
     let at = h.item in
     let fails : IsTableFault tick (tables, here) (Some told) =
-    subst (λ (n : ℕ). IsFaultBy (is_taken tables) tick n here (Some told)) at
-    (same_fault (holds rules) (is_taken tables) tick item here (Some told) (held_taken tick numbers tables rules h.rules) fault) in
+    subst (λ (n : ℕ). IsFaultBy (is_name_taken tables) tick n here (Some told)) at
+    (same_fault (has_rule rules) (is_name_taken tables) tick item here (Some told) (held_taken tick numbers tables rules h.rules) fault) in
     subst (λ (l : List Data). IsFormulaFault tick l (Some told)) (sym e)
     (subst (λ l. IsFound (IsTableFault tick) l (Some told)) (sym (with_before-append [] tables (here ∷ behind)))
     (first_behind (IsTableFault tick) (with_before [] tables) ((tables, here) ∷ with_before (tables ++ here ∷ []) behind) told h.faultless

@@ -5,7 +5,7 @@ use Rattle.toml.specs.Data.{Data, as_str}
 use Rattle.mtl_formulas.specs.FormulaTree.{FormulaTree}
 use Rattle.mtl_formulas.specs.FormulaReading.{tree}
 use Rattle.mtl_formulas.proofs.Meanings.{one_meaning}
-use Rattle.rule_set.specs.NamedTrees.{NamedTree, named, rules_of}
+use Rattle.rule_set.specs.NamedTrees.{NamedTree, rule_named, rules_of}
 use Rattle.rule_set.specs.declared.numbers.RuleNumbers.{RuleNumbers}
 use Rattle.scenario_keys.specs.FirstFaults.{with_before}
 use Rattle.scenario_keys.specs.ToldFaults.{fault_by, fault_by_at}
@@ -13,7 +13,7 @@ use Rattle.scenario_keys.specs.declared.key.Key.{Key}
 use Rattle.scenario_keys.specs.declared.cause.Cause.{Cause}
 use Rattle.scenario_keys.proofs.ForCallers.{one_found}
 use Rattle.scenario_keys.specs.KeyValues.{member_at}
-use Rattle.added_rules.specs.FormulaTables.{formula_cause, is_taken, name_cause, IsBytesCause, IsFormulaFault, IsStringCause, IsTableFault, IsTextCause, IsTextFault}
+use Rattle.added_rules.specs.FormulaTables.{formula_cause, is_name_taken, name_cause, IsBytesCause, IsFormulaFault, IsStringCause, IsTableFault, IsTextCause, IsTextFault}
 use Rattle.added_rules.specs.ScenarioRules.{total_weight, weight_cause, AreAdded, AreScenarioRules, IsWeightFault}
 
 one_bytes_cause : (tick : ℕ) (text : List ℕ) (a b : Option Cause) → IsBytesCause tick text a → IsBytesCause tick text b → a ≡ b
@@ -42,13 +42,13 @@ one_text_fault tick item None text a b h k =
 
 one_table_fault : (tick : ℕ) (pair : List Data × Data) (a b : Option (Key × Cause)) → IsTableFault tick pair a → IsTableFault tick pair b → a ≡ b
 one_table_fault tick (before, here) a b h k =
-    one_text_fault tick (length before) (name_cause (is_taken before) (member_at (codes "name") here)) (member_at (codes "text") here) a b h k
+    one_text_fault tick (length before) (name_cause (is_name_taken before) (member_at (codes "name") here)) (member_at (codes "text") here) a b h k
 
 pub one_formula_fault : (tick : ℕ) (tables : List Data) (a b : Option (Key × Cause)) → IsFormulaFault tick tables a → IsFormulaFault tick tables b → a ≡ b
 one_formula_fault tick tables a b h k = one_found (IsTableFault tick) (one_table_fault tick) (with_before [] tables) a b h k
 
 same_rule : (a b : NamedTree) → a.name ≡ b.name → a.tree ≡ b.tree → a ≡ b
-same_rule a b e f = λ i. named (e i) (f i)
+same_rule a b e f = λ i. rule_named (e i) (f i)
 
 one_tree : (s t : FormulaTree) → tree s ≡ tree t → s ≡ t
 one_tree s t e = cc

@@ -21,11 +21,11 @@ abbrev pub string_in : Option Data → List ℕ
 string_in None = []
 string_in (Some found) = string_of (as_str found)
 
-abbrev pub name_of : Data → List ℕ
-name_of here = string_in (member_at (codes "name") here)
+abbrev pub formula_name_in : Data → List ℕ
+formula_name_in here = string_in (member_at (codes "name") here)
 
-abbrev pub text_of : Data → List ℕ
-text_of here = string_in (member_at (codes "text") here)
+abbrev pub formula_text_in : Data → List ℕ
+formula_text_in here = string_in (member_at (codes "text") here)
 
 -- a name: a small letter, and then small letters, digits and _, 16 bytes at most
 
@@ -39,8 +39,8 @@ abbrev pub begins_small : List ℕ → Bool
 begins_small [] = false
 begins_small (first ∷ rest) = is_small_letter first
 
-abbrev pub is_name : List ℕ → Bool
-is_name name = nat_le (length name) 16 && (begins_small name && list_all is_name_byte name)
+abbrev pub is_rule_name : List ℕ → Bool
+is_rule_name name = nat_le (length name) 16 && (begins_small name && list_all is_name_byte name)
 
 -- the names of the eleven rules
 abbrev pub rule_names : List (List ℕ)
@@ -49,14 +49,14 @@ rule_names =
     ∷ codes "r17b" ∷ codes "r17c" ∷ []
 
 -- whether a rule has the name, or a formula of the tables before
-abbrev pub is_taken : List Data → List ℕ → Bool
-is_taken before name = list_any (λ taken. bytes_eq taken name) (rule_names ++ map name_of before)
+abbrev pub is_name_taken : List Data → List ℕ → Bool
+is_name_taken before name = list_any (λ taken. bytes_eq taken name) (rule_names ++ map formula_name_in before)
 
 -- the fault of a name, where these names are taken
 
 abbrev pub new_name_cause : (List ℕ → Bool) → Option (List ℕ) → Option Cause
 new_name_cause taken None = Some cause.Type_
-new_name_cause taken (Some name) = if is_name name && not (taken name) then None else Some cause.Range
+new_name_cause taken (Some name) = if is_rule_name name && not (taken name) then None else Some cause.Range
 
 abbrev pub name_cause : (List ℕ → Bool) → Option Data → Option Cause
 name_cause taken None = Some cause.Missing
@@ -98,7 +98,7 @@ IsFaultBy taken tick item here told =
     IsTextFault tick item (name_cause taken (member_at (codes "name") here)) (member_at (codes "text") here) told
 
 abbrev pub IsTableFault : ℕ → List Data × Data → Option (Key × Cause) → Type 0
-IsTableFault tick (before, here) told = IsFaultBy (is_taken before) tick (length before) here told
+IsTableFault tick (before, here) told = IsFaultBy (is_name_taken before) tick (length before) here told
 
 -- what the tests of all tables find, the first fault or none
 abbrev pub IsFormulaFault : ℕ → List Data → Option (Key × Cause) → Type 0

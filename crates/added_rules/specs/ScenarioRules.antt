@@ -9,12 +9,12 @@ use Rattle.scenario_keys.specs.ToldFaults.{fault_by}
 use Rattle.scenario_keys.specs.declared.key.Key.{Key}
 use Rattle.scenario_keys.specs.declared.cause.Cause.{Cause}
 use Rattle.scenario_keys.specs.declared.cause.Cause.TheVariants as cause
-use Rattle.added_rules.specs.FormulaTables.{name_of, text_of}
+use Rattle.added_rules.specs.FormulaTables.{formula_name_in, formula_text_in}
 
 -- The rule is the formula of a table, under the table's name.
 pub record IsAdded (tick : ℕ) (table : Data) (rule : NamedTree) : Type 0 where
-  pub name : rule.name ≡ name_of table
-  pub meaning : IsMeaning (text_of table) tick (tree rule.tree)
+  pub name : rule.name ≡ formula_name_in table
+  pub meaning : IsMeaning (formula_text_in table) tick (tree rule.tree)
 
 -- The rules are those of the tables, in their order.
 abbrev pub AreAdded : ℕ → List Data → List NamedTree → Type 0

@@ -2,8 +2,8 @@
 ghost use Rattle.std.specs.Prelude.{◌≡◌, option_map, false, Some, None, IfOk, IfErr};
 ghost use Rattle.std.specs.List.{list_all};
 ghost use Rattle.toml.specs.View.{view};
-ghost use Rattle.rule_set.specs.NamedTrees.{holds};
-ghost use Rattle.added_rules.specs.FormulaTables.{begins_small, is_name, is_name_byte, is_small_letter, name_cause, new_name_cause, string_in};
+ghost use Rattle.rule_set.specs.NamedTrees.{has_rule};
+ghost use Rattle.added_rules.specs.FormulaTables.{begins_small, is_rule_name, is_name_byte, is_small_letter, name_cause, new_name_cause, string_in};
 
 use rule_set::{Name, RuleSet};
 use scenario_keys::Cause;
@@ -38,7 +38,7 @@ fn are_name_bytes(bytes: &[u8]) -> bool
 
 /// A small letter, and then small letters, digits and `_`, at most 16 bytes.
 fn is_name(name: &[u8]) -> bool
-    ensures { result ≡ is_name name.now }
+    ensures { result ≡ is_rule_name name.now }
 {
     name.len() <= 16 && begins_small(name) && are_name_bytes(name)
 }
@@ -46,9 +46,9 @@ fn is_name(name: &[u8]) -> bool
 /// The name of these bytes, which no rule has.
 fn new_name(rules: &RuleSet, name: &[u8]) -> Result<Name, Cause>
     ensures name { IfOk result (λ n. n ≡ name.now) }
-    ensures new { IfOk result (λ n. holds rules.now name.now ≡ false) }
-    ensures faultless { IfOk result (λ _. new_name_cause (holds rules.now) (Some name.now) ≡ None) }
-    ensures fault { IfErr result (λ why. new_name_cause (holds rules.now) (Some name.now) ≡ Some why) }
+    ensures new { IfOk result (λ n. has_rule rules.now name.now ≡ false) }
+    ensures faultless { IfOk result (λ _. new_name_cause (has_rule rules.now) (Some name.now) ≡ None) }
+    ensures fault { IfErr result (λ why. new_name_cause (has_rule rules.now) (Some name.now) ≡ Some why) }
 {
     if is_name(name) && !rules.holds(name) {
         Ok(Name::of(name))
@@ -60,9 +60,9 @@ fn new_name(rules: &RuleSet, name: &[u8]) -> Result<Name, Cause>
 /// The name that stands there, which no rule has, or its fault.
 pub(crate) fn name_in(rules: &RuleSet, found: Option<&Value>) -> Result<Name, Cause>
     ensures name { IfOk result (λ n. n ≡ string_in (option_map (λ v. view v.now) found.entry)) }
-    ensures new { IfOk result (λ n. holds rules.now n ≡ false) }
-    ensures faultless { IfOk result (λ _. name_cause (holds rules.now) (option_map (λ v. view v.now) found.entry) ≡ None) }
-    ensures fault { IfErr result (λ why. name_cause (holds rules.now) (option_map (λ v. view v.now) found.entry) ≡ Some why) }
+    ensures new { IfOk result (λ n. has_rule rules.now n ≡ false) }
+    ensures faultless { IfOk result (λ _. name_cause (has_rule rules.now) (option_map (λ v. view v.now) found.entry) ≡ None) }
+    ensures fault { IfErr result (λ why. name_cause (has_rule rules.now) (option_map (λ v. view v.now) found.entry) ≡ Some why) }
 {
     match found {
         Some(found) => match found.as_str() {

@@ -2,7 +2,7 @@
 ghost use Rattle.std.specs.Prelude.{◌≡◌, ◌⊎◌, ◌≤◌, ◌<◌, nat_le, length, map, IfErr, IfOk, OnOk, Some, None};
 ghost use Rattle.toml.specs.View.{view};
 ghost use Rattle.mtl_formulas.specs.FormulaText.{IsTick};
-ghost use Rattle.rule_set.specs.NamedTrees.{holds, AreRules};
+ghost use Rattle.rule_set.specs.NamedTrees.{has_rule, AreRules};
 ghost use Rattle.rule_set.specs.RuleTrees.{AreRuleNumbers};
 ghost use Rattle.scenario_keys.specs.ToldFaults.{IfFault};
 ghost use Rattle.added_rules.specs.FormulaTables.{IsFaultBy, IsFormulaFault};
@@ -31,8 +31,8 @@ fn add_table(
     requires tick { IsTick tick }
     requires few { length rules.old < 17 }
     ensures added { OnOk result (Adds tick (view table.now) rules.old rules.new) }
-    ensures faultless { OnOk result (IsFaultBy (holds rules.old) tick item (view table.now) None) }
-    ensures fault { IfErr result (IfFault (λ told. IsFaultBy (holds rules.old) tick item (view table.now) (Some told))) }
+    ensures faultless { OnOk result (IsFaultBy (has_rule rules.old) tick item (view table.now) None) }
+    ensures fault { IfErr result (IfFault (λ told. IsFaultBy (has_rule rules.old) tick item (view table.now) (Some told))) }
 {
     let name = match name_in(rules, member(table, "name")) {
         Ok(name) => name,

@@ -5,7 +5,7 @@ use Rattle.std.proofs.Math.Pow.{pow_mono}
 use Rattle.std.proofs.lemmas.Grind.{flat_map-append}
 use Rattle.std.proofs.lemmas.Int.{ints}
 use Rattle.std.proofs.lemmas.Bool.Decides.{nat_tests}
-use Rattle.aivdm.specs.BitFields.{binary, complement, number_of, unsigned_at}
+use Rattle.aivdm.specs.BitFields.{binary, complement, bits_value, unsigned_at}
 use Rattle.aivdm.proofs.BitLists.{length-binary, number_of-binary}
 use Rattle.ais_messages.specs.MessageFields.{below, place_of}
 use Rattle.ais_messages.specs.PositionWriting.{AllFit, Fits, IfPlace, Written, bits_written, code_of, latitude_code, longitude_code}
@@ -39,12 +39,12 @@ written_at (f ∷ fs) zero width value found fits =
     let is : f ≡ (width, value) = cc found in
     let front : take width (binary width value ++ bits_written fs) ≡ binary width value =
     ap (λ n. take n (binary width value ++ bits_written fs)) (sym (length-binary width value)) ∙ take_front (binary width value) (bits_written fs) in
-    ap (λ (g : Written). number_of (take width (binary g.0 g.1 ++ bits_written fs))) is
-    ∙ ap number_of front ∙ number_of-binary width value ∙ mod-eq_of_lt fits
+    ap (λ (g : Written). bits_value (take width (binary g.0 g.1 ++ bits_written fs))) is
+    ∙ ap bits_value front ∙ number_of-binary width value ∙ mod-eq_of_lt fits
 written_at (f ∷ fs) (suc k) width value found fits =
     let behind : drop (f.0 + first_of fs k) (binary f.0 f.1 ++ bits_written fs) ≡ drop (first_of fs k) (bits_written fs) =
     ap (λ n. drop (n + first_of fs k) (binary f.0 f.1 ++ bits_written fs)) (sym (length-binary f.0 f.1)) ∙ drop_front (binary f.0 f.1) (bits_written fs) (first_of fs k) in
-    ap (λ (l : List Bool). number_of (take width l)) behind ∙ written_at fs k width value found fits
+    ap (λ (l : List Bool). bits_value (take width l)) behind ∙ written_at fs k width value found fits
 
 pub half_power : (width : ℕ) → 1 ≤ width → 2 ^ (width - 1) ≤ 2 ^ width
 half_power width some = let less : width - 1 ≤ width = omega arith in pow_mono less

@@ -8,15 +8,15 @@ use Rattle.std.proofs.Math.Nat.{mul-div_cancel, mul-le-mul_right, div-lt_iff_lt-
 use Rattle.std.proofs.Math.Pow.{pow_mono}
 use Rattle.std.proofs.Math.Seq.{take-append-add, get_or-append_seam}
 use Rattle.std.specs.Option.{option_to_list}
-use Rattle.aivdm.specs.BitFields.{binary, number_of}
+use Rattle.aivdm.specs.BitFields.{binary, bits_value}
 use Rattle.aivdm.specs.PayloadBits.{bits_of}
 use Rattle.aivdm.specs.Inner.Sextets.{bits_in, sextets_of, AreSextets}
 use Rattle.aivdm.proofs.Payloads.{bits_of-cut}
 use Rattle.aivdm.proofs.BitLists.{length-binary, number_of-append, number_of-below, number_of-binary, length-bits_in}
 
 -- bits are the same where they are as many and stand for one number
-pub same_bits : (xs ys : List Bool) → length xs ≡ length ys → number_of xs ≡ number_of ys → xs ≡ ys
-unfolding number_of
+pub same_bits : (xs ys : List Bool) → length xs ≡ length ys → bits_value xs ≡ bits_value ys → xs ≡ ys
+unfolding bits_value
 same_bits [] [] l e = refl
 same_bits [] (y ∷ ys) l e = absurd (omega arith)
 same_bits (x ∷ xs) [] l e = absurd (omega arith)

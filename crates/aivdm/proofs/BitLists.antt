@@ -4,7 +4,7 @@ use Rattle.std.proofs.lemmas.List.{take-append-le, drop-append-le, drop-take, dr
 use Rattle.std.proofs.lemmas.Grind.{flat_map-append}
 use Rattle.std.proofs.lemmas.Nat.{mod-pow-add, div-mul-add, mod_low}
 use Rattle.std.specs.Int.{bit_at}
-use Rattle.aivdm.specs.BitFields.{binary, number_of, unsigned_at}
+use Rattle.aivdm.specs.BitFields.{binary, bits_value, unsigned_at}
 use Rattle.aivdm.specs.Inner.Sextets.{bits_in}
 
 -- ---- numbers and their bits
@@ -14,15 +14,15 @@ unfolding binary
 length-binary zero n = refl
 length-binary (suc width) n = ap suc (length-binary width n)
 
-pub number_of-append : (xs ys : List Bool) → number_of (xs ++ ys) ≡ number_of xs * 2 ^ length ys + number_of ys
-unfolding number_of
+pub number_of-append : (xs ys : List Bool) → bits_value (xs ++ ys) ≡ bits_value xs * 2 ^ length ys + bits_value ys
+unfolding bits_value
 number_of-append [] ys = omega (arith, zero-mul (2 ^ length ys))
 number_of-append (true ∷ xs) ys =
     grind (arith, number_of-append xs ys, length-append xs ys, pow-add 2 (length xs) (length ys))
 number_of-append (false ∷ xs) ys = grind (arith, number_of-append xs ys)
 
-pub number_of-below : (xs : List Bool) → number_of xs < 2 ^ length xs
-unfolding number_of
+pub number_of-below : (xs : List Bool) → bits_value xs < 2 ^ length xs
+unfolding bits_value
 number_of-below [] = omega arith
 number_of-below (true ∷ xs) = grind (arith, number_of-below xs, pow-add 2 1 (length xs))
 number_of-below (false ∷ xs) = grind (arith, number_of-below xs, pow-add 2 1 (length xs))
@@ -32,14 +32,14 @@ bit_times zero place h = omega (arith, zero-mul place)
 bit_times (suc zero) place h = omega (arith, one-mul place)
 bit_times (suc (suc bit)) place h = absurd (omega arith)
 
-pub number_of-binary : (width n : ℕ) → number_of (binary width n) ≡ n % 2 ^ width
-unfolding binary number_of
+pub number_of-binary : (width n : ℕ) → bits_value (binary width n) ≡ n % 2 ^ width
+unfolding binary bits_value
 number_of-binary zero n = omega arith
 number_of-binary (suc width) n =
     let bit = bit_times (bit_at n width) (2 ^ width) (mod-lt (n / 2 ^ width) (lit< tt)) in
     rw (length-binary width n, bit, number_of-binary width n) (rw (← one-add width, mod-pow-add n 1 width) refl)
 
-pub number_of-six : (n : ℕ) → n < 64 → number_of (binary 6 n) ≡ n
+pub number_of-six : (n : ℕ) → n < 64 → bits_value (binary 6 n) ≡ n
 number_of-six n h = number_of-binary 6 n ∙ mod-eq_of_lt h
 
 -- ---- a field is what a division leaves
@@ -50,7 +50,7 @@ middle_number front middle back width after m b =
     = grind (arith, pow-add 2 width after) in
     rw regrouped (rw (div-mul-add (front * 2 ^ width + middle) (2 ^ after) back b) (mod_low front width middle m))
 
-pub number_of-middle : (xs : List Bool) (r width after : ℕ) → r + width + after ≡ length xs → number_of xs / 2 ^ after % 2 ^ width ≡ number_of (take width (drop r xs))
+pub number_of-middle : (xs : List Bool) (r width after : ℕ) → r + width + after ≡ length xs → bits_value xs / 2 ^ after % 2 ^ width ≡ bits_value (take width (drop r xs))
 number_of-middle xs r width after h =
     let front = take r xs in
     let rest = drop r xs in
@@ -61,9 +61,9 @@ number_of-middle xs r width after h =
     let middle_length : length middle ≡ width = omega (arith, length-take width rest) in
     let back_length : length back ≡ after = omega (arith, length-drop width rest) in
     let joined_length : length (middle ++ back) ≡ width + after = omega (arith, length-append middle back) in
-    let number : number_of xs ≡ number_of front * 2 ^ (width + after) + (number_of middle * 2 ^ after + number_of back)
-    = ap number_of split ∙ number_of-append front (middle ++ back) ∙ rw (joined_length, number_of-append middle back, back_length) refl in
-    rw number (middle_number (number_of front) (number_of middle) (number_of back) width after (subst (λ (n : ℕ). number_of middle < 2 ^ n) middle_length (number_of-below middle)) (subst (λ (n : ℕ). number_of back < 2 ^ n) back_length (number_of-below back)))
+    let number : bits_value xs ≡ bits_value front * 2 ^ (width + after) + (bits_value middle * 2 ^ after + bits_value back)
+    = ap bits_value split ∙ number_of-append front (middle ++ back) ∙ rw (joined_length, number_of-append middle back, back_length) refl in
+    rw number (middle_number (bits_value front) (bits_value middle) (bits_value back) width after (subst (λ (n : ℕ). bits_value middle < 2 ^ n) middle_length (number_of-below middle)) (subst (λ (n : ℕ). bits_value back < 2 ^ n) back_length (number_of-below back)))
 
 -- ---- six bits to a number
 
@@ -79,9 +79,9 @@ drop-bits_in (suc n) (s ∷ sextets) =
     rw (six_more, ← drop-drop (6 * n) 6 (bits_in (s ∷ sextets)), drop_at (binary 6 s) (bits_in sextets) 6 (length-binary 6 s)) (drop-bits_in n sextets)
 
 -- one number more
-pub number_of-bits_in_push : (sextets : List ℕ) (s : ℕ) → s < 64 → number_of (bits_in (sextets ++ s ∷ [])) ≡ number_of (bits_in sextets) * 64 + s
+pub number_of-bits_in_push : (sextets : List ℕ) (s : ℕ) → s < 64 → bits_value (bits_in (sextets ++ s ∷ [])) ≡ bits_value (bits_in sextets) * 64 + s
 number_of-bits_in_push sextets s h =
-    ap number_of (flat_map-append (binary 6) sextets (s ∷ []))
+    ap bits_value (flat_map-append (binary 6) sextets (s ∷ []))
     ∙ number_of-append (bits_in sextets) (binary 6 s ++ [])
     ∙ rw (append-nil (binary 6 s), length-binary 6 s, number_of-six s h) refl
 
@@ -102,7 +102,7 @@ field-bits_in sextets len first width a r e place within wide there =
     = omega (arith, length-bits_in part, length-take (e - a) (drop a sextets), length-drop a sextets) in
     cut ∙ ap (take width) from ∙ rw (parts, drop-append-le r (bits_in part) (bits_in (drop (e - a) (drop a sextets))) (omega arith)) (take-append-le width (drop r (bits_in part)) (bits_in (drop (e - a) (drop a sextets))) (omega (arith, length-drop r (bits_in part))))
 
-pub number_of-bits_in_below : (sextets : List ℕ) (n : ℕ) → length sextets ≤ n → number_of (bits_in sextets) < 2 ^ (6 * n)
+pub number_of-bits_in_below : (sextets : List ℕ) (n : ℕ) → length sextets ≤ n → bits_value (bits_in sextets) < 2 ^ (6 * n)
 number_of-bits_in_below sextets n h =
     let below = number_of-below (bits_in sextets) in
     let few : length (bits_in sextets) ≤ 6 * n = omega (arith, length-bits_in sextets) in
@@ -114,7 +114,7 @@ length-take_bits_in sextets len h = omega (arith, length-take len (bits_in sexte
 
 -- the number in a field, from that of the sextets in which it lies
 pub unsigned_at-bits_in : (sextets : List ℕ) (len first width : ℕ) → 1 ≤ width → first + width ≤ len → len ≤ 6 * length sextets
-    → number_of (bits_in (slice_range sextets (first / 6) ((first + width - 1) / 6 + 1))) / 2 ^ (5 - (first + width - 1) % 6) % 2 ^ width
+    → bits_value (bits_in (slice_range sextets (first / 6) ((first + width - 1) / 6 + 1))) / 2 ^ (5 - (first + width - 1) % 6) % 2 ^ width
     ≡ unsigned_at (take len (bits_in sextets)) first width
 unsigned_at-bits_in sextets len first width some within there =
     let last = first + width - 1 in
@@ -127,4 +127,4 @@ unsigned_at-bits_in sextets len first width some within there =
     = omega (arith, length-bits_in part, length-take (e - a) (drop a sextets), length-drop a sextets) in
     let places : r + width + (5 - last % 6) ≡ 6 * (e - a) = omega arith in
     number_of-middle (bits_in part) r width (5 - last % 6) (places ∙ sym part_length)
-    ∙ ap number_of (sym (field-bits_in sextets len first width a r e (omega arith) within (omega arith) inside))
+    ∙ ap bits_value (sym (field-bits_in sextets len first width a r e (omega arith) within (omega arith) inside))

@@ -11,7 +11,7 @@ use Rattle.std.specs.Str.{all_ascii_digits}
 use Rattle.std.specs.Str.Parse.{digits_value}
 use Rattle.aivdm.specs.Checksums.{sum_of, hexadecimal}
 use Rattle.aivdm.specs.Inner.LineCuts.{◌>>=◌, told_or, before_byte, after_byte, time_of, time_in, first_time, stamp_among, stamp_in, block_end, block_at, tag_at}
-use Rattle.aivdm.specs.TagBlocks.{is_field_byte, tells_time, AreTimeDigits, IsTagField, seconds_of, stamp_of, TagBlock, content_of, block_text, IsTagBlock, HasTagBlock, IsTagged}
+use Rattle.aivdm.specs.TagBlocks.{is_field_byte, tells_time, AreTimeDigits, IsTagField, seconds_of, block_stamp, TagBlock, block_content, block_text, IsTagBlock, HasTagBlock, IsTagged}
 use Rattle.aivdm.specs.declared.sentence.LineCause.{LineCause}
 use Rattle.aivdm.specs.declared.sentence.LineCause.TheVariants.{Tag}
 use Rattle.aivdm.proofs.Cuts.{Lacks, before-cut, after-cut, cut-whole, before-lacks}
@@ -165,10 +165,10 @@ first_of_none None = refl
 first_of_none (Some time) = refl
 
 -- what the first of some fields tells, before what the others tell
-stamp_cons : (field : List ℕ) (fields : List (List ℕ)) → stamp_of (field ∷ fields) ≡ first_time (told_time field) (stamp_of fields)
+stamp_cons : (field : List ℕ) (fields : List (List ℕ)) → block_stamp (field ∷ fields) ≡ first_time (told_time field) (block_stamp fields)
 stamp_cons field fields = by_test (tells_time field) refl
   where
-    by_test : (t : Bool) → tells_time field ≡ t → stamp_of (field ∷ fields) ≡ first_time (told_time field) (stamp_of fields)
+    by_test : (t : Bool) → tells_time field ≡ t → block_stamp (field ∷ fields) ≡ first_time (told_time field) (block_stamp fields)
     by_test true e = rw e refl
     by_test false e = rw e refl
 
@@ -180,7 +180,7 @@ first_first (Some a) b c = refl
 abbrev pub AreRead : List (List ℕ) → Type 0
 AreRead fields = AllByRecursion (λ field. (1 ≤ length field) × (IsTrue (tells_time field) → AreTimeDigits (drop 2 field))) fields
 
-stamps_read : (s : Option ℕ) (fields : List (List ℕ)) (stamp : Option ℕ) → stamp_among s fields ≡ Ok stamp → AreRead fields × (stamp ≡ first_time s (stamp_of fields))
+stamps_read : (s : Option ℕ) (fields : List (List ℕ)) (stamp : Option ℕ) → stamp_among s fields ≡ Ok stamp → AreRead fields × (stamp ≡ first_time s (block_stamp fields))
 stamps_read s [] stamp e = let is : stamp ≡ s = cc in (tt, is ∙ sym (first_of_none s))
 stamps_read s (field ∷ fields) stamp e =
     let step = bind_ok (time_in field) (λ time. stamp_among (first_time s time) fields) stamp e in
@@ -188,16 +188,16 @@ stamps_read s (field ∷ fields) stamp e =
     let others = stamps_read (first_time s step.0) fields stamp step.2 in (
       ((read.some, read.digits), others.0),
       others.1
-          ∙ first_first s step.0 (stamp_of fields)
-          ∙ ap (first_time s) (ap (λ (t : Option ℕ). first_time t (stamp_of fields)) read.time_is ∙ sym (stamp_cons field fields)),
+          ∙ first_first s step.0 (block_stamp fields)
+          ∙ ap (first_time s) (ap (λ (t : Option ℕ). first_time t (block_stamp fields)) read.time_is ∙ sym (stamp_cons field fields)),
     )
 
-stamps_again : (s : Option ℕ) (fields : List (List ℕ)) → AreRead fields → stamp_among s fields ≡ Ok (first_time s (stamp_of fields))
+stamps_again : (s : Option ℕ) (fields : List (List ℕ)) → AreRead fields → stamp_among s fields ≡ Ok (first_time s (block_stamp fields))
 stamps_again s [] all = ap Ok (sym (first_of_none s))
 stamps_again s (field ∷ fields) all =
     bind_at (time_in field) (λ time. stamp_among (first_time s time) fields) (told_time field) (time_again field all.0.0 all.0.1)
     ∙ stamps_again (first_time s (told_time field)) fields all.1
-    ∙ ap Ok (first_first s (told_time field) (stamp_of fields) ∙ ap (first_time s) (sym (stamp_cons field fields)))
+    ∙ ap Ok (first_first s (told_time field) (block_stamp fields) ∙ ap (first_time s) (sym (stamp_cons field fields)))
 
 -- ---- fields of their form
 
@@ -323,10 +323,10 @@ splits_again : (fields : List (List ℕ)) → 1 ≤ length fields → AllByRecur
 splits_again [] some all = absurd (omega arith)
 splits_again (field ∷ fields) some all = split_joined field fields all
 
-block_again : (block : TagBlock) (rest : List ℕ) → IsTagBlock block → block_at (content_of block ++ 42 ∷ block.high ∷ block.low ∷ 92 ∷ rest) ≡ Ok (stamp_of block.fields, rest)
+block_again : (block : TagBlock) (rest : List ℕ) → IsTagBlock block → block_at (block_content block ++ 42 ∷ block.high ∷ block.low ∷ 92 ∷ rest) ≡ Ok (block_stamp block.fields, rest)
 unfolding block_at stamp_in with_stamp
 block_again block rest form =
-    let content = content_of block in
+    let content = block_content block in
     let behind = block.high ∷ block.low ∷ 92 ∷ rest in
     let bytes = content ++ 42 ∷ behind in
     let forms = recursion_from_All IsTagField block.fields form.fields in
@@ -336,14 +336,14 @@ block_again block rest form =
     let end : ℕ × List ℕ = (sum_of content, rest) in
     let end_is : block_end (after_byte 42 bytes) ≡ Ok end
     = ap block_end (after-cut 42 content behind lacks.0) ∙ end_block_again block.high block.low (sum_of content) rest form.sum in
-    let stamp_is : stamp_in content ≡ Ok (stamp_of block.fields)
+    let stamp_is : stamp_in content ≡ Ok (block_stamp block.fields)
     = cond-true _ (stamp_among None (slice_split (λ byte. byte == 44) content)) (Err Tag) (slash_test content lacks.1)
     ∙ ap (stamp_among None) (splits_again block.fields form.some field_bytes)
     ∙ stamps_again None block.fields (form_read block.fields forms) in
     bind_at (block_end (after_byte 42 bytes)) (with_stamp (before_byte 42 bytes)) end end_is
     ∙ ap (λ (c : List ℕ). with_stamp c end) before
     ∙ cond-true _ (stamp_in content >>= λ stamp. Ok (stamp, rest)) (Err Tag) (eq-eqb (sum_of content) (sum_of content) refl)
-    ∙ bind_at (stamp_in content) (λ stamp. Ok (stamp, rest)) (stamp_of block.fields) stamp_is
+    ∙ bind_at (stamp_in content) (λ stamp. Ok (stamp, rest)) (block_stamp block.fields) stamp_is
 
 -- ---- the line
 
@@ -376,10 +376,10 @@ unfolding tag_at
 plain_again [] plain = refl
 plain_again (byte ∷ bytes) plain = cond-false _ (block_at bytes) (Ok (untagged (byte ∷ bytes))) (ne_eqb byte 92 (λ is. plain (ap Some is)))
 
-tagged_again : (block : TagBlock) (rest : List ℕ) → IsTagBlock block → tag_at (block_text block ++ rest) ≡ Ok (stamp_of block.fields, rest)
+tagged_again : (block : TagBlock) (rest : List ℕ) → IsTagBlock block → tag_at (block_text block ++ rest) ≡ Ok (block_stamp block.fields, rest)
 unfolding tag_at
 tagged_again block rest form =
-    ap tag_at (append_assoc (92 ∷ content_of block) (42 ∷ block.high ∷ block.low ∷ 92 ∷ []) rest) ∙ block_again block rest form
+    ap tag_at (append_assoc (92 ∷ block_content block) (42 ∷ block.high ∷ block.low ∷ 92 ∷ []) rest) ∙ block_again block rest form
 
 pub tag_again : (line : List ℕ) (stamp : Option ℕ) (rest : List ℕ) → IsTagged line stamp rest → tag_at line ≡ Ok (stamp, rest)
 tag_again line stamp rest (inl none) = plain_again line none.plain ∙ rw (none.whole, none.time) refl

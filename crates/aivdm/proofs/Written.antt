@@ -5,7 +5,7 @@ use Rattle.std.proofs.lemmas.Bool.Decides.{nat_tests}
 use Rattle.std.proofs.lemmas.List.{take_at, length-replicate}
 use Rattle.std.proofs.lemmas.List.Elements.{All-cons, All-nil}
 use Rattle.std.proofs.lemmas.Nat.{pow_pos}
-use Rattle.aivdm.specs.BitFields.{binary, number_of}
+use Rattle.aivdm.specs.BitFields.{binary, bits_value}
 use Rattle.aivdm.specs.PayloadBits.{bits_of, is_armour, six_bits}
 use Rattle.aivdm.specs.SentenceWriting.{fill_of}
 use Rattle.aivdm.specs.Armouring.{armour_of, payload_of}
@@ -15,7 +15,7 @@ use Rattle.aivdm.proofs.Payloads.{bits_of-all, bits_of-cut, length-bits_of}
 
 -- ---- the payload, byte by byte
 
-pub payload_six : (bits : List Bool) → 6 ≤ length bits → payload_of bits ≡ armour_of (number_of (take 6 bits)) ∷ payload_of (drop 6 bits)
+pub payload_six : (bits : List Bool) → 6 ≤ length bits → payload_of bits ≡ armour_of (bits_value (take 6 bits)) ∷ payload_of (drop 6 bits)
 unfolding payload_of
 payload_six [] long = absurd (omega arith)
 payload_six (a ∷ []) long = absurd (omega arith)
@@ -25,7 +25,7 @@ payload_six (a ∷ b ∷ c ∷ d ∷ []) long = absurd (omega arith)
 payload_six (a ∷ b ∷ c ∷ d ∷ e ∷ []) long = absurd (omega arith)
 payload_six (a ∷ b ∷ c ∷ d ∷ e ∷ f ∷ bits) long = refl
 
-pub payload_rest : (bits : List Bool) → 0 < length bits → length bits < 6 → payload_of bits ≡ armour_of (number_of bits * 2 ^ (6 - length bits)) ∷ []
+pub payload_rest : (bits : List Bool) → 0 < length bits → length bits < 6 → payload_of bits ≡ armour_of (bits_value bits * 2 ^ (6 - length bits)) ∷ []
 unfolding payload_of
 payload_rest [] some few = absurd (omega arith)
 payload_rest (a ∷ []) some few = refl
@@ -56,28 +56,28 @@ sextet_back n small = grind (arith, nat_tests)
 armour_is : (n : ℕ) → n < 64 → is_armour (armour_of n) ≡ true
 armour_is n small = grind (arith, nat_tests)
 
-number_below : (bits : List Bool) → length bits ≡ 6 → number_of bits < 64
+number_below : (bits : List Bool) → length bits ≡ 6 → bits_value bits < 64
 number_below bits six = let below = number_of-below bits in let power : 2 ^ length bits ≡ 64 = ap (λ (n : ℕ). 2 ^ n) six in omega arith
 
 -- a sextet's bits again
-chunk : (bits : List Bool) → length bits ≡ 6 → binary 6 (six_bits (armour_of (number_of bits))) ≡ bits
+chunk : (bits : List Bool) → length bits ≡ 6 → binary 6 (six_bits (armour_of (bits_value bits))) ≡ bits
 chunk bits six =
-    ap (binary 6) (sextet_back (number_of bits) (number_below bits six))
-    ∙ same_bits (binary 6 (number_of bits)) bits (length-binary 6 (number_of bits) ∙ sym six)
-    (number_of-binary 6 (number_of bits) ∙ mod-eq_of_lt (number_below bits six))
+    ap (binary 6) (sextet_back (bits_value bits) (number_below bits six))
+    ∙ same_bits (binary 6 (bits_value bits)) bits (length-binary 6 (bits_value bits) ∙ sym six)
+    (number_of-binary 6 (bits_value bits) ∙ mod-eq_of_lt (number_below bits six))
 
-zeros_number : (n : ℕ) → number_of (replicate n false) ≡ 0
-unfolding number_of
+zeros_number : (n : ℕ) → bits_value (replicate n false) ≡ 0
+unfolding bits_value
 zeros_number zero = refl
 zeros_number (suc n) = omega (arith, zeros_number n)
 
 -- the bits of the last sextet again, and zeros
 last_chunk : (bits : List Bool) → 0 < length bits → length bits < 6
-    → binary 6 (six_bits (armour_of (number_of bits * 2 ^ (6 - length bits)))) ≡ bits ++ replicate (6 - length bits) false
+    → binary 6 (six_bits (armour_of (bits_value bits * 2 ^ (6 - length bits)))) ≡ bits ++ replicate (6 - length bits) false
 last_chunk bits some few =
     let blank = 6 - length bits in
-    let raised = number_of bits * 2 ^ blank in
-    let small : raised < 64 = raised_below (number_of bits) (length bits) (number_of-below bits) (omega arith) in
+    let raised = bits_value bits * 2 ^ blank in
+    let small : raised < 64 = raised_below (bits_value bits) (length bits) (number_of-below bits) (omega arith) in
     ap (binary 6) (sextet_back raised small)
     ∙ same_bits (binary 6 raised) (bits ++ replicate blank false)
     (length-binary 6 raised ∙ omega (arith, length-append bits (replicate blank false), length-replicate blank false))
@@ -98,7 +98,7 @@ payload_empty (bit ∷ bits) none = absurd (omega arith)
 
 payload_short : (bits : List Bool) → 0 < length bits → length bits < 6 → flat_map armour_bits (payload_of bits) ≡ bits ++ replicate (fill_of bits) false
 payload_short bits some few =
-    let byte = armour_of (number_of bits * 2 ^ (6 - length bits)) in
+    let byte = armour_of (bits_value bits * 2 ^ (6 - length bits)) in
     let fill : 6 - length bits ≡ fill_of bits = omega arith in
     ap (flat_map armour_bits) (payload_rest bits some few)
     ∙ append-nil (armour_bits byte)
@@ -156,12 +156,12 @@ payload_armour_by (suc n) bits few =
           elim (cases_eq (length bits) 0) [
             | inl none ↦ subst (All P) (sym (payload_none bits none)) (All-nil P)
             | inr some ↦
-                let raised = number_of bits * 2 ^ (6 - length bits) in
+                let raised = bits_value bits * 2 ^ (6 - length bits) in
                 subst (All P) (sym (payload_rest bits (omega arith) short))
-                (All-cons P (armour_of raised) [] (armour_is raised (raised_below (number_of bits) (length bits) (number_of-below bits) (omega arith))) (All-nil P))
+                (All-cons P (armour_of raised) [] (armour_is raised (raised_below (bits_value bits) (length bits) (number_of-below bits) (omega arith))) (All-nil P))
           ]
       | inr long ↦
-          let number = number_of (take 6 bits) in
+          let number = bits_value (take 6 bits) in
           subst (All P) (sym (payload_six bits long))
           (All-cons P (armour_of number) (payload_of (drop 6 bits)) (armour_is number (number_below (take 6 bits) (omega (arith, length-take 6 bits))))
           (payload_armour_by n (drop 6 bits) (omega (arith, length-drop 6 bits))))

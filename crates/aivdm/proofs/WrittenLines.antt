@@ -17,7 +17,7 @@ use Rattle.aivdm.specs.LineReading.{SentenceText, summed, sentence_text, HasForm
 use Rattle.aivdm.specs.PayloadBits.{is_armour}
 use Rattle.aivdm.specs.SentenceWriting.{hexadecimal_digit, sum_text, tag_text, sentence_content, line_text, fill_of, IsWritten}
 use Rattle.aivdm.specs.Sentences.{SentenceFields}
-use Rattle.aivdm.specs.TagBlocks.{is_field_byte, IsTagField, seconds_of, stamp_of, TagBlock, block_text, IsTagBlock, IsTagged}
+use Rattle.aivdm.specs.TagBlocks.{is_field_byte, IsTagField, seconds_of, block_stamp, TagBlock, block_text, IsTagBlock, IsTagged}
 use Rattle.aivdm.proofs.Digits.{numerals, digits_tests}
 use Rattle.aivdm.proofs.Written.{payload_bits, payload_size, payload_unfilled, payload_armour}
 
@@ -96,7 +96,7 @@ time_is stamp small = record {
   sum = hexadecimal_again (sum_of (time_content stamp)) (content_below stamp small);
 }
 
-time_stamp : (stamp : ℕ) → stamp < 100_000_000_000 → stamp_of (time_block stamp).fields ≡ Some stamp
+time_stamp : (stamp : ℕ) → stamp < 100_000_000_000 → block_stamp (time_block stamp).fields ≡ Some stamp
 unfolding time_block time_content
 time_stamp stamp small =
     ap (λ (time : ℕ). Some (seconds_of time)) (digits_value-decimal numerals stamp (omega arith))

@@ -8,9 +8,9 @@ binary zero n = []
 binary (suc width) n = (bit_at n width == 1) ∷ binary width n
 
 -- the number that bits stand for, the highest first
-unfoldable pub number_of : List Bool → ℕ
-number_of [] = 0
-number_of (bit ∷ bits) = (if bit then 2 ^ length bits else 0) + number_of bits
+unfoldable pub bits_value : List Bool → ℕ
+bits_value [] = 0
+bits_value (bit ∷ bits) = (if bit then 2 ^ length bits else 0) + bits_value bits
 
 -- so many bits, from a place on that is counted from 0
 abbrev pub field : List Bool → ℕ → ℕ → List Bool
@@ -18,7 +18,7 @@ field bits first width = take width (drop first bits)
 
 -- a field without a sign
 abbrev pub unsigned_at : List Bool → ℕ → ℕ → ℕ
-unsigned_at bits first width = number_of (field bits first width)
+unsigned_at bits first width = bits_value (field bits first width)
 
 -- a number of so many bits in two's complement: those from 2 ^ (width - 1) on stand for what they are less 2 ^ width
 abbrev pub complement : ℕ → ℕ → ℤ

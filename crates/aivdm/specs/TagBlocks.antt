@@ -31,8 +31,8 @@ abbrev pub seconds_of : ℕ → ℕ
 seconds_of time = if nat_lt time 100_000_000_000 then time else time / 1000
 
 -- the time in the first of the fields that tell one
-abbrev pub stamp_of : List (List ℕ) → Option ℕ
-stamp_of fields = option_map (λ field. seconds_of (digits_value 10 (drop 2 field))) (find tells_time fields)
+abbrev pub block_stamp : List (List ℕ) → Option ℕ
+block_stamp fields = option_map (λ field. seconds_of (digits_value 10 (drop 2 field))) (find tells_time fields)
 
 -- a tag block: its fields, and the two digits of its sum
 pub record TagBlock : Type 0 where
@@ -41,24 +41,24 @@ pub record TagBlock : Type 0 where
   pub low : ℕ
 
 -- the fields with commas between them, over which the sum goes
-abbrev pub content_of : TagBlock → List ℕ
-content_of block = join_with_byte 44 block.fields
+abbrev pub block_content : TagBlock → List ℕ
+block_content block = join_with_byte 44 block.fields
 
 -- as it stands in a line, between two backslashes
 abbrev pub block_text : TagBlock → List ℕ
-block_text block = 92 ∷ content_of block ++ 42 ∷ block.high ∷ block.low ∷ 92 ∷ []
+block_text block = 92 ∷ block_content block ++ 42 ∷ block.high ∷ block.low ∷ 92 ∷ []
 
 -- one or more fields of their form, and the right sum
 pub record IsTagBlock (block : TagBlock) : Type 0 where
   pub some : 1 ≤ length block.fields
   pub fields : All IsTagField block.fields
-  pub sum : hexadecimal block.high block.low ≡ Some (sum_of (content_of block))
+  pub sum : hexadecimal block.high block.low ≡ Some (sum_of (block_content block))
 
 -- the line is this tag block and the rest
 pub record HasTagBlock (line : List ℕ) (stamp : Option ℕ) (rest : List ℕ) (block : TagBlock) : Type 0 where
   pub split : line ≡ block_text block ++ rest
   pub form : IsTagBlock block
-  pub time : stamp ≡ stamp_of block.fields
+  pub time : stamp ≡ block_stamp block.fields
 
 -- A line that does not begin with a backslash has no tag block: all of it is the rest.
 pub record HasNoTagBlock (line : List ℕ) (stamp : Option ℕ) (rest : List ℕ) : Type 0 where

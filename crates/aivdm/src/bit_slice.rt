@@ -1,6 +1,6 @@
 //! The bits of a message, in place.
 ghost use Rattle.std.specs.Prelude.{◌≡◌, ◌==◌, ◌+◌, ◌*◌, ◌^◌, ◌<◌, ◌≤◌, ◌++◌, drop, length, map, take, All, IsTrue};
-ghost use Rattle.aivdm.specs.BitFields.{number_of, signed_at, unsigned_at};
+ghost use Rattle.aivdm.specs.BitFields.{bits_value, signed_at, unsigned_at};
 ghost use Rattle.aivdm.specs.PayloadBits.{bits_of, is_armour, six_bits};
 ghost use Rattle.aivdm.specs.Sentences.{fields_seen, IsSentence};
 ghost use Rattle.aivdm.specs.Inner.Sextets.{bits_in};
@@ -83,7 +83,7 @@ impl<'a> BitSlice<'a> {
 fn number(sextets: &[u8]) -> u64
     requires few { length sextets.now ≤ 10 }
     requires six { All (λ sextet. sextet < 64) sextets.now }
-    ensures { result ≡ number_of (bits_in sextets.now) }
+    ensures { result ≡ bits_value (bits_in sextets.now) }
 {
     let mut number = 0;
     for sextet in sextets {

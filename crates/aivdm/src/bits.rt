@@ -1,7 +1,7 @@
 //! The bits of a message.
 ghost use Rattle.std.specs.Prelude.{◌≡◌, ◌==◌, ◌+◌, ◌-◌, ◌*◌, ◌/◌, ◌%◌, ◌^◌, ◌<◌, ◌≤◌, ◌++◌, [], length, map, take, All, IfNone, IfOk, IfSome, IsOk, IsTrue, OnOk, OnErr};
 ghost use Rattle.smallvec.specs.SmallVec.{small_vec_len, HasRoomFor};
-ghost use Rattle.aivdm.specs.BitFields.{binary, number_of, signed_at, unsigned_at};
+ghost use Rattle.aivdm.specs.BitFields.{binary, bits_value, signed_at, unsigned_at};
 ghost use Rattle.aivdm.specs.PayloadBits.{bits_of, is_armour, six_bits};
 ghost use Rattle.aivdm.specs.Inner.Sextets.{bits_in, sextets_of, AreSextets};
 

@@ -7,7 +7,7 @@ use Rattle.sectors.specs.declared.class.Class.{Class}
 use Rattle.sectors.specs.declared.class.Class.TheVariants as class
 use Rattle.meetings.specs.declared.pair.Pair.{Pair}
 use Rattle.audit_traces.specs.declared.total.Total.{Total}
-use Rattle.judged_lines.specs.LineOutcomes.{name_of}
+use Rattle.judged_lines.specs.LineOutcomes.{outcome_name}
 use Rattle.judged_lines.specs.declared.outcome.LineOutcome.{LineOutcome}
 use Rattle.audit_report.specs.CsvRows.{optional_decimal, row_of}
 use Rattle.audit_report.specs.declared.report_row.ReportRow.{ReportRow}
@@ -63,7 +63,7 @@ total_fields name total =
 
 -- how many lines came to an outcome
 abbrev pub count_fields : LineOutcome → ℕ → Fields
-count_fields outcome count = codes "lines" ∷ name_of outcome ∷ decimal count ∷ [] ∷ [] ∷ [] ∷ [] ∷ []
+count_fields outcome count = codes "lines" ∷ outcome_name outcome ∷ decimal count ∷ [] ∷ [] ∷ [] ∷ [] ∷ []
 
 -- the plan's number, the leg, course and speed on it, and its first and its last tick
 abbrev pub plan_fields : ℕ → ℕ → ℕ → ℕ → ℕ → ℕ → Fields
@@ -75,16 +75,16 @@ abbrev pub no_plan_fields : ℕ → Fields
 no_plan_fields plans = codes "none" ∷ decimal plans ∷ [] ∷ [] ∷ [] ∷ [] ∷ [] ∷ []
 
 -- the fields of a row, whose names are borrowed
-abbrev pub fields_of : ReportRow → Fields
-fields_of (row.Point mmsi time point speed course) = point_fields mmsi time point speed course
-fields_of (row.Meeting pair kind first last least) = meeting_fields pair kind first last least
-fields_of (row.Verdict pair name undecided first last) = verdict_fields pair name.now undecided first last
-fields_of (row.Vessel mmsi name kind length reports legs) = vessel_fields mmsi (option_copied name) kind length reports legs
-fields_of (row.Total name total) = total_fields name.now total
-fields_of (row.Lines outcome count) = count_fields outcome count
-fields_of (row.Plan number leg course speed first last) = plan_fields number leg course speed first last
-fields_of (row.NoPlan plans) = no_plan_fields plans
+abbrev pub row_fields : ReportRow → Fields
+row_fields (row.Point mmsi time point speed course) = point_fields mmsi time point speed course
+row_fields (row.Meeting pair kind first last least) = meeting_fields pair kind first last least
+row_fields (row.Verdict pair name undecided first last) = verdict_fields pair name.now undecided first last
+row_fields (row.Vessel mmsi name kind length reports legs) = vessel_fields mmsi (option_copied name) kind length reports legs
+row_fields (row.Total name total) = total_fields name.now total
+row_fields (row.Lines outcome count) = count_fields outcome count
+row_fields (row.Plan number leg course speed first last) = plan_fields number leg course speed first last
+row_fields (row.NoPlan plans) = no_plan_fields plans
 
 -- the text of a row
-abbrev pub text_of : ReportRow → List ℕ
-text_of row = row_of (fields_of row)
+abbrev pub report_row_text : ReportRow → List ℕ
+report_row_text row = row_of (row_fields row)

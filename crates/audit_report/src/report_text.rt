@@ -1,7 +1,7 @@
 //! The text of a report, row after row.
 ghost use Rattle.std.specs.Prelude.{◌≡◌, IfOk};
 ghost use Rattle.std.specs.Option.{option_copied};
-ghost use Rattle.audit_report.specs.ReportRows.{kind_name, optional_name, text_of, verdict_name};
+ghost use Rattle.audit_report.specs.ReportRows.{kind_name, optional_name, report_row_text, verdict_name};
 
 use crate::digits::{digits, optional_digits, short_digits, signed_digits};
 use crate::report_row::ReportRow;
@@ -277,7 +277,7 @@ impl ReportText {
     /// Writes a row behind those that were written. The text may only be dropped after want of memory.
     #[inline(always)]
     pub fn write(&mut self, row: &ReportRow<'_>) -> Result<(), Memory>
-        ensures { OnOk result ((text : List ℕ) → HasText self.old text → HasText self.new (text ++ text_of row.now)) }
+        ensures { OnOk result ((text : List ℕ) → HasText self.old text → HasText self.new (text ++ report_row_text row.now)) }
     {
         match *row {
             ReportRow::Point {
@@ -336,7 +336,7 @@ impl ReportText {
 
 /// The text of one row, as CSV with a line feed.
 pub fn row_bytes(alloc: Global, row: &ReportRow<'_>) -> Result<Vec<u8>, Memory>
-    ensures { IfOk result (λ bytes. bytes.items ≡ text_of row.now) }
+    ensures { IfOk result (λ bytes. bytes.items ≡ report_row_text row.now) }
 {
     let mut text = ReportText::new(alloc);
     text.write(row)?;

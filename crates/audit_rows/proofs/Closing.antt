@@ -13,10 +13,10 @@ use Rattle.audit_rows.specs.declared.stretch.Stretch.{Stretch}
 use Rattle.audit_rows.specs.Inner.Closed.{Closes, IsClosedOf}
 use Rattle.audit_rows.specs.Inner.Lanes.{AreCountsBefore, EndsIn, IsLatest, IsWhole, Stands, ended, row_of, with_stretch}
 use Rattle.audit_rows.specs.Inner.Sorts.{join, sort_of}
-use Rattle.audit_rows.specs.Order.{last_of}
-use Rattle.audit_rows.specs.Rows.{IsRowOf, Tells, TellsOf}
+use Rattle.audit_rows.specs.Order.{last_step_of}
+use Rattle.audit_rows.specs.Rows.{IsRowOf, TellsStretch, TellsOf}
 use Rattle.audit_rows.specs.MarkCounts.{AreCounts}
-use Rattle.audit_rows.specs.Stretches.{HasKindAndLeast, IsEngaged, distance_of, kind_of, mark_at}
+use Rattle.audit_rows.specs.Stretches.{HasKindAndLeast, MarksEngagement, distance_of, marked_kind, mark_at}
 use Rattle.audit_rows.specs.Tracks.{Track, longer, next_step}
 use Rattle.audit_rows.proofs.MarkCounting.{counts_after, counts_first, counts_none, counts_same, counts_turned}
 use Rattle.audit_rows.proofs.Sorts.{join_still, told_sort, to_sort, from_sort, sort_join, is_told, told_by, nothing_told, is_nothing}
@@ -69,7 +69,7 @@ module _ (xs : List Mark) (from : ℕ) (kind other : Class) (least distance : �
 
   pub engaged_more : HasKindAndLeast ys from (length ys - 1) kind (min least distance)
   engaged_more = record {
-    of_first = ap kind_of (mark_front xs (Engaged other distance ∷ []) from within) ∙ h.of_first;
+    of_first = ap marked_kind (mark_front xs (Engaged other distance ∷ []) from within) ∙ h.of_first;
     at_least = engaged_least;
     reached = engaged_reached (grind arith);
   }
@@ -91,7 +91,7 @@ whole_one xs (Engaged kind least) =
     let n = length_more xs (Engaged kind least) in
     let ys = xs ++ Engaged kind least ∷ [] in
     record {
-      of_first = ap kind_of (mark_last xs (Engaged kind least));
+      of_first = ap marked_kind (mark_last xs (Engaged kind least));
       at_least = λ k low high. let e : k ≡ length xs = omega arith in subst (λ (m : Mark). IfSome (distance_of m) (λ d. least ≤ d)) (sym (ap (mark_at ys) e ∙ mark_last xs (Engaged kind least))) (omega arith);
       reached = (length xs, omega arith, omega arith, ap distance_of (mark_last xs (Engaged kind least)));
     }
@@ -127,7 +127,7 @@ other_sort_ends xs m other =
 -- ---- the row of the latest stretch
 
 -- a row whose stretch reaches the end is the one of the latest stretch
-module _ (track : Track) (row : Row) (from to begin : ℕ) (whole : Mark) (h : EndsIn track.marks begin whole) (t : Tells track row from to) (end : to + 1 ≡ length track.marks) where
+module _ (track : Track) (row : Row) (from to begin : ℕ) (whole : Mark) (h : EndsIn track.marks begin whole) (t : TellsStretch track row from to) (end : to + 1 ≡ length track.marks) where
   sort_there : (k : ℕ) → from ≤ k → k ≤ to → sort_of (mark_at track.marks k) ≡ told_sort row
   sort_there k low high = to_sort row (mark_at track.marks k) (t.stretch.each k low high)
 
@@ -144,10 +144,10 @@ module _ (track : Track) (row : Row) (from to begin : ℕ) (whole : Mark) (h : E
   pub same_begin : from ≡ begin
   same_begin = let a = h.within in begins_by (omega arith) (compared from begin)
 
-sort_at_end : (track : Track) (stretch : Stretch) (row : Row) → IsLatest track stretch → IsRowOf track row → last_of row + 1 ≡ next_step track → told_sort row ≡ sort_of stretch.mark
+sort_at_end : (track : Track) (stretch : Stretch) (row : Row) → IsLatest track stretch → IsRowOf track row → last_step_of row + 1 ≡ next_step track → told_sort row ≡ sort_of stretch.mark
 sort_at_end track stretch row h (from, to, t) e = let last = t.last in same_sort track row from to h.from stretch.mark h.ends t (omega arith)
 
-same_row : (track : Track) (stretch : Stretch) (row : Row) → IsLatest track stretch → IsRowOf track row → last_of row + 1 ≡ next_step track → row_of track.topic stretch ≡ Some row
+same_row : (track : Track) (stretch : Stretch) (row : Row) → IsLatest track stretch → IsRowOf track row → last_step_of row + 1 ≡ next_step track → row_of track.topic stretch ≡ Some row
 same_row track stretch row h (from, to, t) e =
     let last = t.last in
     let first = t.first in
@@ -158,7 +158,7 @@ same_row track stretch row h (from, to, t) e =
     told_by track.marks from to stretch.first stretch.last track.topic row stretch.mark t.topic (omega arith) (omega arith) (same_sort track row from to h.from stretch.mark h.ends t end) t.measures
     (subst (λ (n : ℕ). IsWhole track.marks n stretch.mark) (sym begin) h.ends.is_whole) (omega arith)
 
-told_at_end : (track : Track) (stretch : Stretch) (row : Row) → IsLatest track stretch → row_of track.topic stretch ≡ Some row → IsRowOf track row × (last_of row + 1 ≡ next_step track)
+told_at_end : (track : Track) (stretch : Stretch) (row : Row) → IsLatest track stretch → row_of track.topic stretch ≡ Some row → IsRowOf track row × (last_step_of row + 1 ≡ next_step track)
 told_at_end track stretch row h is =
     let told = is_told track.topic stretch.mark stretch.first stretch.last row is in
     let within = h.ends.within in
@@ -191,7 +191,7 @@ told_at_end track stretch row h is =
 
 -- A row that the next mark closes was closed, or reaches the end and does not tell of the mark.
 pub newly_closed : (track : Track) (mark : Mark) (row : Row) → IsClosedOf (longer track mark) row
-    → IsClosedOf track row ⊎ (IsRowOf track row × (last_of row + 1 ≡ next_step track) × (TellsOf row mark → ⊥))
+    → IsClosedOf track row ⊎ (IsRowOf track row × (last_step_of row + 1 ≡ next_step track) × (TellsOf row mark → ⊥))
 newly_closed track mark row ((from, to, t), lt) =
     let n = length_more track.marks mark in
     let last = t.last in
@@ -205,7 +205,7 @@ newly_closed track mark row ((from, to, t), lt) =
     ]
 
 -- A row that reaches the end is closed by a mark that it does not tell of.
-pub now_closed : (track : Track) (mark : Mark) (row : Row) → IsRowOf track row → last_of row + 1 ≡ next_step track → (TellsOf row mark → ⊥)
+pub now_closed : (track : Track) (mark : Mark) (row : Row) → IsRowOf track row → last_step_of row + 1 ≡ next_step track → (TellsOf row mark → ⊥)
     → IsClosedOf (longer track mark) row
 now_closed track mark row (from, to, t) e other =
     let n = length_more track.marks mark in
@@ -232,7 +232,7 @@ now_closed track mark row (from, to, t) e other =
       omega arith,
     )
 
-pub stays : (track : Track) (mark : Mark) → ((row : Row) → IsRowOf track row → last_of row + 1 ≡ next_step track → (TellsOf row mark → ⊥) → ⊥)
+pub stays : (track : Track) (mark : Mark) → ((row : Row) → IsRowOf track row → last_step_of row + 1 ≡ next_step track → (TellsOf row mark → ⊥) → ⊥)
     → Closes track mark None
 stays track mark none = record {
   rows = λ row. (
@@ -308,7 +308,7 @@ stands_same lane track mark opened h e same =
     }
 
 -- A mark of the sort of the latest stretch leaves the lane as it is, unless it tells of an engagement.
-pub stands_still : (lane : Lane) (track : Track) (mark : Mark) (opened : Opened) → Stands lane track → lane.latest ≡ Some opened → sort_of opened.mark ≡ sort_of mark → ¬ IsEngaged mark
+pub stands_still : (lane : Lane) (track : Track) (mark : Mark) (opened : Opened) → Stands lane track → lane.latest ≡ Some opened → sort_of opened.mark ≡ sort_of mark → ¬ MarksEngagement mark
     → Stands lane (longer track mark)
 stands_still lane track mark opened h e same other =
     let joined = join_still opened.mark mark same other in

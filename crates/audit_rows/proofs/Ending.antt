@@ -13,7 +13,7 @@ use Rattle.audit_rows.specs.declared.mark.Mark.TheVariants.{Nothing}
 use Rattle.audit_rows.specs.declared.place.Place.{Place}
 use Rattle.audit_rows.specs.declared.row.Row.{Row}
 use Rattle.audit_rows.specs.Inner.Closed.{Closes, IsClosed, IsClosedOf}
-use Rattle.audit_rows.specs.Order.{last_of, place_cmp, place_of}
+use Rattle.audit_rows.specs.Order.{last_step_of, place_cmp, sort_key_of}
 use Rattle.audit_rows.specs.Rows.{AreRows, IsRow, IsRowOf}
 use Rattle.audit_rows.specs.Tracks.{EndAt, Track, longer, marked, next_step}
 use Rattle.audit_rows.specs.Inner.Queues.{Holds}
@@ -42,7 +42,7 @@ closed_by_end : (track : Track) (row : Row) → IsRowOf track row → IsClosedOf
 closed_by_end track row (from, to, t) =
     let w = t.stretch.within in
     let l = t.last in
-    elim (which (last_of row + 1) (next_step track) (omega arith)) [
+    elim (which (last_step_of row + 1) (next_step track) (omega arith)) [
       | inl lt ↦ closed_further track (Nothing ∷ []) row ((from, to, t), lt)
       | inr end ↦ now_closed track Nothing row (from, to, t) end (tells_of_something row)
     ]
@@ -103,5 +103,5 @@ module _ (lanes : List Lane) (tracks : List Track) (n bound : ℕ) (given : List
   pub end_quiet : closed ≡ None → Holds old (ended (n + 1) tracks) bound given
   end_quiet none = further old (quiet old (ended n tracks) bound given n Nothing there.track closed h (ended_at n tracks ∙ there.at) (closes there.track there.stands (end_there tracks n there.track end ends there.at)) none)
 
-  pub end_closing : (row : Row) → closed ≡ Some row → IsStrictlySortedBy place_cmp (keys_of (inserted (place_of row) row old)) → Holds (inserted (place_of row) row old) (ended (n + 1) tracks) bound given
-  end_closing row is ordered = further (inserted (place_of row) row old) (closing old (ended n tracks) bound given n Nothing there.track closed h (ended_at n tracks ∙ there.at) (closes there.track there.stands (end_there tracks n there.track end ends there.at)) row is ordered)
+  pub end_closing : (row : Row) → closed ≡ Some row → IsStrictlySortedBy place_cmp (keys_of (inserted (sort_key_of row) row old)) → Holds (inserted (sort_key_of row) row old) (ended (n + 1) tracks) bound given
+  end_closing row is ordered = further (inserted (sort_key_of row) row old) (closing old (ended n tracks) bound given n Nothing there.track closed h (ended_at n tracks ∙ there.at) (closes there.track there.stands (end_there tracks n there.track end ends there.at)) row is ordered)

@@ -6,7 +6,7 @@ use Rattle.audit_rows.specs.declared.row.Row.{Row}
 use Rattle.audit_rows.specs.declared.row_queue.RowQueue.{RowQueue}
 use Rattle.audit_rows.specs.declared.topic.Topic.{Topic}
 use Rattle.audit_rows.specs.Inner.Queues.{StandsFor}
-use Rattle.audit_rows.specs.Order.{first_of, last_of}
+use Rattle.audit_rows.specs.Order.{first_step_of, last_step_of}
 use Rattle.audit_rows.specs.Rows.{AreRowsBelow, IsRow, IsRowOf}
 use Rattle.audit_rows.specs.Tracks.{AreSettled, Continue, IsNew, IsNextAt, Track, longer, marked, next_step}
 use Rattle.audit_rows.proofs.Queues.{given_rows}
@@ -48,7 +48,7 @@ row_cases (x ∷ xs) ys row (inl h) = inl (inl h)
 row_cases (x ∷ xs) ys row (inr h) = elim (row_cases xs ys row h) [ inl here ↦ inl (inr here) | inr there ↦ inr there ]
 
 -- A row lies among the steps of its track.
-pub row_within : (track : Track) (row : Row) → IsRowOf track row → (track.first ≤ first_of row) × (first_of row ≤ last_of row) × (last_of row < next_step track)
+pub row_within : (track : Track) (row : Row) → IsRowOf track row → (track.first ≤ first_step_of row) × (first_step_of row ≤ last_step_of row) × (last_step_of row < next_step track)
 row_within track row (from, to, t) =
     let f = t.first in
     let l = t.last in
@@ -58,10 +58,10 @@ row_within track row (from, to, t) =
 
 -- ---- a row behind which a mark stands is a row whatever marks follow, and only then
 
-pub row_stays : (track : Track) (more : List Mark) (row : Row) → last_of row + 1 < next_step track → IsRowOf track row → IsRowOf (record track { marks = track.marks ++ more }) row
+pub row_stays : (track : Track) (more : List Mark) (row : Row) → last_step_of row + 1 < next_step track → IsRowOf track row → IsRowOf (record track { marks = track.marks ++ more }) row
 row_stays track more row lt h = (closed_further track more row (h, lt)).0
 
-pub row_was : (track : Track) (more : List Mark) (row : Row) → last_of row + 1 < next_step track → IsRowOf (record track { marks = track.marks ++ more }) row → IsRowOf track row
+pub row_was : (track : Track) (more : List Mark) (row : Row) → last_step_of row + 1 < next_step track → IsRowOf (record track { marks = track.marks ++ more }) row → IsRowOf track row
 row_was track more row lt h = (closed_front track more row h lt).0
 
 -- what a queue has given so far

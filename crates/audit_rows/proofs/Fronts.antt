@@ -7,7 +7,7 @@ use Rattle.std.proofs.lemmas.List.Elements.{Contains-append_left, Contains-appen
 use Rattle.std.specs.declared.cmp.Ordering.{Ordering}
 use Rattle.std.specs.declared.cmp.Ordering.TheVariants.{Less}
 use Rattle.audit_rows.specs.declared.row.Row.{Row}
-use Rattle.audit_rows.specs.Order.{last_of, place_cmp, place_of}
+use Rattle.audit_rows.specs.Order.{last_step_of, place_cmp, sort_key_of}
 use Rattle.audit_rows.specs.Rows.{AreRows, AreRowsBelow, IsRow}
 use Rattle.audit_rows.specs.Tracks.{AreSettled, Continue, Track}
 use Rattle.audit_rows.proofs.StrictOrder.{in_cons, in_head, in_tail, in_none, less_than, all_from, sorted_append, same_list}
@@ -61,32 +61,32 @@ which m n = grind arith
 
 front_in_all : (bound : ℕ) (tracks : List Track) (rows all : List Row) → AreRowsBelow bound tracks rows → AreRows tracks all → (rest : List Row) × (all ≡ rows ++ rest)
 front_in_all bound tracks rows all h k =
-    let rest = filter (λ (row : Row). nat_le bound (last_of row)) all in (
+    let rest = filter (λ (row : Row). nat_le bound (last_step_of row)) all in (
       rest,
-      same_list place_of place_cmp place_total all (rows ++ rest) k.ordered
-          (sorted_append place_of place_cmp rows rest h.ordered (sorted_filter (λ row. nat_le bound (last_of row)) place_of place_cmp all k.ordered)
-          (λ x y i j. earlier_first (place_of x) (place_of y) (let lt = ((h.each x).0 i).1 in let le = late y j in omega arith)))
+      same_list sort_key_of place_cmp place_total all (rows ++ rest) k.ordered
+          (sorted_append sort_key_of place_cmp rows rest h.ordered (sorted_filter (λ row. nat_le bound (last_step_of row)) sort_key_of place_cmp all k.ordered)
+          (λ x y i j. earlier_first (sort_key_of x) (sort_key_of y) (let lt = ((h.each x).0 i).1 in let le = late y j in omega arith)))
           (λ z i. split z ((k.each z).0 i) i)
           (λ z i. elim (Contains-append_cases rows rest z i) [
             | inl here ↦ (k.each z).1 ((h.each z).0 here).0
-            | inr there ↦ (from_filter (λ row. nat_le bound (last_of row)) all z there).0
+            | inr there ↦ (from_filter (λ row. nat_le bound (last_step_of row)) all z there).0
           ]),
     )
   where
-    late : (y : Row) → Contains (filter (λ (row : Row). nat_le bound (last_of row)) all) y → bound ≤ last_of y
-    late y j = let e : nat_le bound (last_of y) ≡ true = (from_filter (λ row. nat_le bound (last_of row)) all y j).1 in grind (arith, nat_tests)
+    late : (y : Row) → Contains (filter (λ (row : Row). nat_le bound (last_step_of row)) all) y → bound ≤ last_step_of y
+    late y j = let e : nat_le bound (last_step_of y) ≡ true = (from_filter (λ row. nat_le bound (last_step_of row)) all y j).1 in grind (arith, nat_tests)
 
-    split : (z : Row) → IsRow tracks z → Contains all z → Contains (rows ++ filter (λ (row : Row). nat_le bound (last_of row)) all) z
+    split : (z : Row) → IsRow tracks z → Contains all z → Contains (rows ++ filter (λ (row : Row). nat_le bound (last_step_of row)) all) z
     split z is i =
-        elim (which bound (last_of z)) [
-          | inl le ↦ Contains-append_right rows _ z (in_filter (λ row. nat_le bound (last_of row)) all z i (grind (arith, nat_tests)))
+        elim (which bound (last_step_of z)) [
+          | inl le ↦ Contains-append_right rows _ z (in_filter (λ row. nat_le bound (last_step_of row)) all z i (grind (arith, nat_tests)))
           | inr lt ↦ Contains-append_left rows _ z ((h.each z).1 (is, lt))
         ]
 
 -- ---- the laws
 
 pub one_list : (tracks : List Track) (rows others : List Row) → AreRows tracks rows → AreRows tracks others → rows ≡ others
-one_list tracks rows others h k = same_list place_of place_cmp place_total rows others h.ordered k.ordered (λ z i. (k.each z).1 ((h.each z).0 i)) (λ z i. (h.each z).1 ((k.each z).0 i))
+one_list tracks rows others h k = same_list sort_key_of place_cmp place_total rows others h.ordered k.ordered (λ z i. (k.each z).1 ((h.each z).0 i)) (λ z i. (h.each z).1 ((k.each z).0 i))
 
 pub front_of_all : (bound : ℕ) (tracks later : List Track) (rows all : List Row) → AreSettled bound tracks → Continue bound tracks later → AreRowsBelow bound tracks rows → AreRows later all
     → (rest : List Row) × (all ≡ rows ++ rest)

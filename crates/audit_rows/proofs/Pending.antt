@@ -9,13 +9,13 @@ use Rattle.std.specs.Map.{keys_of, values_of}
 use Rattle.std.specs.BTreeMap.{insert_entry}
 use Rattle.audit_rows.specs.declared.place.Place.{Place}
 use Rattle.audit_rows.specs.declared.row.Row.{Row}
-use Rattle.audit_rows.specs.Order.{InOrder, last_of, place_cmp, place_of, topic_of}
+use Rattle.audit_rows.specs.Order.{InOrder, last_step_of, place_cmp, sort_key_of, topic_of}
 use Rattle.audit_rows.specs.Inner.Queues.{ArePlaced}
 use Rattle.audit_rows.proofs.Places.{derived_cmp, derived_is, same_place}
 use Rattle.audit_rows.proofs.StrictOrder.{in_cons, in_head, in_tail, in_none}
 
 -- the pending entries at one place each
-pub keys_are_places : (es : List (Place × Row)) → ArePlaced es → keys_of es ≡ map place_of (values_of es)
+pub keys_are_places : (es : List (Place × Row)) → ArePlaced es → keys_of es ≡ map sort_key_of (values_of es)
 keys_are_places [] h = refl
 keys_are_places (e ∷ es) h = ap₂ (λ (k : Place) (ks : List Place). k ∷ ks) h.0 (keys_are_places es h.1)
 
@@ -32,7 +32,7 @@ module _ (k : Place) (v : Row) where
   abbrev stepped : Ordering → (Place × Row) → List (Place × Row) → List (Place × Row)
   stepped o x es = match_ordering o ((k, v) ∷ x ∷ es) ((x.0, v) ∷ es) (x ∷ inserted es)
 
-  pub placed_inserted : (es : List (Place × Row)) → IsFree k es → ArePlaced es → k ≡ place_of v → ArePlaced (inserted es)
+  pub placed_inserted : (es : List (Place × Row)) → IsFree k es → ArePlaced es → k ≡ sort_key_of v → ArePlaced (inserted es)
   placed_inserted [] free h e = (e, tt)
   placed_inserted (x ∷ es) free h e =
       elim (place_cmp k x.0) as (λ o. (o ≡ Equal → ⊥) → ArePlaced (stepped o x es)) [
@@ -75,20 +75,20 @@ module _ (k : Place) (v : Row) where
       ] h
 
 -- The place of a row is free where no row stands there.
-pub free_place : (row : Row) (es : List (Place × Row)) → ArePlaced es → ((other : Row) → Contains (values_of es) other → topic_of row ≡ topic_of other → last_of row ≡ last_of other → ⊥)
-    → IsFree (place_of row) es
+pub free_place : (row : Row) (es : List (Place × Row)) → ArePlaced es → ((other : Row) → Contains (values_of es) other → topic_of row ≡ topic_of other → last_step_of row ≡ last_step_of other → ⊥)
+    → IsFree (sort_key_of row) es
 free_place row [] h none = tt
 free_place row (x ∷ es) h none = (
-  λ q. let same : place_of row ≡ place_of x.1 = same_place (place_of row) x.0 q ∙ h.0 in
+  λ q. let same : sort_key_of row ≡ sort_key_of x.1 = same_place (sort_key_of row) x.0 q ∙ h.0 in
       none x.1 (in_head x.1 (values_of es)) (ap (λ (p : Place). p.topic) same) (ap (λ (p : Place). p.last) same),
   free_place row es h.1 (λ other i. none other (in_tail x.1 (values_of es) other i)),
 )
 
 -- ---- the map's own order
 
-pub entries_after : (old new : List (Place × Row)) (place : Place) (row : Row) → new ≡ insert_entry derived_cmp old place row → place ≡ place_of row → new ≡ inserted (place_of row) row old
+pub entries_after : (old new : List (Place × Row)) (place : Place) (row : Row) → new ≡ insert_entry derived_cmp old place row → place ≡ sort_key_of row → new ≡ inserted (sort_key_of row) row old
 entries_after old new place row e placed = e ∙ ap (λ (cmp : Place → Place → Ordering). insert_entry cmp old place row) derived_is ∙ ap (λ (k : Place). inserted k row old) placed
 
-pub keys_in_order : (old new : List (Place × Row)) (row : Row) → IsStrictlySortedBy derived_cmp (keys_of new) → new ≡ inserted (place_of row) row old → IsStrictlySortedBy place_cmp (keys_of (inserted (place_of row) row old))
+pub keys_in_order : (old new : List (Place × Row)) (row : Row) → IsStrictlySortedBy derived_cmp (keys_of new) → new ≡ inserted (sort_key_of row) row old → IsStrictlySortedBy place_cmp (keys_of (inserted (sort_key_of row) row old))
 keys_in_order old new row s e =
     subst (λ (es : List (Place × Row)). IsStrictlySortedBy place_cmp (keys_of es)) e (subst (λ (cmp : Place → Place → Ordering). IsStrictlySortedBy cmp (keys_of new)) derived_is s)

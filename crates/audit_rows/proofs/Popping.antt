@@ -8,7 +8,7 @@ use Rattle.std.specs.BTreeMap.Range.{IsLeBy}
 use Rattle.std.proofs.lemmas.List.Elements.{Contains-push_cases, recursion_from_All}
 use Rattle.audit_rows.specs.declared.place.Place.{Place}
 use Rattle.audit_rows.specs.declared.row.Row.{Row}
-use Rattle.audit_rows.specs.Order.{last_of, place_cmp, place_of}
+use Rattle.audit_rows.specs.Order.{last_step_of, place_cmp, sort_key_of}
 use Rattle.audit_rows.specs.Inner.Queues.{ArePlaced, IsPopping, IsPopped}
 use Rattle.audit_rows.proofs.Places.{derived_cmp, derived_is, not_later}
 use Rattle.audit_rows.proofs.StrictOrder.{in_none, all_at}
@@ -23,7 +23,7 @@ one_popped bound old rows e es h lt = record {
   whole = h.whole ∙ sym (append_assoc rows (e.1 ∷ []) (values_of es));
   early = λ row i. elim (Contains-push_cases rows e.1 row i) [
     | inl was ↦ h.early row was
-    | inr now ↦ (let same : e.0.last ≡ last_of row = ap (λ (p : Place). p.last) h.placed.0 ∙ ap (λ (r : Row). last_of r) now in omega arith)
+    | inr now ↦ (let same : e.0.last ≡ last_step_of row = ap (λ (p : Place). p.last) h.placed.0 ∙ ap (λ (r : Row). last_step_of r) now in omega arith)
   ];
   placed = h.placed.1;
 }
@@ -36,10 +36,10 @@ pub enough_popped : (bound : ℕ) (old : List (Place × Row)) (rows : List Row) 
     → bound ≤ place.last → All (IsLeBy derived_cmp place) (keys_of es) → IsPopped bound old rows es
 enough_popped bound old rows es place h le all = record {
   front = h;
-  late = λ row i. let behind = not_later place (place_of row) (all_at place_of place_cmp (IsLeBy place_cmp place) (values_of es) row keys i) in omega arith;
+  late = λ row i. let behind = not_later place (sort_key_of row) (all_at sort_key_of place_cmp (IsLeBy place_cmp place) (values_of es) row keys i) in omega arith;
 }
   where
-    keys : AllByRecursion (IsLeBy place_cmp place) (map place_of (values_of es))
+    keys : AllByRecursion (IsLeBy place_cmp place) (map sort_key_of (values_of es))
     keys = subst (AllByRecursion (IsLeBy place_cmp place)) (keys_are_places es h.placed) (recursion_from_All (IsLeBy place_cmp place) (keys_of es) (subst (λ (cmp : Place → Place → Ordering). All (IsLeBy cmp place) (keys_of es)) derived_is all))
 
 -- The first entry is the one that was looked at.

@@ -14,7 +14,7 @@ use Rattle.audit_rows.specs.declared.topic.Topic.{Topic}
 use Rattle.audit_rows.specs.declared.place.Place.{Place}
 use Rattle.audit_rows.specs.declared.lane.Lane.{Lane}
 use Rattle.audit_rows.specs.Inner.Closed.{AreClosedRows, Closes, IsClosed}
-use Rattle.audit_rows.specs.Order.{last_of, place_cmp, place_of}
+use Rattle.audit_rows.specs.Order.{last_step_of, place_cmp, sort_key_of}
 use Rattle.audit_rows.specs.Rows.{AreRowsBelow}
 use Rattle.audit_rows.specs.Tracks.{AreSettled, IsNew, IsNextAt, Track, begun, longer, marked, next_step}
 use Rattle.audit_rows.specs.Inner.Queues.{Holds, IsPopped}
@@ -35,7 +35,7 @@ given_rows entries tracks bound given h =
           | inr i ↦ (let le = h.late row i in absurd (omega arith))
         ],
       );
-      ordered = sorted_front place_of place_cmp given pending h.rows.ordered;
+      ordered = sorted_front sort_key_of place_cmp given pending h.rows.ordered;
     }
 
 pub popped : (entries new : List (Place × Row)) (tracks : List Track) (old bound : ℕ) (given rows : List Row) → Holds entries tracks old given → old ≤ bound → AreSettled bound tracks
@@ -85,16 +85,16 @@ module _ (old : List (Place × Row)) (tracks : List Track) (bound : ℕ) (given 
     late = h.late;
   }
 
-  pub closing : (row : Row) → closed ≡ Some row → IsStrictlySortedBy place_cmp (keys_of (inserted (place_of row) row old)) → Holds (inserted (place_of row) row old) (marked tracks index mark) bound given
+  pub closing : (row : Row) → closed ≡ Some row → IsStrictlySortedBy place_cmp (keys_of (inserted (sort_key_of row) row old)) → Holds (inserted (sort_key_of row) row old) (marked tracks index mark) bound given
   closing row is ordered =
       let pending = values_of old in
-      let place = place_of row in
+      let place = sort_key_of row in
       let more = values_of (inserted place row old) in
       let free = free_place row old h.placed (λ other i. place_free track mark closed closes row is tracks index other at h.own_topics ((h.rows.each other).0 (Contains-append_right given pending other i))) in
       let late = ends_late track mark closed closes row is bound tracks index at h.settled in
       let placed = placed_inserted place row old free h.placed refl in
-      let after_bound : (r : Row) → Contains more r → bound ≤ last_of r =
-      λ r i. elim (only_inserted place row old r i) [ inl was ↦ h.late r was | inr e ↦ subst (λ (z : Row). bound ≤ last_of z) e late ] in
+      let after_bound : (r : Row) → Contains more r → bound ≤ last_step_of r =
+      λ r i. elim (only_inserted place row old r i) [ inl was ↦ h.late r was | inr e ↦ subst (λ (z : Row). bound ≤ last_step_of z) e late ] in
       record {
         own_topics = own_topics_marked tracks index mark h.own_topics;
         settled = settled_marked bound tracks index mark h.settled;
@@ -115,8 +115,8 @@ module _ (old : List (Place × Row)) (tracks : List Track) (bound : ℕ) (given 
               | inr now ↦ (let e : row ≡ r = cc in subst (Contains (given ++ more)) e (Contains-append_right given more row (has_inserted place row old)))
             ],
           );
-          ordered = sorted_append place_of place_cmp given more (sorted_front place_of place_cmp given pending h.rows.ordered) (placed_in_order (inserted place row old) placed ordered)
-              (λ a b i j. earlier_first (place_of a) (place_of b) (let early = h.early a i in let behind = after_bound b j in omega arith));
+          ordered = sorted_append sort_key_of place_cmp given more (sorted_front sort_key_of place_cmp given pending h.rows.ordered) (placed_in_order (inserted place row old) placed ordered)
+              (λ a b i j. earlier_first (sort_key_of a) (sort_key_of b) (let early = h.early a i in let behind = after_bound b j in omega arith));
         };
         placed = placed;
         early = h.early;

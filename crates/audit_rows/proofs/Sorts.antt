@@ -11,9 +11,9 @@ use Rattle.audit_rows.specs.declared.topic.Topic.{Topic}
 use Rattle.audit_rows.specs.declared.topic.Topic.TheVariants as topic
 use Rattle.audit_rows.specs.Inner.Lanes.{IsWhole, row_of_mark}
 use Rattle.audit_rows.specs.Inner.Sorts.{Sort, Nothing, Broken, Undecided, Engaged, join, sort_of}
-use Rattle.audit_rows.specs.Order.{first_of, last_of, topic_of}
+use Rattle.audit_rows.specs.Order.{first_step_of, last_step_of, topic_of}
 use Rattle.audit_rows.specs.Rows.{Measures, TellsOf}
-use Rattle.audit_rows.specs.Stretches.{HasKindAndLeast, IsEngaged}
+use Rattle.audit_rows.specs.Stretches.{HasKindAndLeast, MarksEngagement}
 
 -- the sort of marks that a row tells of
 abbrev pub told_sort : Row → Sort
@@ -58,7 +58,7 @@ sort_join (mark.Engaged kind least) mark.Undecided = refl
 sort_join (mark.Engaged kind least) (mark.Engaged other distance) = refl
 
 -- A mark of the same sort leaves a mark as it is, unless it tells of an engagement.
-pub join_still : (a b : Mark) → sort_of a ≡ sort_of b → (IsEngaged b → ⊥) → join a b ≡ a
+pub join_still : (a b : Mark) → sort_of a ≡ sort_of b → (MarksEngagement b → ⊥) → join a b ≡ a
 join_still mark.Nothing b e other = refl
 join_still mark.Broken b e other = refl
 join_still mark.Undecided b e other = refl
@@ -89,8 +89,8 @@ module _ (marks : List Mark) (from to : ℕ) (kind other : Class) (least distanc
 -- what holds of the row of a stretch of a topic
 pub record IsToldOf (about : Topic) (m : Mark) (first last : ℕ) (r : Row) : Type 0 where
   pub topic : topic_of r ≡ about
-  pub begins : first_of r ≡ first
-  pub ends : last_of r ≡ last
+  pub begins : first_step_of r ≡ first
+  pub ends : last_step_of r ≡ last
   pub sort : told_sort r ≡ sort_of m
   pub measures : (marks : List Mark) (from : ℕ) → IsWhole marks from m → Measures r marks from (length marks - 1)
 
@@ -113,7 +113,7 @@ is_told (topic.Verdict pair rule) (mark.Engaged kind least) first last r e = abs
 -- a row that tells of the stretch is its row
 module _ (marks : List Mark) (from to first last : ℕ) where
   module _ (about : Topic) where
-    pub told_by : (r : Row) (m : Mark) → topic_of r ≡ about → first_of r ≡ first → last_of r ≡ last → told_sort r ≡ sort_of m → Measures r marks from to → IsWhole marks from m → to ≡ length marks - 1
+    pub told_by : (r : Row) (m : Mark) → topic_of r ≡ about → first_step_of r ≡ first → last_step_of r ≡ last → told_sort r ≡ sort_of m → Measures r marks from to → IsWhole marks from m → to ≡ length marks - 1
         → row_of_mark about m first last ≡ Some r
     told_by (row.Meeting pair kind f l least) mark.Nothing t b e s h w end = absurd (cc)
     told_by (row.Meeting pair kind f l least) mark.Broken t b e s h w end = absurd (cc)

@@ -8,9 +8,9 @@ use Rattle.audit_rows.specs.declared.mark.Mark.TheVariants.{Nothing}
 use Rattle.audit_rows.specs.declared.row.Row.{Row}
 use Rattle.audit_rows.specs.declared.row.Row.TheVariants.{Meeting, Verdict}
 use Rattle.audit_rows.specs.Inner.Closed.{IsClosedOf}
-use Rattle.audit_rows.specs.Order.{last_of}
-use Rattle.audit_rows.specs.Rows.{IsRowOf, Measures, Tells, TellsOf}
-use Rattle.audit_rows.specs.Stretches.{HasKindAndLeast, IsStretch, distance_of, kind_of, mark_at}
+use Rattle.audit_rows.specs.Order.{last_step_of}
+use Rattle.audit_rows.specs.Rows.{IsRowOf, Measures, TellsStretch, TellsOf}
+use Rattle.audit_rows.specs.Stretches.{HasKindAndLeast, IsStretch, distance_of, marked_kind, mark_at}
 use Rattle.audit_rows.specs.Tracks.{Track}
 
 -- a track with more marks behind its own
@@ -49,7 +49,7 @@ module _ (xs ys : List Mark) (from to : ℕ) (ordered : from ≤ to) (agree : (k
   measured_alike kind least h =
       let (k, low, high, is) = h.reached in
       record {
-        of_first = ap kind_of (sym (agree from ordered)) ∙ h.of_first;
+        of_first = ap marked_kind (sym (agree from ordered)) ∙ h.of_first;
         at_least = λ k low high. subst (λ (m : Mark). IfSome (distance_of m) (λ distance. least ≤ distance)) (agree k high) (h.at_least k low high);
         reached = (k, low, high, ap distance_of (sym (agree k high)) ∙ is);
       }
@@ -58,7 +58,7 @@ module _ (xs ys : List Mark) (from to : ℕ) (ordered : from ≤ to) (agree : (k
   measures_alike (Meeting pair kind first last least) h = measured_alike kind least h
   measures_alike (Verdict pair rule undecided first last) h = tt
 
-pub tells_further : (track : Track) (more : List Mark) (row : Row) (from to : ℕ) → to + 1 < length track.marks → Tells track row from to → Tells (further track more) row from to
+pub tells_further : (track : Track) (more : List Mark) (row : Row) (from to : ℕ) → to + 1 < length track.marks → TellsStretch track row from to → TellsStretch (further track more) row from to
 tells_further track more row from to lt h = record {
   topic = h.topic;
   first = h.first;
@@ -67,7 +67,7 @@ tells_further track more row from to lt h = record {
   measures = measures_alike track.marks (track.marks ++ more) from to h.stretch.ordered (λ k le. sym (mark_front track.marks more k (omega arith))) row h.measures;
 }
 
-pub tells_front : (track : Track) (more : List Mark) (row : Row) (from to : ℕ) → to < length track.marks → Tells (further track more) row from to → Tells track row from to
+pub tells_front : (track : Track) (more : List Mark) (row : Row) (from to : ℕ) → to < length track.marks → TellsStretch (further track more) row from to → TellsStretch track row from to
 tells_front track more row from to lt h = record {
   topic = h.topic;
   first = h.first;
@@ -85,7 +85,7 @@ closed_further track more row h =
     ((h.0.0, h.0.1, tells_further track more row h.0.0 h.0.1 (omega arith) t), omega (arith, length-append track.marks more))
 
 -- A row that is settled in a front is a closed row of the front.
-pub closed_front : (track : Track) (more : List Mark) (row : Row) → IsRowOf (further track more) row → last_of row + 1 < track.first + length track.marks → IsClosedOf track row
+pub closed_front : (track : Track) (more : List Mark) (row : Row) → IsRowOf (further track more) row → last_step_of row + 1 < track.first + length track.marks → IsClosedOf track row
 closed_front track more row h lt =
     let t = h.2 in
     let last = t.last in

@@ -8,7 +8,7 @@ use Rattle.audit_rows.specs.declared.topic.Topic.{Topic}
 use Rattle.audit_rows.specs.declared.row.Row.{Row}
 use Rattle.audit_rows.specs.declared.lane.Lane.{Lane}
 use Rattle.audit_rows.specs.Inner.Closed.{Closes, HaveOwnTopics, IsClosed}
-use Rattle.audit_rows.specs.Order.{last_of, topic_of}
+use Rattle.audit_rows.specs.Order.{last_step_of, topic_of}
 use Rattle.audit_rows.specs.Rows.{IsRow, IsRowOf}
 use Rattle.audit_rows.specs.Tracks.{AreSettled, Continue, IsNew, Track, begun, longer, marked, next_step}
 use Rattle.audit_rows.specs.Inner.Lanes.{Stands}
@@ -20,7 +20,7 @@ closed_is_row (t ∷ ts) row (inl h) = inl h.0
 closed_is_row (t ∷ ts) row (inr h) = inr (closed_is_row ts row h)
 
 -- A row that ends below what is settled is closed.
-pub settled_is_closed : (bound : ℕ) (tracks : List Track) (row : Row) → AreSettled bound tracks → IsRow tracks row → last_of row < bound → IsClosed tracks row
+pub settled_is_closed : (bound : ℕ) (tracks : List Track) (row : Row) → AreSettled bound tracks → IsRow tracks row → last_step_of row < bound → IsClosed tracks row
 settled_is_closed bound [] row s h lt = h
 settled_is_closed bound (t ∷ ts) row s (inl (from, to, r)) lt = let w = r.stretch.within in let l = r.last in let b = s.0 in inl ((from, to, r), omega arith)
 settled_is_closed bound (t ∷ ts) row s (inr h) lt = inr (settled_is_closed bound ts row s.1 h lt)
@@ -101,7 +101,7 @@ module _ (track : Track) (mark : Mark) (closed : Option Row) (closes : Closes tr
     closed_now (t ∷ ts) (suc i) at = inr (closed_now ts i at)
 
     -- it ends where the track did, so not below what is settled
-    pub ends_late : (bound : ℕ) (tracks : List Track) (i : ℕ) → slice_get tracks i ≡ Some track → AreSettled bound tracks → bound ≤ last_of row
+    pub ends_late : (bound : ℕ) (tracks : List Track) (i : ℕ) → slice_get tracks i ≡ Some track → AreSettled bound tracks → bound ≤ last_step_of row
     ends_late bound [] i at s = absurd (cc)
     ends_late bound (t ∷ ts) zero at s =
         let r = (here t at).ended row is in
@@ -117,7 +117,7 @@ module _ (track : Track) (mark : Mark) (closed : Option Row) (closes : Closes tr
     topic_taken topic (t ∷ ts) (suc i) at new same = topic_taken topic ts i at new.1 same
 
     -- no row that was closed before stands at its place
-    pub place_free : (tracks : List Track) (i : ℕ) (other : Row) → slice_get tracks i ≡ Some track → HaveOwnTopics tracks → IsClosed tracks other → topic_of row ≡ topic_of other → last_of row ≡ last_of other → ⊥
+    pub place_free : (tracks : List Track) (i : ℕ) (other : Row) → slice_get tracks i ≡ Some track → HaveOwnTopics tracks → IsClosed tracks other → topic_of row ≡ topic_of other → last_step_of row ≡ last_step_of other → ⊥
     place_free [] i other at n h same last = h
     place_free (t ∷ ts) zero other at n (inl h) same last = let r = (here t at).ended row is in let end = r.1 in let early = h.1 in absurd (omega arith)
     place_free (t ∷ ts) zero other at n (inr h) same last = let r = (here t at).ended row is in closed_topic ts other t.topic n.0 h (sym same ∙ r.0.2.topic)
@@ -132,12 +132,12 @@ row_still bound (t ∷ ts) [] row c h = absurd c
 row_still bound (t ∷ ts) (l ∷ ls) row c (inl h) = inl (subst (λ (z : Track). IsRowOf z row) (sym c.0.1) (closed_further t c.0.0 row h).0)
 row_still bound (t ∷ ts) (l ∷ ls) row c (inr h) = inr (row_still bound ts ls row c.1 h)
 
-not_begun : (bound : ℕ) (later : List Track) (row : Row) → AllByRecursion (λ track. bound ≤ track.first) later → IsRow later row → last_of row < bound → ⊥
+not_begun : (bound : ℕ) (later : List Track) (row : Row) → AllByRecursion (λ track. bound ≤ track.first) later → IsRow later row → last_step_of row < bound → ⊥
 not_begun bound [] row b h lt = h
 not_begun bound (l ∷ ls) row b (inl (from, to, r)) lt = let e = r.last in let s = b.0 in absurd (omega arith)
 not_begun bound (l ∷ ls) row b (inr h) lt = not_begun bound ls row b.1 h lt
 
-pub row_before : (bound : ℕ) (tracks later : List Track) (row : Row) → AreSettled bound tracks → Continue bound tracks later → IsRow later row → last_of row < bound → IsRow tracks row
+pub row_before : (bound : ℕ) (tracks later : List Track) (row : Row) → AreSettled bound tracks → Continue bound tracks later → IsRow later row → last_step_of row < bound → IsRow tracks row
 row_before bound [] later row s c h lt = not_begun bound later row c h lt
 row_before bound (t ∷ ts) [] row s c h lt = absurd c
 row_before bound (t ∷ ts) (l ∷ ls) row s c (inl h) lt =

@@ -30,17 +30,17 @@ abbrev pub topic_of : Row → Topic
 topic_of (row.Meeting pair kind first last least) = topic.Meeting pair
 topic_of (row.Verdict pair rule undecided first last) = topic.Verdict pair rule
 
-abbrev pub first_of : Row → ℕ
-first_of (row.Meeting pair kind first last least) = first
-first_of (row.Verdict pair rule undecided first last) = first
+abbrev pub first_step_of : Row → ℕ
+first_step_of (row.Meeting pair kind first last least) = first
+first_step_of (row.Verdict pair rule undecided first last) = first
 
-abbrev pub last_of : Row → ℕ
-last_of (row.Meeting pair kind first last least) = last
-last_of (row.Verdict pair rule undecided first last) = last
+abbrev pub last_step_of : Row → ℕ
+last_step_of (row.Meeting pair kind first last least) = last
+last_step_of (row.Verdict pair rule undecided first last) = last
 
-abbrev pub place_of : Row → Place
-place_of row = record { last = last_of row; topic = topic_of row }
+abbrev pub sort_key_of : Row → Place
+sort_key_of row = record { last = last_step_of row; topic = topic_of row }
 
 -- The places of the rows ascend strictly.
 abbrev pub InOrder : List Row → Type 0
-InOrder rows = IsStrictlySortedBy place_cmp (map place_of rows)
+InOrder rows = IsStrictlySortedBy place_cmp (map sort_key_of rows)

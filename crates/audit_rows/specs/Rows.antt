@@ -5,18 +5,18 @@ use Rattle.audit_rows.specs.declared.mark.Mark.{Mark}
 use Rattle.audit_rows.specs.declared.mark.Mark.TheVariants.{Broken, Undecided}
 use Rattle.audit_rows.specs.declared.row.Row.{Row}
 use Rattle.audit_rows.specs.declared.row.Row.TheVariants.{Meeting, Verdict}
-use Rattle.audit_rows.specs.Order.{InOrder, first_of, last_of, topic_of}
-use Rattle.audit_rows.specs.Stretches.{HasKindAndLeast, IsEngaged, IsStretch}
+use Rattle.audit_rows.specs.Order.{InOrder, first_step_of, last_step_of, topic_of}
+use Rattle.audit_rows.specs.Stretches.{HasKindAndLeast, MarksEngagement, IsStretch}
 use Rattle.audit_rows.specs.Tracks.{Track}
 
-abbrev pub value_of : Bool → Mark
-value_of true = Undecided
-value_of false = Broken
+abbrev pub verdict_mark : Bool → Mark
+verdict_mark true = Undecided
+verdict_mark false = Broken
 
 -- A meeting tells of engaged positions, a verdict of broken ones or of undecided ones.
 abbrev pub TellsOf : Row → Mark → Type 0
-TellsOf (Meeting pair kind first last least) mark = IsEngaged mark
-TellsOf (Verdict pair rule undecided first last) mark = mark ≡ value_of undecided
+TellsOf (Meeting pair kind first last least) mark = MarksEngagement mark
+TellsOf (Verdict pair rule undecided first last) mark = mark ≡ verdict_mark undecided
 
 -- A meeting has the kind of its first position, and the least distance of all.
 abbrev pub Measures : Row → List Mark → ℕ → ℕ → Type 0
@@ -24,15 +24,15 @@ Measures (Meeting pair kind first last least) marks from to = HasKindAndLeast ma
 Measures (Verdict pair rule undecided first last) marks from to = Unit {0}
 
 -- The row tells of the maximal stretch between two indexes of a track of its topic.
-pub record Tells (track : Track) (row : Row) (from to : ℕ) : Type 0 where
+pub record TellsStretch (track : Track) (row : Row) (from to : ℕ) : Type 0 where
   pub topic : topic_of row ≡ track.topic
-  pub first : first_of row ≡ track.first + from
-  pub last : last_of row ≡ track.first + to
+  pub first : first_step_of row ≡ track.first + from
+  pub last : last_step_of row ≡ track.first + to
   pub stretch : IsStretch (TellsOf row) track.marks from to
   pub measures : Measures row track.marks from to
 
 abbrev pub IsRowOf : Track → Row → Type 0
-IsRowOf track row = (from : ℕ) × (to : ℕ) × Tells track row from to
+IsRowOf track row = (from : ℕ) × (to : ℕ) × TellsStretch track row from to
 
 abbrev pub IsRow : List Track → Row → Type 0
 IsRow [] row = ⊥
@@ -45,5 +45,5 @@ pub record AreRows (tracks : List Track) (rows : List Row) : Type 0 where
 
 -- the same of the rows that end below a bound
 pub record AreRowsBelow (bound : ℕ) (tracks : List Track) (rows : List Row) : Type 0 where
-  pub each : (row : Row) → Contains rows row ↔ (IsRow tracks row × (last_of row < bound))
+  pub each : (row : Row) → Contains rows row ↔ (IsRow tracks row × (last_step_of row < bound))
   pub ordered : InOrder rows

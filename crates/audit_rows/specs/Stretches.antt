@@ -19,17 +19,17 @@ pub record IsStretch (Property : Mark → Type 0) (marks : List Mark) (from to :
 
 -- ---- engaged positions
 
-abbrev pub IsEngaged : Mark → Type 0
-IsEngaged Nothing = ⊥
-IsEngaged Broken = ⊥
-IsEngaged Undecided = ⊥
-IsEngaged (Engaged kind least) = Unit {0}
+abbrev pub MarksEngagement : Mark → Type 0
+MarksEngagement Nothing = ⊥
+MarksEngagement Broken = ⊥
+MarksEngagement Undecided = ⊥
+MarksEngagement (Engaged kind least) = Unit {0}
 
-abbrev pub kind_of : Mark → Option Class
-kind_of Nothing = None
-kind_of Broken = None
-kind_of Undecided = None
-kind_of (Engaged kind least) = Some kind
+abbrev pub marked_kind : Mark → Option Class
+marked_kind Nothing = None
+marked_kind Broken = None
+marked_kind Undecided = None
+marked_kind (Engaged kind least) = Some kind
 
 abbrev pub distance_of : Mark → Option ℕ
 distance_of Nothing = None
@@ -39,6 +39,6 @@ distance_of (Engaged kind least) = Some least
 
 -- Of the marks at two indexes and between them, the first has the kind, and the distance is the least that one of them has.
 pub record HasKindAndLeast (marks : List Mark) (from to : ℕ) (kind : Class) (least : ℕ) : Type 0 where
-  pub of_first : kind_of (mark_at marks from) ≡ Some kind
+  pub of_first : marked_kind (mark_at marks from) ≡ Some kind
   pub at_least : (k : ℕ) → from ≤ k → k ≤ to → IfSome (distance_of (mark_at marks k)) (λ distance. least ≤ distance)
   pub reached : (k : ℕ) × (from ≤ k) × (k ≤ to) × (distance_of (mark_at marks k) ≡ Some least)

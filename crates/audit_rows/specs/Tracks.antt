@@ -4,7 +4,7 @@ use Rattle.std.specs.List.{AllByRecursion, slice_get}
 use Rattle.std.specs.Option.{IfSome}
 use Rattle.audit_rows.specs.declared.mark.Mark.{Mark}
 use Rattle.audit_rows.specs.declared.topic.Topic.{Topic}
-use Rattle.audit_rows.specs.Stretches.{IsEngaged, mark_at}
+use Rattle.audit_rows.specs.Stretches.{MarksEngagement, mark_at}
 
 -- the marks of one topic, one for each step from the first on
 pub record Track : Type 0 where
@@ -39,7 +39,7 @@ marked (track ∷ tracks) (suc index) mark = track ∷ marked tracks index mark
 pub record Repeats (track : Track) (mark : Mark) : Type 0 where
   pub some : 0 < length track.marks
   pub same : mark_at track.marks (length track.marks - 1) ≡ mark
-  pub quiet : ¬ IsEngaged mark
+  pub quiet : ¬ MarksEngagement mark
 
 -- The next mark of the track at an index, if there is one, is for the step.
 abbrev pub IsNextAt : List Track → ℕ → ℕ → Type 0

@@ -1,6 +1,6 @@
 //! The rows of an audit.
 ghost use Rattle.std.specs.Prelude.{◌≡◌};
-ghost use Rattle.audit_rows.specs.Order.{place_of};
+ghost use Rattle.audit_rows.specs.Order.{sort_key_of};
 
 use crate::place::Place;
 use crate::topic::Topic;
@@ -41,7 +41,7 @@ pub enum Row {
 impl Row {
     /// Where the row stands among all rows.
     pub(crate) fn place(&self) -> Place
-        ensures { result ≡ place_of self.now }
+        ensures { result ≡ sort_key_of self.now }
     {
         match *self {
             Row::Meeting { pair, last, .. } => Place {

@@ -18,7 +18,7 @@ use Rattle.encounters.specs.Engagement.{seen_at}
 use Rattle.encounters.specs.declared.engagement_state.EngagementState.{EngagementState}
 use Rattle.encounters.specs.declared.engagement_state.EngagementState.TheVariants.{Apart, Engaged}
 use Rattle.encounters.specs.declared.pair_step.PairStep.{PairStep}
-use Rattle.meetings.specs.Atoms.{AreAnswers, AreRows, IsAtomRow, Tells}
+use Rattle.meetings.specs.Atoms.{AreAnswers, AreAtomRows, IsAtomRow, Tells}
 use Rattle.meetings.specs.SinceBeginning.{age_of, kind_of}
 use Rattle.meetings.specs.Ranks.{both_power_driven}
 use Rattle.meetings.specs.Terms.{Terms}
@@ -121,7 +121,7 @@ module _ (terms : Terms) where
 
   -- ---- at a position of a trace
 
-  module _ (steps : List (Option PairStep)) (trace : Trace) (metres i : ℕ) (rows : AreRows terms steps trace) where
+  module _ (steps : List (Option PairStep)) (trace : Trace) (metres i : ℕ) (rows : AreAtomRows terms steps trace) where
     abbrev answered : Atom → Option (Atom → Verdict) → Verdict
     answered a o = answer_at (λ row. row) trace a o
 

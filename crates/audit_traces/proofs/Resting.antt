@@ -12,12 +12,12 @@ use Rattle.mtl_monitor.specs.Traces.{Trace, value_in}
 use Rattle.mtl_monitor.specs.declared.program.Program.{Program}
 use Rattle.mtl_monitor.specs.declared.trace_state.TraceState.{TraceState}
 use Rattle.encounters.specs.declared.pair_step.PairStep.{PairStep}
-use Rattle.audit_rows.specs.Stretches.{IsEngaged}
+use Rattle.audit_rows.specs.Stretches.{MarksEngagement}
 use Rattle.audit_rows.specs.Tracks.{Repeats, Track, longer}
 use Rattle.audit_rows.specs.declared.mark.Mark.{Mark}
 use Rattle.audit_rows.specs.declared.row.Row.{Row}
 use Rattle.audit_rows.proofs.ForCallers.{repeated}
-use Rattle.audit_traces.specs.Audited.{Numbers}
+use Rattle.audit_traces.specs.Audited.{AuditNumbers}
 use Rattle.audit_traces.specs.AuditTracks.{IsMeetingMark}
 use Rattle.audit_traces.specs.ValueMarks.{mark_of}
 use Rattle.audit_traces.specs.Tallies.{Keeps}
@@ -82,7 +82,7 @@ module _ (program : Program) (old new : TraceState) (formulas : List FormulaTree
 
 -- ---- tracks
 
-not_engaged : (value : Verdict) → ¬ IsEngaged (mark_of value)
+not_engaged : (value : Verdict) → ¬ MarksEngagement (mark_of value)
 not_engaged Yes h = h
 not_engaged No h = h
 not_engaged Open h = h
@@ -135,7 +135,7 @@ module _ (known : Known) (seen : Option PairStep) (row : Atom → Verdict) (mark
 
 -- ---- the step
 
-module _ (program : Program) (numbers : Numbers) (trace : AuditTrace) (known : Known) (seen : Option PairStep) (row : Atom → Verdict) (mark : Mark)
+module _ (program : Program) (numbers : AuditNumbers) (trace : AuditTrace) (known : Known) (seen : Option PairStep) (row : Atom → Verdict) (mark : Mark)
     (stands : StandsFor program numbers trace (watched known seen row))
     (is_mark : IsMeetingMark numbers.detect (known.steps ++ seen ∷ []) (length known.steps) mark)
     (old : TraceState) (was : Follows program old (formulas_of numbers) known.trace) (same : GivesTheSame program old trace.values)

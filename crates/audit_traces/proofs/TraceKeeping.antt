@@ -13,7 +13,7 @@ use Rattle.audit_rows.specs.Stretches.{mark_at}
 use Rattle.audit_rows.specs.Tracks.{Repeats, Track, longer, next_step}
 use Rattle.audit_rows.specs.declared.mark.Mark.{Mark}
 use Rattle.audit_rows.specs.declared.row.Row.{Row}
-use Rattle.audit_traces.specs.Audited.{Numbers}
+use Rattle.audit_traces.specs.Audited.{AuditNumbers}
 use Rattle.audit_traces.specs.AuditTracks.{IsMeetingMark}
 use Rattle.audit_traces.specs.Inner.RowAnswers.{AwaitAll, MarksRules, answered_all}
 use Rattle.audit_traces.specs.Tallies.{Keeps}
@@ -37,12 +37,12 @@ behind_meeting program trace first old new marks rules bound before meeting mine
 -- ---- a step
 
 -- The meeting's track, where it is the one at the index, has one mark more.
-pub record MarksMeeting (numbers : Numbers) (known : Known) (first : ℕ) (mark : Mark) (old new : Marks) : Type 0 where
+pub record MarksMeeting (numbers : AuditNumbers) (known : Known) (first : ℕ) (mark : Mark) (old new : Marks) : Type 0 where
   pub keeps : (rules bound : ℕ) (before after : List Track) (track : Track) (given : List Row) → first ≡ length before → IsMeetingTrack numbers known track
       → Keeps old rules (before ++ track ∷ after) bound given → Keeps new rules (before ++ longer track mark ∷ after) bound given
 
 -- So it has where the mark is taken, or is left out since the vessels were apart and are.
-pub meeting_marked : (numbers : Numbers) (known : Known) (seen : Option PairStep) (mark : Mark) (was is : EngagementState) (apart : Bool) (first step : ℕ) (old new : Marks)
+pub meeting_marked : (numbers : AuditNumbers) (known : Known) (seen : Option PairStep) (mark : Mark) (was is : EngagementState) (apart : Bool) (first step : ℕ) (old new : Marks)
     → step ≡ known.start + length known.steps → IsStateAfter numbers.detect known.steps was → IsStateAfter numbers.detect (known.steps ++ seen ∷ []) is
     → IsMeetingMark numbers.detect (known.steps ++ seen ∷ []) (length known.steps) mark
     → (apart ≡ true → was ≡ Apart) → (apart ≡ true → is ≡ Apart) → (apart ≡ true → known.start < step)
@@ -60,7 +60,7 @@ meeting_marked numbers known seen mark was is apart first step old new at before
       apart_repeats numbers.detect known.steps seen was is (was_apart rests) (is_apart rests) (omega arith) before_is after_is mark is_mark track count meeting.marks.each);
 }
 
-module _ (program : Program) (numbers : Numbers) (trace : AuditTrace) (known : Known) (seen : Option PairStep) (row : Atom → Verdict) (mark : Mark)
+module _ (program : Program) (numbers : AuditNumbers) (trace : AuditTrace) (known : Known) (seen : Option PairStep) (row : Atom → Verdict) (mark : Mark)
     (stands : StandsFor program numbers trace (watched known seen row))
     (is_mark : IsMeetingMark numbers.detect (known.steps ++ seen ∷ []) (length known.steps) mark) where
   pub meeting_longer : (track : Track) → IsMeetingTrack numbers known track → IsMeetingTrack numbers (watched known seen row) (longer track mark)
@@ -108,12 +108,12 @@ module _ (program : Program) (numbers : Numbers) (trace : AuditTrace) (known : K
 -- ---- rows beyond the end
 
 -- Where so many rows have passed beyond its end, the trace has these tracks.
-pub record HasTracksPast (past : ℕ) (numbers : Numbers) (known : Known) (marks : Marks) (before after : List Track) (bound : ℕ) (given : List Row) : Type 0 where
+pub record HasTracksPast (past : ℕ) (numbers : AuditNumbers) (known : Known) (marks : Marks) (before after : List Track) (bound : ℕ) (given : List Row) : Type 0 where
   pub mine : List Track
   pub tracks : AreTracks (AreRuleMarksPast past) numbers known mine
   pub keeps : Keeps marks (length numbers.rules) (before ++ mine ++ after) bound given
 
-module _ (numbers : Numbers) (known : Known) (marks : Marks) (before after : List Track) (bound : ℕ) (given : List Row) where
+module _ (numbers : AuditNumbers) (known : Known) (marks : Marks) (before after : List Track) (bound : ℕ) (given : List Row) where
   pub at_end : (mine : List Track) → AreTracksSoFar numbers known mine → Keeps marks (length numbers.rules) (before ++ mine ++ after) bound given
       → HasTracksPast 0 numbers known marks before after bound given
   at_end [] tracks keeps = absurd tracks
@@ -136,7 +136,7 @@ module _ (numbers : Numbers) (known : Known) (marks : Marks) (before after : Lis
         keeps = keeps;
       }
 
-module _ (program : Program) (numbers : Numbers) (trace : AuditTrace) (known : Known) (first past : ℕ) (old new : Marks)
+module _ (program : Program) (numbers : AuditNumbers) (trace : AuditTrace) (known : Known) (first past : ℕ) (old new : Marks)
     (start : trace.start ≡ known.start) (closes : Closes program trace.values (formulas_of numbers) known.trace) (rows : past_of trace.values ≡ past + 1)
     (marks : MarksRules program trace (first + 1) (count_of program) old new) where
   pub one_past : (before after : List Track) (bound : ℕ) (given : List Row) → first ≡ length before

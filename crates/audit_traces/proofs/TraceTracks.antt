@@ -20,14 +20,14 @@ use Rattle.encounters.specs.declared.detect.Detect.{Detect}
 use Rattle.encounters.specs.declared.engagement_state.EngagementState.TheVariants as state
 use Rattle.encounters.specs.declared.pair_step.PairStep.{PairStep}
 use Rattle.encounters.proofs.ForCallers.{seen_at-front, seen_at-last, state_over_more}
-use Rattle.audit_rows.specs.Stretches.{IsEngaged as IsEngagedMark, mark_at}
+use Rattle.audit_rows.specs.Stretches.{MarksEngagement as IsEngagedMark, mark_at}
 use Rattle.audit_rows.specs.Tracks.{Repeats, Track}
 use Rattle.audit_rows.specs.declared.mark.Mark.{Mark}
 use Rattle.audit_rows.specs.declared.mark.Mark.TheVariants.{Nothing, Broken, Undecided, Engaged}
 use Rattle.audit_rows.specs.declared.topic.Topic.TheVariants as topic
 use Rattle.meetings.specs.SinceBeginning.{kind_of}
 use Rattle.meetings.specs.declared.pair.Pair.{Pair}
-use Rattle.audit_traces.specs.AuditTracks.{IsLeast, IsMeetingMark}
+use Rattle.audit_traces.specs.AuditTracks.{IsLeastSeparation, IsMeetingMark}
 use Rattle.audit_traces.specs.ValueMarks.{mark_of}
 use Rattle.audit_traces.specs.Inner.RowAnswers.{Answer, AreAnswers, AwaitAll, Awaits, IsAnswer, answered, answered_all}
 use Rattle.audit_traces.specs.TraceKeeping.{AreRuleMarksSoFar, AreRuleMarksWhole, AreRuleTracks, IsRuleTrack, Known}
@@ -62,7 +62,7 @@ meeting_stays detect steps more i Broken lt h = h
 meeting_stays detect steps more i Undecided lt h = h
 meeting_stays detect steps more i (Engaged kind least) lt (is_kind, is_least) = (
   (is_kind.0, (state_over_more detect steps more i is_kind.0 lt is_kind.1.0, is_kind.1.1)),
-  subst (λ (seen : Option PairStep). IsSomeAnd seen (λ pair. IsLeast least pair.step)) (sym (seen_at-front steps more i lt)) is_least,
+  subst (λ (seen : Option PairStep). IsSomeAnd seen (λ pair. IsLeastSeparation least pair.step)) (sym (seen_at-front steps more i lt)) is_least,
 )
 
 module _ (detect : Detect) (steps : List (Option PairStep)) (seen : Option PairStep) where
@@ -71,11 +71,11 @@ module _ (detect : Detect) (steps : List (Option PairStep)) (seen : Option PairS
       let last : length (steps ++ seen ∷ []) - 1 ≡ length steps = omega (arith, length-append steps (seen ∷ [])) in
       subst (λ (i : ℕ). IsState detect (steps ++ seen ∷ []) i state) last h
 
-  pub engaged_mark : (kind : Class) (age : ℕ) (a b : TickState) (pair : PairStep) (least : ℕ) → seen ≡ Some pair → IsLeast least pair.step
+  pub engaged_mark : (kind : Class) (age : ℕ) (a b : TickState) (pair : PairStep) (least : ℕ) → seen ≡ Some pair → IsLeastSeparation least pair.step
       → IsStateAfter detect (steps ++ seen ∷ []) (state.Engaged kind age a b) → IsMeetingMark detect (steps ++ seen ∷ []) (length steps) (Engaged kind least)
   engaged_mark kind age a b pair least e is_least h = (
     (state.Engaged kind age a b, (at_last_step (state.Engaged kind age a b) h, refl)),
-    subst (λ (o : Option PairStep). IsSomeAnd o (λ pair. IsLeast least pair.step)) (sym (seen_at-last steps seen ∙ e)) is_least,
+    subst (λ (o : Option PairStep). IsSomeAnd o (λ pair. IsLeastSeparation least pair.step)) (sym (seen_at-last steps seen ∙ e)) is_least,
   )
 
   pub unseen_mark : seen ≡ None → IsMeetingMark detect (steps ++ seen ∷ []) (length steps) Nothing

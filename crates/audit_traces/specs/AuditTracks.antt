@@ -9,7 +9,7 @@ use Rattle.encounters.specs.declared.detect.Detect.{Detect}
 use Rattle.encounters.specs.declared.engagement_state.EngagementState.{EngagementState}
 use Rattle.encounters.specs.declared.pair_step.PairStep.{PairStep}
 use Rattle.motion.specs.Steps.{RelativeMove}
-use Rattle.meetings.specs.Atoms.{AreRows}
+use Rattle.meetings.specs.Atoms.{AreAtomRows}
 use Rattle.meetings.specs.SinceBeginning.{kind_of}
 use Rattle.meetings.specs.declared.pair.Pair.{Pair}
 use Rattle.audit_rows.specs.Stretches.{mark_at}
@@ -19,13 +19,13 @@ use Rattle.audit_rows.specs.declared.mark.Mark.TheVariants.{Nothing, Broken, Und
 use Rattle.audit_rows.specs.declared.topic.Topic.{Topic}
 use Rattle.audit_rows.specs.declared.topic.Topic.TheVariants.{Meeting, Verdict as OfVerdict}
 use Rattle.audit_traces.specs.ValueMarks.{mark_of}
-use Rattle.audit_traces.specs.Audited.{Begins, Numbers, Sighting, terms_of, trace_steps}
+use Rattle.audit_traces.specs.Audited.{Begins, AuditNumbers, Sighting, terms_of, trace_steps}
 
 -- ---- a position of a trace with these steps
 
 -- The step is separated by this distance, and by no greater.
-abbrev pub IsLeast : ℕ → RelativeMove → Type 0
-IsLeast least step = (m : ℕ) → IsSeparated step m ↔ (m ≤ least)
+abbrev pub IsLeastSeparation : ℕ → RelativeMove → Type 0
+IsLeastSeparation least step = (m : ℕ) → IsSeparated step m ↔ (m ≤ least)
 
 -- They are engaged there with this kind.
 abbrev pub IsKind : Detect → List (Option PairStep) → ℕ → Class → Type 0
@@ -37,11 +37,11 @@ IsMeetingMark detect steps i Nothing = ¬ IsEngaged detect steps i
 IsMeetingMark detect steps i Broken = ⊥
 IsMeetingMark detect steps i Undecided = ⊥
 IsMeetingMark detect steps i (Engaged kind least) =
-    IsKind detect steps i kind × IsSomeAnd (seen_at steps i) (λ pair. IsLeast least pair.step)
+    IsKind detect steps i kind × IsSomeAnd (seen_at steps i) (λ pair. IsLeastSeparation least pair.step)
 
 -- ---- the tracks of all traces
 
-module _ (numbers : Numbers) (ticks : List Sighting) where
+module _ (numbers : AuditNumbers) (ticks : List Sighting) where
   -- the marks of a meeting, one for each step of the trace
   pub record AreMeetingMarks (pair : Pair) (start : ℕ) (marks : List Mark) : Type 0 where
     pub begins : Begins numbers ticks pair start
@@ -51,7 +51,7 @@ module _ (numbers : Numbers) (ticks : List Sighting) where
   -- what each step of the trace answers to the atoms
   pub record IsTraceOf (pair : Pair) (start : ℕ) (trace : Trace) : Type 0 where
     pub begins : Begins numbers ticks pair start
-    pub rows : AreRows (terms_of numbers) (trace_steps numbers ticks pair start) trace
+    pub rows : AreAtomRows (terms_of numbers) (trace_steps numbers ticks pair start) trace
 
   -- the marks of a rule, one for each step of the trace: the values of its formula there
   pub record AreRuleMarks (pair : Pair) (rule start : ℕ) (marks : List Mark) : Type 0 where

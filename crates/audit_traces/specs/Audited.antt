@@ -15,7 +15,7 @@ use Rattle.motion.specs.declared.leg.TickState.{TickState}
 use Rattle.rule_set.specs.NamedTrees.{NamedTree}
 
 -- A tick lasts so many seconds, and the last one has the number `last_tick`.
-pub record Numbers : Type 0 where
+pub record AuditNumbers : Type 0 where
   pub detect : Detect
   pub act : Act
   pub tick : ℕ
@@ -24,7 +24,7 @@ pub record Numbers : Type 0 where
   pub rules : List NamedTree
 
 -- by what the meetings of two vessels are told
-abbrev pub terms_of : Numbers → Terms
+abbrev pub terms_of : AuditNumbers → Terms
 terms_of numbers = record { detect = numbers.detect; act = numbers.act; tick = numbers.tick }
 
 -- the vessels that are seen at a tick, each by her MMSI, with her state there
@@ -43,8 +43,8 @@ abbrev pub state_in : ℕ → Sighting → Option TickState
 state_in mmsi seen = option_map (λ (vessel : ℕ × TickState). vessel.1) (find (λ (vessel : ℕ × TickState). vessel.0 == mmsi) seen)
 
 -- the state of a vessel at a tick; at one that was not given none is seen
-abbrev pub state_at : List Sighting → ℕ → ℕ → Option TickState
-state_at ticks mmsi k = state_in mmsi (get_or ticks k [])
+abbrev pub seen_state_at : List Sighting → ℕ → ℕ → Option TickState
+seen_state_at ticks mmsi k = state_in mmsi (get_or ticks k [])
 
 -- the vessels seen at the last tick that was given; none where none was
 abbrev pub last_sighting : List Sighting → Sighting
@@ -63,12 +63,12 @@ pub record IsAudited (subjects : List ℕ) (pair : Pair) : Type 0 where
   pub two : pair.subject ≢ pair.other
   pub chosen : (subjects ≡ []) ⊎ Contains subjects pair.subject ⊎ Contains subjects pair.other
 
-module _ (numbers : Numbers) (ticks : List Sighting) where
+module _ (numbers : AuditNumbers) (ticks : List Sighting) where
   -- The trace of the pair begins at this tick: the least before the last at which both are seen, and watched.
   pub record Begins (pair : Pair) (start : ℕ) : Type 0 where
     pub audited : IsAudited numbers.subjects pair
-    pub begins : BeginsTrace (state_at ticks pair.subject) (state_at ticks pair.other) numbers.detect.watch numbers.last_tick start
+    pub begins : BeginsTrace (seen_state_at ticks pair.subject) (seen_state_at ticks pair.other) numbers.detect.watch numbers.last_tick start
 
   -- its steps, from there to the last tick that was given
   abbrev pub trace_steps : Pair → ℕ → List (Option PairStep)
-  trace_steps pair start = steps_from (state_at ticks pair.subject) (state_at ticks pair.other) start (length ticks - 1 - start)
+  trace_steps pair start = steps_from (seen_state_at ticks pair.subject) (seen_state_at ticks pair.other) start (length ticks - 1 - start)

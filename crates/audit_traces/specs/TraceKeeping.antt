@@ -8,14 +8,14 @@ use Rattle.mtl_monitor.specs.Traces.{Trace, value_in}
 use Rattle.mtl_monitor.specs.Following as monitor
 use Rattle.mtl_monitor.specs.declared.program.Program.{Program}
 use Rattle.encounters.specs.declared.pair_step.PairStep.{PairStep}
-use Rattle.meetings.specs.Atoms.{AreRows}
+use Rattle.meetings.specs.Atoms.{AreAtomRows}
 use Rattle.meetings.specs.Standing as meetings
 use Rattle.meetings.specs.declared.pair.Pair.{Pair}
 use Rattle.audit_rows.specs.Stretches.{mark_at}
 use Rattle.audit_rows.specs.Tracks.{Track}
 use Rattle.audit_rows.specs.declared.mark.Mark.{Mark}
 use Rattle.audit_rows.specs.declared.topic.Topic.TheVariants as topic
-use Rattle.audit_traces.specs.Audited.{Numbers, terms_of}
+use Rattle.audit_traces.specs.Audited.{AuditNumbers, terms_of}
 use Rattle.audit_traces.specs.AuditTracks.{IsMeetingMark}
 use Rattle.audit_traces.specs.ValueMarks.{mark_of}
 use Rattle.audit_rows.specs.declared.row.Row.{Row}
@@ -30,7 +30,7 @@ pub record Known : Type 0 where
   pub steps : List (Option PairStep)
   pub trace : Trace
 
-abbrev pub formulas_of : Numbers → List FormulaTree
+abbrev pub formulas_of : AuditNumbers → List FormulaTree
 formulas_of numbers = map (λ rule. rule.tree) numbers.rules
 
 -- a trace of no steps yet
@@ -44,7 +44,7 @@ watched known seen answers = record { pair = known.pair; start = known.start; st
 -- ---- its tracks
 
 -- One mark for each step.
-pub record AreMeetingMarksSoFar (numbers : Numbers) (steps : List (Option PairStep)) (marks : List Mark) : Type 0 where
+pub record AreMeetingMarksSoFar (numbers : AuditNumbers) (steps : List (Option PairStep)) (marks : List Mark) : Type 0 where
   pub count : length marks ≡ length steps
   pub each : (i : ℕ) → i < length marks → IsMeetingMark numbers.detect steps i (mark_at marks i)
 
@@ -71,20 +71,20 @@ module _ (AreMarks : FormulaTree → Trace → List Mark → Type 0) (known : Kn
   AreRuleTracks rule _ _ = ⊥
 
 -- Its tracks: the meeting's, and then one for each rule.
-pub record IsMeetingTrack (numbers : Numbers) (known : Known) (track : Track) : Type 0 where
+pub record IsMeetingTrack (numbers : AuditNumbers) (known : Known) (track : Track) : Type 0 where
   pub topic : track.topic ≡ topic.Meeting known.pair
   pub first : track.first ≡ known.start
   pub marks : AreMeetingMarksSoFar numbers known.steps track.marks
 
-abbrev pub AreTracks : (FormulaTree → Trace → List Mark → Type 0) → Numbers → Known → List Track → Type 0
+abbrev pub AreTracks : (FormulaTree → Trace → List Mark → Type 0) → AuditNumbers → Known → List Track → Type 0
 AreTracks AreMarks numbers known [] = ⊥
 AreTracks AreMarks numbers known (meeting ∷ rules) =
     IsMeetingTrack numbers known meeting × AreRuleTracks AreMarks known 0 (formulas_of numbers) rules
 
-abbrev pub AreTracksSoFar : Numbers → Known → List Track → Type 0
+abbrev pub AreTracksSoFar : AuditNumbers → Known → List Track → Type 0
 AreTracksSoFar = AreTracks AreRuleMarksSoFar
 
-abbrev pub AreTracksWhole : Numbers → Known → List Track → Type 0
+abbrev pub AreTracksWhole : AuditNumbers → Known → List Track → Type 0
 AreTracksWhole = AreTracks AreRuleMarksWhole
 
 -- ---- what is kept of it
@@ -98,17 +98,17 @@ pub record IsReady (program : Program) (trace : AuditTrace) : Type 0 where
 abbrev pub steps_of : AuditTrace → ℕ
 steps_of trace = monitor.fed_of trace.values
 
-pub record StandsFor (program : Program) (numbers : Numbers) (trace : AuditTrace) (known : Known) : Type 0 where
+pub record StandsFor (program : Program) (numbers : AuditNumbers) (trace : AuditTrace) (known : Known) : Type 0 where
   pub pair : trace.pair ≡ known.pair
   pub start : trace.start ≡ known.start
   pub follows : meetings.Follows trace.follower (terms_of numbers) known.steps
-  pub rows : AreRows (terms_of numbers) known.steps known.trace
+  pub rows : AreAtomRows (terms_of numbers) known.steps known.trace
   pub values : monitor.Follows program trace.values (formulas_of numbers) known.trace
 
 -- ---- what a step and the end come to, among the tracks of other traces
 
 -- With the next step and its answers the trace has these tracks.
-pub record Steps (program : Program) (numbers : Numbers) (trace : AuditTrace) (known : Known) (seen : Option PairStep) (marks : Marks)
+pub record Steps (program : Program) (numbers : AuditNumbers) (trace : AuditTrace) (known : Known) (seen : Option PairStep) (marks : Marks)
     (before after : List Track) (bound : ℕ) (given : List Row) : Type 0 where
   pub answers : Atom → Verdict
   pub stands : StandsFor program numbers trace (watched known seen answers)
@@ -117,7 +117,7 @@ pub record Steps (program : Program) (numbers : Numbers) (trace : AuditTrace) (k
   pub keeps : Keeps marks (length numbers.rules) (before ++ mine ++ after) bound given
 
 -- At its end it has marks at all positions.
-pub record HasTracksOf (numbers : Numbers) (known : Known) (marks : Marks) (before after : List Track) (bound : ℕ) (given : List Row) : Type 0 where
+pub record HasTracksOf (numbers : AuditNumbers) (known : Known) (marks : Marks) (before after : List Track) (bound : ℕ) (given : List Row) : Type 0 where
   pub mine : List Track
   pub tracks : AreTracksWhole numbers known mine
   pub keeps : Keeps marks (length numbers.rules) (before ++ mine ++ after) bound given

@@ -90,7 +90,7 @@ impl AuditTrace {
     ghost use Rattle.mtl_formulas.specs.FormulaTree.{FormulaTree};
     ghost use Rattle.mtl_monitor.specs.Following.{Fits, IsProgramOf, count_of, fed_of, greatest_reach};
     ghost use Rattle.mtl_monitor.specs.declared.program.Program.{Program};
-    ghost use Rattle.audit_traces.specs.Audited.{AreAscending, ArePlaced, MoveLittle, Numbers, step_of};
+    ghost use Rattle.audit_traces.specs.Audited.{AreAscending, ArePlaced, MoveLittle, AuditNumbers, step_of};
     ghost use Rattle.audit_traces.specs.Inner.RowAnswers.{MarksRule, MarksRules};
     ghost use Rattle.audit_traces.specs.TraceKeeping.{AreTracksSoFar, HasTracksOf, IsReady, Known, StandsFor, Steps, formulas_of, opened, steps_of};
 
@@ -108,7 +108,7 @@ impl AuditTrace {
         requires early { start < 2 ^ 31 }
         ensures ready { IfOk result (IsReady program.now) }
         ensures steps { IfOk result (λ trace. steps_of trace ≡ 0) }
-        ensures stands { IfOk result (λ trace. (numbers : Numbers) → IsProgramOf program.now (formulas_of numbers) → numbers.detect ≡ detect
+        ensures stands { IfOk result (λ trace. (numbers : AuditNumbers) → IsProgramOf program.now (formulas_of numbers) → numbers.detect ≡ detect
             → numbers.act ≡ act → numbers.tick ≡ tick → StandsFor program.now numbers trace (opened pair start)) }
     {
         Ok(AuditTrace {
@@ -123,7 +123,7 @@ impl AuditTrace {
 
     /// The pair.
     pub fn pair(&self) -> Pair
-        ensures { (program : Program) (numbers : Numbers) (known : Known) → StandsFor program numbers self.now known → result ≡ known.pair }
+        ensures { (program : Program) (numbers : AuditNumbers) (known : Known) → StandsFor program numbers self.now known → result ≡ known.pair }
     {
         self.pair
     }
@@ -141,12 +141,12 @@ impl AuditTrace {
         requires ascending { AreAscending seen.now }
         requires placed { ArePlaced seen.now }
         requires moves { MoveLittle before.now seen.now }
-        ensures step { (program : Program) (numbers : Numbers) (known : Known) → StandsFor program numbers self.old known
+        ensures step { (program : Program) (numbers : AuditNumbers) (known : Known) → StandsFor program numbers self.old known
             → result ≡ step_of known.pair before.now seen.now }
         ensures directions { IfSome result HaveDirections }
         ensures ready { (program : Program) → IsReady program self.old → IsReady program self.new }
         ensures steps { steps_of self.new ≡ steps_of self.old }
-        ensures stands { (program : Program) (numbers : Numbers) (known : Known) → StandsFor program numbers self.old known
+        ensures stands { (program : Program) (numbers : AuditNumbers) (known : Known) → StandsFor program numbers self.old known
             → StandsFor program numbers self.new known }
     {
         let Pair { subject, other } = self.pair;
@@ -231,7 +231,7 @@ impl AuditTrace {
         ensures ready { IsReady program.now self.new }
         ensures steps { steps_of self.new ≡ steps_of self.old + 1 }
         ensures as_many { rules_of marks.new ≡ rules_of marks.old }
-        ensures stands { OnOk result ((numbers : Numbers) (known : Known) (before mine after : List Track) (bound : ℕ) (given : List Row)
+        ensures stands { OnOk result ((numbers : AuditNumbers) (known : Known) (before mine after : List Track) (bound : ℕ) (given : List Row)
             → StandsFor program.now numbers self.old known → step ≡ known.start + length known.steps
             → AreTracksSoFar numbers known mine → first ≡ length before → Keeps marks.old (length numbers.rules) (before ++ mine ++ after) bound given
             → Steps program.now numbers self.new known (option_copied seen.entry) marks.new before after bound given) }
@@ -255,7 +255,7 @@ impl AuditTrace {
         requires totals { rules_of marks.old ≡ count_of program.now }
         requires room { first + count_of program.now + 1 < 2 ^ 64 }
         ensures as_many { rules_of marks.new ≡ rules_of marks.old }
-        ensures ended { OnOk result ((numbers : Numbers) (known : Known) (before mine after : List Track) (bound : ℕ) (given : List Row)
+        ensures ended { OnOk result ((numbers : AuditNumbers) (known : Known) (before mine after : List Track) (bound : ℕ) (given : List Row)
             → StandsFor program.now numbers self.old known → AreTracksSoFar numbers known mine → first ≡ length before
             → Keeps marks.old (length numbers.rules) (before ++ mine ++ after) bound given
             → HasTracksOf numbers known marks.new before after bound given) }

@@ -2,9 +2,9 @@
 use Rattle.std.proofs.Common.{◌≡◌, ℕ, ◌+◌, List, [], ◌∷◌, ◌++◌, length, sym, subst, arith}
 use Rattle.std.specs.List.{Contains}
 use Rattle.mtl_formulas.specs.FormulaTree.{FormulaTree}
-use Rattle.meetings.specs.Atoms.{AreRows}
+use Rattle.meetings.specs.Atoms.{AreAtomRows}
 use Rattle.audit_rows.specs.Tracks.{EndAt, Track}
-use Rattle.audit_traces.specs.Audited.{Numbers, terms_of}
+use Rattle.audit_traces.specs.Audited.{AuditNumbers, terms_of}
 use Rattle.audit_traces.specs.TraceKeeping.{AreRuleMarksWhole, AreRuleTracks, AreTracks, Known, formulas_of}
 use Rattle.auditor.specs.Inner.AuditKeeping.{AreTracksOfAll}
 use Rattle.auditor.specs.Inner.TracesKept.{IsAtStep}
@@ -15,7 +15,7 @@ pub record EndsAt (end : ℕ) (known : Known) : Type 0 where
   pub steps : end ≡ known.start + length known.steps
   pub rows : end ≡ known.start + length known.trace
 
-pub last_step : (numbers : Numbers) (end : ℕ) (known : Known) → IsAtStep end known → AreRows (terms_of numbers) known.steps known.trace → EndsAt end known
+pub last_step : (numbers : AuditNumbers) (end : ℕ) (known : Known) → IsAtStep end known → AreAtomRows (terms_of numbers) known.steps known.trace → EndsAt end known
 last_step numbers end known at rows = let count = rows.count in let is = at.0 in record { steps = is; rows = omega arith }
 
 end_append : (end : ℕ) (xs ys : List Track) → EndAt end xs → EndAt end ys → EndAt end (xs ++ ys)
@@ -32,7 +32,7 @@ rules_end end known rule (tree ∷ trees) (track ∷ tracks) at h =
     let rows = at.rows in
     (omega arith, rules_end end known (rule + 1) trees tracks at h.1)
 
-one_ends : (numbers : Numbers) (end : ℕ) (known : Known) (tracks : List Track) → EndsAt end known → AreTracks AreRuleMarksWhole numbers known tracks → EndAt end tracks
+one_ends : (numbers : AuditNumbers) (end : ℕ) (known : Known) (tracks : List Track) → EndsAt end known → AreTracks AreRuleMarksWhole numbers known tracks → EndAt end tracks
 one_ends numbers end known [] at h = absurd h
 one_ends numbers end known (meeting ∷ rules) at h =
     let first = h.0.first in
@@ -40,7 +40,7 @@ one_ends numbers end known (meeting ∷ rules) at h =
     let steps = at.steps in
     (omega arith, rules_end end known 0 (formulas_of numbers) rules at h.1)
 
-pub all_end : (numbers : Numbers) (end : ℕ) (knowns : List Known) (tracks : List Track) → ((known : Known) → Contains knowns known → EndsAt end known)
+pub all_end : (numbers : AuditNumbers) (end : ℕ) (knowns : List Known) (tracks : List Track) → ((known : Known) → Contains knowns known → EndsAt end known)
     → AreTracksOfAll AreRuleMarksWhole numbers knowns tracks → EndAt end tracks
 all_end numbers end [] tracks at h = subst (λ (ts : List Track). EndAt end ts) (sym h) tt
 all_end numbers end (k ∷ ks) tracks at (mine, others, h) =

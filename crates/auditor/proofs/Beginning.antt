@@ -6,7 +6,7 @@ use Rattle.std.proofs.lemmas.List.Elements.{Contains-append_cases}
 use Rattle.meetings.specs.Traces.{AreInContact}
 use Rattle.meetings.specs.declared.pair.Pair.{Pair}
 use Rattle.audit_rows.specs.declared.row.Row.{Row}
-use Rattle.audit_traces.specs.Audited.{IsAudited, Numbers, Sighting, state_in}
+use Rattle.audit_traces.specs.Audited.{IsAudited, AuditNumbers, Sighting, state_in}
 use Rattle.audit_traces.specs.Contacts.{AreContacts}
 use Rattle.auditor.specs.Inner.AuditKeeping.{pairs_of}
 use Rattle.auditor.specs.Inner.TracesKept.{AreBegun, AreTooMany, Grew, HaveBoth, Holds, IsTaken, MayTake, swapped}
@@ -17,7 +17,7 @@ use Rattle.auditor.proofs.Taking.{grew_on}
 use Rattle.auditor.proofs.Ticks.{audited_back, contact_back}
 
 -- The traces of these pairs have begun.
-pub record AreBegunSo (kept : AllTraces) (numbers : Numbers) (seen : Sighting) (start : ℕ) (before : List Known) (bound : ℕ) (given : List Row) (front : List Pair) : Type 0 where
+pub record AreBegunSo (kept : AllTraces) (numbers : AuditNumbers) (seen : Sighting) (start : ℕ) (before : List Known) (bound : ℕ) (given : List Row) (front : List Pair) : Type 0 where
   pub after : List Known
   pub holds : Holds kept numbers after bound given
   pub once : AllPairs ◌≢◌ (pairs_of after)
@@ -25,7 +25,7 @@ pub record AreBegunSo (kept : AllTraces) (numbers : Numbers) (seen : Sighting) (
   pub grew : Grew numbers seen (pairs_of before) start before after
   pub all : (pair : Pair) → Contains front pair → IsAudited numbers.subjects pair → Contains (pairs_of after) pair
 
-module _ (kept : AllTraces) (numbers : Numbers) (seen : Sighting) (start : ℕ) (before : List Known) (bound : ℕ) (given : List Row) where
+module _ (kept : AllTraces) (numbers : AuditNumbers) (seen : Sighting) (start : ℕ) (before : List Known) (bound : ℕ) (given : List Row) where
   -- the next pair may be taken
   pub may_take : (subjects : List ℕ) (front : List Pair) (pair : Pair) → numbers.subjects ≡ subjects → pair.subject < pair.other
       → AreInContact numbers.detect.watch (state_in pair.subject seen) (state_in pair.other seen)

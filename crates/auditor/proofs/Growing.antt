@@ -9,7 +9,7 @@ use Rattle.rule_set.specs.NamedTrees.{NamedTree}
 use Rattle.meetings.specs.declared.pair.Pair.{Pair}
 use Rattle.audit_rows.specs.Tracks.{Track}
 use Rattle.audit_rows.specs.declared.mark.Mark.{Mark}
-use Rattle.audit_traces.specs.Audited.{Numbers, Sighting}
+use Rattle.audit_traces.specs.Audited.{AuditNumbers, Sighting}
 use Rattle.auditor.specs.Inner.AuditKeeping.{AreAllTracks, AreTracksOfAll, pairs_of}
 use Rattle.auditor.specs.Inner.TracesKept.{IsFollowed}
 use Rattle.audit_traces.specs.Tallies.{IsUnknown, begun_rules, begun_tracks, pair_of}
@@ -32,7 +32,7 @@ zip_length R (v ∷ vs) (w ∷ ws) z = ap suc (zip_length R vs ws z.1)
 
 -- ---- the tracks of a further trace
 
-pub tracks_push : (AreMarks : FormulaTree → Trace → List Mark → Type 0) (numbers : Numbers) (knowns : List Known) (known : Known) (tracks mine : List Track)
+pub tracks_push : (AreMarks : FormulaTree → Trace → List Mark → Type 0) (numbers : AuditNumbers) (knowns : List Known) (known : Known) (tracks mine : List Track)
     → AreTracksOfAll AreMarks numbers knowns tracks → AreTracks AreMarks numbers known mine → AreTracksOfAll AreMarks numbers (knowns ++ known ∷ []) (tracks ++ mine)
 tracks_push AreMarks numbers [] known tracks mine all t =
     (mine, [], (record { whole = ap (λ (ts : List Track). ts ++ mine) all ∙ sym (append-nil mine) }, t, refl))
@@ -45,13 +45,13 @@ opened_rules pair start rule [] = tt
 opened_rules pair start rule (r ∷ rs) =
     (record { topic = refl; first = refl; marks = record { count = omega arith; each = λ i lt more. absurd (omega arith) } }, opened_rules pair start (rule + 1) rs)
 
-pub opened_tracks : (numbers : Numbers) (pair : Pair) (start : ℕ) → AreTracksSoFar numbers (opened pair start) (begun_tracks pair start (length numbers.rules))
+pub opened_tracks : (numbers : AuditNumbers) (pair : Pair) (start : ℕ) → AreTracksSoFar numbers (opened pair start) (begun_tracks pair start (length numbers.rules))
 opened_tracks numbers pair start =
     (record { topic = refl; first = refl; marks = record { count = refl; each = λ i lt. absurd (omega arith) } }, opened_rules pair start 0 numbers.rules)
 
 -- ---- a pair that has no trace is no track's
 
-own_pair : (numbers : Numbers) (known : Known) (mine : List Track) (track : Track) → AreTracksSoFar numbers known mine → Contains mine track → pair_of track.topic ≡ known.pair
+own_pair : (numbers : AuditNumbers) (known : Known) (mine : List Track) (track : Track) → AreTracksSoFar numbers known mine → Contains mine track → pair_of track.topic ≡ known.pair
 own_pair numbers known [] track h i = absurd h
 own_pair numbers known (meeting ∷ rules) track h i =
     elim (in_cons meeting rules track i) [
@@ -63,7 +63,7 @@ pub each_track : (P : Track → Type 0) (tracks : List Track) → ((track : Trac
 each_track P [] h = tt
 each_track P (t ∷ ts) h = (h t (in_head t ts), each_track P ts (λ track i. h track (in_tail t ts track i)))
 
-pub unknown : (numbers : Numbers) (knowns : List Known) (tracks : List Track) (pair : Pair) → AreAllTracks numbers knowns tracks → (Contains (pairs_of knowns) pair → ⊥) → IsUnknown pair tracks
+pub unknown : (numbers : AuditNumbers) (knowns : List Known) (tracks : List Track) (pair : Pair) → AreAllTracks numbers knowns tracks → (Contains (pairs_of knowns) pair → ⊥) → IsUnknown pair tracks
 unknown numbers knowns tracks pair all new =
     each_track (λ track. pair_of track.topic ≡ pair → ⊥) tracks (λ track i e.
     let f = found_trace AreRuleMarksSoFar numbers knowns tracks track all i in

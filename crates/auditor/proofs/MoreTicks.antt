@@ -1,12 +1,12 @@
 -- Traces that have begun stay when further ticks come.
 use Rattle.std.proofs.Common.{ℕ, List, [], ◌∷◌, ◌++◌, append-nil, append_assoc, sym, subst}
 use Rattle.std.proofs.lemmas.List.Elements.{All-weaker}
-use Rattle.audit_traces.specs.Audited.{Begins, Numbers, Sighting}
+use Rattle.audit_traces.specs.Audited.{Begins, AuditNumbers, Sighting}
 use Rattle.auditor.specs.Standing.{HaveMoreThan}
 use Rattle.auditor.proofs.Ticks.{begins_still}
 use Rattle.meetings.specs.declared.pair.Pair.{Pair}
 
-more_stay_once : (most : ℕ) (numbers : Numbers) (ticks : List Sighting) (seen : Sighting) → HaveMoreThan most numbers ticks
+more_stay_once : (most : ℕ) (numbers : AuditNumbers) (ticks : List Sighting) (seen : Sighting) → HaveMoreThan most numbers ticks
     → HaveMoreThan most numbers (ticks ++ seen ∷ [])
 more_stay_once most numbers ticks seen h = record {
   pairs = h.pairs;
@@ -17,7 +17,7 @@ more_stay_once most numbers ticks seen h = record {
 }
 
 -- More traces than this number stay more.
-pub more_stay : (most : ℕ) (numbers : Numbers) (ticks more : List Sighting) → HaveMoreThan most numbers ticks → HaveMoreThan most numbers (ticks ++ more)
+pub more_stay : (most : ℕ) (numbers : AuditNumbers) (ticks more : List Sighting) → HaveMoreThan most numbers ticks → HaveMoreThan most numbers (ticks ++ more)
 more_stay most numbers ticks [] h = subst (HaveMoreThan most numbers) (sym (append-nil ticks)) h
 more_stay most numbers ticks (seen ∷ more) h =
     subst (HaveMoreThan most numbers) (append_assoc ticks (seen ∷ []) more) (more_stay most numbers (ticks ++ seen ∷ []) more (more_stay_once most numbers ticks seen h))

@@ -15,7 +15,7 @@ use Rattle.rule_set.specs.NamedTrees.{NamedTree, rule_at}
 use Rattle.audit_rows.specs.Tracks.{AreSettled, Track, next_step}
 use Rattle.audit_rows.specs.declared.row.Row.{Row}
 use Rattle.audit_rows.proofs.ForCallers.{settled_by_reach}
-use Rattle.audit_traces.specs.Audited.{Begins, Numbers, Sighting, state_at, trace_steps, last_sighting, step_of}
+use Rattle.audit_traces.specs.Audited.{Begins, AuditNumbers, Sighting, seen_state_at, trace_steps, last_sighting, step_of}
 use Rattle.auditor.specs.Inner.AuditKeeping.{AreAllTracks, AreKnown, IsKnown, pairs_of}
 use Rattle.auditor.specs.Inner.TracesKept.{AreBegun, AreKnownOn, AreTooMany, HaveBoth, IsAtStep, IsFollowed, IsFresh, IsNextTick, IsOpened, MayBegin, swapped}
 use Rattle.auditor.specs.Standing.{HaveMoreThan, settled_by}
@@ -41,15 +41,15 @@ zip_member {X} {Y} R (x ∷ xs) (w ∷ ws) y z i =
       | inr later ↦ (let (u, j, r) = zip_member R xs ws y z.1 later in (u, in_tail x xs u j, r))
     ]
 
-pub rows_known : (program : Program) (numbers : Numbers) (traces : List AuditTrace) (knowns : List Known) → AllZip (StandsFor program numbers) traces knowns → HaveRows numbers knowns
+pub rows_known : (program : Program) (numbers : AuditNumbers) (traces : List AuditTrace) (knowns : List Known) → AllZip (StandsFor program numbers) traces knowns → HaveRows numbers knowns
 rows_known program numbers traces knowns z = λ known i. (zip_right (StandsFor program numbers) traces knowns known z i).1.rows
 
 -- ---- each trace takes its step
 
-module _ (numbers : Numbers) (ticks : List Sighting) where
+module _ (numbers : AuditNumbers) (ticks : List Sighting) where
   steps_count : (known : Known) → IsKnown numbers ticks known → length known.steps ≡ length ticks - 1 - known.start
   steps_count known is =
-      ap length is.steps ∙ steps_from-length (state_at ticks known.pair.subject) (state_at ticks known.pair.other) known.start (length ticks - 1 - known.start)
+      ap length is.steps ∙ steps_from-length (seen_state_at ticks known.pair.subject) (seen_state_at ticks known.pair.other) known.start (length ticks - 1 - known.start)
 
   pub are_at_step : (knowns : List Known) (step : ℕ) → AreKnown numbers ticks knowns → step + 1 ≡ length ticks → All (IsAtStep step) knowns
   are_at_step knowns step are e = all_members (IsAtStep step) knowns (λ known i.
@@ -132,7 +132,7 @@ module _ (numbers : Numbers) (ticks : List Sighting) where
           all = λ pair start begins. elim (begins_until ticks seen numbers pair start begins) [
             | inl before ↦ b.grew.still pair (on.all pair start (began_before ticks seen numbers pair start before begins))
             | inr at ↦ b.all pair begins.audited (contact_is_now ticks seen numbers.detect.watch pair.subject pair.other
-                (subst (λ (n : ℕ). AreInContact numbers.detect.watch (state_at (ticks ++ seen ∷ []) pair.subject n) (state_at (ticks ++ seen ∷ []) pair.other n)) at begins.begins.contact))
+                (subst (λ (n : ℕ). AreInContact numbers.detect.watch (seen_state_at (ticks ++ seen ∷ []) pair.subject n) (seen_state_at (ticks ++ seen ∷ []) pair.other n)) at begins.begins.contact))
           ];
           once = b.once;
         }

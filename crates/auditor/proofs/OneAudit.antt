@@ -12,7 +12,7 @@ use Rattle.audit_rows.specs.Rows.{IsRow, IsRowOf}
 use Rattle.audit_rows.specs.Tracks.{Track}
 use Rattle.audit_rows.specs.declared.row.Row.{Row}
 use Rattle.audit_rows.proofs.ForCallers.{one_list}
-use Rattle.audit_traces.specs.Audited.{Numbers, Sighting, terms_of, trace_steps}
+use Rattle.audit_traces.specs.Audited.{AuditNumbers, Sighting, terms_of, trace_steps}
 use Rattle.audit_traces.specs.AuditTracks.{IsTraceOf}
 use Rattle.audit_traces.specs.RuleCounts.{told}
 use Rattle.audit_traces.specs.declared.total.Total.{Total}
@@ -22,7 +22,7 @@ use Rattle.auditor.proofs.Different.{different_from_map, from_map, same_sum}
 use Rattle.auditor.proofs.Members.{in_cons, in_head, in_none, in_tail}
 use Rattle.auditor.proofs.Ticks.{one_beginning}
 
-module _ (numbers : Numbers) (ticks : List Sighting) where
+module _ (numbers : AuditNumbers) (ticks : List Sighting) where
   -- ---- rows
 
   -- tracks of which each of the rows is one, and of which all rows are the audit's

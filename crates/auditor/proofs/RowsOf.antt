@@ -3,14 +3,14 @@ use Rattle.std.proofs.Common.{◌≡◌, ℕ, ◌+◌, ◌-◌, ◌<◌, ◌≤�
 use Rattle.std.specs.List.{Contains}
 use Rattle.mtl_formulas.specs.FormulaTree.{FormulaTree}
 use Rattle.mtl_monitor.specs.Traces.{Trace}
-use Rattle.audit_rows.specs.Order.{first_of, last_of}
+use Rattle.audit_rows.specs.Order.{first_step_of, last_step_of}
 use Rattle.audit_rows.specs.Rows.{AreRows, AreRowsBelow, IsRow, IsRowOf}
 use Rattle.audit_rows.specs.Tracks.{AreSettled, Track, next_step}
 use Rattle.audit_rows.specs.declared.mark.Mark.{Mark}
 use Rattle.audit_rows.specs.declared.row.Row.{Row}
 use Rattle.audit_rows.proofs.ForCallers.{in_rows, row_in, row_stays, row_was, row_within}
 use Rattle.auditor.proofs.Members.{in_cons, in_none}
-use Rattle.audit_traces.specs.Audited.{Numbers, Sighting}
+use Rattle.audit_traces.specs.Audited.{AuditNumbers, Sighting}
 use Rattle.auditor.specs.AuditRows.{AreAuditRows, AreAuditRowsBelow, IsAuditRow}
 use Rattle.audit_traces.specs.AuditTracks.{IsTrack}
 use Rattle.auditor.specs.Inner.AuditKeeping.{AreKnown, AreTracksOfAll}
@@ -42,7 +42,7 @@ settled_at bound (t ∷ ts) track s i =
 closed : (bound last first next count : ℕ) → bound ≤ first + (count - 1) → first ≤ last → next ≡ first + count → last < bound → last + 1 < next
 closed bound last first next count b f n lt = omega arith
 
-module _ (numbers : Numbers) (ticks : List Sighting) (knowns : List Known) (are : AreKnown numbers ticks knowns) (rows_of : HaveRows numbers knowns) (tracks : List Track) where
+module _ (numbers : AuditNumbers) (ticks : List Sighting) (knowns : List Known) (are : AreKnown numbers ticks knowns) (rows_of : HaveRows numbers knowns) (tracks : List Track) where
   pub audit_rows_below : (bound : ℕ) (rows : List Row) → AreTracksOfAll AreRuleMarksSoFar numbers knowns tracks → AreSettled bound tracks → AreRowsBelow bound tracks rows → AreAuditRowsBelow numbers ticks bound rows
   audit_rows_below bound rows all settled h = record {
     each = λ row. (
@@ -52,23 +52,23 @@ module _ (numbers : Numbers) (ticks : List Sighting) (knowns : List Known) (are 
     ordered = h.ordered;
   }
     where
-      there : (row : Row) → IsRow tracks row → last_of row < bound → IsAuditRow numbers ticks row
+      there : (row : Row) → IsRow tracks row → last_step_of row < bound → IsAuditRow numbers ticks row
       there row is lt =
           let (track, i, of) = row_in tracks row is in
           let b = becomes AnyRest AreRuleMarksSoFar any so_far numbers ticks knowns are rows_of tracks all track i in
           let (from, _, ends) = row_within track row of in
-          let early : first_of row ≤ last_of row = (row_within track row of).1 in
-          let late : last_of row + 1 < next_step track = closed bound (last_of row) track.first (next_step track) (length track.marks) (settled_at bound tracks track settled i) (omega arith) refl lt in
+          let early : first_step_of row ≤ last_step_of row = (row_within track row of).1 in
+          let late : last_step_of row + 1 < next_step track = closed bound (last_step_of row) track.first (next_step track) (length track.marks) (settled_at bound tracks track settled i) (omega arith) refl lt in
           (record track { marks = track.marks ++ b.more }, (b.is, row_stays track b.more row late of))
 
-      here : (row : Row) (whole : Track) → IsTrack numbers ticks whole → IsRowOf whole row → last_of row < bound → IsRow tracks row
+      here : (row : Row) (whole : Track) → IsTrack numbers ticks whole → IsRowOf whole row → last_step_of row < bound → IsRow tracks row
       here row whole is of lt =
           let c = comes AnyRest AreRuleMarksSoFar any so_far numbers ticks knowns are rows_of tracks all whole is in
           let track : Track = c.track in
           let longer : IsRowOf (record track { marks = track.marks ++ c.more }) row = subst (λ (t : Track). IsRowOf t row) c.is of in
-          let from : track.first ≤ first_of row = (row_within (record track { marks = track.marks ++ c.more }) row longer).0 in
-          let early : first_of row ≤ last_of row = (row_within (record track { marks = track.marks ++ c.more }) row longer).1 in
-          let late : last_of row + 1 < next_step track = closed bound (last_of row) track.first (next_step track) (length track.marks) (settled_at bound tracks track settled c.held) (omega arith) refl lt in
+          let from : track.first ≤ first_step_of row = (row_within (record track { marks = track.marks ++ c.more }) row longer).0 in
+          let early : first_step_of row ≤ last_step_of row = (row_within (record track { marks = track.marks ++ c.more }) row longer).1 in
+          let late : last_step_of row + 1 < next_step track = closed bound (last_step_of row) track.first (next_step track) (length track.marks) (settled_at bound tracks track settled c.held) (omega arith) refl lt in
           in_rows tracks track row c.held (row_was track c.more row late longer)
 
 -- ---- at the end
@@ -96,7 +96,7 @@ unfolding with_marks
 same_track track more e =
     ap (λ (ms : List Mark). with_marks track (track.marks ++ ms)) e ∙ ap (λ (ms : List Mark). with_marks track ms) (append-nil track.marks)
 
-module _ (numbers : Numbers) (ticks : List Sighting) (knowns : List Known) (are : AreKnown numbers ticks knowns) (rows_of : HaveRows numbers knowns) (tracks : List Track) where
+module _ (numbers : AuditNumbers) (ticks : List Sighting) (knowns : List Known) (are : AreKnown numbers ticks knowns) (rows_of : HaveRows numbers knowns) (tracks : List Track) where
   pub audit_rows : (rows : List Row) → AreTracksOfAll AreRuleMarksWhole numbers knowns tracks → AreRows tracks rows → AreAuditRows numbers ticks rows
   audit_rows rows all h = record {
     each = λ row. (

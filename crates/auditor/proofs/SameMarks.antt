@@ -15,9 +15,9 @@ use Rattle.meetings.specs.SinceBeginning.{kind_of}
 use Rattle.audit_rows.specs.Stretches.{mark_at}
 use Rattle.audit_rows.specs.declared.mark.Mark.{Mark}
 use Rattle.audit_rows.specs.declared.mark.Mark.TheVariants.{Nothing, Broken, Undecided, Engaged}
-use Rattle.audit_traces.specs.AuditTracks.{IsKind, IsLeast, IsMeetingMark}
+use Rattle.audit_traces.specs.AuditTracks.{IsKind, IsLeastSeparation, IsMeetingMark}
 use Rattle.audit_traces.specs.ValueMarks.{mark_of}
-use Rattle.audit_traces.specs.Audited.{Numbers}
+use Rattle.audit_traces.specs.Audited.{AuditNumbers}
 use Rattle.audit_traces.specs.TraceKeeping.{AreMeetingMarksSoFar, AreRuleMarksSoFar, AreRuleMarksWhole}
 
 -- ---- meetings
@@ -30,13 +30,13 @@ module _ (detect : Detect) (steps : List (Option PairStep)) (i : ℕ) where
   one_kind : (kind other : Class) → IsKind detect steps i kind → IsKind detect steps i other → kind ≡ other
   one_kind kind other (s, (is, e)) (t, (it, f)) = same_Some kind other (sym e ∙ (ap kind_of (one_state detect steps i s t is it) ∙ f))
 
-  both_least : (least other : ℕ) (pair : PairStep) → IsLeast least pair.step → IsLeast other pair.step → least ≡ other
+  both_least : (least other : ℕ) (pair : PairStep) → IsLeastSeparation least pair.step → IsLeastSeparation other pair.step → least ≡ other
   both_least least other pair h k =
       let one : least ≤ other = (k least).0 ((h least).1 (omega arith)) in
       let two : other ≤ least = (h other).0 ((k other).1 (omega arith)) in
       omega arith
 
-  one_least : (least other : ℕ) (seen : Option PairStep) → IsSomeAnd seen (λ pair. IsLeast least pair.step) → IsSomeAnd seen (λ pair. IsLeast other pair.step) → least ≡ other
+  one_least : (least other : ℕ) (seen : Option PairStep) → IsSomeAnd seen (λ pair. IsLeastSeparation least pair.step) → IsSomeAnd seen (λ pair. IsLeastSeparation other pair.step) → least ≡ other
   one_least least other None h k = absurd h
   one_least least other (Some pair) h k = both_least least other pair h k
 
@@ -55,7 +55,7 @@ module _ (detect : Detect) (steps : List (Option PairStep)) (i : ℕ) where
       let same_least : least ≡ least' = one_least least least' (seen_at steps i) h.1 k.1 in
       cc
 
-pub same_meeting_marks : (numbers : Numbers) (steps : List (Option PairStep)) (marks others : List Mark) → AreMeetingMarksSoFar numbers steps marks → AreMeetingMarksSoFar numbers steps others → marks ≡ others
+pub same_meeting_marks : (numbers : AuditNumbers) (steps : List (Option PairStep)) (marks others : List Mark) → AreMeetingMarksSoFar numbers steps marks → AreMeetingMarksSoFar numbers steps others → marks ≡ others
 same_meeting_marks numbers steps marks others h k =
     let count = h.count in
     let other_count = k.count in

@@ -3,7 +3,7 @@ use Rattle.std.proofs.Common.{◌≡◌, ℕ, ◌+◌, ◌-◌, ◌≤◌, List,
 use Rattle.mtl_monitor.specs.Following.{greatest_reach}
 use Rattle.audit_rows.specs.Tracks.{AreSettled}
 use Rattle.audit_rows.specs.declared.row.Row.{Row}
-use Rattle.audit_traces.specs.Audited.{Numbers, Sighting, last_sighting}
+use Rattle.audit_traces.specs.Audited.{AuditNumbers, Sighting, last_sighting}
 use Rattle.auditor.specs.AuditRows.{AreAuditRowsBelow}
 use Rattle.auditor.specs.Inner.TracesKept.{AreReady, AreSettledKnowns, HaveRowsBelow, Holds, HoldsNow, IsNextTick}
 use Rattle.auditor.specs.Standing.{HaveMoreThan, StandsFor as AuditStandsFor, settled_by}
@@ -16,13 +16,13 @@ use Rattle.auditor.proofs.RowsOf.{audit_rows_below}
 use Rattle.auditor.proofs.Ticks.{given_now}
 use Rattle.auditor.proofs.TracksOf.{HaveRows}
 
-pub next_tick : (numbers : Numbers) (ticks : List Sighting) (audit : Audit) (given : List Row) (subjects : List ℕ) → subjects ≡ audit.subjects.items → AuditStandsFor audit numbers ticks given
+pub next_tick : (numbers : AuditNumbers) (ticks : List Sighting) (audit : Audit) (given : List Row) (subjects : List ℕ) → subjects ≡ audit.subjects.items → AuditStandsFor audit numbers ticks given
     → IsNextTick numbers ticks subjects audit.last_tick audit.given (settled_by numbers (length ticks - 1))
 next_tick numbers ticks audit given subjects e s =
     let count = s.count in
     record { count = s.count; chosen = sym s.subjects ∙ sym e; last = sym s.last_tick; early = omega arith }
 
-module _ (numbers : Numbers) (ticks : List Sighting) (seen : Sighting) where
+module _ (numbers : AuditNumbers) (ticks : List Sighting) (seen : Sighting) where
   pub counted : length ticks + 1 ≡ length (ticks ++ seen ∷ [])
   counted = let e = length-append ticks (seen ∷ []) in omega arith
 

@@ -3,7 +3,7 @@ use Rattle.std.proofs.Common.{◌≡◌, ◌≢◌, ℕ, ◌⊎◌, inl, inr, Li
 use Rattle.std.specs.List.{AllPairs, Contains}
 use Rattle.std.proofs.lemmas.List.Elements.{Contains-append_cases}
 use Rattle.meetings.specs.declared.pair.Pair.{Pair}
-use Rattle.audit_traces.specs.Audited.{Numbers, Sighting, state_in}
+use Rattle.audit_traces.specs.Audited.{AuditNumbers, Sighting, state_in}
 use Rattle.auditor.specs.Inner.AuditKeeping.{pairs_of}
 use Rattle.auditor.specs.Inner.TracesKept.{Grew, HaveBoth, IsFresh, IsOpened, MayTake, swapped}
 use Rattle.audit_traces.specs.TraceKeeping.{Known, opened}
@@ -12,7 +12,7 @@ use Rattle.auditor.proofs.Growing.{pair_pushed, pairs_push}
 use Rattle.auditor.proofs.Members.{in_cons, in_none}
 use Rattle.auditor.proofs.Ticks.{audited_back, contact_back}
 
-module _ (numbers : Numbers) (seen : Sighting) (old : List Pair) (start : ℕ) where
+module _ (numbers : AuditNumbers) (seen : Sighting) (old : List Pair) (start : ℕ) where
   pub grew_none : (knowns : List Known) → Grew numbers seen old start knowns knowns
   grew_none knowns = record { each = λ known i. inl i; still = λ pair i. i }
 

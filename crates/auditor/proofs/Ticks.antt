@@ -8,7 +8,7 @@ use Rattle.encounters.specs.declared.pair_step.PairStep.{PairStep}
 use Rattle.meetings.specs.Traces.{AreInContact, IsContactAt, step_at, steps_from}
 use Rattle.meetings.specs.declared.pair.Pair.{Pair}
 use Rattle.meetings.proofs.ForCallers.{steps_from-last}
-use Rattle.audit_traces.specs.Audited.{Begins, IsAudited, Numbers, Sighting, state_at, state_in, trace_steps, last_sighting, step_of}
+use Rattle.audit_traces.specs.Audited.{Begins, IsAudited, AuditNumbers, Sighting, seen_state_at, state_in, trace_steps, last_sighting, step_of}
 use Rattle.auditor.specs.Inner.TracesKept.{swapped}
 
 -- ---- the two orders of a pair
@@ -33,13 +33,13 @@ audited_back subjects pair h = record {
   ];
 }
 
-pub begins_back : (numbers : Numbers) (ticks : List Sighting) (pair : Pair) (start : ℕ) → Begins numbers ticks pair start → Begins numbers ticks (swapped pair) start
+pub begins_back : (numbers : AuditNumbers) (ticks : List Sighting) (pair : Pair) (start : ℕ) → Begins numbers ticks pair start → Begins numbers ticks (swapped pair) start
 begins_back numbers ticks pair start h = record {
   audited = audited_back numbers.subjects pair h.audited;
   begins = record {
     before_end = h.begins.before_end;
-    contact = contact_back numbers.detect.watch (state_at ticks pair.subject start) (state_at ticks pair.other start) h.begins.contact;
-    least = λ i lt near. h.begins.least i lt (contact_back numbers.detect.watch (state_at ticks pair.other i) (state_at ticks pair.subject i) near);
+    contact = contact_back numbers.detect.watch (seen_state_at ticks pair.subject start) (seen_state_at ticks pair.other start) h.begins.contact;
+    least = λ i lt near. h.begins.least i lt (contact_back numbers.detect.watch (seen_state_at ticks pair.other i) (seen_state_at ticks pair.subject i) near);
   };
 }
 
@@ -48,7 +48,7 @@ begins_back numbers ticks pair start h = record {
 three : (m n : ℕ) → (m < n) ⊎ (m ≡ n) ⊎ (n < m)
 three m n = grind arith
 
-pub one_beginning : (numbers : Numbers) (ticks : List Sighting) (pair : Pair) (start other : ℕ) → Begins numbers ticks pair start → Begins numbers ticks pair other → start ≡ other
+pub one_beginning : (numbers : AuditNumbers) (ticks : List Sighting) (pair : Pair) (start other : ℕ) → Begins numbers ticks pair start → Begins numbers ticks pair other → start ≡ other
 one_beginning numbers ticks pair start other h k =
     elim (three start other) [
       | inl before ↦ absurd (k.begins.least start before h.begins.contact)
@@ -60,7 +60,7 @@ one_beginning numbers ticks pair start other h k =
 near_or_past : (k n : ℕ) → (k < n) ⊎ (n ≤ k)
 near_or_past k n = grind arith
 
-pub contact_within : (watch : ℕ) (ticks : List Sighting) (a b k : ℕ) → AreInContact watch (state_at ticks a k) (state_at ticks b k) → k < length ticks
+pub contact_within : (watch : ℕ) (ticks : List Sighting) (a b k : ℕ) → AreInContact watch (seen_state_at ticks a k) (seen_state_at ticks b k) → k < length ticks
 contact_within watch ticks a b k h =
     elim (near_or_past k (length ticks)) [
       | inl within ↦ within
@@ -76,23 +76,23 @@ module _ (ticks : List Sighting) (seen : Sighting) where
       let same : length ticks + 0 ≡ length ticks = omega arith in
       ap (λ (k : ℕ). get_or (ticks ++ seen ∷ []) k []) (sym same) ∙ get_or-append-add ticks (seen ∷ []) 0 []
 
-  pub contact_still : (watch a b k : ℕ) → k < length ticks → AreInContact watch (state_at ticks a k) (state_at ticks b k)
-      → AreInContact watch (state_at (ticks ++ seen ∷ []) a k) (state_at (ticks ++ seen ∷ []) b k)
+  pub contact_still : (watch a b k : ℕ) → k < length ticks → AreInContact watch (seen_state_at ticks a k) (seen_state_at ticks b k)
+      → AreInContact watch (seen_state_at (ticks ++ seen ∷ []) a k) (seen_state_at (ticks ++ seen ∷ []) b k)
   contact_still watch a b k lt h = subst (λ (s : Sighting). AreInContact watch (state_in a s) (state_in b s)) (sym (given_front k lt)) h
 
-  pub contact_was : (watch a b k : ℕ) → k < length ticks → AreInContact watch (state_at (ticks ++ seen ∷ []) a k) (state_at (ticks ++ seen ∷ []) b k)
-      → AreInContact watch (state_at ticks a k) (state_at ticks b k)
+  pub contact_was : (watch a b k : ℕ) → k < length ticks → AreInContact watch (seen_state_at (ticks ++ seen ∷ []) a k) (seen_state_at (ticks ++ seen ∷ []) b k)
+      → AreInContact watch (seen_state_at ticks a k) (seen_state_at ticks b k)
   contact_was watch a b k lt h = subst (λ (s : Sighting). AreInContact watch (state_in a s) (state_in b s)) (given_front k lt) h
 
   pub contact_now : (watch a b : ℕ) → AreInContact watch (state_in a seen) (state_in b seen)
-      → AreInContact watch (state_at (ticks ++ seen ∷ []) a (length ticks)) (state_at (ticks ++ seen ∷ []) b (length ticks))
+      → AreInContact watch (seen_state_at (ticks ++ seen ∷ []) a (length ticks)) (seen_state_at (ticks ++ seen ∷ []) b (length ticks))
   contact_now watch a b h = subst (λ (s : Sighting). AreInContact watch (state_in a s) (state_in b s)) (sym given_now) h
 
-  pub contact_is_now : (watch a b : ℕ) → AreInContact watch (state_at (ticks ++ seen ∷ []) a (length ticks)) (state_at (ticks ++ seen ∷ []) b (length ticks))
+  pub contact_is_now : (watch a b : ℕ) → AreInContact watch (seen_state_at (ticks ++ seen ∷ []) a (length ticks)) (seen_state_at (ticks ++ seen ∷ []) b (length ticks))
       → AreInContact watch (state_in a seen) (state_in b seen)
   contact_is_now watch a b h = subst (λ (s : Sighting). AreInContact watch (state_in a s) (state_in b s)) given_now h
 
-  module _ (numbers : Numbers) (pair : Pair) where
+  module _ (numbers : AuditNumbers) (pair : Pair) where
     pub begun_within : (start : ℕ) → Begins numbers ticks pair start → start < length ticks
     begun_within start h = contact_within numbers.detect.watch ticks pair.subject pair.other start h.begins.contact
 
@@ -129,13 +129,13 @@ module _ (ticks : List Sighting) (seen : Sighting) where
 
     -- A pair in contact now, of which no trace began before, begins one now.
     module _ (audited : IsAudited numbers.subjects pair) (more : length ticks < numbers.last_tick) (new : (start : ℕ) → Begins numbers ticks pair start → ⊥) where
-      none_before : (m : ℕ) → m ≤ length ticks → (i : ℕ) → i < m → ¬ IsContactAt (state_at ticks pair.subject) (state_at ticks pair.other) numbers.detect.watch i
+      none_before : (m : ℕ) → m ≤ length ticks → (i : ℕ) → i < m → ¬ IsContactAt (seen_state_at ticks pair.subject) (seen_state_at ticks pair.other) numbers.detect.watch i
       none_before zero le i lt near = absurd (omega arith)
       none_before (suc m) le i lt near =
           elim (last_or_before i m lt) [
             | inl before ↦ none_before m (omega arith) i before near
-            | inr last ↦ (let here : IsContactAt (state_at ticks pair.subject) (state_at ticks pair.other) numbers.detect.watch m =
-                subst (λ (k : ℕ). IsContactAt (state_at ticks pair.subject) (state_at ticks pair.other) numbers.detect.watch k) last near in
+            | inr last ↦ (let here : IsContactAt (seen_state_at ticks pair.subject) (seen_state_at ticks pair.other) numbers.detect.watch m =
+                subst (λ (k : ℕ). IsContactAt (seen_state_at ticks pair.subject) (seen_state_at ticks pair.other) numbers.detect.watch k) last near in
                 new m (record { audited = audited; begins = record { before_end = omega arith; contact = here; least = none_before m (omega arith) } }))
           ]
         where
@@ -165,19 +165,19 @@ steps_agree a b c d i (suc count) f g =
     let here : step_at a b i ≡ step_at c d i = rw (a0, a1, b0, b1) in
     ap₂ (λ (x : Option PairStep) (xs : List (Option PairStep)). x ∷ xs) here (steps_agree a b c d (i + 1) count (λ k le. f k (omega arith)) (λ k le. g k (omega arith)))
 
-module _ (numbers : Numbers) (ticks : List Sighting) (seen : Sighting) (pair : Pair) (start : ℕ) where
+module _ (numbers : AuditNumbers) (ticks : List Sighting) (seen : Sighting) (pair : Pair) (start : ℕ) where
   pub steps_then : start < length ticks → trace_steps numbers (ticks ++ seen ∷ []) pair start ≡ trace_steps numbers ticks pair start ++ step_of pair (last_sighting ticks) seen ∷ []
   steps_then lt =
       let count : length (ticks ++ seen ∷ []) ≡ length ticks + 1 = length-append ticks (seen ∷ []) in
       let more : length (ticks ++ seen ∷ []) - 1 - start ≡ (length ticks - 1 - start) + 1 = omega arith in
       let last : start + (length ticks - 1 - start) ≡ length ticks - 1 = omega arith in
       let now : (length ticks - 1) + 1 ≡ length ticks = omega arith in
-      let a : ℕ → Option TickState = state_at (ticks ++ seen ∷ []) pair.subject in
-      let b : ℕ → Option TickState = state_at (ticks ++ seen ∷ []) pair.other in
+      let a : ℕ → Option TickState = seen_state_at (ticks ++ seen ∷ []) pair.subject in
+      let b : ℕ → Option TickState = seen_state_at (ticks ++ seen ∷ []) pair.other in
       ap (steps_from a b start) more
       ∙ (steps_from-last a b start (length ticks - 1 - start)
       ∙ ap₂ (λ (xs : List (Option PairStep)) (x : Option PairStep). xs ++ x ∷ [])
-      (steps_agree a b (state_at ticks pair.subject) (state_at ticks pair.other) start (length ticks - 1 - start)
+      (steps_agree a b (seen_state_at ticks pair.subject) (seen_state_at ticks pair.other) start (length ticks - 1 - start)
       (λ k le. ap (state_in pair.subject) (given_front ticks seen k (omega arith)))
       (λ k le. ap (state_in pair.other) (given_front ticks seen k (omega arith))))
       (ap (λ (k : ℕ). step_at a b k) last
@@ -188,4 +188,4 @@ module _ (numbers : Numbers) (ticks : List Sighting) (seen : Sighting) (pair : P
   no_steps =
       let count : length (ticks ++ seen ∷ []) ≡ length ticks + 1 = length-append ticks (seen ∷ []) in
       let none : length (ticks ++ seen ∷ []) - 1 - length ticks ≡ 0 = omega arith in
-      ap (steps_from (state_at (ticks ++ seen ∷ []) pair.subject) (state_at (ticks ++ seen ∷ []) pair.other) (length ticks)) none
+      ap (steps_from (seen_state_at (ticks ++ seen ∷ []) pair.subject) (seen_state_at (ticks ++ seen ∷ []) pair.other) (length ticks)) none

@@ -8,7 +8,7 @@ use Rattle.mtl_formulas.specs.declared.verdict.Verdict.TheVariants.{No, Open, Ye
 use Rattle.mtl_monitor.specs.Traces.{value_in}
 use Rattle.rule_set.specs.NamedTrees.{NamedTree, rule_at}
 use Rattle.encounters.specs.declared.pair_step.PairStep.{PairStep}
-use Rattle.meetings.specs.Atoms.{AreRows}
+use Rattle.meetings.specs.Atoms.{AreAtomRows}
 use Rattle.meetings.specs.declared.pair.Pair.{Pair}
 use Rattle.audit_rows.specs.Stretches.{mark_at}
 use Rattle.audit_rows.specs.Tracks.{Track}
@@ -16,7 +16,7 @@ use Rattle.audit_rows.specs.declared.mark.Mark.{Mark}
 use Rattle.audit_rows.specs.declared.row.Row.{Row}
 use Rattle.audit_rows.specs.declared.topic.Topic.{Topic}
 use Rattle.audit_rows.specs.declared.topic.Topic.TheVariants as topic
-use Rattle.audit_traces.specs.Audited.{Numbers, Sighting, terms_of}
+use Rattle.audit_traces.specs.Audited.{AuditNumbers, Sighting, terms_of}
 use Rattle.auditor.specs.AuditTotals.{AreTotals, AreTraces, IsTotal, Traced, is_value, positions_with}
 use Rattle.audit_traces.specs.AuditTracks.{IsTraceOf}
 use Rattle.auditor.specs.Inner.AuditKeeping.{AreKnown, AreTracksOfAll, pairs_of}
@@ -39,13 +39,13 @@ same_pairs : (knowns : List Known) → map (λ (t : Traced). t.pair) (map traced
 same_pairs [] = refl
 same_pairs (k ∷ ks) = ap (λ (ps : List Pair). k.pair ∷ ps) (same_pairs ks)
 
-pub are_traces : (numbers : Numbers) (ticks : List Sighting) (knowns : List Known) → AreKnown numbers ticks knowns → HaveRows numbers knowns → AreTraces numbers ticks (map traced knowns)
+pub are_traces : (numbers : AuditNumbers) (ticks : List Sighting) (knowns : List Known) → AreKnown numbers ticks knowns → HaveRows numbers knowns → AreTraces numbers ticks (map traced knowns)
 are_traces numbers ticks knowns are rows = record {
   each = λ t i. (let (known, j, e) = from_map traced knowns t i in
       let is = are.each known j in
       let of : IsTraceOf numbers ticks known.pair known.start known.trace = record {
         begins = is.begins;
-        rows = subst (λ (s : List (Option PairStep)). AreRows (terms_of numbers) s known.trace) is.steps (rows known j);
+        rows = subst (λ (s : List (Option PairStep)). AreAtomRows (terms_of numbers) s known.trace) is.steps (rows known j);
       } in
       subst (λ (u : Traced). IsTraceOf numbers ticks u.pair u.start u.trace) e of);
   all = λ pair start begins. subst (λ (ps : List Pair). Contains ps pair) (sym (same_pairs knowns)) (are.all pair start begins);
@@ -131,7 +131,7 @@ module _ (rule : ℕ) (test : Mark → Bool) where
       let all = sum_by-cons (marks_in rule test) t ts in
       omega arith
 
-  trace_counted : (numbers : Numbers) (count : ℕ) (known : Known) (mine : List Track) → rule < length numbers.rules
+  trace_counted : (numbers : AuditNumbers) (count : ℕ) (known : Known) (mine : List Track) → rule < length numbers.rules
       → ((marks : List Mark) → AreRuleMarksWhole (rule_at numbers.rules rule).tree known.trace marks → length (filter test marks) ≡ count)
       → AreTracks AreRuleMarksWhole numbers known mine → counted rule test mine ≡ count
   trace_counted numbers count known [] lt f h = absurd h
@@ -141,7 +141,7 @@ module _ (rule : ℕ) (test : Mark → Bool) where
       let all = sum_by-cons (marks_in rule test) meeting rules in
       omega arith
 
-  all_counted : (numbers : Numbers) (count : Traced → ℕ) → rule < length numbers.rules
+  all_counted : (numbers : AuditNumbers) (count : Traced → ℕ) → rule < length numbers.rules
       → ((known : Known) (marks : List Mark) → AreRuleMarksWhole (rule_at numbers.rules rule).tree known.trace marks → length (filter test marks) ≡ count (traced known))
       → (knowns : List Known) (tracks : List Track) → AreTracksOfAll AreRuleMarksWhole numbers knowns tracks → counted rule test tracks ≡ sum_by count (map traced knowns)
   all_counted numbers count lt f [] tracks h = ap (λ (ts : List Track). counted rule test ts) h
@@ -155,7 +155,7 @@ module _ (rule : ℕ) (test : Mark → Bool) where
 
 -- ---- the totals
 
-module _ (numbers : Numbers) (rule : ℕ) (lt : rule < length numbers.rules) (knowns : List Known) (tracks : List Track) (h : AreTracksOfAll AreRuleMarksWhole numbers knowns tracks) where
+module _ (numbers : AuditNumbers) (rule : ℕ) (lt : rule < length numbers.rules) (knowns : List Known) (tracks : List Track) (h : AreTracksOfAll AreRuleMarksWhole numbers knowns tracks) where
   by_value : (value : Verdict) (test : Mark → Bool) → ((v : Verdict) → test (mark_of v) ≡ is_value value v)
       → counted rule test tracks ≡ sum_by (positions_with value (rule_at numbers.rules rule).tree) (map traced knowns)
   by_value value test agree =
@@ -180,7 +180,7 @@ some_still : {X : Type 0} (P Q : X → Type 0) (o : Option X) → ((x : X) → P
 some_still P Q None f h = h
 some_still P Q (Some x) f h = f x h
 
-pub are_totals : (numbers : Numbers) (ticks : List Sighting) (knowns : List Known) (rows : List Row) (totals : List Total) → AreKnown numbers ticks knowns → HaveRows numbers knowns
+pub are_totals : (numbers : AuditNumbers) (ticks : List Sighting) (knowns : List Known) (rows : List Row) (totals : List Total) → AreKnown numbers ticks knowns → HaveRows numbers knowns
     → AreEnded numbers knowns rows totals → AreTotals numbers ticks rows totals
 are_totals numbers ticks knowns rows totals are rows_of ended = record {
   traces = map traced knowns;

@@ -7,7 +7,7 @@ use Rattle.mtl_formulas.specs.FormulaTree.{FormulaTree}
 use Rattle.mtl_monitor.specs.Traces.{Trace}
 use Rattle.rule_set.specs.NamedTrees.{NamedTree, rule_at}
 use Rattle.encounters.specs.declared.pair_step.PairStep.{PairStep}
-use Rattle.meetings.specs.Atoms.{AreRows}
+use Rattle.meetings.specs.Atoms.{AreAtomRows}
 use Rattle.meetings.specs.declared.pair.Pair.{Pair}
 use Rattle.meetings.specs.Ranks.{all_power_driven}
 use Rattle.meetings.proofs.ForCallers.{one_list as one_trace}
@@ -16,7 +16,7 @@ use Rattle.audit_rows.specs.declared.mark.Mark.{Mark}
 use Rattle.audit_rows.specs.declared.topic.Topic.{Topic}
 use Rattle.audit_rows.specs.declared.topic.Topic.TheVariants.{Meeting, Verdict}
 use Rattle.auditor.proofs.Members.{in_cons, in_head, in_none, in_tail}
-use Rattle.audit_traces.specs.Audited.{Begins, Numbers, Sighting, terms_of, trace_steps}
+use Rattle.audit_traces.specs.Audited.{Begins, AuditNumbers, Sighting, terms_of, trace_steps}
 use Rattle.audit_traces.specs.AuditTracks.{AreMarksOf, AreMeetingMarks, AreRuleMarks, IsTrack}
 use Rattle.auditor.specs.Inner.AuditKeeping.{AreKnown, AreTracksOfAll, IsKnown}
 use Rattle.audit_traces.specs.TraceKeeping.{AreMeetingMarksSoFar, AreRuleMarksWhole, AreRuleTracks, AreTracks, IsMeetingTrack, IsRuleTrack, Known}
@@ -44,7 +44,7 @@ pub record GoesOn (Rest : List Mark → Type 0) (tree : FormulaTree) (trace : Tr
   pub rest : Rest more
   pub whole : AreRuleMarksWhole tree trace (marks ++ more)
 
-module _ (AreMarks : FormulaTree → Trace → List Mark → Type 0) (numbers : Numbers) where
+module _ (AreMarks : FormulaTree → Trace → List Mark → Type 0) (numbers : AuditNumbers) where
   -- the rule's track that is one of these
   pub record RuleFound (known : Known) (rule : ℕ) (rules : List NamedTree) (track : Track) : Type 0 where
     pub index : ℕ
@@ -124,12 +124,12 @@ module _ (AreMarks : FormulaTree → Trace → List Mark → Type 0) (numbers : 
       ]
 
 -- what is kept of each trace is its answers to the atoms
-abbrev pub HaveRows : Numbers → List Known → Type 0
-HaveRows numbers knowns = (known : Known) → Contains knowns known → AreRows (terms_of numbers) known.steps known.trace
+abbrev pub HaveRows : AuditNumbers → List Known → Type 0
+HaveRows numbers knowns = (known : Known) → Contains knowns known → AreAtomRows (terms_of numbers) known.steps known.trace
 
 module _ (Rest : List Mark → Type 0) (AreMarks : FormulaTree → Trace → List Mark → Type 0) (none : Rest [])
     (go_on : (tree : FormulaTree) (trace : Trace) (marks : List Mark) → AreMarks tree trace marks → GoesOn Rest tree trace marks)
-    (numbers : Numbers) (ticks : List Sighting) where
+    (numbers : AuditNumbers) (ticks : List Sighting) where
   -- ---- a track that is kept goes on to one of the definition
 
   pub record Becomes (track : Track) : Type 0 where
@@ -156,7 +156,7 @@ module _ (Rest : List Mark → Type 0) (AreMarks : FormulaTree → Trace → Lis
             (is_track track (Meeting known.pair) known.start track.marks h.topic h.first all);
       }
 
-  rule_becomes : (known : Known) (track : Track) → IsKnown numbers ticks known → AreRows (terms_of numbers) known.steps known.trace
+  rule_becomes : (known : Known) (track : Track) → IsKnown numbers ticks known → AreAtomRows (terms_of numbers) known.steps known.trace
       → RuleFound AreMarks numbers known 0 numbers.rules track → Becomes track
   rule_becomes known track is rows f =
       let h = f.is in
@@ -169,14 +169,14 @@ module _ (Rest : List Mark → Type 0) (AreMarks : FormulaTree → Trace → Lis
         trace = known.trace;
         of = record {
           begins = is.begins;
-          rows = subst (λ (s : List (Option PairStep)). AreRows (terms_of numbers) s known.trace) is.steps rows;
+          rows = subst (λ (s : List (Option PairStep)). AreAtomRows (terms_of numbers) s known.trace) is.steps rows;
         };
         count = whole.count;
         each = whole.each;
       } in
       record { more = g.more; rest = g.rest; is = is_track track (Verdict known.pair f.index) known.start (track.marks ++ g.more) topic h.first all }
 
-  one_becomes : (known : Known) (mine : List Track) (track : Track) → IsKnown numbers ticks known → AreRows (terms_of numbers) known.steps known.trace
+  one_becomes : (known : Known) (mine : List Track) (track : Track) → IsKnown numbers ticks known → AreAtomRows (terms_of numbers) known.steps known.trace
       → AreTracks AreMarks numbers known mine → Contains mine track → Becomes track
   one_becomes known [] track is rows h i = absurd h
   one_becomes known (meeting ∷ rules) track is rows h i =
@@ -249,8 +249,8 @@ module _ (Rest : List Mark → Type 0) (AreMarks : FormulaTree → Trace → Lis
         let topic : p.track.topic ≡ Verdict pair rule = is.topic ∙ (ap (λ (n : ℕ). Verdict known.pair n) at ∙ ap (λ (q : Pair). Verdict q rule) e) in
         let tree : FormulaTree = (rule_at numbers.rules rule).tree in
         let n = go_on tree known.trace p.track.marks is.marks in
-        let mine_rows : AreRows (terms_of numbers) (trace_steps numbers ticks pair start) known.trace =
-        subst (λ (s : List (Option PairStep)). AreRows (terms_of numbers) s known.trace) g (rows known i) in
+        let mine_rows : AreAtomRows (terms_of numbers) (trace_steps numbers ticks pair start) known.trace =
+        subst (λ (s : List (Option PairStep)). AreAtomRows (terms_of numbers) s known.trace) g (rows known i) in
         let same : known.trace ≡ h.trace = one_trace (terms_of numbers) all_power_driven (trace_steps numbers ticks pair start) known.trace h.trace mine_rows h.of.rows in
         let whole : AreRuleMarksWhole tree h.trace (p.track.marks ++ n.more) = subst (λ (r : Trace). AreRuleMarksWhole tree r (p.track.marks ++ n.more)) same n.whole in
         let marks_are : p.track.marks ++ n.more ≡ marks = same_rule_marks tree h.trace (p.track.marks ++ n.more) marks whole (record { count = h.count; each = h.each }) in

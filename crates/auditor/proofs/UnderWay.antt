@@ -11,7 +11,7 @@ use Rattle.rule_set.specs.NamedTrees.{NamedTree}
 use Rattle.audit_rows.specs.Tracks.{Track}
 use Rattle.audit_rows.specs.declared.mark.Mark.{Mark}
 use Rattle.audit_rows.specs.declared.row.Row.{Row}
-use Rattle.audit_traces.specs.Audited.{Numbers, Sighting, step_of}
+use Rattle.audit_traces.specs.Audited.{AuditNumbers, Sighting, step_of}
 use Rattle.auditor.specs.Inner.AuditKeeping.{AreAllTracks, AreTracksOfAll}
 use Rattle.auditor.specs.Inner.TracesKept.{AreFinished, AreStepped, IsAtStep, IsFollowed}
 use Rattle.audit_traces.specs.Tallies.{Keeps}
@@ -30,11 +30,11 @@ rules_length AreMarks known rule [] (t ∷ ts) h = absurd h
 rules_length AreMarks known rule (r ∷ rs) [] h = absurd h
 rules_length AreMarks known rule (r ∷ rs) (t ∷ ts) h = ap suc (rules_length AreMarks known (rule + 1) rs ts h.1)
 
-pub tracks_length : (AreMarks : FormulaTree → Trace → List Mark → Type 0) (numbers : Numbers) (known : Known) (mine : List Track) → AreTracks AreMarks numbers known mine → length mine ≡ length numbers.rules + 1
+pub tracks_length : (AreMarks : FormulaTree → Trace → List Mark → Type 0) (numbers : AuditNumbers) (known : Known) (mine : List Track) → AreTracks AreMarks numbers known mine → length mine ≡ length numbers.rules + 1
 tracks_length AreMarks numbers known [] h = absurd h
 tracks_length AreMarks numbers known (meeting ∷ rules) h = let e = rules_length AreMarks known 0 numbers.rules rules h.1 in omega arith
 
-pub program_length : (program : Program) (numbers : Numbers) → IsProgramOf program (formulas_of numbers) → count_of program ≡ length numbers.rules
+pub program_length : (program : Program) (numbers : AuditNumbers) → IsProgramOf program (formulas_of numbers) → count_of program ≡ length numbers.rules
 program_length program numbers is = is.of.count ∙ length-map numbers.rules (λ (r : NamedTree). r.tree)
 
 -- ---- lists of traces and what they stand for
@@ -54,7 +54,7 @@ module _ {X Y : Type 0} (R : X → Y → Type 0) where
 
 -- ---- steps
 
-module _ (program : Program) (numbers : Numbers) (before seen : Sighting) (step : ℕ) (knowns : List Known) (bound : ℕ) (given : List Row) where
+module _ (program : Program) (numbers : AuditNumbers) (before seen : Sighting) (step : ℕ) (knowns : List Known) (bound : ℕ) (given : List Row) where
   -- The first traces have taken their step, and the others have not.
   pub record IsUnderWay (traces : List AuditTrace) (marks : Marks) (first index : ℕ) : Type 0 where
     pub front : List Known
@@ -94,7 +94,7 @@ module _ (program : Program) (numbers : Numbers) (before seen : Sighting) (step 
   -- what the step of a trace comes to
   abbrev pub StepsIt : AuditTrace → AuditTrace → Marks → Marks → ℕ → Type 0
   StepsIt trace after marks marks' first =
-      (numbers : Numbers) (known : Known) (front mine back : List Track) (bound : ℕ) (given : List Row) → StandsFor program numbers trace known → IsAtStep step known → AreTracksSoFar numbers known mine
+      (numbers : AuditNumbers) (known : Known) (front mine back : List Track) (bound : ℕ) (given : List Row) → StandsFor program numbers trace known → IsAtStep step known → AreTracksSoFar numbers known mine
       → first ≡ length front → Keeps marks (length numbers.rules) (front ++ mine ++ back) bound given → Steps program numbers after known (step_of known.pair before seen) marks' front back bound given
 
   module _ (traces : List AuditTrace) (marks marks' : Marks) (first index tracks : ℕ) (d after : AuditTrace) (is : IsProgramOf program (formulas_of numbers)) (many : tracks ≡ count_of program + 1)
@@ -156,7 +156,7 @@ module _ (program : Program) (numbers : Numbers) (before seen : Sighting) (step 
 
 -- ---- ends
 
-module _ (program : Program) (numbers : Numbers) (knowns : List Known) (bound : ℕ) (given : List Row) where
+module _ (program : Program) (numbers : AuditNumbers) (knowns : List Known) (bound : ℕ) (given : List Row) where
   -- The first traces have ended, and the others have not.
   pub record IsEnding (traces : List AuditTrace) (marks : Marks) (first index : ℕ) : Type 0 where
     pub front : List Known
@@ -187,7 +187,7 @@ module _ (program : Program) (numbers : Numbers) (knowns : List Known) (bound : 
 
   abbrev pub EndsIt : AuditTrace → Marks → Marks → ℕ → Type 0
   EndsIt trace marks marks' first =
-      (numbers : Numbers) (known : Known) (before mine after : List Track) (bound : ℕ) (given : List Row) → StandsFor program numbers trace known → AreTracksSoFar numbers known mine → first ≡ length before
+      (numbers : AuditNumbers) (known : Known) (before mine after : List Track) (bound : ℕ) (given : List Row) → StandsFor program numbers trace known → AreTracksSoFar numbers known mine → first ≡ length before
       → Keeps marks (length numbers.rules) (before ++ mine ++ after) bound given → HasTracksOf numbers known marks' before after bound given
 
   module _ (traces : List AuditTrace) (marks marks' : Marks) (first index tracks : ℕ) (d after : AuditTrace) (is : IsProgramOf program (formulas_of numbers)) (many : tracks ≡ count_of program + 1)

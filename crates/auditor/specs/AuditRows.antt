@@ -1,14 +1,14 @@
 -- The rows of an audit.
 use Rattle.std.specs.Prelude.{ℕ, ◌<◌, ◌↔◌, List}
 use Rattle.std.specs.List.{Contains}
-use Rattle.audit_rows.specs.Order.{InOrder, last_of}
+use Rattle.audit_rows.specs.Order.{InOrder, last_step_of}
 use Rattle.audit_rows.specs.Rows.{IsRowOf}
 use Rattle.audit_rows.specs.Tracks.{Track}
 use Rattle.audit_rows.specs.declared.row.Row.{Row}
-use Rattle.audit_traces.specs.Audited.{Numbers, Sighting}
+use Rattle.audit_traces.specs.Audited.{AuditNumbers, Sighting}
 use Rattle.audit_traces.specs.AuditTracks.{IsTrack}
 
-module _ (numbers : Numbers) (ticks : List Sighting) where
+module _ (numbers : AuditNumbers) (ticks : List Sighting) where
   -- The row tells of a maximal stretch in what stands at the positions of some trace.
   abbrev pub IsAuditRow : Row → Type 0
   IsAuditRow row = (track : Track) × (IsTrack numbers ticks track × IsRowOf track row)
@@ -20,5 +20,5 @@ module _ (numbers : Numbers) (ticks : List Sighting) where
 
   -- the same of the rows that end below a bound
   pub record AreAuditRowsBelow (bound : ℕ) (rows : List Row) : Type 0 where
-    pub each : (row : Row) → Contains rows row ↔ (IsAuditRow row × (last_of row < bound))
+    pub each : (row : Row) → Contains rows row ↔ (IsAuditRow row × (last_step_of row < bound))
     pub ordered : InOrder rows

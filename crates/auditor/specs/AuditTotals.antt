@@ -9,7 +9,7 @@ use Rattle.rule_set.specs.NamedTrees.{rule_at}
 use Rattle.meetings.specs.declared.pair.Pair.{Pair}
 use Rattle.audit_rows.specs.declared.row.Row.{Row}
 use Rattle.audit_traces.specs.RuleCounts.{is_run_of, told}
-use Rattle.audit_traces.specs.Audited.{Begins, Numbers, Sighting}
+use Rattle.audit_traces.specs.Audited.{Begins, AuditNumbers, Sighting}
 use Rattle.audit_traces.specs.AuditTracks.{IsTraceOf}
 use Rattle.audit_traces.specs.declared.total.Total.{Total}
 
@@ -22,7 +22,7 @@ pub record Traced : Type 0 where
   pub trace : Trace
 
 -- The list holds each trace once.
-pub record AreTraces (numbers : Numbers) (ticks : List Sighting) (traces : List Traced) : Type 0 where
+pub record AreTraces (numbers : AuditNumbers) (ticks : List Sighting) (traces : List Traced) : Type 0 where
   pub each : (t : Traced) → Contains traces t → IsTraceOf numbers ticks t.pair t.start t.trace
   pub all : (pair : Pair) (start : ℕ) → Begins numbers ticks pair start → Contains (map (λ t. t.pair) traces) pair
   pub once : AllPairs ◌≢◌ (map (λ t. t.pair) traces)
@@ -40,7 +40,7 @@ abbrev pub positions_with : Verdict → FormulaTree → Traced → ℕ
 positions_with value tree t = length (filter (λ i. is_value value (value_in t.trace tree i)) (range_with_len 0 (length t.trace)))
 
 -- The total of a rule over all traces, and the stretches of broken positions among the rows.
-pub record IsTotal (numbers : Numbers) (traces : List Traced) (rows : List Row) (rule : ℕ) (total : Total) : Type 0 where
+pub record IsTotal (numbers : AuditNumbers) (traces : List Traced) (rows : List Row) (rule : ℕ) (total : Total) : Type 0 where
   pub positions : total.positions ≡ told (sum_by (λ t. length t.trace) traces)
   pub yes : total.yes ≡ told (sum_by (positions_with Yes (rule_at numbers.rules rule).tree) traces)
   pub no : total.no ≡ told (sum_by (positions_with No (rule_at numbers.rules rule).tree) traces)
@@ -48,7 +48,7 @@ pub record IsTotal (numbers : Numbers) (traces : List Traced) (rows : List Row) 
   pub runs : total.runs ≡ told (length (filter (is_run_of rule) rows))
 
 -- one total for each rule
-pub record AreTotals (numbers : Numbers) (ticks : List Sighting) (rows : List Row) (totals : List Total) : Type 0 where
+pub record AreTotals (numbers : AuditNumbers) (ticks : List Sighting) (rows : List Row) (totals : List Total) : Type 0 where
   pub traces : List Traced
   pub are_traces : AreTraces numbers ticks traces
   pub count : length totals ≡ length numbers.rules

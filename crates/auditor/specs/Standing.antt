@@ -3,19 +3,19 @@ use Rattle.std.specs.Prelude.{ℕ, ◌≡◌, ◌≢◌, ◌+◌, ◌-◌, ◌<�
 use Rattle.mtl_monitor.specs.Following.{greatest_reach}
 use Rattle.meetings.specs.declared.pair.Pair.{Pair}
 use Rattle.audit_rows.specs.declared.row.Row.{Row}
-use Rattle.audit_traces.specs.Audited.{AreAscending, ArePlaced, Begins, Numbers, Sighting, last_sighting}
+use Rattle.audit_traces.specs.Audited.{AreAscending, ArePlaced, Begins, AuditNumbers, Sighting, last_sighting}
 use Rattle.auditor.specs.Inner.TracesKept.{AreReady, HoldsNow}
 use Rattle.audit_traces.specs.TraceKeeping.{formulas_of}
 use Rattle.auditor.specs.declared.audit.Audit.{Audit}
 
 -- how many positions ahead the farthest of the rules looks
-abbrev pub reach_of : Numbers → ℕ
-reach_of numbers = greatest_reach (formulas_of numbers)
+abbrev pub audit_reach : AuditNumbers → ℕ
+audit_reach numbers = greatest_reach (formulas_of numbers)
 
 -- The rows whose last step is below this bound are decided once tick k was given: the farthest rule looks so far ahead, and one
 -- further position tells that a stretch has ended.
-abbrev pub settled_by : Numbers → ℕ → ℕ
-settled_by numbers k = k - (reach_of numbers + 1)
+abbrev pub settled_by : AuditNumbers → ℕ → ℕ
+settled_by numbers k = k - (audit_reach numbers + 1)
 
 -- ---- what the audit is asked
 
@@ -27,8 +27,8 @@ abbrev pub last_tick_of : Audit → ℕ
 last_tick_of audit = audit.last_tick
 
 -- the vessels seen at the latest tick
-abbrev pub latest_of : Audit → Sighting
-latest_of audit = audit.latest.items
+abbrev pub latest_sighting : Audit → Sighting
+latest_sighting audit = audit.latest.items
 
 -- ---- what each call finds and leaves, whatever it stands for
 
@@ -41,7 +41,7 @@ pub record IsSound (audit : Audit) : Type 0 where
 
 -- ---- what it stands for
 
-pub record StandsFor (audit : Audit) (numbers : Numbers) (ticks : List Sighting) (given : List Row) : Type 0 where
+pub record StandsFor (audit : Audit) (numbers : AuditNumbers) (ticks : List Sighting) (given : List Row) : Type 0 where
   pub last_tick : audit.last_tick ≡ numbers.last_tick
   pub subjects : audit.subjects.items ≡ numbers.subjects
   pub count : audit.given ≡ length ticks
@@ -51,7 +51,7 @@ pub record StandsFor (audit : Audit) (numbers : Numbers) (ticks : List Sighting)
 -- ---- the limit of traces
 
 -- More traces begin at these ticks than this number.
-pub record HaveMoreThan (most : ℕ) (numbers : Numbers) (ticks : List Sighting) : Type 0 where
+pub record HaveMoreThan (most : ℕ) (numbers : AuditNumbers) (ticks : List Sighting) : Type 0 where
   pub pairs : List Pair
   pub many : most < length pairs
   pub once : AllPairs ◌≢◌ pairs

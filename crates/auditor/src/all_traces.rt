@@ -8,7 +8,7 @@ ghost use Rattle.meetings.specs.declared.pair.Pair.{Pair};
 ghost use Rattle.audit_rows.specs.Rows.{AreRowsBelow};
 ghost use Rattle.audit_rows.specs.Tracks.{AreSettled, Track};
 ghost use Rattle.audit_rows.specs.declared.row.Row.{Row};
-ghost use Rattle.audit_traces.specs.Audited.{AreAscending, ArePlaced, IsAudited, MoveLittle, Numbers, Sighting, step_of};
+ghost use Rattle.audit_traces.specs.Audited.{AreAscending, ArePlaced, IsAudited, MoveLittle, AuditNumbers, Sighting, step_of};
 ghost use Rattle.auditor.specs.Inner.AuditKeeping.{AreAllTracks, pairs_of};
 ghost use Rattle.auditor.specs.Inner.TracesKept.{AreBegun, AreEnded, AreFinished, AreFollowed, AreReady, AreSettledKnowns, AreStepped, AreTooMany, HaveRowsBelow, Holds, IsAtStep, IsReady, IsTaken, MayBegin, MayTake, traces_of};
 ghost use Rattle.audit_traces.specs.Tallies.{Keeps, rules_of};
@@ -51,7 +51,7 @@ fn follow_one(
     requires room { first + count_of program.now + 1 < 2 ^ 64 }
     ensures ready { IsReady program.now (step + 1) trace.new }
     ensures as_many { rules_of marks.new ≡ rules_of marks.old }
-    ensures stands { OnOk result ((numbers : Numbers) (known : Known) (front mine back : List Track) (bound : ℕ) (given : List Row)
+    ensures stands { OnOk result ((numbers : AuditNumbers) (known : Known) (front mine back : List Track) (bound : ℕ) (given : List Row)
         → StandsFor program.now numbers trace.old known → IsAtStep step known → AreTracksSoFar numbers known mine → first ≡ length front
         → Keeps marks.old (length numbers.rules) (front ++ mine ++ back) bound given
         → Steps program.now numbers trace.new known (step_of known.pair before.now seen.now) marks.new front back bound given) }
@@ -82,7 +82,7 @@ fn follow_each(
     ensures ready { OnOk result (All (IsReady program.now (step + 1)) traces.new) }
     ensures many { length traces.new ≡ length traces.old }
     ensures as_many { rules_of marks.new ≡ rules_of marks.old }
-    ensures stands { OnOk result ((numbers : Numbers) (knowns : List Known) (tracks : List Track) (bound : ℕ) (given : List Row)
+    ensures stands { OnOk result ((numbers : AuditNumbers) (knowns : List Known) (tracks : List Track) (bound : ℕ) (given : List Row)
         → IsProgramOf program.now (formulas_of numbers) → AllZip (StandsFor program.now numbers) traces.old knowns → All (IsAtStep step) knowns → AreAllTracks numbers knowns tracks
         → Keeps marks.old (length numbers.rules) tracks bound given
         → AreStepped program.now numbers before.now seen.now traces.new knowns marks.new bound given) }
@@ -102,7 +102,7 @@ fn end_each(traces: &mut [AuditTrace], program: &Program, marks: &mut Marks) -> 
     requires many { length traces.old ≤ 4096 }
     requires rules { count_of program.now ≤ 17 }
     requires totals { rules_of marks.old ≡ count_of program.now }
-    ensures { OnOk result ((numbers : Numbers) (knowns : List Known) (tracks : List Track) (bound : ℕ) (given : List Row)
+    ensures { OnOk result ((numbers : AuditNumbers) (knowns : List Known) (tracks : List Track) (bound : ℕ) (given : List Row)
         → IsProgramOf program.now (formulas_of numbers) → AllZip (StandsFor program.now numbers) traces.old knowns → AreAllTracks numbers knowns tracks
         → Keeps marks.old (length numbers.rules) tracks bound given
         → AreFinished numbers knowns marks.new bound given) }
@@ -141,7 +141,7 @@ impl AllTraces {
         requires detect { IsDetect detect }
         requires few { count_of program ≤ 17 }
         ensures ready { IfOk result (λ kept. AreReady kept 0) }
-        ensures holds { IfOk result (λ kept. (numbers : Numbers) → IsProgramOf program (formulas_of numbers) → numbers.detect ≡ detect
+        ensures holds { IfOk result (λ kept. (numbers : AuditNumbers) → IsProgramOf program (formulas_of numbers) → numbers.detect ≡ detect
             → numbers.act ≡ act → numbers.tick ≡ tick → Holds kept numbers [] 0 []) }
     {
         let rules = program.formula_count();
@@ -179,7 +179,7 @@ impl AllTraces {
         requires few { step < 20000 }
         requires ready { AreReady self.old step }
         ensures ready { OnOk result (AreReady self.new (step + 1)) }
-        ensures holds { OnOk result ((numbers : Numbers) (knowns : List Known) (bound : ℕ) (given : List Row) → Holds self.old numbers knowns bound given
+        ensures holds { OnOk result ((numbers : AuditNumbers) (knowns : List Known) (bound : ℕ) (given : List Row) → Holds self.old numbers knowns bound given
             → All (IsAtStep step) knowns → AreFollowed self.new numbers before.now seen.now knowns bound given) }
     {
         follow_each(
@@ -198,7 +198,7 @@ impl AllTraces {
         requires ready { AreReady self.old start }
         requires few { traces_of self.old < 4096 }
         ensures ready { OnOk result (AreReady self.new start) }
-        ensures holds { OnOk result ((numbers : Numbers) (knowns : List Known) (bound : ℕ) (given : List Row) → Holds self.old numbers knowns bound given
+        ensures holds { OnOk result ((numbers : AuditNumbers) (knowns : List Known) (bound : ℕ) (given : List Row) → Holds self.old numbers knowns bound given
             → ¬ Contains (pairs_of knowns) pair → bound ≤ start → Holds self.new numbers (knowns ++ opened pair start ∷ []) bound given) }
     {
         self.marks.begin(pair)?;
@@ -219,7 +219,7 @@ impl AllTraces {
         requires early { start ≤ 20000 }
         requires ready { AreReady self.old start }
         ensures ready { OnOk result (AreReady self.new start) }
-        ensures holds { OnOk result ((numbers : Numbers) (knowns : List Known) (bound : ℕ) (given : List Row) → Holds self.old numbers knowns bound given
+        ensures holds { OnOk result ((numbers : AuditNumbers) (knowns : List Known) (bound : ℕ) (given : List Row) → Holds self.old numbers knowns bound given
             → ¬ Contains (pairs_of knowns) pair → bound ≤ start → Holds self.new numbers (knowns ++ opened pair start ∷ []) bound given) }
         ensures many { result ≡ Err TooManyPairs → traces_of self.old ≡ 4096 }
     {
@@ -235,10 +235,10 @@ impl AllTraces {
         requires early { start ≤ 20000 }
         requires ready { AreReady self.old start }
         ensures ready { OnOk result (AreReady self.new start) }
-        ensures holds { OnOk result ((numbers : Numbers) (seen : Sighting) (old : List Pair) (knowns : List Known) (bound : ℕ) (given : List Row)
+        ensures holds { OnOk result ((numbers : AuditNumbers) (seen : Sighting) (old : List Pair) (knowns : List Known) (bound : ℕ) (given : List Row)
             → Holds self.old numbers knowns bound given → MayTake numbers subjects.now seen old knowns pair → bound ≤ start
             → IsTaken self.new numbers seen old start knowns bound given pair) }
-        ensures many { result ≡ Err TooManyPairs → (numbers : Numbers) (seen : Sighting) (old : List Pair) (knowns : List Known) (bound : ℕ) (given : List Row)
+        ensures many { result ≡ Err TooManyPairs → (numbers : AuditNumbers) (seen : Sighting) (old : List Pair) (knowns : List Known) (bound : ℕ) (given : List Row)
             → Holds self.old numbers knowns bound given → MayTake numbers subjects.now seen old knowns pair → bound ≤ start
             → AreTooMany numbers seen old start knowns }
     {
@@ -270,10 +270,10 @@ impl AllTraces {
         requires early { start ≤ 20000 }
         requires ready { AreReady self.old start }
         ensures ready { OnOk result (AreReady self.new start) }
-        ensures holds { OnOk result ((numbers : Numbers) (knowns : List Known) (bound : ℕ) (given : List Row) → Holds self.old numbers knowns bound given
+        ensures holds { OnOk result ((numbers : AuditNumbers) (knowns : List Known) (bound : ℕ) (given : List Row) → Holds self.old numbers knowns bound given
             → MayBegin numbers subjects.now knowns start bound
             → AreBegun self.new numbers seen.now start knowns bound given) }
-        ensures many { result ≡ Err TooManyPairs → (numbers : Numbers) (knowns : List Known) (bound : ℕ) (given : List Row) → Holds self.old numbers knowns bound given
+        ensures many { result ≡ Err TooManyPairs → (numbers : AuditNumbers) (knowns : List Known) (bound : ℕ) (given : List Row) → Holds self.old numbers knowns bound given
             → MayBegin numbers subjects.now knowns start bound
             → AreTooMany numbers seen.now (pairs_of knowns) start knowns }
     {
@@ -287,9 +287,9 @@ impl AllTraces {
     /// Hands out the further rows that end below the bound, up to which the tracks must be settled.
     pub fn rows_below(&mut self, bound: u32) -> Result<Vec<Row>, Memory>
         ensures ready { (most : ℕ) → AreReady self.old most → AreReady self.new most }
-        ensures holds { IfOk result (λ rows. (numbers : Numbers) (knowns : List Known) (old : ℕ) (given : List Row) → Holds self.old numbers knowns old given
+        ensures holds { IfOk result (λ rows. (numbers : AuditNumbers) (knowns : List Known) (old : ℕ) (given : List Row) → Holds self.old numbers knowns old given
             → old ≤ bound → AreSettledKnowns bound numbers knowns → Holds self.new numbers knowns bound (given ++ rows.items)) }
-        ensures rows { IfOk result (λ rows. (numbers : Numbers) (knowns : List Known) (old : ℕ) (given : List Row) → Holds self.old numbers knowns old given
+        ensures rows { IfOk result (λ rows. (numbers : AuditNumbers) (knowns : List Known) (old : ℕ) (given : List Row) → Holds self.old numbers knowns old given
             → old ≤ bound → AreSettledKnowns bound numbers knowns → HaveRowsBelow bound numbers knowns (given ++ rows.items)) }
     {
         self.marks.rows_below(bound)
@@ -299,7 +299,7 @@ impl AllTraces {
     /// rules.
     pub fn end(self, end: u32) -> Result<(Vec<Row>, Vec<Total>), Memory>
         requires { AreReady self 20000 }
-        ensures { IfOk result (λ last. (numbers : Numbers) (knowns : List Known) (bound : ℕ) (given : List Row) → Holds self numbers knowns bound given
+        ensures { IfOk result (λ last. (numbers : AuditNumbers) (knowns : List Known) (bound : ℕ) (given : List Row) → Holds self numbers knowns bound given
             → All (IsAtStep end) knowns → AreEnded numbers knowns (given ++ last.0.items) last.1.items) }
     {
         let AllTraces {

@@ -4,11 +4,11 @@ ghost use Rattle.encounters.specs.Risk.{IsDetect};
 ghost use Rattle.mtl_monitor.specs.Following.{IsProgramOf, count_of};
 ghost use Rattle.rule_set.specs.NamedTrees.{NamedTree};
 ghost use Rattle.audit_rows.specs.declared.row.Row.{Row};
-ghost use Rattle.audit_traces.specs.Audited.{AreAscending, ArePlaced, MoveLittle, Numbers, Sighting, last_sighting};
+ghost use Rattle.audit_traces.specs.Audited.{AreAscending, ArePlaced, MoveLittle, AuditNumbers, Sighting, last_sighting};
 ghost use Rattle.auditor.specs.AuditRows.{AreAuditRows, AreAuditRowsBelow};
 ghost use Rattle.auditor.specs.AuditTotals.{AreTotals};
 ghost use Rattle.auditor.specs.Inner.TracesKept.{AreReady, HoldsNow, HoldsOn, IsNextTick};
-ghost use Rattle.auditor.specs.Standing.{HaveMoreThan, IsSound, StandsFor, given_of, last_tick_of, latest_of, settled_by};
+ghost use Rattle.auditor.specs.Standing.{HaveMoreThan, IsSound, StandsFor, given_of, last_tick_of, latest_sighting, settled_by};
 ghost use Rattle.auditor.specs.declared.fault.AuditFault.TheVariants.{TooManyPairs};
 
 use crate::all_traces::AllTraces;
@@ -50,7 +50,7 @@ fn follow(
     requires few { given ≤ 20000 }
     requires ready { AreReady traces.old (given - 1) }
     ensures ready { OnOk result (AreReady traces.new given) }
-    ensures holds { OnOk result ((numbers : Numbers) (ticks : List Sighting) (bound : ℕ) (rows : List Row) → given ≡ length ticks
+    ensures holds { OnOk result ((numbers : AuditNumbers) (ticks : List Sighting) (bound : ℕ) (rows : List Row) → given ≡ length ticks
         → latest.now ≡ last_sighting ticks → HoldsNow traces.old numbers ticks bound rows
         → HoldsOn traces.new numbers ticks seen.now bound rows) }
 {
@@ -73,10 +73,10 @@ fn begin(
     requires few { last_tick ≤ 20000 }
     requires ready { AreReady traces.old given }
     ensures ready { OnOk result (AreReady traces.new given) }
-    ensures holds { OnOk result ((numbers : Numbers) (ticks : List Sighting) (bound : ℕ) (rows : List Row)
+    ensures holds { OnOk result ((numbers : AuditNumbers) (ticks : List Sighting) (bound : ℕ) (rows : List Row)
         → IsNextTick numbers ticks subjects.now last_tick given bound → HoldsOn traces.old numbers ticks seen.now bound rows
         → HoldsNow traces.new numbers (ticks ++ seen.now ∷ []) bound rows) }
-    ensures many { result ≡ Err TooManyPairs → (numbers : Numbers) (ticks : List Sighting) (bound : ℕ) (rows : List Row)
+    ensures many { result ≡ Err TooManyPairs → (numbers : AuditNumbers) (ticks : List Sighting) (bound : ℕ) (rows : List Row)
         → IsNextTick numbers ticks subjects.now last_tick given bound → HoldsOn traces.old numbers ticks seen.now bound rows
         → HaveMoreThan 4096 numbers (ticks ++ seen.now ∷ []) }
 {
@@ -104,10 +104,10 @@ fn take(
     requires window { last_tick ≤ 20000 }
     requires ready { AreReady traces.old (given - 1) }
     ensures ready { OnOk result (AreReady traces.new given) }
-    ensures holds { OnOk result ((numbers : Numbers) (ticks : List Sighting) (bound : ℕ) (rows : List Row)
+    ensures holds { OnOk result ((numbers : AuditNumbers) (ticks : List Sighting) (bound : ℕ) (rows : List Row)
         → IsNextTick numbers ticks subjects.now last_tick given bound → latest.now ≡ last_sighting ticks
         → HoldsNow traces.old numbers ticks bound rows → HoldsNow traces.new numbers (ticks ++ seen.now ∷ []) bound rows) }
-    ensures many { result ≡ Err TooManyPairs → (numbers : Numbers) (ticks : List Sighting) (bound : ℕ) (rows : List Row)
+    ensures many { result ≡ Err TooManyPairs → (numbers : AuditNumbers) (ticks : List Sighting) (bound : ℕ) (rows : List Row)
         → IsNextTick numbers ticks subjects.now last_tick given bound → latest.now ≡ last_sighting ticks
         → HoldsNow traces.old numbers ticks bound rows → HaveMoreThan 4096 numbers (ticks ++ seen.now ∷ []) }
 {
@@ -183,20 +183,20 @@ impl Audit {
         requires sound { IsSound self.old }
         requires ascending { AreAscending seen.now }
         requires placed { ArePlaced seen.now }
-        requires moves { MoveLittle (latest_of self.old) seen.now }
+        requires moves { MoveLittle (latest_sighting self.old) seen.now }
         requires more { given_of self.old ≤ last_tick_of self.old }
         ensures sound { OnOk result (IsSound self.new) }
         ensures given { OnOk result (given_of self.new ≡ given_of self.old + 1) }
         ensures last_tick { OnOk result (last_tick_of self.new ≡ last_tick_of self.old) }
-        ensures latest { OnOk result (latest_of self.new ≡ seen.now) }
-        ensures stands { IfOk result (λ rows. (numbers : Numbers) (ticks : List Sighting) (given : List Row) → StandsFor self.old numbers ticks given
+        ensures latest { OnOk result (latest_sighting self.new ≡ seen.now) }
+        ensures stands { IfOk result (λ rows. (numbers : AuditNumbers) (ticks : List Sighting) (given : List Row) → StandsFor self.old numbers ticks given
             → StandsFor self.new numbers (ticks ++ seen.now ∷ []) (given ++ rows.items)) }
-        ensures rows { IfOk result (λ rows. (numbers : Numbers) (ticks : List Sighting) (given : List Row) → StandsFor self.old numbers ticks given
+        ensures rows { IfOk result (λ rows. (numbers : AuditNumbers) (ticks : List Sighting) (given : List Row) → StandsFor self.old numbers ticks given
             → AreAuditRowsBelow numbers (ticks ++ seen.now ∷ []) (settled_by numbers (length ticks)) (given ++ rows.items)) }
         // The limit is met exactly where the tick begins a 4097th trace; memory may run out before.
-        ensures many { result ≡ Err TooManyPairs → (numbers : Numbers) (ticks : List Sighting) (given : List Row) → StandsFor self.old numbers ticks given
+        ensures many { result ≡ Err TooManyPairs → (numbers : AuditNumbers) (ticks : List Sighting) (given : List Row) → StandsFor self.old numbers ticks given
             → HaveMoreThan 4096 numbers (ticks ++ seen.now ∷ []) }
-        ensures few { OnOk result ((numbers : Numbers) (ticks : List Sighting) (given : List Row) → StandsFor self.old numbers ticks given
+        ensures few { OnOk result ((numbers : AuditNumbers) (ticks : List Sighting) (given : List Row) → StandsFor self.old numbers ticks given
             → HaveMoreThan 4096 numbers (ticks ++ seen.now ∷ []) → ⊥) }
     {
         take(
@@ -220,9 +220,9 @@ impl Audit {
     pub fn end(self) -> Result<AuditEnd, Memory>
         requires sound { IsSound self }
         requires all { given_of self ≡ last_tick_of self + 1 }
-        ensures rows { IfOk result (λ end. (numbers : Numbers) (ticks : List Sighting) (given : List Row) → StandsFor self numbers ticks given
+        ensures rows { IfOk result (λ end. (numbers : AuditNumbers) (ticks : List Sighting) (given : List Row) → StandsFor self numbers ticks given
             → AreAuditRows numbers ticks (given ++ end.rows.items)) }
-        ensures totals { IfOk result (λ end. (numbers : Numbers) (ticks : List Sighting) (given : List Row) → StandsFor self numbers ticks given
+        ensures totals { IfOk result (λ end. (numbers : AuditNumbers) (ticks : List Sighting) (given : List Row) → StandsFor self numbers ticks given
             → AreTotals numbers ticks (given ++ end.rows.items) end.totals.items) }
     {
         let (rows, totals) = self.traces.end(self.last_tick)?;

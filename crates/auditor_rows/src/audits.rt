@@ -2,7 +2,7 @@
 ghost use Rattle.std.specs.Prelude.{ℤ, ◌≡◌, ◌+◌, ◌*◌, ◌<◌, ◌≤◌, ◌-ℤ◌, pos, [], IfOk, OnOk};
 ghost use Rattle.audit_traces.specs.Audited.{AreAscending, ArePlaced, MoveLittle};
 ghost use Rattle.auditor_rows.specs.WorkedMeeting.{head_on_at};
-ghost use Rattle.auditor.specs.Standing.{IsSound, given_of, last_tick_of, latest_of};
+ghost use Rattle.auditor.specs.Standing.{IsSound, given_of, last_tick_of, latest_sighting};
 
 use audit_rows::Row;
 use audit_traces::Total;
@@ -57,7 +57,7 @@ fn audit(alloc: Global, ticks: u32) -> Result<Audit, Fail>
     ensures sound { IfOk result (λ audit. IsSound audit) }
     ensures none { IfOk result (λ audit. given_of audit ≡ 0) }
     ensures last { IfOk result (λ audit. last_tick_of audit ≡ ticks) }
-    ensures latest { IfOk result (λ audit. latest_of audit ≡ []) }
+    ensures latest { IfOk result (λ audit. latest_sighting audit ≡ []) }
 {
     let rules = RuleSet::new(alloc, &NUMBERS, 10)?;
     let window = Window {
@@ -118,11 +118,11 @@ fn take(audit: &mut Audit, k: u32, rows: &mut Vec<(u32, Row)>) -> Result<(), Fai
     requires at { given_of audit.old ≡ k }
     requires within { k ≤ last_tick_of audit.old }
     requires small { k ≤ 40 }
-    requires moves { MoveLittle (latest_of audit.old) (head_on_at k) }
+    requires moves { MoveLittle (latest_sighting audit.old) (head_on_at k) }
     ensures sound { OnOk result (IsSound audit.new) }
     ensures at { OnOk result (given_of audit.new ≡ k + 1) }
     ensures last { OnOk result (last_tick_of audit.new ≡ last_tick_of audit.old) }
-    ensures moves { OnOk result (MoveLittle (latest_of audit.new) (head_on_at (k + 1))) }
+    ensures moves { OnOk result (MoveLittle (latest_sighting audit.new) (head_on_at (k + 1))) }
 {
     let seen = head_on(k);
     let given = audit.step(&seen)?;

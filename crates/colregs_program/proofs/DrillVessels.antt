@@ -9,7 +9,7 @@ use Rattle.std.proofs.lemmas.List.Elements.{All-cons, All-filter, All-head, All-
 use Rattle.std.proofs.lemmas.List.Folds.{list_any_none}
 use Rattle.aivdm.specs.FragmentJoining.{Taken, joined_of}
 use Rattle.drill_log.specs.DrillLog.{drill_log_of}
-use Rattle.judged_lines.specs.EachLine.{each_after, each_line, value_in}
+use Rattle.judged_lines.specs.EachLine.{each_after, each_line, ok_value}
 use Rattle.judged_lines.specs.JudgedLines.{greatest_held, held_behind, is_crowded, numbers_of}
 use Rattle.judged_lines.specs.LogLines.{lines_of}
 use Rattle.judged_lines.specs.SentLines.{heard, heard_of, heard_unless, sent, sent_heard, sent_of, untimely}
@@ -17,17 +17,17 @@ use Rattle.judged_lines.specs.LineTimes.{clock_of, time_of}
 use Rattle.judged_lines.specs.declared.outcome.LineOutcome.{LineOutcome}
 use Rattle.scenario.specs.ScenarioValues.{IsWindow}
 use Rattle.scenario.specs.declared.values.Scenario.{Scenario}
-use Rattle.tracks.specs.AcceptedReports.{Numbers}
+use Rattle.tracks.specs.AcceptedReports.{JudgingNumbers}
 use Rattle.tracks.specs.VesselsHeld.{Sent, held_of, is_held, sender_of, senders_of, with_number}
 use Rattle.tracks.proofs.ForCallers.{held_in_order}
-use Rattle.tracks.specs.SeenVessels.{seen_of, sighting}
+use Rattle.tracks.specs.SeenVessels.{seen_of, seen_vessel}
 use Rattle.tracks.specs.VesselsHeld.{legs_of}
 use Rattle.motion.specs.TickStates.{state_at as leg_state}
 use Rattle.motion.specs.declared.leg.Leg.{Leg}
 use Rattle.motion.specs.declared.leg.TickState.{TickState}
 use Rattle.meetings.specs.Traces.{AreInContact}
 use Rattle.meetings.specs.declared.pair.Pair.{Pair}
-use Rattle.audit_traces.specs.Audited.{Begins, Numbers as AuditNumbers, Sighting, state_at, state_in}
+use Rattle.audit_traces.specs.Audited.{Begins, AuditNumbers, Sighting, seen_state_at, state_in}
 use Rattle.auditor.specs.Standing.{HaveMoreThan}
 use Rattle.scenario.specs.Ticks.{time_of_tick}
 use Rattle.command_line.specs.declared.mode.Mode.{Mode}
@@ -43,7 +43,7 @@ use Rattle.colregs_program.proofs.AskedLogs.{drills, not_read}
 use Rattle.std.specs.Prelude.{IfErr, MatchResult}
 use Rattle.sessions.specs.AuditReport.{sightings_of}
 use Rattle.sessions.specs.Endings.{Came, HasManyTraces, IsAnswerTo}
-use Rattle.sessions.specs.Refusals.{IsMet, IsRefused, IsStopped}
+use Rattle.sessions.specs.Refusals.{IsMet, IsLogRefused, IsStopped}
 use Rattle.sessions.specs.declared.session_fault.SessionFault.{SessionFault}
 use Rattle.sessions.specs.declared.session_fault.SessionFault.TheVariants as why
 use Rattle.settling.specs.SettledTicks.{greatest_traces}
@@ -78,7 +78,7 @@ all_after f P Q step before (x ∷ xs) had all =
     let head = All-head P x xs all in
     All-cons Q (f before x) _ (step before x had head) (all_after f P Q step (before ++ x ∷ []) xs (All-push P before x had head) (All-tail P x xs all))
 
-values_so : {A E : Type 0} (P : A → Type 0) (results : List (Result A E)) → All (λ r. IfOk r P) results → All P (filter_map value_in results)
+values_so : {A E : Type 0} (P : A → Type 0) (results : List (Result A E)) → All (λ r. IfOk r P) results → All P (filter_map ok_value results)
 values_so P [] all = All-nil P
 values_so {A} {E} P (Ok a ∷ more) all = All-cons P a _ (All-head (λ (r : Result A E). IfOk r P) (Ok a) more all) (values_so P more (All-tail (λ (r : Result A E). IfOk r P) (Ok a) more all))
 values_so {A} {E} P (Err e ∷ more) all = values_so P more (All-tail (λ (r : Result A E). IfOk r P) (Err e) more all)
@@ -105,11 +105,11 @@ senders_so had [] all of = all
 senders_so had (one ∷ more) all of =
     senders_so (with_number (sender_of one.message) had) more (with_so (sender_of one.message) had (All-head OfFleet one more of) all) (All-tail OfFleet one more of)
 
-pub held_so : (numbers : Numbers) (messages : List Sent) → All OfFleet messages → All InFleet (held_of numbers messages)
+pub held_so : (numbers : JudgingNumbers) (messages : List Sent) → All OfFleet messages → All InFleet (held_of numbers messages)
 unfolding held_of
 held_so numbers messages of = All-filter (is_held numbers messages) InFleet (senders_of messages) (senders_so [] messages (All-nil InFleet) of)
 
-few_held : (numbers : Numbers) (messages : List Sent) → All OfFleet messages → length (held_of numbers messages) ≤ 40
+few_held : (numbers : JudgingNumbers) (messages : List Sent) → All OfFleet messages → length (held_of numbers messages) ≤ 40
 few_held numbers messages of =
     few_between 200000001 40 (held_of numbers messages)
     (λ i j d lt within same. (let below = held_in_order numbers messages i j d lt within in absurd (omega arith)))
@@ -131,16 +131,16 @@ not_crowded scenario lines all =
 abbrev AreOfFleet : Sighting → Type 0
 AreOfFleet seen = All (λ (vessel : ℕ × TickState). InFleet vessel.0) seen
 
-sightings_so : (time : ℕ) (legs : ℕ → List Leg) (held : List ℕ) → All InFleet held → AreOfFleet (filter_map (sighting time legs) held)
+sightings_so : (time : ℕ) (legs : ℕ → List Leg) (held : List ℕ) → All InFleet held → AreOfFleet (filter_map (seen_vessel time legs) held)
 sightings_so time legs [] all = All-nil (λ (vessel : ℕ × TickState). InFleet vessel.0)
 sightings_so time legs (m ∷ ms) all = cases (leg_state time (legs m)) refl (sightings_so time legs ms (All-tail InFleet m ms all))
   where
-    cases : (state : Option TickState) → leg_state time (legs m) ≡ state → AreOfFleet (filter_map (sighting time legs) ms)
-        → AreOfFleet (filter_map (sighting time legs) (m ∷ ms))
+    cases : (state : Option TickState) → leg_state time (legs m) ≡ state → AreOfFleet (filter_map (seen_vessel time legs) ms)
+        → AreOfFleet (filter_map (seen_vessel time legs) (m ∷ ms))
     cases None is more = rw is more
     cases (Some state) is more = rw is (All-cons (λ (vessel : ℕ × TickState). InFleet vessel.0) (m, state) _ (All-head InFleet m ms all) more)
 
-seen_so : (numbers : Numbers) (messages : List Sent) (time : ℕ) → All OfFleet messages → AreOfFleet (seen_of numbers messages time)
+seen_so : (numbers : JudgingNumbers) (messages : List Sent) (time : ℕ) → All OfFleet messages → AreOfFleet (seen_of numbers messages time)
 unfolding seen_of
 seen_so numbers messages time of = sightings_so time (legs_of numbers messages) (held_of numbers messages) (held_so numbers messages of)
 
@@ -172,7 +172,7 @@ IsFleetPair pair = InFleet pair.subject × InFleet pair.other
 pair_so : (numbers : AuditNumbers) (ticks : List Sighting) → All AreOfFleet ticks → (pair : Pair) (start : ℕ) → Begins numbers ticks pair start → IsFleetPair pair
 pair_so numbers ticks all pair start begins =
     let seen = tick_so ticks start all in
-    let (subject, other) = both_seen numbers.detect.watch (state_at ticks pair.subject start) (state_at ticks pair.other start) begins.begins.contact in
+    let (subject, other) = both_seen numbers.detect.watch (seen_state_at ticks pair.subject start) (seen_state_at ticks pair.other start) begins.begins.contact in
     (state_so pair.subject (get_or ticks start []) subject.0 seen subject.1, state_so pair.other (get_or ticks start []) other.0 seen other.1)
 
 -- a number for each pair
@@ -235,7 +235,7 @@ module _ (scenario : Scenario) (seed : ℕ) (in_range : IsWindow scenario.window
       first_all P (x ∷ xs) ys all = All-cons P x xs (All-head P x (xs ++ ys) all) (first_all P xs ys (All-tail P x (xs ++ ys) all))
 
   no_refusal : (stay : (l more : List ℕ) → (lines : List (List ℕ)) × (lines_of (l ++ more) ≡ ended_lines l ++ lines)) (place : ℕ) (came : Came)
-      → IsRefused mode.Drill scenario (take place log) came → came ≡ Err why.LogBytes
+      → IsLogRefused mode.Drill scenario (take place log) came → came ≡ Err why.LogBytes
   no_refusal stay place came (inl (long, is)) = is
   no_refusal stay place came (inr (short, inl (crowded, is))) = let calm = not_stopped stay place in cc (crowded, calm)
   no_refusal stay place came (inr (short, inr (calm, inl (many, is)))) = absurd many

@@ -2,7 +2,7 @@
 use Rattle.std.proofs.Common.{ℕ, ◌≡◌, ◌≤◌, ◌<◌, inl, inr, IsTrue, List, length, Option, Some, Result, Ok, Err, refl, ap, sym, subst}
 use Rattle.outside.specs.Shelves.{Files, IsMissing}
 use Rattle.scenario.specs.declared.values.Scenario.{Scenario}
-use Rattle.colregs_program.specs.Answers.{CanMigrate, IsDue, IsRefusedBy, LiesUnder, Meets, Requested, greatest_scenario}
+use Rattle.colregs_program.specs.Answers.{CanMigrate, IsDue, IsRefusedBy, LiesUnder, MeetsAnswer, Requested, greatest_scenario}
 use Rattle.sessions.specs.Modes.{reports}
 use Rattle.colregs_program.specs.Inner.Migrating.{IsMigrationDue}
 use Rattle.command_line.specs.declared.mode.Mode.{Mode}
@@ -53,7 +53,7 @@ of_request : (words : List (List ℕ)) (request : Request) (P : Request → Type
 of_request words request P accepted asked = subst P (one_asked words asked.0 request asked.1 accepted) asked.2
 
 of_meeting : (words : List (List ℕ)) (files : Option Files) (log : Option (List ℕ)) (request : Request) (due : Status)
-    → AskFor words request → Meets words files log due → SetUpDue files log request due
+    → AskFor words request → MeetsAnswer words files log due → SetUpDue files log request due
 of_meeting words files log request due accepted meets =
     let same : meets.0 ≡ request = one_asked words meets.0 request meets.3.asked accepted in
     subst (λ (r : Request). SetUpDue files log r due) same (record {
@@ -96,7 +96,7 @@ set_up_due words files log request status.Memory accepted reports is = absurd is
 
 -- A migration meets nothing in a log.
 no_meeting : (words : List (List ℕ)) (files : Option Files) (log : Option (List ℕ)) (request : Request) (answer : Status) (Any : Type 0)
-    → AskFor words request → request.mode ≡ mode.Migrate → Meets words files log answer → Any
+    → AskFor words request → request.mode ≡ mode.Migrate → MeetsAnswer words files log answer → Any
 no_meeting words files log request answer Any accepted migrates meets =
     let reports : IsTrue (reports request.mode) = subst (λ (r : Request). IsTrue (reports r.mode)) (one_asked words meets.0 request meets.3.asked accepted) meets.3.reports in
     absurd (cc (migrates, reports))

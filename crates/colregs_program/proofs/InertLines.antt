@@ -16,14 +16,14 @@ use Rattle.ais_messages.specs.declared.message.MessageCause.{MessageCause}
 use Rattle.ais_messages.specs.declared.message.MessageCause.TheVariants as message_cause
 use Rattle.ais_messages.specs.declared.message.PositionReport.{PositionReport}
 use Rattle.fixed_geometry.specs.declared.point.Point.{Point}
-use Rattle.tracks.specs.AcceptedReports.{Numbers}
+use Rattle.tracks.specs.AcceptedReports.{JudgingNumbers}
 use Rattle.tracks.specs.VesselsHeld.{Sent, entry_of, report_in}
 use Rattle.tracks.specs.declared.entry.Entry.{Entry}
 use Rattle.tracks.specs.declared.entry.Entry.TheVariants as entry
 use Rattle.tracks.specs.declared.entry.ReportCause.{ReportCause}
 use Rattle.tracks.specs.declared.entry.ReportCause.TheVariants as report_cause
 use Rattle.scenario.specs.declared.values.Scenario.{Scenario}
-use Rattle.judged_lines.specs.EachLine.{each_after, each_line, value_in}
+use Rattle.judged_lines.specs.EachLine.{each_after, each_line, ok_value}
 use Rattle.judged_lines.specs.JudgedLines.{accepted_at, judged_entry, judged_line, judged_lines, judged_sent, numbers_of, outcome_of}
 use Rattle.judged_lines.specs.LineOutcomes.{line_outcome, message_outcome, report_outcome}
 use Rattle.judged_lines.specs.LineTimes.{clock_of, greatest, is_in_window, is_late, stamp_of, stamps_of, time_of}
@@ -76,19 +76,19 @@ none_of_entry one (entry.Point point) = none_of_report one.time point (report_in
 none_of_entry one entry.Static = refl
 none_of_entry one (entry.Dropped cause) = no_report_cause cause
 
-none_of_decoded : (numbers : Numbers) (before : List Sent) (time : ℕ) (came : Decoded)
+none_of_decoded : (numbers : JudgingNumbers) (before : List Sent) (time : ℕ) (came : Decoded)
     → cause_of (outcome_of (judged_sent numbers before (sent_decoded time came))) ≡ None
 none_of_decoded numbers before time (decoded.Message message) =
     none_of_entry (record { message = message; time = time }) (entry_of numbers before (record { message = message; time = time }))
 none_of_decoded numbers before time (decoded.Dropped cause) = no_message_cause cause
 
-none_of_joined : (numbers : Numbers) (before : List Sent) (time : ℕ) (came : Joined)
+none_of_joined : (numbers : JudgingNumbers) (before : List Sent) (time : ℕ) (came : Joined)
     → cause_of (outcome_of (judged_sent numbers before (sent_joined time came))) ≡ None
 none_of_joined numbers before time (joined.Message bits) = none_of_decoded numbers before time (decoded_of bits)
 none_of_joined numbers before time joined.Waiting = refl
 none_of_joined numbers before time joined.Orphan = refl
 
-none_of_timed : (numbers : Numbers) (before : List Sent) (taken : List Taken) (time : ℕ) (sentence : SentenceFields) (inside late : Bool)
+none_of_timed : (numbers : JudgingNumbers) (before : List Sent) (taken : List Taken) (time : ℕ) (sentence : SentenceFields) (inside late : Bool)
     → cause_of (outcome_of (judged_sent numbers before (sent_heard taken (heard_unless
     (if inside then (if late then Some outcome.Late else None) else Some outcome.Outside) time sentence)))) ≡ None
 none_of_timed numbers before taken time sentence true true = refl
@@ -97,7 +97,7 @@ none_of_timed numbers before taken time sentence true false =
 none_of_timed numbers before taken time sentence false late = refl
 
 -- A line that comes to the outcome of such a cause is read as one to be dropped for it.
-dropped_for : (scenario : Scenario) (clock : Option ℕ) (numbers : Numbers) (before : List Sent) (taken : List Taken) (time : ℕ)
+dropped_for : (scenario : Scenario) (clock : Option ℕ) (numbers : JudgingNumbers) (before : List Sent) (taken : List Taken) (time : ℕ)
     (body : Result SentenceFields LineCause) (cause : LineCause)
     → outcome_of (judged_sent numbers before (sent_heard taken (heard_in scenario clock time body))) ≡ line_outcome cause → body ≡ Err cause
 dropped_for scenario clock numbers before taken time (Ok sentence) cause came =
@@ -146,12 +146,12 @@ module _ {B : Type 0} (f : List (List ℕ) → List ℕ → B) where
 -- What is kept of each line is the same without one of which nothing is kept.
 module _ {A E : Type 0} (f : List (List ℕ) → List ℕ → Result A E) (front : List (List ℕ)) (line : List ℕ) (why : E)
     (blind : (between : List (List ℕ)) (x : List ℕ) → f (front ++ line ∷ between) x ≡ f (front ++ between) x) (none : f front line ≡ Err why) where
-  pub kept_same : (back : List (List ℕ)) → filter_map value_in (each_line f (front ++ line ∷ back)) ≡ filter_map value_in (each_line f (front ++ back))
-  kept_same back = ap (filter_map value_in) (with_line f front line blind back)
-      ∙ filter_map-append value_in (each_line f front) (f front line ∷ each_after f front back)
-      ∙ ap (λ came. filter_map value_in (each_line f front) ++ cons_option (value_in came) (filter_map value_in (each_after f front back))) none
-      ∙ sym (filter_map-append value_in (each_line f front) (each_after f front back))
-      ∙ ap (filter_map value_in) (sym (without_line f front line blind back))
+  pub kept_same : (back : List (List ℕ)) → filter_map ok_value (each_line f (front ++ line ∷ back)) ≡ filter_map ok_value (each_line f (front ++ back))
+  kept_same back = ap (filter_map ok_value) (with_line f front line blind back)
+      ∙ filter_map-append ok_value (each_line f front) (f front line ∷ each_after f front back)
+      ∙ ap (λ came. filter_map ok_value (each_line f front) ++ cons_option (ok_value came) (filter_map ok_value (each_after f front back))) none
+      ∙ sym (filter_map-append ok_value (each_line f front) (each_after f front back))
+      ∙ ap (filter_map ok_value) (sym (without_line f front line blind back))
 
 module _ (scenario : Scenario) (front : List (List ℕ)) (line : List ℕ) (cause : LineCause) (inert : IsInert scenario front line cause) where
   stamps_same : (between : List (List ℕ)) → stamps_of (front ++ line ∷ between) ≡ stamps_of (front ++ between)

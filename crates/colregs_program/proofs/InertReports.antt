@@ -11,7 +11,7 @@ use Rattle.command_line.specs.declared.mode.Mode.{Mode}
 use Rattle.command_line.specs.declared.mode.Mode.TheVariants as mode
 use Rattle.judged_lines.specs.EachLine.{each_after}
 use Rattle.judged_lines.specs.JudgedLines.{count_of, judged_line, judged_lines, numbers_of, outcome_of}
-use Rattle.judged_lines.specs.LineOutcomes.{line_outcome, place_of}
+use Rattle.judged_lines.specs.LineOutcomes.{line_outcome, outcome_index}
 use Rattle.judged_lines.specs.LogLines.{lines_of}
 use Rattle.judged_lines.specs.SentLines.{sent}
 use Rattle.judged_lines.specs.declared.judged.Judged.{Judged}
@@ -23,8 +23,8 @@ use Rattle.sessions.specs.AuditReport.{IsAuditReport, rows_behind, sightings_of,
 use Rattle.sessions.specs.DrillReport.{IsDrillReport, drill_text}
 use Rattle.sessions.specs.Endings.{IsEnding}
 use Rattle.sessions.specs.OutcomeRows.{count_rows}
-use Rattle.sessions.specs.PlanReport.{IsManoeuvre, IsPlanReport, manoeuvre_rows, messages_of, near_rows, plan_text}
-use Rattle.sessions.specs.PointsReport.{point_rows, report_of, rows_of_line}
+use Rattle.sessions.specs.PlanReport.{IsManoeuvre, IsPlanReport, manoeuvre_rows, log_messages, near_rows, plan_text}
+use Rattle.sessions.specs.PointsReport.{point_rows, points_report, rows_of_line}
 use Rattle.settling.specs.Sightings.{audit_numbers, sighted}
 use Rattle.tracks.specs.VesselsHeld.{Sent}
 use Rattle.colregs_program.specs.InertLines.{HasOneFewer, IsInert, one_fewer, rows_of_counts}
@@ -47,16 +47,16 @@ place_itself n = grind (arith, nat_tests)
 
 module _ (came : LineOutcome) (xs ys : List Judged) where
   fewer_at : (outcome : LineOutcome) → one_fewer came (λ o. count_of o (xs ++ judged.Without came ∷ ys)) outcome ≡ count_of outcome (xs ++ ys)
-  fewer_at outcome = fewer_by (place_of came == place_of outcome) (count_of outcome (xs ++ judged.Without came ∷ ys)) (count_of outcome (xs ++ ys))
-      (count_one (λ line. place_of (outcome_of line) == place_of outcome) xs ys (judged.Without came))
+  fewer_at outcome = fewer_by (outcome_index came == outcome_index outcome) (count_of outcome (xs ++ judged.Without came ∷ ys)) (count_of outcome (xs ++ ys))
+      (count_one (λ line. outcome_index (outcome_of line) == outcome_index outcome) xs ys (judged.Without came))
 
   counts_fewer : one_fewer came (λ o. count_of o (xs ++ judged.Without came ∷ ys)) ≡ (λ o. count_of o (xs ++ ys))
   counts_fewer = λ i. λ outcome. fewer_at outcome i
 
   counts_some : 0 < count_of came (xs ++ judged.Without came ∷ ys)
   counts_some =
-      let one = count_one (λ line. place_of (outcome_of line) == place_of came) xs ys (judged.Without came) in
-      let here : cond (place_of came == place_of came) 1 0 ≡ 1 = ap (λ (b : Bool). cond {A = ℕ} b 1 0) (place_itself (place_of came)) in
+      let one = count_one (λ line. outcome_index (outcome_of line) == outcome_index came) xs ys (judged.Without came) in
+      let here : cond (outcome_index came == outcome_index came) 1 0 ≡ 1 = ap (λ (b : Bool). cond {A = ℕ} b 1 0) (place_itself (outcome_index came)) in
       omega (arith, one, here)
 
 -- ---- the reports
@@ -98,12 +98,12 @@ module _ (scenario : Scenario) (log less : List ℕ) (front : List (List ℕ)) (
         ∙ ap (λ count. rows ++ rows_of_counts count) (sym (counts_fewer (line_outcome cause) before after));
   }
 
-  of_points : (text : List ℕ) → text ≡ report_of scenario log → (other : List ℕ) × (other ≡ report_of scenario less) × HasOneFewer (line_outcome cause) text other
-  unfolding report_of
+  of_points : (text : List ℕ) → text ≡ points_report scenario log → (other : List ℕ) × (other ≡ points_report scenario less) × HasOneFewer (line_outcome cause) text other
+  unfolding points_report
   of_points text is = (
-    report_of scenario less,
+    points_report scenario less,
     refl,
-    one_count (point_rows (judged_lines scenario (lines_of less))) text (report_of scenario less)
+    one_count (point_rows (judged_lines scenario (lines_of less))) text (points_report scenario less)
         (is ∙ ap (λ rows. rows ++ count_rows (judged_lines scenario (lines_of log))) points_same) refl,
   )
 
@@ -164,7 +164,7 @@ module _ (scenario : Scenario) (log less : List ℕ) (front : List (List ℕ)) (
           is_first = subst (λ (messages : List Sent). IsManoeuvre (situation_of numbers messages scenario own ready) report.manoeuvre) messages_same report.is_first;
           is = refl;
         },
-        one_count (rows (messages_of scenario less)) text (plan_text scenario less own ready report.manoeuvre)
+        one_count (rows (log_messages scenario less)) text (plan_text scenario less own ready report.manoeuvre)
             (report.is ∙ ap (λ messages. rows messages ++ count_rows (judged_lines scenario (lines_of log))) messages_same) refl,
       )
 

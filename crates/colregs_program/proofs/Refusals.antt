@@ -12,7 +12,7 @@ use Rattle.sessions.specs.Modes.{reads_log, reports}
 use Rattle.sessions.specs.Refusals.{IsMet}
 use Rattle.sessions.specs.declared.session_fault.SessionFault.TheVariants as why
 use Rattle.own_ship.specs.declared.readiness.Unready.{Unready}
-use Rattle.colregs_program.specs.Answers.{EndsWith, Holds, IsDue, IsOfDrill, IsScenario, MetIn, Runs, StopsWith, WritesNothing, WritesPart}
+use Rattle.colregs_program.specs.Answers.{EndsWith, HoldsUnder, IsDue, IsOfDrill, IsScenario, MetIn, Runs, StopsWith, WritesNothing, WritesPart}
 use Rattle.colregs_program.specs.LogAnswers.{GainsFront, GainsReport, GainsSettled, IsAnswered, IsStoppedBy, LeavesSettled, Reports, answer_of, finished}
 use Rattle.command_line.specs.Requests.{AskFor, AskForNothing}
 use Rattle.command_line.specs.declared.mode.Mode.{Mode}
@@ -316,12 +316,12 @@ module _ (request : Request) (scenario : Scenario) (left left' contents contents
 -- ---- a run that writes
 
 -- What is told of the bytes under a name follows.
-held_so : (files : Option Files) (name : List ℕ) (P Q : List ℕ → Type 0) → ((text : List ℕ) → P text → Q text) → Holds files name P → Holds files name Q
+held_so : (files : Option Files) (name : List ℕ) (P Q : List ℕ → Type 0) → ((text : List ℕ) → P text → Q text) → HoldsUnder files name P → HoldsUnder files name Q
 held_so None name P Q so holds = tt
 held_so (Some held) name P Q so (text, found, p) = (text, found, so text p)
 
 pub runs : (words : List (List ℕ)) (files : Option Files) (request : Request) (scenario : Scenario) (Q : Request → Type 0) (P : Request → Scenario → Type 0)
-    → AskFor words request → IsTrue (reports request.mode) → Q request → Holds files request.name (λ text. IsScenario request text scenario) → P request scenario → Runs words files Q P
+    → AskFor words request → IsTrue (reports request.mode) → Q request → HoldsUnder files request.name (λ text. IsScenario request text scenario) → P request scenario → Runs words files Q P
 runs words files request scenario Q P accepted reports q holds p = (
   request,
   accepted,

@@ -14,8 +14,8 @@ use Rattle.sessions.specs.Refusals.{IsStopped}
 use Rattle.sessions.specs.SettledText.{IsSettledText}
 use Rattle.audit_report.specs.ReportTexts.{HasText}
 use Rattle.audit_report.specs.declared.report_text.ReportText.{ReportText}
-use Rattle.sessions.specs.Feeding.{Refuses, Takes, UnlessMemory}
-use Rattle.sessions.specs.Standing.{IsInUse, StandsFor, mode_of, scenario_of}
+use Rattle.sessions.specs.Feeding.{Refuses, TookPiece, UnlessMemory}
+use Rattle.sessions.specs.Standing.{IsInUse, StandsFor, mode_of, session_scenario}
 use Rattle.sessions.specs.declared.session.Session.{Session}
 use Rattle.sessions.specs.declared.session_fault.SessionFault.{SessionFault}
 use Rattle.sessions.specs.declared.session_fault.SessionFault.TheVariants as why
@@ -36,7 +36,7 @@ part_on a b c given more put part =
 
 -- ---- what was fed
 
-settled_by : (session : Session) (fed given : List ℕ) → StandsFor session fed given → IsSettledText (mode_of session) (scenario_of session) fed given
+settled_by : (session : Session) (fed given : List ℕ) → StandsFor session fed given → IsSettledText (mode_of session) (session_scenario session) fed given
 settled_by session fed given stands = decided_by session.work session.scenario (ended_lines fed) given stands.done
 
 pub written_from : (session : Session) (left contents : Option (List ℕ)) → StandsFor session [] [] → HasWritten session left left contents contents
@@ -63,11 +63,11 @@ module _ (session : Session) (first left left' contents now : Option (List ℕ))
 
   -- A write failed, of what the piece decided.
   pub part_written : (session' : Session) (now' : Option (List ℕ)) (more : List ℕ) → ((fed given : List ℕ) → StandsFor session fed given → StandsFor session' (fed ++ piece) (given ++ more))
-      → mode_of session' ≡ mode_of session → scenario_of session' ≡ scenario_of session → AppendsPart now now' more
-      → LeavesPart (mode_of session) (scenario_of session) first left' contents now'
+      → mode_of session' ≡ mode_of session → session_scenario session' ≡ session_scenario session → AppendsPart now now' more
+      → LeavesPart (mode_of session) (session_scenario session) first left' contents now'
   part_written session' now' more stands same_mode same_scenario part =
-      let settled : IsSettledText (mode_of session) (scenario_of session) (has.fed ++ piece) (has.given ++ more) =
-      subst (λ (m : Mode). IsSettledText m (scenario_of session) (has.fed ++ piece) (has.given ++ more)) same_mode
+      let settled : IsSettledText (mode_of session) (session_scenario session) (has.fed ++ piece) (has.given ++ more) =
+      subst (λ (m : Mode). IsSettledText m (session_scenario session) (has.fed ++ piece) (has.given ++ more)) same_mode
       (subst (λ (s : Scenario). IsSettledText (mode_of session') s (has.fed ++ piece) (has.given ++ more)) same_scenario
       (settled_by session' (has.fed ++ piece) (has.given ++ more) (stands has.fed has.given has.stands))) in
       record {
@@ -81,8 +81,8 @@ module _ (session : Session) (first left left' contents now : Option (List ℕ))
 
   -- A write failed, of what was decided before the place of a refusal.
   pub part_before : (now' : Option (List ℕ)) (more : List ℕ) (because : SessionFault)
-      → ((fed given : List ℕ) → StandsFor session fed given → IsStopped (mode_of session) (scenario_of session) (fed ++ piece) because (given ++ more))
-      → AppendsPart now now' more → LeavesPart (mode_of session) (scenario_of session) first left' contents now'
+      → ((fed given : List ℕ) → StandsFor session fed given → IsStopped (mode_of session) (session_scenario session) (fed ++ piece) because (given ++ more))
+      → AppendsPart now now' more → LeavesPart (mode_of session) (session_scenario session) first left' contents now'
   part_before now' more because stopped part =
       let stop = stopped has.fed has.given has.stands in
       let log = has.fed ++ piece in
@@ -97,28 +97,28 @@ module _ (session : Session) (first left left' contents now : Option (List ℕ))
 
   -- What was decided before the place of a refusal is written.
   pub stopped_written : (now' : Option (List ℕ)) (more : List ℕ) (because : SessionFault)
-      → ((fed given : List ℕ) → StandsFor session fed given → IsStopped (mode_of session) (scenario_of session) (fed ++ piece) because (given ++ more))
-      → Appends now now' more → Stops (mode_of session) (scenario_of session) first contents now' because
+      → ((fed given : List ℕ) → StandsFor session fed given → IsStopped (mode_of session) (session_scenario session) (fed ++ piece) because (given ++ more))
+      → Appends now now' more → Stops (mode_of session) (session_scenario session) first contents now' because
   stopped_written now' more because stopped put =
       let stop = stopped has.fed has.given has.stands in
       let gained = Appends-trans contents now now' has.given more has.gained put in
       record { stops = at first left' all_taken stop gained }
     where
-      at : (a b : Option (List ℕ)) → Consumes a b (has.fed ++ piece) → IsStopped (mode_of session) (scenario_of session) (has.fed ++ piece) because (has.given ++ more)
+      at : (a b : Option (List ℕ)) → Consumes a b (has.fed ++ piece) → IsStopped (mode_of session) (session_scenario session) (has.fed ++ piece) because (has.given ++ more)
           → Appends contents now' (has.given ++ more)
-          → IfSome a (λ log. (text : List ℕ) × IsStopped (mode_of session) (scenario_of session) log because text × Appends contents now' text)
+          → IfSome a (λ log. (text : List ℕ) × IsStopped (mode_of session) (session_scenario session) log because text × Appends contents now' text)
       at None b all stop gained = tt
       at (Some log) None all stop gained = absurd all
       at (Some log) (Some rest) all stop gained =
-          let here = subst (λ (l : List ℕ). IsStopped (mode_of session) (scenario_of session) l because (has.given ++ more)) (sym all)
-          (stopped_on (mode_of session) (scenario_of session) (has.fed ++ piece) rest because (has.given ++ more) stop) in
+          let here = subst (λ (l : List ℕ). IsStopped (mode_of session) (session_scenario session) l because (has.given ++ more)) (sym all)
+          (stopped_on (mode_of session) (session_scenario session) (has.fed ++ piece) rest because (has.given ++ more) stop) in
           (has.given ++ more, here, gained)
 
   -- There was no memory: the piece decided nothing that is written.
-  pub front_left : IfSome first (λ log. GainsFront (mode_of session) (scenario_of session) log contents now)
+  pub front_left : IfSome first (λ log. GainsFront (mode_of session) (session_scenario session) log contents now)
   front_left = at first left' all_taken
     where
-      at : (a b : Option (List ℕ)) → Consumes a b (has.fed ++ piece) → IfSome a (λ log. GainsFront (mode_of session) (scenario_of session) log contents now)
+      at : (a b : Option (List ℕ)) → Consumes a b (has.fed ++ piece) → IfSome a (λ log. GainsFront (mode_of session) (session_scenario session) log contents now)
       at None b all = tt
       at (Some log) None all = absurd all
       at (Some log) (Some rest) all = record {
@@ -150,7 +150,7 @@ unless_at why.Memory session piece first text has refuses = tt
 -- ---- a read that failed
 
 pub settled_left : (session : Session) (first left left' contents now now' : Option (List ℕ)) → HasWritten session first left contents now → Keeps left left'
-    → Keeps now now' → LeavesSettled (mode_of session) (scenario_of session) first left' contents now'
+    → Keeps now now' → LeavesSettled (mode_of session) (session_scenario session) first left' contents now'
 settled_left session first left left' contents now now' has kept same = record {
   read = has.fed;
   short = has.stands.unrefused.short;
@@ -175,12 +175,12 @@ whole_at_end (Some log) (Some rest) fed P taken end holds =
 
 module _ (session : Session) (first left contents now : Option (List ℕ)) (end : IsAtEnd left) (has : HasWritten session first left contents now) where
   pub report_written : (now' : Option (List ℕ)) (rest : List ℕ) (none : Bool)
-      → ((fed given : List ℕ) → StandsFor session fed given → IsEnding (mode_of session) (scenario_of session) fed (given ++ rest))
-      → ((fed given : List ℕ) → StandsFor session fed given → IsAnswerTo (mode_of session) (scenario_of session) fed (Ok none))
+      → ((fed given : List ℕ) → StandsFor session fed given → IsEnding (mode_of session) (session_scenario session) fed (given ++ rest))
+      → ((fed given : List ℕ) → StandsFor session fed given → IsAnswerTo (mode_of session) (session_scenario session) fed (Ok none))
       → Appends now now' rest
-      → IfSome first (λ log. Reports (mode_of session) (scenario_of session) log none contents now')
+      → IfSome first (λ log. Reports (mode_of session) (session_scenario session) log none contents now')
   report_written now' rest none ending answer put =
-      whole_at_end first left has.fed (λ log. Reports (mode_of session) (scenario_of session) log none contents now') has.taken end (record {
+      whole_at_end first left has.fed (λ log. Reports (mode_of session) (session_scenario session) log none contents now') has.taken end (record {
         met = inr (has.stands.unrefused, answer has.fed has.given has.stands);
         gains = record {
           text = has.given ++ rest;
@@ -190,11 +190,11 @@ module _ (session : Session) (first left contents now : Option (List ℕ)) (end 
       })
 
   pub report_part : (now' : Option (List ℕ)) (rest : List ℕ) (none : Bool)
-      → ((fed given : List ℕ) → StandsFor session fed given → IsEnding (mode_of session) (scenario_of session) fed (given ++ rest))
-      → ((fed given : List ℕ) → StandsFor session fed given → IsAnswerTo (mode_of session) (scenario_of session) fed (Ok none))
-      → AppendsPart now now' rest → IfSome first (λ log. GainsPart (mode_of session) (scenario_of session) log contents now')
+      → ((fed given : List ℕ) → StandsFor session fed given → IsEnding (mode_of session) (session_scenario session) fed (given ++ rest))
+      → ((fed given : List ℕ) → StandsFor session fed given → IsAnswerTo (mode_of session) (session_scenario session) fed (Ok none))
+      → AppendsPart now now' rest → IfSome first (λ log. GainsPart (mode_of session) (session_scenario session) log contents now')
   report_part now' rest none ending answer part =
-      whole_at_end first left has.fed (λ log. GainsPart (mode_of session) (scenario_of session) log contents now') has.taken end (record {
+      whole_at_end first left has.fed (λ log. GainsPart (mode_of session) (session_scenario session) log contents now') has.taken end (record {
         none = none;
         met = inr (has.stands.unrefused, answer has.fed has.given has.stands);
         text = has.given ++ rest;
@@ -202,21 +202,21 @@ module _ (session : Session) (first left contents now : Option (List ℕ)) (end 
         part = part_on contents now now' has.given rest has.gained part;
       })
 
-  ended : (because : SessionFault) → ((fed given : List ℕ) → StandsFor session fed given → IsAnswerTo (mode_of session) (scenario_of session) fed (Err because))
-      → Ends (mode_of session) (scenario_of session) first left contents now because
+  ended : (because : SessionFault) → ((fed given : List ℕ) → StandsFor session fed given → IsAnswerTo (mode_of session) (session_scenario session) fed (Err because))
+      → Ends (mode_of session) (session_scenario session) first left contents now because
   ended because answer = record {
     end = end;
     ends = whole_at_end first left has.fed
-        (λ log. Rattle.sessions.specs.Refusals.IsUnrefused (mode_of session) (scenario_of session) log × IsAnswerTo (mode_of session) (scenario_of session) log (Err because)
-        × GainsSettled (mode_of session) (scenario_of session) log contents now) has.taken end (
+        (λ log. Rattle.sessions.specs.Refusals.IsUnrefused (mode_of session) (session_scenario session) log × IsAnswerTo (mode_of session) (session_scenario session) log (Err because)
+        × GainsSettled (mode_of session) (session_scenario session) log contents now) has.taken end (
           has.stands.unrefused,
           answer has.fed has.given has.stands,
           record { text = has.given; settled = settled_by session has.fed has.given has.stands; gained = has.gained },
         );
   }
 
-  front_here : IfSome first (λ log. GainsFront (mode_of session) (scenario_of session) log contents now)
-  front_here = whole_at_end first left has.fed (λ log. GainsFront (mode_of session) (scenario_of session) log contents now) has.taken end (record {
+  front_here : IfSome first (λ log. GainsFront (mode_of session) (session_scenario session) log contents now)
+  front_here = whole_at_end first left has.fed (λ log. GainsFront (mode_of session) (session_scenario session) log contents now) has.taken end (record {
     front = has.fed;
     rest = [];
     whole = sym (append-nil has.fed);
@@ -233,16 +233,16 @@ module _ (session : Session) (first left contents now : Option (List ℕ)) (end 
       no_more (Some xs) (Some ys) put = put ∙ append-nil xs
 
   pub end_cause : (because : SessionFault)
-      → UnlessMemory because ((fed given : List ℕ) → StandsFor session fed given → IsAnswerTo (mode_of session) (scenario_of session) fed (Err because))
-      → StreamCause (mode_of session) (scenario_of session) first left contents now (fault.Unreported because)
+      → UnlessMemory because ((fed given : List ℕ) → StandsFor session fed given → IsAnswerTo (mode_of session) (session_scenario session) fed (Err because))
+      → StreamCause (mode_of session) (session_scenario session) first left contents now (fault.Unreported because)
   end_cause why.Vessels answer = inr (ended why.Vessels answer)
   end_cause why.Pairs answer = inr (ended why.Pairs answer)
-  end_cause why.LogBytes answer = absurd (bytes_not_at_end (mode_of session) (scenario_of session) has.fed (answer has.fed has.given has.stands))
+  end_cause why.LogBytes answer = absurd (bytes_not_at_end (mode_of session) (session_scenario session) has.fed (answer has.fed has.given has.stands))
   end_cause (why.Own lack) answer =
-      let nothing = nothing_with_own (mode_of session) (scenario_of session) has.fed has.given lack (settled_by session has.fed has.given has.stands) (answer has.fed has.given has.stands) in
+      let nothing = nothing_with_own (mode_of session) (session_scenario session) has.fed has.given lack (settled_by session has.fed has.given has.stands) (answer has.fed has.given has.stands) in
       (ended (why.Own lack) answer, kept nothing)
   end_cause why.Targets answer =
-      let nothing = nothing_with_targets (mode_of session) (scenario_of session) has.fed has.given (settled_by session has.fed has.given has.stands) (answer has.fed has.given has.stands) in
+      let nothing = nothing_with_targets (mode_of session) (session_scenario session) has.fed has.given (settled_by session has.fed has.given has.stands) (answer has.fed has.given has.stands) in
       (ended why.Targets answer, kept nothing)
   end_cause why.Memory answer = front_here
 
@@ -251,17 +251,17 @@ module _ (session : Session) (first left contents now : Option (List ℕ)) (end 
 same_now : (session : Session) (piece : List ℕ) (now now' : Option (List ℕ)) (because : SessionFault) → because ≡ why.Memory → now' ≡ now → PieceCause session piece now now' (fault.Unreported because)
 same_now session piece now now' because memory same =
     subst (λ (w : SessionFault). PieceCause session piece now now' (fault.Unreported w)) (sym memory)
-    (λ first left left' contents has taken. subst (λ (now : Option (List ℕ)). IfSome first (λ log. GainsFront (mode_of session) (scenario_of session) log contents now)) (sym same) (front_left session first left left' contents now has piece taken))
+    (λ first left left' contents has taken. subst (λ (now : Option (List ℕ)). IfSome first (λ log. GainsFront (mode_of session) (session_scenario session) log contents now)) (sym same) (front_left session first left left' contents now has piece taken))
 
 -- of a piece that was taken
 pub taken_cause : (session session' : Session) (piece : List ℕ) (now now' : Option (List ℕ)) (text : ReportText) (because : StreamFault) → mode_of session' ≡ mode_of session
-    → scenario_of session' ≡ scenario_of session → Takes session session' piece [] text → PutCause text now now' because → PieceCause session piece now now' because
+    → session_scenario session' ≡ session_scenario session → TookPiece session session' piece [] text → PutCause text now now' because → PieceCause session piece now now' because
 taken_cause session session' piece now now' text fault.NotRead same_mode same_scenario takes cause = cause
 taken_cause session session' piece now now' text fault.NotWritten same_mode same_scenario takes cause =
     λ first left left' contents has taken. part_written session first left left' contents now has piece taken session' now' takes.more takes.stands same_mode same_scenario (cause takes.more takes.has)
 taken_cause session session' piece now now' text (fault.Unreported because) same_mode same_scenario takes cause = same_now session piece now now' because cause.0 cause.1
 
-pub taken_written : (session session' : Session) (piece : List ℕ) (now now' : Option (List ℕ)) (text : ReportText) → Takes session session' piece [] text
+pub taken_written : (session session' : Session) (piece : List ℕ) (now now' : Option (List ℕ)) (text : ReportText) → TookPiece session session' piece [] text
     → ((bytes : List ℕ) → HasText text bytes → Appends now now' bytes) → FromHere session piece now (λ first left contents. HasWritten session' first left contents now')
 taken_written session session' piece now now' text takes put =
     λ first left left' contents has taken. written_on session first left left' contents now has piece taken session' now' takes.more takes.stands (put takes.more takes.has)
@@ -269,20 +269,20 @@ taken_written session session' piece now now' text takes put =
 -- of a piece that is refused
 module _ (session : Session) (used : IsInUse session) (piece : List ℕ) (now now' : Option (List ℕ)) where
   stopped_cause : (more : List ℕ) (because : SessionFault)
-      → ((fed given : List ℕ) → StandsFor session fed given → IsStopped (mode_of session) (scenario_of session) (fed ++ piece) because (given ++ more))
+      → ((fed given : List ℕ) → StandsFor session fed given → IsStopped (mode_of session) (session_scenario session) (fed ++ piece) because (given ++ more))
       → Appends now now' more → (because ≡ why.Memory → ⊥) → PieceCause session piece now now' (fault.Unreported because)
   stopped_cause more why.Vessels stopped put some =
       λ first left left' contents has taken. stopped_written session first left left' contents now has piece taken now' more why.Vessels stopped put
   stopped_cause more why.Pairs stopped put some =
       λ first left left' contents has taken. stopped_written session first left left' contents now has piece taken now' more why.Pairs stopped put
   stopped_cause more why.LogBytes stopped put some =
-      let long : (fed given : List ℕ) → StandsFor session fed given → (scenario_of session).log.max_bytes < length (fed ++ piece) =
-      λ fed given stands. stopped_long (mode_of session) (scenario_of session) (fed ++ piece) (given ++ more) (stopped fed given stands) in
+      let long : (fed given : List ℕ) → StandsFor session fed given → (session_scenario session).log.max_bytes < length (fed ++ piece) =
+      λ fed given stands. stopped_long (mode_of session) (session_scenario session) (fed ++ piece) (given ++ more) (stopped fed given stands) in
       (λ first left left' contents has taken. stopped_written session first left left' contents now has piece taken now' more why.LogBytes stopped put, long)
   stopped_cause more (why.Own lack) stopped put some =
-      own_not_stopped (mode_of session) (scenario_of session) (used.fed ++ piece) lack (used.given ++ more) (stopped used.fed used.given used.stands)
+      own_not_stopped (mode_of session) (session_scenario session) (used.fed ++ piece) lack (used.given ++ more) (stopped used.fed used.given used.stands)
   stopped_cause more why.Targets stopped put some =
-      targets_not_stopped (mode_of session) (scenario_of session) (used.fed ++ piece) (used.given ++ more) (stopped used.fed used.given used.stands)
+      targets_not_stopped (mode_of session) (session_scenario session) (used.fed ++ piece) (used.given ++ more) (stopped used.fed used.given used.stands)
   stopped_cause more why.Memory stopped put some = absurd (some refl)
 
   pub refused_cause : (text : ReportText) (refusal : SessionFault) (because : StreamFault) → (UnlessMemory refusal (Refuses session piece [] text refusal))
@@ -300,8 +300,8 @@ module _ (session : Session) (used : IsInUse session) (piece : List ℕ) (now no
 
 pub block_cause : (session : Session) (used : IsInUse session) (first left left' contents now now' : Option (List ℕ)) (piece : List ℕ) (because : StreamFault)
     → HasWritten session first left contents now → Consumes left left' piece
-    → ((fed given : List ℕ) → StandsFor session fed given → length piece ≤ ((scenario_of session).log.max_bytes - length fed) + 1)
-    → PieceCause session piece now now' because → StreamCause (mode_of session) (scenario_of session) first left' contents now' because
+    → ((fed given : List ℕ) → StandsFor session fed given → length piece ≤ ((session_scenario session).log.max_bytes - length fed) + 1)
+    → PieceCause session piece now now' because → StreamCause (mode_of session) (session_scenario session) first left' contents now' because
 block_cause session used first left left' contents now now' piece fault.NotRead has taken few cause = absurd cause
 block_cause session used first left left' contents now now' piece fault.NotWritten has taken few cause = inl (cause first left left' contents has taken)
 block_cause session used first left left' contents now now' piece (fault.Unreported why.Vessels) has taken few cause = inl (cause first left left' contents has taken)

@@ -31,9 +31,9 @@ abbrev pub LiesUnder : Option Files → List ℕ → (List ℕ → Type 0) → T
 LiesUnder files name P = (held : Files) × (text : List ℕ) × (files ≡ Some held) × (content_of name held ≡ Some text) × P text
 
 -- P holds of the bytes that lie under the name, where the shelf tells its files; nothing is said where it does not.
-abbrev pub Holds : Option Files → List ℕ → (List ℕ → Type 0) → Type 0
-Holds None name P = Unit {0}
-Holds (Some held) name P = (text : List ℕ) × (content_of name held ≡ Some text) × P text
+abbrev pub HoldsUnder : Option Files → List ℕ → (List ℕ → Type 0) → Type 0
+HoldsUnder None name P = Unit {0}
+HoldsUnder (Some held) name P = (text : List ℕ) × (content_of name held ≡ Some text) × P text
 
 -- The mode refuses the bytes at a key, for a cause.
 abbrev pub IsRefusedBy : Mode → List ℕ → Key → Cause → Type 0
@@ -55,13 +55,13 @@ pub record IsScenario (request : Request) (text : List ℕ) (scenario : Scenario
 abbrev pub Runs : List (List ℕ) → Option Files → (Request → Type 0) → (Request → Scenario → Type 0) → Type 0
 Runs words files Q P =
     Requested words (λ request. IsTrue (reports request.mode) × Q request
-    × Holds files request.name (λ text. (scenario : Scenario) × IsScenario request text scenario × P request scenario))
+    × HoldsUnder files request.name (λ text. (scenario : Scenario) × IsScenario request text scenario × P request scenario))
 
 -- The words ask for a migration; and where the shelf tells its files, the bytes under the request's name are those of a scenario of
 -- version 1, and P holds of some text that is the same scenario in version 2.
 abbrev pub Migrates : List (List ℕ) → Option Files → (List ℕ → Type 0) → Type 0
 Migrates words files P =
-    Requested words (λ request. (request.mode ≡ mode.Migrate) × Holds files request.name (λ text. (length text ≤ greatest_scenario)
+    Requested words (λ request. (request.mode ≡ mode.Migrate) × HoldsUnder files request.name (λ text. (length text ≤ greatest_scenario)
     × (migrated : List ℕ) × IsMigrated text migrated × P migrated))
 
 -- A mode that reads the log has read it to its end.
@@ -97,8 +97,8 @@ pub record IsReady (words : List (List ℕ)) (files : Option Files) (given : Opt
   pub gives : log_of request scenario given ≡ Some bytes
 
 -- A run that is ready meets this answer in the log.
-abbrev pub Meets : List (List ℕ) → Option Files → Option (List ℕ) → Status → Type 0
-Meets words files log answer =
+abbrev pub MeetsAnswer : List (List ℕ) → Option Files → Option (List ℕ) → Status → Type 0
+MeetsAnswer words files log answer =
     (request : Request) × (scenario : Scenario) × (bytes : List ℕ)
     × IsReady words files log request scenario bytes × IsAnswered request.mode scenario bytes answer
 
@@ -120,13 +120,13 @@ IsDue words files log (status.Limit which.Scenario most) =
     (most ≡ greatest_scenario) × Requested words (λ request. LiesUnder files request.name (λ text. greatest_scenario < length text))
 IsDue words files log (status.Scenario key cause) =
     Requested words (λ request. LiesUnder files request.name (λ text. (length text ≤ greatest_scenario) × IsRefusedBy request.mode text key cause))
-IsDue words files log (status.Limit which.Log most) = Meets words files log (status.Limit which.Log most)
-IsDue words files log (status.Limit which.Vessels most) = Meets words files log (status.Limit which.Vessels most)
-IsDue words files log (status.Limit which.Pairs most) = Meets words files log (status.Limit which.Pairs most)
-IsDue words files log (status.OwnUnready why) = Meets words files log (status.OwnUnready why)
-IsDue words files log (status.Limit which.Targets most) = Meets words files log (status.Limit which.Targets most)
-IsDue words files log status.NoManoeuvre = Meets words files log status.NoManoeuvre
-IsDue words files log status.Done = Meets words files log status.Done ⊎ MayMigrate words files
+IsDue words files log (status.Limit which.Log most) = MeetsAnswer words files log (status.Limit which.Log most)
+IsDue words files log (status.Limit which.Vessels most) = MeetsAnswer words files log (status.Limit which.Vessels most)
+IsDue words files log (status.Limit which.Pairs most) = MeetsAnswer words files log (status.Limit which.Pairs most)
+IsDue words files log (status.OwnUnready why) = MeetsAnswer words files log (status.OwnUnready why)
+IsDue words files log (status.Limit which.Targets most) = MeetsAnswer words files log (status.Limit which.Targets most)
+IsDue words files log status.NoManoeuvre = MeetsAnswer words files log status.NoManoeuvre
+IsDue words files log status.Done = MeetsAnswer words files log status.Done ⊎ MayMigrate words files
 IsDue words files log status.ReadFault = ⊥
 IsDue words files log status.WriteFault = ⊥
 IsDue words files log status.Memory = ⊥

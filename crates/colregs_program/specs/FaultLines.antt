@@ -39,17 +39,17 @@ fault_line status.Memory = line (codes "memory")
 fault_line (status.OwnUnready why) = line (codes "own: no " ++ lacks why)
 
 -- the exit status
-abbrev pub number_of : Status → ℕ
-number_of status.Done = 0
-number_of status.NoManoeuvre = 1
-number_of status.Usage = 2
-number_of (status.Scenario key cause) = 3
-number_of status.ShelfFault = 4
-number_of status.ReadFault = 5
-number_of status.WriteFault = 6
-number_of (status.Limit which most) = 7
-number_of status.Memory = 8
-number_of (status.OwnUnready why) = 9
+abbrev pub exit_status_of : Status → ℕ
+exit_status_of status.Done = 0
+exit_status_of status.NoManoeuvre = 1
+exit_status_of status.Usage = 2
+exit_status_of (status.Scenario key cause) = 3
+exit_status_of status.ShelfFault = 4
+exit_status_of status.ReadFault = 5
+exit_status_of status.WriteFault = 6
+exit_status_of (status.Limit which most) = 7
+exit_status_of status.Memory = 8
+exit_status_of (status.OwnUnready why) = 9
 
 -- whether a fault's line is made of the fault's own numbers or names, which takes memory
 abbrev pub is_made : Status → Bool

@@ -6,7 +6,7 @@ use Rattle.audit_report.specs.CsvRows.{row_of}
 use Rattle.audit_report.specs.ReportRows.{count_fields}
 use Rattle.growing_log.specs.GrowingLog.{open_part}
 use Rattle.judged_lines.specs.JudgedLines.{judged_line, outcome_of}
-use Rattle.judged_lines.specs.LineOutcomes.{all_outcomes, line_outcome, place_of}
+use Rattle.judged_lines.specs.LineOutcomes.{all_outcomes, line_outcome, outcome_index}
 use Rattle.judged_lines.specs.LineTimes.{stamp_of}
 use Rattle.judged_lines.specs.LogLines.{is_line_feed}
 use Rattle.judged_lines.specs.declared.outcome.LineOutcome.{LineOutcome}
@@ -30,7 +30,7 @@ rows_of_counts count = flat_map (λ outcome. row_of (count_fields outcome (count
 
 -- the same counts, but for that of one outcome, which is smaller by one
 abbrev pub one_fewer : LineOutcome → (LineOutcome → ℕ) → LineOutcome → ℕ
-one_fewer fewer count outcome = if place_of fewer == place_of outcome then count outcome - 1 else count outcome
+one_fewer fewer count outcome = if outcome_index fewer == outcome_index outcome then count outcome - 1 else count outcome
 
 -- The second text is the first but for the count of an outcome, which is smaller by one.
 pub record HasOneFewer (outcome : LineOutcome) (text other : List ℕ) : Type 0 where

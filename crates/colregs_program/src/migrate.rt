@@ -8,7 +8,7 @@ ghost use Rattle.scenario.specs.Migration.{IsMigrated, IsNotMigrated};
 ghost use Rattle.scenario_keys.specs.declared.key.Key.{Key};
 ghost use Rattle.scenario_keys.specs.declared.cause.Cause.{Cause};
 ghost use Rattle.command_line.specs.declared.mode.Mode.TheVariants.{Migrate};
-ghost use Rattle.colregs_program.specs.Answers.{greatest_scenario, Holds, IsOfMigration};
+ghost use Rattle.colregs_program.specs.Answers.{greatest_scenario, HoldsUnder, IsOfMigration};
 ghost use Rattle.colregs_program.specs.LogAnswers.{IsFinished};
 ghost use Rattle.colregs_program.specs.FaultLines.{fault_line};
 ghost use Rattle.colregs_program.specs.Told.{Gains};
@@ -66,9 +66,9 @@ pub(crate) fn write_migrated<H: Shelf, K: Sink, E: Sink>(
         → (result ≡ due) ⊎ (result ≡ Status.Memory) }
     ensures shelf_fault { result ≡ Status.ShelfFault → (H.faults shelf.new ≡ one_more (H.faults shelf.old)) ⊎ IsMissing (H.files shelf.old) request.now.name }
     ensures scenario_limit { (most : ℕ) → result ≡ Status.Limit which.Scenario most → (most ≡ greatest_scenario)
-        × Holds (H.files shelf.old) request.now.name (λ text. most < length text) }
+        × HoldsUnder (H.files shelf.old) request.now.name (λ text. most < length text) }
     ensures refused { (key : Key) (cause : Cause) → result ≡ Status.Scenario key cause
-        → Holds (H.files shelf.old) request.now.name (λ text. (length text ≤ greatest_scenario) × IsNotMigrated text key cause) }
+        → HoldsUnder (H.files shelf.old) request.now.name (λ text. (length text ≤ greatest_scenario) × IsNotMigrated text key cause) }
     ensures write_fault { result ≡ Status.WriteFault → (K.faults out.new ≡ one_more (K.faults out.old))
         × HoldsMigrated (H.files shelf.old) request.now.name (λ text. AppendsPart (K.contents out.old) (K.contents out.new) text) }
     ensures answers { IsTrue (IsOfMigration result) }

@@ -12,7 +12,7 @@ ghost use Rattle.command_line.specs.Requests.{AskFor, AskForNothing};
 ghost use Rattle.command_line.specs.declared.mode.Mode.TheVariants.{Drill, Migrate};
 ghost use Rattle.command_line.specs.declared.request.Request.{Request};
 ghost use Rattle.sessions.specs.Modes.{reads_log};
-ghost use Rattle.colregs_program.specs.Answers.{EndsWith, greatest_scenario, Holds, IsBeforeLog, IsDue, IsOfDrill, IsOfMigration, IsReadBy, IsRefusedBy, Migrates, Requested, Runs, StopsWith, WritesNothing, WritesPart};
+ghost use Rattle.colregs_program.specs.Answers.{EndsWith, greatest_scenario, HoldsUnder, IsBeforeLog, IsDue, IsOfDrill, IsOfMigration, IsReadBy, IsRefusedBy, Migrates, Requested, Runs, StopsWith, WritesNothing, WritesPart};
 ghost use Rattle.colregs_program.specs.AskedScenarios.{log_of};
 ghost use Rattle.colregs_program.specs.FaultLines.{fault_line};
 ghost use Rattle.colregs_program.specs.LogAnswers.{GainsFront, GainsReport, IsAnswered, IsFinished, LeavesSettled};
@@ -75,9 +75,9 @@ pub fn run<H: Shelf, S: Source, K: Sink, E: Sink>(
     ensures shelf_fault { result ≡ Status.ShelfFault → Requested words.now (λ request.
         (H.faults shelf.new ≡ one_more (H.faults shelf.old)) ⊎ IsMissing (H.files shelf.old) request.name) }
     ensures scenario_limit { (most : ℕ) → result ≡ Status.Limit which.Scenario most → (most ≡ greatest_scenario)
-        × Requested words.now (λ request. Holds (H.files shelf.old) request.name (λ text. most < length text)) }
+        × Requested words.now (λ request. HoldsUnder (H.files shelf.old) request.name (λ text. most < length text)) }
     ensures refused { (key : Key) (cause : Cause) → result ≡ Status.Scenario key cause
-        → Requested words.now (λ request. Holds (H.files shelf.old) request.name (λ text.
+        → Requested words.now (λ request. HoldsUnder (H.files shelf.old) request.name (λ text.
         (length text ≤ greatest_scenario) × IsRefusedBy request.mode text key cause)) }
     // A run that a fault or a refusal stops has written what the bytes before it settle. Own ship's lacks and her targets come at the log's end.
     ensures read_fault { result ≡ Status.ReadFault → (S.faults log.new ≡ one_more (S.faults log.old))

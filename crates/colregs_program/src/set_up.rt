@@ -3,7 +3,7 @@ ghost use Rattle.std.specs.Prelude.{◌≡◌, ◌⊎◌, ◌≤◌, ◌^◌, le
 ghost use Rattle.outside.specs.Causes.{one_more};
 ghost use Rattle.scenario.specs.ScenarioValues.{IsInRange};
 ghost use Rattle.scenario.specs.declared.values.Scenario.{Scenario};
-ghost use Rattle.colregs_program.specs.Answers.{Holds, IsScenario};
+ghost use Rattle.colregs_program.specs.Answers.{HoldsUnder, IsScenario};
 ghost use Rattle.colregs_program.specs.AskedScenarios.{with_options};
 ghost use Rattle.sessions.specs.Modes.{needs_own, reports};
 ghost use Rattle.colregs_program.specs.Inner.SetUps.{AreOptions, IsSetUpDue, SetUpCause};
@@ -82,7 +82,7 @@ pub(crate) fn set_up<H: Shelf>(
 ) -> Result<Scenario, SetUpFault>
     requires options { AreOptions request.now.options }
     requires reports { IsTrue (reports request.now.mode) }
-    ensures scenario { IfOk result (λ scenario. Holds (H.files shelf.old) request.now.name (λ text. IsScenario request.now text scenario)) }
+    ensures scenario { IfOk result (λ scenario. HoldsUnder (H.files shelf.old) request.now.name (λ text. IsScenario request.now text scenario)) }
     ensures in_range { IfOk result IsInRange }
     ensures own { IfOk result (λ scenario. IsTrue (needs_own request.now.mode) → IsSome scenario.own) }
     ensures cause { IfErr result (SetUpCause request.now (H.files shelf.old) (H.faults shelf.old) (H.faults shelf.new)) }

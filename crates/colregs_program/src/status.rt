@@ -1,6 +1,6 @@
 //! How a run ends.
 ghost use Rattle.std.specs.Prelude.{◌≡◌};
-ghost use Rattle.colregs_program.specs.FaultLines.{number_of};
+ghost use Rattle.colregs_program.specs.FaultLines.{exit_status_of};
 
 use command_line::WordsFault;
 use own_ship::Unready;
@@ -49,7 +49,7 @@ pub enum Status {
 impl Status {
     /// The exit status of the program.
     pub fn number(&self) -> u8
-        ensures { result ≡ number_of self.now }
+        ensures { result ≡ exit_status_of self.now }
     {
         match self {
             Status::Done => 0,

@@ -5,7 +5,7 @@ ghost use Rattle.std.specs.Io.KnownBytes.{Appends, IsAtEnd};
 ghost use Rattle.audit_report.specs.ReportTexts.{HasText};
 ghost use Rattle.scenario.specs.ScenarioValues.{IsInRange};
 ghost use Rattle.sessions.specs.Modes.{needs_own, reports};
-ghost use Rattle.sessions.specs.Standing.{IsInUse, StandsFor, mode_of, scenario_of, taken_of};
+ghost use Rattle.sessions.specs.Standing.{IsInUse, StandsFor, mode_of, session_scenario, taken_of};
 ghost use Rattle.colregs_program.specs.LogAnswers.{Reports};
 ghost use Rattle.colregs_program.specs.Inner.Streaming.{FromHere, HasWritten, LogCount, OutCount, PieceCause, PutCause, RefusedCause, StreamCause};
 ghost use Rattle.colregs_program.specs.declared.streaming.StreamFault.TheVariants.{NotRead};
@@ -107,7 +107,7 @@ fn write_piece<K: Sink>(
 ) -> Result<(), StreamFault>
     requires { IsInUse session.old }
     ensures mode { mode_of session.new ≡ mode_of session.old }
-    ensures scenario { scenario_of session.new ≡ scenario_of session.old }
+    ensures scenario { session_scenario session.new ≡ session_scenario session.old }
     ensures count { OnOk result (taken_of session.new ≡ taken_of session.old + length piece.now) }
     ensures written { OnOk result (FromHere session.old piece.now (K.contents out.old) (λ first left contents.
         HasWritten session.new first left contents (K.contents out.new))) }
@@ -127,7 +127,7 @@ fn room_for(session: &Session, block: usize) -> usize
     requires some { 0 < block }
     ensures some { 0 < result }
     ensures within { result ≤ block }
-    ensures limited { (fed given : List ℕ) → StandsFor session.now fed given → result ≤ ((scenario_of session.now).log.max_bytes - length fed) + 1 }
+    ensures limited { (fed given : List ℕ) → StandsFor session.now fed given → result ≤ ((session_scenario session.now).log.max_bytes - length fed) + 1 }
 {
     let room = session.room().saturating_add(1);
     block.min(room as usize)
@@ -144,13 +144,13 @@ fn write_block<S: Source, K: Sink>(
     requires in_use { IsInUse session.old }
     requires some_room { 0 < length block.old }
     ensures mode { mode_of session.new ≡ mode_of session.old }
-    ensures scenario { scenario_of session.new ≡ scenario_of session.old }
+    ensures scenario { session_scenario session.new ≡ session_scenario session.old }
     ensures grows { result ≡ Ok true → taken_of session.old < taken_of session.new }
     ensures written { OnOk result ((first contents : Option (List ℕ)) → HasWritten session.old first (S.left log.old) contents (K.contents out.old)
         → HasWritten session.new first (S.left log.new) contents (K.contents out.new)) }
     ensures end { result ≡ Ok false → IsAtEnd (S.left log.new) }
     ensures cause { IfErr result (λ fault. (first contents : Option (List ℕ)) → HasWritten session.old first (S.left log.old) contents (K.contents out.old)
-        → StreamCause (mode_of session.old) (scenario_of session.old) first (S.left log.new) contents (K.contents out.new) fault) }
+        → StreamCause (mode_of session.old) (session_scenario session.old) first (S.left log.new) contents (K.contents out.new) fault) }
     ensures log_faults { MatchResult result (λ _. S.faults log.new ≡ S.faults log.old) (LogCount (S.faults log.old) (S.faults log.new)) }
     ensures out_faults { MatchResult result (λ _. K.faults out.new ≡ K.faults out.old) (OutCount (K.faults out.old) (K.faults out.new)) }
 {
@@ -170,9 +170,9 @@ fn write_block<S: Source, K: Sink>(
 fn write_end<K: Sink>(session: Session, out: &mut K) -> Result<bool, StreamFault>
     requires { IsInUse session }
     ensures report { IfOk result (λ none. (first left contents : Option (List ℕ)) → IsAtEnd left → HasWritten session first left contents (K.contents out.old)
-        → IfSome first (λ bytes. Reports (mode_of session) (scenario_of session) bytes none contents (K.contents out.new))) }
+        → IfSome first (λ bytes. Reports (mode_of session) (session_scenario session) bytes none contents (K.contents out.new))) }
     ensures cause { IfErr result (λ fault. (first left contents : Option (List ℕ)) → IsAtEnd left → HasWritten session first left contents (K.contents out.old)
-        → StreamCause (mode_of session) (scenario_of session) first left contents (K.contents out.new) fault) }
+        → StreamCause (mode_of session) (session_scenario session) first left contents (K.contents out.new) fault) }
     ensures no_read { IfErr result (λ fault. fault ≢ NotRead) }
     ensures faults { MatchResult result (λ _. K.faults out.new ≡ K.faults out.old) (OutCount (K.faults out.old) (K.faults out.new)) }
 {

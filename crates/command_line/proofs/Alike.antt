@@ -13,7 +13,7 @@ use Rattle.clap.specs.declared.builder.value_parser.ValueParser.TheVariants.{Val
 use Rattle.clap.specs.declared.error.kind.ErrorKind.TheVariants.{InvalidValue, TooManyValues}
 use Rattle.clap.specs.Walk.{Held, Outcome, Step, Waiting, Walk, after_flag, after_step, arg_by_id, arg_by_index, arg_by_long, arg_by_short, attached_value, bundle, bundle_met, bundle_step, done, finished, flag_met, idle, is_pending, long_met, long_or_other, long_word, next, nothing_held, option, option_met, option_word, plain, plain_word, positional, positional_held, pushed, reacted, refused, settled, settled_rows, short_met, short_or_plain, short_word, subcommand, subcommand_met, subcommand_or_other, takes_several, takes_values, to_positional, trailing, used, used_by_id, value, waits, walk_from, walked, walked_from, word_met}
 use Rattle.command_line.specs.CommandLine.{colregs}
-use Rattle.command_line.specs.Requests.{named}
+use Rattle.command_line.specs.Requests.{with_program_name}
 use Rattle.command_line.proofs.Finished.{defaults_added, defaults_pass, fault_behind, fault_in_two, seeded}
 use Rattle.command_line.proofs.Walking.{Choices, top}
 
@@ -326,14 +326,14 @@ module _ (v w : Choices) where
         (ap₂ or_else (defaults_pass v (settled at_v x.held).rows ∙ sym (defaults_pass w (settled at_w x.held).rows))
         (ap (λ rows. check_fault (top v) rows has) (finished_alike x.held))))
 
-    pub fault_alike : (words : List Text) → fault_of (colregs v) (named words) ≡ fault_of (colregs w) (named words)
+    pub fault_alike : (words : List Text) → fault_of (colregs v) (with_program_name words) ≡ fault_of (colregs w) (with_program_name words)
     fault_alike words =
         fault_in_two v words
         ∙ ap₂ or_else (walk_fault_alike words (walk_from nothing_held))
         (ap (fault_behind v) (walk_alike words (walk_from nothing_held)) ∙ behind_alike (fold (walked at_w []) (walk_from nothing_held) words))
         ∙ sym (fault_in_two w words)
 
-    pub matches_alike : (words : List Text) → matches_of (colregs v) (named words) ≡ matches_of (colregs w) (named words)
+    pub matches_alike : (words : List Text) → matches_of (colregs v) (with_program_name words) ≡ matches_of (colregs w) (with_program_name words)
     unfolding colregs top
     matches_alike words =
         ap (λ (x : Walk). finished at_v x.held) (walk_alike words (walk_from nothing_held)) ∙ finished_alike (fold (walked at_w []) (walk_from nothing_held) words).held

@@ -6,7 +6,7 @@ use Rattle.std.specs.Str.{bytes_eq}
 use Rattle.clap.specs.Words.{Row, Text, matches_of, possible_matches}
 use Rattle.clap.specs.declared.builder.possible_value.PossibleValue.{PossibleValue}
 use Rattle.command_line.specs.CommandLine.{AreModes, colregs, mode_text, modes}
-use Rattle.command_line.specs.Requests.{AskFor, AskForNothing, Holds, IsAccepted, IsPlain, IsRefused, named}
+use Rattle.command_line.specs.Requests.{AskFor, AskForNothing, HoldsRequest, IsAccepted, IsPlain, AreWordsRefused, with_program_name}
 use Rattle.command_line.specs.declared.mode.Mode.{Mode}
 use Rattle.command_line.specs.declared.request.Request.{Request}
 use Rattle.command_line.proofs.Alike.{fault_alike, matches_alike}
@@ -22,23 +22,23 @@ asked_accepted words request asked values are =
     let v = asked.1.0 in
     let same = same_values v values asked.1.1 are in
     let here : IsAccepted (colregs v) words request = subst (λ app. IsAccepted app words request) asked.1.2 asked.2 in
-    (sym (fault_alike v values same words) ∙ here.0, subst (λ (rows : List Row). Holds rows request) (matches_alike v values same words) here.1)
+    (sym (fault_alike v values same words) ∙ here.0, subst (λ (rows : List Row). HoldsRequest rows request) (matches_alike v values same words) here.1)
 
 pub one_asked : (words : List Text) (a b : Request) → AskFor words a → AskFor words b → a ≡ b
 one_asked words a b first second =
     let v = first.1.0 in
     let here = asked_accepted words a first v first.1.1 in
     let there = asked_accepted words b second v first.1.1 in
-    one_request (matches_of (colregs v) (named words)) a b here.1 there.1
+    one_request (matches_of (colregs v) (with_program_name words)) a b here.1 there.1
 
-refused_here : (v : Choices) (words : List Text) (request : Request) → IsAccepted (colregs v) words request → IsRefused (colregs v) words → ⊥
+refused_here : (v : Choices) (words : List Text) (request : Request) → IsAccepted (colregs v) words request → AreWordsRefused (colregs v) words → ⊥
 refused_here v words request accepted (inl faulty) = faulty accepted.0
-refused_here v words request accepted (inr odd) = holds_one (matches_of (colregs v) (named words)) request accepted.1 (inr (inr (inr odd)))
+refused_here v words request accepted (inr odd) = holds_one (matches_of (colregs v) (with_program_name words)) request accepted.1 (inr (inr (inr odd)))
 
 pub asked_or_nothing : (words : List Text) (request : Request) → AskFor words request → AskForNothing words → ⊥
 asked_or_nothing words request asked refused =
     let v = refused.1.0 in
-    refused_here v words request (asked_accepted words request asked v refused.1.1) (subst (λ app. IsRefused app words) refused.1.2 refused.2)
+    refused_here v words request (asked_accepted words request asked v refused.1.1) (subst (λ app. AreWordsRefused app words) refused.1.2 refused.2)
 
 -- ---- a list of the modes
 

@@ -11,7 +11,7 @@ use Rattle.clap.specs.declared.parser.matches.ValueSource.TheVariants.{DefaultVa
 use Rattle.clap.proofs.SimpleLemmas.{is_nil}
 use Rattle.clap.proofs.WalkLemmas.{both}
 use Rattle.command_line.specs.CommandLine.{colregs, label, seed}
-use Rattle.command_line.specs.Requests.{named}
+use Rattle.command_line.specs.Requests.{with_program_name}
 use Rattle.command_line.proofs.Plain.{Walks, first_rows}
 use Rattle.command_line.proofs.Walking.{Choices, behind, row, rows_settled, top}
 
@@ -91,7 +91,7 @@ fault_behind values w =
     (or_else (defaults_fault (settled rules w.held).rows rules) (check_fault (top values) (finished rules w.held) (is_some (entered (built (colregs values)) w.stopped)))))
 
 pub fault_in_two : (values : Choices) (words : List Text)
-    → fault_of (colregs values) (named words)
+    → fault_of (colregs values) (with_program_name words)
     ≡ or_else (walk_fault (top values) [] (walk_from nothing_held) words) (fault_behind values (fold (walked (top values).rules []) (walk_from nothing_held) words))
 unfolding colregs top
 fault_in_two values words = refl
@@ -111,15 +111,15 @@ module _ (values : Choices) (words : List Text) (mode name : Text) (rest : List 
       (defaults_pass values (rows_settled values walks.rows walks.id walks.value))
       ∙ ap (λ rs. check_fault (top values) rs false) walked_finished ∙ required_there values mode name (seeded rest)
 
-  pub walked_faultless : fault_of (colregs values) (named words) ≡ []
+  pub walked_faultless : fault_of (colregs values) (with_program_name words) ≡ []
   walked_faultless =
       fault_in_two values words
       ∙ ap (λ ks. or_else ks (fault_behind values (fold (walked (top values).rules []) (walk_from nothing_held) words))) walks.faultless
       ∙ ap (fault_behind values) walks.ends ∙ fault_at_end
 
-  matches_finished : matches_of (colregs values) (named words) ≡ finished (top values).rules (fold (walked (top values).rules []) (walk_from nothing_held) words).held
+  matches_finished : matches_of (colregs values) (with_program_name words) ≡ finished (top values).rules (fold (walked (top values).rules []) (walk_from nothing_held) words).held
   unfolding colregs top
   matches_finished = refl
 
-  pub walked_matches : matches_of (colregs values) (named words) ≡ row (codes "mode") mode ∷ row (codes "scenario") name ∷ seeded rest
+  pub walked_matches : matches_of (colregs values) (with_program_name words) ≡ row (codes "mode") mode ∷ row (codes "scenario") name ∷ seeded rest
   walked_matches = matches_finished ∙ ap (λ (w : Walk). finished (top values).rules w.held) walks.ends ∙ walked_finished

@@ -11,7 +11,7 @@ use Rattle.clap.specs.declared.builder.value_parser.Reading.TheVariants.{AsWritt
 use Rattle.clap.specs.declared.parser.matches.ValueSource.TheVariants.{DefaultValue}
 use Rattle.clap.proofs.WalkLemmas.{find-map, first_value-rows, list_any-map}
 use Rattle.command_line.specs.CommandLine.{AreModes, Setting, colregs, label, least, mode_text, modes, most, seed, start, ticks}
-use Rattle.command_line.specs.Requests.{AreInRange, Holds, HoldsNoNumber, HoldsNumber, IsAccepted, IsPlain, MayHoldNumber, given_to, named, options_of, setting_words}
+use Rattle.command_line.specs.Requests.{AreInRange, HoldsRequest, HoldsNoNumber, HoldsNumber, IsAccepted, IsPlain, MayHoldNumber, given_to, with_program_name, options_of, setting_words}
 use Rattle.command_line.specs.Inner.Reading.{HoldsNoMode, HoldsNone}
 use Rattle.command_line.specs.declared.mode.Mode.{Mode}
 use Rattle.command_line.specs.declared.mode.Mode.TheVariants as mode
@@ -75,7 +75,7 @@ given_is rows s None (Some n) a b = let bad : None ≡ Some b.0 = sym a ∙ b.1 
 given_is rows s (Some m) None a b = let bad : None ≡ Some a.0 = sym b ∙ a.1 in cc
 given_is rows s (Some m) (Some n) a b = ap (λ k. Some k) (number_is rows s m n a b)
 
-pub one_request : (rows : List Row) (a b : Request) → Holds rows a → Holds rows b → a ≡ b
+pub one_request : (rows : List Row) (a b : Request) → HoldsRequest rows a → HoldsRequest rows b → a ≡ b
 one_request rows a b one two =
     let modes = sym (mode_back a.mode) ∙ ap mode_of (some_is (mode_text a.mode) (mode_text b.mode) (sym one.mode ∙ two.mode)) ∙ mode_back b.mode in
     let names = some_is a.name b.name (sym one.name ∙ two.name) in
@@ -92,13 +92,13 @@ may_refuse : (rows : List Row) (s : Setting) (o : Option ℕ) (text : Text) → 
 may_refuse rows s None text holds found none = let bad : None ≡ Some text = sym holds ∙ found in cc
 may_refuse rows s (Some n) text holds found none = none n (holds.2.0, holds.2.1, number_held rows s n text holds found)
 
-holds_numbers : (rows : List Row) (request : Request) → Holds rows request → HoldsNoNumber rows → ⊥
+holds_numbers : (rows : List Row) (request : Request) → HoldsRequest rows request → HoldsNoNumber rows → ⊥
 holds_numbers rows request holds (start, text, found, none) = may_refuse rows start request.options.start text holds.start_given found none
 holds_numbers rows request holds (ticks, text, found, none) = may_refuse rows ticks request.options.ticks text holds.ticks_given found none
 holds_numbers rows request holds (seed, text, found, none) = may_refuse rows seed (Some request.options.seed) text holds.seed_given found none
 
 -- what holds a request holds no fault
-pub holds_one : (rows : List Row) (request : Request) → Holds rows request → HoldsNone rows → ⊥
+pub holds_one : (rows : List Row) (request : Request) → HoldsRequest rows request → HoldsNone rows → ⊥
 holds_one rows request holds (inl none) = none request.mode holds.mode
 holds_one rows request holds (inr (inl none)) = let bad : None ≡ Some request.name = sym none ∙ holds.name in cc
 holds_one rows request holds (inr (inr (inl none))) = let bad : None ≡ Some holds.seed_given.0 = sym none ∙ holds.seed_given.1 in cc
@@ -222,7 +222,7 @@ seed_in_range given ranges = go (given_to seed given) (λ n e. given_in_range se
 
 -- the matches of the plain form hold what it asks for
 options_held : (mode name : Text) (given : List (Setting × ℕ)) (request : Request) → AreInRange given → mode ≡ mode_text request.mode → name ≡ request.name
-    → request.options ≡ options_of given → Holds (row (codes "mode") mode ∷ row (codes "scenario") name ∷ seeded (map setting_row given)) request
+    → request.options ≡ options_of given → HoldsRequest (row (codes "mode") mode ∷ row (codes "scenario") name ∷ seeded (map setting_row given)) request
 options_held mode name given request ranges mode_is name_is options_are =
     let rows = row (codes "mode") mode ∷ row (codes "scenario") name ∷ seeded (map setting_row given) in
     let starts = may_hold rows start given ranges (seeded_other (label start) (map setting_row given) refl ∙ first_given start given) in
@@ -247,7 +247,7 @@ plain_accepted values are words request plain =
     let matches = walked_matches values form (mode_text request.mode) request.name rest walks in
     let held = options_held (mode_text request.mode) request.name plain.given request plain.ranges refl refl plain.options in
     subst (λ (ws : List Text). IsAccepted (colregs values) ws request) (sym plain.form)
-    (faultless, subst (λ (rows : List Row). Holds rows request) (sym matches) held)
+    (faultless, subst (λ (rows : List Row). HoldsRequest rows request) (sym matches) held)
 
 -- the command is one of which `clap` says which words it takes
 pub colregs_simple : (values : Choices) → is_simple_and_free (colregs values) ≡ true
@@ -259,7 +259,7 @@ unfolding colregs
 colregs_is_simple values = refl
 
 -- what is answered where the matches hold the request
-pub held_answer : (rows : List Row) (request : Request) (answer : Result Request WordsFault) → Holds rows request → IfOk answer (Holds rows)
+pub held_answer : (rows : List Row) (request : Request) (answer : Result Request WordsFault) → HoldsRequest rows request → IfOk answer (HoldsRequest rows)
     → (answer ≡ Err Usage → HoldsNone rows) → (answer ≡ Ok request) ⊎ (answer ≡ Err Memory)
 held_answer rows request (Ok found) holds held unheld = inl (ap (λ r. Ok r) (one_request rows found request held holds))
 held_answer rows request (Err Usage) holds held unheld = absurd (holds_one rows request holds (unheld refl))
@@ -288,19 +288,19 @@ missing (Some x) some none = cc
 
 some_mode : (rows : List Row) (o : Option Text) → first_of (codes "mode") rows ≡ o → is_some o ≡ true
     → ((text : Text) → o ≡ Some text → list_any (λ m. bytes_eq (mode_text m) text) modes ≡ true) → HoldsNoMode rows → ⊥
-some_mode rows None e some named none = cc
-some_mode rows (Some text) e some named none =
-    let found = named_mode modes text (named text refl) in
+some_mode rows None e some with_program_name none = cc
+some_mode rows (Some text) e some with_program_name none =
+    let found = named_mode modes text (with_program_name text refl) in
     none found.0 (e ∙ ap (λ t. Some t) found.1)
 
 -- so what is missing is a number in its range, in digits without sign or leading zero
 pub only_numbers : (rows : List Row) → is_some (first_of (codes "mode") rows) ≡ true
     → ((text : Text) → first_of (codes "mode") rows ≡ Some text → list_any (λ m. bytes_eq (mode_text m) text) modes ≡ true)
     → is_some (first_of (codes "scenario") rows) ≡ true → is_some (first_of (label seed) rows) ≡ true → HoldsNone rows → HoldsNoNumber rows
-only_numbers rows mode_there named name_there seed_there (inl none) = absurd (some_mode rows (first_of (codes "mode") rows) refl mode_there named none)
-only_numbers rows mode_there named name_there seed_there (inr (inl none)) = absurd (missing (first_of (codes "scenario") rows) name_there none)
-only_numbers rows mode_there named name_there seed_there (inr (inr (inl none))) = absurd (missing (first_of (label seed) rows) seed_there none)
-only_numbers rows mode_there named name_there seed_there (inr (inr (inr odd))) = odd
+only_numbers rows mode_there with_program_name name_there seed_there (inl none) = absurd (some_mode rows (first_of (codes "mode") rows) refl mode_there with_program_name none)
+only_numbers rows mode_there with_program_name name_there seed_there (inr (inl none)) = absurd (missing (first_of (codes "scenario") rows) name_there none)
+only_numbers rows mode_there with_program_name name_there seed_there (inr (inr (inl none))) = absurd (missing (first_of (label seed) rows) seed_there none)
+only_numbers rows mode_there with_program_name name_there seed_there (inr (inr (inr odd))) = odd
 
 -- the same of what a parse by the command found
 pub parsed_numbers : (c : Command) (m : ArgMatches) → IsParsedFrom c m → (values : Choices) → AreModes values.now → app_of c ≡ colregs values

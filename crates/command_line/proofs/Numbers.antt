@@ -9,7 +9,7 @@ use Rattle.clap.specs.declared.builder.value_parser.ValueParser.TheVariants.{Uns
 use Rattle.clap.proofs.ValueTestLemmas.{Accepts-accepts}
 use Rattle.command_line.specs.CommandLine.{Setting, least, most, seed, start, ticks}
 use Rattle.command_line.specs.Inner.Reading.{is_plain}
-use Rattle.command_line.specs.Requests.{is_name}
+use Rattle.command_line.specs.Requests.{is_scenario_name}
 
 first_above : (bs : List ℕ) → 48 < get_or bs 0 0 → is_plain bs ≡ true
 first_above [] above = absurd (omega arith)
@@ -81,10 +81,10 @@ most_small ticks n in_range = omega (arith, in_range)
 most_small seed n in_range = omega (arith, in_range)
 
 -- digits begin with no `-`
-pub decimal_is_name : (n : ℕ) → n < 2 ^ 64 → is_name (decimal n) ≡ true
+pub decimal_is_name : (n : ℕ) → n < 2 ^ 64 → is_scenario_name (decimal n) ≡ true
 decimal_is_name n small = go (decimal n) (decimal_is_IsNumeral n small).0
   where
-    go : (ds : List ℕ) → IsNumeral 10 ds → is_name ds ≡ true
+    go : (ds : List ℕ) → IsNumeral 10 ds → is_scenario_name ds ≡ true
     go [] numeral = absurd (omega (arith, numeral.0))
     go (d ∷ ds) numeral =
         let digit = digit_from_value d numeral.1.0 in

@@ -8,7 +8,7 @@ use Rattle.clap.specs.Kinds.{or_else}
 use Rattle.clap.specs.Walk.{Walk, has_row, nothing_held, walk_from, walked}
 use Rattle.clap.specs.Faults.{settle_fault, turn_fault, walk_fault}
 use Rattle.command_line.specs.CommandLine.{AreModes, Setting, label, mode_text, seed, start, ticks}
-use Rattle.command_line.specs.Requests.{AreInRange, AreOnce, is_given, is_name, setting_words}
+use Rattle.command_line.specs.Requests.{AreInRange, AreOnce, is_given, is_scenario_name, setting_words}
 use Rattle.command_line.specs.declared.mode.Mode.{Mode}
 use Rattle.command_line.proofs.Numbers.{decimal_accepted, decimal_is_name, most_small}
 use Rattle.command_line.proofs.Walking.{Choices, before_value, behind, flag_faultless, flag_walked, held, mode_accepted, mode_faultless, mode_is_name, mode_walked, name_faultless, name_walked, number_faultless, number_walked, row, rows_settled, settled_name, settled_number, settles_name, settles_number, top}
@@ -130,7 +130,7 @@ first_missing mode name (g ∷ rest) = (other g.0, first_missing mode name rest)
     other seed = refl
 
 -- the plain form is walked
-pub plain_walks : (values : Choices) → AreModes values.now → (m : Mode) (name : Text) (given : List (Setting × ℕ)) → is_name name ≡ true → AreOnce given → AreInRange given
+pub plain_walks : (values : Choices) → AreModes values.now → (m : Mode) (name : Text) (given : List (Setting × ℕ)) → is_scenario_name name ≡ true → AreOnce given → AreInRange given
     → Walks values (walk_from nothing_held) (mode_text m ∷ name ∷ flat_map setting_words given) (first_rows (mode_text m) name ++ map setting_row given)
 plain_walks values are m name given named once ranges =
     let t = mode_text m in

@@ -15,7 +15,7 @@ use Rattle.clap.specs.declared.parser.matches.ValueSource.TheVariants.{CommandLi
 use Rattle.clap.proofs.OnLiterals.{clap_on_literals}
 use Rattle.clap.proofs.SimpleLemmas.{is_false}
 use Rattle.command_line.specs.CommandLine.{AreModes, Setting, colregs, label, least, mode_text, most, seed, start, ticks}
-use Rattle.command_line.specs.Requests.{is_name}
+use Rattle.command_line.specs.Requests.{is_scenario_name}
 use Rattle.command_line.specs.declared.mode.Mode.{Mode}
 use Rattle.command_line.specs.declared.mode.Mode.TheVariants as mode
 
@@ -45,24 +45,24 @@ before_value rows id =
 
 -- ---- the mode and the name
 
-pub mode_walked : (values : Choices) (text : Text) → is_name text ≡ true → walked (top values).rules [] (walk_from nothing_held) text ≡ behind [] (codes "mode") text 2
+pub mode_walked : (values : Choices) (text : Text) → is_scenario_name text ≡ true → walked (top values).rules [] (walk_from nothing_held) text ≡ behind [] (codes "mode") text 2
 unfolding colregs top clap_on_literals
 mode_walked values [] named = absurd (true≢false (sym named))
 mode_walked values (c ∷ cs) named = let plain : (c == 45) ≡ false = is_false _ named in simp plain
 
-pub mode_faultless : (values : Choices) (text : Text) → is_name text ≡ true → turn_fault (top values) [] (walk_from nothing_held) text ≡ []
+pub mode_faultless : (values : Choices) (text : Text) → is_scenario_name text ≡ true → turn_fault (top values) [] (walk_from nothing_held) text ≡ []
 unfolding colregs top clap_on_literals
 mode_faultless values [] named = absurd (true≢false (sym named))
 mode_faultless values (c ∷ cs) named = let plain : (c == 45) ≡ false = is_false _ named in simp plain
 
-pub mode_is_name : (m : Mode) → is_name (mode_text m) ≡ true
+pub mode_is_name : (m : Mode) → is_scenario_name (mode_text m) ≡ true
 mode_is_name mode.Points = refl
 mode_is_name mode.Audit = refl
 mode_is_name mode.Plan = refl
 mode_is_name mode.Drill = refl
 mode_is_name mode.Migrate = refl
 
-pub name_walked : (values : Choices) (text name : Text) → is_name name ≡ true
+pub name_walked : (values : Choices) (text name : Text) → is_scenario_name name ≡ true
     → walked (top values).rules [] (behind [] (codes "mode") text 2) name ≡ behind (row (codes "mode") text ∷ []) (codes "scenario") name 3
 unfolding colregs top clap_on_literals
 name_walked values text [] named = absurd (true≢false (sym named))
@@ -78,7 +78,7 @@ mode_accepted values are mode.Plan = are (codes "plan")
 mode_accepted values are mode.Drill = are (codes "drill")
 mode_accepted values are mode.Migrate = are (codes "migrate")
 
-pub name_faultless : (values : Choices) (text name : Text) → list_any (possible_matches false text) values.now ≡ true → is_name name ≡ true
+pub name_faultless : (values : Choices) (text name : Text) → list_any (possible_matches false text) values.now ≡ true → is_scenario_name name ≡ true
     → turn_fault (top values) [] (behind [] (codes "mode") text 2) name ≡ []
 unfolding colregs top clap_on_literals
 name_faultless values text [] accepted named = absurd (true≢false (sym named))
@@ -106,7 +106,7 @@ flag_faultless values rows id value start settles = ap (λ ks. or_else ks []) se
 flag_faultless values rows id value ticks settles = ap (λ ks. or_else ks []) settles
 flag_faultless values rows id value seed settles = ap (λ ks. or_else ks []) settles
 
-pub number_walked : (values : Choices) (rows : List Row) (s : Setting) (value : Text) → is_name value ≡ true
+pub number_walked : (values : Choices) (rows : List Row) (s : Setting) (value : Text) → is_scenario_name value ≡ true
     → walked (top values).rules [] (before_value rows (label s)) value ≡ behind rows (label s) value 3
 unfolding colregs top clap_on_literals
 number_walked values rows s [] plain = absurd (true≢false (sym plain))
@@ -114,7 +114,7 @@ number_walked values rows start (c ∷ cs) plain = let no : (c == 45) ≡ false 
 number_walked values rows ticks (c ∷ cs) plain = let no : (c == 45) ≡ false = is_false _ plain in simp no
 number_walked values rows seed (c ∷ cs) plain = let no : (c == 45) ≡ false = is_false _ plain in simp no
 
-pub number_faultless : (values : Choices) (rows : List Row) (s : Setting) (value : Text) → is_name value ≡ true
+pub number_faultless : (values : Choices) (rows : List Row) (s : Setting) (value : Text) → is_scenario_name value ≡ true
     → turn_fault (top values) [] (before_value rows (label s)) value ≡ []
 unfolding colregs top clap_on_literals
 number_faultless values rows s [] plain = absurd (true≢false (sym plain))

@@ -29,7 +29,7 @@ MayHoldNumber rows s None = first_of (label s) rows ≡ None
 MayHoldNumber rows s (Some n) = HoldsNumber rows s n
 
 -- the matches hold this request
-pub record Holds (rows : List Row) (request : Request) : Type 0 where
+pub record HoldsRequest (rows : List Row) (request : Request) : Type 0 where
   pub mode : first_of (codes "mode") rows ≡ Some (mode_text request.mode)
   pub name : first_of (codes "scenario") rows ≡ Some request.name
   pub start_given : MayHoldNumber rows start request.options.start
@@ -41,16 +41,16 @@ abbrev pub HoldsNoNumber : List Row → Type 0
 HoldsNoNumber rows = (s : Setting) × (text : Text) × (first_of (label s) rows ≡ Some text) × ((n : ℕ) → IsNumberOf s text n → ⊥)
 
 -- the words with the program's name, as `clap` reads them
-abbrev pub named : List Text → List Text
-named words = codes "colregs" ∷ words
+abbrev pub with_program_name : List Text → List Text
+with_program_name words = codes "colregs" ∷ words
 
 -- `clap` takes the words for this command, and its matches hold the request
 abbrev pub IsAccepted : App → List Text → Request → Type 0
-IsAccepted app words request = (fault_of app (named words) ≡ []) × Holds (matches_of app (named words)) request
+IsAccepted app words request = (fault_of app (with_program_name words) ≡ []) × HoldsRequest (matches_of app (with_program_name words)) request
 
 -- `clap` refuses the words for this command, or its matches hold a number that is written otherwise
-abbrev pub IsRefused : App → List Text → Type 0
-IsRefused app words = (fault_of app (named words) ≢ []) ⊎ HoldsNoNumber (matches_of app (named words))
+abbrev pub AreWordsRefused : App → List Text → Type 0
+AreWordsRefused app words = (fault_of app (with_program_name words) ≢ []) ⊎ HoldsNoNumber (matches_of app (with_program_name words))
 
 -- The words ask for the request, as `clap` reads them by the command.
 abbrev pub AskFor : List Text → Request → Type 0
@@ -58,14 +58,14 @@ AskFor words request = (app : App) × IsColregs app × IsAccepted app words requ
 
 -- The words are no command line.
 abbrev pub AskForNothing : List Text → Type 0
-AskForNothing words = (app : App) × IsColregs app × IsRefused app words
+AskForNothing words = (app : App) × IsColregs app × AreWordsRefused app words
 
 -- ---- the plain form
 
 -- a name that is not empty and does not begin with `-`
-abbrev pub is_name : Text → Bool
-is_name [] = false
-is_name (first ∷ rest) = not (first == 45)
+abbrev pub is_scenario_name : Text → Bool
+is_scenario_name [] = false
+is_scenario_name (first ∷ rest) = not (first == 45)
 
 -- an option with its number, as two words
 abbrev pub setting_words : Setting × ℕ → List Text
@@ -95,7 +95,7 @@ options_of given = record { start = given_to start given; ticks = given_to ticks
 pub record IsPlain (words : List Text) (request : Request) : Type 0 where
   pub given : List (Setting × ℕ)
   pub form : words ≡ mode_text request.mode ∷ request.name ∷ flat_map setting_words given
-  pub name : is_name request.name ≡ true
+  pub name : is_scenario_name request.name ≡ true
   pub once : AreOnce given
   pub ranges : AreInRange given
   pub options : request.options ≡ options_of given

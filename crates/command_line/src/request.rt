@@ -2,7 +2,7 @@
 ghost use Rattle.std.specs.Prelude.{◌≡◌, ◌⊎◌, ◌<◌, ◌^◌, ◌∷◌, IfOk, IfSome, codes, map, option_map};
 ghost use Rattle.std.specs.Borrow.{Bor};
 ghost use Rattle.clap.specs.Words.{first_of, found_of, rows_of};
-ghost use Rattle.command_line.specs.Requests.{AskFor, AskForNothing, Holds, IsPlain, named};
+ghost use Rattle.command_line.specs.Requests.{AskFor, AskForNothing, HoldsRequest, IsPlain, with_program_name};
 ghost use Rattle.command_line.specs.Inner.Reading.{GivesNumber, GivesOptions, HoldsNone};
 ghost use Rattle.command_line.specs.declared.request.Request.{Request};
 
@@ -99,7 +99,7 @@ fn options_in(matches: &ArgMatches<'_>) -> Result<Options, WordsFault>
 
 /// The request that the matches hold.
 fn request_in(alloc: Global, matches: &ArgMatches<'_>) -> Result<Request, WordsFault>
-    ensures held { IfOk result (Holds (rows_of (found_of matches.now))) }
+    ensures held { IfOk result (HoldsRequest (rows_of (found_of matches.now))) }
     ensures unheld { result ≡ Err WordsFault.Usage → HoldsNone (rows_of (found_of matches.now)) }
 {
     let Some(mode) = text_given(matches, "mode") else {
@@ -124,7 +124,7 @@ fn request_in(alloc: Global, matches: &ArgMatches<'_>) -> Result<Request, WordsF
 
 /// The words behind the program's name, which `clap` reads too.
 fn named_words<'a>(alloc: Global, words: &'a [Word]) -> Result<Vec<&'a str>, AllocError>
-    ensures { IfOk result (λ texts. map (λ text. text.now) texts.items ≡ named words.entry.now) }
+    ensures { IfOk result (λ texts. map (λ text. text.now) texts.items ≡ with_program_name words.entry.now) }
 {
     let mut texts = Vec::new(alloc);
     texts.push("colregs")?;

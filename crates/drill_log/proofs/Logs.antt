@@ -8,7 +8,7 @@ use Rattle.aivdm.specs.SentenceWriting.{line_of}
 use Rattle.ais_messages.specs.PositionWriting.{encoded_of}
 use Rattle.ais_messages.specs.declared.message.PositionReport.{PositionReport}
 use Rattle.scenario.specs.declared.values.Scenario.{Scenario}
-use Rattle.drill_log.specs.DrillLog.{TimedReport, report_line, report_of, reports_at}
+use Rattle.drill_log.specs.DrillLog.{TimedReport, report_line, vessel_report, reports_at}
 use Rattle.drill_log.specs.Inner.VesselFigures.{report_by, vessel_of}
 use Rattle.drill_log.specs.declared.vessel.Vessel.{Vessel}
 use Rattle.drill_log.proofs.Lists.{flat_map_range_more}
@@ -19,10 +19,10 @@ line_by scenario minutes vessel = report_line (record { time = scenario.window.s
 
 pub minute_lines : (scenario : Scenario) (seed minutes : ℕ)
     → flat_map (line_by scenario minutes) (map (vessel_of seed) (range_with_len 0 40)) ≡ flat_map report_line (reports_at scenario seed minutes)
-unfolding vessel_of report_by report_of
+unfolding vessel_of report_by vessel_report
 minute_lines scenario seed minutes =
     flat_map-map (line_by scenario minutes) (vessel_of seed) (range_with_len 0 40)
-    ∙ sym (flat_map-map report_line (λ vessel. let timed : TimedReport = record { time = scenario.window.start + 60 * minutes; report = report_of scenario.reference seed vessel minutes } in timed) (range_with_len 0 40))
+    ∙ sym (flat_map-map report_line (λ vessel. let timed : TimedReport = record { time = scenario.window.start + 60 * minutes; report = vessel_report scenario.reference seed vessel minutes } in timed) (range_with_len 0 40))
 
 -- the lines of one more minute
 pub minute_more : (scenario : Scenario) (seed minutes : ℕ) (vessels : List Vessel) (before after : List ℕ)

@@ -15,7 +15,7 @@ use Rattle.fixed_geometry.specs.declared.point.Point.{Point}
 use Rattle.scenario.specs.declared.values.Scenario.{Scenario}
 use Rattle.scenario.specs.declared.values.Window.{Window}
 use Rattle.drill_log.specs.DrillFacts.{IsDrillReport}
-use Rattle.drill_log.specs.DrillLog.{centred, drill_reports, minutes_in, reached, report_of, reports_at, root_of, speed_of, start_of, state_of, way_of, TimedReport}
+use Rattle.drill_log.specs.DrillLog.{centred, drill_reports, minutes_in, coordinate_after, vessel_report, reports_at, root_of, speed_of, start_of, state_of, way_of, TimedReport}
 
 -- ---- a number that is drawn
 
@@ -116,14 +116,14 @@ place_in_range latitude longitude =
 
 -- ---- the reports
 
-pub report_in_range : (reference : Place) (seed vessel minutes : ℕ) → vessel < 40 → IsReport (report_of reference seed vessel minutes)
-unfolding report_of
+pub report_in_range : (reference : Place) (seed vessel minutes : ℕ) → vessel < 40 → IsReport (vessel_report reference seed vessel minutes)
+unfolding vessel_report
 report_in_range reference seed vessel minutes few = record {
   ship_low = omega arith;
   ship_high = omega arith;
   status_range = omega arith;
-  place_range = place_in_range (reached reference.latitude (start_of seed vessel).latitude (way_of seed vessel).y minutes)
-      (reached reference.longitude (start_of seed vessel).longitude (way_of seed vessel).x minutes);
+  place_range = place_in_range (coordinate_after reference.latitude (start_of seed vessel).latitude (way_of seed vessel).y minutes)
+      (coordinate_after reference.longitude (start_of seed vessel).longitude (way_of seed vessel).x minutes);
   sog_range = speed_small (way_of seed vessel) (centred_small 1500 (state_of seed (4 * vessel + 4))) (centred_small 1500 (state_of seed (4 * vessel + 3)));
   cog_range = course_below (way_of seed vessel);
   heading_range = tt;
@@ -148,11 +148,11 @@ minutes_time window minutes lt = product (window.ticks * window.tick) lt
     product seconds h = omega arith
 
 timed_at : Scenario → ℕ → ℕ → ℕ → TimedReport
-timed_at scenario seed minutes vessel = record { time = scenario.window.start + 60 * minutes; report = report_of scenario.reference seed vessel minutes }
+timed_at scenario seed minutes vessel = record { time = scenario.window.start + 60 * minutes; report = vessel_report scenario.reference seed vessel minutes }
 
 one_report : (scenario : Scenario) (seed minutes vessel : ℕ) → minutes < minutes_in scenario.window + 1 → vessel < 40
     → IsDrillReport scenario.window (timed_at scenario seed minutes vessel)
-unfolding timed_at report_of
+unfolding timed_at vessel_report
 one_report scenario seed minutes vessel lt few = record {
   ranges = report_in_range scenario.reference seed vessel minutes few;
   kind = refl;

@@ -59,18 +59,18 @@ speed_of way = 6 * root_of (unsigned_abs (norm2_of way)) / 100
 -- ---- her reports, by the minutes since tick 0
 
 -- a latitude or a longitude, from that of the reference and that of her start
-abbrev pub reached : ℤ → ℤ → ℤ → ℕ → ℤ
-reached reference start way minutes = reference +ℤ start +ℤ pos minutes *ℤ way
+abbrev pub coordinate_after : ℤ → ℤ → ℤ → ℕ → ℤ
+coordinate_after reference start way minutes = reference +ℤ start +ℤ pos minutes *ℤ way
 
 -- where she is, unless that is not on the Earth
 abbrev pub place_after : Place → ℕ → ℕ → ℕ → Option (ℤ × ℤ)
 place_after reference seed vessel minutes =
-    place_of (reached reference.latitude (start_of seed vessel).latitude (way_of seed vessel).y minutes)
-    (reached reference.longitude (start_of seed vessel).longitude (way_of seed vessel).x minutes)
+    place_of (coordinate_after reference.latitude (start_of seed vessel).latitude (way_of seed vessel).y minutes)
+    (coordinate_after reference.longitude (start_of seed vessel).longitude (way_of seed vessel).x minutes)
 
 -- a message 1 from a vessel under way, at second 0; the vessels' identities follow one another
-unfoldable pub report_of : Place → ℕ → ℕ → ℕ → PositionReport
-report_of reference seed vessel minutes = record {
+unfoldable pub vessel_report : Place → ℕ → ℕ → ℕ → PositionReport
+vessel_report reference seed vessel minutes = record {
   kind = 1;
   mmsi = 200000001 + vessel;
   status = 0;
@@ -96,7 +96,7 @@ abbrev pub reports_at : Scenario → ℕ → ℕ → List TimedReport
 reports_at scenario seed minutes =
     map (λ vessel. record {
       time = scenario.window.start + 60 * minutes;
-      report = report_of scenario.reference seed vessel minutes;
+      report = vessel_report scenario.reference seed vessel minutes;
     }) (range_with_len 0 40)
 
 -- all reports in the order of their times

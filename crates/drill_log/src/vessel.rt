@@ -4,7 +4,7 @@ ghost use Rattle.std.specs.List.{range_with_len};
 ghost use Rattle.ais_messages.specs.MessageFields.{IsReport};
 ghost use Rattle.fixed_geometry.specs.Plane.{norm2_of};
 ghost use Rattle.fixed_geometry.specs.Sizes.{IsWithin};
-ghost use Rattle.drill_log.specs.DrillLog.{reached, root_of, speed_of, state_of};
+ghost use Rattle.drill_log.specs.DrillLog.{coordinate_after, root_of, speed_of, state_of};
 ghost use Rattle.drill_log.specs.Inner.VesselFigures.{report_by, vessel_of, IsVessel};
 
 use crate::numbers::Numbers;
@@ -74,7 +74,7 @@ fn reached(reference: i32, start: i32, way: i64, minutes: u32) -> i32
     requires start { unsigned_abs start ≤ 20000 }
     requires way { unsigned_abs way ≤ 1500 }
     requires minutes { minutes ≤ 20000 }
-    ensures { result ≡ reached reference start way minutes }
+    ensures { result ≡ coordinate_after reference start way minutes }
 {
     (i64::from(reference) + i64::from(start) + gone(minutes, way)) as i32
 }

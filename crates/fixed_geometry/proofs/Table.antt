@@ -6,7 +6,7 @@ use Rattle.std.proofs.Math.ListN.{get_or-map}
 use Rattle.std.specs.List.{list_all}
 use Rattle.std.specs.Prelude.{slice_index, true, nat_le}
 use Rattle.fixed_geometry.specs.Rounding.{rounded}
-use Rattle.fixed_geometry.specs.Compass.{Direction, tenth_further, direction_of, eighth_of}
+use Rattle.fixed_geometry.specs.Compass.{Direction, tenth_further, compass_direction, eighth_of}
 use Rattle.fixed_geometry.specs.declared.point.Point.{Point}
 use Rattle.fixed_geometry.specs.declared.compass.TheConstants.{SINES, COSINES}
 
@@ -30,25 +30,25 @@ all_cosines = refl
 same_entry : (i j : ℕ) → i ≡ j → eighth_of i ≡ eighth_of j
 same_entry i j e = ap eighth_of e
 
-sine_in : (n j k : ℕ) → k < n → get_or (sines_from n (direction_of j)) k (pos 0) ≡ (eighth_of (j + k)).x
-unfolding direction_of eighth_of
+sine_in : (n j k : ℕ) → k < n → get_or (sines_from n (compass_direction j)) k (pos 0) ≡ (eighth_of (j + k)).x
+unfolding compass_direction eighth_of
 sine_in zero j k h = absurd (omega arith)
 sine_in (suc n) j zero h = ap (λ (p : Point). p.x) (same_entry j (j + zero) (omega arith))
 sine_in (suc n) j (suc k) h = sine_in n (suc j) k (omega arith) ∙ ap (λ (p : Point). p.x) (same_entry (suc j + k) (j + suc k) (omega arith))
 
-cosine_in : (n j k : ℕ) → k < n → get_or (cosines_from n (direction_of j)) k (pos 0) ≡ (eighth_of (j + k)).y
-unfolding direction_of eighth_of
+cosine_in : (n j k : ℕ) → k < n → get_or (cosines_from n (compass_direction j)) k (pos 0) ≡ (eighth_of (j + k)).y
+unfolding compass_direction eighth_of
 cosine_in zero j k h = absurd (omega arith)
 cosine_in (suc n) j zero h = ap (λ (p : Point). p.y) (same_entry j (j + zero) (omega arith))
 cosine_in (suc n) j (suc k) h = cosine_in n (suc j) k (omega arith) ∙ ap (λ (p : Point). p.y) (same_entry (suc j + k) (j + suc k) (omega arith))
 
 pub sine_entry : (k : ℕ) → k ≤ 450 → pos (slice_index SINES k) ≡ (eighth_of k).x
-unfolding direction_of
+unfolding compass_direction
 sine_entry k h =
     sym (get_or-map pos SINES k 0) ∙ subst (λ (l : List ℤ). get_or l k (pos 0) ≡ (eighth_of k).x) (sym all_sines) (sine_in 451 0 k (omega arith) ∙ ap (λ (p : Point). p.x) (same_entry (0 + k) k (omega arith)))
 
 pub cosine_entry : (k : ℕ) → k ≤ 450 → pos (slice_index COSINES k) ≡ (eighth_of k).y
-unfolding direction_of
+unfolding compass_direction
 cosine_entry k h =
     sym (get_or-map pos COSINES k 0) ∙ subst (λ (l : List ℤ). get_or l k (pos 0) ≡ (eighth_of k).y) (sym all_cosines) (cosine_in 451 0 k (omega arith) ∙ ap (λ (p : Point). p.y) (same_entry (0 + k) k (omega arith)))
 

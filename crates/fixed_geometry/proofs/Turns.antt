@@ -8,7 +8,7 @@ use Rattle.std.proofs.lemmas.Bool.Decides.{nat_tests}
 use Rattle.std.proofs.lemmas.Int.{ints, by_lt_z}
 use Rattle.std.specs.Prelude.{Bool, true, false, not, ◌&&◌, int_le, int_lt, nat_le, option_map, unsigned_abs, Some}
 use Rattle.fixed_geometry.specs.Bearing.{bearing_of, has_turned, lies_to_port, quarter_angle}
-use Rattle.fixed_geometry.specs.Compass.{direction_of, eighth_of, quarter_further, quarter_of, quarters_further, unit_of, sine_of, cosine_of}
+use Rattle.fixed_geometry.specs.Compass.{compass_direction, eighth_of, quarter_further, quarter_of, quarters_further, unit_of, sine_of, cosine_of}
 use Rattle.fixed_geometry.specs.Plane.{turn_of}
 use Rattle.fixed_geometry.specs.Rounding.{rounded}
 use Rattle.fixed_geometry.specs.declared.point.Point.{Point}
@@ -271,7 +271,7 @@ port_by_turns r d direction some =
 
 -- A quarter is over where the next one begins.
 quarter_over : quarter_of 900 ≡ quarter_further (quarter_of 0)
-unfolding eighth_of direction_of rounded
+unfolding eighth_of compass_direction rounded
 quarter_over = refl
 
 half_turn : (a b : Point) → turn_of (quarters_further 2 a) b ≡ neg_ℤ (turn_of a b)

@@ -16,13 +16,13 @@ tenth_further d = record {
 }
 
 -- k tenths of a degree, for k to 450
-unfoldable pub direction_of : ℕ → Direction
-direction_of zero = record { sine = pos 0; cosine = pos (10 ^ 15) }
-direction_of (suc k) = tenth_further (direction_of k)
+unfoldable pub compass_direction : ℕ → Direction
+compass_direction zero = record { sine = pos 0; cosine = pos (10 ^ 15) }
+compass_direction (suc k) = tenth_further (compass_direction k)
 
 -- the same in millionths: the sine to the east, the cosine to the north
 unfoldable pub eighth_of : ℕ → Point
-eighth_of k = record { x = rounded (direction_of k).sine (10 ^ 9); y = rounded (direction_of k).cosine (10 ^ 9) }
+eighth_of k = record { x = rounded (compass_direction k).sine (10 ^ 9); y = rounded (compass_direction k).cosine (10 ^ 9) }
 
 -- past 45 degrees the sine and the cosine change places
 abbrev pub mirrored : Point → Point

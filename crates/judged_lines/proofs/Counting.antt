@@ -5,13 +5,13 @@ use Rattle.std.proofs.lemmas.Grind.{common_steps, get_or-set_at}
 use Rattle.std.proofs.lemmas.List.{get_or-replicate, get_or-set_other, length-set}
 use Rattle.std.proofs.lemmas.List.Sums.{sum_by_push, count_by-le-length}
 use Rattle.judged_lines.specs.JudgedLines.{outcome_of}
-use Rattle.judged_lines.specs.LineOutcomes.{place_of}
+use Rattle.judged_lines.specs.LineOutcomes.{outcome_index}
 use Rattle.judged_lines.specs.Standing.{AreCounts, is_at_place}
 use Rattle.judged_lines.specs.declared.judged.Judged.{Judged}
 use Rattle.judged_lines.specs.declared.outcome.LineOutcome.{LineOutcome}
 use Rattle.judged_lines.specs.declared.outcome.LineOutcome.TheVariants as outcome
 
-pub place_within : (o : LineOutcome) → place_of o < 21
+pub place_within : (o : LineOutcome) → outcome_index o < 21
 place_within outcome.Empty = lit< tt
 place_within outcome.Long = lit< tt
 place_within outcome.Tag = lit< tt
@@ -46,10 +46,10 @@ further n = min (n + 1) (2 ^ 64 - 1)
 
 counted_at : (counts : List ℕ) (lines : List Judged) (next : Judged) → length lines + 1 < 2 ^ 64 → AreCounts counts lines
     → (place : ℕ) → place < 21 → (own : Bool) → is_at_place place next ≡ own
-    → slice_index (slice_set counts (place_of (outcome_of next)) (further (slice_index counts (place_of (outcome_of next))))) place
+    → slice_index (slice_set counts (outcome_index (outcome_of next)) (further (slice_index counts (outcome_index (outcome_of next))))) place
     ≡ count_by (is_at_place place) (lines ++ next ∷ [])
 counted_at counts lines next few are place within true own =
-    let here = place_of (outcome_of next) in
+    let here = outcome_index (outcome_of next) in
     let same : here ≡ place = grind (arith, nat_tests, own) in
     let old : slice_index counts here ≡ count_by (is_at_place place) lines = ap (slice_index counts) same ∙ are.each place within in
     let bounded : further (slice_index counts here) ≡ count_by (is_at_place place) lines + 1 =
@@ -57,15 +57,15 @@ counted_at counts lines next few are place within true own =
     get_or-set_at counts here place (further (slice_index counts here)) 0 (sym same) (omega (arith, are.many, same, within))
     ∙ bounded ∙ sym (count_by_push_yes (is_at_place place) lines next own)
 counted_at counts lines next few are place within false own =
-    let here = place_of (outcome_of next) in
+    let here = outcome_index (outcome_of next) in
     let other : place ≢ here = λ e. absurd (grind (arith, nat_tests, own, e)) in
     get_or-set_other counts here place (further (slice_index counts here)) 0 other
     ∙ are.each place within ∙ sym (count_by_push_no (is_at_place place) lines next own)
 
 pub AreCounts-push : (counts : List ℕ) (lines : List Judged) (next : Judged) → length lines + 1 < 2 ^ 64 → AreCounts counts lines
-    → AreCounts (slice_set counts (place_of (outcome_of next)) (min (slice_index counts (place_of (outcome_of next)) + 1) (2 ^ 64 - 1))) (lines ++ next ∷ [])
+    → AreCounts (slice_set counts (outcome_index (outcome_of next)) (min (slice_index counts (outcome_index (outcome_of next)) + 1) (2 ^ 64 - 1))) (lines ++ next ∷ [])
 AreCounts-push counts lines next few are = record {
-  many = length-set counts (place_of (outcome_of next)) _ ∙ are.many;
+  many = length-set counts (outcome_index (outcome_of next)) _ ∙ are.many;
   each = λ place within. counted_at counts lines next few are place within (is_at_place place next) refl;
 }
 

@@ -10,11 +10,11 @@ use Rattle.aivdm.specs.declared.sentence.LineCause.{LineCause}
 use Rattle.aivdm.specs.declared.sentence.LineCause.TheVariants as line_cause
 use Rattle.ais_messages.specs.declared.message.Decoded.{Decoded}
 use Rattle.scenario.specs.declared.values.Scenario.{Scenario}
-use Rattle.tracks.specs.AcceptedReports.{Numbers}
+use Rattle.tracks.specs.AcceptedReports.{JudgingNumbers}
 use Rattle.tracks.specs.Standing.{StandsFor as BookStandsFor}
 use Rattle.tracks.specs.VesselsHeld.{Sent, held_of}
 use Rattle.judged_lines.specs.JudgedLines.{greatest_held, held_behind, judged_line, judged_lines, numbers_of, outcome_of}
-use Rattle.judged_lines.specs.LineOutcomes.{place_of}
+use Rattle.judged_lines.specs.LineOutcomes.{outcome_index}
 use Rattle.judged_lines.specs.LineTimes.{clock_of, stamp_of, time_of}
 use Rattle.judged_lines.specs.SentLines.{heard, heard_of, heard_in, heard_unless, sent, sent_decoded, sent_heard, sent_joined, sent_of, untimely}
 use Rattle.judged_lines.specs.Standing.{AreCounts, StandsFor}
@@ -41,7 +41,7 @@ few_unless n calm = decide (nat_lt greatest_held n) refl
 
 -- ---- a line without a message
 
-pub Enters-none : (numbers : Numbers) (judge : Judge) (came : LineOutcome) (before : List Sent) → BookStandsFor judge.book numbers before
+pub Enters-none : (numbers : JudgingNumbers) (judge : Judge) (came : LineOutcome) (before : List Sent) → BookStandsFor judge.book numbers before
     → length (held_of numbers before) ≤ greatest_held → Enters numbers judge (judged.Without came) before (Err came)
 Enters-none numbers judge came before stands few =
     let same : before ++ [] ≡ before = append-nil before in
@@ -60,7 +60,7 @@ sends : (taken : List Taken) (next : Taken) (joined_now : Joined) (to : Result S
     → to ≡ sent_heard taken (Ok next)
 sends taken next joined_now to joins is = sym is ∙ ap (sent_joined next.time) joins
 
-pub GoesOn-message : (numbers : Numbers) (judge : Judge) (came : Judged) (taken : List Taken) (messages : List Sent) (next : Taken) (joined_now : Joined) (decoded : Decoded)
+pub GoesOn-message : (numbers : JudgingNumbers) (judge : Judge) (came : Judged) (taken : List Taken) (messages : List Sent) (next : Taken) (joined_now : Joined) (decoded : Decoded)
     → joined_now ≡ joined_of taken next → sent_joined next.time joined_now ≡ sent_decoded next.time decoded
     → JoinerStandsFor judge.joiner (after taken next) → Enters numbers judge came messages (sent_decoded next.time decoded)
     → GoesOn numbers judge came taken messages (Ok next)
@@ -69,13 +69,13 @@ GoesOn-message numbers judge came taken messages next joined_now decoded joins i
   enters = subst (Enters numbers judge came messages) (sends taken next joined_now (sent_decoded next.time decoded) joins is) enters;
 }
 
-pub crowded_message : (numbers : Numbers) (taken : List Taken) (messages : List Sent) (next : Taken) (joined_now : Joined) (decoded : Decoded)
+pub crowded_message : (numbers : JudgingNumbers) (taken : List Taken) (messages : List Sent) (next : Taken) (joined_now : Joined) (decoded : Decoded)
     → joined_now ≡ joined_of taken next → sent_joined next.time joined_now ≡ sent_decoded next.time decoded
     → greatest_held < held_with numbers messages (sent_decoded next.time decoded) → greatest_held < held_with numbers messages (sent_heard taken (Ok next))
 crowded_message numbers taken messages next joined_now decoded joins is more =
     subst (λ (r : Result Sent LineOutcome). greatest_held < held_with numbers messages r) (sends taken next joined_now (sent_decoded next.time decoded) joins is) more
 
-pub GoesOn-silent : (numbers : Numbers) (judge : Judge) (came : LineOutcome) (taken : List Taken) (messages : List Sent) (next : Taken) (joined_now : Joined)
+pub GoesOn-silent : (numbers : JudgingNumbers) (judge : Judge) (came : LineOutcome) (taken : List Taken) (messages : List Sent) (next : Taken) (joined_now : Joined)
     → joined_now ≡ joined_of taken next → sent_joined next.time joined_now ≡ Err came
     → JoinerStandsFor judge.joiner (after taken next) → BookStandsFor judge.book numbers messages → length (held_of numbers messages) ≤ greatest_held
     → GoesOn numbers judge (judged.Without came) taken messages (Ok next)
@@ -85,7 +85,7 @@ GoesOn-silent numbers judge came taken messages next joined_now joins is stands 
 }
 
 -- a line on which nothing is heard
-pub GoesOn-unheard : (numbers : Numbers) (judge : Judge) (came : LineOutcome) (taken : List Taken) (messages : List Sent)
+pub GoesOn-unheard : (numbers : JudgingNumbers) (judge : Judge) (came : LineOutcome) (taken : List Taken) (messages : List Sent)
     → JoinerStandsFor judge.joiner taken → BookStandsFor judge.book numbers messages → length (held_of numbers messages) ≤ greatest_held
     → GoesOn numbers judge (judged.Without came) taken messages (Err came)
 GoesOn-unheard numbers judge came taken messages stands book few = record {
@@ -119,7 +119,7 @@ pub record Judges (old noted : Judge) (came : Judged) (line : List ℕ) : Type 0
   pub body : Result SentenceFields LineCause
   pub timed : time ≡ unwrap_or (nearest_of (stamp_of line) old.times.nearest) old.times.window.start
   pub said : body ≡ (reading_of line).body
-  pub on : (numbers : Numbers) (taken : List Taken) (messages : List Sent) → JoinerStandsFor old.joiner taken → BookStandsFor old.book numbers messages
+  pub on : (numbers : JudgingNumbers) (taken : List Taken) (messages : List Sent) → JoinerStandsFor old.joiner taken → BookStandsFor old.book numbers messages
       → length (held_of numbers messages) ≤ greatest_held → GoesOn numbers noted came taken messages (heard_by old.times time body)
 
 -- so the joiner and the book go on
@@ -146,7 +146,7 @@ held_same scenario before line = ap (λ (l : List Sent). length (held_of (number
 
 -- the judge with one line more counted
 abbrev counted : List ℕ → Judged → List ℕ
-counted counts came = slice_set counts (place_of (outcome_of came)) (min (slice_index counts (place_of (outcome_of came)) + 1) (2 ^ 64 - 1))
+counted counts came = slice_set counts (outcome_index (outcome_of came)) (min (slice_index counts (outcome_index (outcome_of came)) + 1) (2 ^ 64 - 1))
 
 pub stands_on : (old noted new : Judge) (came : Judged) (line : List ℕ) (scenario : Scenario) (before : List (List ℕ)) → length before + 1 < 2 ^ 64
     → StandsFor old scenario before → Judges old noted came line
@@ -193,7 +193,7 @@ judges_long old line long = record {
 
 pub crowded_by : (old : Judge) (line : List ℕ) (scenario : Scenario) (before : List (List ℕ)) (time : ℕ) (body : Result SentenceFields LineCause) → StandsFor old scenario before
     → time ≡ unwrap_or (nearest_of (stamp_of line) old.times.nearest) old.times.window.start → body ≡ (reading_of line).body
-    → ((numbers : Numbers) (taken : List Taken) (messages : List Sent) → JoinerStandsFor old.joiner taken → BookStandsFor old.book numbers messages
+    → ((numbers : JudgingNumbers) (taken : List Taken) (messages : List Sent) → JoinerStandsFor old.joiner taken → BookStandsFor old.book numbers messages
     → greatest_held < held_with numbers messages (sent_heard taken (heard_by old.times time body)))
     → greatest_held < held_behind scenario before line
 unfolding sent_of
@@ -210,7 +210,7 @@ pub new_is : (old noted new : Judge) (came : Judged) (line : List ℕ) (times : 
       times = times;
       joiner = noted.joiner;
       book = noted.book;
-      counts = slice_set noted.counts (place_of outcome) (min (slice_index noted.counts (place_of outcome) + 1) (2 ^ 64 - 1));
+      counts = slice_set noted.counts (outcome_index outcome) (min (slice_index noted.counts (outcome_index outcome) + 1) (2 ^ 64 - 1));
     }
     → new ≡ record { times = times_behind old.times (stamp_of line); joiner = noted.joiner; book = noted.book; counts = counted old.counts came }
 new_is old noted new came line times stamp outcome same passed stamped told is =
@@ -221,5 +221,5 @@ new_is old noted new came line times stamp outcome same passed stamped told is =
       times = timed i;
       joiner = noted.joiner;
       book = noted.book;
-      counts = slice_set (counts i) (place_of (told i)) (min (slice_index (counts i) (place_of (told i)) + 1) (2 ^ 64 - 1));
+      counts = slice_set (counts i) (outcome_index (told i)) (min (slice_index (counts i) (outcome_index (told i)) + 1) (2 ^ 64 - 1));
     })

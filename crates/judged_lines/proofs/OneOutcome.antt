@@ -3,7 +3,7 @@ use Rattle.std.proofs.Common.{◌≡◌, ◌==◌, ℕ, suc, ◌+◌, cond, List
 use Rattle.std.proofs.lemmas.List.Sums.{sum_by-cons}
 use Rattle.judged_lines.specs.EachLine.{each_after}
 use Rattle.judged_lines.specs.JudgedLines.{count_of, judged_line, judged_lines, outcome_of}
-use Rattle.judged_lines.specs.LineOutcomes.{all_outcomes, place_of}
+use Rattle.judged_lines.specs.LineOutcomes.{all_outcomes, outcome_index}
 use Rattle.judged_lines.specs.LogLines.{lines_of}
 use Rattle.judged_lines.specs.declared.judged.Judged.{Judged}
 use Rattle.judged_lines.specs.declared.outcome.LineOutcome.{LineOutcome}
@@ -12,7 +12,7 @@ use Rattle.scenario.specs.declared.values.Scenario.{Scenario}
 
 -- 1 where a line came to the outcome, else 0
 abbrev counted : LineOutcome → LineOutcome → ℕ
-counted came outcome = cond (place_of came == place_of outcome) 1 0
+counted came outcome = cond (outcome_index came == outcome_index outcome) 1 0
 
 -- a line is counted once
 once : (came : LineOutcome) → sum_by (counted came) all_outcomes ≡ 1
@@ -52,7 +52,7 @@ no_lines (x ∷ xs) =
 
 count_of-cons : (outcome : LineOutcome) (line : Judged) (lines : List Judged)
     → count_of outcome (line ∷ lines) ≡ counted (outcome_of line) outcome + count_of outcome lines
-count_of-cons outcome line lines = sum_by-cons (λ (l : Judged). cond (place_of (outcome_of l) == place_of outcome) 1 0) line lines
+count_of-cons outcome line lines = sum_by-cons (λ (l : Judged). cond (outcome_index (outcome_of l) == outcome_index outcome) 1 0) line lines
 
 counts_sum : (lines : List Judged) → sum_by (λ outcome. count_of outcome lines) all_outcomes ≡ length lines
 counts_sum [] = no_lines all_outcomes

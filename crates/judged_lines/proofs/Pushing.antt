@@ -5,9 +5,9 @@ use Rattle.std.proofs.lemmas.Bool.Decides.{nat_tests}
 use Rattle.std.proofs.lemmas.List.Elements.{filter_map-append}
 use Rattle.std.proofs.lemmas.List.Folds.{list_any-append}
 use Rattle.scenario.specs.declared.values.Scenario.{Scenario}
-use Rattle.tracks.specs.AcceptedReports.{Numbers}
+use Rattle.tracks.specs.AcceptedReports.{JudgingNumbers}
 use Rattle.tracks.specs.VesselsHeld.{held_of}
-use Rattle.judged_lines.specs.EachLine.{each_after, each_line, value_in}
+use Rattle.judged_lines.specs.EachLine.{each_after, each_line, ok_value}
 use Rattle.judged_lines.specs.JudgedLines.{greatest_held, held_behind, is_crowded, judged_line, judged_lines}
 use Rattle.judged_lines.specs.SentLines.{heard, heard_of, sent, sent_of}
 use Rattle.judged_lines.specs.Inner.JudgeState.{listed}
@@ -29,16 +29,16 @@ each_after-append f before (x ∷ xs) ys =
     ap (λ l. f before x ∷ l) (each_after-append f (before ++ x ∷ []) xs ys)
     ∙ ap (λ b. f before x ∷ each_after f (before ++ x ∷ []) xs ++ each_after f b ys) (append_assoc before (x ∷ []) xs)
 
-listed_is : {A : Type 0} (r : Result A LineOutcome) → filter_map value_in (r ∷ []) ≡ listed r
+listed_is : {A : Type 0} (r : Result A LineOutcome) → filter_map ok_value (r ∷ []) ≡ listed r
 listed_is (Ok value) = refl
 listed_is (Err came) = refl
 
 values-push : {A : Type 0} (f : List (List ℕ) → List ℕ → Result A LineOutcome) (before : List (List ℕ)) (line : List ℕ)
-    → filter_map value_in (each_line f (before ++ line ∷ [])) ≡ filter_map value_in (each_line f before) ++ listed (f before line)
+    → filter_map ok_value (each_line f (before ++ line ∷ [])) ≡ filter_map ok_value (each_line f before) ++ listed (f before line)
 values-push f before line =
-    ap (filter_map value_in) (each_after-push f [] before line)
-    ∙ filter_map-append value_in (each_line f before) (f before line ∷ [])
-    ∙ ap (λ l. filter_map value_in (each_line f before) ++ l) (listed_is (f before line))
+    ap (filter_map ok_value) (each_after-push f [] before line)
+    ∙ filter_map-append ok_value (each_line f before) (f before line ∷ [])
+    ∙ ap (λ l. filter_map ok_value (each_line f before) ++ l) (listed_is (f before line))
 
 pub heard-push : (scenario : Scenario) (before : List (List ℕ)) (line : List ℕ)
     → heard scenario (before ++ line ∷ []) ≡ heard scenario before ++ listed (heard_of scenario before line)
@@ -103,6 +103,6 @@ crowded_at scenario before rest line more =
     among true b c is = refl
     among false b c is = rw is refl
 
-pub nothing_held : (numbers : Numbers) → length (held_of numbers []) ≤ greatest_held
+pub nothing_held : (numbers : JudgingNumbers) → length (held_of numbers []) ≤ greatest_held
 unfolding held_of
 nothing_held numbers = omega arith

@@ -11,6 +11,6 @@ abbrev pub each_line : {B : Type 0} → (List (List ℕ) → List ℕ → B) →
 each_line f lines = each_after f [] lines
 
 -- the value, if it is one
-abbrev pub value_in : {A E : Type 0} → Result A E → Option A
-value_in (Ok value) = Some value
-value_in (Err cause) = None
+abbrev pub ok_value : {A E : Type 0} → Result A E → Option A
+ok_value (Ok value) = Some value
+ok_value (Err cause) = None

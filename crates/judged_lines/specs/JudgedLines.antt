@@ -4,12 +4,12 @@ use Rattle.std.specs.List.{list_any}
 use Rattle.ais_messages.specs.declared.message.PositionReport.{PositionReport}
 use Rattle.fixed_geometry.specs.declared.point.Point.{Point}
 use Rattle.scenario.specs.declared.values.Scenario.{Scenario}
-use Rattle.tracks.specs.AcceptedReports.{Numbers}
+use Rattle.tracks.specs.AcceptedReports.{JudgingNumbers}
 use Rattle.tracks.specs.VesselsHeld.{Sent, entry_of, held_of, report_in}
 use Rattle.tracks.specs.declared.entry.Entry.{Entry}
 use Rattle.tracks.specs.declared.entry.Entry.TheVariants as entry
 use Rattle.judged_lines.specs.EachLine.{each_line}
-use Rattle.judged_lines.specs.LineOutcomes.{place_of, report_outcome}
+use Rattle.judged_lines.specs.LineOutcomes.{outcome_index, report_outcome}
 use Rattle.judged_lines.specs.SentLines.{sent, sent_of}
 use Rattle.judged_lines.specs.declared.judged.Judged.{Judged}
 use Rattle.judged_lines.specs.declared.judged.Judged.TheVariants as judged
@@ -21,7 +21,7 @@ outcome_of (judged.Accepted report) = outcome.Point
 outcome_of (judged.Without came) = came
 
 -- the numbers by which a scenario judges reports
-abbrev pub numbers_of : Scenario → Numbers
+abbrev pub numbers_of : Scenario → JudgingNumbers
 numbers_of scenario = record { reference = scenario.reference; gap = scenario.log.gap; max_speed = scenario.log.max_speed }
 
 -- The report of a message that has a point. No message without a position report has one.
@@ -36,7 +36,7 @@ judged_entry one entry.Static = judged.Without outcome.Static
 judged_entry one (entry.Dropped cause) = judged.Without (report_outcome cause)
 
 -- what a message comes to, after the messages before it; or what came of a line without one
-abbrev pub judged_sent : Numbers → List Sent → Result Sent LineOutcome → Judged
+abbrev pub judged_sent : JudgingNumbers → List Sent → Result Sent LineOutcome → Judged
 judged_sent numbers before (Ok one) = judged_entry one (entry_of numbers before one)
 judged_sent numbers before (Err came) = judged.Without came
 
@@ -50,7 +50,7 @@ judged_lines scenario lines = each_line (judged_line scenario) lines
 
 -- how many lines came to an outcome
 abbrev pub count_of : LineOutcome → List Judged → ℕ
-count_of outcome lines = count_by (λ line. place_of (outcome_of line) == place_of outcome) lines
+count_of outcome lines = count_by (λ line. outcome_index (outcome_of line) == outcome_index outcome) lines
 
 -- how many vessels are held behind a line, after the lines before it
 unfoldable pub held_behind : Scenario → List (List ℕ) → List ℕ → ℕ

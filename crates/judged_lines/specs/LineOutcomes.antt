@@ -9,52 +9,52 @@ use Rattle.tracks.specs.declared.entry.ReportCause.TheVariants as report_cause
 use Rattle.judged_lines.specs.declared.outcome.LineOutcome.{LineOutcome}
 use Rattle.judged_lines.specs.declared.outcome.LineOutcome.TheVariants as outcome
 
-abbrev pub name_of : LineOutcome → List ℕ
-name_of outcome.Empty = codes "empty"
-name_of outcome.Long = codes "long"
-name_of outcome.Tag = codes "tag"
-name_of outcome.Other = codes "other"
-name_of outcome.Form = codes "form"
-name_of outcome.Sum = codes "sum"
-name_of outcome.Armour = codes "armour"
-name_of outcome.Outside = codes "outside"
-name_of outcome.Late = codes "late"
-name_of outcome.Part = codes "part"
-name_of outcome.Orphan = codes "orphan"
-name_of outcome.Short = codes "short"
-name_of outcome.Kind = codes "kind"
-name_of outcome.NotShip = codes "notship"
-name_of outcome.NoPos = codes "nopos"
-name_of outcome.Far = codes "far"
-name_of outcome.Back = codes "back"
-name_of outcome.Repeat = codes "repeat"
-name_of outcome.Jump = codes "jump"
-name_of outcome.Static = codes "static"
-name_of outcome.Point = codes "point"
+abbrev pub outcome_name : LineOutcome → List ℕ
+outcome_name outcome.Empty = codes "empty"
+outcome_name outcome.Long = codes "long"
+outcome_name outcome.Tag = codes "tag"
+outcome_name outcome.Other = codes "other"
+outcome_name outcome.Form = codes "form"
+outcome_name outcome.Sum = codes "sum"
+outcome_name outcome.Armour = codes "armour"
+outcome_name outcome.Outside = codes "outside"
+outcome_name outcome.Late = codes "late"
+outcome_name outcome.Part = codes "part"
+outcome_name outcome.Orphan = codes "orphan"
+outcome_name outcome.Short = codes "short"
+outcome_name outcome.Kind = codes "kind"
+outcome_name outcome.NotShip = codes "notship"
+outcome_name outcome.NoPos = codes "nopos"
+outcome_name outcome.Far = codes "far"
+outcome_name outcome.Back = codes "back"
+outcome_name outcome.Repeat = codes "repeat"
+outcome_name outcome.Jump = codes "jump"
+outcome_name outcome.Static = codes "static"
+outcome_name outcome.Point = codes "point"
 
 -- the place in the report, counted from 0
-abbrev pub place_of : LineOutcome → ℕ
-place_of outcome.Empty = 0
-place_of outcome.Long = 1
-place_of outcome.Tag = 2
-place_of outcome.Other = 3
-place_of outcome.Form = 4
-place_of outcome.Sum = 5
-place_of outcome.Armour = 6
-place_of outcome.Outside = 7
-place_of outcome.Late = 8
-place_of outcome.Part = 9
-place_of outcome.Orphan = 10
-place_of outcome.Short = 11
-place_of outcome.Kind = 12
-place_of outcome.NotShip = 13
-place_of outcome.NoPos = 14
-place_of outcome.Far = 15
-place_of outcome.Back = 16
-place_of outcome.Repeat = 17
-place_of outcome.Jump = 18
-place_of outcome.Static = 19
-place_of outcome.Point = 20
+abbrev pub outcome_index : LineOutcome → ℕ
+outcome_index outcome.Empty = 0
+outcome_index outcome.Long = 1
+outcome_index outcome.Tag = 2
+outcome_index outcome.Other = 3
+outcome_index outcome.Form = 4
+outcome_index outcome.Sum = 5
+outcome_index outcome.Armour = 6
+outcome_index outcome.Outside = 7
+outcome_index outcome.Late = 8
+outcome_index outcome.Part = 9
+outcome_index outcome.Orphan = 10
+outcome_index outcome.Short = 11
+outcome_index outcome.Kind = 12
+outcome_index outcome.NotShip = 13
+outcome_index outcome.NoPos = 14
+outcome_index outcome.Far = 15
+outcome_index outcome.Back = 16
+outcome_index outcome.Repeat = 17
+outcome_index outcome.Jump = 18
+outcome_index outcome.Static = 19
+outcome_index outcome.Point = 20
 
 -- all outcomes in the order of the report
 unfoldable pub all_outcomes : List LineOutcome

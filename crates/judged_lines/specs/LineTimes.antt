@@ -5,7 +5,7 @@ use Rattle.aivdm.specs.ReadingOf.{reading_of}
 use Rattle.scenario.specs.declared.own_part.OwnPart.{OwnPart}
 use Rattle.scenario.specs.declared.values.Scenario.{Scenario}
 use Rattle.scenario.specs.declared.values.Window.{Window}
-use Rattle.scenario.specs.Ticks.{end_of}
+use Rattle.scenario.specs.Ticks.{window_end}
 
 abbrev pub stamp_of : List ℕ → Option ℕ
 stamp_of line = (reading_of line).stamp
@@ -24,7 +24,7 @@ reach_behind (Some own) gap = 0
 
 -- The window of lines reaches so far before the first tick and behind the last.
 abbrev pub lies_in : Window → ℕ → ℕ → ℕ → Bool
-lies_in window before behind time = nat_le window.start (time + before) && nat_le time (end_of window + behind)
+lies_in window before behind time = nat_le window.start (time + before) && nat_le time (window_end window + behind)
 
 abbrev pub is_in_window : Scenario → ℕ → Bool
 is_in_window scenario time = lies_in scenario.window scenario.log.gap (reach_behind scenario.own scenario.log.gap) time

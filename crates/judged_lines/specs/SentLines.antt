@@ -11,7 +11,7 @@ use Rattle.ais_messages.specs.MessageFields.{decoded_of}
 use Rattle.ais_messages.specs.declared.message.Decoded.{Decoded}
 use Rattle.ais_messages.specs.declared.message.Decoded.TheVariants as decoded
 use Rattle.tracks.specs.VesselsHeld.{Sent}
-use Rattle.judged_lines.specs.EachLine.{each_line, value_in}
+use Rattle.judged_lines.specs.EachLine.{each_line, ok_value}
 use Rattle.judged_lines.specs.LineOutcomes.{line_outcome, message_outcome}
 use Rattle.judged_lines.specs.LineTimes.{clock_of, is_in_window, is_late, time_of}
 use Rattle.judged_lines.specs.declared.outcome.LineOutcome.{LineOutcome}
@@ -41,7 +41,7 @@ heard_of scenario before line =
 
 -- the sentences of lines that are in time, with their times
 unfoldable pub heard : Scenario → List (List ℕ) → List Taken
-heard scenario lines = filter_map value_in (each_line (heard_of scenario) lines)
+heard scenario lines = filter_map ok_value (each_line (heard_of scenario) lines)
 
 -- ---- the messages
 
@@ -64,4 +64,4 @@ sent_of scenario before line = sent_heard (heard scenario before) (heard_of scen
 
 -- the messages of lines, with their times
 unfoldable pub sent : Scenario → List (List ℕ) → List Sent
-sent scenario lines = filter_map value_in (each_line (sent_of scenario) lines)
+sent scenario lines = filter_map ok_value (each_line (sent_of scenario) lines)

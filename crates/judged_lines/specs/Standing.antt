@@ -5,7 +5,7 @@ use Rattle.scenario.specs.declared.values.Scenario.{Scenario}
 use Rattle.tracks.specs.Standing.{StandsFor as BookStandsFor}
 use Rattle.tracks.specs.VesselsHeld.{held_of}
 use Rattle.judged_lines.specs.JudgedLines.{greatest_held, is_crowded, judged_lines, numbers_of, outcome_of}
-use Rattle.judged_lines.specs.LineOutcomes.{place_of}
+use Rattle.judged_lines.specs.LineOutcomes.{outcome_index}
 use Rattle.judged_lines.specs.SentLines.{heard, sent}
 use Rattle.judged_lines.specs.Inner.Times.{KeepsTimes}
 use Rattle.judged_lines.specs.declared.judged.Judged.{Judged}
@@ -18,7 +18,7 @@ keeping_of judge = judge.book.keeping
 
 -- whether a line came to the outcome at this index
 abbrev pub is_at_place : ℕ → Judged → Bool
-is_at_place place line = place_of (outcome_of line) == place
+is_at_place place line = outcome_index (outcome_of line) == place
 
 -- At each index stands how many lines came to the outcome there.
 pub record AreCounts (counts : List ℕ) (lines : List Judged) : Type 0 where

@@ -9,7 +9,7 @@ ghost use Rattle.ais_messages.specs.declared.message.Decoded.TheVariants as deco
 ghost use Rattle.aivdm.specs.PayloadBits.{bits_of};
 ghost use Rattle.scenario.specs.ScenarioValues.{IsInRange};
 ghost use Rattle.scenario.specs.declared.values.Scenario.{Scenario};
-ghost use Rattle.tracks.specs.AcceptedReports.{Numbers};
+ghost use Rattle.tracks.specs.AcceptedReports.{JudgingNumbers};
 ghost use Rattle.tracks.specs.Standing.{StandsFor as BookStandsFor};
 ghost use Rattle.tracks.specs.VesselsHeld.{Sent, entry_of, held_of};
 ghost use Rattle.tracks.specs.declared.entry.BookFault.TheVariants.{TooManyVessels};
@@ -86,7 +86,7 @@ pub struct Judge {
 
 impl Judge {
     ghost use Rattle.std.specs.Prelude.{◌-◌, min, slice_set};
-    ghost use Rattle.judged_lines.specs.LineOutcomes.{place_of};
+    ghost use Rattle.judged_lines.specs.LineOutcomes.{outcome_index};
     ghost use Rattle.judged_lines.specs.Standing.{AreCounts, StandsFor, keeping_of};
     ghost use Rattle.judged_lines.specs.Inner.JudgeState.{Enters, GoesOn, heard_by, held_with};
 
@@ -139,8 +139,8 @@ impl Judge {
     /// Counts one line more, as far as a count goes.
     fn count(&mut self, outcome: LineOutcome)
         ensures { self.new ≡ record self.old {
-          counts = slice_set self.old.counts (place_of outcome)
-              (min (slice_index self.old.counts (place_of outcome) + 1) (2 ^ 64 - 1));
+          counts = slice_set self.old.counts (outcome_index outcome)
+              (min (slice_index self.old.counts (outcome_index outcome) + 1) (2 ^ 64 - 1));
         } }
     {
         let place = outcome.place();
@@ -150,9 +150,9 @@ impl Judge {
     /// Judges a message, and keeps what it tells.
     fn judge_message(&mut self, message: &Message, time: u64) -> Result<Judged, BookFault>
         requires { IsMessage message.now }
-        ensures judged { IfOk result (λ judged. (numbers : Numbers) (before : List Sent) → BookStandsFor self.old.book numbers before
+        ensures judged { IfOk result (λ judged. (numbers : JudgingNumbers) (before : List Sent) → BookStandsFor self.old.book numbers before
             → Enters numbers self.new judged before (Ok (record { message = message.now; time = time }))) }
-        ensures crowded { result ≡ Err TooManyVessels → (numbers : Numbers) (before : List Sent) → BookStandsFor self.old.book numbers before
+        ensures crowded { result ≡ Err TooManyVessels → (numbers : JudgingNumbers) (before : List Sent) → BookStandsFor self.old.book numbers before
             → greatest_held < held_with numbers before (Ok (record { message = message.now; time = time })) }
         ensures same { self.new ≡ record self.old { book = self.new.book } }
         ensures keeping { keeping_of self.new ≡ keeping_of self.old }
@@ -164,10 +164,10 @@ impl Judge {
     /// Judges what the bits of a message are read as.
     fn judge_decoded(&mut self, decoded: &Decoded, time: u64) -> Result<Judged, BookFault>
         requires { IfMessage decoded.now IsMessage }
-        ensures judged { IfOk result (λ judged. (numbers : Numbers) (before : List Sent) → BookStandsFor self.old.book numbers before
+        ensures judged { IfOk result (λ judged. (numbers : JudgingNumbers) (before : List Sent) → BookStandsFor self.old.book numbers before
             → length (held_of numbers before) ≤ greatest_held
             → Enters numbers self.new judged before (sent_decoded time decoded.now)) }
-        ensures crowded { result ≡ Err TooManyVessels → (numbers : Numbers) (before : List Sent) → BookStandsFor self.old.book numbers before
+        ensures crowded { result ≡ Err TooManyVessels → (numbers : JudgingNumbers) (before : List Sent) → BookStandsFor self.old.book numbers before
             → greatest_held < held_with numbers before (sent_decoded time decoded.now) }
         ensures same { self.new ≡ record self.old { book = self.new.book } }
         ensures keeping { keeping_of self.new ≡ keeping_of self.old }
@@ -182,9 +182,9 @@ impl Judge {
     #[inline(always)]
     fn judge_report(&mut self, report: &PositionReport, time: u64) -> Result<Judged, BookFault>
         requires { IsReport report.now }
-        ensures judged { IfOk result (λ judged. (numbers : Numbers) (before : List Sent) → BookStandsFor self.old.book numbers before
+        ensures judged { IfOk result (λ judged. (numbers : JudgingNumbers) (before : List Sent) → BookStandsFor self.old.book numbers before
             → Enters numbers self.new judged before (Ok (record { message = Position report.now; time = time }))) }
-        ensures crowded { result ≡ Err TooManyVessels → (numbers : Numbers) (before : List Sent) → BookStandsFor self.old.book numbers before
+        ensures crowded { result ≡ Err TooManyVessels → (numbers : JudgingNumbers) (before : List Sent) → BookStandsFor self.old.book numbers before
             → greatest_held < held_with numbers before (Ok (record { message = Position report.now; time = time })) }
         ensures same { self.new ≡ record self.old { book = self.new.book } }
         ensures keeping { keeping_of self.new ≡ keeping_of self.old }
@@ -202,10 +202,10 @@ impl Judge {
         time: u64,
     ) -> Result<Judged, BookFault>
         requires { IsSentence (fields_seen sentence.now) }
-        ensures judged { IfOk result (λ judged. (numbers : Numbers) (taken : List Taken) (messages : List Sent) → JoinerStandsFor self.old.joiner taken
+        ensures judged { IfOk result (λ judged. (numbers : JudgingNumbers) (taken : List Taken) (messages : List Sent) → JoinerStandsFor self.old.joiner taken
             → BookStandsFor self.old.book numbers messages → length (held_of numbers messages) ≤ greatest_held
             → GoesOn numbers self.new judged taken messages (Ok (record { sentence = fields_seen sentence.now; time = time }))) }
-        ensures crowded { result ≡ Err TooManyVessels → (numbers : Numbers) (taken : List Taken) (messages : List Sent)
+        ensures crowded { result ≡ Err TooManyVessels → (numbers : JudgingNumbers) (taken : List Taken) (messages : List Sent)
             → JoinerStandsFor self.old.joiner taken → BookStandsFor self.old.book numbers messages
             → greatest_held < held_with numbers messages (sent_heard taken (Ok (record { sentence = fields_seen sentence.now; time = time }))) }
         ensures same { self.new ≡ record self.old { joiner = self.new.joiner; book = self.new.book } }
@@ -221,10 +221,10 @@ impl Judge {
     #[inline(never)]
     fn judge_part(&mut self, sentence: &Sentence<'_>, time: u64) -> Result<Judged, BookFault>
         requires { IsSentence (fields_seen sentence.now) }
-        ensures judged { IfOk result (λ judged. (numbers : Numbers) (taken : List Taken) (messages : List Sent) → JoinerStandsFor self.old.joiner taken
+        ensures judged { IfOk result (λ judged. (numbers : JudgingNumbers) (taken : List Taken) (messages : List Sent) → JoinerStandsFor self.old.joiner taken
             → BookStandsFor self.old.book numbers messages → length (held_of numbers messages) ≤ greatest_held
             → GoesOn numbers self.new judged taken messages (Ok (record { sentence = fields_seen sentence.now; time = time }))) }
-        ensures crowded { result ≡ Err TooManyVessels → (numbers : Numbers) (taken : List Taken) (messages : List Sent)
+        ensures crowded { result ≡ Err TooManyVessels → (numbers : JudgingNumbers) (taken : List Taken) (messages : List Sent)
             → JoinerStandsFor self.old.joiner taken → BookStandsFor self.old.book numbers messages
             → greatest_held < held_with numbers messages (sent_heard taken (Ok (record { sentence = fields_seen sentence.now; time = time }))) }
         ensures same { self.new ≡ record self.old { joiner = self.new.joiner; book = self.new.book } }
@@ -246,10 +246,10 @@ impl Judge {
         time: u64,
     ) -> Result<Judged, BookFault>
         requires { IfSentence body.now (λ s. IsSentence (fields_seen s)) }
-        ensures judged { IfOk result (λ judged. (numbers : Numbers) (taken : List Taken) (messages : List Sent) → JoinerStandsFor self.old.joiner taken
+        ensures judged { IfOk result (λ judged. (numbers : JudgingNumbers) (taken : List Taken) (messages : List Sent) → JoinerStandsFor self.old.joiner taken
             → BookStandsFor self.old.book numbers messages → length (held_of numbers messages) ≤ greatest_held
             → GoesOn numbers self.new judged taken messages (heard_by self.old.times time (body_seen body.now))) }
-        ensures crowded { result ≡ Err TooManyVessels → (numbers : Numbers) (taken : List Taken) (messages : List Sent)
+        ensures crowded { result ≡ Err TooManyVessels → (numbers : JudgingNumbers) (taken : List Taken) (messages : List Sent)
             → JoinerStandsFor self.old.joiner taken → BookStandsFor self.old.book numbers messages
             → greatest_held < held_with numbers messages (sent_heard taken (heard_by self.old.times time (body_seen body.now))) }
         ensures same { self.new ≡ record self.old { joiner = self.new.joiner; book = self.new.book } }

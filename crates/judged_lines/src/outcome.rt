@@ -1,6 +1,6 @@
 //! What becomes of each line of a log.
 ghost use Rattle.std.specs.Prelude.{◌≡◌, ◌<◌};
-ghost use Rattle.judged_lines.specs.LineOutcomes.{name_of, place_of};
+ghost use Rattle.judged_lines.specs.LineOutcomes.{outcome_name, outcome_index};
 
 use ais_messages::MessageCause;
 use aivdm::LineCause;
@@ -132,7 +132,7 @@ impl LineOutcome {
 
     /// The name in the report.
     pub fn name(self) -> &'static str
-        ensures { result.now ≡ name_of self }
+        ensures { result.now ≡ outcome_name self }
     {
         match self {
             LineOutcome::Empty => "empty",
@@ -161,7 +161,7 @@ impl LineOutcome {
 
     /// The place in that order, counted from 0.
     pub fn place(self) -> usize
-        ensures place { result ≡ place_of self }
+        ensures place { result ≡ outcome_index self }
         ensures within { result < 21 }
     {
         self as usize

@@ -6,7 +6,7 @@ use Rattle.fixed_geometry.specs.Plane.{dot_of, norm2_of, turn_of}
 use Rattle.motion.specs.Steps.{RelativeMove}
 use Rattle.closest_approach.specs.Separation.{IsSeparated, IsSeparatedByEnds}
 use Rattle.closest_approach.proofs.Ends.{by_ends, from_ends}
-use Rattle.meetings.specs.Ahead.{end_of}
+use Rattle.meetings.specs.Ahead.{end_point}
 use Rattle.meetings.specs.Inner.Tests.{is_separated}
 
 record AreEnds (r2 s e a n m t : ℤ) : Type 0 where
@@ -33,13 +33,13 @@ true_test r2 s e a n m t h = grind (arith, ints, h.start, h.end, h.between)
 pub by_test : (step : RelativeMove) (r : ℕ) → IsTrue (is_separated step r) → IsSeparatedByEnds step r
 unfolding is_separated test
 by_test step r h =
-    let ends = test_true (pos (r * r)) (norm2_of step.p) (norm2_of (end_of step)) (dot_of step.p step.w) (norm2_of step.w)
+    let ends = test_true (pos (r * r)) (norm2_of step.p) (norm2_of (end_point step)) (dot_of step.p step.w) (norm2_of step.w)
     (pos (r * r) *ℤ norm2_of step.w) (turn_of step.p step.w *ℤ turn_of step.p step.w) h in
     record { start = ends.start; end = ends.end; between = ends.between }
 
 pub to_test : (step : RelativeMove) (r : ℕ) → IsSeparatedByEnds step r → IsTrue (is_separated step r)
 unfolding is_separated test
-to_test step r h = true_test (pos (r * r)) (norm2_of step.p) (norm2_of (end_of step)) (dot_of step.p step.w) (norm2_of step.w)
+to_test step r h = true_test (pos (r * r)) (norm2_of step.p) (norm2_of (end_point step)) (dot_of step.p step.w) (norm2_of step.w)
     (pos (r * r) *ℤ norm2_of step.w) (turn_of step.p step.w *ℤ turn_of step.p step.w)
     (record { start = h.start; end = h.end; between = h.between })
 

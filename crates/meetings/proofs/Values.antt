@@ -16,7 +16,7 @@ use Rattle.encounters.specs.declared.pair_step.PairStep.{PairStep}
 use Rattle.closest_approach.specs.Separation.{IsSeparated}
 use Rattle.meetings.specs.Ahead.{crosses_ahead}
 use Rattle.meetings.specs.Answers.{Kept, answer_of}
-use Rattle.meetings.specs.Atoms.{AreAnswers, IsClose, RankCounts, Tells, WhereKnown, metres}
+use Rattle.meetings.specs.Atoms.{AreAnswers, IsClose, RankCounts, Tells, WhereKnown, metres_in_tenths}
 use Rattle.meetings.specs.Inner.Tests.{ahead, class_index, direction_of, is_age, is_close, is_first, is_kind, is_opening, is_separated, meeting_of, on_port, on_port_by, other_direction_of, rank_counts, seen_as, step_of, told}
 use Rattle.meetings.specs.SinceBeginning.{age_of, changes_at, kind_of}
 use Rattle.meetings.specs.Terms.{Terms}
@@ -89,13 +89,13 @@ opening None = refl
 opening (Some pair) = tells (IsOpening pair.step) (is_opening pair.step) (λ h. grind (arith, ints, h)) (λ h. grind (arith, ints, h))
 
 clear : (m : ℕ) (seen : Option PairStep)
-    → WhereKnown seen (λ pair. Tells (IsSeparated pair.step (metres m))) (seen_as (λ step. told (is_separated step (metres m))) (step_of seen))
+    → WhereKnown seen (λ pair. Tells (IsSeparated pair.step (metres_in_tenths m))) (seen_as (λ step. told (is_separated step (metres_in_tenths m))) (step_of seen))
 clear m None = refl
-clear m (Some pair) = let h = separated_exactly pair.step (metres m) in tells (IsSeparated pair.step (metres m)) (is_separated pair.step (metres m)) h.0 h.1
+clear m (Some pair) = let h = separated_exactly pair.step (metres_in_tenths m) in tells (IsSeparated pair.step (metres_in_tenths m)) (is_separated pair.step (metres_in_tenths m)) h.0 h.1
 
-close : (m : ℕ) (seen : Option PairStep) → WhereKnown seen (λ pair. Tells (IsClose m pair)) (seen_as (λ step. told (is_close (metres m) step)) (step_of seen))
+close : (m : ℕ) (seen : Option PairStep) → WhereKnown seen (λ pair. Tells (IsClose m pair)) (seen_as (λ step. told (is_close (metres_in_tenths m) step)) (step_of seen))
 close m None = refl
-close m (Some pair) = tells (IsClose m pair) (is_close (metres m) pair.step) (λ h. grind (arith, ints, h)) (λ h. grind (arith, ints, h))
+close m (Some pair) = tells (IsClose m pair) (is_close (metres_in_tenths m) pair.step) (λ h. grind (arith, ints, h)) (λ h. grind (arith, ints, h))
 
 port_by : (direction bearing : Option ℕ) → WhereKnown direction (λ d. WhereKnown bearing (λ b. Tells (IsTrue (lies_to_port d b)))) (on_port_by direction bearing)
 port_by None bearing = refl

@@ -20,8 +20,8 @@ abbrev pub crosses_ahead_by : ℤ → ℤ → ℤ → ℤ → Bool
 crosses_ahead_by f0 g0 f1 g1 = crosses g0 g1 && has_sign_of (g0 *ℤ f1 -ℤ f0 *ℤ g1) (g0 -ℤ g1)
 
 -- where B is seen from A at the second tick
-abbrev pub end_of : RelativeMove → Point
-end_of step = record { x = step.p.x +ℤ step.w.x; y = step.p.y +ℤ step.w.y }
+abbrev pub end_point : RelativeMove → Point
+end_point step = record { x = step.p.x +ℤ step.w.x; y = step.p.y +ℤ step.w.y }
 
 -- with the line along u, the unit vector of B's direction, and A's points as they are seen from B
 abbrev pub crosses_ahead_along : Point → Point → Point → Bool
@@ -29,4 +29,4 @@ crosses_ahead_along u r0 r1 = crosses_ahead_by (dot_of u r0) (turn_of u r0) (dot
 
 -- A crosses the line ahead of B's bow within the step, where B has this direction.
 unfoldable pub crosses_ahead : ℕ → RelativeMove → Bool
-crosses_ahead direction step = crosses_ahead_along (unit_of direction) (opposite step.p) (opposite (end_of step))
+crosses_ahead direction step = crosses_ahead_along (unit_of direction) (opposite step.p) (opposite (end_point step))

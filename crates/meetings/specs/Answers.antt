@@ -6,7 +6,7 @@ use Rattle.mtl_formulas.specs.declared.atom.Atom.{Atom}
 use Rattle.mtl_formulas.specs.declared.atom.Atom.TheVariants.{Always, Never, Seen, Risk, Engaged, Begin, Overtaking, Overtaken, HeadOn, CrossingGives, CrossingStands, Passing, Unclassified, Age, Opening, Clear, Close, OtherOnPort, Ahead, Alters, Apparent, ToStarboard, ToPort, OtherApparent, RankGives, RankStands, BothPower}
 use Rattle.mtl_formulas.specs.declared.verdict.Verdict.{Verdict}
 use Rattle.mtl_formulas.specs.declared.verdict.Verdict.TheVariants.{No, Yes}
-use Rattle.meetings.specs.Atoms.{metres}
+use Rattle.meetings.specs.Atoms.{metres_in_tenths}
 use Rattle.meetings.specs.Inner.Tests.{ahead, is_age, is_close, is_first, is_kind, is_opening, is_separated, on_port, rank_counts, seen_as, told}
 use Rattle.encounters.specs.declared.changes.Changes.{Changes}
 use Rattle.meetings.specs.declared.atom_row.Meeting.{Meeting}
@@ -39,8 +39,8 @@ answer_of row Passing = told (is_kind class.Passing row.meeting)
 answer_of row Unclassified = told (is_kind class.Unclassified row.meeting)
 answer_of row (Age seconds) = told (is_age row.tick seconds row.meeting)
 answer_of row Opening = seen_as (λ step. told (is_opening step)) row.step
-answer_of row (Clear m) = seen_as (λ step. told (is_separated step (metres m))) row.step
-answer_of row (Close m) = seen_as (λ step. told (is_close (metres m) step)) row.step
+answer_of row (Clear m) = seen_as (λ step. told (is_separated step (metres_in_tenths m))) row.step
+answer_of row (Close m) = seen_as (λ step. told (is_close (metres_in_tenths m) step)) row.step
 answer_of row OtherOnPort = seen_as (on_port row.direction) row.step
 answer_of row Ahead = seen_as (ahead row.other_direction) row.step
 answer_of row Alters = row.changes.alters

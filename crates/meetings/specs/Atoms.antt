@@ -31,13 +31,13 @@ abbrev pub WhereKnown : {A : Type 0} → Option A → (A → Verdict → Type 0)
 WhereKnown None Says verdict = verdict ≡ Open
 WhereKnown (Some x) Says verdict = Says x verdict
 
--- a distance in metres, in tenths of a millimetre
-abbrev pub metres : ℕ → ℕ
-metres m = 10000 * m
+-- a distance in metres_in_tenths, in tenths of a millimetre
+abbrev pub metres_in_tenths : ℕ → ℕ
+metres_in_tenths m = 10000 * m
 
--- They are nearer than so many metres at the step's first tick.
+-- They are nearer than so many metres_in_tenths at the step's first tick.
 abbrev pub IsClose : ℕ → PairStep → Type 0
-IsClose m pair = norm2_of pair.step.p <ℤ pos (metres m * metres m)
+IsClose m pair = norm2_of pair.step.p <ℤ pos (metres_in_tenths m * metres_in_tenths m)
 
 -- They are engaged, and neither overtakes the other: an overtaking vessel keeps out of the way whatever her rank (Rules 13 and 18).
 pub record RankCounts (state : EngagementState) : Type 0 where
@@ -67,7 +67,7 @@ module _ (terms : Terms) (ranks : ByRank) (state : EngagementState) (seen : Opti
   IsAtomValue Unclassified verdict = Tells (IsOfKind class.Unclassified) verdict
   IsAtomValue (Age seconds) verdict = Tells (IsSomeAnd (age_of state) (λ age. seconds ≤ age * terms.tick)) verdict
   IsAtomValue Opening verdict = WhereKnown seen (λ pair. Tells (IsOpening pair.step)) verdict
-  IsAtomValue (Clear m) verdict = WhereKnown seen (λ pair. Tells (IsSeparated pair.step (metres m))) verdict
+  IsAtomValue (Clear m) verdict = WhereKnown seen (λ pair. Tells (IsSeparated pair.step (metres_in_tenths m))) verdict
   IsAtomValue (Close m) verdict = WhereKnown seen (λ pair. Tells (IsClose m pair)) verdict
   IsAtomValue OtherOnPort verdict = WhereKnown seen (λ pair. WhereKnown pair.a.direction (λ direction.
       WhereKnown (bearing_of pair.step.p) (λ bearing. Tells (IsTrue (lies_to_port direction bearing))))) verdict
@@ -102,5 +102,5 @@ pub record AreRankedRows (terms : Terms) (ranks : ℕ → ByRank) (steps : List 
 abbrev pub IsAtomRow : Terms → List (Option PairStep) → ℕ → (Atom → Verdict) → Type 0
 IsAtomRow terms = IsRankedRow terms all_power_driven
 
-abbrev pub AreRows : Terms → List (Option PairStep) → List (Atom → Verdict) → Type 0
-AreRows terms = AreRankedRows terms all_power_driven
+abbrev pub AreAtomRows : Terms → List (Option PairStep) → List (Atom → Verdict) → Type 0
+AreAtomRows terms = AreRankedRows terms all_power_driven

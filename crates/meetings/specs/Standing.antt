@@ -4,7 +4,7 @@ use Rattle.encounters.specs.Standing as encounters
 use Rattle.encounters.specs.declared.act.Act.{Act}
 use Rattle.encounters.specs.declared.pair_step.PairStep.{PairStep}
 use Rattle.meetings.specs.Answers.{Kept, answer_of}
-use Rattle.meetings.specs.Atoms.{AreRows}
+use Rattle.meetings.specs.Atoms.{AreAtomRows}
 use Rattle.meetings.specs.Terms.{Terms}
 use Rattle.meetings.specs.declared.pair.Pair.{Pair}
 
@@ -30,4 +30,4 @@ pub record Traced : Type 0 where
 pub record StandsFor (traced : Traced) (pair : Pair) (terms : Terms) (steps : List (Option PairStep)) : Type 0 where
   pub of_pair : traced.pair ≡ pair
   pub follows : Follows traced.following terms steps
-  pub rows : AreRows terms steps (map answer_of traced.rows)
+  pub rows : AreAtomRows terms steps (map answer_of traced.rows)

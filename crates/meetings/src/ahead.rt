@@ -3,7 +3,7 @@ ghost use Rattle.std.specs.Prelude.{◌≡◌, ◌^◌, ◌<◌, ◌≤◌, ◌-
 ghost use Rattle.fixed_geometry.specs.Plane.{dot_of, turn_of};
 ghost use Rattle.fixed_geometry.specs.Sizes.{IsBelow, IsWithin};
 ghost use Rattle.sectors.specs.Class.{opposite};
-ghost use Rattle.meetings.specs.Ahead.{crosses, crosses_ahead, crosses_ahead_along, crosses_ahead_by, end_of, has_sign_of};
+ghost use Rattle.meetings.specs.Ahead.{crosses, crosses_ahead, crosses_ahead_along, crosses_ahead_by, end_point, has_sign_of};
 
 use fixed_geometry::{Point, dot, turn, unit};
 use motion::Step;
@@ -69,7 +69,7 @@ fn opposite(r: Point) -> Point
 
 /// The displacement from A to B at the step's second tick.
 fn end(step: &Step) -> Point
-    ensures value { result ≡ end_of step.now }
+    ensures value { result ≡ end_point step.now }
     ensures small { IsBelow (2 ^ 35) result }
 {
     let p = step.p();

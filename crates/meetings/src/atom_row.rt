@@ -1,6 +1,6 @@
 //! What one step of an ordered pair answers to the atoms.
 ghost use Rattle.std.specs.Prelude.{◌≡◌, ◌*◌, ◌≤◌, nat_le};
-ghost use Rattle.meetings.specs.Atoms.{metres};
+ghost use Rattle.meetings.specs.Atoms.{metres_in_tenths};
 ghost use Rattle.meetings.specs.Inner.Tests.{ahead, is_age, is_close, is_first, is_kind, is_opening, is_separated, on_port, rank_counts, seen_as, told};
 
 use crate::ahead::crosses_ahead;
@@ -66,7 +66,7 @@ pub(crate) fn told(holds: bool) -> Verdict
 /// A distance in metres, in tenths of a millimetre.
 fn tenths(m: u32) -> u64
     requires { m ≤ 100000 }
-    ensures value { result ≡ metres m }
+    ensures value { result ≡ metres_in_tenths m }
     ensures small { result ≤ 1000000000 }
 {
     10_000 * u64::from(m)
@@ -84,7 +84,7 @@ impl AtomRow {
     #[inline(never)]
     fn clear(&self, m: u32) -> Verdict
         requires { m ≤ 100000 }
-        ensures { result ≡ seen_as (λ step. told (is_separated step (metres m))) self.now.step }
+        ensures { result ≡ seen_as (λ step. told (is_separated step (metres_in_tenths m))) self.now.step }
     {
         match &self.step {
             None => Verdict::Open,
@@ -94,7 +94,7 @@ impl AtomRow {
 
     fn close(&self, m: u32) -> Verdict
         requires { m ≤ 100000 }
-        ensures { result ≡ seen_as (λ step. told (is_close (metres m) step)) self.now.step }
+        ensures { result ≡ seen_as (λ step. told (is_close (metres_in_tenths m) step)) self.now.step }
     {
         let r = u128::from(tenths(m));
         match &self.step {

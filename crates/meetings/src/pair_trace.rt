@@ -3,7 +3,7 @@ ghost use Rattle.std.specs.Prelude.{ℕ, ◌≡◌, ◌<◌, ◌^◌, ◌++◌, 
 ghost use Rattle.encounters.specs.Directions.{HaveDirections};
 ghost use Rattle.encounters.specs.Risk.{IsDetect};
 ghost use Rattle.encounters.specs.declared.pair_step.PairStep.{PairStep};
-ghost use Rattle.meetings.specs.Atoms.{AreRows};
+ghost use Rattle.meetings.specs.Atoms.{AreAtomRows};
 ghost use Rattle.meetings.specs.Answers.{answer_of};
 ghost use Rattle.meetings.specs.Standing.{StandsFor};
 ghost use Rattle.meetings.specs.Terms.{Terms};
@@ -64,7 +64,7 @@ impl PairTrace {
     /// The rows of the steps, one a step: each answers every atom by its value at that step.
     pub fn rows(&self) -> &[AtomRow]
         ensures { (pair : Pair) (terms : Terms) (steps : List (Option PairStep)) →
-            StandsFor self.now pair terms steps → AreRows terms steps (map answer_of result.now) }
+            StandsFor self.now pair terms steps → AreAtomRows terms steps (map answer_of result.now) }
     {
         &self.rows
     }

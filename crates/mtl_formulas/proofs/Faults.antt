@@ -7,7 +7,7 @@ use Rattle.mtl_formulas.specs.declared.postfix.PostfixItem.{PostfixItem}
 use Rattle.mtl_formulas.specs.declared.postfix.Expected.{Expected}
 use Rattle.mtl_formulas.specs.FormulaTree.{FormulaTree}
 use Rattle.mtl_formulas.specs.FormulaTokens.{kinds}
-use Rattle.mtl_formulas.specs.FormulaGrammar.{IsFormula, IsBeginning}
+use Rattle.mtl_formulas.specs.FormulaGrammar.{IsFormula, BeginsFormula}
 use Rattle.mtl_formulas.specs.FormulaReading.{IsFirstWrong, IsUnfinished}
 use Rattle.mtl_formulas.specs.Inner.Postfix.{After, postfix_of, taken, left_with, all_left_out, or_fault, read_before, read_on, read, at_start}
 use Rattle.mtl_formulas.proofs.ParserLoops.{left_with-none, left_with-twice}
@@ -112,7 +112,7 @@ reached_more xs σ t a h is = record {
       ∙ left_with-twice h.written a.1 (run a.0 ys)));
 }
 
-reached_begins : (xs : List Token) (σ : List Expected) → Reached xs σ → IsBeginning xs
+reached_begins : (xs : List Token) (σ : List Expected) → Reached xs σ → BeginsFormula xs
 reached_begins xs σ h =
     let (ys, c, g) = all_completed σ [] in
     let (d, whole) = h.sound ys c g in
@@ -120,7 +120,7 @@ reached_begins xs σ h =
     (ys, t, p)
 
 -- With a token that is not taken no formula begins.
-reached_wrong : (xs : List Token) (σ : List Expected) (t : Token) → Reached xs σ → taken t σ ≡ None → IsBeginning (xs ++ t ∷ []) → ⊥
+reached_wrong : (xs : List Token) (σ : List Expected) (t : Token) → Reached xs σ → taken t σ ≡ None → BeginsFormula (xs ++ t ∷ []) → ⊥
 reached_wrong xs σ t h none b =
     let (more, f, p) = b in
     let some : run at_start ((xs ++ t ∷ []) ++ more) ≡ Some (postfix_of f) = run-formula ((xs ++ t ∷ []) ++ more) f p in
@@ -152,7 +152,7 @@ Stops end ps index = IsFirstWrong ps index ⊎ IsUnfinished ps × (index ≡ end
 kinds-append : (xs ys : List IndexedToken) → kinds (xs ++ ys) ≡ kinds xs ++ kinds ys
 kinds-append xs ys = map-append (λ (p : IndexedToken). p.token) xs ys
 
-beginning_front : (xs ys : List Token) → IsBeginning (xs ++ ys) → IsBeginning xs
+beginning_front : (xs ys : List Token) → BeginsFormula (xs ++ ys) → BeginsFormula xs
 beginning_front xs ys b = let (more, f, p) = b in (ys ++ more, f, rw append_assoc at p)
 
 err_is : (p q : ℕ) → (let r : Result (List PostfixItem) ℕ = Err p in r ≡ Err q) → q ≡ p
@@ -196,7 +196,7 @@ read_stops end before σ (p ∷ ps) index h is = by_cases (taken p.token σ) ref
 
 -- Where the tokens stop, reading answers that index.
 stop_read : (end : ℕ) (xs : List Token) (σ : List Expected) (before : List IndexedToken) (w : IndexedToken) (after : List IndexedToken) →
-    Reached xs σ → IsBeginning (xs ++ kinds before) → (IsBeginning ((xs ++ kinds before) ++ w.token ∷ []) → ⊥) → read end σ (before ++ w ∷ after) ≡ Err w.index
+    Reached xs σ → BeginsFormula (xs ++ kinds before) → (BeginsFormula ((xs ++ kinds before) ++ w.token ∷ []) → ⊥) → read end σ (before ++ w ∷ after) ≡ Err w.index
 stop_read end xs σ [] w after h right none = by_cases (taken w.token σ) refl
   where
     by_cases : (o : Option After) → taken w.token σ ≡ o → read_on w.index o (λ next. read end next after) ≡ Err w.index
@@ -209,15 +209,15 @@ stop_read end xs σ (b ∷ before) w after h right none =
     regrouped = append_assoc xs (b.token ∷ []) (kinds before)
 
     by_cases : (o : Option After) → taken b.token σ ≡ o →
-        ((next : List Expected) → Reached (xs ++ b.token ∷ []) next → IsBeginning ((xs ++ b.token ∷ []) ++ kinds before) →
-        (IsBeginning (((xs ++ b.token ∷ []) ++ kinds before) ++ w.token ∷ []) → ⊥) → read end next (before ++ w ∷ after) ≡ Err w.index) →
+        ((next : List Expected) → Reached (xs ++ b.token ∷ []) next → BeginsFormula ((xs ++ b.token ∷ []) ++ kinds before) →
+        (BeginsFormula (((xs ++ b.token ∷ []) ++ kinds before) ++ w.token ∷ []) → ⊥) → read end next (before ++ w ∷ after) ≡ Err w.index) →
         read_on b.index o (λ next. read end next (before ++ w ∷ after)) ≡ Err w.index
     by_cases None e rest = absurd (reached_wrong xs σ b.token h e (beginning_front (xs ++ b.token ∷ []) (kinds before) (rw regrouped right)))
     by_cases (Some a) e rest =
         ap (read_before a.1) (rest a.0 (reached_more xs σ b.token a h e) (rw regrouped right) (rw regrouped none))
 
 end_read : (end : ℕ) (xs : List Token) (σ : List Expected) (ps : List IndexedToken) →
-    Reached xs σ → IsBeginning (xs ++ kinds ps) → ((t : FormulaTree) → IsFormula (xs ++ kinds ps) t → ⊥) → read end σ ps ≡ Err end
+    Reached xs σ → BeginsFormula (xs ++ kinds ps) → ((t : FormulaTree) → IsFormula (xs ++ kinds ps) t → ⊥) → read end σ ps ≡ Err end
 end_read end xs σ [] h right none = by_cases (all_left_out σ) refl
   where
     by_cases : (o : Option (List PostfixItem)) → all_left_out σ ≡ o → or_fault end o ≡ Err end
@@ -229,7 +229,7 @@ end_read end xs σ (b ∷ ps) h right none = by_cases (taken b.token σ) refl (�
     regrouped = append_assoc xs (b.token ∷ []) (kinds ps)
 
     by_cases : (o : Option After) → taken b.token σ ≡ o →
-        ((next : List Expected) → Reached (xs ++ b.token ∷ []) next → IsBeginning ((xs ++ b.token ∷ []) ++ kinds ps) →
+        ((next : List Expected) → Reached (xs ++ b.token ∷ []) next → BeginsFormula ((xs ++ b.token ∷ []) ++ kinds ps) →
         ((t : FormulaTree) → IsFormula ((xs ++ b.token ∷ []) ++ kinds ps) t → ⊥) → read end next ps ≡ Err end) →
         read_on b.index o (λ next. read end next ps) ≡ Err end
     by_cases None e rest = absurd (reached_wrong xs σ b.token h e (beginning_front (xs ++ b.token ∷ []) (kinds ps) (rw regrouped right)))

@@ -17,7 +17,7 @@ use Rattle.mtl_formulas.specs.declared.tokens.Measure.TheVariants as measures
 use Rattle.mtl_formulas.specs.declared.tokens.Token.{Token}
 use Rattle.mtl_formulas.specs.declared.tokens.Token.TheVariants as tokens
 use Rattle.mtl_formulas.specs.declared.tokens.IndexedToken.{IndexedToken}
-use Rattle.mtl_formulas.specs.AtomWords.{word_of, number_of}
+use Rattle.mtl_formulas.specs.AtomWords.{word_of, atom_number}
 use Rattle.mtl_formulas.specs.FormulaTree.{FormulaTree, leaf, negation, pair, span, link}
 use Rattle.mtl_formulas.specs.FormulaMeasures.{IsValidAtom, HasValidParts}
 use Rattle.mtl_formulas.specs.FormulaTokens.{is_letter, measured, plain_atoms, measure_token, word_token_from, word_token, number_token, sign_token, front_run, run_token, tokens_from, tokens_of, kinds}
@@ -51,7 +51,7 @@ Good tick (link kind l u s t) = GoodBounds tick l u × (Good tick s × Good tick
 -- a token that is no refused number, and no atom's word without its number
 abbrev pub Accepted : ℕ → List Token → Token → Type 0
 Accepted tick before (tokens.Number n) = is_refused tick before n ≡ false
-Accepted tick before (tokens.Atom a) = number_of a ≡ None
+Accepted tick before (tokens.Atom a) = atom_number a ≡ None
 Accepted tick before _ = Unit {0}
 
 abbrev pub AllAccepted : ℕ → List Token → List Token → Type 0
@@ -69,7 +69,7 @@ bounds_good tick l u before h k = record {
   ordered = grind (arith, nat_tests);
 }
 
-plain_good : (tick : ℕ) (a : Atom) → number_of a ≡ None → GoodAtom tick a
+plain_good : (tick : ℕ) (a : Atom) → atom_number a ≡ None → GoodAtom tick a
 plain_good tick (Age n) h = cc
 plain_good tick (Clear n) h = cc
 plain_good tick (Close n) h = cc
@@ -140,12 +140,12 @@ good_valid tick (link kind l u s t) some h =
 
 -- no word of an atom that has a number stands as an atom
 abbrev pub Plain : Token → Type 0
-Plain (tokens.Atom a) = number_of a ≡ None
+Plain (tokens.Atom a) = atom_number a ≡ None
 Plain _ = Unit {0}
 
 abbrev AllPlainAtoms : List Atom → Type 0
 AllPlainAtoms [] = Unit {0}
-AllPlainAtoms (a ∷ more) = (number_of a ≡ None) × AllPlainAtoms more
+AllPlainAtoms (a ∷ more) = (atom_number a ≡ None) × AllPlainAtoms more
 
 record IsPlain (t : Token) : Type 0 where
   plain : Plain t

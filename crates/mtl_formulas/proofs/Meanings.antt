@@ -10,7 +10,7 @@ use Rattle.mtl_formulas.specs.FormulaTree.{FormulaTree, tree_of}
 use Rattle.mtl_formulas.specs.FormulaMeasures.{depth_of, node_count, reach_of, HasValidParts, IsValid}
 use Rattle.mtl_formulas.specs.FormulaTokens.{tokens_of, kinds}
 use Rattle.mtl_formulas.specs.FormulaGrammar.{IsFormula}
-use Rattle.mtl_formulas.specs.FormulaReading.{refused_indices, in_positions, IsReading, IsSyntaxFault, IsNumberFault, IsWithinLimits, IsTooLarge, Meaning, tree, syntax_fault, number_fault, size_fault, IsMeaning, HasOneMeaning, answered}
+use Rattle.mtl_formulas.specs.FormulaReading.{refused_indices, in_positions, ReadsAs, IsSyntaxFault, IsNumberFault, IsWithinLimits, IsTooLarge, Meaning, tree, syntax_fault, number_fault, size_fault, IsMeaning, HasOneMeaning, answered}
 use Rattle.mtl_formulas.specs.Inner.Postfix.{postfix_of, read, at_start, Arranges}
 use Rattle.mtl_formulas.specs.Inner.Building.{Builds}
 use Rattle.mtl_formulas.proofs.Faults.{read_formula, formula_read, read_fault, fault_read}
@@ -22,10 +22,10 @@ abbrev pub outcome : List ℕ → Result (List PostfixItem) ℕ
 outcome text = read (length text) at_start (tokens_of text)
 
 module _ (text : List ℕ) (tick : ℕ) where
-  reading_outcome : (t : FormulaTree) (h : IsReading text tick t) → outcome text ≡ Ok (postfix_of h.written)
+  reading_outcome : (t : FormulaTree) (h : ReadsAs text tick t) → outcome text ≡ Ok (postfix_of h.written)
   reading_outcome t h = formula_read (length text) (tokens_of text) h.written h.formula
 
-  same_reading : (s t : FormulaTree) → IsReading text tick s → IsReading text tick t → s ≡ t
+  same_reading : (s t : FormulaTree) → ReadsAs text tick s → ReadsAs text tick t → s ≡ t
   same_reading s t h k =
       let first = reading_outcome s h in
       let second = reading_outcome t k in
@@ -112,7 +112,7 @@ module _ (text : List ℕ) (tick : ℕ) where
 
 module _ (text : List ℕ) (tick : ℕ) where
   -- a formula without a refused number has a meaning, whatever its size
-  sized_meaning : (t : FormulaTree) → IsReading text tick t → (m : Meaning) × IsMeaning text tick m
+  sized_meaning : (t : FormulaTree) → ReadsAs text tick t → (m : Meaning) × IsMeaning text tick m
   sized_meaning t reading = by_depth (cases_lt 64 (depth_of t))
     where
       by_reach : depth_of t ≤ 64 → node_count t ≤ 256 → (7200 < reach_of t) ⊎ (reach_of t ≤ 7200) → (m : Meaning) × IsMeaning text tick m

@@ -23,7 +23,7 @@ use Rattle.mtl_formulas.specs.FormulaTree.{FormulaTree, leaf, negation, pair, sp
 use Rattle.mtl_formulas.specs.FormulaText.{atom_text, pair_sign, span_letter, link_letter, bounds_text, text_of}
 use Rattle.mtl_formulas.specs.FormulaTokens.{is_letter, is_word_byte, word_token, tokens_of, kinds}
 use Rattle.mtl_formulas.specs.FormulaGrammar.{unary, formula, bounds, Phrase, plain, numbered, negated, over, grouped, alone, linked, one_conjunct, conjoined, one_disjunct, disjoined, unconditional, conditional, IsFormula}
-use Rattle.mtl_formulas.specs.FormulaReading.{is_refused_time, is_refused, is_refused_token, refused_indices, in_positions, IsReading}
+use Rattle.mtl_formulas.specs.FormulaReading.{is_refused_time, is_refused, is_refused_token, refused_indices, in_positions, ReadsAs}
 use Rattle.mtl_formulas.proofs.GoodNumbers.{GoodTime, GoodAtom, GoodBounds, Good, formula_good}
 use Rattle.mtl_formulas.proofs.TokenRuns.{text_kinds, space_kinds, run_kinds, word_kinds, Stops, atom_kinds, number_kinds}
 
@@ -218,7 +218,7 @@ written_kinds tick (link kind l u s t) rest h stop =
     ∙ ap (printed t) (run_kinds 41 [] rest refl refl))))))))
 
 -- A formula that was read is read again from its printed text.
-pub read_again : (tick : ℕ) (t : FormulaTree) (text : List ℕ) → 1 ≤ tick → IsReading text tick t → IsReading (text_of tick t) tick t
+pub read_again : (tick : ℕ) (t : FormulaTree) (text : List ℕ) → 1 ≤ tick → ReadsAs text tick t → ReadsAs (text_of tick t) tick t
 read_again tick t text some h =
     let good = formula_good tick text h.written h.formula h.numbers in
     let same : text_of tick t ≡ written h.written = ap (text_of tick) h.positions ∙ text_is tick h.written some good in

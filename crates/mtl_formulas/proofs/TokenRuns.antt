@@ -14,7 +14,7 @@ use Rattle.mtl_formulas.specs.declared.atom.Atom.{Atom}
 use Rattle.mtl_formulas.specs.declared.atom.Atom.TheVariants.{Always, Never, Seen, Risk, Engaged, Begin, Overtaking, Overtaken, HeadOn, CrossingGives, CrossingStands, Passing, Unclassified, Age, Opening, Clear, Close, OtherOnPort, Ahead, Alters, Apparent, ToStarboard, ToPort, OtherApparent, RankGives, RankStands, BothPower}
 use Rattle.mtl_formulas.specs.declared.tokens.Token.{Token}
 use Rattle.mtl_formulas.specs.declared.tokens.Token.TheVariants as tokens
-use Rattle.mtl_formulas.specs.AtomWords.{word_of, number_of}
+use Rattle.mtl_formulas.specs.AtomWords.{word_of, atom_number}
 use Rattle.mtl_formulas.specs.FormulaTokens.{is_letter, is_word_byte, word_token, front_run, run_token, tokens_from, kinds}
 use Rattle.mtl_formulas.proofs.TokenSteps.{tokens_behind}
 
@@ -79,7 +79,7 @@ word_kinds b bs rest letter all stop =
     ∙ ap (λ (t : Token). t ∷ text_kinds rest) (when_true (is_letter b) (word_token (b ∷ bs)) _ letter)
 
 -- the word of an atom without a number
-pub atom_kinds : (a : Atom) (rest : List ℕ) → number_of a ≡ None → Stops is_word_byte rest → text_kinds (word_of a ++ rest) ≡ tokens.Atom a ∷ text_kinds rest
+pub atom_kinds : (a : Atom) (rest : List ℕ) → atom_number a ≡ None → Stops is_word_byte rest → text_kinds (word_of a ++ rest) ≡ tokens.Atom a ∷ text_kinds rest
 atom_kinds Always rest h stop = word_kinds 116 (codes "rue") rest refl refl stop
 atom_kinds Never rest h stop = word_kinds 102 (codes "alse") rest refl refl stop
 atom_kinds Seen rest h stop = word_kinds 115 (codes "een") rest refl refl stop

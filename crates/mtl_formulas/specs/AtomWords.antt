@@ -33,8 +33,8 @@ word_of RankStands = codes "rank_stands"
 word_of BothPower = codes "both_power"
 
 -- the number of an atom that has one
-abbrev pub number_of : Atom → Option ℕ
-number_of (Age seconds) = Some seconds
-number_of (Clear metres) = Some metres
-number_of (Close metres) = Some metres
-number_of _ = None
+abbrev pub atom_number : Atom → Option ℕ
+atom_number (Age seconds) = Some seconds
+atom_number (Clear metres) = Some metres
+atom_number (Close metres) = Some metres
+atom_number _ = None

@@ -57,5 +57,5 @@ abbrev pub IsFormula : List Token → FormulaTree → Type 0
 IsFormula ts t = Phrase formula ts t []
 
 -- Some formula begins with these tokens.
-abbrev pub IsBeginning : List Token → Type 0
-IsBeginning ts = (more : List Token) × (t : FormulaTree) × IsFormula (ts ++ more) t
+abbrev pub BeginsFormula : List Token → Type 0
+BeginsFormula ts = (more : List Token) × (t : FormulaTree) × IsFormula (ts ++ more) t

@@ -10,7 +10,7 @@ use Rattle.mtl_formulas.specs.declared.tokens.IndexedToken.{IndexedToken}
 use Rattle.mtl_formulas.specs.FormulaTree.{FormulaTree, leaf, negation, pair, span, link, tree_of}
 use Rattle.mtl_formulas.specs.FormulaMeasures.{depth_of, node_count, reach_of}
 use Rattle.mtl_formulas.specs.FormulaTokens.{tokens_of, kinds}
-use Rattle.mtl_formulas.specs.FormulaGrammar.{IsFormula, IsBeginning}
+use Rattle.mtl_formulas.specs.FormulaGrammar.{IsFormula, BeginsFormula}
 
 -- Seconds are refused above 7200 and where they are no multiple of the tick.
 abbrev pub is_refused_time : ℕ → ℕ → Bool
@@ -45,7 +45,7 @@ in_positions tick (span kind l u t) = span kind (l / tick) (u / tick) (in_positi
 in_positions tick (link kind l u s t) = link kind (l / tick) (u / tick) (in_positions tick s) (in_positions tick t)
 
 -- The text is a formula without a refused number, and this is its tree, with the bounds in positions.
-pub record IsReading (text : List ℕ) (tick : ℕ) (t : FormulaTree) : Type 0 where
+pub record ReadsAs (text : List ℕ) (tick : ℕ) (t : FormulaTree) : Type 0 where
   pub written : FormulaTree
   pub formula : IsFormula (kinds (tokens_of text)) written
   pub numbers : refused_indices tick [] (tokens_of text) ≡ []
@@ -57,13 +57,13 @@ pub record IsFirstWrong (ps : List IndexedToken) (index : ℕ) : Type 0 where
   pub wrong : IndexedToken
   pub after : List IndexedToken
   pub parts : ps ≡ before ++ wrong ∷ after
-  pub right : IsBeginning (kinds before)
-  pub none : IsBeginning (kinds before ++ wrong.token ∷ []) → ⊥
+  pub right : BeginsFormula (kinds before)
+  pub none : BeginsFormula (kinds before ++ wrong.token ∷ []) → ⊥
   pub at : index ≡ wrong.index
 
 -- A formula begins with the tokens, but they are none.
 pub record IsUnfinished (ps : List IndexedToken) : Type 0 where
-  pub right : IsBeginning (kinds ps)
+  pub right : BeginsFormula (kinds ps)
   pub none : (t : FormulaTree) → IsFormula (kinds ps) t → ⊥
 
 -- The text is no formula: the index of the first wrong token, or the text's length where none is wrong.
@@ -91,10 +91,10 @@ pub data Meaning : Type 0 where
 
 -- what the text means at a tick
 abbrev pub IsMeaning : List ℕ → ℕ → Meaning → Type 0
-IsMeaning text tick (tree t) = IsReading text tick t × IsWithinLimits t
+IsMeaning text tick (tree t) = ReadsAs text tick t × IsWithinLimits t
 IsMeaning text tick (syntax_fault index) = IsSyntaxFault text index
 IsMeaning text tick (number_fault index) = IsNumberFault text tick index
-IsMeaning text tick size_fault = (t : FormulaTree) × IsReading text tick t × IsTooLarge t
+IsMeaning text tick size_fault = (t : FormulaTree) × ReadsAs text tick t × IsTooLarge t
 
 -- The text has a meaning, and no other: the tree of its formula, or one fault.
 pub record HasOneMeaning (text : List ℕ) (tick : ℕ) : Type 0 where

@@ -8,7 +8,7 @@ use Rattle.mtl_formulas.specs.declared.formula.SpanKind.{SpanKind}
 use Rattle.mtl_formulas.specs.declared.formula.SpanKind.TheVariants.{F, G, O, H}
 use Rattle.mtl_formulas.specs.declared.formula.LinkKind.{LinkKind}
 use Rattle.mtl_formulas.specs.declared.formula.LinkKind.TheVariants.{U, S}
-use Rattle.mtl_formulas.specs.AtomWords.{word_of, number_of}
+use Rattle.mtl_formulas.specs.AtomWords.{word_of, atom_number}
 use Rattle.mtl_formulas.specs.FormulaTree.{FormulaTree, leaf, negation, pair, span, link}
 
 -- the length of a tick, in seconds
@@ -21,7 +21,7 @@ argument_text (Some n) = codes "(" ++ decimal n ++ codes ")"
 
 -- the word, and the number in parentheses where there is one
 abbrev pub atom_text : Atom → List ℕ
-atom_text a = word_of a ++ argument_text (number_of a)
+atom_text a = word_of a ++ argument_text (atom_number a)
 
 abbrev pub pair_sign : PairKind → List ℕ
 pair_sign And = codes "&"

@@ -27,8 +27,8 @@ names_differ [] = true
 names_differ (file ∷ files) =
     list_all (λ other. not (bytes_eq file.0 other.0)) files && names_differ files
 
-abbrev pub HaveDifferentNames : Files → Type 0
-HaveDifferentNames files = IsTrue (names_differ files)
+abbrev pub FilesHaveDifferentNames : Files → Type 0
+FilesHaveDifferentNames files = IsTrue (names_differ files)
 
 -- A shelf gives no more bytes than the limit. Where it tells its files, it gives the whole content,
 -- and answers that it is too long only where it is longer.

@@ -3,7 +3,7 @@ ghost use Rattle.std.specs.Prelude.{◌≡◌, IsTrue, false, MatchOption, None,
 ghost use Rattle.outside.specs.Calls.{AreCallNumbers, faults_after, is_next_listed, with_one_more};
 ghost use Rattle.outside.specs.Causes.{one_more};
 ghost use Rattle.outside.specs.InMemory.{Answers};
-ghost use Rattle.outside.specs.Shelves.{content_of, FetchCause, Fetches, files_of, HaveDifferentNames};
+ghost use Rattle.outside.specs.Shelves.{content_of, FetchCause, Fetches, files_of, FilesHaveDifferentNames};
 
 use crate::schedule::Schedule;
 use crate::shelf::{Fetched, Shelf};
@@ -56,7 +56,7 @@ impl Model for PlainShelf {
 impl PlainShelf {
     /// Holds these files, each under a name of its own.
     pub fn new(files: Vec<(Word, Vec<u8>)>) -> PlainShelf
-        requires { HaveDifferentNames (files_of files.items) }
+        requires { FilesHaveDifferentNames (files_of files.items) }
         ensures files { result.files ≡ files_of files.items }
         ensures fetches { result.fetches ≡ 0 }
     {
@@ -114,7 +114,7 @@ impl MemoryShelf {
     ///
     /// `fails` are the numbers of the fetches that are to fail, from 0, in ascending order.
     pub fn new(files: Vec<(Word, Vec<u8>)>, fails: Vec<u64>) -> MemoryShelf
-        requires names { HaveDifferentNames (files_of files.items) }
+        requires names { FilesHaveDifferentNames (files_of files.items) }
         requires fails { AreCallNumbers fails.items }
         ensures files { result.files ≡ files_of files.items }
         ensures fails { result.calls ≡ record { fails = fails.items; made = 0 } }

@@ -15,7 +15,7 @@ use Rattle.motion.specs.declared.leg.Leg.{Leg}
 use Rattle.motion.specs.declared.leg.TickState.{TickState}
 use Rattle.planner.specs.Prediction.{point_after, predicted_state}
 use Rattle.predictions.specs.declared.changes.Change.{Change}
-use Rattle.scenario.specs.Ticks.{end_of, time_of_tick}
+use Rattle.scenario.specs.Ticks.{window_end, time_of_tick}
 use Rattle.scenario.specs.declared.values.Window.{Window}
 use Rattle.tracks.specs.declared.accepted.Accepted.{Accepted}
 use Rattle.own_ship.specs.KnownStates.{known_state}
@@ -76,20 +76,20 @@ module _ (track : Track) (is : IsTrack track) (earlier tick : ℕ) (next : tick 
 
   -- to a predicted state
   pub to_predicted : (after : TickState) → track.latest.time ≤ Is
-      → ((e : ℕ) → track.latest.time ≤ e → e ≤ Is → IsWithin ((Is - e) * 525763) (displacement (predicted_state track.latest track.changes.now (end_of track.window) e).point after.point))
+      → ((e : ℕ) → track.latest.time ≤ e → e ≤ Is → IsWithin ((Is - e) * 525763) (displacement (predicted_state track.latest track.changes.now (window_end track.window) e).point after.point))
       → IsShortMove (known_at track earlier) (Some after)
   to_predicted after from moves =
       let minute = is.window.tick_to in
       let later = a_tick_later in
       let legs = legs_known (option_copied track.legs) in
       elim (cases_lt Was track.latest.time) [
-        | inl lt ↦ (let latest-here = subst (λ (p : Point). IsWithin ((Is - track.latest.time) * 525763) (displacement p after.point)) (starts track.latest track.changes.now (end_of track.window)) (moves track.latest.time (omega arith) from) in
-            subst (λ (o : Option TickState). IsShortMove o (Some after)) (sym (known_before track.latest legs track.changes.now (end_of track.window) Was lt))
+        | inl lt ↦ (let latest-here = subst (λ (p : Point). IsWithin ((Is - track.latest.time) * 525763) (displacement p after.point)) (starts track.latest track.changes.now (window_end track.window)) (moves track.latest.time (omega arith) from) in
+            subst (λ (o : Option TickState). IsShortMove o (Some after)) (sym (known_before track.latest legs track.changes.now (window_end track.window) Was lt))
             (one_seen (state_at Was legs) after (λ before seen.
             through before.point track.latest.point after.point ((track.latest.time - Was) * 525763 + 2) ((Is - track.latest.time) * 525763)
             (is.comes Was before lt (omega arith) seen) latest-here (near Was track.latest.time Is track.window.tick lt from later minute))))
-        | inr ge ↦ subst (λ (o : Option TickState). IsShortMove o (Some after)) (sym (known_from track.latest legs track.changes.now (end_of track.window) Was ge))
-            (at_once (predicted_state track.latest track.changes.now (end_of track.window) Was).point after.point ((Is - Was) * 525763) (moves Was ge (omega arith)) (soon Was Is track.window.tick later minute))
+        | inr ge ↦ subst (λ (o : Option TickState). IsShortMove o (Some after)) (sym (known_from track.latest legs track.changes.now (window_end track.window) Was ge))
+            (at_once (predicted_state track.latest track.changes.now (window_end track.window) Was).point after.point ((Is - Was) * 525763) (moves Was ge (omega arith)) (soon Was Is track.window.tick later minute))
       ]
     where
       near : (t l u length : ℕ) → t < l → l ≤ u → u ≡ t + length → length ≤ 60 → ((l - t) * 525763 + 2) + (u - l) * 525763 < 2 ^ 25
@@ -104,7 +104,7 @@ module _ (track : Track) (is : IsTrack track) (earlier tick : ℕ) (next : tick 
       let minute = is.window.tick_to in
       let later = a_tick_later in
       let legs = legs_known (option_copied track.legs) in
-      subst (λ (o : Option TickState). IsShortMove o (state_at Is legs)) (sym (known_before track.latest legs track.changes.now (end_of track.window) Was (omega arith)))
+      subst (λ (o : Option TickState). IsShortMove o (state_at Is legs)) (sym (known_before track.latest legs track.changes.now (window_end track.window) Was (omega arith)))
       (two_seen (state_at Was legs) (state_at Is legs) (λ before after was now.
       at_once before.point after.point ((Is - Was) * 525763 + 2) (is.moves Was Is before after (omega arith) (omega arith) was now) (soon Was Is track.window.tick later minute)))
     where
@@ -131,7 +131,7 @@ pub none_seen : (time : ℕ) → state_at time [] ≡ None
 unfolding state_at
 none_seen time = refl
 
-pub later_tick : (window : Window) (k : ℕ) → end_of window ≤ time_of_tick window (window.ticks + k)
+pub later_tick : (window : Window) (k : ℕ) → window_end window ≤ time_of_tick window (window.ticks + k)
 later_tick window k = let more : (window.ticks + k) * window.tick ≡ window.ticks * window.tick + k * window.tick = add-mul window.ticks k window.tick in omega (arith, more)
 
 -- what is known of her behind now is what is predicted
@@ -139,4 +139,4 @@ pub known_ahead : (track : Track) → IsTrack track → (k : ℕ) → known_at t
 known_ahead track is k =
     let before = is.fresh.before in
     let later = later_tick track.window k in
-    known_from track.latest (legs_known (option_copied track.legs)) track.changes.now (end_of track.window) (time_of_tick track.window (track.window.ticks + k)) (omega arith)
+    known_from track.latest (legs_known (option_copied track.legs)) track.changes.now (window_end track.window) (time_of_tick track.window (track.window.ticks + k)) (omega arith)

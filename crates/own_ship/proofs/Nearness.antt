@@ -7,7 +7,7 @@ use Rattle.std.proofs.lemmas.List.{take_more}
 use Rattle.std.proofs.lemmas.List.Elements.{All-cons, All-head, All-nil, All-tail, filter_map-append}
 use Rattle.std.proofs.lemmas.List.Kept.{AllPairs-cons, AllPairs-filter}
 use Rattle.std.proofs.lemmas.Option.{get_or_from_slice_get, slice_get_within}
-use Rattle.tracks.specs.AcceptedReports.{Numbers}
+use Rattle.tracks.specs.AcceptedReports.{JudgingNumbers}
 use Rattle.tracks.specs.VesselsHeld.{Sent, held_of, is_held}
 use Rattle.tracks.specs.declared.accepted.Accepted.{Accepted}
 use Rattle.tracks.proofs.ForCallers.{each_is_held, held_in_order}
@@ -65,7 +65,7 @@ pub number_is : (gap now range : ℕ) (point : Point) (m : ℕ) (latest : Option
 number_is gap now range point m None v e = cc
 number_is gap now range point m (Some latest) v e = grind arith
 
-pub near_in_order : (numbers : Numbers) (messages : List Sent) (now range : ℕ) (point : Point) → AllPairs IsBefore (near_of numbers messages now range point)
+pub near_in_order : (numbers : JudgingNumbers) (messages : List Sent) (now range : ℕ) (point : Point) → AllPairs IsBefore (near_of numbers messages now range point)
 near_in_order numbers messages now range point =
     in_order (λ mmsi. near_by numbers.gap now range point mmsi (latest_of numbers messages mmsi)) (held_of numbers messages)
     (λ m v e. number_is numbers.gap now range point m (latest_of numbers messages m) v e) (held_in_order numbers messages)
@@ -83,7 +83,7 @@ all_kept P f (m ∷ ms) each = onto (f m) refl (all_kept P f ms (λ k d lt v e. 
     onto None is rest = rest
     onto (Some v) is rest = All-cons P v (filter_map f ms) (each 0 m (omega arith) v is) rest
 
-pub near_are_held : (numbers : Numbers) (messages : List Sent) (now range : ℕ) (point : Point)
+pub near_are_held : (numbers : JudgingNumbers) (messages : List Sent) (now range : ℕ) (point : Point)
     → All (λ (v : Near). is_held numbers messages v.mmsi ≡ true) (near_of numbers messages now range point)
 near_are_held numbers messages now range point =
     all_kept (λ (v : Near). is_held numbers messages v.mmsi ≡ true) (λ mmsi. near_by numbers.gap now range point mmsi (latest_of numbers messages mmsi)) (held_of numbers messages)
@@ -98,6 +98,6 @@ pub one_vessel_more : (f : ℕ → Option Near) (ms : List ℕ) (k m : ℕ) (o :
 one_vessel_more f ms k m o old new at is so_far pushed =
     pushed ∙ ap (λ (xs : List Near). xs ++ option_to_list o) so_far ∙ ap (λ (p : Option Near). filter_map f (take k ms) ++ option_to_list p) (sym is) ∙ sym (near_more f ms k m at)
 
-pub near_so : (numbers : Numbers) (gap time range : ℕ) (point : Point) (m : ℕ) (result : Option Near) (latest told : Option Accepted) → numbers.gap ≡ gap → told ≡ latest
+pub near_so : (numbers : JudgingNumbers) (gap time range : ℕ) (point : Point) (m : ℕ) (result : Option Near) (latest told : Option Accepted) → numbers.gap ≡ gap → told ≡ latest
     → result ≡ near_by gap time range point m told → near_by numbers.gap time range point m latest ≡ result
 near_so numbers gap time range point m result latest told same is value = sym (value ∙ ap₂ (λ (g : ℕ) (o : Option Accepted). near_by g time range point m o) (sym same) is)

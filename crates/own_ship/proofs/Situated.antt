@@ -20,10 +20,10 @@ use Rattle.planner.specs.Situations.{IsSituation, IsTarget, IsTracked, now_of, s
 use Rattle.planner.specs.declared.situation.Situation.{Situation}
 use Rattle.planner.specs.declared.situation.Target.{Target}
 use Rattle.scenario.specs.ScenarioValues.{IsInRange, IsOwnPart}
-use Rattle.scenario.specs.Ticks.{end_of}
+use Rattle.scenario.specs.Ticks.{window_end}
 use Rattle.scenario.specs.declared.own_part.OwnPart.{OwnPart}
 use Rattle.scenario.specs.declared.values.Scenario.{Scenario}
-use Rattle.tracks.specs.AcceptedReports.{Numbers}
+use Rattle.tracks.specs.AcceptedReports.{JudgingNumbers}
 use Rattle.tracks.specs.VesselsHeld.{Sent, legs_of}
 use Rattle.own_ship.specs.NearVessels.{point_now}
 use Rattle.own_ship.specs.PlanSituations.{past_of, target_of}
@@ -87,11 +87,11 @@ targets_in_order f (v ∷ vs) same h =
     omega arith))
     (targets_in_order f vs same (λ i j d lt within. h (suc i) (suc j) d (omega arith) (omega arith)))
 
-number_of_target : (numbers : Numbers) (messages : List Sent) (scenario : Scenario) (own : OwnPart) (v : Near) → (target_of numbers messages scenario.window own v).mmsi ≡ v.mmsi
+number_of_target : (numbers : JudgingNumbers) (messages : List Sent) (scenario : Scenario) (own : OwnPart) (v : Near) → (target_of numbers messages scenario.window own v).mmsi ≡ v.mmsi
 unfolding target_of
 number_of_target numbers messages scenario own v = refl
 
-pub in_order : (numbers : Numbers) (messages : List Sent) (scenario : Scenario) (own : OwnPart) (near : List Near) (targets : List Target) → AllPairs IsBefore near
+pub in_order : (numbers : JudgingNumbers) (messages : List Sent) (scenario : Scenario) (own : OwnPart) (near : List Near) (targets : List Target) → AllPairs IsBefore near
     → targets ≡ map (target_of numbers messages scenario.window own) near → AllPairs (λ (a b : Target). a.mmsi < b.mmsi) targets
 in_order numbers messages scenario own near targets h is =
     subst (AllPairs (λ (a b : Target). a.mmsi < b.mmsi)) (sym is)
@@ -113,10 +113,10 @@ pub record IsSituationOf (situation : Situation) : Type 0 where
   pub few : length situation.targets ≤ 64
   pub ascending : AllPairs (λ (a b : Target). a.mmsi < b.mmsi) situation.targets
 
-module _ (numbers : Numbers) (messages : List Sent) (scenario : Scenario) (own : OwnPart) (vessel : Near) (situation : Situation)
-    (in_range : IsInRange scenario) (part : IsOwnPart scenario.window.tick own) (grid : IsSized own.lattice) (fresh : IsFresh (end_of scenario.window) vessel.latest)
+module _ (numbers : JudgingNumbers) (messages : List Sent) (scenario : Scenario) (own : OwnPart) (vessel : Near) (situation : Situation)
+    (in_range : IsInRange scenario) (part : IsOwnPart scenario.window.tick own) (grid : IsSized own.lattice) (fresh : IsFresh (window_end scenario.window) vessel.latest)
     (past : situation.own_past ≡ past_of numbers messages scenario.window [] vessel) (known : IsKnownBelow (scenario.window.ticks + 1) (sighting situation.own_past))
-    (start : IsTickState (2222400000 + 3600 * 525763) situation.start) (there : situation.start.point ≡ point_now (end_of scenario.window) vessel.latest)
+    (start : IsTickState (2222400000 + 3600 * 525763) situation.start) (there : situation.start.point ≡ point_now (window_end scenario.window) vessel.latest)
     (lattice : situation.lattice ≡ own.lattice) (tick : situation.tick ≡ scenario.window.tick) where
   count : length situation.own_past ≡ scenario.window.ticks + 1
   count = ap length past ∙ length-map-range_with_len _ 0 (scenario.window.ticks + 1)
@@ -124,12 +124,12 @@ module _ (numbers : Numbers) (messages : List Sent) (scenario : Scenario) (own :
   now_is : now_of situation ≡ scenario.window.ticks
   now_is = let e = count in omega (arith, e)
 
-  seen_now : sighting situation.own_past scenario.window.ticks ≡ Some (predicted_state vessel.latest [] (end_of scenario.window) (end_of scenario.window))
+  seen_now : sighting situation.own_past scenario.window.ticks ≡ Some (predicted_state vessel.latest [] (window_end scenario.window) (window_end scenario.window))
   seen_now =
       let before = fresh.before in
       ap (λ (xs : List (Option TickState)). sighting xs scenario.window.ticks) past
       ∙ sighting_made _ (scenario.window.ticks + 1) scenario.window.ticks (omega arith)
-      ∙ known_from vessel.latest (legs_of numbers messages vessel.mmsi) [] (end_of scenario.window) (end_of scenario.window) before
+      ∙ known_from vessel.latest (legs_of numbers messages vessel.mmsi) [] (window_end scenario.window) (window_end scenario.window) before
 
   is_target : (target : Target) → IsTargetOver scenario.window.ticks (positions_of own.lattice) target → IsTarget situation target
   is_target target over = record {
@@ -159,7 +159,7 @@ module _ (numbers : Numbers) (messages : List Sent) (scenario : Scenario) (own :
         near = subst₂ (λ (g : Grid) (t : ℕ). IsTickState (7900640400 - positions_of g * t * 525763) situation.start) (sym lattice) (sym tick)
             (not_far (positions_of own.lattice * scenario.window.tick) situation.start part.plan_time start);
         tracked = subst (λ (n : ℕ). IsTracked n (starting situation.own_past situation.start n)) (sym now_is)
-            (own_tracked scenario.window.ticks situation.own_past situation.start (predicted_state vessel.latest [] (end_of scenario.window) (end_of scenario.window)) known
+            (own_tracked scenario.window.ticks situation.own_past situation.start (predicted_state vessel.latest [] (window_end scenario.window) (window_end scenario.window)) known
             (wider (2222400000 + 3600 * 525763) situation.start (omega arith) start) seen_now (sym there));
         is_detect = of.detect;
         few = of.few;

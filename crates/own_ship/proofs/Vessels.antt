@@ -16,9 +16,9 @@ use Rattle.planner.specs.declared.situation.Target.{Target}
 use Rattle.predictions.specs.PredictValues.{AreTimed}
 use Rattle.predictions.specs.declared.changes.Change.{Change}
 use Rattle.predictions.specs.declared.predictions.Predict.{Predict}
-use Rattle.scenario.specs.Ticks.{end_of, time_of_tick}
+use Rattle.scenario.specs.Ticks.{window_end, time_of_tick}
 use Rattle.scenario.specs.declared.values.Window.{Window}
-use Rattle.tracks.specs.AcceptedReports.{Numbers}
+use Rattle.tracks.specs.AcceptedReports.{JudgingNumbers}
 use Rattle.tracks.specs.Standing.{kept_legs}
 use Rattle.tracks.specs.VesselsHeld.{Sent, accepted_of, is_held, legs_of}
 use Rattle.tracks.specs.declared.accepted.Accepted.{Accepted}
@@ -39,7 +39,7 @@ some_report : (xs : List Accepted) (a : Accepted) → last_or None xs ≡ Some a
 some_report [] a e = cc
 some_report (x ∷ xs) a e = grind (arith, nat_tests)
 
-pub held : (numbers : Numbers) (messages : List Sent) (mmsi : ℕ) (a : Accepted) → latest_of numbers messages mmsi ≡ Some a → is_held numbers messages mmsi ≡ true
+pub held : (numbers : JudgingNumbers) (messages : List Sent) (mmsi : ℕ) (a : Accepted) → latest_of numbers messages mmsi ≡ Some a → is_held numbers messages mmsi ≡ true
 unfolding is_held
 held numbers messages mmsi a e = rw (some_report (accepted_of numbers messages mmsi) a e) refl
 
@@ -85,15 +85,15 @@ are_changes tick (p ∷ ps) mmsi h = by (p.mmsi == mmsi) (All-head (λ (q : Pred
 
 -- ---- her states
 
-module _ (numbers : Numbers) (messages : List Sent) (window : Window) (changes : List Change) (vessel : Near) (track : Track) (same : track.window ≡ window)
+module _ (numbers : JudgingNumbers) (messages : List Sent) (window : Window) (changes : List Change) (vessel : Near) (track : Track) (same : track.window ≡ window)
     (latest : track.latest ≡ vessel.latest) (predicted : track.changes.now ≡ changes) where
   pub past_is : legs_known (option_copied track.legs) ≡ legs_of numbers messages vessel.mmsi
       → map (known_at track) (range_with_len 0 (track.window.ticks + 1)) ≡ past_of numbers messages window changes vessel
-  past_is legs = λ i. map (λ k. known_state (latest i) (legs i) (predicted i) (end_of (same i)) (time_of_tick (same i) k))
+  past_is legs = λ i. map (λ k. known_state (latest i) (legs i) (predicted i) (window_end (same i)) (time_of_tick (same i) k))
       (range_with_len 0 ((same i).ticks + 1))
 
   pub ahead_is : (ticks : ℕ) → map (predicted_at track) (range_with_len 0 (ticks + 1)) ≡ ahead_of window ticks changes vessel
-  ahead_is ticks = λ i. map (λ k. predicted_state (latest i) (predicted i) (end_of (same i)) (time_of_tick (same i) ((same i).ticks + k)))
+  ahead_is ticks = λ i. map (λ k. predicted_state (latest i) (predicted i) (window_end (same i)) (time_of_tick (same i) ((same i).ticks + k)))
       (range_with_len 0 (ticks + 1))
 
 -- ---- one vessel more

@@ -6,7 +6,7 @@ use Rattle.fixed_geometry.specs.Plane.{norm2_of}
 use Rattle.fixed_geometry.specs.declared.point.Point.{Point}
 use Rattle.motion.specs.Displacement.{displacement}
 use Rattle.planner.specs.Prediction.{predicted_state}
-use Rattle.tracks.specs.AcceptedReports.{Numbers}
+use Rattle.tracks.specs.AcceptedReports.{JudgingNumbers}
 use Rattle.tracks.specs.VesselsHeld.{Sent, held_of}
 use Rattle.tracks.specs.declared.accepted.Accepted.{Accepted}
 use Rattle.own_ship.specs.Readiness.{is_fresh, latest_of}
@@ -27,7 +27,7 @@ near_by gap now range point mmsi (Some latest) =
     if is_fresh gap now latest && is_within range point (point_now now latest) then Some (record { mmsi = mmsi; latest = latest }) else None
 
 -- those near a point, in the order of their MMSIs
-abbrev pub near_of : Numbers → List Sent → ℕ → ℕ → Point → List Near
+abbrev pub near_of : JudgingNumbers → List Sent → ℕ → ℕ → Point → List Near
 near_of numbers messages now range point =
     filter_map (λ mmsi. near_by numbers.gap now range point mmsi (latest_of numbers messages mmsi)) (held_of numbers messages)
 

@@ -3,7 +3,7 @@ use Rattle.std.specs.Prelude.{◌≡◌, ◌≤◌, ◌<◌, List, length, All, 
 use Rattle.planner.specs.Situations.{IsSituation}
 use Rattle.scenario.specs.declared.own_part.OwnPart.{OwnPart}
 use Rattle.scenario.specs.declared.values.Scenario.{Scenario}
-use Rattle.tracks.specs.AcceptedReports.{Numbers}
+use Rattle.tracks.specs.AcceptedReports.{JudgingNumbers}
 use Rattle.tracks.specs.Standing.{BookValue, StandsFor}
 use Rattle.tracks.specs.VesselsHeld.{Sent, is_held}
 use Rattle.own_ship.specs.PlanSituations.{greatest_targets, own_readiness, situation_of, targets_near, vessels_near}
@@ -13,15 +13,15 @@ use Rattle.own_ship.specs.declared.readiness.Ready.{Ready}
 
 -- A book that stands for numbers and messages, whichever they are.
 abbrev pub StandsForSome : BookValue → Type 0
-StandsForSome book = (numbers : Numbers) × (messages : List Sent) × StandsFor book numbers messages
+StandsForSome book = (numbers : JudgingNumbers) × (messages : List Sent) × StandsFor book numbers messages
 
 -- She is ready, and more than 64 vessels are her targets.
-abbrev pub HasManyTargets : Numbers → List Sent → Scenario → OwnPart → Type 0
+abbrev pub HasManyTargets : JudgingNumbers → List Sent → Scenario → OwnPart → Type 0
 HasManyTargets numbers messages scenario own = (ready : Ready) × (own_readiness numbers messages scenario own ≡ Ok ready)
     × (greatest_targets < length (targets_near numbers messages scenario own ready))
 
 -- Own ship is ready, and has not too many targets: this is the situation in which her plan is sought.
-pub record IsPrepared (numbers : Numbers) (messages : List Sent) (scenario : Scenario) (own : OwnPart) (prepared : Prepared) : Type 0 where
+pub record IsPrepared (numbers : JudgingNumbers) (messages : List Sent) (scenario : Scenario) (own : OwnPart) (prepared : Prepared) : Type 0 where
   pub is_ready : own_readiness numbers messages scenario own ≡ Ok prepared.ready
   pub near : prepared.near.items ≡ vessels_near numbers messages scenario own prepared.ready
   -- each of them is held, for whoever writes of her

@@ -1,7 +1,7 @@
 -- Whether own ship can be planned for at now: her latest accepted report is at most a gap old, and tells a course and a speed.
 use Rattle.std.specs.Prelude.{ℕ, ◌+◌, Bool, ◌&&◌, nat_le, List, Option, Some, None, Result, Ok, Err, if◌then◌else◌}
 use Rattle.std.specs.List.{last_or}
-use Rattle.tracks.specs.AcceptedReports.{Numbers}
+use Rattle.tracks.specs.AcceptedReports.{JudgingNumbers}
 use Rattle.tracks.specs.VesselsHeld.{Sent, accepted_of}
 use Rattle.tracks.specs.declared.accepted.Accepted.{Accepted}
 use Rattle.own_ship.specs.declared.readiness.Ready.{Ready}
@@ -9,7 +9,7 @@ use Rattle.own_ship.specs.declared.readiness.Unready.{Unready}
 use Rattle.own_ship.specs.declared.readiness.Unready.TheVariants.{NoPoint, NoCourse, NoSpeed}
 
 -- a vessel's latest accepted report, by the messages
-abbrev pub latest_of : Numbers → List Sent → ℕ → Option Accepted
+abbrev pub latest_of : JudgingNumbers → List Sent → ℕ → Option Accepted
 latest_of numbers messages mmsi = last_or None (accepted_of numbers messages mmsi)
 
 -- A report is fresh at now where it came before then, and at most the gap before.
@@ -30,5 +30,5 @@ readiness_by gap now None = Err (NoPoint None)
 readiness_by gap now (Some latest) = if is_fresh gap now latest then with_course latest latest.report.cog else Err (NoPoint (Some latest.time))
 
 -- her readiness by the messages
-abbrev pub readiness_of : Numbers → List Sent → ℕ → ℕ → Result Ready Unready
+abbrev pub readiness_of : JudgingNumbers → List Sent → ℕ → ℕ → Result Ready Unready
 readiness_of numbers messages now mmsi = readiness_by numbers.gap now (latest_of numbers messages mmsi)

@@ -2,7 +2,7 @@
 ghost use Rattle.std.specs.Prelude.{ℕ, ◌≡◌, ◌≤◌, ◌+◌, ◌*◌, ◌^◌, List, IfOk, IfSome, Some, All};
 ghost use Rattle.std.specs.Option.{option_copied};
 ghost use Rattle.fixed_geometry.specs.Sizes.{IsWithin};
-ghost use Rattle.tracks.specs.AcceptedReports.{Numbers};
+ghost use Rattle.tracks.specs.AcceptedReports.{JudgingNumbers};
 ghost use Rattle.tracks.specs.Standing.{IsAccepted, StandsFor};
 ghost use Rattle.tracks.specs.VesselsHeld.{Sent};
 ghost use Rattle.tracks.specs.declared.keeping.Keeping.TheVariants.{Tracks};
@@ -87,7 +87,7 @@ impl Circle {
         requires point { IsWithin 7900640400 self.now.point }
         requires keeping { book.now.keeping ≡ Tracks }
         requires same_gap { book.now.numbers.gap ≡ gap }
-        ensures near { IfOk result (λ near. (numbers : Numbers) (messages : List Sent) → StandsFor book.now numbers messages
+        ensures near { IfOk result (λ near. (numbers : JudgingNumbers) (messages : List Sent) → StandsFor book.now numbers messages
             → near.items ≡ near_of numbers messages self.now.time self.now.range self.now.point) }
         ensures each { IfOk result (λ near. All (IsNear self.now.time book.now) near.items) }
     {

@@ -2,8 +2,8 @@
 ghost use Rattle.std.specs.Prelude.{ℕ, ◌≡◌, ◌≤◌, ◌<◌, ◌+◌, ◌*◌, List, length, All, IfOk, IfSome, IsSome, Err, Ok, Some};
 ghost use Rattle.motion.specs.TickStates.{IsTickState};
 ghost use Rattle.scenario.specs.ScenarioValues.{IsInRange, IsWindow};
-ghost use Rattle.scenario.specs.Ticks.{end_of};
-ghost use Rattle.tracks.specs.AcceptedReports.{Numbers};
+ghost use Rattle.scenario.specs.Ticks.{window_end};
+ghost use Rattle.tracks.specs.AcceptedReports.{JudgingNumbers};
 ghost use Rattle.tracks.specs.Standing.{StandsFor};
 ghost use Rattle.tracks.specs.VesselsHeld.{Sent};
 ghost use Rattle.tracks.specs.declared.keeping.Keeping.TheVariants.{Tracks};
@@ -79,17 +79,17 @@ fn surroundings(
     requires setting { IsSetting setting.now }
     requires gap { setting.now.book.now.numbers.gap ≡ gap }
     requires short { gap ≤ 3600 }
-    ensures ready { IfOk result (λ found. (numbers : Numbers) (messages : List Sent) → StandsFor setting.now.book.now numbers messages
-        → readiness_of numbers messages (end_of setting.now.window) setting.now.own.now.mmsi ≡ Ok found.0) }
-    ensures own { IfOk result (λ found. IsReady found.0 × IsNear (end_of setting.now.window) setting.now.book.now (own_near setting.now.own.now found.0)) }
-    ensures near { IfOk result (λ found. (numbers : Numbers) (messages : List Sent) → StandsFor setting.now.book.now numbers messages
-        → found.1.items ≡ near_of numbers messages (end_of setting.now.window) (metre * setting.now.own.now.range) (point_now (end_of setting.now.window) found.0.latest)) }
-    ensures each { IfOk result (λ found. All (IsNear (end_of setting.now.window) setting.now.book.now) found.1.items) }
+    ensures ready { IfOk result (λ found. (numbers : JudgingNumbers) (messages : List Sent) → StandsFor setting.now.book.now numbers messages
+        → readiness_of numbers messages (window_end setting.now.window) setting.now.own.now.mmsi ≡ Ok found.0) }
+    ensures own { IfOk result (λ found. IsReady found.0 × IsNear (window_end setting.now.window) setting.now.book.now (own_near setting.now.own.now found.0)) }
+    ensures near { IfOk result (λ found. (numbers : JudgingNumbers) (messages : List Sent) → StandsFor setting.now.book.now numbers messages
+        → found.1.items ≡ near_of numbers messages (window_end setting.now.window) (metre * setting.now.own.now.range) (point_now (window_end setting.now.window) found.0.latest)) }
+    ensures each { IfOk result (λ found. All (IsNear (window_end setting.now.window) setting.now.book.now) found.1.items) }
     ensures few { IfOk result (λ found. length (others_of setting.now.own.now.mmsi found.1.items) ≤ greatest_targets) }
-    ensures unready { (why : Unready) → result ≡ Err (PrepareFault.Unready why) → (numbers : Numbers) (messages : List Sent)
+    ensures unready { (why : Unready) → result ≡ Err (PrepareFault.Unready why) → (numbers : JudgingNumbers) (messages : List Sent)
         → StandsFor setting.now.book.now numbers messages
-        → readiness_of numbers messages (end_of setting.now.window) setting.now.own.now.mmsi ≡ Err why }
-    ensures many { result ≡ Err PrepareFault.TooManyTargets → (numbers : Numbers) (messages : List Sent)
+        → readiness_of numbers messages (window_end setting.now.window) setting.now.own.now.mmsi ≡ Err why }
+    ensures many { result ≡ Err PrepareFault.TooManyTargets → (numbers : JudgingNumbers) (messages : List Sent)
         → StandsFor setting.now.book.now numbers messages
         → HasMany numbers messages setting.now.window setting.now.own.now }
 {
@@ -120,8 +120,8 @@ fn is_sized(lattice: &Lattice)
 fn start_of(window: &Window, ready: &Ready) -> TickState
     requires window { IsWindow window.now }
     requires ready { IsReady ready.now }
-    requires fresh { IsFresh (end_of window.now) ready.now.latest }
-    ensures value { result ≡ record { point = point_now (end_of window.now) ready.now.latest; direction = Some ready.now.course; speed = Some ready.now.speed } }
+    requires fresh { IsFresh (window_end window.now) ready.now.latest }
+    ensures value { result ≡ record { point = point_now (window_end window.now) ready.now.latest; direction = Some ready.now.course; speed = Some ready.now.speed } }
     ensures state { IsTickState (2222400000 + 3600 * 525763) result }
 {
     let now = window.time(window.ticks);
@@ -140,11 +140,11 @@ pub fn prepare(alloc: Global, scenario: Scenario, book: &Book) -> Result<Prepare
     requires keeping { book.now.keeping ≡ Tracks }
     requires gap { book.now.numbers.gap ≡ scenario.log.gap }
     requires stands { StandsForSome book.now }
-    ensures prepared { IfOk result (λ prepared. (numbers : Numbers) (messages : List Sent) → StandsFor book.now numbers messages
+    ensures prepared { IfOk result (λ prepared. (numbers : JudgingNumbers) (messages : List Sent) → StandsFor book.now numbers messages
         → IfSome scenario.own (λ own. IsPrepared numbers messages scenario own prepared)) }
-    ensures unready { (why : Unready) → result ≡ Err (PrepareFault.Unready why) → (numbers : Numbers) (messages : List Sent)
+    ensures unready { (why : Unready) → result ≡ Err (PrepareFault.Unready why) → (numbers : JudgingNumbers) (messages : List Sent)
         → StandsFor book.now numbers messages → IfSome scenario.own (λ own. own_readiness numbers messages scenario own ≡ Err why) }
-    ensures many { result ≡ Err PrepareFault.TooManyTargets → (numbers : Numbers) (messages : List Sent)
+    ensures many { result ≡ Err PrepareFault.TooManyTargets → (numbers : JudgingNumbers) (messages : List Sent)
         → StandsFor book.now numbers messages → IfSome scenario.own (HasManyTargets numbers messages scenario) }
     ensures course { IfOk result (λ prepared. prepared.ready.course < 3600) }
     ensures speed { IfOk result (λ prepared. prepared.ready.speed ≤ 1022) }

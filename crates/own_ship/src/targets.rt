@@ -4,8 +4,8 @@ ghost use Rattle.std.specs.Option.{option_copied};
 ghost use Rattle.lattice.specs.Grids.{positions_of};
 ghost use Rattle.planner.specs.Prediction.{AreChanges};
 ghost use Rattle.planner.specs.Situations.{sighting};
-ghost use Rattle.scenario.specs.Ticks.{end_of};
-ghost use Rattle.tracks.specs.AcceptedReports.{Numbers};
+ghost use Rattle.scenario.specs.Ticks.{window_end};
+ghost use Rattle.tracks.specs.AcceptedReports.{JudgingNumbers};
 ghost use Rattle.tracks.specs.Lengths.{length_of};
 ghost use Rattle.tracks.specs.Standing.{StandsFor};
 ghost use Rattle.tracks.specs.VesselsHeld.{Sent, legs_of, statics_of};
@@ -34,13 +34,13 @@ impl Setting<'_> {
     /// The track of a vessel, of whom these changes are predicted.
     fn track<'b>(&'b self, vessel: &Near, changes: &'b [Change]) -> Track<'b>
         requires setting { IsSetting self.now }
-        requires near { IsNear (end_of self.now.window) self.now.book.now vessel.now }
+        requires near { IsNear (window_end self.now.window) self.now.book.now vessel.now }
         requires changes { AreChanges changes.now }
         ensures track { IsTrack result }
         ensures window { result.window ≡ self.now.window }
         ensures latest { result.latest ≡ vessel.now.latest }
         ensures changes { result.changes.now ≡ changes.now }
-        ensures legs { (numbers : Numbers) (messages : List Sent) → StandsFor self.now.book.now numbers messages
+        ensures legs { (numbers : JudgingNumbers) (messages : List Sent) → StandsFor self.now.book.now numbers messages
             → legs_known (option_copied result.legs) ≡ legs_of numbers messages vessel.now.mmsi }
     {
         self.book.comes_to_latest(vessel.mmsi);
@@ -55,8 +55,8 @@ impl Setting<'_> {
     /// How a vessel of whom no changes are predicted is known at the ticks up to now.
     pub(crate) fn past(&self, alloc: Global, vessel: &Near) -> Result<Past, Memory>
         requires setting { IsSetting self.now }
-        requires near { IsNear (end_of self.now.window) self.now.book.now vessel.now }
-        ensures value { IfOk result (λ past. (numbers : Numbers) (messages : List Sent) → StandsFor self.now.book.now numbers messages
+        requires near { IsNear (window_end self.now.window) self.now.book.now vessel.now }
+        ensures value { IfOk result (λ past. (numbers : JudgingNumbers) (messages : List Sent) → StandsFor self.now.book.now numbers messages
             → past ≡ past_of numbers messages self.now.window [] vessel.now) }
         ensures known { IfOk result (λ past. IsKnownBelow (self.now.window.ticks + 1) (sighting past)) }
     {
@@ -66,8 +66,8 @@ impl Setting<'_> {
     /// The radius of a vessel's domain, in tenths of a millimetre.
     fn radius(&self, vessel: &Near) -> u64
         requires setting { IsSetting self.now }
-        requires near { IsNear (end_of self.now.window) self.now.book.now vessel.now }
-        ensures value { (numbers : Numbers) (messages : List Sent) → StandsFor self.now.book.now numbers messages
+        requires near { IsNear (window_end self.now.window) self.now.book.now vessel.now }
+        ensures value { (numbers : JudgingNumbers) (messages : List Sent) → StandsFor self.now.book.now numbers messages
             → result ≡ metre * (self.now.own.now.base + self.now.own.now.lengths * length_of (statics_of messages vessel.now.mmsi).ship) }
         ensures domain { result < 2 ^ 31 }
     {
@@ -78,8 +78,8 @@ impl Setting<'_> {
     /// A vessel as a target.
     fn target(&self, alloc: Global, vessel: &Near) -> Result<Target, Memory>
         requires setting { IsSetting self.now }
-        requires near { IsNear (end_of self.now.window) self.now.book.now vessel.now }
-        ensures value { IfOk result (λ target. (numbers : Numbers) (messages : List Sent) → StandsFor self.now.book.now numbers messages
+        requires near { IsNear (window_end self.now.window) self.now.book.now vessel.now }
+        ensures value { IfOk result (λ target. (numbers : JudgingNumbers) (messages : List Sent) → StandsFor self.now.book.now numbers messages
             → target ≡ target_of numbers messages self.now.window self.now.own.now vessel.now) }
         ensures over { IfOk result (IsTargetOver self.now.window.ticks (positions_of self.now.own.now.lattice)) }
     {
@@ -96,8 +96,8 @@ impl Setting<'_> {
     /// The targets among the vessels near own ship: all but herself.
     pub(crate) fn targets(&self, alloc: Global, near: &[Near]) -> Result<Vec<Target>, Memory>
         requires setting { IsSetting self.now }
-        requires near { All (IsNear (end_of self.now.window) self.now.book.now) near.now }
-        ensures value { IfOk result (λ targets. (numbers : Numbers) (messages : List Sent) → StandsFor self.now.book.now numbers messages
+        requires near { All (IsNear (window_end self.now.window) self.now.book.now) near.now }
+        ensures value { IfOk result (λ targets. (numbers : JudgingNumbers) (messages : List Sent) → StandsFor self.now.book.now numbers messages
             → targets.items ≡ map (target_of numbers messages self.now.window self.now.own.now) (others_of self.now.own.now.mmsi near.now)) }
         ensures over { IfOk result (λ targets. All (IsTargetOver self.now.window.ticks (positions_of self.now.own.now.lattice)) targets.items) }
     {

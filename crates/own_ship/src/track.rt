@@ -6,7 +6,7 @@ ghost use Rattle.meetings.specs.Traces.{IsShortMove};
 ghost use Rattle.motion.specs.TickStates.{IsTickState};
 ghost use Rattle.planner.specs.Prediction.{predicted_state};
 ghost use Rattle.planner.specs.Situations.{sighting};
-ghost use Rattle.scenario.specs.Ticks.{end_of, time_of_tick};
+ghost use Rattle.scenario.specs.Ticks.{window_end, time_of_tick};
 ghost use Rattle.predictions.specs.declared.predictions.Predict.{Predict as PredictValue};
 ghost use Rattle.own_ship.specs.KnownStates.{changes_for};
 ghost use Rattle.own_ship.specs.Inner.Facts.{known_at, predicted_at, IsKnownBelow, IsTrack};
@@ -52,8 +52,8 @@ impl Track<'_> {
     fn predicted(&self, tick: u32) -> TickState
         requires track { IsTrack self.now }
         requires from { self.now.latest.time ≤ time_of_tick self.now.window tick }
-        requires to { time_of_tick self.now.window tick ≤ end_of self.now.window + 7200 }
-        ensures value { result ≡ predicted_state self.now.latest self.now.changes.now (end_of self.now.window) (time_of_tick self.now.window tick) }
+        requires to { time_of_tick self.now.window tick ≤ window_end self.now.window + 7200 }
+        ensures value { result ≡ predicted_state self.now.latest self.now.changes.now (window_end self.now.window) (time_of_tick self.now.window tick) }
         ensures state { IsTickState 7900640400 result }
         ensures moves { (earlier : ℕ) → tick ≡ earlier + 1 → IsShortMove (known_at self.now earlier) (Some result) }
     {
@@ -64,7 +64,7 @@ impl Track<'_> {
     /// Her state at a tick, where she is seen then or predicted.
     fn at(&self, tick: u32) -> Option<TickState>
         requires track { IsTrack self.now }
-        requires to { time_of_tick self.now.window tick ≤ end_of self.now.window + 7200 }
+        requires to { time_of_tick self.now.window tick ≤ window_end self.now.window + 7200 }
         ensures value { result ≡ known_at self.now tick }
         ensures state { IfSome result (IsTickState 7900640400) }
         ensures moves { (earlier : ℕ) → tick ≡ earlier + 1 → IsShortMove (known_at self.now earlier) result }

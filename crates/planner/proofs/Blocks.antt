@@ -14,8 +14,8 @@ use Rattle.lattice.specs.PlanNumbers.{number_of, plan_of, IsPlan}
 use Rattle.lattice.proofs.Digits.{below_plan_of, inverse, length-plan_of, number_plan_of, plan_after}
 use Rattle.planner.specs.FailingPlans.{Fails, FailsBy}
 use Rattle.planner.specs.Inner.Walk.{AllFailFrom, IsFirst}
-use Rattle.planner.specs.LeastPlans.{AllFail, AllFailBelow, IsLeast, numbered}
-use Rattle.planner.specs.Prefixes.{AreOneBlock, IsInBlock, PrefixFails, reached, told_by}
+use Rattle.planner.specs.LeastPlans.{AllFail, AllFailBelow, IsLeastPlan, numbered}
+use Rattle.planner.specs.Prefixes.{AreOneBlock, IsInBlock, PrefixFails, reached, steps_told}
 use Rattle.planner.specs.Situations.{end_of, now_of}
 use Rattle.planner.specs.declared.situation.Situation.{Situation}
 use Rattle.planner.proofs.CommonLegs.{in_force, when_less, when_not_less}
@@ -129,7 +129,7 @@ prefix_room c n k left len m long lt h =
 
 -- ---- what lasts
 
-told_within : (grid : Grid) (legs : ℕ) → told_by grid legs ≤ positions_of grid
+told_within : (grid : Grid) (legs : ℕ) → steps_told grid legs ≤ positions_of grid
 told_within grid legs = elim (cases_lt legs grid.legs) [
   | inl lt ↦ (let le : legs ≤ grid.legs = omega arith in
       let few = mul-le-mul_right grid.leg_ticks le in
@@ -141,7 +141,7 @@ few_or_all : (a b : ℕ) → b ≤ a ⊎ a < b
 few_or_all a b = elim (cases_lt a b) [ inl lt ↦ inr lt | inr ge ↦ inl ge ]
 
 pub shared : (grid : Grid) (X Y : List ℕ) (legs : ℕ) → 1 ≤ grid.legs → ((i : ℕ) → i < legs → slice_index X i ≡ slice_index Y i)
-    → (step : ℕ) → step < told_by grid legs → choice_in_force grid X step ≡ choice_in_force grid Y step
+    → (step : ℕ) → step < steps_told grid legs → choice_in_force grid X step ≡ choice_in_force grid Y step
 shared grid X Y legs some same step lt = in_force grid X Y legs same some (few_or_all legs grid.legs) step lt
 
 pub reached_end : (s : Situation) (legs : ℕ) → s.lattice.legs ≤ legs → reached s legs ≡ end_of s
@@ -152,7 +152,7 @@ pub prefix_lasts : (s : Situation) (prefix plan : List ℕ) (legs : ℕ) → 1 �
     → FailsBy s (reached s legs) prefix → Fails s plan
 prefix_lasts s prefix plan legs some same h =
     let told = told_within s.lattice legs in
-    fails_too s prefix plan (told_by s.lattice legs) (shared s.lattice prefix plan legs some same) (reached s legs) (omega arith) (end_of s) (omega arith) (omega arith) h
+    fails_too s prefix plan (steps_told s.lattice legs) (shared s.lattice prefix plan legs some same) (reached s legs) (omega arith) (end_of s) (omega arith) (omega arith) h
 
 -- ---- one number more
 
@@ -168,7 +168,7 @@ some_choice zero (suc legs) n some lt = let none : zero ^ suc legs ≡ zero ^ le
 some_choice (suc c) legs n some lt = omega arith
 
 pub least_of : (s : Situation) → 1 ≤ s.lattice.legs → (n : ℕ) (plan : List ℕ) → n < plans_of s.lattice → plan ≡ plan_of (choices_of s.lattice) s.lattice.legs n
-    → IsPlan (choices_of s.lattice) s.lattice.legs plan → (¬ Fails s plan) → ((m : ℕ) → m < n → Fails s (numbered s m)) → IsLeast s plan
+    → IsPlan (choices_of s.lattice) s.lattice.legs plan → (¬ Fails s plan) → ((m : ℕ) → m < n → Fails s (numbered s m)) → IsLeastPlan s plan
 least_of s some n plan lt is whole passes before =
     let choice = some_choice (choices_of s.lattice) s.lattice.legs n some lt in
     let number : number_of (choices_of s.lattice) plan ≡ n = ap (number_of (choices_of s.lattice)) is ∙ (inverse (choices_of s.lattice) s.lattice.legs choice).number n lt in
@@ -249,7 +249,7 @@ module _ (s : Situation) (some : 1 ≤ s.lattice.legs) where
   whole_fails h = λ m high. h.each m (omega arith) (omega arith)
 
   pub first_is_least : (m : ℕ) (plan : List ℕ) → 0 < choices_of s.lattice → plan ≡ plan_of (choices_of s.lattice) s.lattice.legs m
-      → IsFirst s (0 * choices_of s.lattice ^ s.lattice.legs) ((0 + 1) * choices_of s.lattice ^ s.lattice.legs) m → IsLeast s plan
+      → IsFirst s (0 * choices_of s.lattice ^ s.lattice.legs) ((0 + 1) * choices_of s.lattice ^ s.lattice.legs) m → IsLeastPlan s plan
   first_is_least m plan p is h =
       let high = h.before in
       let number : number_of (choices_of s.lattice) plan ≡ m = rw is ((inverse (choices_of s.lattice) s.lattice.legs p).number m (omega arith)) in

@@ -13,7 +13,7 @@ use Rattle.lattice.specs.UnderWays.{IsReached}
 use Rattle.lattice.specs.declared.under_way.UnderWay.{UnderWay}
 use Rattle.meetings.specs.Traces.{AreInContact, IsContactAt, step_at, step_between, steps_from}
 use Rattle.motion.specs.declared.leg.TickState.{TickState}
-use Rattle.planner.specs.Prefixes.{told_by}
+use Rattle.planner.specs.Prefixes.{steps_told}
 use Rattle.planner.specs.Situations.{now_of, own_at, planned_state, sighting, target_at}
 use Rattle.planner.specs.declared.situation.Situation.{Situation}
 use Rattle.planner.specs.declared.situation.Target.{Target}
@@ -75,7 +75,7 @@ module _ (grid : Grid) (X Y : List ℕ) (n : ℕ) (same : (step : ℕ) → step 
 -- ---- the legs in force
 
 pub in_force : (grid : Grid) (X Y : List ℕ) (legs : ℕ) → ((i : ℕ) → i < legs → slice_index X i ≡ slice_index Y i) → 1 ≤ grid.legs → grid.legs ≤ legs ⊎ legs < grid.legs
-    → (step : ℕ) → step < told_by grid legs → choice_in_force grid X step ≡ choice_in_force grid Y step
+    → (step : ℕ) → step < steps_told grid legs → choice_in_force grid X step ≡ choice_in_force grid Y step
 in_force grid X Y legs same some (inl all) step lt = same (leg_in_force grid step) (omega arith)
 in_force grid X Y legs same some (inr fewer) step lt =
     let within : step < legs * grid.leg_ticks = subst (λ (k : ℕ). step < k) (when_less legs grid.legs (legs * grid.leg_ticks) (positions_of grid) fewer) lt in

@@ -19,7 +19,7 @@ use Rattle.planner.specs.FailingPlans.{BreaksARule, EntersDomain, FailsBy, Fails
 use Rattle.planner.specs.Inner.Levels.{StandsAt, StaysOut, lasts}
 use Rattle.planner.specs.Inner.Paths.{EntersAlong, HasReached, start_of}
 use Rattle.planner.specs.Inner.Watching.{Stands, StandsFor}
-use Rattle.planner.specs.Prefixes.{PrefixFails, reached, told_by}
+use Rattle.planner.specs.Prefixes.{PrefixFails, reached, steps_told}
 use Rattle.planner.specs.Situations.{now_of, own_at, target_at, terms_of}
 use Rattle.planner.specs.declared.basis.Basis.{Basis}
 use Rattle.planner.specs.declared.situation.Situation.{Situation}
@@ -32,10 +32,10 @@ use Rattle.planner.proofs.Lifting.{begins_too, enters_too, fails_too, rows_too, 
 
 -- ---- how long a leg lasts
 
-pub leg_begins : (grid : Grid) (leg : ℕ) → leg < grid.legs → told_by grid leg ≡ leg * grid.leg_ticks
+pub leg_begins : (grid : Grid) (leg : ℕ) → leg < grid.legs → steps_told grid leg ≡ leg * grid.leg_ticks
 leg_begins grid leg lt = when_less leg grid.legs (leg * grid.leg_ticks) (positions_of grid) lt
 
-pub leg_ends : (s : Situation) (leg : ℕ) → leg < s.lattice.legs → leg * s.lattice.leg_ticks + lasts s leg ≡ told_by s.lattice (leg + 1)
+pub leg_ends : (s : Situation) (leg : ℕ) → leg < s.lattice.legs → leg * s.lattice.leg_ticks + lasts s leg ≡ steps_told s.lattice (leg + 1)
 leg_ends s leg lt = elim (cases_lt (leg + 1) s.lattice.legs) [
   | inl more ↦ (let a = when_less (leg + 1) s.lattice.legs s.lattice.leg_ticks (positions_of s.lattice - leg * s.lattice.leg_ticks) more in
       let b = when_less (leg + 1) s.lattice.legs ((leg + 1) * s.lattice.leg_ticks) (positions_of s.lattice) more in
@@ -75,14 +75,14 @@ reached_prefix s leg number W own lt e h =
     let X = plan_of (choices_of s.lattice) leg number in
     let alike : (i : ℕ) → i < leg → slice_index W i ≡ slice_index X i = λ i less. sym (get_or-take leg W i 0 less) ∙ ap (λ (ds : List ℕ). slice_index ds i) e in
     let told = leg_begins s.lattice leg lt in
-    same_reached s.lattice W X (told_by s.lattice leg) (in_force s.lattice W X leg alike (omega arith) (inr lt)) s.tick (start_of s) own (leg * s.lattice.leg_ticks) (omega arith) h
+    same_reached s.lattice W X (steps_told s.lattice leg) (in_force s.lattice W X leg alike (omega arith) (inr lt)) s.tick (start_of s) own (leg * s.lattice.leg_ticks) (omega arith) h
 
 pub reached_front : (s : Situation) (leg number : ℕ) (W : List ℕ) (own : UnderWay) → leg < s.lattice.legs → take (leg + 1) W ≡ plan_of (choices_of s.lattice) (leg + 1) number
     → HasReached s (plan_of (choices_of s.lattice) leg (number / choices_of s.lattice)) (leg * s.lattice.leg_ticks) own → HasReached s W (leg * s.lattice.leg_ticks) own
 reached_front s leg number W own lt e h =
     let X = plan_of (choices_of s.lattice) leg (number / choices_of s.lattice) in
     let told = leg_begins s.lattice leg lt in
-    same_reached s.lattice X W (told_by s.lattice leg) (in_force s.lattice X W leg (shares_front (choices_of s.lattice) leg number W e) (omega arith) (inr lt)) s.tick (start_of s) own
+    same_reached s.lattice X W (steps_told s.lattice leg) (in_force s.lattice X W leg (shares_front (choices_of s.lattice) leg number W e) (omega arith) (inr lt)) s.tick (start_of s) own
     (leg * s.lattice.leg_ticks) (omega arith) h
 
 -- ---- what is kept stands for each plan that has the legs in common
@@ -169,17 +169,17 @@ module _ (s : Situation) (W : List ℕ) (at : ℕ) where
 
 module _ (basis : Basis) (leg number : ℕ) (W : List ℕ) (some : 1 ≤ basis.situation.lattice.legs)
     (begins : take (leg + 1) W ≡ plan_of (choices_of basis.situation.lattice) (leg + 1) number) where
-  same_front : (step : ℕ) → step < told_by basis.situation.lattice leg → choice_in_force basis.situation.lattice (plan_of (choices_of basis.situation.lattice) leg (number / choices_of basis.situation.lattice)) step
+  same_front : (step : ℕ) → step < steps_told basis.situation.lattice leg → choice_in_force basis.situation.lattice (plan_of (choices_of basis.situation.lattice) leg (number / choices_of basis.situation.lattice)) step
       ≡ choice_in_force basis.situation.lattice W step
   same_front = shared basis.situation.lattice (plan_of (choices_of basis.situation.lattice) leg (number / choices_of basis.situation.lattice)) W leg some
       (shares_front (choices_of basis.situation.lattice) leg number W begins)
 
-  same_prefix : (step : ℕ) → step < told_by basis.situation.lattice (leg + 1) → choice_in_force basis.situation.lattice (plan_of (choices_of basis.situation.lattice) (leg + 1) number) step
+  same_prefix : (step : ℕ) → step < steps_told basis.situation.lattice (leg + 1) → choice_in_force basis.situation.lattice (plan_of (choices_of basis.situation.lattice) (leg + 1) number) step
       ≡ choice_in_force basis.situation.lattice W step
   same_prefix = shared basis.situation.lattice (plan_of (choices_of basis.situation.lattice) (leg + 1) number) W (leg + 1) some
       (shares_prefix (choices_of basis.situation.lattice) leg number W begins)
 
-  within : (legs : ℕ) → reached basis.situation legs ≤ now_of basis.situation + told_by basis.situation.lattice legs
+  within : (legs : ℕ) → reached basis.situation legs ≤ now_of basis.situation + steps_told basis.situation.lattice legs
   within legs = omega arith
 
   from_now : (legs : ℕ) → now_of basis.situation ≤ reached basis.situation legs
@@ -190,32 +190,32 @@ module _ (basis : Basis) (leg number : ℕ) (W : List ℕ) (some : 1 ≤ basis.s
 
   pub level_front : (watched : List Watched) → StandsAt basis (plan_of (choices_of basis.situation.lattice) leg (number / choices_of basis.situation.lattice)) (reached basis.situation leg) watched
       → StandsAt basis W (reached basis.situation leg) watched
-  level_front watched h = level_too basis (plan_of (choices_of basis.situation.lattice) leg (number / choices_of basis.situation.lattice)) W (told_by basis.situation.lattice leg) same_front
+  level_front watched h = level_too basis (plan_of (choices_of basis.situation.lattice) leg (number / choices_of basis.situation.lattice)) W (steps_told basis.situation.lattice leg) same_front
       (reached basis.situation leg) (within leg) watched h
 
   pub level_prefix : (watched : List Watched) → StandsAt basis W (reached basis.situation (leg + 1)) watched
       → StandsAt basis (plan_of (choices_of basis.situation.lattice) (leg + 1) number) (reached basis.situation (leg + 1)) watched
-  level_prefix watched h = level_too basis W (plan_of (choices_of basis.situation.lattice) (leg + 1) number) (told_by basis.situation.lattice (leg + 1)) (λ step lt. sym (same_prefix step lt))
+  level_prefix watched h = level_too basis W (plan_of (choices_of basis.situation.lattice) (leg + 1) number) (steps_told basis.situation.lattice (leg + 1)) (λ step lt. sym (same_prefix step lt))
       (reached basis.situation (leg + 1)) (within (leg + 1)) watched h
 
   pub out_front : StaysOut basis.situation (plan_of (choices_of basis.situation.lattice) leg (number / choices_of basis.situation.lattice)) (reached basis.situation leg)
       → StaysOut basis.situation W (reached basis.situation leg)
   out_front outside h = outside (some_weaker (EntersDomain basis.situation W (reached basis.situation leg))
       (EntersDomain basis.situation (plan_of (choices_of basis.situation.lattice) leg (number / choices_of basis.situation.lattice)) (reached basis.situation leg)) basis.situation.targets
-      (λ T. enters_too basis.situation W (plan_of (choices_of basis.situation.lattice) leg (number / choices_of basis.situation.lattice)) (told_by basis.situation.lattice leg) (λ step lt. sym (same_front step lt))
+      (λ T. enters_too basis.situation W (plan_of (choices_of basis.situation.lattice) leg (number / choices_of basis.situation.lattice)) (steps_told basis.situation.lattice leg) (λ step lt. sym (same_front step lt))
       (reached basis.situation leg) (within leg) T (reached basis.situation leg) (same_tick (reached basis.situation leg))) h)
 
   pub out_prefix : StaysOut basis.situation W (reached basis.situation (leg + 1))
       → StaysOut basis.situation (plan_of (choices_of basis.situation.lattice) (leg + 1) number) (reached basis.situation (leg + 1))
   out_prefix outside h = outside (some_weaker (EntersDomain basis.situation (plan_of (choices_of basis.situation.lattice) (leg + 1) number) (reached basis.situation (leg + 1)))
       (EntersDomain basis.situation W (reached basis.situation (leg + 1))) basis.situation.targets
-      (λ T. enters_too basis.situation (plan_of (choices_of basis.situation.lattice) (leg + 1) number) W (told_by basis.situation.lattice (leg + 1)) same_prefix
+      (λ T. enters_too basis.situation (plan_of (choices_of basis.situation.lattice) (leg + 1) number) W (steps_told basis.situation.lattice (leg + 1)) same_prefix
       (reached basis.situation (leg + 1)) (within (leg + 1)) T (reached basis.situation (leg + 1)) (same_tick (reached basis.situation (leg + 1)))) h)
 
   pub to_front : FailsBy basis.situation (reached basis.situation leg) W → PrefixFails basis.situation (plan_of (choices_of basis.situation.lattice) leg (number / choices_of basis.situation.lattice))
   to_front h = subst (λ (n : ℕ). FailsBy basis.situation (reached basis.situation n) (plan_of (choices_of basis.situation.lattice) leg (number / choices_of basis.situation.lattice)))
       (sym (length-plan_of (choices_of basis.situation.lattice) leg (number / choices_of basis.situation.lattice)))
-      (fails_too basis.situation W (plan_of (choices_of basis.situation.lattice) leg (number / choices_of basis.situation.lattice)) (told_by basis.situation.lattice leg) (λ step lt. sym (same_front step lt))
+      (fails_too basis.situation W (plan_of (choices_of basis.situation.lattice) leg (number / choices_of basis.situation.lattice)) (steps_told basis.situation.lattice leg) (λ step lt. sym (same_front step lt))
       (reached basis.situation leg) (within leg) (reached basis.situation leg) (same_tick (reached basis.situation leg)) (from_now leg) h)
 
   long : length (plan_of (choices_of basis.situation.lattice) (leg + 1) number) ≡ leg + 1
@@ -223,11 +223,11 @@ module _ (basis : Basis) (leg number : ℕ) (W : List ℕ) (some : 1 ≤ basis.s
 
   pub to_prefix : FailsBy basis.situation (reached basis.situation (leg + 1)) W → PrefixFails basis.situation (plan_of (choices_of basis.situation.lattice) (leg + 1) number)
   to_prefix h = subst (λ (n : ℕ). FailsBy basis.situation (reached basis.situation n) (plan_of (choices_of basis.situation.lattice) (leg + 1) number)) (sym long)
-      (fails_too basis.situation W (plan_of (choices_of basis.situation.lattice) (leg + 1) number) (told_by basis.situation.lattice (leg + 1)) (λ step lt. sym (same_prefix step lt))
+      (fails_too basis.situation W (plan_of (choices_of basis.situation.lattice) (leg + 1) number) (steps_told basis.situation.lattice (leg + 1)) (λ step lt. sym (same_prefix step lt))
       (reached basis.situation (leg + 1)) (within (leg + 1)) (reached basis.situation (leg + 1)) (same_tick (reached basis.situation (leg + 1))) (from_now (leg + 1)) h)
 
   pub from_prefix : PrefixFails basis.situation (plan_of (choices_of basis.situation.lattice) (leg + 1) number) → FailsBy basis.situation (reached basis.situation (leg + 1)) W
-  from_prefix h = fails_too basis.situation (plan_of (choices_of basis.situation.lattice) (leg + 1) number) W (told_by basis.situation.lattice (leg + 1)) same_prefix
+  from_prefix h = fails_too basis.situation (plan_of (choices_of basis.situation.lattice) (leg + 1) number) W (steps_told basis.situation.lattice (leg + 1)) same_prefix
       (reached basis.situation (leg + 1)) (within (leg + 1)) (reached basis.situation (leg + 1)) (same_tick (reached basis.situation (leg + 1))) (from_now (leg + 1))
       (subst (λ (n : ℕ). FailsBy basis.situation (reached basis.situation n) (plan_of (choices_of basis.situation.lattice) (leg + 1) number)) long h)
 
@@ -243,8 +243,8 @@ begins_there s leg first lt e = ap (λ (k : ℕ). now_of s + k) (e ∙ sym (leg_
 -- Nothing was entered before now.
 pub out_at_now : (s : Situation) (X : List ℕ) → 1 ≤ s.lattice.legs → StaysOut s X (reached s 0)
 out_at_now s X some h =
-    let at : told_by s.lattice 0 ≡ 0 * s.lattice.leg_ticks = leg_begins s.lattice 0 some in
+    let at : steps_told s.lattice 0 ≡ 0 * s.lattice.leg_ticks = leg_begins s.lattice 0 some in
     none_some (EntersDomain s X (reached s 0)) s.targets (λ k T lt e. let from = e.from_now in let to = e.planned in absurd (omega arith)) h
 
 pub reached_none : (s : Situation) → 1 ≤ s.lattice.legs → reached s 0 ≡ now_of s
-reached_none s some = let at : told_by s.lattice 0 ≡ 0 * s.lattice.leg_ticks = leg_begins s.lattice 0 some in omega arith
+reached_none s some = let at : steps_told s.lattice 0 ≡ 0 * s.lattice.leg_ticks = leg_begins s.lattice 0 some in omega arith

@@ -8,7 +8,7 @@ use Rattle.mtl_monitor.specs.Traces.{Trace}
 use Rattle.rule_set.specs.NamedTrees.{NamedTree}
 use Rattle.encounters.specs.declared.pair_step.PairStep.{PairStep}
 use Rattle.meetings.specs.Answers.{Kept, answer_of}
-use Rattle.meetings.specs.Atoms.{AreRows, IsAtomRow}
+use Rattle.meetings.specs.Atoms.{AreAtomRows, IsAtomRow}
 use Rattle.meetings.specs.Traces.{IsContactAt, step_at, steps_from}
 use Rattle.meetings.proofs.ForCallers.{rows_then, steps_from-last, steps_from-length}
 use Rattle.meetings.specs.Ranks.{all_power_driven}
@@ -103,14 +103,14 @@ steps_more a b start k le =
     ap (steps_from a b start) count ∙ (steps_from-last a b start (k - start) ∙ ap (λ (i : ℕ). steps_from a b start (k - start) ++ step_at a b i ∷ []) there)
 
 pub rows_more : (terms : Terms) (a b : ℕ → Option TickState) (start k : ℕ) (rows new : List Kept) (row : Kept) → start ≤ k
-    → AreRows terms (steps_from a b start (k - start)) (map answer_of rows)
+    → AreAtomRows terms (steps_from a b start (k - start)) (map answer_of rows)
     → IsAtomRow terms (steps_from a b start (k - start) ++ step_at a b k ∷ []) (length (steps_from a b start (k - start))) (answer_of row)
-    → new ≡ rows ++ row ∷ [] → AreRows terms (steps_from a b start (k + 1 - start)) (map answer_of new)
+    → new ≡ rows ++ row ∷ [] → AreAtomRows terms (steps_from a b start (k + 1 - start)) (map answer_of new)
 rows_more terms a b start k rows new row le are is e =
-    subst (λ (xs : List (Option PairStep)). AreRows terms xs (map answer_of new)) (sym (steps_more a b start k le))
-    (subst (λ (r : Trace). AreRows terms (steps_from a b start (k - start) ++ step_at a b k ∷ []) r) (sym (ap (map answer_of) e ∙ map-append answer_of rows (row ∷ [])))
+    subst (λ (xs : List (Option PairStep)). AreAtomRows terms xs (map answer_of new)) (sym (steps_more a b start k le))
+    (subst (λ (r : Trace). AreAtomRows terms (steps_from a b start (k - start) ++ step_at a b k ∷ []) r) (sym (ap (map answer_of) e ∙ map-append answer_of rows (row ∷ [])))
     (rows_then terms all_power_driven (steps_from a b start (k - start)) (map answer_of rows) (step_at a b k) (answer_of row) are is))
 
 pub as_many : (terms : Terms) (a b : ℕ → Option TickState) (start k : ℕ) (rows : List Kept)
-    → AreRows terms (steps_from a b start (k - start)) (map answer_of rows) → length rows ≡ k - start
+    → AreAtomRows terms (steps_from a b start (k - start)) (map answer_of rows) → length rows ≡ k - start
 as_many terms a b start k rows are = sym (length-map rows answer_of) ∙ (are.count ∙ steps_from-length a b start (k - start))

@@ -6,7 +6,7 @@ use Rattle.std.specs.Prelude.{Option, slice_get, IsSomeAnd}
 use Rattle.closest_approach.specs.Separation.{IsSeparated}
 use Rattle.encounters.specs.declared.pair_step.PairStep.{PairStep}
 use Rattle.lattice.specs.OwnMotion.{choice_in_force}
-use Rattle.meetings.specs.Atoms.{AreRows}
+use Rattle.meetings.specs.Atoms.{AreAtomRows}
 use Rattle.meetings.specs.Traces.{steps_from}
 use Rattle.mtl_formulas.proofs.PrefixLaw.{Stays-value, decided-Stays}
 use Rattle.mtl_formulas.specs.FormulaTree.{FormulaTree}
@@ -69,8 +69,8 @@ earlier_rows s X T at later start rows from le h =
     let front = steps_from a b start (at - start) in
     let more = steps_from a b (start + (at - start)) (later - at) in
     let split : steps_from a b start (later - start) ≡ front ++ more = ap (steps_from a b start) (sym e) ∙ steps_from-split a b start (at - start) (later - at) in
-    let h' = subst (λ (steps : List (Option PairStep)). AreRows (terms_of s) steps rows) split h in
-    subst (λ (n : ℕ). AreRows (terms_of s) front (take n rows)) (steps_from-length a b start (at - start)) (rows_of_front (terms_of s) all_power_driven front more rows h')
+    let h' = subst (λ (steps : List (Option PairStep)). AreAtomRows (terms_of s) steps rows) split h in
+    subst (λ (n : ℕ). AreAtomRows (terms_of s) front (take n rows)) (steps_from-length a b start (at - start)) (rows_of_front (terms_of s) all_power_driven front more rows h')
 
 -- ---- from one plan to another
 
@@ -92,10 +92,10 @@ module _ (s : Situation) (X Y : List ℕ) (n : ℕ) (same : (step : ℕ) → ste
     same_trace start le = same_steps s X Y n same T start (at - start) (omega arith)
 
     pub rows_too : (start : ℕ) (rows : Trace) → start ≤ at → AreTraceRows s X at T start rows → AreTraceRows s Y at T start rows
-    rows_too start rows le h = subst (λ (steps : List (Option PairStep)). AreRows (terms_of s) steps rows) (same_trace start le) h
+    rows_too start rows le h = subst (λ (steps : List (Option PairStep)). AreAtomRows (terms_of s) steps rows) (same_trace start le) h
 
     rows_back : (start : ℕ) (rows : Trace) → start ≤ at → AreTraceRows s Y at T start rows → AreTraceRows s X at T start rows
-    rows_back start rows le h = subst (λ (steps : List (Option PairStep)). AreRows (terms_of s) steps rows) (sym (same_trace start le)) h
+    rows_back start rows le h = subst (λ (steps : List (Option PairStep)). AreAtomRows (terms_of s) steps rows) (sym (same_trace start le)) h
 
     module _ (later : ℕ) (le : at ≤ later) (from_now : now_of s ≤ at) where
       broken_too : (f : FormulaTree) (start : ℕ) (rows : Trace) → start < at → IsNewlyBroken (now_of s - start) (take (at - start) rows) f → IsNewlyBroken (now_of s - start) rows f

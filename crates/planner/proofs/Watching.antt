@@ -4,7 +4,7 @@ use Rattle.std.proofs.Common.{◌≡◌, ◌≢◌, ◌∙◌, ℕ, zero, suc, �
 use Rattle.std.proofs.lemmas.Bool.{cases_lt}
 use Rattle.std.specs.Prelude.{Option, slice_get, IsSomeAnd, IsTrue, ◌||◌, ◌↔◌}
 use Rattle.encounters.specs.declared.pair_step.PairStep.{PairStep}
-use Rattle.meetings.specs.Atoms.{AreRows, IsAtomRow}
+use Rattle.meetings.specs.Atoms.{AreAtomRows, IsAtomRow}
 use Rattle.meetings.specs.Standing as meetings
 use Rattle.meetings.specs.Traces.{IsContactAt, step_at, steps_from}
 use Rattle.meetings.proofs.ForCallers.{rows_then, steps_from-last, steps_from-length}
@@ -118,7 +118,7 @@ module _ (program : Program) (s : Situation) (X : List ℕ) (T : Target) (at : �
         start = start;
         rows = rows ++ fed.row ∷ [];
         begins = begins;
-        are_rows = subst (λ (xs : List (Option PairStep)). AreRows (terms_of s) xs (rows ++ fed.row ∷ [])) (sym (steps_on start le))
+        are_rows = subst (λ (xs : List (Option PairStep)). AreAtomRows (terms_of s) xs (rows ++ fed.row ∷ [])) (sym (steps_on start le))
             (rows_then (terms_of s) all_power_driven steps rows here fed.row are fed.is_row);
         follows = subst (λ (xs : List (Option PairStep)). meetings.Follows next.follower (terms_of s) xs) (sym (steps_on start le)) fed.follows;
         values = fed.values;
@@ -142,9 +142,9 @@ module _ (program : Program) (s : Situation) (X : List ℕ) (T : Target) (at : �
       let a = own_at s X in
       let b = target_at s T in
       let empty : steps_from a b at (at - at) ≡ [] = ap (steps_from a b at) none in
-      let no_rows : AreRows (terms_of s) [] [] = record { count = refl; each = λ i lt. absurd (omega arith) } in
+      let no_rows : AreAtomRows (terms_of s) [] [] = record { count = refl; each = λ i lt. absurd (omega arith) } in
       let fed = feeds [] [] (omega arith) h.follows h.values in
-      fed_at at [] (omega arith) (subst (λ (xs : List (Option PairStep)). AreRows (terms_of s) xs []) (sym empty) no_rows)
+      fed_at at [] (omega arith) (subst (λ (xs : List (Option PairStep)). AreAtomRows (terms_of s) xs []) (sym empty) no_rows)
       (subst (λ (xs : List (Option PairStep)). IsFedOn xs []) (sym empty) fed)
       (record { before_end = omega arith; contact = contact; least = h.apart })
 

@@ -2,7 +2,7 @@
 -- planned tick; what it may not do is told by its values, and by the steps from now on.
 use Rattle.std.specs.Prelude.{ℕ, ◌≡◌, ◌≢◌, ◌-◌, ◌<◌, ◌≤◌, ◌⊎◌, List, take, slice_get, IsSomeAnd}
 use Rattle.closest_approach.specs.Separation.{IsSeparated}
-use Rattle.meetings.specs.Atoms.{AreRows}
+use Rattle.meetings.specs.Atoms.{AreAtomRows}
 use Rattle.meetings.specs.Traces.{BeginsTrace, step_at, steps_from}
 use Rattle.mtl_formulas.specs.FormulaTree.{FormulaTree}
 use Rattle.mtl_formulas.specs.declared.verdict.Verdict.TheVariants.{No}
@@ -30,7 +30,7 @@ module _ (situation : Situation) (plan : List ℕ) (last : ℕ) (target : Target
   -- What its steps answer to the atoms: a list of steps has exactly one list of rows (`meetings::laws::there_are_rows`, `at_most_one_row`).
   abbrev pub AreTraceRows : ℕ → Trace → Type 0
   AreTraceRows start rows =
-      AreRows (terms_of situation) (steps_from (own_at situation plan) (target_at situation target) start (last - start)) rows
+      AreAtomRows (terms_of situation) (steps_from (own_at situation plan) (target_at situation target) start (last - start)) rows
 
   -- A formula is newly broken over the trace, by each list of rows of it. The cut is at now, and keeps the steps before it.
   pub record NewlyBreaks (formula : FormulaTree) : Type 0 where

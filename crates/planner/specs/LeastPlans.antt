@@ -18,7 +18,7 @@ abbrev pub AllFail : Situation → Type 0
 AllFail situation = AllFailBelow situation (plans_of situation.lattice)
 
 -- The plan does not fail, and each with a lesser number does.
-pub record IsLeast (situation : Situation) (plan : List ℕ) : Type 0 where
+pub record IsLeastPlan (situation : Situation) (plan : List ℕ) : Type 0 where
   pub whole : IsPlan (choices_of situation.lattice) situation.lattice.legs plan
   pub passes : ¬ Fails situation plan
   pub least : AllFailBelow situation (number_of (choices_of situation.lattice) plan)

@@ -7,12 +7,12 @@ use Rattle.planner.specs.Situations.{now_of}
 use Rattle.planner.specs.declared.situation.Situation.{Situation}
 
 -- how many steps so many legs tell: the last leg is held for the tail
-abbrev pub told_by : Grid → ℕ → ℕ
-told_by grid legs = if nat_lt legs grid.legs then legs * grid.leg_ticks else positions_of grid
+abbrev pub steps_told : Grid → ℕ → ℕ
+steps_told grid legs = if nat_lt legs grid.legs then legs * grid.leg_ticks else positions_of grid
 
 -- the tick up to which they tell the steps
 abbrev pub reached : Situation → ℕ → ℕ
-reached situation legs = now_of situation + told_by situation.lattice legs
+reached situation legs = now_of situation + steps_told situation.lattice legs
 
 -- A prefix fails: in the steps that it tells a value is No that is not No at now, or a domain is entered.
 abbrev pub PrefixFails : Situation → List ℕ → Type 0

@@ -4,8 +4,8 @@ use Rattle.planner.specs.declared.search.Search.{Search}
 use Rattle.planner.specs.declared.situation.Situation.{Situation}
 
 -- the situation that it was made of
-abbrev pub situation_of : Search → Situation
-situation_of search = search.basis.situation
+abbrev pub searched_situation : Search → Situation
+searched_situation search = search.basis.situation
 
 -- It has all its places, and stands at now.
 pub record IsSound (search : Search) : Type 0 where

@@ -11,7 +11,7 @@ ghost use Rattle.mtl_formulas.specs.declared.verdict.Verdict.TheVariants.{No};
 ghost use Rattle.mtl_monitor.specs.Traces.{value_in};
 ghost use Rattle.rule_set.specs.NamedTrees.{NamedTree};
 ghost use Rattle.planner.specs.FailingPlans.{AreTraceRows, BeginsAt, BreaksARule, EntersDomain, Fails, FailsTowards, IsNewlyBroken, Some_};
-ghost use Rattle.planner.specs.LeastPlans.{AllFail, IsLeast};
+ghost use Rattle.planner.specs.LeastPlans.{AllFail, IsLeastPlan};
 ghost use Rattle.planner.specs.Situations.{end_of, now_of, own_at, target_at, IsSituation, IsTarget};
 
 use crate::situation::{Situation, Target};
@@ -193,7 +193,7 @@ impl Situation {
 /// its whole trace.
 pub fn least_plan(alloc: Global, situation: &Situation) -> Result<Option<Plan>, Memory>
     requires { IsSituation situation.now }
-    ensures { IfOk result (λ answer. MatchOption answer (AllFail situation.now) (IsLeast situation.now)) }
+    ensures { IfOk result (λ answer. MatchOption answer (AllFail situation.now) (IsLeastPlan situation.now)) }
 {
     for number in 0..situation.lattice.plans() {
         let plan = situation.lattice.plan(number);

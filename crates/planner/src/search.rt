@@ -1,7 +1,7 @@
 //! The search over all plans.
 ghost use Rattle.std.specs.Prelude.{◌≡◌, IfOk, MatchOption};
 ghost use Rattle.planner.specs.Inner.Levels.{IsPrepared};
-ghost use Rattle.planner.specs.LeastPlans.{AllFail, IsLeast};
+ghost use Rattle.planner.specs.LeastPlans.{AllFail, IsLeastPlan};
 ghost use Rattle.planner.specs.Situations.{IsSituation};
 
 use crate::basis::{Basis, program_of, watched_at_now};
@@ -46,13 +46,13 @@ fn prepared(alloc: Global, situation: Situation) -> Result<(Basis, Level), Memor
 }
 
 impl Search {
-    ghost use Rattle.planner.specs.Searches.{situation_of, IsSound};
+    ghost use Rattle.planner.specs.Searches.{searched_situation, IsSound};
 
     /// Takes the places that the search needs.
     pub fn new(alloc: Global, situation: Situation) -> Result<Search, Memory>
         requires { IsSituation situation }
         ensures sound { IfOk result IsSound }
-        ensures situation { IfOk result (λ search. situation_of search ≡ situation) }
+        ensures situation { IfOk result (λ search. searched_situation search ≡ situation) }
     {
         let (basis, start) = prepared(alloc, situation)?;
         let mut below = Vec::new(alloc);
@@ -71,8 +71,8 @@ impl Search {
     pub fn run(&mut self) -> Option<Plan>
         requires { IsSound self.old }
         ensures sound { IsSound self.new }
-        ensures situation { situation_of self.new ≡ situation_of self.old }
-        ensures answer { MatchOption result (AllFail (situation_of self.old)) (IsLeast (situation_of self.old)) }
+        ensures situation { searched_situation self.new ≡ searched_situation self.old }
+        ensures answer { MatchOption result (AllFail (searched_situation self.old)) (IsLeastPlan (searched_situation self.old)) }
     {
         let choices = self.basis.situation.lattice.choices();
         let number = explore(&self.basis, &self.start, &mut self.below, 0, 0, choices)?;
@@ -81,7 +81,7 @@ impl Search {
 
     /// The situation that the search was made of.
     pub fn situation(&self) -> &Situation
-        ensures { result.now ≡ situation_of self.now }
+        ensures { result.now ≡ searched_situation self.now }
     {
         &self.basis.situation
     }

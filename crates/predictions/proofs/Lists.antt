@@ -8,7 +8,7 @@ use Rattle.toml.specs.View.{items_view, view}
 use Rattle.toml.specs.declared.value.Value.{Value}
 use Rattle.scenario_keys.specs.ListFaults.{elements}
 use Rattle.scenario_keys.proofs.Elements as keys
-use Rattle.predictions.specs.PredictFaults.{change_numbers, mmsi_of}
+use Rattle.predictions.specs.PredictFaults.{change_numbers, predicted_mmsi}
 
 all_viewed : (p : Data → Bool) (values : List Value) → list_all p (map view values) ≡ list_all (λ v. p (view v)) values
 all_viewed p [] = refl
@@ -17,9 +17,9 @@ all_viewed p (v ∷ values) = ap (λ b. p (view v) && b) (all_viewed p values)
 pub all_seen : (p : Data → Bool) (values : List Value) → list_all p (elements (items_view values)) ≡ list_all (λ v. p (view v)) values
 all_seen p values = ap (list_all p) (keys.seen_elements values) ∙ all_viewed p values
 
-pub any_seen : (mmsi : ℕ) (values : List Value) → list_any (λ taken. taken == mmsi) (map mmsi_of (map view values)) ≡ list_any (λ v. mmsi_of (view v) == mmsi) values
+pub any_seen : (mmsi : ℕ) (values : List Value) → list_any (λ taken. taken == mmsi) (map predicted_mmsi (map view values)) ≡ list_any (λ v. predicted_mmsi (view v) == mmsi) values
 any_seen mmsi [] = refl
-any_seen mmsi (v ∷ values) = ap (λ b. (mmsi_of (view v) == mmsi) || b) (any_seen mmsi values)
+any_seen mmsi (v ∷ values) = ap (λ b. (predicted_mmsi (view v) == mmsi) || b) (any_seen mmsi values)
 
 pub many_seen : (values : List Value) → length (map view values) ≡ length values
 many_seen values = length-map values view

@@ -13,7 +13,7 @@ use Rattle.toml.specs.View.{items_view, view}
 use Rattle.toml.specs.declared.value.Value.{Value}
 use Rattle.scenario_keys.specs.FirstFaults.{with_before}
 use Rattle.scenario_keys.specs.FirstOf.{first_of}
-use Rattle.scenario_keys.specs.IntegerFaults.{integer_cause, is_multiple, is_within, number_cause}
+use Rattle.scenario_keys.specs.IntegerFaults.{integer_cause, is_multiple, is_in_bounds, number_cause}
 use Rattle.scenario_keys.specs.KeyValues.{array_in, integer_found, list_in, member_at, natural_of}
 use Rattle.scenario_keys.specs.ListFaults.{elements}
 use Rattle.scenario_keys.specs.ToldFaults.{fault_by_at, item_of}
@@ -22,8 +22,8 @@ use Rattle.scenario_keys.specs.declared.cause.Cause.TheVariants as cause
 use Rattle.scenario_keys.specs.declared.key.Key.{Key}
 use Rattle.scenario_keys.proofs.ForCallers.{all_head, all_none, all_tail}
 use Rattle.predictions.proofs.Lists.{all_seen, mapped_seen}
-use Rattle.predictions.specs.PredictFaults.{after_of, are_changes, are_on_ticks, array_cause, ascend, ascend_from, changes_cause, is_change_of, is_from_0_to, is_integer_list, is_taken, list_cause, mmsi_of, new_cause, numbers_of, predict_fault, ship_cause, ships, table_fault, HaveNoFault}
-use Rattle.predictions.specs.PredictValues.{change_of, changes_of, predict_of, predictions_of, ArePredictions, AreTimed}
+use Rattle.predictions.specs.PredictFaults.{after_of, are_changes, are_on_ticks, array_cause, ascend, ascend_from, changes_cause, is_change_of, is_from_0_to, is_integer_list, is_ship_taken, list_cause, predicted_mmsi, new_cause, change_numbers_at, predict_fault, ship_cause, ships, table_fault, HaveNoFault}
+use Rattle.predictions.specs.PredictValues.{change_of, predicted_changes, predict_of, predictions_of, ArePredictions, AreTimed}
 use Rattle.predictions.specs.Inner.{AreReadable, IsReadable}
 use Rattle.predictions.specs.declared.changes.Change.{Change}
 use Rattle.predictions.specs.declared.changes.ChangeNumbers.{ChangeNumbers}
@@ -33,7 +33,7 @@ use Rattle.predictions.specs.declared.predictions.Predict.{Predict}
 
 record Passes (tick own : ℕ) (before : List Data) (here : Data) : Type 0 where
   ship : number_cause ships (member_at (codes "mmsi") here) ≡ None
-  new : is_taken own before (mmsi_of here) ≡ false
+  new : is_ship_taken own before (predicted_mmsi here) ≡ false
   changes : changes_cause tick (member_at (codes "changes") here) ≡ None
 
 first_more : {A : Type 0} (a : Option A) (rest : List (Option A)) → first_of (a ∷ rest) ≡ None → (a ≡ None) × (first_of rest ≡ None)
@@ -57,7 +57,7 @@ passes tick own before here h =
     let changes = member_at (codes "changes") here in
     let (a, b) = first_more (fault_by_at 46 item (ship_cause own before ship)) (fault_by_at 47 item (changes_cause tick changes) ∷ []) h in
     let (c, d) = first_more (fault_by_at 47 item (changes_cause tick changes)) [] b in
-    let (s, n) = new_parts (is_taken own before (mmsi_of here)) (number_cause ships ship) (no_cause 46 item (ship_cause own before ship) a) in
+    let (s, n) = new_parts (is_ship_taken own before (predicted_mmsi here)) (number_cause ships ship) (no_cause 46 item (ship_cause own before ship) a) in
     record { ship = s; new = n; changes = no_cause 47 item (changes_cause tick changes) c }
 
 append_nil : {A : Type 0} (a : List A) → a ++ [] ≡ a
@@ -94,10 +94,10 @@ readable values (tick, own, h) =
 
 -- ships
 
-within_of : (z : ℤ) → integer_cause ships (Some z) ≡ None → is_within ships z ≡ true
+within_of : (z : ℤ) → integer_cause ships (Some z) ≡ None → is_in_bounds ships z ≡ true
 within_of z h =
     let cause_by : Bool → Option Cause = λ b. if b then (if is_multiple 1 z then None else Some cause.Multiple) else Some cause.Range in
-    elim (is_within ships z) as (λ b. cause_by b ≡ None → b ≡ true) [
+    elim (is_in_bounds ships z) as (λ b. cause_by b ≡ None → b ≡ true) [
       | true ↦ λ e. refl
       | false ↦ λ e. cc
     ] h
@@ -127,31 +127,31 @@ neither false b h = (refl, h)
 apart : (a b : ℕ) → (a == b) ≡ false → a ≢ b
 apart a b h e = grind (arith, nat_tests)
 
-other_inside : (mmsi : ℕ) (front : List Data) (here : Data) (rest : List Data) → list_any (λ taken. taken == mmsi) (map mmsi_of (front ++ here ∷ rest)) ≡ false →
-    (mmsi_of here == mmsi) ≡ false
-other_inside mmsi [] here rest h = (neither (mmsi_of here == mmsi) (list_any (λ taken. taken == mmsi) (map mmsi_of rest)) h).0
+other_inside : (mmsi : ℕ) (front : List Data) (here : Data) (rest : List Data) → list_any (λ taken. taken == mmsi) (map predicted_mmsi (front ++ here ∷ rest)) ≡ false →
+    (predicted_mmsi here == mmsi) ≡ false
+other_inside mmsi [] here rest h = (neither (predicted_mmsi here == mmsi) (list_any (λ taken. taken == mmsi) (map predicted_mmsi rest)) h).0
 other_inside mmsi (x ∷ front) here rest h =
-    other_inside mmsi front here rest (neither (mmsi_of x == mmsi) (list_any (λ taken. taken == mmsi) (map mmsi_of (front ++ here ∷ rest))) h).1
+    other_inside mmsi front here rest (neither (predicted_mmsi x == mmsi) (list_any (λ taken. taken == mmsi) (map predicted_mmsi (front ++ here ∷ rest))) h).1
 
 AreNew : ℕ → List Data → List Data → Type 0
-AreNew own front l = (k : ℕ) (d : Data) → k < length l → is_taken own (front ++ take k l) (mmsi_of (slice_index_or l k d)) ≡ false
+AreNew own front l = (k : ℕ) (d : Data) → k < length l → is_ship_taken own (front ++ take k l) (predicted_mmsi (slice_index_or l k d)) ≡ false
 
 new_behind : (own : ℕ) (front : List Data) (x : Data) (l : List Data) → AreNew own front (x ∷ l) → AreNew own (front ++ x ∷ []) l
 unfolding AreNew
-new_behind own front x l h = λ k d lt. subst (λ f. is_taken own f (mmsi_of (slice_index_or l k d)) ≡ false) (sym (append_one front x (take k l))) (h (suc k) d (omega arith))
+new_behind own front x l h = λ k d lt. subst (λ f. is_ship_taken own f (predicted_mmsi (slice_index_or l k d)) ≡ false) (sym (append_one front x (take k l))) (h (suc k) d (omega arith))
 
-differs_behind : (own : ℕ) (front : List Data) (x : Data) (l : List Data) → AreNew own front (x ∷ l) → All (λ t. mmsi_of x ≢ mmsi_of t) l
+differs_behind : (own : ℕ) (front : List Data) (x : Data) (l : List Data) → AreNew own front (x ∷ l) → All (λ t. predicted_mmsi x ≢ predicted_mmsi t) l
 unfolding AreNew
 differs_behind own front x l h = λ k d lt.
-    let mmsi = mmsi_of (slice_index_or l k d) in
-    let (a, b) = neither (own == mmsi) (list_any (λ taken. taken == mmsi) (map mmsi_of (front ++ x ∷ take k l))) (h (suc k) d (omega arith)) in
-    apart (mmsi_of x) mmsi (other_inside mmsi front x (take k l) b)
+    let mmsi = predicted_mmsi (slice_index_or l k d) in
+    let (a, b) = neither (own == mmsi) (list_any (λ taken. taken == mmsi) (map predicted_mmsi (front ++ x ∷ take k l))) (h (suc k) d (omega arith)) in
+    apart (predicted_mmsi x) mmsi (other_inside mmsi front x (take k l) b)
 
 all_different : (own : ℕ) (front l : List Data) → AreNew own front l → AllPairs (λ (p q : Predict). p.mmsi ≢ q.mmsi) (map predict_of l)
 all_different own front [] h = λ i j d a b. absurd (omega arith)
 all_different own front (x ∷ l) h =
     AllPairs-cons (λ (p q : Predict). p.mmsi ≢ q.mmsi) (predict_of x) (map predict_of l)
-    (All-map (λ (q : Predict). mmsi_of x ≢ q.mmsi) predict_of l (differs_behind own front x l h))
+    (All-map (λ (q : Predict). predicted_mmsi x ≢ q.mmsi) predict_of l (differs_behind own front x l h))
     (all_different own (front ++ x ∷ []) l (new_behind own front x l h))
 
 -- changes
@@ -221,10 +221,10 @@ later (Some m) None h k lt = absurd (cc)
 later (Some m) (Some n) h k lt = natural_less m.after n.after (held m h).after lt
 
 abbrev time_of : Data → ℤ
-time_of d = after_of (numbers_of d)
+time_of d = after_of (change_numbers_at d)
 
 abbrev change_in : Data → Change
-change_in d = change_of (numbers_of d)
+change_in d = change_of (change_numbers_at d)
 
 all_exceed : (least : ℤ) (list : List Data) → ascend_from least (map time_of list) ≡ true → All (λ d. least <ℤ time_of d) list
 all_exceed least [] h = all_none (λ d. least <ℤ time_of d)
@@ -234,29 +234,29 @@ all_exceed least (x ∷ list) h =
     let rest = all_exceed (time_of x) list b in
     All-cons (λ d. least <ℤ time_of d) x list lt (λ k d le. lt_trans least (time_of x) (time_of (slice_index_or list k d)) lt (rest k d le))
 
-ordered_from : (least : ℤ) (list : List Data) → ascend_from least (map time_of list) ≡ true → All (λ d. is_change_of (numbers_of d) ≡ true) list →
+ordered_from : (least : ℤ) (list : List Data) → ascend_from least (map time_of list) ≡ true → All (λ d. is_change_of (change_numbers_at d) ≡ true) list →
     AllPairs (λ (c d : Change). c.after < d.after) (map change_in list)
 ordered_from least [] h all = λ i j d a b. absurd (omega arith)
 ordered_from least (x ∷ list) h all =
     let (a, b) = and_parts (int_lt least (time_of x)) (ascend_from (time_of x) (map time_of list)) h in
-    let first = all_head (λ d. is_change_of (numbers_of d) ≡ true) x list all in
-    let rest = all_tail (λ d. is_change_of (numbers_of d) ≡ true) x list all in
+    let first = all_head (λ d. is_change_of (change_numbers_at d) ≡ true) x list all in
+    let rest = all_tail (λ d. is_change_of (change_numbers_at d) ≡ true) x list all in
     let exceed = all_exceed (time_of x) list b in
     AllPairs-cons (λ (c d : Change). c.after < d.after) (change_in x) (map change_in list)
     (All-map (λ (d : Change). (change_in x).after < d.after) change_in list
-    (λ k d lt. later (numbers_of x) (numbers_of (slice_index_or list k d)) first (rest k d lt) (exceed k d lt)))
+    (λ k d lt. later (change_numbers_at x) (change_numbers_at (slice_index_or list k d)) first (rest k d lt) (exceed k d lt)))
     (ordered_from (time_of x) list b rest)
 
-ordered : (list : List Data) → ascend (map time_of list) ≡ true → All (λ d. is_change_of (numbers_of d) ≡ true) list →
+ordered : (list : List Data) → ascend (map time_of list) ≡ true → All (λ d. is_change_of (change_numbers_at d) ≡ true) list →
     AllPairs (λ (c d : Change). c.after < d.after) (map change_in list)
 ordered [] h all = λ i j d a b. absurd (omega arith)
 ordered (x ∷ list) h all =
-    let first = all_head (λ d. is_change_of (numbers_of d) ≡ true) x list all in
-    let rest = all_tail (λ d. is_change_of (numbers_of d) ≡ true) x list all in
+    let first = all_head (λ d. is_change_of (change_numbers_at d) ≡ true) x list all in
+    let rest = all_tail (λ d. is_change_of (change_numbers_at d) ≡ true) x list all in
     let exceed = all_exceed (time_of x) list h in
     AllPairs-cons (λ (c d : Change). c.after < d.after) (change_in x) (map change_in list)
     (All-map (λ (d : Change). (change_in x).after < d.after) change_in list
-    (λ k d lt. later (numbers_of x) (numbers_of (slice_index_or list k d)) first (rest k d lt) (exceed k d lt)))
+    (λ k d lt. later (change_numbers_at x) (change_numbers_at (slice_index_or list k d)) first (rest k d lt) (exceed k d lt)))
     (ordered_from (time_of x) list h rest)
 
 nat_le-true : (m n : ℕ) → nat_le m n ≡ true → m ≤ n
@@ -267,10 +267,10 @@ unfolding list_cause
 list_timed tick list h =
     let (t, r, m) = causes (list_all is_integer_list list) (are_changes list) (are_on_ticks tick list) h in
     let (l, c) = and_parts (nat_le 1 (length list) && nat_le (length list) 16)
-    (list_all (λ found. is_change_of (numbers_of found)) list && ascend (map time_of list)) r in
+    (list_all (λ found. is_change_of (change_numbers_at found)) list && ascend (map time_of list)) r in
     let (low, high) = and_parts (nat_le 1 (length list)) (nat_le (length list) 16) l in
-    let (each, order) = and_parts (list_all (λ found. is_change_of (numbers_of found)) list) (ascend (map time_of list)) c in
-    let changes = all_passed (λ found. is_change_of (numbers_of found)) list each in
+    let (each, order) = and_parts (list_all (λ found. is_change_of (change_numbers_at found)) list) (ascend (map time_of list)) c in
+    let changes = all_passed (λ found. is_change_of (change_numbers_at found)) list each in
     let ticks = all_passed (λ found. unsigned_abs (time_of found) % tick == 0) list m in
     let many = length-map list change_in in
     let some = nat_le-true 1 (length list) low in
@@ -279,13 +279,13 @@ list_timed tick list h =
       some = omega arith;
       few = omega arith;
       after = All-map (λ (c : Change). (c.after ≤ 7200) × (c.after % tick ≡ 0)) change_in list
-          (λ k d lt. after_held tick (numbers_of (slice_index_or list k d)) (changes k d lt) (ticks k d lt));
-      course = All-map (λ (c : Change). c.course ≤ 3599) change_in list (λ k d lt. course_held (numbers_of (slice_index_or list k d)) (changes k d lt));
-      speed = All-map (λ (c : Change). c.speed ≤ 1022) change_in list (λ k d lt. speed_held (numbers_of (slice_index_or list k d)) (changes k d lt));
+          (λ k d lt. after_held tick (change_numbers_at (slice_index_or list k d)) (changes k d lt) (ticks k d lt));
+      course = All-map (λ (c : Change). c.course ≤ 3599) change_in list (λ k d lt. course_held (change_numbers_at (slice_index_or list k d)) (changes k d lt));
+      speed = All-map (λ (c : Change). c.speed ≤ 1022) change_in list (λ k d lt. speed_held (change_numbers_at (slice_index_or list k d)) (changes k d lt));
       order = ordered list order changes;
     }
 
-timed : (tick : ℕ) (found : Option Data) → changes_cause tick found ≡ None → AreTimed tick (changes_of found)
+timed : (tick : ℕ) (found : Option Data) → changes_cause tick found ≡ None → AreTimed tick (predicted_changes found)
 timed tick None h = absurd (cc)
 timed tick (Some found) h =
     elim (as_array found) as (λ a. array_cause tick a ≡ None → AreTimed tick (map change_in (list_in a))) [
@@ -295,29 +295,29 @@ timed tick (Some found) h =
 
 -- the same of the values of an array
 
-list_held : (tick : ℕ) (list : List Data) → list_cause tick list ≡ None → list_all (λ found. is_change_of (numbers_of found)) list ≡ true
+list_held : (tick : ℕ) (list : List Data) → list_cause tick list ≡ None → list_all (λ found. is_change_of (change_numbers_at found)) list ≡ true
 unfolding list_cause
 list_held tick list h =
     let (t, r, m) = causes (list_all is_integer_list list) (are_changes list) (are_on_ticks tick list) h in
     let (l, c) = and_parts (nat_le 1 (length list) && nat_le (length list) 16)
-    (list_all (λ found. is_change_of (numbers_of found)) list && ascend (map time_of list)) r in
-    (and_parts (list_all (λ found. is_change_of (numbers_of found)) list) (ascend (map time_of list)) c).0
+    (list_all (λ found. is_change_of (change_numbers_at found)) list && ascend (map time_of list)) r in
+    (and_parts (list_all (λ found. is_change_of (change_numbers_at found)) list) (ascend (map time_of list)) c).0
 
 array_held : (tick : ℕ) (array : Option Items) (values : List Value) → array_cause tick array ≡ None → Some (items_view values) ≡ array →
-    list_all (λ v. is_change_of (numbers_of (view v))) values ≡ true
+    list_all (λ v. is_change_of (change_numbers_at (view v))) values ≡ true
 array_held tick None values h e = absurd (cc)
 array_held tick (Some items) values h e =
     let same : items_view values ≡ items = cc in
-    sym (all_seen (λ found. is_change_of (numbers_of found)) values)
+    sym (all_seen (λ found. is_change_of (change_numbers_at found)) values)
     ∙ list_held tick (elements (items_view values)) (subst (λ (i : Items). list_cause tick (elements i) ≡ None) (sym same) h)
 
 pub changes_held : (found : Option Data) (values : List Value) → AreReadable found → Some (items_view values) ≡ array_in found →
-    list_all (λ v. is_change_of (numbers_of (view v))) values ≡ true
+    list_all (λ v. is_change_of (change_numbers_at (view v))) values ≡ true
 changes_held None values (tick, h) e = absurd (cc)
 changes_held (Some found) values (tick, h) e = array_held tick (as_array found) values h e
 
 pub changes_are : (found : Option Data) (values : List Value) → Some (items_view values) ≡ array_in found →
-    map (λ v. change_of (numbers_of (view v))) values ≡ changes_of found
+    map (λ v. change_of (change_numbers_at (view v))) values ≡ predicted_changes found
 changes_are found values e =
     sym (mapped_seen change_in values) ∙ ap (λ a. map change_in (list_in a)) e
 
@@ -333,8 +333,8 @@ in_range tick own tables few h =
       ships = All-map (λ (p : Predict). (200000000 ≤ p.mmsi) × (p.mmsi ≤ 799999999)) predict_of tables
           (λ k d lt. ship_between (member_at (codes "mmsi") (slice_index_or tables k d)) (pass k d lt).ship);
       others = All-map (λ (p : Predict). p.mmsi ≢ own) predict_of tables
-          (λ k d lt e. apart own (mmsi_of (slice_index_or tables k d))
-          (neither (own == mmsi_of (slice_index_or tables k d)) (list_any (λ taken. taken == mmsi_of (slice_index_or tables k d)) (map mmsi_of (take k tables))) (pass k d lt).new).0
+          (λ k d lt e. apart own (predicted_mmsi (slice_index_or tables k d))
+          (neither (own == predicted_mmsi (slice_index_or tables k d)) (list_any (λ taken. taken == predicted_mmsi (slice_index_or tables k d)) (map predicted_mmsi (take k tables))) (pass k d lt).new).0
           (sym e));
       different = all_different own [] tables (λ k d lt. (pass k d lt).new);
       changes = All-map (λ (p : Predict). AreTimed tick p.changes) predict_of tables

@@ -16,23 +16,23 @@ use Rattle.scenario_keys.specs.declared.cause.Cause.TheVariants as cause
 use Rattle.predictions.specs.declared.changes.ChangeNumbers.{ChangeNumbers}
 
 -- the MMSI of a table, 0 where it has none
-abbrev pub mmsi_of : Data → ℕ
-mmsi_of found = natural_of (integer_found (member_at (codes "mmsi") found))
+abbrev pub predicted_mmsi : Data → ℕ
+predicted_mmsi found = natural_of (integer_found (member_at (codes "mmsi") found))
 
 -- the MMSIs of ships (ITU-R M.585)
 abbrev pub ships : Bounds
 ships = record { low = pos 200000000; high = pos 799999999; step = 1; otherwise = None }
 
 -- whether own ship has the MMSI, or a table before
-abbrev pub is_taken : ℕ → List Data → ℕ → Bool
-is_taken own before mmsi = list_any (λ taken. taken == mmsi) (own ∷ map mmsi_of before)
+abbrev pub is_ship_taken : ℕ → List Data → ℕ → Bool
+is_ship_taken own before mmsi = list_any (λ taken. taken == mmsi) (own ∷ map predicted_mmsi before)
 
 abbrev pub new_cause : Bool → Option Cause → Option Cause
 new_cause taken (Some why) = Some why
 new_cause taken None = if taken then Some cause.Range else None
 
 abbrev pub ship_cause : ℕ → List Data → Option Data → Option Cause
-ship_cause own before found = new_cause (is_taken own before (natural_of (integer_found found))) (number_cause ships found)
+ship_cause own before found = new_cause (is_ship_taken own before (natural_of (integer_found found))) (number_cause ships found)
 
 -- the three numbers of a change, if there are three
 
@@ -76,16 +76,16 @@ are_integers (Some items) = list_all is_integer (elements items)
 abbrev pub is_integer_list : Data → Bool
 is_integer_list found = are_integers (as_array found)
 
-abbrev pub numbers_of : Data → Option ChangeNumbers
-numbers_of found = change_numbers (integers_in found)
+abbrev pub change_numbers_at : Data → Option ChangeNumbers
+change_numbers_at found = change_numbers (integers_in found)
 
 abbrev pub are_changes : List Data → Bool
 are_changes list =
     (nat_le 1 (length list) && nat_le (length list) 16)
-    && (list_all (λ found. is_change_of (numbers_of found)) list && ascend (map (λ found. after_of (numbers_of found)) list))
+    && (list_all (λ found. is_change_of (change_numbers_at found)) list && ascend (map (λ found. after_of (change_numbers_at found)) list))
 
 abbrev pub are_on_ticks : ℕ → List Data → Bool
-are_on_ticks tick list = list_all (λ found. unsigned_abs (after_of (numbers_of found)) % tick == 0) list
+are_on_ticks tick list = list_all (λ found. unsigned_abs (after_of (change_numbers_at found)) % tick == 0) list
 
 unfoldable pub list_cause : ℕ → List Data → Option Cause
 list_cause tick list =

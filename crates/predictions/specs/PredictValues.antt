@@ -2,7 +2,7 @@
 use Rattle.std.specs.Prelude.{◌≡◌, ◌≢◌, ℕ, ◌≤◌, ◌<◌, ◌%◌, codes, List, length, map, All, AllPairs, Option, Some, None}
 use Rattle.toml.specs.Data.{Data}
 use Rattle.scenario_keys.specs.KeyValues.{array_in, list_in, member_at, natural_of}
-use Rattle.predictions.specs.PredictFaults.{mmsi_of, numbers_of}
+use Rattle.predictions.specs.PredictFaults.{predicted_mmsi, change_numbers_at}
 use Rattle.predictions.specs.declared.changes.Change.{Change}
 use Rattle.predictions.specs.declared.changes.ChangeNumbers.{ChangeNumbers}
 use Rattle.predictions.specs.declared.predictions.Predict.{Predict}
@@ -15,11 +15,11 @@ change_of (Some numbers) = record {
   speed = natural_of (Some numbers.speed);
 }
 
-abbrev pub changes_of : Option Data → List Change
-changes_of found = map (λ inner. change_of (numbers_of inner)) (list_in (array_in found))
+abbrev pub predicted_changes : Option Data → List Change
+predicted_changes found = map (λ inner. change_of (change_numbers_at inner)) (list_in (array_in found))
 
 abbrev pub predict_of : Data → Predict
-predict_of here = record { mmsi = mmsi_of here; changes = changes_of (member_at (codes "changes") here) }
+predict_of here = record { mmsi = predicted_mmsi here; changes = predicted_changes (member_at (codes "changes") here) }
 
 -- one of each table, in their order
 abbrev pub predictions_of : List Data → List Predict

@@ -5,7 +5,7 @@ ghost use Rattle.toml.specs.Data.{as_integer};
 ghost use Rattle.toml.specs.View.{array_view, view};
 ghost use Rattle.scenario_keys.specs.KeyValues.{integer_of};
 ghost use Rattle.scenario_keys.specs.ListFaults.{elements};
-ghost use Rattle.predictions.specs.PredictFaults.{after_of, ascend, are_changes, are_on_ticks, change_numbers, changes_cause, is_change_of, is_from_0_to, is_integer, is_integer_list, list_cause, numbers_of};
+ghost use Rattle.predictions.specs.PredictFaults.{after_of, ascend, are_changes, are_on_ticks, change_numbers, changes_cause, is_change_of, is_from_0_to, is_integer, is_integer_list, list_cause, change_numbers_at};
 ghost use Rattle.predictions.specs.Inner.{exceeds};
 
 use scenario_keys::{Cause, element_count};
@@ -113,7 +113,7 @@ fn three_numbers(list: &Array) -> Option<ChangeNumbers>
 /// The three numbers of a change, if there are three.
 #[tactic(auto, using(crate::proofs::Lists::mapped_seen))]
 pub(crate) fn numbers_of(found: &Value) -> Option<ChangeNumbers>
-    ensures { result ≡ numbers_of (view found.now) }
+    ensures { result ≡ change_numbers_at (view found.now) }
 {
     match found.as_array() {
         Some(list) => three_numbers(list),
@@ -128,7 +128,7 @@ fn is_from_0_to(most: u16, number: i64) -> bool
 }
 
 fn is_change(found: &Value) -> bool
-    ensures { result ≡ is_change_of (numbers_of (view found.now)) }
+    ensures { result ≡ is_change_of (change_numbers_at (view found.now)) }
 {
     match numbers_of(found) {
         Some(numbers) => {
@@ -141,7 +141,7 @@ fn is_change(found: &Value) -> bool
 }
 
 fn after_of(found: &Value) -> i64
-    ensures { result ≡ after_of (numbers_of (view found.now)) }
+    ensures { result ≡ after_of (change_numbers_at (view found.now)) }
 {
     match numbers_of(found) {
         Some(numbers) => numbers.after,
@@ -150,7 +150,7 @@ fn after_of(found: &Value) -> i64
 }
 
 fn all_changes(list: &Array) -> bool
-    ensures { result ≡ list_all (λ v. is_change_of (numbers_of (view v))) list.now.items }
+    ensures { result ≡ list_all (λ v. is_change_of (change_numbers_at (view v))) list.now.items }
 {
     list.iter().all(|found| is_change(found))
 }
@@ -167,7 +167,7 @@ fn exceeds(before: Option<i64>, number: i64) -> bool
 
 /// Whether each change comes after the one before.
 fn ascend(list: &Array) -> bool
-    ensures { result ≡ ascend (map (λ v. after_of (numbers_of (view v))) list.now.items) }
+    ensures { result ≡ ascend (map (λ v. after_of (change_numbers_at (view v))) list.now.items) }
 {
     let mut before = None;
     for found in list.iter() {
@@ -182,14 +182,14 @@ fn ascend(list: &Array) -> bool
 
 fn is_on_tick(tick: u32, found: &Value) -> bool
     requires { 1 ≤ tick }
-    ensures { result ≡ (unsigned_abs (after_of (numbers_of (view found.now))) % tick == 0) }
+    ensures { result ≡ (unsigned_abs (after_of (change_numbers_at (view found.now))) % tick == 0) }
 {
     after_of(found).unsigned_abs() % u64::from(tick) == 0
 }
 
 fn are_on_ticks(tick: u32, list: &Array) -> bool
     requires { 1 ≤ tick }
-    ensures { result ≡ list_all (λ v. unsigned_abs (after_of (numbers_of (view v))) % tick == 0) list.now.items }
+    ensures { result ≡ list_all (λ v. unsigned_abs (after_of (change_numbers_at (view v))) % tick == 0) list.now.items }
 {
     list.iter().all(|found| is_on_tick(tick, found))
 }

@@ -4,7 +4,7 @@ ghost use Rattle.std.specs.List.{list_any};
 ghost use Rattle.toml.specs.View.{view};
 ghost use Rattle.scenario_keys.specs.KeyValues.{integer_found, natural_of};
 ghost use Rattle.scenario_keys.specs.IntegerFaults.{number_cause};
-ghost use Rattle.predictions.specs.PredictFaults.{is_taken, mmsi_of, predict_fault, ship_cause, ships, table_fault};
+ghost use Rattle.predictions.specs.PredictFaults.{is_ship_taken, predicted_mmsi, predict_fault, ship_cause, ships, table_fault};
 
 use crate::changes::changes_cause;
 use scenario_keys::{Bounds, Cause, Key, fault_at, member, number_cause};
@@ -33,13 +33,13 @@ fn natural_in(found: Option<&Value>) -> u64
 
 /// The MMSI of a table, 0 where it has none.
 pub(crate) fn mmsi_of(table: &Value) -> u64
-    ensures { result ≡ mmsi_of (view table.now) }
+    ensures { result ≡ predicted_mmsi (view table.now) }
 {
     natural_in(member(table, "mmsi"))
 }
 
 fn is_before(tables: &[Value], mmsi: u64) -> bool
-    ensures { result ≡ list_any (λ v. mmsi_of (view v) == mmsi) tables.now }
+    ensures { result ≡ list_any (λ v. predicted_mmsi (view v) == mmsi) tables.now }
 {
     tables.iter().any(|table| mmsi_of(table) == mmsi)
 }
@@ -47,7 +47,7 @@ fn is_before(tables: &[Value], mmsi: u64) -> bool
 /// Whether own ship has the MMSI, or a table before.
 #[tactic(auto, using(crate::proofs::Lists::any_seen))]
 fn is_taken(own: u64, before: &[Value], mmsi: u64) -> bool
-    ensures { result ≡ is_taken own (map view before.now) mmsi }
+    ensures { result ≡ is_ship_taken own (map view before.now) mmsi }
 {
     own == mmsi || is_before(before, mmsi)
 }

@@ -3,8 +3,8 @@ ghost use Rattle.std.specs.Prelude.{◌≡◌, ◌≤◌, ℕ, option_map, codes
 ghost use Rattle.std.specs.List.{list_all};
 ghost use Rattle.toml.specs.View.{array_view, view};
 ghost use Rattle.scenario_keys.specs.KeyValues.{array_in, member_at};
-ghost use Rattle.predictions.specs.PredictFaults.{is_change_of, mmsi_of, numbers_of, predict_fault, HaveNoFault};
-ghost use Rattle.predictions.specs.PredictValues.{change_of, changes_of, predict_of, predictions_of, ArePredictions};
+ghost use Rattle.predictions.specs.PredictFaults.{is_change_of, predicted_mmsi, change_numbers_at, predict_fault, HaveNoFault};
+ghost use Rattle.predictions.specs.PredictValues.{change_of, predicted_changes, predict_of, predictions_of, ArePredictions};
 ghost use Rattle.predictions.specs.Inner.{AreReadable, IsReadable};
 
 use crate::changes::{Change, Changes, numbers_of};
@@ -16,8 +16,8 @@ use toml::Value;
 use toml::value::Array;
 
 fn change_in(found: &Value) -> Change
-    requires { is_change_of (numbers_of (view found.now)) ≡ true }
-    ensures { result ≡ change_of (numbers_of (view found.now)) }
+    requires { is_change_of (change_numbers_at (view found.now)) ≡ true }
+    ensures { result ≡ change_of (change_numbers_at (view found.now)) }
 {
     match numbers_of(found) {
         Some(numbers) => Change {
@@ -34,8 +34,8 @@ fn change_in(found: &Value) -> Change
 }
 
 fn changes_in(alloc: Global, list: &Array) -> Result<Vec<Change>, AllocError>
-    requires { list_all (λ v. is_change_of (numbers_of (view v))) list.now.items ≡ true }
-    ensures { IfOk result (λ changes. changes.items ≡ map (λ v. change_of (numbers_of (view v))) list.now.items) }
+    requires { list_all (λ v. is_change_of (change_numbers_at (view v))) list.now.items ≡ true }
+    ensures { IfOk result (λ changes. changes.items ≡ map (λ v. change_of (change_numbers_at (view v))) list.now.items) }
 {
     let mut changes = Vec::new(alloc);
     for found in list.iter() {
@@ -56,7 +56,7 @@ fn array_in(found: Option<&Value>) -> Option<&Array>
 /// The changes of a table.
 fn changes_of(alloc: Global, found: Option<&Value>) -> Result<Changes, AllocError>
     requires { AreReadable (option_map (λ v. view v.now) found) }
-    ensures { IfOk result (λ changes. changes ≡ changes_of (option_map (λ v. view v.now) found.entry)) }
+    ensures { IfOk result (λ changes. changes ≡ predicted_changes (option_map (λ v. view v.now) found.entry)) }
 {
     match array_in(found) {
         Some(list) => Ok(Changes::new(changes_in(alloc, list)?)),

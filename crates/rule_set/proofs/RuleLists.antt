@@ -6,7 +6,7 @@ use Rattle.std.proofs.lemmas.List.{length-map, map-append, length-append}
 use Rattle.mtl_formulas.specs.FormulaMeasures.{IsValid}
 use Rattle.rule_set.specs.declared.rule.Rule.{Rule}
 use Rattle.rule_set.specs.declared.rule_set.TheConstants.{MOST_RULES}
-use Rattle.rule_set.specs.NamedTrees.{NamedTree, holds, HaveDifferentNames, AreRules}
+use Rattle.rule_set.specs.NamedTrees.{NamedTree, has_rule, RulesHaveDifferentNames, AreRules}
 use Rattle.rule_set.specs.Inner.Rules.{named_tree, named_trees}
 use Rattle.rule_set.proofs.Names.{different_after}
 
@@ -15,18 +15,18 @@ valid_at [] k d h = absurd (omega arith)
 valid_at (rule ∷ rules) zero d h = rule.valid
 valid_at (rule ∷ rules) (suc k) d h = valid_at rules k d (omega arith)
 
-pub are_rules : (rules : List Rule) → length rules ≤ MOST_RULES → HaveDifferentNames (named_trees rules) → AreRules (named_trees rules)
+pub are_rules : (rules : List Rule) → length rules ≤ MOST_RULES → RulesHaveDifferentNames (named_trees rules) → AreRules (named_trees rules)
 are_rules rules few different = record {
   few = omega (arith, length-map rules named_tree);
   different = different;
   valid = valid_at rules;
 }
 
-pub holds_of : (rules : List Rule) (name : List ℕ) → list_any (λ (rule : Rule). bytes_eq rule.name name) rules ≡ holds (named_trees rules) name
+pub holds_of : (rules : List Rule) (name : List ℕ) → list_any (λ (rule : Rule). bytes_eq rule.name name) rules ≡ has_rule (named_trees rules) name
 holds_of [] name = refl
 holds_of (rule ∷ rules) name = ap (λ r. bytes_eq rule.name name || r) (holds_of rules name)
 
-pub added : (rules : List Rule) (rule : Rule) → length rules < MOST_RULES → HaveDifferentNames (named_trees rules) → holds (named_trees rules) rule.name ≡ false →
-    (length (rules ++ rule ∷ []) ≤ MOST_RULES) × HaveDifferentNames (named_trees (rules ++ rule ∷ []))
+pub added : (rules : List Rule) (rule : Rule) → length rules < MOST_RULES → RulesHaveDifferentNames (named_trees rules) → has_rule (named_trees rules) rule.name ≡ false →
+    (length (rules ++ rule ∷ []) ≤ MOST_RULES) × RulesHaveDifferentNames (named_trees (rules ++ rule ∷ []))
 added rules rule few different new =
     (omega (arith, length-append rules (rule ∷ [])), rw (map-append named_tree rules (rule ∷ [])) (different_after (named_trees rules) (named_tree rule) different new))

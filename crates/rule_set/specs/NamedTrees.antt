@@ -13,57 +13,57 @@ pub record NamedTree : Type 0 where
   pub name : List ℕ
   pub tree : FormulaTree
 
-abbrev pub named : List ℕ → FormulaTree → NamedTree
-named name tree = record { name = name; tree = tree }
+abbrev pub rule_named : List ℕ → FormulaTree → NamedTree
+rule_named name tree = record { name = name; tree = tree }
 
 -- the eleven rules without ranks, at a tick of so many seconds
 abbrev pub rules_of : ℕ → RuleNumbers → List NamedTree
 rules_of tick numbers =
-    named (codes "r8b") (tree.r8b tick numbers)
-    ∷ named (codes "r8d") (tree.r8d numbers)
-    ∷ named (codes "r13") (tree.r13 numbers)
-    ∷ named (codes "r14a") (tree.r14a tick numbers)
-    ∷ named (codes "r14b") tree.r14b
-    ∷ named (codes "r14p") tree.r14p
-    ∷ named (codes "r15") tree.r15
-    ∷ named (codes "r16") (tree.r16 tick numbers)
-    ∷ named (codes "r17a") (tree.r17a tick numbers)
-    ∷ named (codes "r17b") (tree.r17b tick numbers)
-    ∷ named (codes "r17c") (tree.r17c tick numbers)
+    rule_named (codes "r8b") (tree.r8b tick numbers)
+    ∷ rule_named (codes "r8d") (tree.r8d numbers)
+    ∷ rule_named (codes "r13") (tree.r13 numbers)
+    ∷ rule_named (codes "r14a") (tree.r14a tick numbers)
+    ∷ rule_named (codes "r14b") tree.r14b
+    ∷ rule_named (codes "r14p") tree.r14p
+    ∷ rule_named (codes "r15") tree.r15
+    ∷ rule_named (codes "r16") (tree.r16 tick numbers)
+    ∷ rule_named (codes "r17a") (tree.r17a tick numbers)
+    ∷ rule_named (codes "r17b") (tree.r17b tick numbers)
+    ∷ rule_named (codes "r17c") (tree.r17c tick numbers)
     ∷ []
 
 -- the twelve rules with ranks, at a tick of so many seconds
 abbrev pub ranked_rules_of : ℕ → RuleNumbers → List NamedTree
 ranked_rules_of tick numbers =
-    named (codes "r8b") (tree.r8b tick numbers)
-    ∷ named (codes "r8d") (tree.r8d numbers)
-    ∷ named (codes "r13") (tree.r13 numbers)
-    ∷ named (codes "r14a") (ranked.r14a_ranked tick numbers)
-    ∷ named (codes "r14b") ranked.r14b_ranked
-    ∷ named (codes "r14p") ranked.r14p_ranked
-    ∷ named (codes "r15") ranked.r15_ranked
-    ∷ named (codes "r16") (ranked.r16_ranked tick numbers)
-    ∷ named (codes "r17a") (ranked.r17a_ranked tick numbers)
-    ∷ named (codes "r17b") (ranked.r17b_ranked tick numbers)
-    ∷ named (codes "r17c") (ranked.r17c_ranked tick numbers)
-    ∷ named (codes "r18") (ranked.r18 numbers)
+    rule_named (codes "r8b") (tree.r8b tick numbers)
+    ∷ rule_named (codes "r8d") (tree.r8d numbers)
+    ∷ rule_named (codes "r13") (tree.r13 numbers)
+    ∷ rule_named (codes "r14a") (ranked.r14a_ranked tick numbers)
+    ∷ rule_named (codes "r14b") ranked.r14b_ranked
+    ∷ rule_named (codes "r14p") ranked.r14p_ranked
+    ∷ rule_named (codes "r15") ranked.r15_ranked
+    ∷ rule_named (codes "r16") (ranked.r16_ranked tick numbers)
+    ∷ rule_named (codes "r17a") (ranked.r17a_ranked tick numbers)
+    ∷ rule_named (codes "r17b") (ranked.r17b_ranked tick numbers)
+    ∷ rule_named (codes "r17c") (ranked.r17c_ranked tick numbers)
+    ∷ rule_named (codes "r18") (ranked.r18 numbers)
     ∷ []
 
 -- the rule at an index below their number
 abbrev pub rule_at : List NamedTree → ℕ → NamedTree
-rule_at rules k = slice_index_or rules k (named [] (leaf Never))
+rule_at rules k = slice_index_or rules k (rule_named [] (leaf Never))
 
 -- whether some rule has the name
-abbrev pub holds : List NamedTree → List ℕ → Bool
-holds rules name = list_any (λ (rule : NamedTree). bytes_eq rule.name name) rules
+abbrev pub has_rule : List NamedTree → List ℕ → Bool
+has_rule rules name = list_any (λ (rule : NamedTree). bytes_eq rule.name name) rules
 
 -- No rule has the name of one before it.
-abbrev pub HaveDifferentNames : List NamedTree → Type 0
-HaveDifferentNames [] = Unit {0}
-HaveDifferentNames (rule ∷ rules) = (holds rules rule.name ≡ false) × HaveDifferentNames rules
+abbrev pub RulesHaveDifferentNames : List NamedTree → Type 0
+RulesHaveDifferentNames [] = Unit {0}
+RulesHaveDifferentNames (rule ∷ rules) = (has_rule rules rule.name ≡ false) × RulesHaveDifferentNames rules
 
 -- not too many rules, with different names, each a valid formula
 pub record AreRules (rules : List NamedTree) : Type 0 where
   pub few : length rules ≤ MOST_RULES
-  pub different : HaveDifferentNames rules
+  pub different : RulesHaveDifferentNames rules
   pub valid : All (λ (rule : NamedTree). IsValid rule.tree) rules

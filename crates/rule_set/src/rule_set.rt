@@ -2,7 +2,7 @@
 ghost use Rattle.std.specs.Prelude.{◌≡◌, ◌<◌, ◌∷◌, [], ◌++◌, false, length, IfOk, IfErr, OnErr, OnOk};
 ghost use Rattle.mtl_formulas.specs.FormulaTree.{tree_of};
 ghost use Rattle.mtl_formulas.specs.FormulaMeasures.{IsValid};
-ghost use Rattle.rule_set.specs.NamedTrees.{named, rules_of, ranked_rules_of, rule_at, holds, AreRules};
+ghost use Rattle.rule_set.specs.NamedTrees.{rule_named, rules_of, ranked_rules_of, rule_at, has_rule, AreRules};
 ghost use Rattle.rule_set.specs.RuleTrees.{AreRuleNumbers};
 
 use crate::duties::{r8b, r8d, r13, r14a, r14b, r14p, r15, r16, r17a, r17b, r17c};
@@ -27,7 +27,7 @@ pub struct RuleSet {
 
 impl Model for RuleSet {
     ghost use Rattle.std.specs.Prelude.{List, length, ◌≤◌};
-    ghost use Rattle.rule_set.specs.NamedTrees.{NamedTree, HaveDifferentNames};
+    ghost use Rattle.rule_set.specs.NamedTrees.{NamedTree, RulesHaveDifferentNames};
     ghost use Rattle.rule_set.specs.Inner.Codes.{coded_named_trees};
 
     ghost Value = { List NamedTree };
@@ -40,7 +40,7 @@ impl Model for RuleSet {
 
     ghost use Rattle.rule_set.specs.declared.rule_set.TheConstants.{MOST_RULES};
 
-    ghost invariant = { λ s. (length s.rules.items ≤ MOST_RULES) × HaveDifferentNames (named_trees s.rules.items) };
+    ghost invariant = { λ s. (length s.rules.items ≤ MOST_RULES) × RulesHaveDifferentNames (named_trees s.rules.items) };
 }
 
 impl RuleSet {
@@ -93,9 +93,9 @@ impl RuleSet {
     /// At want of memory, the one cause of an `Err`, the formula comes back and the set is as it was.
     pub fn add(&mut self, name: Name, formula: Formula) -> Result<(), Formula>
         requires few { length self.old < MOST_RULES }
-        requires new { holds self.old name ≡ false }
+        requires new { has_rule self.old name ≡ false }
         requires valid { IsValid (tree_of formula) }
-        ensures added { OnOk result (self.new ≡ self.old ++ named name (tree_of formula) ∷ []) }
+        ensures added { OnOk result (self.new ≡ self.old ++ rule_named name (tree_of formula) ∷ []) }
         ensures left { OnErr result (self.new ≡ self.old) }
         ensures back { IfErr result (λ f. f ≡ formula) }
     {
@@ -132,7 +132,7 @@ impl RuleSet {
 
     /// Whether some rule has the name.
     pub fn holds(&self, name: &[u8]) -> bool
-        ensures { result ≡ holds self.now name.now }
+        ensures { result ≡ has_rule self.now name.now }
     {
         has_name(&self.rules, name)
     }

@@ -9,7 +9,7 @@ use Rattle.std.proofs.lemmas.Slice.Eq.{bytes_eq-Decides}
 use Rattle.toml.specs.Data.{Data, Members, as_integer, get_member}
 use Rattle.scenario_keys.specs.ScenarioKeys.{Row, first_rows}
 use Rattle.scenario_keys.specs.KeyValues.{found_in, integer_at, integer_found, integer_or, table_at}
-use Rattle.scenario_keys.specs.IntegerFaults.{bounds_of, integer_cause, is_multiple, is_within, missing_cause, number_cause}
+use Rattle.scenario_keys.specs.IntegerFaults.{bounds_of, integer_cause, is_multiple, is_in_bounds, missing_cause, number_cause}
 use Rattle.scenario_keys.specs.ToldFaults.{fault_by}
 use Rattle.scenario.specs.KeyFaults.{basis_of, counts, fault_in, fault_of, is_version_two, tick_of, tick_or_one}
 use Rattle.scenario.specs.Inner.NoFaults.{rows_by, HaveNoFault}
@@ -49,10 +49,10 @@ record Lies (low high : ℤ) (found : Option Data) : Type 0 where
 
 -- an integer without a cause is within the bounds
 
-is_within-uncaused : (bounds : Bounds) (z : ℤ) → integer_cause bounds (Some z) ≡ None → is_within bounds z ≡ true
+is_within-uncaused : (bounds : Bounds) (z : ℤ) → integer_cause bounds (Some z) ≡ None → is_in_bounds bounds z ≡ true
 is_within-uncaused bounds z h =
     let cause_by : Bool → Option Cause = λ b. if b then (if is_multiple bounds.step z then None else Some cause.Multiple) else Some cause.Range in
-    elim (is_within bounds z) as (λ b. cause_by b ≡ None → b ≡ true) [
+    elim (is_in_bounds bounds z) as (λ b. cause_by b ≡ None → b ≡ true) [
       | true ↦ λ e. refl
       | false ↦ λ e. cc
     ] h

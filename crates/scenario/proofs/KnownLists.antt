@@ -23,11 +23,11 @@ use Rattle.scenario_keys.specs.declared.key.Key.{Key}
 use Rattle.scenario_keys.specs.declared.cause.Cause.{Cause}
 use Rattle.scenario_keys.specs.declared.cause.Cause.TheVariants as cause
 use Rattle.scenario_keys.proofs.ForCallers.{all_head, all_tail}
-use Rattle.added_rules.specs.FormulaTables.{is_taken, name_cause, name_of, rule_names, string_in, IsFormulaFault, IsTableFault, IsTextFault}
+use Rattle.added_rules.specs.FormulaTables.{is_name_taken, name_cause, formula_name_in, rule_names, string_in, IsFormulaFault, IsTableFault, IsTextFault}
 use Rattle.added_rules.specs.ScenarioRules.{AreAdded, IsAdded}
-use Rattle.predictions.specs.PredictFaults.{changes_cause, mmsi_of, predict_fault, ship_cause, table_fault}
+use Rattle.predictions.specs.PredictFaults.{changes_cause, predicted_mmsi, predict_fault, ship_cause, table_fault}
 use Rattle.predictions.specs.PredictFaults as predicted
-use Rattle.predictions.specs.PredictValues.{changes_of, predict_of, predictions_of}
+use Rattle.predictions.specs.PredictValues.{predicted_changes, predict_of, predictions_of}
 use Rattle.predictions.specs.declared.predictions.Predict.{Predict}
 use Rattle.scenario.specs.Migration.{kept, kept_array, kept_by, known_members, two_of, with_found}
 use Rattle.scenario.proofs.ListsHeld.{first_one, first_two}
@@ -123,22 +123,22 @@ fault_kept here most (Some found) e h =
 
 -- the faults of `formula`
 
-names_kept : (tables : List Data) → map name_of (map formula_kept tables) ≡ map name_of tables
+names_kept : (tables : List Data) → map formula_name_in (map formula_kept tables) ≡ map formula_name_in tables
 names_kept [] = refl
 names_kept (here ∷ rest) =
     ap (λ (l : List (List ℕ)). string_in (member_at (codes "name") (formula_kept here)) ∷ l) (names_kept rest)
-    ∙ ap (λ (x : Option Data). string_in x ∷ map name_of rest) (name_kept here)
+    ∙ ap (λ (x : Option Data). string_in x ∷ map formula_name_in rest) (name_kept here)
 
-taken_kept : (before : List Data) → is_taken (map formula_kept before) ≡ is_taken before
+taken_kept : (before : List Data) → is_name_taken (map formula_kept before) ≡ is_name_taken before
 taken_kept before = ap (λ (l : List (List ℕ)). λ (name : List ℕ). list_any (λ taken. bytes_eq taken name) (rule_names ++ l)) (names_kept before)
 
 formula_fault_kept : (tick : ℕ) (before : List Data) (here : Data) → IsTableFault tick (before, here) None → IsTableFault tick (map formula_kept before, formula_kept here) None
 formula_fault_kept tick before here h =
     let C : ℕ → (List ℕ → Bool) → Option Data → Option Data → Type 0 = λ n taken name text. IsTextFault tick n (name_cause taken name) text None in
-    subst (λ n. C n (is_taken (map formula_kept before)) (member_at (codes "name") (formula_kept here)) (member_at (codes "text") (formula_kept here))) (sym (length-map before formula_kept))
+    subst (λ n. C n (is_name_taken (map formula_kept before)) (member_at (codes "name") (formula_kept here)) (member_at (codes "text") (formula_kept here))) (sym (length-map before formula_kept))
     (subst (λ taken. C (length before) taken (member_at (codes "name") (formula_kept here)) (member_at (codes "text") (formula_kept here))) (sym (taken_kept before))
-    (subst (λ name. C (length before) (is_taken before) name (member_at (codes "text") (formula_kept here))) (sym (name_kept here))
-    (subst (λ text. C (length before) (is_taken before) (member_at (codes "name") here) text) (sym (text_kept here)) h)))
+    (subst (λ name. C (length before) (is_name_taken before) name (member_at (codes "text") (formula_kept here))) (sym (name_kept here))
+    (subst (λ text. C (length before) (is_name_taken before) (member_at (codes "name") here) text) (sym (text_kept here)) h)))
 
 each_kept : (P : List Data × Data → Type 0) (f : Data → Data) → ((before : List Data) (here : Data) → P (before, here) → P (map f before, f here)) →
     (before tables : List Data) → All P (with_before before tables) → All P (with_before (map f before) (map f tables))
@@ -167,11 +167,11 @@ added_kept tick (here ∷ tables) (rule ∷ rules) h =
 
 -- the faults and the values of `predict`
 
-ships_kept : (tables : List Data) → map mmsi_of (map predict_kept tables) ≡ map mmsi_of tables
+ships_kept : (tables : List Data) → map predicted_mmsi (map predict_kept tables) ≡ map predicted_mmsi tables
 ships_kept [] = refl
 ships_kept (here ∷ rest) =
     ap (λ (l : List ℕ). natural_of (integer_found (member_at (codes "mmsi") (predict_kept here))) ∷ l) (ships_kept rest)
-    ∙ ap (λ (x : Option Data). natural_of (integer_found x) ∷ map mmsi_of rest) (ship_kept here)
+    ∙ ap (λ (x : Option Data). natural_of (integer_found x) ∷ map predicted_mmsi rest) (ship_kept here)
 
 predict_fault_kept : (tick own : ℕ) (before : List Data) (here : Data) → table_fault tick own (map predict_kept before, predict_kept here) ≡ table_fault tick own (before, here)
 unfolding table_fault
@@ -180,10 +180,10 @@ predict_fault_kept tick own before here =
     first_of (
     fault_by_at 46 (item_of n) (predicted.new_cause (list_any (λ taken. taken == natural_of (integer_found ship)) (own ∷ ships)) (number_cause predicted.ships ship)) ∷
     fault_by_at 47 (item_of n) (changes_cause tick changes) ∷ []) in
-    ap (λ n. told n (map mmsi_of (map predict_kept before)) (member_at (codes "mmsi") (predict_kept here)) (member_at (codes "changes") (predict_kept here))) (length-map before predict_kept)
+    ap (λ n. told n (map predicted_mmsi (map predict_kept before)) (member_at (codes "mmsi") (predict_kept here)) (member_at (codes "changes") (predict_kept here))) (length-map before predict_kept)
     ∙ ap (λ ships. told (length before) ships (member_at (codes "mmsi") (predict_kept here)) (member_at (codes "changes") (predict_kept here))) (ships_kept before)
-    ∙ ap (λ ship. told (length before) (map mmsi_of before) ship (member_at (codes "changes") (predict_kept here))) (ship_kept here)
-    ∙ ap (λ changes. told (length before) (map mmsi_of before) (member_at (codes "mmsi") here) changes) (changes_kept here)
+    ∙ ap (λ ship. told (length before) (map predicted_mmsi before) ship (member_at (codes "changes") (predict_kept here))) (ship_kept here)
+    ∙ ap (λ changes. told (length before) (map predicted_mmsi before) (member_at (codes "mmsi") here) changes) (changes_kept here)
 
 faults_kept : (tick own : ℕ) (before tables : List Data) →
     map (table_fault tick own) (with_before (map predict_kept before) (map predict_kept tables)) ≡ map (table_fault tick own) (with_before before tables)
@@ -199,7 +199,7 @@ predictions_fault_kept tick own tables = ap first_of (faults_kept tick own [] ta
 
 predict_value_kept : (here : Data) → predict_of (predict_kept here) ≡ predict_of here
 predict_value_kept here =
-    let made : Option Data → Option Data → Predict = λ ship changes. record { mmsi = natural_of (integer_found ship); changes = changes_of changes } in
+    let made : Option Data → Option Data → Predict = λ ship changes. record { mmsi = natural_of (integer_found ship); changes = predicted_changes changes } in
     ap (λ ship. made ship (member_at (codes "changes") (predict_kept here))) (ship_kept here) ∙ ap (made (member_at (codes "mmsi") here)) (changes_kept here)
 
 pub predictions_kept : (tables : List Data) → predictions_of (map predict_kept tables) ≡ predictions_of tables

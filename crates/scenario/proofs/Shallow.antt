@@ -26,7 +26,7 @@ use Rattle.scenario_keys.specs.declared.rows.When.TheVariants as when
 use Rattle.scenario_keys.specs.declared.cause.Cause.{Cause}
 use Rattle.scenario_keys.specs.declared.cause.Cause.TheVariants as cause
 use Rattle.scenario_keys.proofs.ForCallers.{all_back, all_front, all_head, all_tail}
-use Rattle.added_rules.specs.FormulaTables.{is_taken, name_cause, new_name_cause, IsFormulaFault, IsStringCause, IsTableFault, IsTextCause, IsTextFault}
+use Rattle.added_rules.specs.FormulaTables.{is_name_taken, name_cause, new_name_cause, IsFormulaFault, IsStringCause, IsTableFault, IsTextCause, IsTextFault}
 use Rattle.predictions.specs.PredictFaults.{array_cause, are_integers, changes_cause, is_integer, is_integer_list, list_cause, new_cause, predict_fault, ship_cause, ships, table_fault}
 use Rattle.predictions.specs.PredictFaults as predicted
 use Rattle.scenario.specs.DocumentFaults.{IsFaultless, IsTold}
@@ -184,8 +184,8 @@ no_text_fault tick index None found h = (refl, untold h.0 h.1 h.2)
 
 formula_deep : (tick : ℕ) (before : List Data) (here : Data) → IsTableFault tick (before, here) None → depth (known_members (codes "formula") here) ≤ 3
 formula_deep tick before here h =
-    let (a, b) = no_text_fault tick (length before) (name_cause (is_taken before) (member_at (codes "name") here)) (member_at (codes "text") here) h in
-    let c = two_deep 0 (codes "name") (codes "text") here (name_deep (is_taken before) (member_at (codes "name") here) a) (text_deep tick (member_at (codes "text") here) b) in
+    let (a, b) = no_text_fault tick (length before) (name_cause (is_name_taken before) (member_at (codes "name") here)) (member_at (codes "text") here) h in
+    let c = two_deep 0 (codes "name") (codes "text") here (name_deep (is_name_taken before) (member_at (codes "name") here) a) (text_deep tick (member_at (codes "text") here) b) in
     omega arith
 
 pub formulas_deep : (tick : ℕ) (tables : List Data) → IsFormulaFault tick tables None → All (λ here. depth (known_members (codes "formula") here) ≤ 3) tables
@@ -196,7 +196,7 @@ formulas_deep tick tables h = each (λ pair. IsTableFault tick pair None) (λ he
 ship_caused : (own : ℕ) (before : List Data) (found : Option Data) → ship_cause own before found ≡ None → number_cause ships found ≡ None
 ship_caused own before found h = by_cause (number_cause ships found) h
   where
-    by_cause : (why : Option Cause) → new_cause (predicted.is_taken own before (natural_of (integer_found found))) why ≡ None → why ≡ None
+    by_cause : (why : Option Cause) → new_cause (predicted.is_ship_taken own before (natural_of (integer_found found))) why ≡ None → why ≡ None
     by_cause None h = refl
     by_cause (Some why) h = cc
 

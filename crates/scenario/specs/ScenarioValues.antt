@@ -3,7 +3,7 @@ use Rattle.std.specs.Prelude.{ℕ, ◌≤◌, ◌*◌, ◌/◌, ◌^◌, codes, 
 use Rattle.toml.specs.Data.{Members}
 use Rattle.ais_messages.specs.ShipIdentities.{IsShip}
 use Rattle.fixed_geometry.specs.Place.{Place}
-use Rattle.scenario_keys.specs.KeyValues.{integers_at, list_at, natural_at, naturals_at, optional_at, signed_at}
+use Rattle.scenario_keys.specs.KeyValues.{integers_at, list_at, natural_at, naturals_at, optional_at, whole_at}
 use Rattle.scenario.specs.KeyFaults.{tick_of}
 use Rattle.lattice.specs.Grids.{Grid, grid, positions_of}
 use Rattle.scenario.specs.declared.own_part.OwnPart.{OwnPart}
@@ -28,8 +28,8 @@ window_of document = record {
 -- the place of the plane's origin, in ten thousandths of a minute, positive to the north and to the east
 unfoldable pub reference_of : Members → Place
 reference_of document = record {
-  latitude = signed_at (codes "reference") (codes "lat") document;
-  longitude = signed_at (codes "reference") (codes "lon") document;
+  latitude = whole_at (codes "reference") (codes "lat") document;
+  longitude = whole_at (codes "reference") (codes "lon") document;
 }
 
 -- the greatest length of a log, in bytes, where the scenario names none

@@ -7,5 +7,5 @@ abbrev pub time_of_tick : Window → ℕ → ℕ
 time_of_tick window k = window.start + k * window.tick
 
 -- the time of the last tick
-abbrev pub end_of : Window → ℕ
-end_of window = time_of_tick window window.ticks
+abbrev pub window_end : Window → ℕ
+window_end window = time_of_tick window window.ticks

@@ -3,7 +3,7 @@ ghost use Rattle.std.specs.Prelude.{◌≡◌, ◌≤◌, ◌*◌, ◌/◌, code
 ghost use Rattle.toml.specs.View.{table_view};
 ghost use Rattle.ais_messages.specs.ShipIdentities.{IsShip};
 ghost use Rattle.scenario.specs.Inner.KnownKeys.{is_own, lies_in, range_at};
-ghost use Rattle.scenario_keys.specs.KeyValues.{natural_at, naturals_at, signed_at};
+ghost use Rattle.scenario_keys.specs.KeyValues.{natural_at, naturals_at, whole_at};
 ghost use Rattle.scenario.specs.KeyFaults.{basis_of, tick_of};
 ghost use Rattle.scenario.specs.Inner.NoFaults.{HaveNoFault};
 ghost use Rattle.added_rules.specs.ScenarioRules.{AreLightRules};
@@ -95,7 +95,7 @@ fn window_in(document: &Table) -> Window
 #[tactic(auto, unfolding(crate::specs::Inner::KnownKeys::kind_at, scenario_keys::specs::ScenarioKeys::first_rows))]
 fn latitude_in(document: &Table) -> i32
     requires { HaveNoFault false (table_view document.now) }
-    ensures value { result ≡ signed_at (codes "reference") (codes "lat") (table_view document.now) }
+    ensures value { result ≡ whole_at (codes "reference") (codes "lat") (table_view document.now) }
     ensures in_range { unsigned_abs result ≤ 45000000 }
 {
     integer(document, "reference", "lat", -45_000_000, 45_000_000) as i32
@@ -104,7 +104,7 @@ fn latitude_in(document: &Table) -> i32
 #[tactic(auto, unfolding(crate::specs::Inner::KnownKeys::kind_at, scenario_keys::specs::ScenarioKeys::first_rows))]
 fn longitude_in(document: &Table) -> i32
     requires { HaveNoFault false (table_view document.now) }
-    ensures value { result ≡ signed_at (codes "reference") (codes "lon") (table_view document.now) }
+    ensures value { result ≡ whole_at (codes "reference") (codes "lon") (table_view document.now) }
     ensures in_range { unsigned_abs result ≤ 108000000 }
 {
     integer(document, "reference", "lon", -108_000_000, 108_000_000) as i32

@@ -16,8 +16,8 @@ bounds_of tick (range.TicksFromOneTo high) = record { low = pos tick; high = hig
 bounds_of tick (range.TicksTo high) = record { low = pos 0; high = high; step = tick; otherwise = None }
 bounds_of tick (range.Optional low high otherwise) = record { low = low; high = high; step = 1; otherwise = Some otherwise }
 
-abbrev pub is_within : Bounds → ℤ → Bool
-is_within bounds z = int_le bounds.low z && int_le z bounds.high
+abbrev pub is_in_bounds : Bounds → ℤ → Bool
+is_in_bounds bounds z = int_le bounds.low z && int_le z bounds.high
 
 abbrev pub is_multiple : ℕ → ℤ → Bool
 is_multiple step z = unsigned_abs z % step == 0
@@ -29,7 +29,7 @@ missing_cause (Some otherwise) = None
 abbrev pub integer_cause : Bounds → Option ℤ → Option Cause
 integer_cause bounds None = Some cause.Type_
 integer_cause bounds (Some z) =
-    if is_within bounds z then (if is_multiple bounds.step z then None else Some cause.Multiple) else Some cause.Range
+    if is_in_bounds bounds z then (if is_multiple bounds.step z then None else Some cause.Multiple) else Some cause.Range
 
 abbrev pub number_cause : Bounds → Option Data → Option Cause
 number_cause bounds None = missing_cause bounds.otherwise

@@ -42,8 +42,8 @@ natural_of None = 0
 natural_of (Some (pos n)) = n
 natural_of (Some (negsuc n)) = 0
 
-abbrev pub signed_at : List ℕ → List ℕ → Members → ℤ
-signed_at table name document = integer_of (integer_at table name document)
+abbrev pub whole_at : List ℕ → List ℕ → Members → ℤ
+whole_at table name document = integer_of (integer_at table name document)
 
 abbrev pub natural_at : List ℕ → List ℕ → Members → ℕ
 natural_at table name document = natural_of (integer_at table name document)

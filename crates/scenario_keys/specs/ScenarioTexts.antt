@@ -23,14 +23,14 @@ has_items kind.PredictedShip = true
 has_items kind.PredictedChanges = true
 has_items _ = false
 
-abbrev pub text_of : ℕ → Option Row → List ℕ
-text_of item None = []
-text_of item (Some row) = if has_items row.kind then name_text row ++ codes "[" ++ decimal item ++ codes "]" else name_text row
+abbrev pub row_key_text : ℕ → Option Row → List ℕ
+row_key_text item None = []
+row_key_text item (Some row) = if has_items row.kind then name_text row ++ codes "[" ++ decimal item ++ codes "]" else name_text row
 
 -- A key is printed as its row in the table of keys is named, with the item in brackets where it has items, and as nothing
 -- where the table has no such row.
 abbrev pub key_text : Key → List ℕ
-key_text key = text_of key.item (find (λ row. row.number == key.row) rows)
+key_text key = row_key_text key.item (find (λ row. row.number == key.row) rows)
 
 abbrev pub cause_text : Cause → List ℕ
 cause_text cause.NotToml = codes "not toml"

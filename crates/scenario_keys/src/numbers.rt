@@ -1,7 +1,7 @@
 //! The faults of integers.
 ghost use Rattle.std.specs.Prelude.{◌≡◌, ◌≤◌, option_map, Some};
 ghost use Rattle.toml.specs.View.{view};
-ghost use Rattle.scenario_keys.specs.IntegerFaults.{bounds_of, integer_cause, is_multiple, is_within, number_cause};
+ghost use Rattle.scenario_keys.specs.IntegerFaults.{bounds_of, integer_cause, is_multiple, is_in_bounds, number_cause};
 
 use crate::cause::Cause;
 use crate::rows::Range;
@@ -38,7 +38,7 @@ pub fn bounds_of(range: Range, tick: u32) -> Bounds
 }
 
 fn is_within(bounds: Bounds, number: i64) -> bool
-    ensures { result ≡ is_within bounds number }
+    ensures { result ≡ is_in_bounds bounds number }
 {
     bounds.low <= number && number <= bounds.high
 }

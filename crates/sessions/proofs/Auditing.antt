@@ -15,7 +15,7 @@ use Rattle.audit_report.specs.ReportRows.{Fields}
 use Rattle.audit_report.specs.ReportTexts.{HasText}
 use Rattle.audit_report.specs.declared.report_text.ReportText.{ReportText}
 use Rattle.audit_traces.specs.AuditTracks.{AreMarksOf}
-use Rattle.audit_traces.specs.Audited.{Numbers, Sighting}
+use Rattle.audit_traces.specs.Audited.{AuditNumbers, Sighting}
 use Rattle.auditor.specs.AuditRows.{AreAuditRows, IsAuditRow}
 use Rattle.judged_lines.specs.SentLines.{sent}
 use Rattle.rule_set.specs.NamedTrees.{NamedTree}
@@ -28,19 +28,19 @@ use Rattle.sessions.proofs.VesselRows.{rows_push}
 
 -- ---- rows tell of rules that are there
 
-of_topic : (numbers : Numbers) (ticks : List Sighting) (topic : Topic) (first : ℕ) (marks : List Mark) (row : Row) → topic_of row ≡ topic
+of_topic : (numbers : AuditNumbers) (ticks : List Sighting) (topic : Topic) (first : ℕ) (marks : List Mark) (row : Row) → topic_of row ≡ topic
     → AreMarksOf numbers ticks topic first marks → IsOfRules numbers.rules row
 of_topic numbers ticks topic first marks (Meeting pair kind from last least) same are = tt
 of_topic numbers ticks topic first marks (Verdict pair rule undecided from last) same are =
     (subst (λ (t : Topic). AreMarksOf numbers ticks t first marks) (sym same) are).within
 
-of_rules : (numbers : Numbers) (ticks : List Sighting) (row : Row) → IsAuditRow numbers ticks row → IsOfRules numbers.rules row
+of_rules : (numbers : AuditNumbers) (ticks : List Sighting) (row : Row) → IsAuditRow numbers ticks row → IsOfRules numbers.rules row
 of_rules numbers ticks row (track, both) = let (from, to, tells) = both.1 in of_topic numbers ticks track.topic track.first track.marks row tells.topic both.0
 
 all_of : {X : Type 0} (P : X → Type 0) (xs : List X) → ((x : X) → Contains xs x → P x) → All P xs
 all_of P xs h = All-weaker (Contains xs) P h xs (All-contains_itself xs)
 
-pub rows_of_rules : (numbers : Numbers) (ticks : List Sighting) (rows : List Row) → AreAuditRows numbers ticks rows → AreOfRules numbers.rules rows
+pub rows_of_rules : (numbers : AuditNumbers) (ticks : List Sighting) (rows : List Row) → AreAuditRows numbers ticks rows → AreOfRules numbers.rules rows
 rows_of_rules numbers ticks rows are = all_of (IsOfRules numbers.rules) rows (λ row i. of_rules numbers ticks row ((are.each row).0 i))
 
 -- rows behind others

@@ -19,7 +19,7 @@ use Rattle.sessions.specs.Modes.{needs_own}
 use Rattle.sessions.specs.PointsReport.{point_rows}
 use Rattle.sessions.specs.PlanReport.{IsPlanReport}
 use Rattle.sessions.specs.Endings.{IsAnswerTo, IsEnding}
-use Rattle.sessions.specs.Standing.{IsDone, IsInUse, StandsFor, mode_by, mode_of, scenario_of}
+use Rattle.sessions.specs.Standing.{IsDone, IsInUse, StandsFor, mode_by, mode_of, session_scenario}
 use Rattle.sessions.specs.Inner.Faults.{EndCause}
 use Rattle.sessions.specs.declared.ending.Ending.{Ending}
 use Rattle.command_line.specs.declared.mode.Mode.{Mode}
@@ -109,27 +109,27 @@ plan_own self is used = used.stands.own (subst (λ (w : Work). IsTrue (needs_own
 -- ---- what the end gives
 
 pub report_is : (self : Session) (m : Mode) (ending made : Ending) (fed given : List ℕ) → mode_of self ≡ m → ending ≡ made → IsEnding m self.scenario fed (given ++ made.bytes.items)
-    → IsEnding (mode_of self) (scenario_of self) fed (given ++ ending.bytes.items)
+    → IsEnding (mode_of self) (session_scenario self) fed (given ++ ending.bytes.items)
 report_is self m ending made fed given mode_is is report =
     subst (λ (n : Mode). IsEnding n self.scenario fed (given ++ ending.bytes.items)) (sym mode_is)
     (subst (λ (e : Ending). IsEnding m self.scenario fed (given ++ e.bytes.items)) (sym is) report)
 
 pub answer_is : (self : Session) (m : Mode) (ending made : Ending) (fed : List ℕ) → mode_of self ≡ m → ending ≡ made → IsAnswerTo m self.scenario fed (Ok made.none)
-    → IsAnswerTo (mode_of self) (scenario_of self) fed (Ok ending.none)
+    → IsAnswerTo (mode_of self) (session_scenario self) fed (Ok ending.none)
 answer_is self m ending made fed mode_is is answer =
     subst (λ (n : Mode). IsAnswerTo n self.scenario fed (Ok ending.none)) (sym mode_is) (subst (λ (e : Ending). IsAnswerTo m self.scenario fed (Ok e.none)) (sym is) answer)
 
 cause_is : (self : Session) (m : Mode) (because : SessionFault) (fed : List ℕ) → mode_of self ≡ m → EndCause m self.scenario fed because
-    → UnlessMemory because (IsAnswerTo (mode_of self) (scenario_of self) fed (Err because))
+    → UnlessMemory because (IsAnswerTo (mode_of self) (session_scenario self) fed (Err because))
 cause_is self m because fed mode_is cause = subst (λ (n : Mode). UnlessMemory because (IsAnswerTo n self.scenario fed (Err because))) (sym mode_is) cause
 
 abbrev pub Refusal : Session → SessionFault → Type 0
-Refusal self because = UnlessMemory because ((fed given : List ℕ) → StandsFor self fed given → IsAnswerTo (mode_of self) (scenario_of self) fed (Err because))
+Refusal self because = UnlessMemory because ((fed given : List ℕ) → StandsFor self fed given → IsAnswerTo (mode_of self) (session_scenario self) fed (Err because))
 
 pub audit_refused : (self : Session) (audit : SettledAudit) (judge : Judge) (because : SessionFault) → self.work ≡ work.Audit audit → JudgeOf self judge
     → ((log : List ℕ) (rows : List Row) → IsAuditOf audit judge self.scenario log rows → EndCause mode.Audit self.scenario log because) → Refusal self because
 audit_refused self audit judge because is judges cause =
-    all_causes because self (λ fed. IsAnswerTo (mode_of self) (scenario_of self) fed (Err because)) (λ fed given stands. (
+    all_causes because self (λ fed. IsAnswerTo (mode_of self) (session_scenario self) fed (Err because)) (λ fed given stands. (
     let of = audit_of self audit judge is judges fed given stands in
     cause_is self mode.Audit because fed (ap mode_by is) (cause fed of.0 of.1)
     ))
@@ -137,7 +137,7 @@ audit_refused self audit judge because is judges cause =
 pub drill_refused : (self : Session) (audit : SettledAudit) (judge : Judge) (because : SessionFault) → self.work ≡ work.Drill audit → JudgeOf self judge
     → ((log : List ℕ) → IsAuditOf audit judge self.scenario log [] → EndCause mode.Drill self.scenario log because) → Refusal self because
 drill_refused self audit judge because is judges cause =
-    all_causes because self (λ fed. IsAnswerTo (mode_of self) (scenario_of self) fed (Err because)) (λ fed given stands. (
+    all_causes because self (λ fed. IsAnswerTo (mode_of self) (session_scenario self) fed (Err because)) (λ fed given stands. (
     let of = drill_of self audit judge is judges fed given stands in
     cause_is self mode.Drill because fed (ap mode_by is) (cause fed of.0)
     ))
@@ -145,17 +145,17 @@ drill_refused self audit judge because is judges cause =
 module _ (self : Session) (judge : Judge) (is : self.work ≡ work.Plan) (judges : JudgeOf self judge) where
   pub plan_refused : (because : SessionFault) → ((log : List ℕ) → JudgeStandsFor judge self.scenario (lines_of log) → EndCause mode.Plan self.scenario log because) → Refusal self because
   plan_refused because cause =
-      all_causes because self (λ fed. IsAnswerTo (mode_of self) (scenario_of self) fed (Err because))
+      all_causes because self (λ fed. IsAnswerTo (mode_of self) (session_scenario self) fed (Err because))
       (λ fed given stands. cause_is self mode.Plan because fed (ap mode_by is) (cause fed (ended_judge self judge judges fed given stands)))
 
   pub plan_report : (ending : Ending) → ((log : List ℕ) → JudgeStandsFor judge self.scenario (lines_of log) → IsPlanReport self.scenario log ending.bytes.items)
-      → (fed given : List ℕ) → StandsFor self fed given → IsEnding (mode_of self) (scenario_of self) fed (given ++ ending.bytes.items)
+      → (fed given : List ℕ) → StandsFor self fed given → IsEnding (mode_of self) (session_scenario self) fed (given ++ ending.bytes.items)
   plan_report ending report fed given stands =
       let nothing = plan_given self is fed given stands in
       report_is self mode.Plan ending ending fed given (ap mode_by is) refl
       (subst (λ (g : List ℕ). IsEnding mode.Plan self.scenario fed (g ++ ending.bytes.items)) (sym nothing) (report fed (ended_judge self judge judges fed given stands)))
 
   pub plan_answered : (ending : Ending) → ((log : List ℕ) → JudgeStandsFor judge self.scenario (lines_of log) → IsAnswerTo mode.Plan self.scenario log (Ok ending.none))
-      → (fed given : List ℕ) → StandsFor self fed given → IsAnswerTo (mode_of self) (scenario_of self) fed (Ok ending.none)
+      → (fed given : List ℕ) → StandsFor self fed given → IsAnswerTo (mode_of self) (session_scenario self) fed (Ok ending.none)
   plan_answered ending answer fed given stands =
       answer_is self mode.Plan ending ending fed (ap mode_by is) refl (answer fed (ended_judge self judge judges fed given stands))

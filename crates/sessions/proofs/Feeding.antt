@@ -22,10 +22,10 @@ use Rattle.streamed_lines.specs.Pieces.{IsPiece}
 use Rattle.streamed_lines.specs.Standing.{StandsFor as LinesStandFor, kept_of}
 use Rattle.streamed_lines.specs.declared.streamed_lines.StreamedLines.{StreamedLines}
 use Rattle.command_line.specs.declared.mode.Mode.{Mode}
-use Rattle.sessions.specs.Feeding.{Refuses, Takes, UnlessMemory}
+use Rattle.sessions.specs.Feeding.{Refuses, TookPiece, UnlessMemory}
 use Rattle.sessions.specs.Modes.{needs_own}
 use Rattle.sessions.specs.Refusals.{HasManySettled, IsStopped, IsUnrefused}
-use Rattle.sessions.specs.Standing.{IsDone, StandsFor, keeping_by, mode_by, mode_of, scenario_of}
+use Rattle.sessions.specs.Standing.{IsDone, StandsFor, keeping_by, mode_by, mode_of, session_scenario}
 use Rattle.sessions.specs.Inner.Working.{GoesOn, Works}
 use Rattle.sessions.specs.declared.session.Session.{Session}
 use Rattle.sessions.specs.declared.session_fault.SessionFault.{SessionFault}
@@ -138,7 +138,7 @@ module _ (old : Session) (piece front : List ℕ) where
 
   -- no line feed
   pub takes_part : (lines' : StreamedLines) (taken' : ℕ) (text : ReportText) → Fits → LinesGoOn lines' → kept_of lines' ≡ kept_of old.lines → taken' ≡ old.taken + length piece
-      → ((log : List ℕ) → ended_lines (log ++ piece) ≡ ended_lines log) → HasText text front → Takes old (with lines' old.work taken') piece front text
+      → ((log : List ℕ) → ended_lines (log ++ piece) ≡ ended_lines log) → HasText text front → TookPiece old (with lines' old.work taken') piece front text
   takes_part lines' taken' text fits go same_kept count nothing has = record {
     more = [];
     has = subst (HasText text) (sym (append-nil front)) has;
@@ -163,7 +163,7 @@ module _ (old : Session) (piece front : List ℕ) where
     -- a line that is ended
     pub takes_line : (work' : Work) (taken' : ℕ) (text : ReportText) → mode_by work' ≡ mode_by old.work → keeping_by work' ≡ keeping_by old.work
         → kept_of lines' ≡ kept_of old.lines → taken' ≡ old.taken + length piece → GoesOn old.work work' old.scenario judge judged front text
-        → Takes old (with lines' work' taken') piece front text
+        → TookPiece old (with lines' work' taken') piece front text
     takes_line work' taken' text same_mode same_keeping same_kept count on = record {
       more = on.decided;
       has = on.has;
@@ -186,8 +186,8 @@ module _ (old : Session) (piece front : List ℕ) where
       stopped = λ fed given stands. (
           let lines = stay fed piece in
           let here = subst (HasManySettled (mode_by old.work) old.scenario) (sym lines.1) (many (ended_lines fed) lines.0 (works_on fed given stands)) in
-          subst (IsStopped (mode_of old) (scenario_of old) (fed ++ piece) why.Pairs) (sym (append-nil given))
-          (stopped_pairs stay settle (mode_of old) (scenario_of old) parts fed piece is some stands.unrefused given (decided_by old.work old.scenario (ended_lines fed) given stands.done)
+          subst (IsStopped (mode_of old) (session_scenario old) (fed ++ piece) why.Pairs) (sym (append-nil given))
+          (stopped_pairs stay settle (mode_of old) (session_scenario old) parts fed piece is some stands.unrefused given (decided_by old.work old.scenario (ended_lines fed) given stands.done)
           (fits fed given stands) (lines_on lines' fits go fed given stands).judge.calm here)
           );
     }
@@ -198,8 +198,8 @@ module _ (old : Session) (piece front : List ℕ) where
     refuses_bytes long = record {
       more = [];
       has = subst (HasText text) (sym (append-nil front)) has;
-      stopped = λ fed given stands. subst (IsStopped (mode_of old) (scenario_of old) (fed ++ piece) why.LogBytes) (sym (append-nil given))
-          (stopped_bytes stay settle (mode_of old) (scenario_of old) parts fed piece is some stands.unrefused given (decided_by old.work old.scenario (ended_lines fed) given stands.done)
+      stopped = λ fed given stands. subst (IsStopped (mode_of old) (session_scenario old) (fed ++ piece) why.LogBytes) (sym (append-nil given))
+          (stopped_bytes stay settle (mode_of old) (session_scenario old) parts fed piece is some stands.unrefused given (decided_by old.work old.scenario (ended_lines fed) given stands.done)
           (long fed given stands));
     }
 
@@ -209,8 +209,8 @@ module _ (old : Session) (piece front : List ℕ) where
     refuses_vessels fits crowded = record {
       more = [];
       has = subst (HasText text) (sym (append-nil front)) has;
-      stopped = λ fed given stands. subst (IsStopped (mode_of old) (scenario_of old) (fed ++ piece) why.Vessels) (sym (append-nil given))
-          (stopped_vessels stay settle (mode_of old) (scenario_of old) parts fed piece is some stands.unrefused given (decided_by old.work old.scenario (ended_lines fed) given stands.done)
+      stopped = λ fed given stands. subst (IsStopped (mode_of old) (session_scenario old) (fed ++ piece) why.Vessels) (sym (append-nil given))
+          (stopped_vessels stay settle (mode_of old) (session_scenario old) parts fed piece is some stands.unrefused given (decided_by old.work old.scenario (ended_lines fed) given stands.done)
           (fits fed given stands) (crowded old.scenario fed stands.lines));
     }
 
@@ -227,8 +227,8 @@ refused_by (Err why.Targets) P alone pairs = (let is = alone (λ same. cc same) 
 
 -- ---- several pieces
 
-pub takes_more : (first old new : Session) (done piece all front : List ℕ) (text text' : ReportText) → all ≡ done ++ piece → (so_far : Takes first old done front text)
-    → Takes old new piece (front ++ so_far.more) text' → Takes first new all front text'
+pub takes_more : (first old new : Session) (done piece all front : List ℕ) (text text' : ReportText) → all ≡ done ++ piece → (so_far : TookPiece first old done front text)
+    → TookPiece old new piece (front ++ so_far.more) text' → TookPiece first new all front text'
 takes_more first old new done piece all front text text' is so_far next = record {
   more = so_far.more ++ next.more;
   has = subst (HasText text') (append_assoc front so_far.more next.more) next.has;
@@ -241,21 +241,21 @@ takes_more first old new done piece all front text text' is so_far next = record
 }
 
 pub refuses_more : (first old : Session) (done piece rest all front : List ℕ) (text text' : ReportText) (because : SessionFault) → all ≡ (done ++ piece) ++ rest
-    → mode_of old ≡ mode_of first → scenario_of old ≡ scenario_of first → (so_far : Takes first old done front text)
+    → mode_of old ≡ mode_of first → session_scenario old ≡ session_scenario first → (so_far : TookPiece first old done front text)
     → Refuses old piece (front ++ so_far.more) text' because → Refuses first all front text' because
 refuses_more first old done piece rest all front text text' because is same_mode same_scenario so_far next = record {
   more = so_far.more ++ next.more;
   has = subst (HasText text') (append_assoc front so_far.more next.more) next.has;
   stopped = λ fed given stands. (
       let stop = next.stopped (fed ++ done) (given ++ so_far.more) (so_far.stands fed given stands) in
-      let here = stopped_on (mode_of old) (scenario_of old) ((fed ++ done) ++ piece) rest because ((given ++ so_far.more) ++ next.more) stop in
+      let here = stopped_on (mode_of old) (session_scenario old) ((fed ++ done) ++ piece) rest because ((given ++ so_far.more) ++ next.more) stop in
       let whole : ((fed ++ done) ++ piece) ++ rest ≡ fed ++ all =
       ap (λ (l : List ℕ). l ++ rest) (append_assoc fed done piece) ∙ append_assoc fed (done ++ piece) rest ∙ ap (λ (l : List ℕ). fed ++ l) (sym is) in
       let text_is = append_assoc given so_far.more next.more in
-      subst (λ (m : Mode). IsStopped m (scenario_of first) (fed ++ all) because (given ++ (so_far.more ++ next.more))) same_mode
+      subst (λ (m : Mode). IsStopped m (session_scenario first) (fed ++ all) because (given ++ (so_far.more ++ next.more))) same_mode
       (subst (λ (s : Scenario). IsStopped (mode_of old) s (fed ++ all) because (given ++ (so_far.more ++ next.more))) same_scenario
-      (subst (λ (l : List ℕ). IsStopped (mode_of old) (scenario_of old) l because (given ++ (so_far.more ++ next.more))) whole
-      (subst (IsStopped (mode_of old) (scenario_of old) (((fed ++ done) ++ piece) ++ rest) because) text_is here)))
+      (subst (λ (l : List ℕ). IsStopped (mode_of old) (session_scenario old) l because (given ++ (so_far.more ++ next.more))) whole
+      (subst (IsStopped (mode_of old) (session_scenario old) (((fed ++ done) ++ piece) ++ rest) because) text_is here)))
       );
 }
 

@@ -6,7 +6,7 @@ use Rattle.judged_lines.specs.JudgedLines.{is_crowded}
 use Rattle.judged_lines.specs.LogLines.{lines_of}
 use Rattle.command_line.specs.declared.mode.Mode.{Mode}
 use Rattle.command_line.specs.declared.mode.Mode.TheVariants as mode
-use Rattle.sessions.specs.Endings.{Came, First, HasManyTargets, HasManyTraces, HasNoManoeuvre, IsAnswerTo, Unless, unready_of}
+use Rattle.sessions.specs.Endings.{Came, First, MeetsTargetLimit, HasManyTraces, HasNoManoeuvre, IsAnswerTo, Unless, unready_of}
 use Rattle.sessions.specs.declared.session_fault.SessionFault.TheVariants as fault
 
 -- ---- there is one answer
@@ -29,7 +29,7 @@ module _ (mode : Mode) (scenario : Scenario) (log : List ℕ) where
   behind_targets = First (HasNoManoeuvre mode scenario log) (Ok true) (λ (came : Came). came ≡ Ok false)
 
   abbrev behind_own : Came → Type 0
-  behind_own = First (HasManyTargets mode scenario log) (Err fault.Targets) behind_targets
+  behind_own = First (MeetsTargetLimit mode scenario log) (Err fault.Targets) behind_targets
 
   abbrev behind_traces : Came → Type 0
   behind_traces = Unless (unready_of mode scenario log) behind_own
@@ -42,7 +42,7 @@ module _ (mode : Mode) (scenario : Scenario) (log : List ℕ) where
       first_once (IsTrue (is_crowded scenario (lines_of log))) (Err fault.Vessels) behind_vessels a b
       (λ c d. first_once (HasManyTraces mode scenario log) (Err fault.Pairs) behind_traces c d
       (λ e f. unless_once (unready_of mode scenario log) behind_own e f
-      (λ g h. first_once (HasManyTargets mode scenario log) (Err fault.Targets) behind_targets g h
+      (λ g h. first_once (MeetsTargetLimit mode scenario log) (Err fault.Targets) behind_targets g h
       (λ i j. first_once (HasNoManoeuvre mode scenario log) (Ok true) (λ (came : Came). came ≡ Ok false) i j (λ k l is is'. is ∙ sym is')))))
 
 -- ---- the answers to lines
@@ -82,11 +82,11 @@ module _ (scenario : Scenario) (log : List ℕ) (calm : is_crowded scenario (lin
     behind_readiness : (came : Came) → behind_own mode.Plan scenario log came → IsAnswerTo mode.Plan scenario log came
     behind_readiness came is = behind_lines came (subst (λ (o : Option Unready). Unless o (behind_own mode.Plan scenario log) came) (sym ready) is)
 
-    pub too_many_targets : HasManyTargets mode.Plan scenario log → IsAnswerTo mode.Plan scenario log (Err fault.Targets)
+    pub too_many_targets : MeetsTargetLimit mode.Plan scenario log → IsAnswerTo mode.Plan scenario log (Err fault.Targets)
     too_many_targets many = behind_readiness (Err fault.Targets) (inl (many, refl))
 
-    pub no_manoeuvre : ¬ HasManyTargets mode.Plan scenario log → HasNoManoeuvre mode.Plan scenario log → IsAnswerTo mode.Plan scenario log (Ok true)
+    pub no_manoeuvre : ¬ MeetsTargetLimit mode.Plan scenario log → HasNoManoeuvre mode.Plan scenario log → IsAnswerTo mode.Plan scenario log (Ok true)
     no_manoeuvre few none = behind_readiness (Ok true) (inr (few, inl (none, refl)))
 
-    pub a_manoeuvre : ¬ HasManyTargets mode.Plan scenario log → ¬ HasNoManoeuvre mode.Plan scenario log → IsAnswerTo mode.Plan scenario log (Ok false)
+    pub a_manoeuvre : ¬ MeetsTargetLimit mode.Plan scenario log → ¬ HasNoManoeuvre mode.Plan scenario log → IsAnswerTo mode.Plan scenario log (Ok false)
     a_manoeuvre few some = behind_readiness (Ok false) (inr (few, inr (some, refl)))

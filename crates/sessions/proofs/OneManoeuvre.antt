@@ -6,7 +6,7 @@ use Rattle.lattice.specs.Grids.{choices_of, plans_of}
 use Rattle.lattice.specs.PlanNumbers.{IsPlan, number_of, plan_of}
 use Rattle.lattice.proofs.Digits.{plan_after, plan_none}
 use Rattle.planner.specs.FailingPlans.{Fails}
-use Rattle.planner.specs.LeastPlans.{AllFail, IsLeast, numbered}
+use Rattle.planner.specs.LeastPlans.{AllFail, IsLeastPlan, numbered}
 use Rattle.planner.specs.declared.situation.Situation.{Situation}
 use Rattle.sessions.specs.PlanReport.{IsManoeuvre}
 
@@ -28,10 +28,10 @@ module _ (s : Situation) where
       subst (λ (n : ℕ). number_of (choices_of s.lattice) plan < choices_of s.lattice ^ n) is.count below in
       subst (Fails s) (numbered_again plan is) (all (number_of (choices_of s.lattice) plan) within)
 
-  earlier : (p q : List ℕ) → IsLeast s p → IsLeast s q → number_of (choices_of s.lattice) p < number_of (choices_of s.lattice) q → ⊥
+  earlier : (p q : List ℕ) → IsLeastPlan s p → IsLeastPlan s q → number_of (choices_of s.lattice) p < number_of (choices_of s.lattice) q → ⊥
   earlier p q a b lt = a.passes (subst (Fails s) (numbered_again p a.whole) (b.least (number_of (choices_of s.lattice) p) lt))
 
-  one_least : (p q : List ℕ) → IsLeast s p → IsLeast s q → p ≡ q
+  one_least : (p q : List ℕ) → IsLeastPlan s p → IsLeastPlan s q → p ≡ q
   one_least p q a b = elim (cases_lt (number_of (choices_of s.lattice) p) (number_of (choices_of s.lattice) q)) [
     | inl lt ↦ absurd (earlier p q a b lt)
     | inr ge ↦ elim (cases_lt (number_of (choices_of s.lattice) q) (number_of (choices_of s.lattice) p)) [

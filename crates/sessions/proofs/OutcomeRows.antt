@@ -7,7 +7,7 @@ use Rattle.audit_report.specs.CsvRows.{row_of}
 use Rattle.audit_report.specs.ReportRows.{count_fields}
 use Rattle.audit_report.specs.ReportTexts.{HasText}
 use Rattle.audit_report.specs.declared.report_text.ReportText.{ReportText}
-use Rattle.judged_lines.specs.LineOutcomes.{all_outcomes, place_of}
+use Rattle.judged_lines.specs.LineOutcomes.{all_outcomes, outcome_index}
 use Rattle.judged_lines.specs.Standing.{AreCounts}
 use Rattle.judged_lines.specs.declared.judged.Judged.{Judged}
 use Rattle.judged_lines.specs.declared.outcome.LineOutcome.{LineOutcome}
@@ -18,18 +18,18 @@ use Rattle.sessions.specs.OutcomeRows.{count_rows}
 -- the rows of the counts are those of the outcomes
 pub count_rows-from_counts : (counts : List ℕ) (lines : List Judged) (outcomes : List LineOutcome) → outcomes ≡ all_outcomes
     → AreCounts counts lines
-    → flat_map (λ outcome. row_of (count_fields outcome (slice_index counts (place_of outcome)))) outcomes ≡ count_rows lines
+    → flat_map (λ outcome. row_of (count_fields outcome (slice_index counts (outcome_index outcome)))) outcomes ≡ count_rows lines
 count_rows-from_counts counts lines outcomes all are =
-    ap (flat_map (λ outcome. row_of (count_fields outcome (slice_index counts (place_of outcome))))) all
-    ∙ (λ i. flat_map (λ outcome. row_of (count_fields outcome (are.each (place_of outcome) (place_within outcome) i))) all_outcomes)
+    ap (flat_map (λ outcome. row_of (count_fields outcome (slice_index counts (outcome_index outcome))))) all
+    ∙ (λ i. flat_map (λ outcome. row_of (count_fields outcome (are.each (outcome_index outcome) (place_within outcome) i))) all_outcomes)
 
 -- the row of an outcome
 abbrev row : List ℕ → LineOutcome → List ℕ
-row counts outcome = row_of (count_fields outcome (slice_index counts (place_of outcome)))
+row counts outcome = row_of (count_fields outcome (slice_index counts (outcome_index outcome)))
 
 -- the rows of the first outcomes, and one more
 pub one_row_on : (rows : ReportText) (text : List ℕ) (counts : List ℕ) (all : List LineOutcome) (i place : ℕ) → i < length all
-    → place ≡ place_of (get_or all i outcomes.Empty)
+    → place ≡ outcome_index (get_or all i outcomes.Empty)
     → HasText rows ((text ++ flat_map (λ outcome. row counts outcome) (take i all)) ++ row_of (count_fields (get_or all i outcomes.Empty) (slice_index counts place)))
     → HasText rows (text ++ flat_map (λ outcome. row counts outcome) (take (i + 1) all))
 one_row_on rows text counts all i place within here has =

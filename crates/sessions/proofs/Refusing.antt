@@ -15,8 +15,8 @@ use Rattle.streamed_lines.specs.Pieces.{IsPiece}
 use Rattle.command_line.specs.declared.mode.Mode.{Mode}
 use Rattle.command_line.specs.declared.mode.Mode.TheVariants as mode
 use Rattle.own_ship.specs.declared.readiness.Unready.{Unready}
-use Rattle.sessions.specs.Endings.{Came, First, HasManyTargets, HasNoManoeuvre, IsAnswerTo, Unless, unready_of}
-use Rattle.sessions.specs.Refusals.{HasManySettled, IsMet, IsRefused, IsRefusedAt, IsStopped, IsUnrefused}
+use Rattle.sessions.specs.Endings.{Came, First, MeetsTargetLimit, HasNoManoeuvre, IsAnswerTo, Unless, unready_of}
+use Rattle.sessions.specs.Refusals.{HasManySettled, IsMet, IsLogRefused, IsRefusedAt, IsStopped, IsUnrefused}
 use Rattle.sessions.specs.SettledText.{IsDecidedText, IsSettledText}
 use Rattle.sessions.specs.declared.session_fault.SessionFault.{SessionFault}
 use Rattle.sessions.specs.declared.session_fault.SessionFault.TheVariants as fault
@@ -63,7 +63,7 @@ many_on stay mode.Migrate scenario lines more many = many
 
 -- ---- what is not refused
 
-pub not_both : (m : Mode) (scenario : Scenario) (front : List ℕ) (came : Came) → IsUnrefused m scenario front → IsRefused m scenario front came → ⊥
+pub not_both : (m : Mode) (scenario : Scenario) (front : List ℕ) (came : Came) → IsUnrefused m scenario front → IsLogRefused m scenario front came → ⊥
 not_both m scenario front came un (inl (long, is)) = absurd (let short = un.short in omega arith)
 not_both m scenario front came un (inr (short, inl (crowded, is))) = let calm = un.calm in cc (crowded, calm)
 not_both m scenario front came un (inr (short, inr (calm, inl (many, is)))) = un.few many
@@ -78,7 +78,7 @@ module _ (m : Mode) (scenario : Scenario) (front : List ℕ) where
   abbrev behind_bytes : Came → Type 0
   behind_bytes = First (IsTrue (is_crowded scenario (ended_lines front))) (Err fault.Vessels) behind_vessels
 
-  one_refusal : (a b : Came) → IsRefused m scenario front a → IsRefused m scenario front b → a ≡ b
+  one_refusal : (a b : Came) → IsLogRefused m scenario front a → IsLogRefused m scenario front b → a ≡ b
   one_refusal a b =
       first_once (scenario.log.max_bytes < length front) (Err fault.LogBytes) behind_bytes a b
       (λ c d. first_once (IsTrue (is_crowded scenario (ended_lines front))) (Err fault.Vessels) behind_vessels c d
@@ -109,7 +109,7 @@ module _ (stay : EndedStay) (settle : ManyStay) (m : Mode) (scenario : Scenario)
     | inr ge ↦ elim (cases_lt q p) [
       | inl lt ↦ absurd (earlier log q p b a at' at lt)
       | inr le ↦ (let same : q ≡ p = omega arith in
-          one_refusal m scenario (take p log) a b at.here (subst (λ (n : ℕ). IsRefused m scenario (take n log) b) same at'.here))
+          one_refusal m scenario (take p log) a b at.here (subst (λ (n : ℕ). IsLogRefused m scenario (take n log) b) same at'.here))
     ]
   ]
 
@@ -183,7 +183,7 @@ module _ (stay : EndedStay) (settle : ManyStay) (m : Mode) (scenario : Scenario)
             settled = subst (λ (n : ℕ). IsSettledText m scenario (take n (fed ++ piece)) text) (sym last) (settled_within most text short long settled);
           }
 
-      at_end : (why : SessionFault) → length (fed ++ piece) ≤ scenario.log.max_bytes → IsRefused m scenario (fed ++ piece) (Err why) → IsStopped m scenario (fed ++ piece) why text
+      at_end : (why : SessionFault) → length (fed ++ piece) ≤ scenario.log.max_bytes → IsLogRefused m scenario (fed ++ piece) (Err why) → IsStopped m scenario (fed ++ piece) why text
       at_end why short is =
           let all : take (length (fed ++ piece)) (fed ++ piece) ≡ fed ++ piece = take_all (length (fed ++ piece)) (fed ++ piece) (omega arith) in
           let long = length-append fed piece in
@@ -192,7 +192,7 @@ module _ (stay : EndedStay) (settle : ManyStay) (m : Mode) (scenario : Scenario)
             refused = record {
               within = omega arith;
               before = λ shorter lt. unrefused_within un shorter lt (omega arith);
-              here = subst (λ (l : List ℕ). IsRefused m scenario l (Err why)) (sym all) is;
+              here = subst (λ (l : List ℕ). IsLogRefused m scenario l (Err why)) (sym all) is;
             };
             settled = settled_within (length (fed ++ piece) - 1) text (omega (arith, long)) (omega (arith, long)) settled;
           }
@@ -220,7 +220,7 @@ stopped_on m scenario log more why text is =
       refused = record {
         within = omega (arith, long);
         before = λ shorter lt. subst (IsUnrefused m scenario) (sym (same_takes log more shorter is.place (omega arith) within)) (at.before shorter lt);
-        here = subst (λ (l : List ℕ). IsRefused m scenario l (Err why)) (sym (same_takes log more is.place is.place (omega arith) within)) at.here;
+        here = subst (λ (l : List ℕ). IsLogRefused m scenario l (Err why)) (sym (same_takes log more is.place is.place (omega arith) within)) at.here;
       };
       settled = subst (λ (l : List ℕ). IsSettledText m scenario l text) (sym (same_takes log more (is.place - 1) is.place (omega arith) within)) is.settled;
     }
@@ -230,13 +230,13 @@ stopped_on m scenario log more why text is =
 pub stopped_long : (m : Mode) (scenario : Scenario) (log text : List ℕ) → IsStopped m scenario log fault.LogBytes text → scenario.log.max_bytes < length log
 stopped_long m scenario log text is = at is.refused.here
   where
-    at : IsRefused m scenario (take is.place log) (Err fault.LogBytes) → scenario.log.max_bytes < length log
+    at : IsLogRefused m scenario (take is.place log) (Err fault.LogBytes) → scenario.log.max_bytes < length log
     at (inl (long, same)) = let taken = length-take is.place log in omega (arith, long, taken)
     at (inr (short, inl (crowded, same))) = cc same
     at (inr (short, inr (calm, inl (many, same)))) = cc same
     at (inr (short, inr (calm, inr (few, none)))) = absurd none
 
-own_not_refused : (m : Mode) (scenario : Scenario) (front : List ℕ) (lack : Unready) → IsRefused m scenario front (Err (fault.Own lack)) → ⊥
+own_not_refused : (m : Mode) (scenario : Scenario) (front : List ℕ) (lack : Unready) → IsLogRefused m scenario front (Err (fault.Own lack)) → ⊥
 own_not_refused m scenario front lack (inl (long, same)) = cc same
 own_not_refused m scenario front lack (inr (short, inl (crowded, same))) = cc same
 own_not_refused m scenario front lack (inr (short, inr (calm, inl (many, same)))) = cc same
@@ -245,7 +245,7 @@ own_not_refused m scenario front lack (inr (short, inr (calm, inr (few, none))))
 pub own_not_stopped : (m : Mode) (scenario : Scenario) (log : List ℕ) (lack : Unready) (text : List ℕ) → IsStopped m scenario log (fault.Own lack) text → ⊥
 own_not_stopped m scenario log lack text is = own_not_refused m scenario (take is.place log) lack is.refused.here
 
-targets_not_refused : (m : Mode) (scenario : Scenario) (front : List ℕ) → IsRefused m scenario front (Err fault.Targets) → ⊥
+targets_not_refused : (m : Mode) (scenario : Scenario) (front : List ℕ) → IsLogRefused m scenario front (Err fault.Targets) → ⊥
 targets_not_refused m scenario front (inl (long, same)) = cc same
 targets_not_refused m scenario front (inr (short, inl (crowded, same))) = cc same
 targets_not_refused m scenario front (inr (short, inr (calm, inl (many, same)))) = cc same
@@ -261,7 +261,7 @@ bytes_not_at_end m scenario log (inr (calm, inl (many, same))) = cc same
 bytes_not_at_end m scenario log (inr (calm, inr (few, own))) = behind (unready_of m scenario log) own
   where
     behind : (lack : Option Unready) → Unless lack
-        (First (HasManyTargets m scenario log) (Err fault.Targets) (First (HasNoManoeuvre m scenario log) (Ok true) (λ (came : Came). came ≡ Ok false))) (Err fault.LogBytes) → ⊥
+        (First (MeetsTargetLimit m scenario log) (Err fault.Targets) (First (HasNoManoeuvre m scenario log) (Ok true) (λ (came : Came). came ≡ Ok false))) (Err fault.LogBytes) → ⊥
     behind (Some why) same = cc same
     behind None (inl (many, same)) = cc same
     behind None (inr (few, inl (none, same))) = cc same
@@ -274,20 +274,20 @@ own_needed m scenario log lack none (inl (crowded, same)) = cc same
 own_needed m scenario log lack none (inr (calm, inl (many, same))) = cc same
 own_needed m scenario log lack none (inr (calm, inr (few, own))) =
     behind (subst (λ (o : Option Unready). Unless o
-    (First (HasManyTargets m scenario log) (Err fault.Targets) (First (HasNoManoeuvre m scenario log) (Ok true) (λ (came : Came). came ≡ Ok false))) (Err (fault.Own lack))) none own)
+    (First (MeetsTargetLimit m scenario log) (Err fault.Targets) (First (HasNoManoeuvre m scenario log) (Ok true) (λ (came : Came). came ≡ Ok false))) (Err (fault.Own lack))) none own)
   where
-    behind : First (HasManyTargets m scenario log) (Err fault.Targets) (First (HasNoManoeuvre m scenario log) (Ok true) (λ (came : Came). came ≡ Ok false)) (Err (fault.Own lack)) → ⊥
+    behind : First (MeetsTargetLimit m scenario log) (Err fault.Targets) (First (HasNoManoeuvre m scenario log) (Ok true) (λ (came : Came). came ≡ Ok false)) (Err (fault.Own lack)) → ⊥
     behind (inl (many, same)) = cc same
     behind (inr (few, inl (none, same))) = cc same
     behind (inr (few, inr (some, same))) = cc same
 
-targets_needed : (m : Mode) (scenario : Scenario) (log : List ℕ) → ¬ HasManyTargets m scenario log → IsAnswerTo m scenario log (Err fault.Targets) → ⊥
+targets_needed : (m : Mode) (scenario : Scenario) (log : List ℕ) → ¬ MeetsTargetLimit m scenario log → IsAnswerTo m scenario log (Err fault.Targets) → ⊥
 targets_needed m scenario log few (inl (crowded, same)) = cc same
 targets_needed m scenario log few (inr (calm, inl (many, same))) = cc same
 targets_needed m scenario log few (inr (calm, inr (traces, own))) = behind (unready_of m scenario log) own
   where
     behind : (lack : Option Unready) → Unless lack
-        (First (HasManyTargets m scenario log) (Err fault.Targets) (First (HasNoManoeuvre m scenario log) (Ok true) (λ (came : Came). came ≡ Ok false))) (Err fault.Targets) → ⊥
+        (First (MeetsTargetLimit m scenario log) (Err fault.Targets) (First (HasNoManoeuvre m scenario log) (Ok true) (λ (came : Came). came ≡ Ok false))) (Err fault.Targets) → ⊥
     behind (Some why) same = cc same
     behind None (inl (many, same)) = few many
     behind None (inr (not, inl (none, same))) = cc same

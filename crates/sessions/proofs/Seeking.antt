@@ -19,8 +19,8 @@ use Rattle.planner.specs.declared.situation.Situation.{Situation}
 use Rattle.scenario.specs.declared.own_part.OwnPart.{OwnPart}
 use Rattle.scenario.specs.declared.values.Scenario.{Scenario}
 use Rattle.tracks.specs.VesselsHeld.{Sent}
-use Rattle.sessions.specs.Endings.{HasManyTargets, HasNoManoeuvre, IsAnswerTo, lack_of, lack_where, unready_of}
-use Rattle.sessions.specs.PlanReport.{IsManoeuvre, IsOwn, manoeuvre_rows, messages_of, near_rows, situation_on}
+use Rattle.sessions.specs.Endings.{MeetsTargetLimit, HasNoManoeuvre, IsAnswerTo, lack_of, lack_where, unready_of}
+use Rattle.sessions.specs.PlanReport.{IsManoeuvre, IsOwn, manoeuvre_rows, log_messages, near_rows, situation_on}
 use Rattle.sessions.specs.Inner.Faults.{EndCause, preparing_fault}
 use Rattle.sessions.specs.Inner.PlanWriting.{IsSought, SoughtCause}
 use Rattle.command_line.specs.declared.mode.Mode.TheVariants as mode
@@ -49,16 +49,16 @@ search_cause scenario messages prepare.Memory unready many = tt
 
 module _ (scenario : Scenario) (log : List ℕ) (calm : is_crowded scenario (lines_of log) ≡ false) where
   -- what she lacks, by her readiness
-  lacks : (own : OwnPart) (came : Result Ready Unready) → scenario.own ≡ Some own → own_readiness (numbers_of scenario) (messages_of scenario log) scenario own ≡ came
+  lacks : (own : OwnPart) (came : Result Ready Unready) → scenario.own ≡ Some own → own_readiness (numbers_of scenario) (log_messages scenario log) scenario own ≡ came
       → unready_of mode.Plan scenario log ≡ lack_of came
   lacks own came is readiness = ap (lack_where scenario log) is ∙ ap lack_of readiness
 
-  pub plan_cause : IsSome scenario.own → (fault : PrepareFault) → SoughtCause scenario (messages_of scenario log) fault → EndCause mode.Plan scenario log (preparing_fault fault)
+  pub plan_cause : IsSome scenario.own → (fault : PrepareFault) → SoughtCause scenario (log_messages scenario log) fault → EndCause mode.Plan scenario log (preparing_fault fault)
   plan_cause some (prepare.Unready why) cause =
-      let own = own_of scenario.own (λ own. own_readiness (numbers_of scenario) (messages_of scenario log) scenario own ≡ Err why) some cause in
+      let own = own_of scenario.own (λ own. own_readiness (numbers_of scenario) (log_messages scenario log) scenario own ≡ Err why) some cause in
       own_unready scenario log calm why (lacks own.own (Err why) own.is own.holds)
   plan_cause some prepare.TooManyTargets cause =
-      let own = own_of scenario.own (HaveManyTargets (numbers_of scenario) (messages_of scenario log) scenario) some cause in
+      let own = own_of scenario.own (HaveManyTargets (numbers_of scenario) (log_messages scenario log) scenario) some cause in
       let (ready, is_ready, many) = own.holds in
       too_many_targets scenario log calm (lacks own.own (Ok ready) own.is is_ready) (own.own, ready, record { needed = own.is; is_ready = is_ready }, many)
   plan_cause some prepare.Memory cause = tt
@@ -100,13 +100,13 @@ sought scenario messages front text prepared lattice plan told none some is firs
 -- ---- the answer
 
 module _ (scenario : Scenario) (log : List ℕ) (calm : is_crowded scenario (lines_of log) ≡ false) where
-  few_targets : (own : OwnPart) (ready : Ready) → IsOwn scenario log own ready → length (targets_near (numbers_of scenario) (messages_of scenario log) scenario own ready) ≤ greatest_targets
-      → HasManyTargets mode.Plan scenario log → ⊥
+  few_targets : (own : OwnPart) (ready : Ready) → IsOwn scenario log own ready → length (targets_near (numbers_of scenario) (log_messages scenario log) scenario own ready) ≤ greatest_targets
+      → MeetsTargetLimit mode.Plan scenario log → ⊥
   few_targets own ready is few (own', ready', is', many) =
       let same : own ≡ own' = cc (is.needed, is'.needed) in
       let is-own' : IsOwn scenario log own ready' = subst (λ (o : OwnPart). IsOwn scenario log o ready') (sym same) is' in
       let same-ready : ready ≡ ready' = cc (is.is_ready, is-own'.is_ready) in
-      let more = subst₂ (λ (o : OwnPart) (r : Ready). greatest_targets < length (targets_near (numbers_of scenario) (messages_of scenario log) scenario o r)) (sym same) (sym same-ready) many in
+      let more = subst₂ (λ (o : OwnPart) (r : Ready). greatest_targets < length (targets_near (numbers_of scenario) (log_messages scenario log) scenario o r)) (sym same) (sym same-ready) many in
       absurd (omega arith)
 
   some_manoeuvre : (own : OwnPart) (ready : Ready) (plan : List ℕ) → IsOwn scenario log own ready → IsManoeuvre (situation_on scenario log own ready) (Some plan)
@@ -119,7 +119,7 @@ module _ (scenario : Scenario) (log : List ℕ) (calm : is_crowded scenario (lin
       least.passes (each_fails (situation_on scenario log own ready) plan least.whole fail)
 
   answer_by : (own : OwnPart) (ready : Ready) (manoeuvre : Option (List ℕ)) (none : Bool) → IsOwn scenario log own ready
-      → length (targets_near (numbers_of scenario) (messages_of scenario log) scenario own ready) ≤ greatest_targets
+      → length (targets_near (numbers_of scenario) (log_messages scenario log) scenario own ready) ≤ greatest_targets
       → IsManoeuvre (situation_on scenario log own ready) manoeuvre → none ≡ is_none manoeuvre → IsAnswerTo mode.Plan scenario log (Ok none)
   answer_by own ready None none is few first told =
       let ready-is = lacks scenario log calm own (Ok ready) is.needed is.is_ready in
@@ -130,7 +130,7 @@ module _ (scenario : Scenario) (log : List ℕ) (calm : is_crowded scenario (lin
       subst (λ (b : Bool). IsAnswerTo mode.Plan scenario log (Ok b)) (sym told)
       (a_manoeuvre scenario log calm ready-is (few_targets own ready is few) (some_manoeuvre own ready plan is first))
 
-  pub plan_answer : (text : ReportText) (front : List ℕ) (none : Bool) → IsSought scenario (messages_of scenario log) text front none → IsAnswerTo mode.Plan scenario log (Ok none)
+  pub plan_answer : (text : ReportText) (front : List ℕ) (none : Bool) → IsSought scenario (log_messages scenario log) text front none → IsAnswerTo mode.Plan scenario log (Ok none)
   plan_answer text front none h = answer_by h.own h.ready h.manoeuvre none (record { needed = h.needed; is_ready = h.is_ready }) h.few h.is_first h.told
 
 pub none_is : {A : Type 0} (o : Option A) (b : Bool) → is_some o ≡ not b → b ≡ is_none o

@@ -18,7 +18,7 @@ use Rattle.command_line.specs.declared.mode.Mode.TheVariants as mode
 use Rattle.sessions.specs.AuditReport.{rows_behind, sightings_of, stretch_fields, stretch_rows}
 use Rattle.sessions.specs.Endings.{IsEnding}
 use Rattle.sessions.specs.OutcomeRows.{count_rows}
-use Rattle.sessions.specs.PointsReport.{point_rows, report_of, rows_of_line}
+use Rattle.sessions.specs.PointsReport.{point_rows, points_report, rows_of_line}
 use Rattle.sessions.specs.SettledText.{IsDecidedText, IsSettledText}
 
 -- The text begins with the other.
@@ -95,7 +95,7 @@ module _ (fronts : (scenario : Scenario) (lines more : List (List ℕ)) (rows la
 
   decided_begins : (m : Mode) (scenario : Scenario) (lines more : List (List ℕ)) (log text report : List ℕ) → lines_of log ≡ lines ++ more
       → IsDecidedText m scenario lines text → IsEnding m scenario log report → Begins text report
-  unfolding report_of sightings_of
+  unfolding points_report sightings_of
   decided_begins mode.Points scenario lines more log text report is a b =
       let rows : Begins (point_rows (judged_lines scenario lines)) (point_rows (judged_lines scenario (lines_of log))) =
       subst (λ (l : List (List ℕ)). Begins (point_rows (judged_lines scenario lines)) (point_rows (judged_lines scenario l))) (sym is) (points_begin scenario lines more) in

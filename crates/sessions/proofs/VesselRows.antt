@@ -11,10 +11,10 @@ use Rattle.ais_messages.specs.declared.message.ShipData.{ShipData}
 use Rattle.audit_report.specs.ReportRows.{total_fields, vessel_fields}
 use Rattle.audit_traces.specs.declared.total.Total.{Total}
 use Rattle.rule_set.specs.NamedTrees.{NamedTree, rule_at}
-use Rattle.tracks.specs.AcceptedReports.{Numbers}
+use Rattle.tracks.specs.AcceptedReports.{JudgingNumbers}
 use Rattle.tracks.specs.VesselsHeld.{Sent, held_of, is_held, senders_of}
 use Rattle.tracks.specs.Lengths.{length_of}
-use Rattle.sessions.specs.AuditReport.{held_fields, kind_of, told_fields, total_rows}
+use Rattle.sessions.specs.AuditReport.{held_fields, ship_type_of, told_fields, total_rows}
 
 -- the first rows of a list, and one more
 pub rows_push : {X : Type 0} (f : X → List ℕ) (xs : List X) (k : ℕ) (d : X) → k < length xs
@@ -65,12 +65,12 @@ totals_push rules totals k d lt same =
     totals_more rules totals k d lt same ∙ ap (λ (n : ℕ). total_rows (take n rules) (take n totals)) next
 
 -- A vessel of the list is held.
-pub held_at : (numbers : Numbers) (messages : List Sent) (k mmsi : ℕ) → slice_get (held_of numbers messages) k ≡ Some mmsi → is_held numbers messages mmsi ≡ true
+pub held_at : (numbers : JudgingNumbers) (messages : List Sent) (k mmsi : ℕ) → slice_get (held_of numbers messages) k ≡ Some mmsi → is_held numbers messages mmsi ≡ true
 unfolding held_of
 held_at numbers messages k mmsi at = at_kept (is_held numbers messages) (senders_of messages) k mmsi at
 
 -- the rows of the first vessels, and of one more
-pub one_vessel_on : (numbers : Numbers) (messages : List Sent) (front : List ℕ) (k mmsi : ℕ) → slice_get (held_of numbers messages) k ≡ Some mmsi
+pub one_vessel_on : (numbers : JudgingNumbers) (messages : List Sent) (front : List ℕ) (k mmsi : ℕ) → slice_get (held_of numbers messages) k ≡ Some mmsi
     → (front ++ flat_map (λ m. row_of (held_fields numbers messages m)) (take k (held_of numbers messages))) ++ row_of (held_fields numbers messages mmsi)
     ≡ front ++ flat_map (λ m. row_of (held_fields numbers messages m)) (take (k + 1) (held_of numbers messages))
 one_vessel_on numbers messages front k mmsi at =
@@ -90,7 +90,7 @@ one_total_on rules totals front k name d lt same named =
 
 -- the row of a vessel, from its parts
 pub vessel_is : (mmsi : ℕ) (name name' : Option (List ℕ)) (kind length reports legs : ℕ) (ship ship' : Option ShipData) (reports' legs' : ℕ)
-    → name ≡ name' → ship ≡ ship' → kind ≡ kind_of ship → length ≡ length_of ship → reports ≡ reports' → legs ≡ legs'
+    → name ≡ name' → ship ≡ ship' → kind ≡ ship_type_of ship → length ≡ length_of ship → reports ≡ reports' → legs ≡ legs'
     → vessel_fields mmsi name kind length reports legs ≡ told_fields mmsi (record { name = name'; ship = ship' }) reports' legs'
 vessel_is mmsi name name' kind length reports legs ship ship' reports' legs' n s k l r g =
-    λ i. vessel_fields mmsi (n i) ((k ∙ ap kind_of s) i) ((l ∙ ap length_of s) i) (r i) (g i)
+    λ i. vessel_fields mmsi (n i) ((k ∙ ap ship_type_of s) i) ((l ∙ ap length_of s) i) (r i) (g i)

@@ -16,7 +16,7 @@ use Rattle.judged_lines.specs.SentLines.{sent}
 use Rattle.rule_set.specs.NamedTrees.{NamedTree, rule_at}
 use Rattle.scenario.specs.declared.values.Scenario.{Scenario}
 use Rattle.settling.specs.Sightings.{audit_numbers, sighted}
-use Rattle.tracks.specs.AcceptedReports.{Numbers}
+use Rattle.tracks.specs.AcceptedReports.{JudgingNumbers}
 use Rattle.tracks.specs.Lengths.{length_of}
 use Rattle.tracks.specs.VesselsHeld.{Sent, accepted_of, held_of, legs_of, statics_of}
 use Rattle.tracks.specs.declared.statics.Statics.{Statics}
@@ -39,19 +39,19 @@ abbrev pub stretch_rows : List NamedTree → List Row → List ℕ
 stretch_rows rules rows = flat_map (λ r. row_of (stretch_fields rules r)) rows
 
 -- a vessel's type, 0 where she told none
-abbrev pub kind_of : Option ShipData → ℕ
-kind_of None = 0
-kind_of (Some ship) = ship.kind
+abbrev pub ship_type_of : Option ShipData → ℕ
+ship_type_of None = 0
+ship_type_of (Some ship) = ship.kind
 
 abbrev pub told_fields : ℕ → Statics → ℕ → ℕ → Fields
-told_fields mmsi statics reports legs = vessel_fields mmsi statics.name (kind_of statics.ship) (length_of statics.ship) reports legs
+told_fields mmsi statics reports legs = vessel_fields mmsi statics.name (ship_type_of statics.ship) (length_of statics.ship) reports legs
 
-abbrev pub held_fields : Numbers → List Sent → ℕ → Fields
+abbrev pub held_fields : JudgingNumbers → List Sent → ℕ → Fields
 held_fields numbers messages mmsi =
     told_fields mmsi (statics_of messages mmsi) (length (accepted_of numbers messages mmsi)) (length (legs_of numbers messages mmsi))
 
 -- the vessels held
-abbrev pub vessel_rows : Numbers → List Sent → List ℕ
+abbrev pub vessel_rows : JudgingNumbers → List Sent → List ℕ
 vessel_rows numbers messages = flat_map (λ mmsi. row_of (held_fields numbers messages mmsi)) (held_of numbers messages)
 
 -- what each rule comes to, in the order of the rules

@@ -11,8 +11,8 @@ use Rattle.scenario.specs.declared.own_part.OwnPart.{OwnPart}
 use Rattle.scenario.specs.declared.values.Scenario.{Scenario}
 use Rattle.sessions.specs.AuditReport.{IsAuditReport, sightings_of}
 use Rattle.sessions.specs.DrillReport.{IsDrillReport}
-use Rattle.sessions.specs.PlanReport.{IsOwn, IsPlanReport, messages_of, situation_on}
-use Rattle.sessions.specs.PointsReport.{report_of}
+use Rattle.sessions.specs.PlanReport.{IsOwn, IsPlanReport, log_messages, situation_on}
+use Rattle.sessions.specs.PointsReport.{points_report}
 use Rattle.command_line.specs.declared.mode.Mode.{Mode}
 use Rattle.command_line.specs.declared.mode.Mode.TheVariants as mode
 use Rattle.sessions.specs.declared.session_fault.SessionFault.{SessionFault}
@@ -22,7 +22,7 @@ use Rattle.settling.specs.Sightings.{audit_numbers}
 
 -- The text is the mode's report on a log.
 abbrev pub IsEnding : Mode → Scenario → List ℕ → List ℕ → Type 0
-IsEnding mode.Points scenario log text = text ≡ report_of scenario log
+IsEnding mode.Points scenario log text = text ≡ points_report scenario log
 IsEnding mode.Audit scenario log text = IsAuditReport scenario log text
 IsEnding mode.Plan scenario log text = IsPlanReport scenario log text
 IsEnding mode.Drill scenario log text = IsDrillReport scenario log text
@@ -45,7 +45,7 @@ lack_of (Err why) = Some why
 
 abbrev pub lack_where : Scenario → List ℕ → Option OwnPart → Option Unready
 lack_where scenario log None = None
-lack_where scenario log (Some own) = lack_of (own_readiness (numbers_of scenario) (messages_of scenario log) scenario own)
+lack_where scenario log (Some own) = lack_of (own_readiness (numbers_of scenario) (log_messages scenario log) scenario own)
 
 -- why own ship cannot be planned for, where she is to be
 abbrev pub unready_of : Mode → Scenario → List ℕ → Option Unready
@@ -60,13 +60,13 @@ abbrev pub OfOwn : Scenario → List ℕ → (OwnPart → Ready → Type 0) → 
 OfOwn scenario log P = (own : OwnPart) × (ready : Ready) × IsOwn scenario log own ready × P own ready
 
 -- More vessels are her targets than are planned for.
-abbrev pub HasManyTargets : Mode → Scenario → List ℕ → Type 0
-HasManyTargets mode.Points scenario log = ⊥
-HasManyTargets mode.Audit scenario log = ⊥
-HasManyTargets mode.Plan scenario log = OfOwn scenario log (λ own ready.
-    greatest_targets < length (targets_near (numbers_of scenario) (messages_of scenario log) scenario own ready))
-HasManyTargets mode.Drill scenario log = ⊥
-HasManyTargets mode.Migrate scenario log = ⊥
+abbrev pub MeetsTargetLimit : Mode → Scenario → List ℕ → Type 0
+MeetsTargetLimit mode.Points scenario log = ⊥
+MeetsTargetLimit mode.Audit scenario log = ⊥
+MeetsTargetLimit mode.Plan scenario log = OfOwn scenario log (λ own ready.
+    greatest_targets < length (targets_near (numbers_of scenario) (log_messages scenario log) scenario own ready))
+MeetsTargetLimit mode.Drill scenario log = ⊥
+MeetsTargetLimit mode.Migrate scenario log = ⊥
 
 -- Every plan of hers fails.
 abbrev pub HasNoManoeuvre : Mode → Scenario → List ℕ → Type 0
@@ -97,6 +97,6 @@ IsAnswerTo mode scenario log =
     First (IsTrue (is_crowded scenario (lines_of log))) (Err fault.Vessels)
     (First (HasManyTraces mode scenario log) (Err fault.Pairs)
     (Unless (unready_of mode scenario log)
-    (First (HasManyTargets mode scenario log) (Err fault.Targets)
+    (First (MeetsTargetLimit mode scenario log) (Err fault.Targets)
     (First (HasNoManoeuvre mode scenario log) (Ok true)
     (λ came. came ≡ Ok false)))))

@@ -3,13 +3,13 @@ use Rattle.std.specs.Prelude.{ℕ, List, ◌++◌}
 use Rattle.audit_report.specs.ReportTexts.{HasText}
 use Rattle.audit_report.specs.declared.report_text.ReportText.{ReportText}
 use Rattle.sessions.specs.Refusals.{IsStopped}
-use Rattle.sessions.specs.Standing.{StandsFor, mode_of, scenario_of}
+use Rattle.sessions.specs.Standing.{StandsFor, mode_of, session_scenario}
 use Rattle.sessions.specs.declared.session.Session.{Session}
 use Rattle.sessions.specs.declared.session_fault.SessionFault.{SessionFault}
 use Rattle.sessions.specs.declared.session_fault.SessionFault.TheVariants as fault
 
 -- The session took the piece, and what was decided by it stands in the text behind a front.
-pub record Takes (session session' : Session) (piece front : List ℕ) (text : ReportText) : Type 0 where
+pub record TookPiece (session session' : Session) (piece front : List ℕ) (text : ReportText) : Type 0 where
   pub more : List ℕ
   pub has : HasText text (front ++ more)
   pub stands : (fed given : List ℕ) → StandsFor session fed given → StandsFor session' (fed ++ piece) (given ++ more)
@@ -18,7 +18,7 @@ pub record Takes (session session' : Session) (piece front : List ℕ) (text : R
 pub record Refuses (session : Session) (piece front : List ℕ) (text : ReportText) (why : SessionFault) : Type 0 where
   pub more : List ℕ
   pub has : HasText text (front ++ more)
-  pub stopped : (fed given : List ℕ) → StandsFor session fed given → IsStopped (mode_of session) (scenario_of session) (fed ++ piece) why (given ++ more)
+  pub stopped : (fed given : List ℕ) → StandsFor session fed given → IsStopped (mode_of session) (session_scenario session) (fed ++ piece) why (given ++ more)
 
 -- P holds, but for want of memory.
 abbrev pub UnlessMemory : SessionFault → Type 0 → Type 0

@@ -13,11 +13,11 @@ use Rattle.lattice.specs.PlanNumbers.{number_of}
 use Rattle.own_ship.specs.PlanSituations.{own_readiness, situation_of, vessels_near}
 use Rattle.own_ship.specs.declared.near.Near.{Near}
 use Rattle.own_ship.specs.declared.readiness.Ready.{Ready}
-use Rattle.planner.specs.LeastPlans.{AllFail, IsLeast}
+use Rattle.planner.specs.LeastPlans.{AllFail, IsLeastPlan}
 use Rattle.planner.specs.declared.situation.Situation.{Situation}
 use Rattle.scenario.specs.declared.own_part.OwnPart.{OwnPart}
 use Rattle.scenario.specs.declared.values.Scenario.{Scenario}
-use Rattle.tracks.specs.AcceptedReports.{Numbers}
+use Rattle.tracks.specs.AcceptedReports.{JudgingNumbers}
 use Rattle.tracks.specs.VesselsHeld.{Sent}
 use Rattle.sessions.specs.AuditReport.{held_fields}
 use Rattle.sessions.specs.OutcomeRows.{count_rows}
@@ -25,22 +25,22 @@ use Rattle.sessions.specs.OutcomeRows.{count_rows}
 -- ---- own ship
 
 -- the messages of a log
-abbrev pub messages_of : Scenario → List ℕ → List Sent
-messages_of scenario log = sent scenario (lines_of log)
+abbrev pub log_messages : Scenario → List ℕ → List Sent
+log_messages scenario log = sent scenario (lines_of log)
 
 -- Own ship is planned for, and ready.
 pub record IsOwn (scenario : Scenario) (log : List ℕ) (own : OwnPart) (ready : Ready) : Type 0 where
   pub needed : scenario.own ≡ Some own
-  pub is_ready : own_readiness (numbers_of scenario) (messages_of scenario log) scenario own ≡ Ok ready
+  pub is_ready : own_readiness (numbers_of scenario) (log_messages scenario log) scenario own ≡ Ok ready
 
 -- the situation in which her plan is sought
 abbrev pub situation_on : Scenario → List ℕ → OwnPart → Ready → Situation
-situation_on scenario log own ready = situation_of (numbers_of scenario) (messages_of scenario log) scenario own ready
+situation_on scenario log own ready = situation_of (numbers_of scenario) (log_messages scenario log) scenario own ready
 
 -- ---- the rows
 
 -- the vessels near her, herself among them
-abbrev pub near_rows : Numbers → List Sent → List Near → List ℕ
+abbrev pub near_rows : JudgingNumbers → List Sent → List Near → List ℕ
 near_rows numbers messages near = flat_map (λ (vessel : Near). row_of (held_fields numbers messages vessel.mmsi)) near
 
 -- A leg begins where the one before it ends, and the last one ends with the plan.
@@ -69,12 +69,12 @@ manoeuvre_rows now lattice ready (Some plan) = leg_rows now lattice ready plan
 
 -- The first plan that does not fail, or none where every plan fails.
 abbrev pub IsManoeuvre : Situation → Option (List ℕ) → Type 0
-IsManoeuvre situation manoeuvre = MatchOption manoeuvre (AllFail situation) (IsLeast situation)
+IsManoeuvre situation manoeuvre = MatchOption manoeuvre (AllFail situation) (IsLeastPlan situation)
 
 -- the rows of the report
 unfoldable pub plan_text : Scenario → List ℕ → OwnPart → Ready → Option (List ℕ) → List ℕ
 plan_text scenario log own ready manoeuvre =
-    near_rows (numbers_of scenario) (messages_of scenario log) (vessels_near (numbers_of scenario) (messages_of scenario log) scenario own ready)
+    near_rows (numbers_of scenario) (log_messages scenario log) (vessels_near (numbers_of scenario) (log_messages scenario log) scenario own ready)
     ++ manoeuvre_rows scenario.window.ticks own.lattice ready manoeuvre
     ++ count_rows (judged_lines scenario (lines_of log))
 

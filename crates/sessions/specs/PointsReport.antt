@@ -22,5 +22,5 @@ abbrev pub point_rows : List Judged → List ℕ
 point_rows lines = flat_map rows_of_line lines
 
 -- the report on a log
-unfoldable pub report_of : Scenario → List ℕ → List ℕ
-report_of scenario log = let lines = judged_lines scenario (lines_of log) in point_rows lines ++ count_rows lines
+unfoldable pub points_report : Scenario → List ℕ → List ℕ
+points_report scenario log = let lines = judged_lines scenario (lines_of log) in point_rows lines ++ count_rows lines

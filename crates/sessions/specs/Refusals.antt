@@ -21,8 +21,8 @@ HasManySettled mode.Migrate scenario lines = ⊥
 
 -- A front of a log is refused, whatever follows: it has more bytes than the scenario allows; or else the lines that a line feed has ended
 -- make more vessels held; or else more traces begin at ticks that they settle.
-abbrev pub IsRefused : Mode → Scenario → List ℕ → Came → Type 0
-IsRefused mode scenario front =
+abbrev pub IsLogRefused : Mode → Scenario → List ℕ → Came → Type 0
+IsLogRefused mode scenario front =
     First (scenario.log.max_bytes < length front) (Err fault.LogBytes)
     (First (IsTrue (is_crowded scenario (ended_lines front))) (Err fault.Vessels)
     (First (HasManySettled mode scenario (ended_lines front)) (Err fault.Pairs)
@@ -38,7 +38,7 @@ pub record IsUnrefused (mode : Mode) (scenario : Scenario) (front : List ℕ) : 
 pub record IsRefusedAt (mode : Mode) (scenario : Scenario) (log : List ℕ) (place : ℕ) (came : Came) : Type 0 where
   pub within : place ≤ length log
   pub before : (shorter : ℕ) → shorter < place → IsUnrefused mode scenario (take shorter log)
-  pub here : IsRefused mode scenario (take place log) came
+  pub here : IsLogRefused mode scenario (take place log) came
 
 -- What a log comes to: the refusal at the earliest place, or else what its lines come to at its end.
 abbrev pub IsMet : Mode → Scenario → List ℕ → Came → Type 0

@@ -30,8 +30,8 @@ mode_by (work.Drill audit) = mode.Drill
 abbrev pub mode_of : Session → Mode
 mode_of session = mode_by session.work
 
-abbrev pub scenario_of : Session → Scenario
-scenario_of session = session.scenario
+abbrev pub session_scenario : Session → Scenario
+session_scenario session = session.scenario
 
 -- how many bytes it was fed
 abbrev pub taken_of : Session → ℕ

@@ -3,7 +3,7 @@ ghost use Rattle.std.specs.Prelude.{◌≡◌, ◌++◌, List, ℕ, OnOk, flat_m
 ghost use Rattle.audit_report.specs.CsvRows.{row_of};
 ghost use Rattle.audit_report.specs.ReportRows.{count_fields};
 ghost use Rattle.audit_report.specs.ReportTexts.{HasText};
-ghost use Rattle.judged_lines.specs.LineOutcomes.{all_outcomes, place_of};
+ghost use Rattle.judged_lines.specs.LineOutcomes.{all_outcomes, outcome_index};
 
 use audit_report::{ReportRow, ReportText};
 use judged_lines::LineOutcome;
@@ -24,7 +24,7 @@ pub(crate) fn write_counts(
     outcomes: &[LineOutcome],
 ) -> Result<(), Memory>
     ensures { OnOk result ((front : List ℕ) → HasText text.old front → HasText text.new (front
-        ++ flat_map (λ outcome. row_of (count_fields outcome (slice_index counts.now (place_of outcome)))) outcomes.now)) }
+        ++ flat_map (λ outcome. row_of (count_fields outcome (slice_index counts.now (outcome_index outcome)))) outcomes.now)) }
 {
     for outcome in outcomes {
         text.write(&ReportRow::Lines {

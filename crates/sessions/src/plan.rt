@@ -8,7 +8,7 @@ ghost use Rattle.judged_lines.specs.Standing.{StandsFor as JudgeStandsFor, keepi
 ghost use Rattle.lattice.specs.Grids.{choices_of};
 ghost use Rattle.lattice.specs.PlanNumbers.{IsPlan};
 ghost use Rattle.scenario.specs.ScenarioValues.{IsInRange};
-ghost use Rattle.tracks.specs.AcceptedReports.{Numbers};
+ghost use Rattle.tracks.specs.AcceptedReports.{JudgingNumbers};
 ghost use Rattle.tracks.specs.Standing.{StandsFor as BookStandsFor};
 ghost use Rattle.tracks.specs.VesselsHeld.{Sent, is_held};
 ghost use Rattle.tracks.specs.declared.keeping.Keeping.TheVariants.{Tracks};
@@ -36,7 +36,7 @@ use tracks::Book;
 /// Writes the rows of the vessels near own ship.
 fn write_near(text: &mut ReportText, book: &Book, near: &[Near]) -> Result<(), Memory>
     requires { book.now.keeping ≡ Tracks }
-    ensures { OnOk result ((numbers : Numbers) (messages : List Sent) (front : List ℕ) → BookStandsFor book.now numbers messages
+    ensures { OnOk result ((numbers : JudgingNumbers) (messages : List Sent) (front : List ℕ) → BookStandsFor book.now numbers messages
         → All (λ (vessel : Near). is_held numbers messages vessel.mmsi ≡ true) near.now → HasText text.old front
         → HasText text.new (front ++ near_rows numbers messages near.now)) }
 {

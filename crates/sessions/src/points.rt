@@ -6,7 +6,7 @@ ghost use Rattle.growing_log.specs.GrowingLog.{ended_lines};
 ghost use Rattle.judged_lines.specs.JudgedLines.{judged_lines};
 ghost use Rattle.scenario.specs.declared.values.Scenario.{Scenario};
 ghost use Rattle.sessions.specs.Inner.AtEnd.{AreOfLog};
-ghost use Rattle.sessions.specs.PointsReport.{point_rows, report_of, rows_of_line};
+ghost use Rattle.sessions.specs.PointsReport.{point_rows, points_report, rows_of_line};
 
 use crate::outcome_rows::{all_outcomes, write_counts};
 use audit_report::{ReportRow, ReportText};
@@ -45,7 +45,7 @@ fn write_last(text: &mut ReportText, last: Option<&Judged>) -> Result<(), Memory
 /// The rest of the report, behind the rows of the lines that a line feed has ended.
 pub(crate) fn end_points(alloc: Global, ended: &EndedLines) -> Result<Vec<u8>, Memory>
     ensures { IfOk result (λ rest. (scenario : Scenario) (log : List ℕ) → AreOfLog ended.now scenario log
-        → point_rows (judged_lines scenario (ended_lines log)) ++ rest.items ≡ report_of scenario log) }
+        → point_rows (judged_lines scenario (ended_lines log)) ++ rest.items ≡ points_report scenario log) }
 {
     let mut text = ReportText::new(alloc);
     write_last(&mut text, ended.last.as_ref())?;

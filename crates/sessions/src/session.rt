@@ -3,10 +3,10 @@ ghost use Rattle.std.specs.Prelude.{◌≡◌, ◌≤◌, ◌<◌, ◌+◌, ◌-
 ghost use Rattle.audit_report.specs.ReportTexts.{HasText};
 ghost use Rattle.scenario.specs.ScenarioValues.{IsInRange};
 ghost use Rattle.sessions.specs.Endings.{IsAnswerTo, IsEnding};
-ghost use Rattle.sessions.specs.Feeding.{Refuses, Takes, UnlessMemory};
+ghost use Rattle.sessions.specs.Feeding.{Refuses, TookPiece, UnlessMemory};
 ghost use Rattle.sessions.specs.Modes.{needs_own, reports};
 ghost use Rattle.sessions.specs.Refusals.{IsStopped};
-ghost use Rattle.sessions.specs.Standing.{IsInUse, StandsFor, mode_of, scenario_of, taken_of};
+ghost use Rattle.sessions.specs.Standing.{IsInUse, StandsFor, mode_of, session_scenario, taken_of};
 ghost use Rattle.streamed_lines.specs.Pieces.{IsPiece};
 
 use crate::audit::end_audit;
@@ -58,7 +58,7 @@ impl Session {
         requires own { IsTrue (needs_own mode) → IsSome scenario.own }
         requires reports { IsTrue (reports mode) }
         ensures mode { IfOk result (λ session. mode_of session ≡ mode) }
-        ensures scenario { IfOk result (λ session. scenario_of session ≡ scenario) }
+        ensures scenario { IfOk result (λ session. session_scenario session ≡ scenario) }
         ensures stands { IfOk result (λ session. StandsFor session [] []) }
     {
         let work = Work::of(alloc, &scenario, mode)?;
@@ -75,7 +75,7 @@ impl Session {
     /// How many bytes may still come.
     pub fn room(&self) -> u64
         requires { IsInUse self.now }
-        ensures { (fed given : List ℕ) → StandsFor self.now fed given → result ≡ (scenario_of self.now).log.max_bytes - length fed }
+        ensures { (fed given : List ℕ) → StandsFor self.now fed given → result ≡ (session_scenario self.now).log.max_bytes - length fed }
     {
         self.scenario.log.max_bytes - self.taken
     }
@@ -86,9 +86,9 @@ impl Session {
         requires some { 0 < length piece.now }
         requires piece { IsPiece piece.now }
         ensures mode { mode_of self.new ≡ mode_of self.old }
-        ensures scenario { scenario_of self.new ≡ scenario_of self.old }
+        ensures scenario { session_scenario self.new ≡ session_scenario self.old }
         ensures count { OnOk result (taken_of self.new ≡ taken_of self.old + length piece.now) }
-        ensures taken { OnOk result ((front : List ℕ) → HasText text.old front → Takes self.old self.new piece.now front text.new) }
+        ensures taken { OnOk result ((front : List ℕ) → HasText text.old front → TookPiece self.old self.new piece.now front text.new) }
         ensures refused { IfErr result (λ why. UnlessMemory why ((front : List ℕ) → HasText text.old front → Refuses self.old piece.now front text.new why)) }
     {
         ended_lines_stay();
@@ -115,10 +115,10 @@ impl Session {
         requires in_use { IsInUse self.old }
         requires text { (front : List ℕ) × HasText text.old front }
         ensures mode { mode_of self.new ≡ mode_of self.old }
-        ensures scenario { scenario_of self.new ≡ scenario_of self.old }
+        ensures scenario { session_scenario self.new ≡ session_scenario self.old }
         ensures in_use { OnOk result (IsInUse self.new) }
         ensures count { OnOk result (taken_of self.new ≡ taken_of self.old + length piece.now) }
-        ensures taken { OnOk result ((front : List ℕ) → HasText text.old front → Takes self.old self.new piece.now front text.new) }
+        ensures taken { OnOk result ((front : List ℕ) → HasText text.old front → TookPiece self.old self.new piece.now front text.new) }
         ensures refused { IfErr result (λ why. UnlessMemory why ((front : List ℕ) → HasText text.old front → Refuses self.old piece.now front text.new why)) }
     {
         let mut at = 0;
@@ -136,11 +136,11 @@ impl Session {
     pub fn feed(&mut self, piece: &[u8]) -> Result<Vec<u8>, SessionFault>
         requires in_use { IsInUse self.old }
         ensures mode { mode_of self.new ≡ mode_of self.old }
-        ensures scenario { scenario_of self.new ≡ scenario_of self.old }
+        ensures scenario { session_scenario self.new ≡ session_scenario self.old }
         ensures in_use { OnOk result (IsInUse self.new) }
         ensures given { IfOk result (λ bytes. (fed given : List ℕ) → StandsFor self.old fed given → StandsFor self.new (fed ++ piece.now) (given ++ bytes.items)) }
         ensures refused { IfErr result (λ why. UnlessMemory why ((fed given : List ℕ) → StandsFor self.old fed given → (decided : List ℕ)
-            × IsStopped (mode_of self.old) (scenario_of self.old) (fed ++ piece.now) why (given ++ decided))) }
+            × IsStopped (mode_of self.old) (session_scenario self.old) (fed ++ piece.now) why (given ++ decided))) }
     {
         let mut text = ReportText::new(self.alloc);
         self.feed_into(piece, &mut text)?;
@@ -151,11 +151,11 @@ impl Session {
     pub fn end(self) -> Result<Ending, SessionFault>
         requires in_use { IsInUse self }
         ensures report { IfOk result (λ ending. (fed given : List ℕ) → StandsFor self fed given
-            → IsEnding (mode_of self) (scenario_of self) fed (given ++ ending.bytes.items)) }
+            → IsEnding (mode_of self) (session_scenario self) fed (given ++ ending.bytes.items)) }
         ensures answer { IfOk result (λ ending. (fed given : List ℕ) → StandsFor self fed given
-            → IsAnswerTo (mode_of self) (scenario_of self) fed (Ok ending.none)) }
+            → IsAnswerTo (mode_of self) (session_scenario self) fed (Ok ending.none)) }
         ensures refused { IfErr result (λ why. UnlessMemory why ((fed given : List ℕ) → StandsFor self fed given
-            → IsAnswerTo (mode_of self) (scenario_of self) fed (Err why))) }
+            → IsAnswerTo (mode_of self) (session_scenario self) fed (Err why))) }
     {
         let Session {
             alloc,

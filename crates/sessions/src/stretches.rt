@@ -1,6 +1,6 @@
 //! The rows of the stretches that an audit finds.
 ghost use Rattle.std.specs.Prelude.{◌≡◌, ◌++◌, ℕ, List, OnOk};
-ghost use Rattle.audit_report.specs.ReportRows.{fields_of};
+ghost use Rattle.audit_report.specs.ReportRows.{row_fields};
 ghost use Rattle.audit_report.specs.ReportTexts.{HasText};
 ghost use Rattle.sessions.specs.AuditReport.{stretch_fields, stretch_rows};
 ghost use Rattle.sessions.specs.Inner.AuditWriting.{AreOfRules, IsOfRules};
@@ -13,7 +13,7 @@ use rule_set::RuleSet;
 /// The row of a stretch.
 fn row_of<'a>(rules: &'a RuleSet, row: &Row) -> ReportRow<'a>
     requires { IsOfRules rules.now row.now }
-    ensures { fields_of result ≡ stretch_fields rules.now row.now }
+    ensures { row_fields result ≡ stretch_fields rules.now row.now }
 {
     match *row {
         Row::Meeting {

@@ -3,11 +3,11 @@ ghost use Rattle.std.specs.Prelude.{◌≡◌, ◌<◌, ◌++◌, ℕ, List, OnO
 ghost use Rattle.std.specs.Option.{option_copied};
 ghost use Rattle.audit_report.specs.CsvRows.{row_of};
 ghost use Rattle.audit_report.specs.ReportTexts.{HasText};
-ghost use Rattle.tracks.specs.AcceptedReports.{Numbers};
+ghost use Rattle.tracks.specs.AcceptedReports.{JudgingNumbers};
 ghost use Rattle.tracks.specs.Standing.{StandsFor as BookStandsFor};
 ghost use Rattle.tracks.specs.VesselsHeld.{Sent, is_held, legs_of, statics_of};
 ghost use Rattle.tracks.specs.declared.keeping.Keeping.TheVariants.{Tracks};
-ghost use Rattle.sessions.specs.AuditReport.{held_fields, kind_of, vessel_rows};
+ghost use Rattle.sessions.specs.AuditReport.{held_fields, ship_type_of, vessel_rows};
 
 use ais_messages::{ShipData, Text20};
 use audit_report::{ReportRow, ReportText};
@@ -16,7 +16,7 @@ use tracks::Book;
 
 /// A vessel's type, 0 where she told none.
 fn kind_of(ship: Option<ShipData>) -> u8
-    ensures { result ≡ kind_of ship }
+    ensures { result ≡ ship_type_of ship }
 {
     match ship {
         Some(ship) => ship.kind,
@@ -27,7 +27,7 @@ fn kind_of(ship: Option<ShipData>) -> u8
 /// How many legs join the reports of a vessel.
 fn count_legs(book: &Book, mmsi: u32) -> u64
     requires { book.now.keeping ≡ Tracks }
-    ensures { (numbers : Numbers) (messages : List Sent) → BookStandsFor book.now numbers messages → is_held numbers messages mmsi ≡ true
+    ensures { (numbers : JudgingNumbers) (messages : List Sent) → BookStandsFor book.now numbers messages → is_held numbers messages mmsi ≡ true
         → result ≡ length (legs_of numbers messages mmsi) }
 {
     match book.legs(mmsi) {
@@ -38,7 +38,7 @@ fn count_legs(book: &Book, mmsi: u32) -> u64
 
 /// The name that a vessel told.
 fn name_told(book: &Book, mmsi: u32) -> Option<&Text20>
-    ensures { (numbers : Numbers) (messages : List Sent) → BookStandsFor book.now numbers messages → is_held numbers messages mmsi ≡ true
+    ensures { (numbers : JudgingNumbers) (messages : List Sent) → BookStandsFor book.now numbers messages → is_held numbers messages mmsi ≡ true
         → option_copied result ≡ (statics_of messages mmsi).name }
 {
     book.statics(mmsi)?.name.as_ref()
@@ -46,7 +46,7 @@ fn name_told(book: &Book, mmsi: u32) -> Option<&Text20>
 
 /// The type and size that a vessel told.
 fn ship_told(book: &Book, mmsi: u32) -> Option<ShipData>
-    ensures { (numbers : Numbers) (messages : List Sent) → BookStandsFor book.now numbers messages → is_held numbers messages mmsi ≡ true
+    ensures { (numbers : JudgingNumbers) (messages : List Sent) → BookStandsFor book.now numbers messages → is_held numbers messages mmsi ≡ true
         → result ≡ (statics_of messages mmsi).ship }
 {
     book.statics(mmsi)?.ship
@@ -55,7 +55,7 @@ fn ship_told(book: &Book, mmsi: u32) -> Option<ShipData>
 /// Writes the row of a vessel that is held.
 pub(crate) fn write_vessel(text: &mut ReportText, book: &Book, mmsi: u32) -> Result<(), Memory>
     requires { book.now.keeping ≡ Tracks }
-    ensures { OnOk result ((numbers : Numbers) (messages : List Sent) (front : List ℕ) → BookStandsFor book.now numbers messages
+    ensures { OnOk result ((numbers : JudgingNumbers) (messages : List Sent) (front : List ℕ) → BookStandsFor book.now numbers messages
         → is_held numbers messages mmsi ≡ true → HasText text.old front
         → HasText text.new (front ++ row_of (held_fields numbers messages mmsi))) }
 {
@@ -73,7 +73,7 @@ pub(crate) fn write_vessel(text: &mut ReportText, book: &Book, mmsi: u32) -> Res
 /// Writes the rows of all vessels that are held, in the order of their MMSIs.
 pub(crate) fn write_vessels(text: &mut ReportText, book: &Book) -> Result<(), Memory>
     requires { book.now.keeping ≡ Tracks }
-    ensures { OnOk result ((numbers : Numbers) (messages : List Sent) (front : List ℕ) → BookStandsFor book.now numbers messages
+    ensures { OnOk result ((numbers : JudgingNumbers) (messages : List Sent) (front : List ℕ) → BookStandsFor book.now numbers messages
         → HasText text.old front → HasText text.new (front ++ vessel_rows numbers messages)) }
 {
     for k in 0..book.vessels() {

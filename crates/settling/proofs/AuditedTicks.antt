@@ -6,7 +6,7 @@ use Rattle.std.specs.List.Sorted.{IsStrictlySortedBy}
 use Rattle.std.proofs.lemmas.List.{take-append-drop}
 use Rattle.std.proofs.lemmas.List.FromFn.{take-map-range_with_len}
 use Rattle.audit_rows.specs.declared.row.Row.{Row}
-use Rattle.audit_traces.specs.Audited.{Begins, Numbers, Sighting}
+use Rattle.audit_traces.specs.Audited.{Begins, AuditNumbers, Sighting}
 use Rattle.auditor.specs.AuditRows.{AreAuditRowsBelow}
 use Rattle.auditor.specs.Standing.{HaveMoreThan, IsSound, StandsFor as AuditStandsFor, given_of, last_tick_of, settled_by}
 use Rattle.auditor.proofs.ForCallers.{more_stay}
@@ -35,14 +35,14 @@ same_fault {T} {E} r x t h e = subst (λ (s : Result T E). IsErrAnd s (λ z. z �
 
 -- ---- before the first tick
 
-none_begin : (numbers : Numbers) → HaveMoreThan greatest_traces numbers [] → ⊥
+none_begin : (numbers : AuditNumbers) → HaveMoreThan greatest_traces numbers [] → ⊥
 none_begin numbers h = some h.pairs h.many h.begin
   where
     some : (pairs : List Pair) → greatest_traces < length pairs → Rattle.std.specs.Prelude.All (λ (pair : Pair). (start : ℕ) × Begins numbers [] pair start) pairs → ⊥
     some [] lt all = absurd (omega arith)
     some (pair ∷ pairs) lt all = (all 0 pair (omega arith)).1.begins.contact
 
-no_rows : (numbers : Numbers) → AreAuditRowsBelow numbers [] (settled_by numbers 0) []
+no_rows : (numbers : AuditNumbers) → AreAuditRowsBelow numbers [] (settled_by numbers 0) []
 unfolding IsStrictlySortedBy
 no_rows numbers = record {
   each = λ row. ((λ i. absurd (let lt = i.1 in omega arith)), (λ h. absurd (let lt = h.1 in omega arith)));
@@ -83,10 +83,10 @@ module _ (scenario : Scenario) where
   pub audited_on : (old new : SettledAudit) (lines : List (List ℕ)) (given rows : List Row) (seen : Sighting) → IsAudited old scenario lines given → new.next ≡ old.next + 1
       → IsSound new.audit → given_of new.audit ≡ given_of old.audit + 1 → last_tick_of new.audit ≡ last_tick_of old.audit
       → seen ≡ seen_of (numbers_of scenario) (sent scenario lines) (time_of_tick scenario.window old.next)
-      → ((numbers : Numbers) (ticks : List Sighting) (given : List Row) → AuditStandsFor old.audit numbers ticks given → AuditStandsFor new.audit numbers (ticks ++ seen ∷ []) (given ++ rows))
-      → ((numbers : Numbers) (ticks : List Sighting) (given : List Row) → AuditStandsFor old.audit numbers ticks given
+      → ((numbers : AuditNumbers) (ticks : List Sighting) (given : List Row) → AuditStandsFor old.audit numbers ticks given → AuditStandsFor new.audit numbers (ticks ++ seen ∷ []) (given ++ rows))
+      → ((numbers : AuditNumbers) (ticks : List Sighting) (given : List Row) → AuditStandsFor old.audit numbers ticks given
       → AreAuditRowsBelow numbers (ticks ++ seen ∷ []) (settled_by numbers (length ticks)) (given ++ rows))
-      → ((numbers : Numbers) (ticks : List Sighting) (given : List Row) → AuditStandsFor old.audit numbers ticks given → HaveMoreThan greatest_traces numbers (ticks ++ seen ∷ []) → ⊥)
+      → ((numbers : AuditNumbers) (ticks : List Sighting) (given : List Row) → AuditStandsFor old.audit numbers ticks given → HaveMoreThan greatest_traces numbers (ticks ++ seen ∷ []) → ⊥)
       → IsAudited new scenario lines (given ++ rows)
   audited_on old new lines given rows seen up next sound count last told stands below few =
       let numbers = audit_numbers scenario in

@@ -3,11 +3,11 @@ use Rattle.std.proofs.Common.{◌≡◌, ℕ, ◌+◌, ◌-◌, ◌<◌, ◌≤�
 use Rattle.std.specs.Prelude.{◌↔◌}
 use Rattle.std.specs.List.{Contains}
 use Rattle.std.proofs.lemmas.List.FromFn.{get_or-map-range_with_len, length-map-range_with_len}
-use Rattle.audit_rows.specs.Order.{InOrder, last_of, place_of}
+use Rattle.audit_rows.specs.Order.{InOrder, last_step_of, sort_key_of}
 use Rattle.audit_rows.specs.declared.row.Row.{Row}
 use Rattle.audit_traces.specs.Audited.{Sighting}
 use Rattle.auditor.specs.AuditRows.{AreAuditRows, AreAuditRowsBelow, IsAuditRow}
-use Rattle.auditor.specs.Standing.{reach_of, settled_by}
+use Rattle.auditor.specs.Standing.{audit_reach, settled_by}
 use Rattle.judged_lines.specs.JudgedLines.{numbers_of}
 use Rattle.judged_lines.specs.SentLines.{sent}
 use Rattle.scenario.specs.declared.values.Scenario.{Scenario}
@@ -54,7 +54,7 @@ module _ (scenario : Scenario) where
 
   -- the tick that decides a row
   abbrev decided_at : Row → ℕ
-  decided_at row = last_of row + reach_of (audit_numbers scenario) + 2
+  decided_at row = last_step_of row + audit_reach (audit_numbers scenario) + 2
 
   module _ (lines more : List (List ℕ)) (row : Row) (h : IsSettled scenario lines (decided_at row)) where
     row_stays : IsAuditRow (audit_numbers scenario) (sighted scenario (sent scenario lines)) row
@@ -82,13 +82,13 @@ module _ (scenario : Scenario) where
     inside : (row : Row) → Contains rows row → Contains all row
     inside row i = let is = (h.each row).0 i in held row (row_stays lines more row is.1 is.0) is.1
 
-    settled_too : (x y : Row) → last_of y ≤ last_of x → IsSettled scenario lines (decided_at x) → IsSettled scenario lines (decided_at y)
+    settled_too : (x y : Row) → last_step_of y ≤ last_step_of x → IsSettled scenario lines (decided_at x) → IsSettled scenario lines (decided_at y)
     settled_too x y le settled = settled_ticks_are_first scenario lines (decided_at x) (decided_at y) settled (omega arith)
 
     pub begin_all : (rest : List Row) × (all ≡ rows ++ rest)
     begin_all =
         front rows all h.ordered ordered inside (λ x y i j before.
-        let settled : IsSettled scenario lines (decided_at y) = settled_too x y (no_later (place_of y) (place_of x) before) ((h.each x).0 i).1 in
+        let settled : IsSettled scenario lines (decided_at y) = settled_too x y (no_later (sort_key_of y) (sort_key_of x) before) ((h.each x).0 i).1 in
         (h.each y).1 (row_was lines more y settled (audited y j), settled))
 
 -- ---- the laws

@@ -8,7 +8,7 @@ use Rattle.std.specs.declared.cmp.Ordering.TheVariants.{Less, Equal, Greater}
 use Rattle.std.proofs.lemmas.Bool.Decides.{nat_tests}
 use Rattle.std.proofs.lemmas.Cmp.{nat_cmp_total}
 use Rattle.meetings.specs.declared.pair.Pair.{Pair}
-use Rattle.audit_rows.specs.Order.{InOrder, pair_cmp, place_cmp, place_of, topic_cmp}
+use Rattle.audit_rows.specs.Order.{InOrder, pair_cmp, place_cmp, sort_key_of, topic_cmp}
 use Rattle.audit_rows.specs.declared.place.Place.{Place}
 use Rattle.audit_rows.specs.declared.row.Row.{Row}
 use Rattle.audit_rows.specs.declared.topic.Topic.{Topic}
@@ -69,27 +69,27 @@ no_later a b before = elim (le_or_gt a.last b.last) [
 
 -- ---- rows in order
 
-all_at : (P : Place → Type 0) (rows : List Row) (row : Row) → AllByRecursion P (map place_of rows) → Contains rows row → P (place_of row)
+all_at : (P : Place → Type 0) (rows : List Row) (row : Row) → AllByRecursion P (map sort_key_of rows) → Contains rows row → P (sort_key_of row)
 all_at P [] row all i = in_none row i
 all_at P (r ∷ rs) row all i = elim (in_cons r rs row i) [
-  | inl same ↦ subst (λ (x : Row). P (place_of x)) same all.0
+  | inl same ↦ subst (λ (x : Row). P (sort_key_of x)) same all.0
   | inr later ↦ all_at P rs row all.1 later
 ]
 
-first_before : (r : Row) (rs : List Row) (row : Row) → InOrder (r ∷ rs) → Contains rs row → place_cmp (place_of r) (place_of row) ≡ Less
+first_before : (r : Row) (rs : List Row) (row : Row) → InOrder (r ∷ rs) → Contains rs row → place_cmp (sort_key_of r) (sort_key_of row) ≡ Less
 unfolding IsStrictlySortedBy
-first_before r rs row ordered i = all_at (λ place. place_cmp (place_of r) place ≡ Less) rs row ordered.0 i
+first_before r rs row ordered i = all_at (λ place. place_cmp (sort_key_of r) place ≡ Less) rs row ordered.0 i
 
 tail_in_order : (r : Row) (rs : List Row) → InOrder (r ∷ rs) → InOrder rs
 unfolding IsStrictlySortedBy
 tail_in_order r rs ordered = ordered.1
 
 not_again : {G : Type 0} (r : Row) (rs : List Row) → InOrder (r ∷ rs) → Contains rs r → G
-not_again r rs ordered i = let before = first_before r rs r ordered i in not_both (place_of r) (place_of r) before before
+not_again r rs ordered i = let before = first_before r rs r ordered i in not_both (sort_key_of r) (sort_key_of r) before before
 
 -- What stands before one of the rows is one of them.
 abbrev pub IsFrontOf : List Row → List Row → Type 0
-IsFrontOf rows all = (x y : Row) → Contains rows x → Contains all y → place_cmp (place_of y) (place_of x) ≡ Less → Contains rows y
+IsFrontOf rows all = (x y : Row) → Contains rows x → Contains all y → place_cmp (sort_key_of y) (sort_key_of x) ≡ Less → Contains rows y
 
 same_first : (r : Row) (rs : List Row) (a : Row) (others : List Row) → InOrder (r ∷ rs) → InOrder (a ∷ others) → Contains (a ∷ others) r → IsFrontOf (r ∷ rs) (a ∷ others) → a ≡ r
 same_first r rs a others s t i h =
@@ -98,7 +98,7 @@ same_first r rs a others s t i h =
       | inr later ↦ (let before = first_before a others r t later in
           elim (in_cons r rs a (h r a (in_head r rs) (in_head a others) before)) [
             | inl same ↦ sym same
-            | inr there ↦ not_both (place_of r) (place_of a) (first_before r rs a s there) before
+            | inr there ↦ not_both (sort_key_of r) (sort_key_of a) (first_before r rs a s there) before
           ])
     ]
 

@@ -17,7 +17,7 @@ use Rattle.scenario.specs.ScenarioValues.{IsInRange}
 use Rattle.scenario.specs.Ticks.{time_of_tick}
 use Rattle.scenario.specs.declared.values.Scenario.{Scenario}
 use Rattle.settling.specs.Sightings.{seen_first}
-use Rattle.tracks.specs.AcceptedReports.{Numbers}
+use Rattle.tracks.specs.AcceptedReports.{JudgingNumbers}
 use Rattle.tracks.specs.SeenVessels.{seen_in, seen_of}
 use Rattle.tracks.specs.Standing.{BookValue, StandsFor as BookStandsFor}
 use Rattle.tracks.specs.VesselsHeld.{Sent}
@@ -95,7 +95,7 @@ pub moves_on : (book : BookValue) (scenario : Scenario) (messages : List Sent) (
 moves_on book scenario messages zero latest seen law range all stands was is = subst (λ (s : Sighting). MoveLittle s seen) (sym was) (little_first seen)
 moves_on book scenario messages (suc k) latest seen law range all stands was is =
     let window = scenario.window in
-    let gap : book.numbers.gap ≡ scenario.log.gap = ap (λ (n : Numbers). n.gap) stands.by in
+    let gap : book.numbers.gap ≡ scenario.log.gap = ap (λ (n : JudgingNumbers). n.gap) stands.by in
     let tick = range.log.gap_from in
     let minute = range.window.tick_to in
     let next = next_time window.start k window.tick in

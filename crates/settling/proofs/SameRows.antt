@@ -22,7 +22,7 @@ use Rattle.meetings.specs.declared.pair.Pair.{Pair}
 use Rattle.meetings.proofs.ForCallers.{row_over_less, row_over_more, same_answers, steps_from-length, steps_from-split}
 use Rattle.meetings.proofs.SomeRows.{some_rows}
 use Rattle.meetings.specs.Ranks.{all_power_driven}
-use Rattle.audit_rows.specs.Order.{first_of, last_of}
+use Rattle.audit_rows.specs.Order.{first_step_of, last_step_of}
 use Rattle.audit_rows.specs.Rows.{IsRowOf}
 use Rattle.audit_rows.specs.Stretches.{mark_at}
 use Rattle.audit_rows.specs.Tracks.{Track, next_step}
@@ -32,11 +32,11 @@ use Rattle.audit_rows.specs.declared.row.Row.{Row}
 use Rattle.audit_rows.specs.declared.topic.Topic.{Topic}
 use Rattle.audit_rows.specs.declared.topic.Topic.TheVariants.{Meeting, Verdict as OfVerdict}
 use Rattle.audit_rows.proofs.ForCallers.{row_stays, row_was, row_within}
-use Rattle.audit_traces.specs.AuditTracks.{AreMarksOf, AreMeetingMarks, AreRuleMarks, IsLeast, IsMeetingMark, IsTraceOf}
-use Rattle.audit_traces.specs.Audited.{Begins, Numbers, Sighting, state_at, state_in, step_of, terms_of, trace_steps}
+use Rattle.audit_traces.specs.AuditTracks.{AreMarksOf, AreMeetingMarks, AreRuleMarks, IsLeastSeparation, IsMeetingMark, IsTraceOf}
+use Rattle.audit_traces.specs.Audited.{Begins, AuditNumbers, Sighting, seen_state_at, state_in, step_of, terms_of, trace_steps}
 use Rattle.audit_traces.specs.ValueMarks.{mark_of}
 use Rattle.auditor.specs.AuditRows.{IsAuditRow}
-use Rattle.auditor.specs.Standing.{reach_of}
+use Rattle.auditor.specs.Standing.{audit_reach}
 use Rattle.settling.proofs.MoreMarks.{go_on}
 use Rattle.settling.proofs.SomeMarks.{some_mark}
 
@@ -55,7 +55,7 @@ agreed_mark detect steps others i Nothing agree seen h = λ engaged. h (engaged_
 agreed_mark detect steps others i Broken agree seen h = absurd h
 agreed_mark detect steps others i Undecided agree seen h = absurd h
 agreed_mark detect steps others i (Engaged kind least) agree seen ((now, (is, of)), measures) =
-    ((now, (engagement_of-agree detect steps others i now agree is, of)), subst (λ (o : Option PairStep). IsSomeAnd o (λ pair. IsLeast least pair.step)) seen measures)
+    ((now, (engagement_of-agree detect steps others i now agree is, of)), subst (λ (o : Option PairStep). IsSomeAnd o (λ pair. IsLeastSeparation least pair.step)) seen measures)
 
 front_mark : (detect : Detect) (front rest others : List (Option PairStep)) (i : ℕ) (mark : Mark) → i < length front
     → IsMeetingMark detect (front ++ rest) i mark → IsMeetingMark detect (front ++ others) i mark
@@ -79,7 +79,7 @@ same_answered terms steps others k (Some answers) (Some replies) too row other =
 
 -- ---- ticks that agree up to one
 
-module _ (numbers : Numbers) (ticks others : List Sighting) (until : ℕ) (here : until < length ticks) (there : until < length others)
+module _ (numbers : AuditNumbers) (ticks others : List Sighting) (until : ℕ) (here : until < length ticks) (there : until < length others)
     (agree : (k : ℕ) → k ≤ until → get_or ticks k [] ≡ get_or others k []) where
   module _ (pair : Pair) (start : ℕ) (begun : start ≤ until) where
     begins_too : Begins numbers ticks pair start → Begins numbers others pair start
@@ -95,23 +95,23 @@ module _ (numbers : Numbers) (ticks others : List Sighting) (until : ℕ) (here 
 
     -- the steps up to the tick, and those behind it
     front_of : List Sighting → List (Option PairStep)
-    front_of seen = steps_from (state_at seen pair.subject) (state_at seen pair.other) start (until - start)
+    front_of seen = steps_from (seen_state_at seen pair.subject) (seen_state_at seen pair.other) start (until - start)
 
     rest_of : List Sighting → List (Option PairStep)
-    rest_of seen = steps_from (state_at seen pair.subject) (state_at seen pair.other) (start + (until - start)) (length seen - 1 - until)
+    rest_of seen = steps_from (seen_state_at seen pair.subject) (seen_state_at seen pair.other) (start + (until - start)) (length seen - 1 - until)
 
     split : (seen : List Sighting) → until < length seen → trace_steps numbers seen pair start ≡ front_of seen ++ rest_of seen
     unfolding front_of rest_of
     split seen within =
-        let a : ℕ → Option TickState = state_at seen pair.subject in
-        let b : ℕ → Option TickState = state_at seen pair.other in
+        let a : ℕ → Option TickState = seen_state_at seen pair.subject in
+        let b : ℕ → Option TickState = seen_state_at seen pair.other in
         let count : length seen - 1 - start ≡ (until - start) + (length seen - 1 - until) = omega arith in
         ap (steps_from a b start) count ∙ steps_from-split a b start (until - start) (length seen - 1 - until)
 
     same_front : front_of others ≡ front_of ticks
     unfolding front_of
     same_front =
-        steps_agree (state_at others pair.subject) (state_at others pair.other) (state_at ticks pair.subject) (state_at ticks pair.other) start (until - start)
+        steps_agree (seen_state_at others pair.subject) (seen_state_at others pair.other) (seen_state_at ticks pair.subject) (seen_state_at ticks pair.other) start (until - start)
         (λ k lt. ap₂ (λ (s t : Sighting). step_of pair s t) (sym (agree k (omega arith))) (sym (agree (k + 1) (omega arith))))
 
     split_others : trace_steps numbers others pair start ≡ front_of ticks ++ rest_of others
@@ -119,10 +119,10 @@ module _ (numbers : Numbers) (ticks others : List Sighting) (until : ℕ) (here 
 
     front_length : length (front_of ticks) ≡ until - start
     unfolding front_of
-    front_length = steps_from-length (state_at ticks pair.subject) (state_at ticks pair.other) start (until - start)
+    front_length = steps_from-length (seen_state_at ticks pair.subject) (seen_state_at ticks pair.other) start (until - start)
 
     steps_length : (seen : List Sighting) → length (trace_steps numbers seen pair start) ≡ length seen - 1 - start
-    steps_length seen = steps_from-length (state_at seen pair.subject) (state_at seen pair.other) start (length seen - 1 - start)
+    steps_length seen = steps_from-length (seen_state_at seen pair.subject) (seen_state_at seen pair.other) start (length seen - 1 - start)
 
     mark_too : (i : ℕ) (mark : Mark) → start + i < until → IsMeetingMark numbers.detect (trace_steps numbers ticks pair start) i mark
         → IsMeetingMark numbers.detect (trace_steps numbers others pair start) i mark
@@ -169,7 +169,7 @@ module _ (numbers : Numbers) (ticks others : List Sighting) (until : ℕ) (here 
         (mark_too i (mark_at marks i) (omega arith) (h.each i (omega arith)))) in
         (more.rest, record { begins = begins_too h.begins; count = more.count; each = more.each })
 
-    rule_too : (rule : ℕ) (marks : List Mark) (n : ℕ) → start + n + reach_of numbers ≤ until → AreRuleMarks numbers ticks pair rule start marks
+    rule_too : (rule : ℕ) (marks : List Mark) (n : ℕ) → start + n + audit_reach numbers ≤ until → AreRuleMarks numbers ticks pair rule start marks
         → (rest : List Mark) × AreRuleMarks numbers others pair rule start (take n marks ++ rest)
     rule_too rule marks n le h =
         let tree : FormulaTree = (rule_at numbers.rules rule).tree in
@@ -193,7 +193,7 @@ module _ (numbers : Numbers) (ticks others : List Sighting) (until : ℕ) (here 
     rule_count : (rule : ℕ) (marks : List Mark) → AreRuleMarks numbers ticks pair rule start marks → length marks ≡ length ticks - 1 - start
     rule_count rule marks h = h.count ∙ (h.of.rows.count ∙ steps_length ticks)
 
-  marks_too : (topic : Topic) (first : ℕ) (marks : List Mark) (n : ℕ) → first + n + reach_of numbers ≤ until → AreMarksOf numbers ticks topic first marks
+  marks_too : (topic : Topic) (first : ℕ) (marks : List Mark) (n : ℕ) → first + n + audit_reach numbers ≤ until → AreMarksOf numbers ticks topic first marks
       → (rest : List Mark) × AreMarksOf numbers others topic first (take n marks ++ rest)
   marks_too (Meeting pair) first marks n le h = meeting_too pair first (omega arith) marks n (omega arith) h
   marks_too (OfVerdict pair rule) first marks n le h = rule_too pair first (omega arith) rule marks n le h
@@ -203,21 +203,21 @@ module _ (numbers : Numbers) (ticks others : List Sighting) (until : ℕ) (here 
   marks_count (OfVerdict pair rule) first marks le h = rule_count pair first le rule marks h
 
 -- A row of the audit of ticks is one of the audit of other ticks that agree up to the farthest rule's reach and two behind its last step.
-pub same_row : (numbers : Numbers) (ticks others : List Sighting) (row : Row)
-    → last_of row + reach_of numbers + 2 < length ticks → last_of row + reach_of numbers + 2 < length others
-    → ((k : ℕ) → k ≤ last_of row + reach_of numbers + 2 → get_or ticks k [] ≡ get_or others k [])
+pub same_row : (numbers : AuditNumbers) (ticks others : List Sighting) (row : Row)
+    → last_step_of row + audit_reach numbers + 2 < length ticks → last_step_of row + audit_reach numbers + 2 < length others
+    → ((k : ℕ) → k ≤ last_step_of row + audit_reach numbers + 2 → get_or ticks k [] ≡ get_or others k [])
     → IsAuditRow numbers ticks row → IsAuditRow numbers others row
 same_row numbers ticks others row here there agree (track, (is, of)) =
-    let until : ℕ = last_of row + reach_of numbers + 2 in
-    let within : (track.first ≤ first_of row) × (first_of row ≤ last_of row) × (last_of row < next_step track) = row_within track row of in
+    let until : ℕ = last_step_of row + audit_reach numbers + 2 in
+    let within : (track.first ≤ first_step_of row) × (first_step_of row ≤ last_step_of row) × (last_step_of row < next_step track) = row_within track row of in
     let from = within.0 in
     let ordered = within.1 in
-    let n : ℕ = (last_of row + 2) - track.first in
+    let n : ℕ = (last_step_of row + 2) - track.first in
     let count = marks_count numbers ticks others until here there agree track.topic track.first track.marks (omega arith) is in
     let more = marks_too numbers ticks others until here there agree track.topic track.first track.marks n (omega arith) is in
     let front : Track = record track { marks = take n track.marks } in
     let taken = length-take n track.marks in
-    let known : last_of row + 1 < track.first + length (take n track.marks) = omega arith in
+    let known : last_step_of row + 1 < track.first + length (take n track.marks) = omega arith in
     let whole : IsRowOf (record front { marks = front.marks ++ drop n track.marks }) row =
     subst (λ (marks : List Mark). IsRowOf (record track { marks = marks }) row) (sym (take-append-drop n track.marks)) of in
     let told : IsRowOf front row = row_was front (drop n track.marks) row known whole in

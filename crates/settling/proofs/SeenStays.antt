@@ -18,15 +18,15 @@ use Rattle.motion.specs.TickStates.{state_at}
 use Rattle.motion.specs.declared.leg.TickState.{TickState}
 use Rattle.scenario.specs.declared.values.Scenario.{Scenario}
 use Rattle.scenario.specs.Ticks.{time_of_tick}
-use Rattle.tracks.specs.AcceptedReports.{Numbers}
+use Rattle.tracks.specs.AcceptedReports.{JudgingNumbers}
 use Rattle.tracks.specs.JoinedReports.{legs_between}
-use Rattle.tracks.specs.SeenVessels.{seen_of, sighting}
+use Rattle.tracks.specs.SeenVessels.{seen_of, seen_vessel}
 use Rattle.tracks.specs.VesselsHeld.{Sent, held_of, is_held, legs_of, sender_of, with_number}
 use Rattle.tracks.specs.declared.accepted.Accepted.{Accepted}
 use Rattle.tracks.proofs.Ascending.{with_number-among}
 use Rattle.tracks.proofs.Holding.{held_among, held_of-ascends, held_of-more, held_of-same, is_held-stays, no_points}
 use Rattle.tracks.proofs.Settled.{past_stays}
-use Rattle.judged_lines.specs.EachLine.{each_after, each_line, value_in}
+use Rattle.judged_lines.specs.EachLine.{each_after, each_line, ok_value}
 use Rattle.judged_lines.specs.JudgedLines.{numbers_of}
 use Rattle.judged_lines.specs.LineTimes.{clock_of, is_in_window, is_late, time_of}
 use Rattle.judged_lines.specs.SentLines.{heard, heard_in, heard_of, heard_unless, sent, sent_decoded, sent_heard, sent_joined, sent_of, untimely}
@@ -54,34 +54,34 @@ module _ {X : Type 0} (f g : ℕ → Option X) where
         ]
       ]
 
-module _ (numbers : Numbers) (messages : List Sent) (one : Sent) (t : ℕ) where
+module _ (numbers : JudgingNumbers) (messages : List Sent) (one : Sent) (t : ℕ) where
   not_there : (mmsi : ℕ) → is_held numbers messages mmsi ≡ false → state_at t (legs_of numbers messages mmsi) ≡ None
   unfolding legs_of state_at
   not_there mmsi h = ap (λ (points : List Accepted). state_at t (legs_between numbers.gap points)) (no_points numbers messages mmsi h)
 
   module _ (later : t + numbers.gap < one.time) where
-    same_sighting : (mmsi : ℕ) → sighting t (legs_of numbers (messages ++ one ∷ [])) mmsi ≡ sighting t (legs_of numbers messages) mmsi
+    same_sighting : (mmsi : ℕ) → seen_vessel t (legs_of numbers (messages ++ one ∷ [])) mmsi ≡ seen_vessel t (legs_of numbers messages) mmsi
     same_sighting mmsi = ap (option_map (λ (state : TickState). (mmsi, state))) (past_stays numbers messages one mmsi t later)
 
     same_vessels : (after before : Bool) → is_held numbers (messages ++ one ∷ []) (sender_of one.message) ≡ after → is_held numbers messages (sender_of one.message) ≡ before
-        → filter_map (sighting t (legs_of numbers messages)) (held_of numbers (messages ++ one ∷ [])) ≡ filter_map (sighting t (legs_of numbers messages)) (held_of numbers messages)
+        → filter_map (seen_vessel t (legs_of numbers messages)) (held_of numbers (messages ++ one ∷ [])) ≡ filter_map (seen_vessel t (legs_of numbers messages)) (held_of numbers messages)
     same_vessels true true is was =
-        ap (filter_map (sighting t (legs_of numbers messages)))
+        ap (filter_map (seen_vessel t (legs_of numbers messages)))
         (held_of-more numbers messages one is
         ∙ with_number-among (sender_of one.message) (held_of numbers messages) (held_of-ascends numbers messages) (held_among numbers messages (sender_of one.message) was))
     same_vessels true false is was =
-        let f = sighting t (legs_of numbers messages) in
+        let f = seen_vessel t (legs_of numbers messages) in
         let mmsi : ℕ = sender_of one.message in
         ap (filter_map f) (held_of-more numbers messages one is)
         ∙ nothing_more f f mmsi (held_of numbers messages) (ap (option_map (λ (state : TickState). (mmsi, state))) (not_there mmsi was))
     same_vessels false true is was =
         absurd (let stays = is_held-stays numbers messages one (sender_of one.message) refl was in cc)
-    same_vessels false false is was = ap (filter_map (sighting t (legs_of numbers messages))) (held_of-same numbers messages one was is)
+    same_vessels false false is was = ap (filter_map (seen_vessel t (legs_of numbers messages))) (held_of-same numbers messages one was is)
 
     sees_the_same : seen_of numbers (messages ++ one ∷ []) t ≡ seen_of numbers messages t
     unfolding seen_of
     sees_the_same =
-        same_kept (sighting t (legs_of numbers (messages ++ one ∷ []))) (sighting t (legs_of numbers messages)) same_sighting (held_of numbers (messages ++ one ∷ []))
+        same_kept (seen_vessel t (legs_of numbers (messages ++ one ∷ []))) (seen_vessel t (legs_of numbers messages)) same_sighting (held_of numbers (messages ++ one ∷ []))
         ∙ same_vessels (is_held numbers (messages ++ one ∷ []) (sender_of one.message)) (is_held numbers messages (sender_of one.message)) refl refl
 
 -- ---- one line more
@@ -95,11 +95,11 @@ each_after-push f before (x ∷ xs) y =
     ∙ ap (λ b. f before x ∷ each_after f (before ++ x ∷ []) xs ++ f b y ∷ []) (append_assoc before (x ∷ []) xs)
 
 sent-push : (scenario : Scenario) (before : List (List ℕ)) (line : List ℕ)
-    → sent scenario (before ++ line ∷ []) ≡ sent scenario before ++ cons_option (value_in (sent_of scenario before line)) []
+    → sent scenario (before ++ line ∷ []) ≡ sent scenario before ++ cons_option (ok_value (sent_of scenario before line)) []
 unfolding sent
 sent-push scenario before line =
-    ap (filter_map value_in) (each_after-push (sent_of scenario) [] before line)
-    ∙ filter_map-append value_in (each_line (sent_of scenario) before) (sent_of scenario before line ∷ [])
+    ap (filter_map ok_value) (each_after-push (sent_of scenario) [] before line)
+    ∙ filter_map-append ok_value (each_line (sent_of scenario) before) (sent_of scenario before line ∷ [])
 
 -- ---- no message is late
 
@@ -153,7 +153,7 @@ module _ (scenario : Scenario) (i : ℕ) where
   seen_by lines = seen_of (numbers_of scenario) (sent scenario lines) (time_of_tick scenario.window i)
 
   with_message : (messages : List Sent) (line : Result Sent LineOutcome) → IfOk line (λ one. time_of_tick scenario.window i + scenario.log.gap < one.time)
-      → seen_of (numbers_of scenario) (messages ++ cons_option (value_in line) []) (time_of_tick scenario.window i)
+      → seen_of (numbers_of scenario) (messages ++ cons_option (ok_value line) []) (time_of_tick scenario.window i)
       ≡ seen_of (numbers_of scenario) messages (time_of_tick scenario.window i)
   with_message messages (Ok one) later = sees_the_same (numbers_of scenario) messages one (time_of_tick scenario.window i) later
   with_message messages (Err came) later =

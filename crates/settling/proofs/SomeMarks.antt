@@ -18,7 +18,7 @@ use Rattle.encounters.specs.declared.pair_step.PairStep.{PairStep}
 use Rattle.encounters.proofs.Lasting.{some_state}
 use Rattle.audit_rows.specs.declared.mark.Mark.{Mark}
 use Rattle.audit_rows.specs.declared.mark.Mark.TheVariants.{Nothing, Engaged}
-use Rattle.audit_traces.specs.AuditTracks.{IsLeast, IsMeetingMark}
+use Rattle.audit_traces.specs.AuditTracks.{IsLeastSeparation, IsMeetingMark}
 
 -- ---- each step has a greatest distance by which it is separated
 
@@ -62,7 +62,7 @@ module _ (step : RelativeMove) where
       let y = square-nonneg (displacement_at step a b).y in
       omega (arith, ints)
 
-  least_up_to : (n : ℕ) → ((m : ℕ) → IsSeparated step m → m ≤ n) → (least : ℕ) × IsLeast least step
+  least_up_to : (n : ℕ) → ((m : ℕ) → IsSeparated step m → m ≤ n) → (least : ℕ) × IsLeastSeparation least step
   least_up_to zero most = (0, λ m. (λ separated. most m separated, λ le. separated_by_less m 0 le separated_by_none))
   least_up_to (suc n) most =
       elim (separated_or_not (suc n)) [
@@ -73,12 +73,12 @@ module _ (step : RelativeMove) where
         ])
       ]
 
-  some_least : (least : ℕ) × IsLeast least step
+  some_least : (least : ℕ) × IsLeastSeparation least step
   some_least = least_up_to (unsigned_abs (norm2_of step.p)) separated_at_most
 
 -- ---- meetings
 
-seen_least : (seen : Option PairStep) → IsSome seen → (least : ℕ) × IsSomeAnd seen (λ pair. IsLeast least pair.step)
+seen_least : (seen : Option PairStep) → IsSome seen → (least : ℕ) × IsSomeAnd seen (λ pair. IsLeastSeparation least pair.step)
 seen_least None is = absurd (cc)
 seen_least (Some pair) is = some_least pair.step
 

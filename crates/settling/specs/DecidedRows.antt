@@ -1,10 +1,10 @@
 -- The rows of an audit that the lines of a log so far decide.
 use Rattle.std.specs.Prelude.{ℕ, ◌+◌, ◌↔◌, List}
 use Rattle.std.specs.List.{Contains}
-use Rattle.audit_rows.specs.Order.{InOrder, last_of}
+use Rattle.audit_rows.specs.Order.{InOrder, last_step_of}
 use Rattle.audit_rows.specs.declared.row.Row.{Row}
 use Rattle.auditor.specs.AuditRows.{IsAuditRow}
-use Rattle.auditor.specs.Standing.{reach_of}
+use Rattle.auditor.specs.Standing.{audit_reach}
 use Rattle.judged_lines.specs.SentLines.{sent}
 use Rattle.scenario.specs.declared.values.Scenario.{Scenario}
 use Rattle.settling.specs.SettledTicks.{IsSettled}
@@ -14,5 +14,5 @@ use Rattle.settling.specs.Sightings.{audit_numbers, sighted}
 -- step: one position more tells that the stretch has ended, and a position ends at the next tick.
 pub record AreDecided (scenario : Scenario) (lines : List (List ℕ)) (rows : List Row) : Type 0 where
   pub each : (row : Row) → Contains rows row
-      ↔ (IsAuditRow (audit_numbers scenario) (sighted scenario (sent scenario lines)) row × IsSettled scenario lines (last_of row + reach_of (audit_numbers scenario) + 2))
+      ↔ (IsAuditRow (audit_numbers scenario) (sighted scenario (sent scenario lines)) row × IsSettled scenario lines (last_step_of row + audit_reach (audit_numbers scenario) + 2))
   pub ordered : InOrder rows

@@ -1,10 +1,10 @@
 //! Laws of settled ticks and decided rows, which stand over the definitions alone.
 ghost use Rattle.std.specs.Prelude.{ℕ, ◌≡◌, ◌+◌, ◌-◌, ◌<◌, ◌≤◌, ◌↔◌, ◌++◌, [], get_or, length, List};
-ghost use Rattle.audit_rows.specs.Order.{last_of};
+ghost use Rattle.audit_rows.specs.Order.{last_step_of};
 ghost use Rattle.audit_rows.specs.declared.row.Row.{Row};
-ghost use Rattle.audit_traces.specs.Audited.{Numbers, Sighting};
+ghost use Rattle.audit_traces.specs.Audited.{AuditNumbers, Sighting};
 ghost use Rattle.auditor.specs.AuditRows.{AreAuditRows, AreAuditRowsBelow, IsAuditRow};
-ghost use Rattle.auditor.specs.Standing.{reach_of, settled_by};
+ghost use Rattle.auditor.specs.Standing.{audit_reach, settled_by};
 ghost use Rattle.judged_lines.specs.JudgedLines.{numbers_of};
 ghost use Rattle.judged_lines.specs.SentLines.{sent};
 ghost use Rattle.scenario.specs.Ticks.{time_of_tick};
@@ -38,9 +38,9 @@ pub fn many_settled_stay()
 
 /// Whether a row is an audit's depends on the ticks alone up to the farthest rule's reach and two behind its last step.
 pub fn rows_look_so_far_ahead()
-    ensures { (numbers : Numbers) (ticks others : List Sighting) (row : Row) →
-        last_of row + reach_of numbers + 2 < length ticks → last_of row + reach_of numbers + 2 < length others →
-        ((k : ℕ) → k ≤ last_of row + reach_of numbers + 2 → get_or ticks k [] ≡ get_or others k []) →
+    ensures { (numbers : AuditNumbers) (ticks others : List Sighting) (row : Row) →
+        last_step_of row + audit_reach numbers + 2 < length ticks → last_step_of row + audit_reach numbers + 2 < length others →
+        ((k : ℕ) → k ≤ last_step_of row + audit_reach numbers + 2 → get_or ticks k [] ≡ get_or others k []) →
         IsAuditRow numbers ticks row → IsAuditRow numbers others row }
 {}
 

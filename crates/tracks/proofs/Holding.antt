@@ -6,7 +6,7 @@ use Rattle.std.specs.Option.{option_to_list}
 use Rattle.std.proofs.lemmas.Bool.{cases_Bool}
 use Rattle.std.proofs.lemmas.Bool.Decides.{nat_tests}
 use Rattle.ais_messages.specs.declared.message.StaticReport.{StaticReport}
-use Rattle.tracks.specs.AcceptedReports.{Numbers, accepted_after}
+use Rattle.tracks.specs.AcceptedReports.{JudgingNumbers, accepted_after}
 use Rattle.tracks.specs.Standing.{vessel_of}
 use Rattle.tracks.specs.VesselsHeld.{Sent, accepted_of, held_of, is_held, legs_of, messages_of, reported_in, sender_of, senders_of, static_in, static_reports_of, statics_of, with_number}
 use Rattle.tracks.specs.Inner.AscendingNumbers.{Ascends}
@@ -22,7 +22,7 @@ use Rattle.tracks.proofs.Messages.{accepted_of-other, accepted_of-own, static_re
 abbrev some_of : {A B : Type 0} → List A → List B → Bool
 some_of xs ys = nat_lt 0 (length xs) || nat_lt 0 (length ys)
 
-pub is_held-other : (numbers : Numbers) (sent : List Sent) (one : Sent) (mmsi : ℕ) → mmsi ≢ sender_of one.message
+pub is_held-other : (numbers : JudgingNumbers) (sent : List Sent) (one : Sent) (mmsi : ℕ) → mmsi ≢ sender_of one.message
     → is_held numbers (sent ++ one ∷ []) mmsi ≡ is_held numbers sent mmsi
 unfolding is_held
 is_held-other numbers sent one mmsi ne = rw (accepted_of-other numbers sent one mmsi ne, static_reports_of-other sent one mmsi ne) refl
@@ -35,7 +35,7 @@ still_some : {A B : Type 0} (xs us : List A) (ys vs : List B) → length xs ≤ 
 still_some xs us ys vs first second h = grind (arith, nat_tests)
 
 -- once held, always held
-pub is_held-stays : (numbers : Numbers) (sent : List Sent) (one : Sent) (mmsi : ℕ) → sender_of one.message ≡ mmsi → is_held numbers sent mmsi ≡ true
+pub is_held-stays : (numbers : JudgingNumbers) (sent : List Sent) (one : Sent) (mmsi : ℕ) → sender_of one.message ≡ mmsi → is_held numbers sent mmsi ≡ true
     → is_held numbers (sent ++ one ∷ []) mmsi ≡ true
 unfolding is_held
 is_held-stays numbers sent one mmsi e h =
@@ -53,15 +53,15 @@ none_left [] [] h = (refl, refl)
 none_left [] (y ∷ ys) h = absurd (grind (arith, nat_tests))
 none_left (x ∷ xs) ys h = absurd (grind (arith, nat_tests))
 
-pub no_points : (numbers : Numbers) (sent : List Sent) (mmsi : ℕ) → is_held numbers sent mmsi ≡ false → accepted_of numbers sent mmsi ≡ []
+pub no_points : (numbers : JudgingNumbers) (sent : List Sent) (mmsi : ℕ) → is_held numbers sent mmsi ≡ false → accepted_of numbers sent mmsi ≡ []
 unfolding is_held
 no_points numbers sent mmsi h = (none_left (accepted_of numbers sent mmsi) (static_reports_of sent mmsi) h).0
 
-pub no_statics : (numbers : Numbers) (sent : List Sent) (mmsi : ℕ) → is_held numbers sent mmsi ≡ false → static_reports_of sent mmsi ≡ []
+pub no_statics : (numbers : JudgingNumbers) (sent : List Sent) (mmsi : ℕ) → is_held numbers sent mmsi ≡ false → static_reports_of sent mmsi ≡ []
 unfolding is_held
 no_statics numbers sent mmsi h = (none_left (accepted_of numbers sent mmsi) (static_reports_of sent mmsi) h).1
 
-pub vessel_untold : (keeping : Keeping) (numbers : Numbers) (sent : List Sent) (mmsi : ℕ) → is_held numbers sent mmsi ≡ false
+pub vessel_untold : (keeping : Keeping) (numbers : JudgingNumbers) (sent : List Sent) (mmsi : ℕ) → is_held numbers sent mmsi ≡ false
     → vessel_of keeping numbers sent mmsi ≡ untold
 unfolding legs_of statics_of
 vessel_untold keeping numbers sent mmsi h =
@@ -73,7 +73,7 @@ either None (Some p) = refl
 either (Some o) None = refl
 either (Some o) (Some p) = refl
 
-pub is_held-first : (numbers : Numbers) (sent : List Sent) (one : Sent) (mmsi : ℕ) → sender_of one.message ≡ mmsi → is_held numbers sent mmsi ≡ false
+pub is_held-first : (numbers : JudgingNumbers) (sent : List Sent) (one : Sent) (mmsi : ℕ) → sender_of one.message ≡ mmsi → is_held numbers sent mmsi ≡ false
     → is_held numbers (sent ++ one ∷ []) mmsi ≡ makes_held numbers one
 unfolding is_held
 is_held-first numbers sent one mmsi e h =
@@ -101,12 +101,12 @@ folded_ascends (one ∷ sent) ms h = folded_ascends sent (with_sender ms one) (w
 senders_ascend : (sent : List Sent) → Ascends (senders_of sent)
 senders_ascend sent = folded_ascends sent [] tt
 
-pub held_of-ascends : (numbers : Numbers) (sent : List Sent) → Ascends (held_of numbers sent)
+pub held_of-ascends : (numbers : JudgingNumbers) (sent : List Sent) → Ascends (held_of numbers sent)
 unfolding held_of
 held_of-ascends numbers sent = filter-ascends (is_held numbers sent) (senders_of sent) (senders_ascend sent)
 
 -- The sender is held with the message.
-pub held_of-more : (numbers : Numbers) (sent : List Sent) (one : Sent) → is_held numbers (sent ++ one ∷ []) (sender_of one.message) ≡ true
+pub held_of-more : (numbers : JudgingNumbers) (sent : List Sent) (one : Sent) → is_held numbers (sent ++ one ∷ []) (sender_of one.message) ≡ true
     → held_of numbers (sent ++ one ∷ []) ≡ with_number (sender_of one.message) (held_of numbers sent)
 unfolding held_of
 held_of-more numbers sent one h =
@@ -118,7 +118,7 @@ pub same_or_other : (k m : ℕ) → (k ≡ m) ⊎ (k ≢ m)
 same_or_other k m = grind arith
 
 -- The sender is not held with the message.
-pub held_of-same : (numbers : Numbers) (sent : List Sent) (one : Sent) → is_held numbers sent (sender_of one.message) ≡ false
+pub held_of-same : (numbers : JudgingNumbers) (sent : List Sent) (one : Sent) → is_held numbers sent (sender_of one.message) ≡ false
     → is_held numbers (sent ++ one ∷ []) (sender_of one.message) ≡ false → held_of numbers (sent ++ one ∷ []) ≡ held_of numbers sent
 unfolding held_of
 held_of-same numbers sent one before after =
@@ -149,7 +149,7 @@ no_messages n (one ∷ sent) ms not =
     ]
 
 -- a vessel without messages is not held
-not_held : (numbers : Numbers) (sent : List Sent) (n : ℕ) → messages_of sent n ≡ [] → is_held numbers sent n ≡ false
+not_held : (numbers : JudgingNumbers) (sent : List Sent) (n : ℕ) → messages_of sent n ≡ [] → is_held numbers sent n ≡ false
 unfolding is_held accepted_of accepted_after
 not_held numbers sent n none = rw none refl
 
@@ -163,7 +163,7 @@ among_or_not n (m ∷ ms) = elim (same_or_other n m) [
   ]
 ]
 
-pub held_among : (numbers : Numbers) (sent : List Sent) (n : ℕ) → is_held numbers sent n ≡ true → IsAmong n (held_of numbers sent)
+pub held_among : (numbers : JudgingNumbers) (sent : List Sent) (n : ℕ) → is_held numbers sent n ≡ true → IsAmong n (held_of numbers sent)
 unfolding held_of
 held_among numbers sent n h =
     elim (among_or_not n (senders_of sent)) [
@@ -171,6 +171,6 @@ held_among numbers sent n h =
       | inr not ↦ absurd (let e = not_held numbers sent n (no_messages n sent [] not) in cc)
     ]
 
-pub held_passes : (numbers : Numbers) (sent : List Sent) (n : ℕ) → IsAmong n (held_of numbers sent) → is_held numbers sent n ≡ true
+pub held_passes : (numbers : JudgingNumbers) (sent : List Sent) (n : ℕ) → IsAmong n (held_of numbers sent) → is_held numbers sent n ≡ true
 unfolding held_of
 held_passes numbers sent n h = among_passes (is_held numbers sent) n (senders_of sent) h

@@ -14,7 +14,7 @@ use Rattle.motion.specs.declared.leg.Leg.{Leg}
 use Rattle.motion.specs.declared.leg.TickState.{TickState}
 use Rattle.motion.proofs.LastPassing.{filter_none, last_or-at}
 use Rattle.motion.proofs.Parts.{between_whole}
-use Rattle.tracks.specs.AcceptedReports.{Numbers, Reported, accepted_after, accepted_with, applies, judged, judged_after, judged_at, placed, unless}
+use Rattle.tracks.specs.AcceptedReports.{JudgingNumbers, Reported, accepted_after, accepted_with, applies, judged, judged_after, judged_at, placed, unless}
 use Rattle.tracks.specs.JoinedReports.{joined, leg_between, legs_between, legs_from}
 use Rattle.tracks.specs.Standing.{BookValue, StandsFor, kept_legs}
 use Rattle.tracks.specs.VesselsHeld.{Sent, accepted_of, is_held, legs_of}
@@ -41,11 +41,11 @@ not_back : (latest now accepted : Accepted) (b : Bool) (others : Option ReportCa
 not_back latest now accepted true others e ok = cc
 not_back latest now accepted false others e ok = grind (arith, nat_tests)
 
-after_later : (numbers : Numbers) (latest now accepted : Accepted) → judged_after numbers (Some latest) now ≡ Ok accepted → latest.time < now.time
+after_later : (numbers : JudgingNumbers) (latest now accepted : Accepted) → judged_after numbers (Some latest) now ≡ Ok accepted → latest.time < now.time
 after_later numbers latest now accepted e =
     not_back latest now accepted (nat_le now.time latest.time) (find (applies numbers latest now) (Repeat ∷ Jump ∷ [])) refl e
 
-judged_later : (numbers : Numbers) (latest : Option Accepted) (now : Reported) (accepted : Accepted) → judged numbers latest now ≡ Ok accepted
+judged_later : (numbers : JudgingNumbers) (latest : Option Accepted) (now : Reported) (accepted : Accepted) → judged numbers latest now ≡ Ok accepted
     → IfSome latest (λ a. a.time < accepted.time)
 unfolding judged
 judged_later numbers None now accepted e = tt
@@ -53,7 +53,7 @@ judged_later numbers (Some latest) now accepted e =
     let at : placed numbers.reference now ≡ Ok accepted = judged_placed numbers (Some latest) now accepted e in
     after_later numbers latest accepted accepted (ap (judged_at numbers (Some latest)) (sym at) ∙ e)
 
-accepted_rises : (numbers : Numbers) (reports : List Reported) (latest : Option Accepted) → Rises latest (accepted_after numbers reports latest)
+accepted_rises : (numbers : JudgingNumbers) (reports : List Reported) (latest : Option Accepted) → Rises latest (accepted_after numbers reports latest)
 unfolding accepted_after
 accepted_rises numbers [] latest = tt
 accepted_rises numbers (now ∷ reports) latest =
@@ -188,7 +188,7 @@ comes gap t (x ∷ xs) latest before rises moves last lt close seen =
     let legs = ap (legs_between gap) is ∙ legs_between-push gap others latest in
     after_others gap t others latest before (last_or None others) refl front later (subst (MovesLittle gap) legs moves) lt close (ap (state_at t) (sym legs) ∙ seen)
 
-comes_on_legs : (numbers : Numbers) (sent : List Sent) (mmsi : ℕ) (latest : Accepted) → MovesLittle numbers.gap (legs_of numbers sent mmsi)
+comes_on_legs : (numbers : JudgingNumbers) (sent : List Sent) (mmsi : ℕ) (latest : Accepted) → MovesLittle numbers.gap (legs_of numbers sent mmsi)
     → last_or None (accepted_of numbers sent mmsi) ≡ Some latest → (t : ℕ) (before : TickState) → t < latest.time → latest.time ≤ t + numbers.gap
     → state_at t (legs_of numbers sent mmsi) ≡ Some before → Comes numbers.gap t before latest
 unfolding accepted_of legs_of
@@ -197,15 +197,15 @@ comes_on_legs numbers sent mmsi latest moves last t before lt close seen =
 
 -- ---- in the book
 
-legs_move : (book : BookValue) (numbers : Numbers) (sent : List Sent) (mmsi : ℕ) (o : Option (List Leg)) → book.keeping ≡ Tracks → StandsFor book numbers sent
+legs_move : (book : BookValue) (numbers : JudgingNumbers) (sent : List Sent) (mmsi : ℕ) (o : Option (List Leg)) → book.keeping ≡ Tracks → StandsFor book numbers sent
     → o ≡ (if is_held numbers sent mmsi then Some (kept_legs book.keeping (legs_of numbers sent mmsi)) else None) → IfSome o (MovesLittle book.numbers.gap)
     → is_held numbers sent mmsi ≡ true → MovesLittle numbers.gap (legs_of numbers sent mmsi)
 legs_move book numbers sent mmsi o all h e moves held =
     let some : o ≡ Some (legs_of numbers sent mmsi) = e ∙ (λ i. if held i then Some (kept_legs (all i) (legs_of numbers sent mmsi)) else None) in
-    let gap : book.numbers.gap ≡ numbers.gap = ap (λ (n : Numbers). n.gap) h.by in
+    let gap : book.numbers.gap ≡ numbers.gap = ap (λ (n : JudgingNumbers). n.gap) h.by in
     subst (λ (g : ℕ). MovesLittle g (legs_of numbers sent mmsi)) gap (subst (λ (o : Option (List Leg)). IfSome o (MovesLittle book.numbers.gap)) some moves)
 
-pub comes_to_latest : (book : BookValue) (numbers : Numbers) (sent : List Sent) (mmsi : ℕ) (o : Option (List Leg)) → book.keeping ≡ Tracks → StandsFor book numbers sent
+pub comes_to_latest : (book : BookValue) (numbers : JudgingNumbers) (sent : List Sent) (mmsi : ℕ) (o : Option (List Leg)) → book.keeping ≡ Tracks → StandsFor book numbers sent
     → o ≡ (if is_held numbers sent mmsi then Some (kept_legs book.keeping (legs_of numbers sent mmsi)) else None) → IfSome o (MovesLittle book.numbers.gap)
     → (latest : Accepted) → last_or None (accepted_of numbers sent mmsi) ≡ Some latest
     → (t : ℕ) (before : TickState) → t < latest.time → latest.time ≤ t + numbers.gap

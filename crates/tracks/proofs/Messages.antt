@@ -7,7 +7,7 @@ use Rattle.std.proofs.lemmas.Bool.Decides.{nat_tests}
 use Rattle.std.proofs.lemmas.List.{append-nil}
 use Rattle.std.proofs.lemmas.List.Elements.{filter-append, filter_map-append}
 use Rattle.ais_messages.specs.declared.message.StaticReport.{StaticReport}
-use Rattle.tracks.specs.AcceptedReports.{Numbers, Reported, accepted_after, accepted_list, accepted_with, judged}
+use Rattle.tracks.specs.AcceptedReports.{JudgingNumbers, Reported, accepted_after, accepted_list, accepted_with, judged}
 use Rattle.tracks.specs.JoinedReports.{legs_between}
 use Rattle.tracks.specs.Standing.{kept_legs, kept_points, vessel_of}
 use Rattle.tracks.specs.VesselsHeld.{Sent, accepted_of, last_told, legs_of, messages_of, reported_in, sender_of, static_in, static_reports_of, statics_of}
@@ -25,18 +25,18 @@ points_with-cons x xs None = refl
 points_with-cons x xs (Some y) = refl
 
 -- what one more report adds, after a latest accepted one
-abbrev Adds : Numbers → List Reported → Reported → Option Accepted → Type 0
+abbrev Adds : JudgingNumbers → List Reported → Reported → Option Accepted → Type 0
 Adds numbers reports now latest =
     accepted_after numbers (reports ++ now ∷ []) latest
     ≡ points_with (accepted_after numbers reports latest) (accepted_by (judged numbers (last_or latest (accepted_after numbers reports latest)) now))
 
-adds_first : (numbers : Numbers) (latest : Option Accepted) (came : Result Accepted ReportCause)
+adds_first : (numbers : JudgingNumbers) (latest : Option Accepted) (came : Result Accepted ReportCause)
     → accepted_with (accepted_after numbers []) latest came ≡ points_with [] (accepted_by came)
 unfolding accepted_after
 adds_first numbers latest (Ok accepted) = refl
 adds_first numbers latest (Err cause) = refl
 
-adds_further : (numbers : Numbers) (reports : List Reported) (now : Reported) (latest : Option Accepted) (came : Result Accepted ReportCause)
+adds_further : (numbers : JudgingNumbers) (reports : List Reported) (now : Reported) (latest : Option Accepted) (came : Result Accepted ReportCause)
     → ((o : Option Accepted) → Adds numbers reports now o)
     → accepted_with (accepted_after numbers (reports ++ now ∷ [])) latest came
     ≡ points_with (accepted_with (accepted_after numbers reports) latest came)
@@ -46,7 +46,7 @@ adds_further numbers reports now latest (Ok accepted) step =
     ∙ sym (points_with-cons accepted (accepted_after numbers reports (Some accepted)) (accepted_by (judged numbers (last_or (Some accepted) (accepted_after numbers reports (Some accepted))) now)))
 adds_further numbers reports now latest (Err cause) step = step latest
 
-pub accepted_after-push : (numbers : Numbers) (reports : List Reported) (now : Reported) (latest : Option Accepted) → Adds numbers reports now latest
+pub accepted_after-push : (numbers : JudgingNumbers) (reports : List Reported) (now : Reported) (latest : Option Accepted) → Adds numbers reports now latest
 unfolding accepted_after
 accepted_after-push numbers [] now latest = adds_first numbers latest (judged numbers latest now)
 accepted_after-push numbers (first ∷ reports) now latest =
@@ -77,12 +77,12 @@ messages_of-other sent one mmsi ne =
     filter-append p sent (one ∷ []) ∙ ap (λ (xs : List Sent). messages_of sent mmsi ++ xs) (filter_none p one (other_sender one mmsi ne))
     ∙ append-nil (messages_of sent mmsi)
 
-with_report : (numbers : Numbers) (reports : List Reported) (o : Option Reported)
+with_report : (numbers : JudgingNumbers) (reports : List Reported) (o : Option Reported)
     → accepted_list numbers (reports ++ cons_option o []) ≡ points_with (accepted_list numbers reports) (accepted_in numbers (last_or None (accepted_list numbers reports)) o)
 with_report numbers reports None = ap (accepted_list numbers) (append-nil reports)
 with_report numbers reports (Some now) = accepted_after-push numbers reports now None
 
-pub accepted_of-own : (numbers : Numbers) (sent : List Sent) (one : Sent) (mmsi : ℕ) → sender_of one.message ≡ mmsi
+pub accepted_of-own : (numbers : JudgingNumbers) (sent : List Sent) (one : Sent) (mmsi : ℕ) → sender_of one.message ≡ mmsi
     → accepted_of numbers (sent ++ one ∷ []) mmsi ≡ points_with (accepted_of numbers sent mmsi) (accepted_in numbers (last_or None (accepted_of numbers sent mmsi)) (reported_in one))
 unfolding accepted_of
 accepted_of-own numbers sent one mmsi e =
@@ -90,7 +90,7 @@ accepted_of-own numbers sent one mmsi e =
     ∙ ap (accepted_list numbers) (filter_map-append reported_in (messages_of sent mmsi) (one ∷ []))
     ∙ with_report numbers (filter_map reported_in (messages_of sent mmsi)) (reported_in one)
 
-pub accepted_of-other : (numbers : Numbers) (sent : List Sent) (one : Sent) (mmsi : ℕ) → mmsi ≢ sender_of one.message
+pub accepted_of-other : (numbers : JudgingNumbers) (sent : List Sent) (one : Sent) (mmsi : ℕ) → mmsi ≢ sender_of one.message
     → accepted_of numbers (sent ++ one ∷ []) mmsi ≡ accepted_of numbers sent mmsi
 unfolding accepted_of
 accepted_of-other numbers sent one mmsi ne = ap (λ (xs : List Sent). accepted_list numbers (filter_map reported_in xs)) (messages_of-other sent one mmsi ne)
@@ -134,7 +134,7 @@ statics_of-other sent one mmsi ne = ap last_told (static_reports_of-other sent o
 
 -- ---- the vessel
 
-pub vessel_of-own : (keeping : Keeping) (numbers : Numbers) (sent : List Sent) (one : Sent) (mmsi : ℕ) → sender_of one.message ≡ mmsi
+pub vessel_of-own : (keeping : Keeping) (numbers : JudgingNumbers) (sent : List Sent) (one : Sent) (mmsi : ℕ) → sender_of one.message ≡ mmsi
     → vessel_of keeping numbers (sent ++ one ∷ []) mmsi ≡ vessel_after keeping numbers (vessel_of keeping numbers sent mmsi) one
 unfolding vessel_after legs_of
 vessel_of-own keeping numbers sent one mmsi e =
@@ -148,7 +148,7 @@ vessel_of-own keeping numbers sent one mmsi e =
     let statics = statics_of-own sent one mmsi e in
     λ i. record { points = points i; legs = legs i; statics = statics i }
 
-pub vessel_of-other : (keeping : Keeping) (numbers : Numbers) (sent : List Sent) (one : Sent) (mmsi : ℕ) → mmsi ≢ sender_of one.message
+pub vessel_of-other : (keeping : Keeping) (numbers : JudgingNumbers) (sent : List Sent) (one : Sent) (mmsi : ℕ) → mmsi ≢ sender_of one.message
     → vessel_of keeping numbers (sent ++ one ∷ []) mmsi ≡ vessel_of keeping numbers sent mmsi
 unfolding legs_of
 vessel_of-other keeping numbers sent one mmsi ne =

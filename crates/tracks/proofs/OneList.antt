@@ -3,7 +3,7 @@ use Rattle.std.proofs.Common.{◌≡◌, ◌∙◌, ℕ, zero, suc, Bool, true, 
 use Rattle.std.specs.Prelude.{Option, Result, IsOk, ◌↔◌, slice_get}
 use Rattle.std.specs.List.{find, last_or}
 use Rattle.std.proofs.lemmas.Bool.{false≢true}
-use Rattle.tracks.specs.AcceptedReports.{AreAccepted, IsFree, Numbers, Reported, accepted_after, accepted_list, accepted_with, applies, judged, judged_after, judged_at, marked, placed, unless, with_placed}
+use Rattle.tracks.specs.AcceptedReports.{AreAccepted, IsFree, JudgingNumbers, Reported, accepted_after, accepted_list, accepted_with, applies, judged, judged_after, judged_at, accepted_at_marks, placed, unless, with_placed}
 use Rattle.tracks.specs.declared.accepted.Accepted.{Accepted}
 use Rattle.tracks.specs.declared.entry.ReportCause.{ReportCause}
 use Rattle.tracks.specs.declared.entry.ReportCause.TheVariants.{Back, Repeat, Jump}
@@ -14,16 +14,16 @@ unless_ok : (now accepted : Accepted) (o : Option ReportCause) → unless now o 
 unless_ok now accepted None e = cc
 unless_ok now accepted (Some cause) e = cc
 
-after_ok : (numbers : Numbers) (latest : Option Accepted) (now accepted : Accepted) → judged_after numbers latest now ≡ Ok accepted → now ≡ accepted
+after_ok : (numbers : JudgingNumbers) (latest : Option Accepted) (now accepted : Accepted) → judged_after numbers latest now ≡ Ok accepted → now ≡ accepted
 after_ok numbers None now accepted e = cc
 after_ok numbers (Some latest) now accepted e = unless_ok now accepted (find (applies numbers latest now) (Back ∷ Repeat ∷ Jump ∷ [])) e
 
-at_ok : (numbers : Numbers) (latest : Option Accepted) (r : Result Accepted ReportCause) (accepted : Accepted) → judged_at numbers latest r ≡ Ok accepted → r ≡ Ok accepted
+at_ok : (numbers : JudgingNumbers) (latest : Option Accepted) (r : Result Accepted ReportCause) (accepted : Accepted) → judged_at numbers latest r ≡ Ok accepted → r ≡ Ok accepted
 at_ok numbers latest (Err cause) accepted e = cc
 at_ok numbers latest (Ok now) accepted e = ap (λ (a : Accepted). Ok a) (after_ok numbers latest now accepted e)
 
 -- An accepted report stands at its point.
-pub judged_placed : (numbers : Numbers) (latest : Option Accepted) (now : Reported) (accepted : Accepted) → judged numbers latest now ≡ Ok accepted
+pub judged_placed : (numbers : JudgingNumbers) (latest : Option Accepted) (now : Reported) (accepted : Accepted) → judged numbers latest now ≡ Ok accepted
     → placed numbers.reference now ≡ Ok accepted
 unfolding judged
 judged_placed numbers latest now accepted e = at_ok numbers latest (placed numbers.reference now) accepted e
@@ -38,27 +38,27 @@ ok_free (Err cause) accepted e = cc
 
 -- ---- marks, after a latest accepted report
 
-record AreMarks (numbers : Numbers) (reports : List Reported) (latest : Option Accepted) (marks : List Bool) : Type 0 where
+record AreMarks (numbers : JudgingNumbers) (reports : List Reported) (latest : Option Accepted) (marks : List Bool) : Type 0 where
   one_each : length marks ≡ length reports
   stands : (k : ℕ) (now : Reported) → slice_get reports k ≡ Some now
-      → (slice_get marks k ≡ Some true) ↔ IsFree numbers (last_or latest (marked numbers.reference (take k marks) (take k reports))) now
+      → (slice_get marks k ≡ Some true) ↔ IsFree numbers (last_or latest (accepted_at_marks numbers.reference (take k marks) (take k reports))) now
 
 -- after a first report that is accepted
-after_true : (numbers : Numbers) (now : Reported) (accepted : Accepted) (latest : Option Accepted) (others : List Accepted) → placed numbers.reference now ≡ Ok accepted
+after_true : (numbers : JudgingNumbers) (now : Reported) (accepted : Accepted) (latest : Option Accepted) (others : List Accepted) → placed numbers.reference now ≡ Ok accepted
     → last_or latest (with_placed (placed numbers.reference now) others) ≡ last_or (Some accepted) others
 after_true numbers now accepted latest others e = ap (λ (r : Result Accepted ReportCause). last_or latest (with_placed r others)) e
 
 -- ---- at most one
 
-rest_true : (numbers : Numbers) (now : Reported) (reports : List Reported) (latest : Option Accepted) (marks : List Bool) (accepted : Accepted)
+rest_true : (numbers : JudgingNumbers) (now : Reported) (reports : List Reported) (latest : Option Accepted) (marks : List Bool) (accepted : Accepted)
     → placed numbers.reference now ≡ Ok accepted → AreMarks numbers (now ∷ reports) latest (true ∷ marks) → AreMarks numbers reports (Some accepted) marks
 rest_true numbers now reports latest marks accepted e h = record {
   one_each = let each = h.one_each in omega arith;
   stands = λ k n is. subst (λ (o : Option Accepted). (slice_get marks k ≡ Some true) ↔ IsFree numbers o n)
-      (after_true numbers now accepted latest (marked numbers.reference (take k marks) (take k reports)) e) (h.stands (suc k) n is);
+      (after_true numbers now accepted latest (accepted_at_marks numbers.reference (take k marks) (take k reports)) e) (h.stands (suc k) n is);
 }
 
-rest_false : (numbers : Numbers) (now : Reported) (reports : List Reported) (latest : Option Accepted) (marks : List Bool)
+rest_false : (numbers : JudgingNumbers) (now : Reported) (reports : List Reported) (latest : Option Accepted) (marks : List Bool)
     → AreMarks numbers (now ∷ reports) latest (false ∷ marks) → AreMarks numbers reports latest marks
 rest_false numbers now reports latest marks h = record {
   one_each = let each = h.one_each in omega arith;
@@ -69,8 +69,8 @@ not_free : (r : Result Accepted ReportCause) → ¬ IsOk r → (cause : ReportCa
 not_free (Ok accepted) h = absurd (h refl)
 not_free (Err cause) h = (cause, refl)
 
-at_most_one : (numbers : Numbers) (reports : List Reported) (latest : Option Accepted) (marks : List Bool) → AreMarks numbers reports latest marks
-    → marked numbers.reference marks reports ≡ accepted_after numbers reports latest
+at_most_one : (numbers : JudgingNumbers) (reports : List Reported) (latest : Option Accepted) (marks : List Bool) → AreMarks numbers reports latest marks
+    → accepted_at_marks numbers.reference marks reports ≡ accepted_after numbers reports latest
 unfolding accepted_after
 at_most_one numbers [] latest [] h = refl
 at_most_one numbers [] latest (mark ∷ marks) h = absurd (let each = h.one_each in omega arith)
@@ -79,14 +79,14 @@ at_most_one numbers (now ∷ reports) latest (true ∷ marks) h =
     let (accepted, is) = free_ok (judged numbers latest now) ((h.stands 0 now refl).0 refl) in
     let at : placed numbers.reference now ≡ Ok accepted = judged_placed numbers latest now accepted is in
     let others = at_most_one numbers reports (Some accepted) marks (rest_true numbers now reports latest marks accepted at h) in
-    ap (λ (r : Result Accepted ReportCause). with_placed r (marked numbers.reference marks reports)) at ∙ ap (λ (xs : List Accepted). accepted ∷ xs) others
+    ap (λ (r : Result Accepted ReportCause). with_placed r (accepted_at_marks numbers.reference marks reports)) at ∙ ap (λ (xs : List Accepted). accepted ∷ xs) others
     ∙ ap (accepted_with (accepted_after numbers reports) latest) (sym is)
 at_most_one numbers (now ∷ reports) latest (false ∷ marks) h =
     let (cause, is) = not_free (judged numbers latest now) (λ free. let e = (h.stands 0 now refl).1 free in cc) in
     at_most_one numbers reports latest marks (rest_false numbers now reports latest marks h)
     ∙ ap (accepted_with (accepted_after numbers reports) latest) (sym is)
 
-pub one_list : (numbers : Numbers) (reports : List Reported) (accepted : List Accepted) → AreAccepted numbers reports accepted → accepted ≡ accepted_list numbers reports
+pub one_list : (numbers : JudgingNumbers) (reports : List Reported) (accepted : List Accepted) → AreAccepted numbers reports accepted → accepted ≡ accepted_list numbers reports
 one_list numbers reports accepted h = h.list ∙ at_most_one numbers reports None h.marks (record { one_each = h.one_each; stands = h.stands })
 
 -- ---- at least one
@@ -95,11 +95,11 @@ abbrev marks_with : (Option Accepted → List Bool) → Option Accepted → Resu
 marks_with others latest (Ok accepted) = true ∷ others (Some accepted)
 marks_with others latest (Err cause) = false ∷ others latest
 
-marks_after : Numbers → List Reported → Option Accepted → List Bool
+marks_after : JudgingNumbers → List Reported → Option Accepted → List Bool
 marks_after numbers [] latest = []
 marks_after numbers (now ∷ reports) latest = marks_with (marks_after numbers reports) latest (judged numbers latest now)
 
-more_true : (numbers : Numbers) (now : Reported) (reports : List Reported) (latest : Option Accepted) (marks : List Bool) (accepted : Accepted)
+more_true : (numbers : JudgingNumbers) (now : Reported) (reports : List Reported) (latest : Option Accepted) (marks : List Bool) (accepted : Accepted)
     → judged numbers latest now ≡ Ok accepted → AreMarks numbers reports (Some accepted) marks → AreMarks numbers (now ∷ reports) latest (true ∷ marks)
 more_true numbers now reports latest marks accepted is h = record {
   one_each = let each = h.one_each in omega arith;
@@ -107,17 +107,17 @@ more_true numbers now reports latest marks accepted is h = record {
 }
   where
     stands : (k : ℕ) (n : Reported) → slice_get (now ∷ reports) k ≡ Some n
-        → (slice_get (true ∷ marks) k ≡ Some true) ↔ IsFree numbers (last_or latest (marked numbers.reference (take k (true ∷ marks)) (take k (now ∷ reports)))) n
+        → (slice_get (true ∷ marks) k ≡ Some true) ↔ IsFree numbers (last_or latest (accepted_at_marks numbers.reference (take k (true ∷ marks)) (take k (now ∷ reports)))) n
     stands zero n e =
         let same : now ≡ n = cc in
         let free : IsFree numbers latest n = subst (IsFree numbers latest) same (ok_free (judged numbers latest now) accepted is) in
         (λ _. free, λ _. refl)
     stands (suc k) n e =
         subst (λ (o : Option Accepted). (slice_get marks k ≡ Some true) ↔ IsFree numbers o n)
-        (sym (after_true numbers now accepted latest (marked numbers.reference (take k marks) (take k reports)) (judged_placed numbers latest now accepted is)))
+        (sym (after_true numbers now accepted latest (accepted_at_marks numbers.reference (take k marks) (take k reports)) (judged_placed numbers latest now accepted is)))
         (h.stands k n e)
 
-more_false : (numbers : Numbers) (now : Reported) (reports : List Reported) (latest : Option Accepted) (marks : List Bool) (cause : ReportCause)
+more_false : (numbers : JudgingNumbers) (now : Reported) (reports : List Reported) (latest : Option Accepted) (marks : List Bool) (cause : ReportCause)
     → judged numbers latest now ≡ Err cause → AreMarks numbers reports latest marks → AreMarks numbers (now ∷ reports) latest (false ∷ marks)
 more_false numbers now reports latest marks cause is h = record {
   one_each = let each = h.one_each in omega arith;
@@ -125,7 +125,7 @@ more_false numbers now reports latest marks cause is h = record {
 }
   where
     stands : (k : ℕ) (n : Reported) → slice_get (now ∷ reports) k ≡ Some n
-        → (slice_get (false ∷ marks) k ≡ Some true) ↔ IsFree numbers (last_or latest (marked numbers.reference (take k (false ∷ marks)) (take k (now ∷ reports)))) n
+        → (slice_get (false ∷ marks) k ≡ Some true) ↔ IsFree numbers (last_or latest (accepted_at_marks numbers.reference (take k (false ∷ marks)) (take k (now ∷ reports)))) n
     stands zero n e =
         let same : now ≡ n = cc in (
           λ wrong. cc,
@@ -134,7 +134,7 @@ more_false numbers now reports latest marks cause is h = record {
         )
     stands (suc k) n e = h.stands k n e
 
-exists_marks : (numbers : Numbers) (reports : List Reported) (latest : Option Accepted) → AreMarks numbers reports latest (marks_after numbers reports latest)
+exists_marks : (numbers : JudgingNumbers) (reports : List Reported) (latest : Option Accepted) → AreMarks numbers reports latest (marks_after numbers reports latest)
 unfolding marks_after
 exists_marks numbers [] latest = record { one_each = refl; stands = λ k now e. absurd (cc) }
 exists_marks numbers (now ∷ reports) latest = further (judged numbers latest now) refl (λ o. exists_marks numbers reports o)
@@ -144,7 +144,7 @@ exists_marks numbers (now ∷ reports) latest = further (judged numbers latest n
     further (Ok accepted) is others = more_true numbers now reports latest (marks_after numbers reports (Some accepted)) accepted is (others (Some accepted))
     further (Err cause) is others = more_false numbers now reports latest (marks_after numbers reports latest) cause is (others latest)
 
-pub some_list : (numbers : Numbers) (reports : List Reported) → AreAccepted numbers reports (accepted_list numbers reports)
+pub some_list : (numbers : JudgingNumbers) (reports : List Reported) → AreAccepted numbers reports (accepted_list numbers reports)
 some_list numbers reports =
     let h = exists_marks numbers reports None in
     record {

@@ -13,8 +13,8 @@ use Rattle.fixed_geometry.specs.Displacement.{displacement}
 use Rattle.motion.specs.TickStates.{MovesLittle, state_at}
 use Rattle.motion.specs.declared.leg.Leg.{Leg}
 use Rattle.motion.specs.declared.leg.TickState.{TickState}
-use Rattle.tracks.specs.AcceptedReports.{Numbers}
-use Rattle.tracks.specs.SeenVessels.{seen_in, seen_of, sighting}
+use Rattle.tracks.specs.AcceptedReports.{JudgingNumbers}
+use Rattle.tracks.specs.SeenVessels.{seen_in, seen_of, seen_vessel}
 use Rattle.tracks.specs.Standing.{BookValue, StandsFor, VesselValue, kept_legs, legs_among, legs_in}
 use Rattle.tracks.specs.VesselsHeld.{Sent, legs_of}
 use Rattle.tracks.specs.Inner.AscendingNumbers.{Ascends}
@@ -43,7 +43,7 @@ legs_among-at (n ∷ ms) (vessel ∷ vessels) (suc at) d h each lt =
 
 -- what is seen of a vessel whose legs these are
 pub sighted : (time m : ℕ) (legs : ℕ → List Leg) (here : List Leg) (o : Option TickState) → here ≡ legs m → o ≡ state_at time here
-    → option_map (λ (state : TickState). (m, state)) o ≡ sighting time legs m
+    → option_map (λ (state : TickState). (m, state)) o ≡ seen_vessel time legs m
 sighted time m legs here o e is = ap (option_map (λ (state : TickState). (m, state))) (is ∙ ap (state_at time) e)
 
 -- ---- one vessel more
@@ -55,19 +55,19 @@ seen_more f ms at lt =
     ∙ ap (λ (vessels : List (ℕ × TickState)). filter_map f (take at ms) ++ vessels) (cons_option-nil (f (get_or ms at 0)))
 
 pub seen_all : (book : BookValue) (time at : ℕ) (seen : List (ℕ × TickState)) → length book.held ≤ at
-    → seen ≡ filter_map (sighting time (legs_in book)) (take at book.held) → seen ≡ seen_in book time
+    → seen ≡ filter_map (seen_vessel time (legs_in book)) (take at book.held) → seen ≡ seen_in book time
 unfolding seen_in
-seen_all book time at seen le h = h ∙ ap (filter_map (sighting time (legs_in book))) (take_all at book.held le)
+seen_all book time at seen le h = h ∙ ap (filter_map (seen_vessel time (legs_in book))) (take_all at book.held le)
 
 -- ---- by the messages
 
-pub seen_in-is : (book : BookValue) (numbers : Numbers) (sent : List Sent) (time : ℕ) → book.keeping ≡ Tracks → StandsFor book numbers sent
+pub seen_in-is : (book : BookValue) (numbers : JudgingNumbers) (sent : List Sent) (time : ℕ) → book.keeping ≡ Tracks → StandsFor book numbers sent
     → seen_in book time ≡ seen_of numbers sent time
 unfolding seen_in seen_of
 seen_in-is book numbers sent time all h =
     let legs : (m : ℕ) → legs_in book m ≡ legs_of numbers sent m =
     λ m. legs_in-is book numbers sent m h ∙ ap (λ (keeping : Keeping). kept_legs keeping (legs_of numbers sent m)) all in
-    λ i. filter_map (sighting time (λ m. legs m i)) (h.holds i)
+    λ i. filter_map (seen_vessel time (λ m. legs m i)) (h.holds i)
 
 -- ---- what holds of each vessel seen
 
@@ -77,11 +77,11 @@ onto Q m None vessels one all = all
 onto Q m (Some state) vessels one all = All-cons Q (m, state) vessels (one state refl) all
 
 All-seen : (Q : (ℕ × TickState) → Type 0) (time : ℕ) (legs : ℕ → List Leg) (ms : List ℕ)
-    → All (λ (m : ℕ). (state : TickState) → state_at time (legs m) ≡ Some state → Q (m, state)) ms → All Q (filter_map (sighting time legs) ms)
+    → All (λ (m : ℕ). (state : TickState) → state_at time (legs m) ≡ Some state → Q (m, state)) ms → All Q (filter_map (seen_vessel time legs) ms)
 All-seen Q time legs [] all = All-nil Q
 All-seen Q time legs (m ∷ ms) all =
     let R : ℕ → Type 0 = λ m. (state : TickState) → state_at time (legs m) ≡ Some state → Q (m, state) in
-    onto Q m (state_at time (legs m)) (filter_map (sighting time legs) ms) (All-head R m ms all) (All-seen Q time legs ms (All-tail R m ms all))
+    onto Q m (state_at time (legs m)) (filter_map (seen_vessel time legs) ms) (All-head R m ms all) (All-seen Q time legs ms (All-tail R m ms all))
 
 -- ---- their order
 
@@ -92,18 +92,18 @@ ascends_onto m None vessels above h = h
 ascends_onto m (Some state) vessels above h = (above, h)
 
 filtered_ascends : (time : ℕ) (legs : ℕ → List Leg) (ms : List ℕ) → Ascends ms
-    → Ascends (map (λ (vessel : ℕ × TickState). vessel.0) (filter_map (sighting time legs) ms))
+    → Ascends (map (λ (vessel : ℕ × TickState). vessel.0) (filter_map (seen_vessel time legs) ms))
 filtered_ascends time legs [] h = tt
 filtered_ascends time legs (m ∷ ms) h =
-    ascends_onto m (state_at time (legs m)) (filter_map (sighting time legs) ms)
-    (All-map (λ (k : ℕ). m < k) (λ (vessel : ℕ × TickState). vessel.0) (filter_map (sighting time legs) ms)
+    ascends_onto m (state_at time (legs m)) (filter_map (seen_vessel time legs) ms)
+    (All-map (λ (k : ℕ). m < k) (λ (vessel : ℕ × TickState). vessel.0) (filter_map (seen_vessel time legs) ms)
     (All-seen (λ (vessel : ℕ × TickState). m < vessel.0) time legs ms (λ k d lt state e. h.0 k d lt)))
     (filtered_ascends time legs ms h.1)
 
 pub seen_ascends : (book : BookValue) (time : ℕ) → Ascends book.held → IsStrictlyIncreasing (map (λ (vessel : ℕ × TickState). vessel.0) (seen_in book time))
 unfolding seen_in
 seen_ascends book time h = λ k lt.
-    ascends_lt (map (λ (vessel : ℕ × TickState). vessel.0) (filter_map (sighting time (legs_in book)) book.held))
+    ascends_lt (map (λ (vessel : ℕ × TickState). vessel.0) (filter_map (seen_vessel time (legs_in book)) book.held))
     (filtered_ascends time (legs_in book) book.held h) k (k + 1) 0 (omega arith) lt
 
 -- ---- how far they move
@@ -113,7 +113,7 @@ seen_state : (book : BookValue) (time mmsi : ℕ) (state : TickState) → All (�
 unfolding seen_in
 seen_state book time mmsi state moves seen =
     let Q : (ℕ × TickState) → Type 0 = λ vessel. MovesLittle book.numbers.gap (legs_in book vessel.0) × (state_at time (legs_in book vessel.0) ≡ Some vessel.1) in
-    All-contains Q (filter_map (sighting time (legs_in book)) book.held) (mmsi, state)
+    All-contains Q (filter_map (seen_vessel time (legs_in book)) book.held) (mmsi, state)
     (All-seen Q time (legs_in book) book.held (λ k d lt state e. (moves k d lt, e))) seen
 
 pub seen_moves : (book : BookValue) → All (λ (m : ℕ). MovesLittle book.numbers.gap (legs_in book m)) book.held

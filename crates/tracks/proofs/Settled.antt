@@ -12,7 +12,7 @@ use Rattle.fixed_geometry.specs.Place.{Place}
 use Rattle.fixed_geometry.specs.Projection.{projection_of}
 use Rattle.fixed_geometry.specs.declared.point.Point.{Point}
 use Rattle.ais_messages.specs.declared.message.PositionReport.{PositionReport}
-use Rattle.tracks.specs.AcceptedReports.{Numbers, Reported, at_place, at_point, judged, placed}
+use Rattle.tracks.specs.AcceptedReports.{JudgingNumbers, Reported, at_place, at_point, judged, placed}
 use Rattle.tracks.specs.JoinedReports.{legs_between}
 use Rattle.tracks.specs.Standing.{BookValue, StandsFor, VesselValue, kept_legs, legs_among, legs_in, vessel_of}
 use Rattle.tracks.specs.VesselsHeld.{Sent, accepted_of, held_of, is_held, legs_of, report_in, reported_in, sender_of}
@@ -49,7 +49,7 @@ by_some : (r : Result Accepted ReportCause) (accepted : Accepted) → accepted_b
 by_some (Ok x) accepted e = cc
 by_some (Err cause) accepted e = cc
 
-reported_time : (numbers : Numbers) (latest : Option Accepted) (o : Option PositionReport) (time : ℕ) (accepted : Accepted)
+reported_time : (numbers : JudgingNumbers) (latest : Option Accepted) (o : Option PositionReport) (time : ℕ) (accepted : Accepted)
     → accepted_in numbers latest (option_map (λ report. record { report = report; time = time }) o) ≡ Some accepted → accepted.time ≡ time
 reported_time numbers latest None time accepted e = cc
 reported_time numbers latest (Some report) time accepted e =
@@ -94,7 +94,7 @@ with_points gap t points (Some now) time at lt =
     ∙ more_legs gap t (legs_between gap points) now (last_or None points) (joined_after gap (last_or None points) now) refl (omega arith)
 
 -- Where a vessel was more than the gap before a message came stays as it was.
-pub past_stays : (numbers : Numbers) (sent : List Sent) (one : Sent) (mmsi t : ℕ) → t + numbers.gap < one.time
+pub past_stays : (numbers : JudgingNumbers) (sent : List Sent) (one : Sent) (mmsi t : ℕ) → t + numbers.gap < one.time
     → state_at t (legs_of numbers (sent ++ one ∷ []) mmsi) ≡ state_at t (legs_of numbers sent mmsi)
 unfolding legs_of
 past_stays numbers sent one mmsi t lt =
@@ -130,12 +130,12 @@ legs_among-none f (n ∷ ms) m not =
     differs (inl same) = absurd (not (inl (sym same)))
     differs (inr other) = grind (arith, nat_tests)
 
-no_legs : (keeping : Keeping) (numbers : Numbers) (sent : List Sent) (m : ℕ) → is_held numbers sent m ≡ false → [] ≡ kept_legs keeping (legs_of numbers sent m)
+no_legs : (keeping : Keeping) (numbers : JudgingNumbers) (sent : List Sent) (m : ℕ) → is_held numbers sent m ≡ false → [] ≡ kept_legs keeping (legs_of numbers sent m)
 unfolding legs_of
 no_legs keeping numbers sent m h =
     sym (kept_legs-none keeping) ∙ ap (λ (xs : List Accepted). kept_legs keeping (legs_between numbers.gap xs)) (sym (no_points numbers sent m h))
 
-pub legs_in-is : (book : BookValue) (numbers : Numbers) (sent : List Sent) (m : ℕ) → StandsFor book numbers sent
+pub legs_in-is : (book : BookValue) (numbers : JudgingNumbers) (sent : List Sent) (m : ℕ) → StandsFor book numbers sent
     → legs_in book m ≡ kept_legs book.keeping (legs_of numbers sent m)
 legs_in-is book numbers sent m h =
     (λ i. legs_among (h.holds i) (h.vessels i) m) ∙ decide (is_held numbers sent m) refl
@@ -148,12 +148,12 @@ legs_in-is book numbers sent m h =
         (λ h. let held : is_held numbers sent m ≡ true = held_passes numbers sent m h in absurd (cc)) ∙ no_legs book.keeping numbers sent m e
 
 -- also of the legs that are kept
-kept_past : (keeping : Keeping) (numbers : Numbers) (sent : List Sent) (one : Sent) (mmsi t : ℕ) → t + numbers.gap < one.time
+kept_past : (keeping : Keeping) (numbers : JudgingNumbers) (sent : List Sent) (one : Sent) (mmsi t : ℕ) → t + numbers.gap < one.time
     → state_at t (kept_legs keeping (legs_of numbers (sent ++ one ∷ []) mmsi)) ≡ state_at t (kept_legs keeping (legs_of numbers sent mmsi))
 kept_past Latest numbers sent one mmsi t lt = refl
 kept_past Tracks numbers sent one mmsi t lt = past_stays numbers sent one mmsi t lt
 
-pub past_stays_in : (old new : BookValue) (numbers : Numbers) (sent : List Sent) (one : Sent) (mmsi t : ℕ) → new.keeping ≡ old.keeping → StandsFor old numbers sent
+pub past_stays_in : (old new : BookValue) (numbers : JudgingNumbers) (sent : List Sent) (one : Sent) (mmsi t : ℕ) → new.keeping ≡ old.keeping → StandsFor old numbers sent
     → StandsFor new numbers (sent ++ one ∷ []) → t + numbers.gap < one.time → state_at t (legs_in new mmsi) ≡ state_at t (legs_in old mmsi)
 past_stays_in old new numbers sent one mmsi t same before after lt =
     ap (state_at t) (legs_in-is new numbers (sent ++ one ∷ []) mmsi after)

@@ -3,7 +3,7 @@ use Rattle.std.proofs.Common.{◌≡◌, ◌≢◌, ◌∙◌, ℕ, zero, suc, �
 use Rattle.std.specs.Prelude.{Option, slice_get}
 use Rattle.std.specs.List.{All, Contains, insert, last_or}
 use Rattle.std.proofs.lemmas.List.Edits.{length-insert}
-use Rattle.tracks.specs.AcceptedReports.{Numbers}
+use Rattle.tracks.specs.AcceptedReports.{JudgingNumbers}
 use Rattle.tracks.specs.Standing.{BookValue, StandsFor, VesselValue, kept_points, vessel_held, vessel_of}
 use Rattle.tracks.specs.VesselsHeld.{Sent, accepted_of, entry_at, entry_of, held_of, is_held, reported_in, sender_of, with_number}
 use Rattle.tracks.specs.Inner.AscendingNumbers.{Ascends}
@@ -61,13 +61,13 @@ map-insert g (n ∷ ms) (suc at) m = ap (λ (vs : List _). g n ∷ vs) (map-inse
 
 -- ---- a message of a vessel that is held
 
-pub vessel_at : (book : BookValue) (numbers : Numbers) (sent : List Sent) (at m : ℕ) (vessel : VesselValue) → StandsFor book numbers sent
+pub vessel_at : (book : BookValue) (numbers : JudgingNumbers) (sent : List Sent) (at m : ℕ) (vessel : VesselValue) → StandsFor book numbers sent
     → slice_get book.held at ≡ Some m → vessel ≡ get_or book.vessels at vessel → vessel ≡ vessel_of book.keeping numbers sent m
 vessel_at book numbers sent at m vessel h e is =
     is ∙ ap (λ (vs : List VesselValue). get_or vs at vessel) h.vessels
     ∙ map_at (vessel_of book.keeping numbers sent) (held_of numbers sent) at m vessel (ap (λ (ms : List ℕ). slice_get ms at) (sym h.holds) ∙ e)
 
-pub entry_after : (keeping : Keeping) (numbers : Numbers) (sent : List Sent) (one : Sent) (points : List Accepted)
+pub entry_after : (keeping : Keeping) (numbers : JudgingNumbers) (sent : List Sent) (one : Sent) (points : List Accepted)
     → points ≡ kept_points keeping (accepted_of numbers sent (sender_of one.message))
     → entry_at numbers (last_or None points) (reported_in one) ≡ entry_of numbers sent one
 unfolding entry_of
@@ -75,12 +75,12 @@ entry_after keeping numbers sent one points same =
     ap (λ (latest : Option Accepted). entry_at numbers latest (reported_in one))
     (ap (last_or None) same ∙ kept_points-last keeping (accepted_of numbers sent (sender_of one.message)))
 
-held_at : (book : BookValue) (numbers : Numbers) (sent : List Sent) (at m : ℕ) → StandsFor book numbers sent → slice_get book.held at ≡ Some m → is_held numbers sent m ≡ true
+held_at : (book : BookValue) (numbers : JudgingNumbers) (sent : List Sent) (at m : ℕ) → StandsFor book numbers sent → slice_get book.held at ≡ Some m → is_held numbers sent m ≡ true
 unfolding held_of
 held_at book numbers sent at m h e = among_passes (is_held numbers sent) m _ (among_at _ at m (ap (λ (ms : List ℕ). slice_get ms at) (sym h.holds) ∙ e))
 
 -- the vessels held stay the same
-pub held_further : (book : BookValue) (numbers : Numbers) (sent : List Sent) (one : Sent) (at : ℕ) → StandsFor book numbers sent
+pub held_further : (book : BookValue) (numbers : JudgingNumbers) (sent : List Sent) (one : Sent) (at : ℕ) → StandsFor book numbers sent
     → slice_get book.held at ≡ Some (sender_of one.message) → held_of numbers (sent ++ one ∷ []) ≡ held_of numbers sent
 held_further book numbers sent one at h e =
     let m = sender_of one.message in
@@ -88,7 +88,7 @@ held_further book numbers sent one at h e =
     ∙ with_number-among m (held_of numbers sent) (held_of-ascends numbers sent)
     (among_at (held_of numbers sent) at m (ap (λ (ms : List ℕ). slice_get ms at) (sym h.holds) ∙ e))
 
-pub stands_further : (book new : BookValue) (numbers : Numbers) (sent : List Sent) (one : Sent) (at : ℕ) (vessel : VesselValue) → StandsFor book numbers sent
+pub stands_further : (book new : BookValue) (numbers : JudgingNumbers) (sent : List Sent) (one : Sent) (at : ℕ) (vessel : VesselValue) → StandsFor book numbers sent
     → slice_get book.held at ≡ Some (sender_of one.message) → vessel ≡ get_or book.vessels at vessel
     → new.keeping ≡ book.keeping → new.numbers ≡ book.numbers → new.held ≡ book.held
     → new.vessels ≡ set book.vessels at (vessel_after book.keeping book.numbers vessel one)
@@ -112,31 +112,31 @@ stands_further book new numbers sent one at vessel h e is same-keeping same-numb
 
 -- ---- a message of a vessel that is not held
 
-not_held : (book : BookValue) (numbers : Numbers) (sent : List Sent) (m : ℕ) → StandsFor book numbers sent → ¬ IsAmong m book.held → is_held numbers sent m ≡ false
+not_held : (book : BookValue) (numbers : JudgingNumbers) (sent : List Sent) (m : ℕ) → StandsFor book numbers sent → ¬ IsAmong m book.held → is_held numbers sent m ≡ false
 not_held book numbers sent m h not = decide (is_held numbers sent m) refl
   where
     decide : (b : Bool) → is_held numbers sent m ≡ b → is_held numbers sent m ≡ false
     decide true e = absurd (not (subst (IsAmong m) (sym h.holds) (held_among numbers sent m e)))
     decide false e = e
 
-pub entry_first : (book : BookValue) (numbers : Numbers) (sent : List Sent) (one : Sent) → StandsFor book numbers sent → ¬ IsAmong (sender_of one.message) book.held
+pub entry_first : (book : BookValue) (numbers : JudgingNumbers) (sent : List Sent) (one : Sent) → StandsFor book numbers sent → ¬ IsAmong (sender_of one.message) book.held
     → entry_at book.numbers None (reported_in one) ≡ entry_of numbers sent one
 entry_first book numbers sent one h not =
-    ap (λ (n : Numbers). entry_at n None (reported_in one)) h.by
+    ap (λ (n : JudgingNumbers). entry_at n None (reported_in one)) h.by
     ∙ entry_after Tracks numbers sent one [] (sym (no_points numbers sent (sender_of one.message) (not_held book numbers sent (sender_of one.message) h not)))
 
 -- The message does not make its vessel held.
-pub held_without : (book : BookValue) (numbers : Numbers) (sent : List Sent) (one : Sent) → StandsFor book numbers sent → ¬ IsAmong (sender_of one.message) book.held
+pub held_without : (book : BookValue) (numbers : JudgingNumbers) (sent : List Sent) (one : Sent) → StandsFor book numbers sent → ¬ IsAmong (sender_of one.message) book.held
     → makes_held book.numbers one ≡ false → held_of numbers (sent ++ one ∷ []) ≡ held_of numbers sent
 held_without book numbers sent one h not no-holding =
     let m = sender_of one.message in
     let before = not_held book numbers sent m h not in
-    held_of-same numbers sent one before (is_held-first numbers sent one m refl before ∙ ap (λ (n : Numbers). makes_held n one) (sym h.by) ∙ no-holding)
+    held_of-same numbers sent one before (is_held-first numbers sent one m refl before ∙ ap (λ (n : JudgingNumbers). makes_held n one) (sym h.by) ∙ no-holding)
 
 not_among : (m : ℕ) (ms ns : List ℕ) → ms ≡ ns → ¬ IsAmong m ms → (k : ℕ) → IsAmong k ns → k ≢ m
 not_among m ms ns same not k h e = not (subst (IsAmong m) (sym same) (subst (λ (j : ℕ). IsAmong j ns) e h))
 
-pub stands_without : (book : BookValue) (numbers : Numbers) (sent : List Sent) (one : Sent) → StandsFor book numbers sent → ¬ IsAmong (sender_of one.message) book.held
+pub stands_without : (book : BookValue) (numbers : JudgingNumbers) (sent : List Sent) (one : Sent) → StandsFor book numbers sent → ¬ IsAmong (sender_of one.message) book.held
     → makes_held book.numbers one ≡ false → StandsFor book numbers (sent ++ one ∷ [])
 stands_without book numbers sent one h not no-holding =
     let m = sender_of one.message in
@@ -151,15 +151,15 @@ stands_without book numbers sent one h not no-holding =
     }
 
 -- The message makes its vessel held.
-pub held_with : (book : BookValue) (numbers : Numbers) (sent : List Sent) (one : Sent) → StandsFor book numbers sent → ¬ IsAmong (sender_of one.message) book.held
+pub held_with : (book : BookValue) (numbers : JudgingNumbers) (sent : List Sent) (one : Sent) → StandsFor book numbers sent → ¬ IsAmong (sender_of one.message) book.held
     → makes_held book.numbers one ≡ true → held_of numbers (sent ++ one ∷ []) ≡ with_number (sender_of one.message) book.held
 held_with book numbers sent one h not holding =
     let m = sender_of one.message in
     let before = not_held book numbers sent m h not in
-    held_of-more numbers sent one (is_held-first numbers sent one m refl before ∙ ap (λ (n : Numbers). makes_held n one) (sym h.by) ∙ holding)
+    held_of-more numbers sent one (is_held-first numbers sent one m refl before ∙ ap (λ (n : JudgingNumbers). makes_held n one) (sym h.by) ∙ holding)
     ∙ ap (with_number m) (sym h.holds)
 
-pub stands_with : (book new : BookValue) (numbers : Numbers) (sent : List Sent) (one : Sent) (at : ℕ) → StandsFor book numbers sent
+pub stands_with : (book new : BookValue) (numbers : JudgingNumbers) (sent : List Sent) (one : Sent) (at : ℕ) → StandsFor book numbers sent
     → ¬ IsAmong (sender_of one.message) book.held → makes_held book.numbers one ≡ true → with_number (sender_of one.message) book.held ≡ insert book.held at (sender_of one.message)
     → new.keeping ≡ book.keeping → new.numbers ≡ book.numbers → new.held ≡ insert book.held at (sender_of one.message)
     → new.vessels ≡ insert book.vessels at (vessel_after book.keeping book.numbers untold one)
@@ -181,7 +181,7 @@ stands_with book new numbers sent one at h not holding more same-keeping same-nu
           ∙ (let now : insert book.held at m ≡ held_of numbers (sent ++ one ∷ []) = sym more ∙ sym all in λ i. map (vessel_of (sym same-keeping i) numbers (sent ++ one ∷ [])) (now i));
     }
 
-pub count_with : (book : BookValue) (numbers : Numbers) (sent : List Sent) (one : Sent) (at : ℕ) → StandsFor book numbers sent
+pub count_with : (book : BookValue) (numbers : JudgingNumbers) (sent : List Sent) (one : Sent) (at : ℕ) → StandsFor book numbers sent
     → ¬ IsAmong (sender_of one.message) book.held → makes_held book.numbers one ≡ true → at ≤ length book.held
     → with_number (sender_of one.message) book.held ≡ insert book.held at (sender_of one.message)
     → length (held_of numbers (sent ++ one ∷ [])) ≡ length book.held + 1
@@ -193,7 +193,7 @@ count_with book numbers sent one at h not holding within more =
 pub absent_as : (m : ℕ) (one : Sent) (ms : List ℕ) → m ≡ sender_of one.message → ¬ Contains ms m → ¬ IsAmong (sender_of one.message) ms
 absent_as m one ms e not among = not (Contains_from_among m ms (subst (λ (k : ℕ). IsAmong k ms) (sym e) among))
 
-pub stands_as : (book new : BookValue) (numbers : Numbers) (sent : List Sent) (one : Sent) (at m : ℕ) → m ≡ sender_of one.message → StandsFor book numbers sent
+pub stands_as : (book new : BookValue) (numbers : JudgingNumbers) (sent : List Sent) (one : Sent) (at m : ℕ) → m ≡ sender_of one.message → StandsFor book numbers sent
     → ¬ Contains book.held m → makes_held book.numbers one ≡ true → with_number m book.held ≡ insert book.held at m
     → new.keeping ≡ book.keeping → new.numbers ≡ book.numbers → new.held ≡ insert book.held at m
     → new.vessels ≡ insert book.vessels at (vessel_after book.keeping book.numbers untold one)
@@ -202,7 +202,7 @@ stands_as book new numbers sent one at m e h not holding more same-keeping same-
     stands_with book new numbers sent one at h (absent_as m one book.held e not) holding
     (subst (λ (k : ℕ). with_number k book.held ≡ insert book.held at k) e more) same-keeping same-numbers (held ∙ ap (insert book.held at) e) vessels
 
-pub count_as : (book : BookValue) (numbers : Numbers) (sent : List Sent) (one : Sent) (at m : ℕ) → m ≡ sender_of one.message → StandsFor book numbers sent
+pub count_as : (book : BookValue) (numbers : JudgingNumbers) (sent : List Sent) (one : Sent) (at m : ℕ) → m ≡ sender_of one.message → StandsFor book numbers sent
     → ¬ Contains book.held m → makes_held book.numbers one ≡ true → at ≤ length book.held → with_number m book.held ≡ insert book.held at m
     → length (held_of numbers (sent ++ one ∷ [])) ≡ length book.held + 1
 count_as book numbers sent one at m e h not holding within more =
@@ -217,37 +217,37 @@ pub record IsFirst (book : BookValue) (one : Sent) (at m : ℕ) : Type 0 where
   pub more : with_number m book.held ≡ insert book.held at m
 
 pub first_entry : (book : BookValue) (one : Sent) (at m : ℕ) (entry : Entry) → IsFirst book one at m → entry ≡ entry_at book.numbers None (reported_in one)
-    → (numbers : Numbers) (sent : List Sent) → StandsFor book numbers sent → entry ≡ entry_of numbers sent one
+    → (numbers : JudgingNumbers) (sent : List Sent) → StandsFor book numbers sent → entry ≡ entry_of numbers sent one
 first_entry book one at m entry first is numbers sent h =
     is ∙ entry_first book numbers sent one h (absent_as m one book.held first.sender first.absent)
 
 pub first_stands : (book : BookValue) (one : Sent) (at m : ℕ) → IsFirst book one at m → makes_held book.numbers one ≡ false
-    → (numbers : Numbers) (sent : List Sent) → StandsFor book numbers sent → StandsFor book numbers (sent ++ one ∷ [])
+    → (numbers : JudgingNumbers) (sent : List Sent) → StandsFor book numbers sent → StandsFor book numbers (sent ++ one ∷ [])
 first_stands book one at m first not-holding numbers sent h =
     stands_without book numbers sent one h (absent_as m one book.held first.sender first.absent) not-holding
 
 pub first_count : (book : BookValue) (one : Sent) (at m : ℕ) → IsFirst book one at m → makes_held book.numbers one ≡ false
-    → (numbers : Numbers) (sent : List Sent) → StandsFor book numbers sent → length (held_of numbers (sent ++ one ∷ [])) ≡ length book.held
+    → (numbers : JudgingNumbers) (sent : List Sent) → StandsFor book numbers sent → length (held_of numbers (sent ++ one ∷ [])) ≡ length book.held
 first_count book one at m first not-holding numbers sent h =
     ap (length {A = ℕ}) (held_without book numbers sent one h (absent_as m one book.held first.sender first.absent) not-holding ∙ sym h.holds)
 
 pub first_count_more : (book : BookValue) (one : Sent) (at m : ℕ) → IsFirst book one at m → makes_held book.numbers one ≡ true
-    → (numbers : Numbers) (sent : List Sent) → StandsFor book numbers sent → length (held_of numbers (sent ++ one ∷ [])) ≡ length book.held + 1
+    → (numbers : JudgingNumbers) (sent : List Sent) → StandsFor book numbers sent → length (held_of numbers (sent ++ one ∷ [])) ≡ length book.held + 1
 first_count_more book one at m first holding numbers sent h =
     count_as book numbers sent one at m first.sender h first.absent holding first.place first.more
 
 -- ---- look-ups
 
-pub found_vessel : (book : BookValue) (numbers : Numbers) (sent : List Sent) (at m : ℕ) (vessel : VesselValue) → StandsFor book numbers sent
+pub found_vessel : (book : BookValue) (numbers : JudgingNumbers) (sent : List Sent) (at m : ℕ) (vessel : VesselValue) → StandsFor book numbers sent
     → slice_get book.held at ≡ Some m → vessel ≡ get_or book.vessels at vessel → Some vessel ≡ vessel_held book.keeping numbers sent m
 found_vessel book numbers sent at m vessel h e is =
     rw (held_at book numbers sent at m h e) (ap (λ (v : VesselValue). Some v) (vessel_at book numbers sent at m vessel h e is))
 
-pub no_vessel : (book : BookValue) (numbers : Numbers) (sent : List Sent) (m : ℕ) → StandsFor book numbers sent → ¬ Contains book.held m
+pub no_vessel : (book : BookValue) (numbers : JudgingNumbers) (sent : List Sent) (m : ℕ) → StandsFor book numbers sent → ¬ Contains book.held m
     → None ≡ vessel_held book.keeping numbers sent m
 no_vessel book numbers sent m h not = rw (not_held book numbers sent m h (λ among. not (Contains_from_among m book.held among))) refl
 
-pub no_points_held : (keeping : Keeping) (numbers : Numbers) (sent : List Sent) (m : ℕ) → None ≡ vessel_held keeping numbers sent m
+pub no_points_held : (keeping : Keeping) (numbers : JudgingNumbers) (sent : List Sent) (m : ℕ) → None ≡ vessel_held keeping numbers sent m
     → [] ≡ kept_points keeping (accepted_of numbers sent m)
 no_points_held keeping numbers sent m none = decide (is_held numbers sent m) refl
   where

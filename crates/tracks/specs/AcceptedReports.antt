@@ -15,7 +15,7 @@ use Rattle.tracks.specs.declared.entry.ReportCause.TheVariants.{NoPos, Far, Back
 
 -- By these reports are judged: the place at the plane's origin, how many seconds two reports may lie apart and still be joined,
 -- and the greatest speed of a vessel, in tenths of a knot.
-pub record Numbers : Type 0 where
+pub record JudgingNumbers : Type 0 where
   pub reference : Place
   pub gap : ℕ
   pub max_speed : ℕ
@@ -63,12 +63,12 @@ abbrev pub square : ℕ → ℕ
 square n = n * n
 
 -- The vessel would have moved faster than the greatest speed: a tenth of a knot is 4630 / 9 tenths of a millimetre a second.
-abbrev pub is_jump : Numbers → Accepted → Accepted → Bool
+abbrev pub is_jump : JudgingNumbers → Accepted → Accepted → Bool
 is_jump numbers latest now =
     nat_le now.time (latest.time + numbers.gap)
     && nat_lt (square (4630 * numbers.max_speed * (now.time - latest.time))) (81 * distance2 latest now)
 
-abbrev pub applies : Numbers → Accepted → Accepted → ReportCause → Bool
+abbrev pub applies : JudgingNumbers → Accepted → Accepted → ReportCause → Bool
 applies numbers latest now NoPos = false
 applies numbers latest now Far = false
 applies numbers latest now Back = is_back latest now
@@ -83,53 +83,53 @@ unless now None = Ok now
 unless now (Some cause) = Err cause
 
 -- A vessel's first report is never back, a repeat or a jump.
-abbrev pub judged_after : Numbers → Option Accepted → Accepted → Result Accepted ReportCause
+abbrev pub judged_after : JudgingNumbers → Option Accepted → Accepted → Result Accepted ReportCause
 judged_after numbers None now = Ok now
 judged_after numbers (Some latest) now = unless now (find (applies numbers latest now) (Back ∷ Repeat ∷ Jump ∷ []))
 
-abbrev pub judged_at : Numbers → Option Accepted → Result Accepted ReportCause → Result Accepted ReportCause
+abbrev pub judged_at : JudgingNumbers → Option Accepted → Result Accepted ReportCause → Result Accepted ReportCause
 judged_at numbers latest (Err cause) = Err cause
 judged_at numbers latest (Ok now) = judged_after numbers latest now
 
 -- what a report comes to, after the latest accepted one of its vessel
-unfoldable pub judged : Numbers → Option Accepted → Reported → Result Accepted ReportCause
+unfoldable pub judged : JudgingNumbers → Option Accepted → Reported → Result Accepted ReportCause
 judged numbers latest now = judged_at numbers latest (placed numbers.reference now)
 
 -- No cause applies.
-abbrev pub IsFree : Numbers → Option Accepted → Reported → Type 0
+abbrev pub IsFree : JudgingNumbers → Option Accepted → Reported → Type 0
 IsFree numbers latest now = IsOk (judged numbers latest now)
 
 -- ---- the accepted list
 
--- the reports that are marked, at their points
+-- the reports that are accepted_at_marks, at their points
 abbrev pub with_placed : Result Accepted ReportCause → List Accepted → List Accepted
 with_placed (Ok accepted) others = accepted ∷ others
 with_placed (Err _) others = others
 
-abbrev pub marked : Place → List Bool → List Reported → List Accepted
-marked reference [] reports = []
-marked reference (mark ∷ marks) [] = []
-marked reference (true ∷ marks) (now ∷ reports) = with_placed (placed reference now) (marked reference marks reports)
-marked reference (false ∷ marks) (now ∷ reports) = marked reference marks reports
+abbrev pub accepted_at_marks : Place → List Bool → List Reported → List Accepted
+accepted_at_marks reference [] reports = []
+accepted_at_marks reference (mark ∷ marks) [] = []
+accepted_at_marks reference (true ∷ marks) (now ∷ reports) = with_placed (placed reference now) (accepted_at_marks reference marks reports)
+accepted_at_marks reference (false ∷ marks) (now ∷ reports) = accepted_at_marks reference marks reports
 
 -- The accepted list of a vessel's reports: a report stands in it exactly where no cause applies to it and to the last report
 -- that stands in it before.
-pub record AreAccepted (numbers : Numbers) (reports : List Reported) (accepted : List Accepted) : Type 0 where
+pub record AreAccepted (numbers : JudgingNumbers) (reports : List Reported) (accepted : List Accepted) : Type 0 where
   pub marks : List Bool
   pub one_each : length marks ≡ length reports
   pub stands : (k : ℕ) (now : Reported) → slice_get reports k ≡ Some now
       → (slice_get marks k ≡ Some true)
-      ↔ IsFree numbers (last_or None (marked numbers.reference (take k marks) (take k reports))) now
-  pub list : accepted ≡ marked numbers.reference marks reports
+      ↔ IsFree numbers (last_or None (accepted_at_marks numbers.reference (take k marks) (take k reports))) now
+  pub list : accepted ≡ accepted_at_marks numbers.reference marks reports
 
 -- the same list as a function of the reports, after a latest accepted one
 abbrev pub accepted_with : (Option Accepted → List Accepted) → Option Accepted → Result Accepted ReportCause → List Accepted
 accepted_with others latest (Ok now) = now ∷ others (Some now)
 accepted_with others latest (Err _) = others latest
 
-unfoldable pub accepted_after : Numbers → List Reported → Option Accepted → List Accepted
+unfoldable pub accepted_after : JudgingNumbers → List Reported → Option Accepted → List Accepted
 accepted_after numbers [] latest = []
 accepted_after numbers (now ∷ reports) latest = accepted_with (accepted_after numbers reports) latest (judged numbers latest now)
 
-abbrev pub accepted_list : Numbers → List Reported → List Accepted
+abbrev pub accepted_list : JudgingNumbers → List Reported → List Accepted
 accepted_list numbers reports = accepted_after numbers reports None

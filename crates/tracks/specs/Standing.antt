@@ -5,7 +5,7 @@ use Rattle.std.specs.Option.{option_to_list}
 use Rattle.fixed_geometry.specs.Sizes.{IsWithin}
 use Rattle.ais_messages.specs.MessageFields.{IsReport}
 use Rattle.motion.specs.declared.leg.Leg.{Leg}
-use Rattle.tracks.specs.AcceptedReports.{Numbers}
+use Rattle.tracks.specs.AcceptedReports.{JudgingNumbers}
 use Rattle.tracks.specs.VesselsHeld.{Sent, accepted_of, held_of, is_held, legs_of, statics_of}
 use Rattle.tracks.specs.declared.accepted.Accepted.{Accepted}
 use Rattle.tracks.specs.declared.keeping.Keeping.{Keeping}
@@ -31,7 +31,7 @@ pub record VesselValue : Type 0 where
 -- what a book keeps: how much of each vessel, its numbers, and the vessels that are held, in the order of their identities
 pub record BookValue : Type 0 where
   pub keeping : Keeping
-  pub numbers : Numbers
+  pub numbers : JudgingNumbers
   pub held : List ℕ
   pub vessels : List VesselValue
 
@@ -45,24 +45,24 @@ abbrev pub legs_in : BookValue → ℕ → List Leg
 legs_in book mmsi = legs_among book.held book.vessels mmsi
 
 -- what is kept of what the messages tell of a vessel
-abbrev pub vessel_of : Keeping → Numbers → List Sent → ℕ → VesselValue
+abbrev pub vessel_of : Keeping → JudgingNumbers → List Sent → ℕ → VesselValue
 vessel_of keeping numbers sent mmsi = record {
   points = kept_points keeping (accepted_of numbers sent mmsi);
   legs = kept_legs keeping (legs_of numbers sent mmsi);
   statics = statics_of sent mmsi;
 }
 
-abbrev pub vessel_held : Keeping → Numbers → List Sent → ℕ → Option VesselValue
+abbrev pub vessel_held : Keeping → JudgingNumbers → List Sent → ℕ → Option VesselValue
 vessel_held keeping numbers sent mmsi = if is_held numbers sent mmsi then Some (vessel_of keeping numbers sent mmsi) else None
 
 -- A book stands for its numbers and the list of the messages so far.
-pub record StandsFor (book : BookValue) (numbers : Numbers) (sent : List Sent) : Type 0 where
+pub record StandsFor (book : BookValue) (numbers : JudgingNumbers) (sent : List Sent) : Type 0 where
   pub by : book.numbers ≡ numbers
   pub holds : book.held ≡ held_of numbers sent
   pub vessels : book.vessels ≡ map (vessel_of book.keeping numbers sent) (held_of numbers sent)
 
 -- the numbers that a scenario may have
-pub record IsNumbers (numbers : Numbers) : Type 0 where
+pub record IsNumbers (numbers : JudgingNumbers) : Type 0 where
   pub gap : numbers.gap ≤ 3600
   pub some_speed : 1 ≤ numbers.max_speed
   pub max_speed : numbers.max_speed ≤ 1022

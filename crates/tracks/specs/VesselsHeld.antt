@@ -7,7 +7,7 @@ use Rattle.ais_messages.specs.declared.message.Message.TheVariants as message
 use Rattle.ais_messages.specs.declared.message.PositionReport.{PositionReport}
 use Rattle.ais_messages.specs.declared.message.StaticReport.{StaticReport}
 use Rattle.motion.specs.declared.leg.Leg.{Leg}
-use Rattle.tracks.specs.AcceptedReports.{Numbers, Reported, accepted_list, judged}
+use Rattle.tracks.specs.AcceptedReports.{JudgingNumbers, Reported, accepted_list, judged}
 use Rattle.tracks.specs.JoinedReports.{legs_between}
 use Rattle.tracks.specs.declared.accepted.Accepted.{Accepted}
 use Rattle.tracks.specs.declared.entry.Entry.{Entry}
@@ -47,11 +47,11 @@ abbrev pub messages_of : List Sent → ℕ → List Sent
 messages_of sent mmsi = filter (λ one. sender_of one.message == mmsi) sent
 
 -- her accepted reports
-unfoldable pub accepted_of : Numbers → List Sent → ℕ → List Accepted
+unfoldable pub accepted_of : JudgingNumbers → List Sent → ℕ → List Accepted
 accepted_of numbers sent mmsi = accepted_list numbers (filter_map reported_in (messages_of sent mmsi))
 
 -- the legs between them
-unfoldable pub legs_of : Numbers → List Sent → ℕ → List Leg
+unfoldable pub legs_of : JudgingNumbers → List Sent → ℕ → List Leg
 legs_of numbers sent mmsi = legs_between numbers.gap (accepted_of numbers sent mmsi)
 
 abbrev pub static_reports_of : List Sent → ℕ → List StaticReport
@@ -71,7 +71,7 @@ statics_of sent mmsi = last_told (static_reports_of sent mmsi)
 -- ---- the vessels that are held
 
 -- A vessel is held from her first accepted report or static report on.
-unfoldable pub is_held : Numbers → List Sent → ℕ → Bool
+unfoldable pub is_held : JudgingNumbers → List Sent → ℕ → Bool
 is_held numbers sent mmsi = nat_lt 0 (length (accepted_of numbers sent mmsi)) || nat_lt 0 (length (static_reports_of sent mmsi))
 
 -- the ascending numbers with one more, where it is not among them
@@ -84,7 +84,7 @@ abbrev pub senders_of : List Sent → List ℕ
 senders_of sent = fold (λ ms one. with_number (sender_of one.message) ms) [] sent
 
 -- the vessels held, ascending
-unfoldable pub held_of : Numbers → List Sent → List ℕ
+unfoldable pub held_of : JudgingNumbers → List Sent → List ℕ
 held_of numbers sent = filter (is_held numbers sent) (senders_of sent)
 
 -- ---- what a message comes to
@@ -93,10 +93,10 @@ abbrev pub entry_by : Result Accepted ReportCause → Entry
 entry_by (Ok accepted) = entry.Point accepted.point
 entry_by (Err cause) = entry.Dropped cause
 
-abbrev pub entry_at : Numbers → Option Accepted → Option Reported → Entry
+abbrev pub entry_at : JudgingNumbers → Option Accepted → Option Reported → Entry
 entry_at numbers latest None = entry.Static
 entry_at numbers latest (Some now) = entry_by (judged numbers latest now)
 
 -- after the messages before it
-unfoldable pub entry_of : Numbers → List Sent → Sent → Entry
+unfoldable pub entry_of : JudgingNumbers → List Sent → Sent → Entry
 entry_of numbers sent one = entry_at numbers (last_or None (accepted_of numbers sent (sender_of one.message))) (reported_in one)

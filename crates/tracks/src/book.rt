@@ -9,10 +9,10 @@ ghost use Rattle.ais_messages.specs.declared.message.Message.TheVariants.{Positi
 ghost use Rattle.fixed_geometry.specs.Displacement.{displacement};
 ghost use Rattle.motion.specs.TickStates.{IsTickState, MovesLittle, state_at};
 ghost use Rattle.motion.specs.declared.leg.TickState.{TickState};
-ghost use Rattle.tracks.specs.AcceptedReports.{Numbers};
+ghost use Rattle.tracks.specs.AcceptedReports.{JudgingNumbers};
 ghost use Rattle.tracks.specs.Inner.Keeping.{IsKept, makes_held};
 ghost use Rattle.tracks.specs.Lengths.{length_of};
-ghost use Rattle.tracks.specs.SeenVessels.{seen_in, seen_of, sighting};
+ghost use Rattle.tracks.specs.SeenVessels.{seen_in, seen_of, seen_vessel};
 ghost use Rattle.tracks.specs.Standing.{IsAccepted, IsNumbers, StandsFor, kept_legs, kept_points, legs_in, vessel_held};
 ghost use Rattle.tracks.specs.VesselsHeld.{Sent, accepted_of, entry_at, entry_of, held_of, is_held, legs_of, reported_in, sender_of, statics_of, with_number};
 ghost use Rattle.tracks.specs.declared.accepted.Accepted.{Accepted};
@@ -56,7 +56,7 @@ fn first_entry(numbers: &GivenNumbers, message: &Message, time: u64) -> Entry
 
 /// Whether a message that comes to this makes its vessel held.
 fn is_holding(message: &Message, entry: Entry) -> bool
-    ensures { (numbers : Numbers) (time : ℕ)
+    ensures { (numbers : JudgingNumbers) (time : ℕ)
         → entry ≡ entry_at numbers None (reported_in (record { message = message.now; time = time }))
         → result ≡ makes_held numbers (record { message = message.now; time = time }) }
 {
@@ -155,16 +155,16 @@ impl Book {
     /// vessel was more than the gap before `time` stays as it was.
     pub fn take(&mut self, message: &Message, time: u64) -> Result<Entry, BookFault>
         requires { IsMessage message.now }
-        ensures entry { IfOk result (λ entry. (numbers : Numbers) (sent : List Sent) → StandsFor self.old numbers sent
+        ensures entry { IfOk result (λ entry. (numbers : JudgingNumbers) (sent : List Sent) → StandsFor self.old numbers sent
             → entry ≡ entry_of numbers sent (record { message = message.now; time = time })) }
-        ensures stands { OnOk result ((numbers : Numbers) (sent : List Sent) → StandsFor self.old numbers sent
+        ensures stands { OnOk result ((numbers : JudgingNumbers) (sent : List Sent) → StandsFor self.old numbers sent
             → StandsFor self.new numbers (sent ++ record { message = message.now; time = time } ∷ [])) }
         ensures same { OnErr result (self.new ≡ self.old) }
         ensures keeping { self.new.keeping ≡ self.old.keeping }
-        ensures too_many { (numbers : Numbers) (sent : List Sent) → StandsFor self.old numbers sent
+        ensures too_many { (numbers : JudgingNumbers) (sent : List Sent) → StandsFor self.old numbers sent
             → (result ≡ Err TooManyVessels)
             ↔ (MOST_VESSELS < length (held_of numbers (sent ++ record { message = message.now; time = time } ∷ []))) }
-        ensures settled { OnOk result ((numbers : Numbers) (sent : List Sent) → StandsFor self.old numbers sent
+        ensures settled { OnOk result ((numbers : JudgingNumbers) (sent : List Sent) → StandsFor self.old numbers sent
             → (mmsi t : ℕ) → t + numbers.gap < time → state_at t (legs_in self.new mmsi) ≡ state_at t (legs_in self.old mmsi)) }
     {
         let mmsi = sender(message);
@@ -181,16 +181,16 @@ impl Book {
     #[inline(always)]
     pub fn take_report(&mut self, report: &PositionReport, time: u64) -> Result<Entry, BookFault>
         requires { IsReport report.now }
-        ensures entry { IfOk result (λ entry. (numbers : Numbers) (sent : List Sent) → StandsFor self.old numbers sent
+        ensures entry { IfOk result (λ entry. (numbers : JudgingNumbers) (sent : List Sent) → StandsFor self.old numbers sent
             → entry ≡ entry_of numbers sent (record { message = Position report.now; time = time })) }
-        ensures stands { OnOk result ((numbers : Numbers) (sent : List Sent) → StandsFor self.old numbers sent
+        ensures stands { OnOk result ((numbers : JudgingNumbers) (sent : List Sent) → StandsFor self.old numbers sent
             → StandsFor self.new numbers (sent ++ record { message = Position report.now; time = time } ∷ [])) }
         ensures same { OnErr result (self.new ≡ self.old) }
         ensures keeping { self.new.keeping ≡ self.old.keeping }
-        ensures too_many { (numbers : Numbers) (sent : List Sent) → StandsFor self.old numbers sent
+        ensures too_many { (numbers : JudgingNumbers) (sent : List Sent) → StandsFor self.old numbers sent
             → (result ≡ Err TooManyVessels)
             ↔ (MOST_VESSELS < length (held_of numbers (sent ++ record { message = Position report.now; time = time } ∷ []))) }
-        ensures settled { OnOk result ((numbers : Numbers) (sent : List Sent) → StandsFor self.old numbers sent
+        ensures settled { OnOk result ((numbers : JudgingNumbers) (sent : List Sent) → StandsFor self.old numbers sent
             → (mmsi t : ℕ) → t + numbers.gap < time → state_at t (legs_in self.new mmsi) ≡ state_at t (legs_in self.old mmsi)) }
     {
         match self.guess(report.mmsi) {
@@ -222,13 +222,13 @@ impl Book {
     ) -> Result<Entry, Memory>
         requires report { IsReport report.now }
         requires sender { slice_get self.old.held at ≡ Some report.now.mmsi }
-        ensures entry { IfOk result (λ entry. (numbers : Numbers) (sent : List Sent) → StandsFor self.old numbers sent
+        ensures entry { IfOk result (λ entry. (numbers : JudgingNumbers) (sent : List Sent) → StandsFor self.old numbers sent
             → entry ≡ entry_of numbers sent (record { message = Position report.now; time = time })) }
-        ensures stands { OnOk result ((numbers : Numbers) (sent : List Sent) → StandsFor self.old numbers sent
+        ensures stands { OnOk result ((numbers : JudgingNumbers) (sent : List Sent) → StandsFor self.old numbers sent
             → StandsFor self.new numbers (sent ++ record { message = Position report.now; time = time } ∷ [])) }
         ensures same { OnErr result (self.new ≡ self.old) }
         ensures keeping { self.new.keeping ≡ self.old.keeping }
-        ensures few { (numbers : Numbers) (sent : List Sent) → StandsFor self.old numbers sent
+        ensures few { (numbers : JudgingNumbers) (sent : List Sent) → StandsFor self.old numbers sent
             → length (held_of numbers (sent ++ record { message = Position report.now; time = time } ∷ [])) ≤ MOST_VESSELS }
     {
         let vessel = &mut self.vessels[at];
@@ -239,13 +239,13 @@ impl Book {
     fn take_further(&mut self, at: usize, message: &Message, time: u64) -> Result<Entry, Memory>
         requires message { IsMessage message.now }
         requires sender { slice_get self.old.held at ≡ Some (sender_of message.now) }
-        ensures entry { IfOk result (λ entry. (numbers : Numbers) (sent : List Sent) → StandsFor self.old numbers sent
+        ensures entry { IfOk result (λ entry. (numbers : JudgingNumbers) (sent : List Sent) → StandsFor self.old numbers sent
             → entry ≡ entry_of numbers sent (record { message = message.now; time = time })) }
-        ensures stands { OnOk result ((numbers : Numbers) (sent : List Sent) → StandsFor self.old numbers sent
+        ensures stands { OnOk result ((numbers : JudgingNumbers) (sent : List Sent) → StandsFor self.old numbers sent
             → StandsFor self.new numbers (sent ++ record { message = message.now; time = time } ∷ [])) }
         ensures same { OnErr result (self.new ≡ self.old) }
         ensures keeping { self.new.keeping ≡ self.old.keeping }
-        ensures few { (numbers : Numbers) (sent : List Sent) → StandsFor self.old numbers sent
+        ensures few { (numbers : JudgingNumbers) (sent : List Sent) → StandsFor self.old numbers sent
             → length (held_of numbers (sent ++ record { message = message.now; time = time } ∷ [])) ≤ MOST_VESSELS }
     {
         let vessel = &mut self.vessels[at];
@@ -265,13 +265,13 @@ impl Book {
         requires place { at ≤ length self.old.held }
         requires absent { ¬ Contains self.old.held mmsi }
         requires more { with_number mmsi self.old.held ≡ insert self.old.held at mmsi }
-        ensures entry { IfOk result (λ entry. (numbers : Numbers) (sent : List Sent) → StandsFor self.old numbers sent
+        ensures entry { IfOk result (λ entry. (numbers : JudgingNumbers) (sent : List Sent) → StandsFor self.old numbers sent
             → entry ≡ entry_of numbers sent (record { message = message.now; time = time })) }
-        ensures stands { OnOk result ((numbers : Numbers) (sent : List Sent) → StandsFor self.old numbers sent
+        ensures stands { OnOk result ((numbers : JudgingNumbers) (sent : List Sent) → StandsFor self.old numbers sent
             → StandsFor self.new numbers (sent ++ record { message = message.now; time = time } ∷ [])) }
         ensures same { OnErr result (self.new ≡ self.old) }
         ensures keeping { self.new.keeping ≡ self.old.keeping }
-        ensures too_many { (numbers : Numbers) (sent : List Sent) → StandsFor self.old numbers sent
+        ensures too_many { (numbers : JudgingNumbers) (sent : List Sent) → StandsFor self.old numbers sent
             → (result ≡ Err TooManyVessels)
             ↔ (MOST_VESSELS < length (held_of numbers (sent ++ record { message = message.now; time = time } ∷ []))) }
     {
@@ -297,7 +297,7 @@ impl Book {
         requires more { with_number mmsi self.old.held ≡ insert self.old.held at mmsi }
         requires room { length self.old.held < MOST_VESSELS }
         requires holding { makes_held self.old.numbers (record { message = message.now; time = time }) ≡ true }
-        ensures stands { OnOk result ((numbers : Numbers) (sent : List Sent) → StandsFor self.old numbers sent
+        ensures stands { OnOk result ((numbers : JudgingNumbers) (sent : List Sent) → StandsFor self.old numbers sent
             → StandsFor self.new numbers (sent ++ record { message = message.now; time = time } ∷ [])) }
         ensures same { OnErr result (self.new ≡ self.old) }
         ensures keeping { self.new.keeping ≡ self.old.keeping }
@@ -309,7 +309,7 @@ impl Book {
 
     /// The vessel of this identity, if she is held.
     fn vessel_of(&self, mmsi: u32) -> Option<&Vessel>
-        ensures value { (numbers : Numbers) (sent : List Sent) → StandsFor self.now numbers sent
+        ensures value { (numbers : JudgingNumbers) (sent : List Sent) → StandsFor self.now numbers sent
             → option_copied result ≡ vessel_held self.now.keeping numbers sent mmsi }
         ensures kept { IfSome (option_copied result) (IsKept self.now.keeping self.now.numbers.gap) }
     {
@@ -321,7 +321,7 @@ impl Book {
 
     /// The accepted reports of a vessel that are kept, in the order in which they came.
     pub fn points(&self, mmsi: u32) -> &[Accepted]
-        ensures value { (numbers : Numbers) (sent : List Sent) → StandsFor self.now numbers sent
+        ensures value { (numbers : JudgingNumbers) (sent : List Sent) → StandsFor self.now numbers sent
             → result.now ≡ kept_points self.now.keeping (accepted_of numbers sent mmsi) }
         ensures ranges { All IsAccepted result.now }
     {
@@ -333,7 +333,7 @@ impl Book {
 
     /// The latest accepted report of a vessel, if she has one.
     pub fn latest(&self, mmsi: u32) -> Option<&Accepted>
-        ensures value { self.now.keeping ≡ Tracks → (numbers : Numbers) (sent : List Sent) → StandsFor self.now numbers sent
+        ensures value { self.now.keeping ≡ Tracks → (numbers : JudgingNumbers) (sent : List Sent) → StandsFor self.now numbers sent
             → option_copied result ≡ last_or None (accepted_of numbers sent mmsi) }
         ensures accepted { IfSome (option_copied result) IsAccepted }
     {
@@ -342,7 +342,7 @@ impl Book {
 
     /// The legs that are kept between the accepted reports of a vessel, or `None` where she is not held.
     pub fn legs(&self, mmsi: u32) -> Option<&Legs>
-        ensures value { (numbers : Numbers) (sent : List Sent) → StandsFor self.now numbers sent
+        ensures value { (numbers : JudgingNumbers) (sent : List Sent) → StandsFor self.now numbers sent
             → option_copied result ≡ (if is_held numbers sent mmsi then Some (kept_legs self.now.keeping (legs_of numbers sent mmsi)) else None) }
         ensures moves { IfSome (option_copied result) (MovesLittle self.now.numbers.gap) }
     {
@@ -375,7 +375,7 @@ impl Book {
     fn look_at(&self, at: usize, time: u64, seen: &mut Vec<(u32, TickState)>) -> Result<(), Memory>
         requires { at < length self.now.held }
         ensures more { OnOk result (seen.new.items
-            ≡ seen.old.items ++ option_to_list (sighting time (legs_in self.now) (slice_index self.now.held at))) }
+            ≡ seen.old.items ++ option_to_list (seen_vessel time (legs_in self.now) (slice_index self.now.held at))) }
         ensures placed { OnOk result (All (λ (vessel : ℕ × TickState). IsTickState 2222400000 vessel.1) seen.old.items
             → All (λ (vessel : ℕ × TickState). IsTickState 2222400000 vessel.1) seen.new.items) }
         ensures few { vec_len seen.new ≤ vec_len seen.old + 1 }
@@ -392,7 +392,7 @@ impl Book {
     /// identities. In a book that keeps no legs nobody is seen. `seen` keeps its room, and where that is enough for all vessels held,
     /// there is always memory. Where there is none, what `seen` holds is not told.
     pub fn look(&self, time: u64, seen: &mut Vec<(u32, TickState)>) -> Result<(), Memory>
-        ensures value { OnOk result (self.now.keeping ≡ Tracks → (numbers : Numbers) (sent : List Sent) → StandsFor self.now numbers sent
+        ensures value { OnOk result (self.now.keeping ≡ Tracks → (numbers : JudgingNumbers) (sent : List Sent) → StandsFor self.now numbers sent
             → seen.new.items ≡ seen_of numbers sent time) }
         ensures kept { OnOk result (seen.new.items ≡ seen_in self.now time) }
         ensures ascending { OnOk result (IsStrictlyIncreasing (map (λ (vessel : ℕ × TickState). vessel.0) seen.new.items)) }
@@ -424,7 +424,7 @@ impl Book {
     /// before it, moves from there to that report's point by at most 525,763 a second in each component, and by 2 more.
     pub fn comes_to_latest(&self, mmsi: u32)
         requires { self.now.keeping ≡ Tracks }
-        ensures { (numbers : Numbers) (sent : List Sent) → StandsFor self.now numbers sent
+        ensures { (numbers : JudgingNumbers) (sent : List Sent) → StandsFor self.now numbers sent
             → (latest : Accepted) → last_or None (accepted_of numbers sent mmsi) ≡ Some latest
             → (t : ℕ) (before : TickState) → t < latest.time → latest.time ≤ t + numbers.gap
             → state_at t (legs_of numbers sent mmsi) ≡ Some before
@@ -436,7 +436,7 @@ impl Book {
 
     /// What a vessel told of herself, or `None` where she is not held.
     pub fn statics(&self, mmsi: u32) -> Option<&Statics>
-        ensures { (numbers : Numbers) (sent : List Sent) → StandsFor self.now numbers sent
+        ensures { (numbers : JudgingNumbers) (sent : List Sent) → StandsFor self.now numbers sent
             → option_copied result ≡ (if is_held numbers sent mmsi then Some (statics_of sent mmsi) else None) }
     {
         Some(self.vessel_of(mmsi)?.statics())
@@ -444,7 +444,7 @@ impl Book {
 
     /// The length of a vessel that is held in metres, from bow to stern, at most 1022, and 0 where she told none.
     pub fn length(&self, mmsi: u32) -> u32
-        ensures value { (numbers : Numbers) (sent : List Sent) → StandsFor self.now numbers sent → is_held numbers sent mmsi ≡ true
+        ensures value { (numbers : JudgingNumbers) (sent : List Sent) → StandsFor self.now numbers sent → is_held numbers sent mmsi ≡ true
             → result ≡ length_of (statics_of sent mmsi).ship }
         ensures short { result ≤ 1022 }
     {
@@ -456,7 +456,7 @@ impl Book {
 
     /// How many vessels are held.
     pub fn vessels(&self) -> usize
-        ensures value { (numbers : Numbers) (sent : List Sent) → StandsFor self.now numbers sent
+        ensures value { (numbers : JudgingNumbers) (sent : List Sent) → StandsFor self.now numbers sent
             → result ≡ length (held_of numbers sent) }
         ensures count { result ≡ length self.now.held }
         ensures few { result ≤ MOST_VESSELS }
@@ -467,7 +467,7 @@ impl Book {
     /// The identity of the `k`-th vessel that is held, in ascending order from 0.
     pub fn vessel(&self, k: usize) -> u32
         requires { k < length self.now.held }
-        ensures { (numbers : Numbers) (sent : List Sent) → StandsFor self.now numbers sent
+        ensures { (numbers : JudgingNumbers) (sent : List Sent) → StandsFor self.now numbers sent
             → slice_get (held_of numbers sent) k ≡ Some result }
     {
         self.held[k]

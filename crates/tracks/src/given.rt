@@ -13,7 +13,7 @@ pub(crate) struct GivenNumbers {
 impl Model for GivenNumbers {
     ghost use Rattle.tracks.specs.AcceptedReports as reports;
 
-    ghost Value = { reports.Numbers };
+    ghost Value = { reports.JudgingNumbers };
 
     ghost view = { λ n. record { reference = n.reference; gap = n.gap; max_speed = n.max_speed } };
 }

@@ -3,14 +3,14 @@ ghost use Rattle.std.specs.Prelude.{ℕ, ◌≡◌, ◌↔◌, ◌+◌, ◌<◌,
 ghost use Rattle.std.specs.List.Sorted.{IsStrictlyIncreasing};
 ghost use Rattle.ais_messages.specs.declared.message.PositionReport.{PositionReport};
 ghost use Rattle.motion.specs.TickStates.{state_at};
-ghost use Rattle.tracks.specs.AcceptedReports.{AreAccepted, Numbers, Reported, accepted_list, same_report};
+ghost use Rattle.tracks.specs.AcceptedReports.{AreAccepted, JudgingNumbers, Reported, accepted_list, same_report};
 ghost use Rattle.tracks.specs.VesselsHeld.{Sent, held_of, is_held, legs_of};
 ghost use Rattle.tracks.specs.declared.accepted.Accepted.{Accepted};
 
 /// For each list of a vessel's reports there is exactly one accepted list, and the function gives it.
 pub fn one_accepted_list()
-    ensures exists { (numbers : Numbers) (reports : List Reported) → AreAccepted numbers reports (accepted_list numbers reports) }
-    ensures at_most_one { (numbers : Numbers) (reports : List Reported) (accepted : List Accepted) →
+    ensures exists { (numbers : JudgingNumbers) (reports : List Reported) → AreAccepted numbers reports (accepted_list numbers reports) }
+    ensures at_most_one { (numbers : JudgingNumbers) (reports : List Reported) (accepted : List Accepted) →
         AreAccepted numbers reports accepted → accepted ≡ accepted_list numbers reports }
 {}
 
@@ -21,13 +21,13 @@ pub fn equal_reports()
 
 /// The vessels held are listed in ascending order, each once.
 pub fn vessels_are_listed()
-    ensures ascending { (numbers : Numbers) (sent : List Sent) → IsStrictlyIncreasing (held_of numbers sent) }
-    ensures all { (numbers : Numbers) (sent : List Sent) (mmsi : ℕ)
+    ensures ascending { (numbers : JudgingNumbers) (sent : List Sent) → IsStrictlyIncreasing (held_of numbers sent) }
+    ensures all { (numbers : JudgingNumbers) (sent : List Sent) (mmsi : ℕ)
         → Contains (held_of numbers sent) mmsi ↔ (is_held numbers sent mmsi ≡ true) }
 {}
 
 /// Where a vessel was more than the gap before a message came, that message does not change.
 pub fn the_past_stays()
-    ensures { (numbers : Numbers) (sent : List Sent) (one : Sent) (mmsi t : ℕ) → t + numbers.gap < one.time →
+    ensures { (numbers : JudgingNumbers) (sent : List Sent) (one : Sent) (mmsi t : ℕ) → t + numbers.gap < one.time →
         state_at t (legs_of numbers (sent ++ one ∷ []) mmsi) ≡ state_at t (legs_of numbers sent mmsi) }
 {}

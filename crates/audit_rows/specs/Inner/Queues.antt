@@ -7,11 +7,11 @@ use Rattle.audit_rows.specs.declared.row.Row.{Row}
 use Rattle.audit_rows.specs.declared.row_queue.RowQueue.{RowQueue}
 use Rattle.audit_rows.specs.Inner.Closed.{AreClosedRows, HaveOwnTopics}
 use Rattle.audit_rows.specs.Inner.Lanes.{Stands}
-use Rattle.audit_rows.specs.Order.{last_of, place_of}
+use Rattle.audit_rows.specs.Order.{last_step_of, sort_key_of}
 use Rattle.audit_rows.specs.Tracks.{Track, AreSettled}
 
 abbrev pub ArePlaced : List (Place × Row) → Type 0
-ArePlaced entries = AllByRecursion (λ entry. entry.0 ≡ place_of entry.1) entries
+ArePlaced entries = AllByRecursion (λ entry. entry.0 ≡ sort_key_of entry.1) entries
 
 -- The pending entries are the closed rows that were not given. Those that were given are the ones that end below the bound.
 pub record Holds (entries : List (Place × Row)) (tracks : List Track) (bound : ℕ) (given : List Row) : Type 0 where
@@ -19,8 +19,8 @@ pub record Holds (entries : List (Place × Row)) (tracks : List Track) (bound : 
   pub settled : AreSettled bound tracks
   pub rows : AreClosedRows tracks (given ++ values_of entries)
   pub placed : ArePlaced entries
-  pub early : (row : Row) → Contains given row → last_of row < bound
-  pub late : (row : Row) → Contains (values_of entries) row → bound ≤ last_of row
+  pub early : (row : Row) → Contains given row → last_step_of row < bound
+  pub late : (row : Row) → Contains (values_of entries) row → bound ≤ last_step_of row
 
 -- The queue stands for the tracks, of whose rows those were given that end below the bound.
 pub record StandsFor (queue : RowQueue) (tracks : List Track) (bound : ℕ) (given : List Row) : Type 0 where
@@ -30,10 +30,10 @@ pub record StandsFor (queue : RowQueue) (tracks : List Track) (bound : ℕ) (giv
 -- The first values were taken off, and their rows end below the bound.
 pub record IsPopping (bound : ℕ) (old : List (Place × Row)) (rows : List Row) (new : List (Place × Row)) : Type 0 where
   pub whole : values_of old ≡ rows ++ values_of new
-  pub early : (row : Row) → Contains rows row → last_of row < bound
+  pub early : (row : Row) → Contains rows row → last_step_of row < bound
   pub placed : ArePlaced new
 
 -- And no other row does.
 pub record IsPopped (bound : ℕ) (old : List (Place × Row)) (rows : List Row) (new : List (Place × Row)) : Type 0 where
   pub front : IsPopping bound old rows new
-  pub late : (row : Row) → Contains (values_of new) row → bound ≤ last_of row
+  pub late : (row : Row) → Contains (values_of new) row → bound ≤ last_step_of row

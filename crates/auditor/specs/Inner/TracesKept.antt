@@ -9,7 +9,7 @@ use Rattle.meetings.specs.declared.pair.Pair.{Pair}
 use Rattle.audit_rows.specs.Rows.{AreRows, AreRowsBelow}
 use Rattle.audit_rows.specs.Tracks.{AreSettled, Track}
 use Rattle.audit_rows.specs.declared.row.Row.{Row}
-use Rattle.audit_traces.specs.Audited.{Begins, IsAudited, Numbers, Sighting, state_in, step_of}
+use Rattle.audit_traces.specs.Audited.{Begins, IsAudited, AuditNumbers, Sighting, state_in, step_of}
 use Rattle.auditor.specs.Inner.AuditKeeping.{AreAllTracks, AreKnown, AreTracksOfAll, IsKnown, pairs_of}
 use Rattle.audit_traces.specs.Tallies.{AreTallies, Keeps, rules_of}
 use Rattle.audit_traces.specs.TraceKeeping.{AreRuleMarksWhole, Known, formulas_of}
@@ -39,7 +39,7 @@ traces_of kept = length kept.traces.items
 
 -- ---- what it stands for
 
-pub record Holds (kept : AllTraces) (numbers : Numbers) (knowns : List Known) (bound : ℕ) (given : List Row) : Type 0 where
+pub record Holds (kept : AllTraces) (numbers : AuditNumbers) (knowns : List Known) (bound : ℕ) (given : List Row) : Type 0 where
   pub detect : kept.detect ≡ numbers.detect
   pub act : kept.act ≡ numbers.act
   pub tick : kept.tick ≡ numbers.tick
@@ -63,7 +63,7 @@ abbrev pub IsAtStep : ℕ → Known → Type 0
 IsAtStep step known = (step ≡ known.start + length known.steps) × (known.start ≤ step)
 
 -- what it comes to for all of them
-pub record AreStepped (program : Program) (numbers : Numbers) (before seen : Sighting) (traces : List AuditTrace) (knowns : List Known) (marks : Marks) (bound : ℕ) (given : List Row) : Type 0 where
+pub record AreStepped (program : Program) (numbers : AuditNumbers) (before seen : Sighting) (traces : List AuditTrace) (knowns : List Known) (marks : Marks) (bound : ℕ) (given : List Row) : Type 0 where
   pub after : List Known
   pub followed : AllZip (IsFollowed before seen) knowns after
   pub stand : AllZip (trace.StandsFor program numbers) traces after
@@ -71,7 +71,7 @@ pub record AreStepped (program : Program) (numbers : Numbers) (before seen : Sig
   pub are_tracks : AreAllTracks numbers after tracks
   pub keeps : Keeps marks (length numbers.rules) tracks bound given
 
-pub record AreFollowed (kept : AllTraces) (numbers : Numbers) (before seen : Sighting) (knowns : List Known) (bound : ℕ) (given : List Row) : Type 0 where
+pub record AreFollowed (kept : AllTraces) (numbers : AuditNumbers) (before seen : Sighting) (knowns : List Known) (bound : ℕ) (given : List Row) : Type 0 where
   pub after : List Known
   pub followed : AllZip (IsFollowed before seen) knowns after
   pub holds : Holds kept numbers after bound given
@@ -86,31 +86,31 @@ abbrev pub HaveBoth : List Known → Type 0
 HaveBoth knowns = (pair : Pair) → Contains (pairs_of knowns) pair → Contains (pairs_of knowns) (swapped pair)
 
 -- The pair is audited and in contact, and had no trace before.
-pub record IsFresh (numbers : Numbers) (seen : Sighting) (old : List Pair) (pair : Pair) : Type 0 where
+pub record IsFresh (numbers : AuditNumbers) (seen : Sighting) (old : List Pair) (pair : Pair) : Type 0 where
   pub audited : IsAudited numbers.subjects pair
   pub contact : AreInContact numbers.detect.watch (state_in pair.subject seen) (state_in pair.other seen)
   pub new : ¬ Contains old pair
 
 -- a trace of such a pair, of no steps yet
-pub record IsOpened (numbers : Numbers) (seen : Sighting) (old : List Pair) (start : ℕ) (known : Known) : Type 0 where
+pub record IsOpened (numbers : AuditNumbers) (seen : Sighting) (old : List Pair) (start : ℕ) (known : Known) : Type 0 where
   pub fresh : IsFresh numbers seen old known.pair
   pub starts : known.start ≡ start
   pub steps : known.steps ≡ []
 
 -- Beside the traces that there were, there are only ones that begin now.
-pub record Grew (numbers : Numbers) (seen : Sighting) (old : List Pair) (start : ℕ) (before after : List Known) : Type 0 where
+pub record Grew (numbers : AuditNumbers) (seen : Sighting) (old : List Pair) (start : ℕ) (before after : List Known) : Type 0 where
   pub each : (known : Known) → Contains after known → Contains before known ⊎ IsOpened numbers seen old start known
   pub still : (pair : Pair) → Contains (pairs_of before) pair → Contains (pairs_of after) pair
 
 -- The subjects are these, the traces stand once each and in both orders, and no row was handed out that ends at the tick or later.
-pub record MayBegin (numbers : Numbers) (subjects : List ℕ) (knowns : List Known) (start bound : ℕ) : Type 0 where
+pub record MayBegin (numbers : AuditNumbers) (subjects : List ℕ) (knowns : List Known) (start bound : ℕ) : Type 0 where
   pub chosen : numbers.subjects ≡ subjects
   pub once : AllPairs ◌≢◌ (pairs_of knowns)
   pub both : HaveBoth knowns
   pub early : bound ≤ start
 
 -- A pair of different vessels in contact may be taken, where those that had a trace before still have it.
-pub record MayTake (numbers : Numbers) (subjects : List ℕ) (seen : Sighting) (old : List Pair) (knowns : List Known) (pair : Pair) : Type 0 where
+pub record MayTake (numbers : AuditNumbers) (subjects : List ℕ) (seen : Sighting) (old : List Pair) (knowns : List Known) (pair : Pair) : Type 0 where
   pub of : numbers.subjects ≡ subjects
   pub two : pair.subject ≢ pair.other
   pub contact : AreInContact numbers.detect.watch (state_in pair.subject seen) (state_in pair.other seen)
@@ -119,7 +119,7 @@ pub record MayTake (numbers : Numbers) (subjects : List ℕ) (seen : Sighting) (
   pub still : (other : Pair) → Contains old other → Contains (pairs_of knowns) other
 
 -- A pair in contact has both its traces, if it is audited.
-pub record IsTaken (kept : AllTraces) (numbers : Numbers) (seen : Sighting) (old : List Pair) (start : ℕ) (before : List Known) (bound : ℕ) (given : List Row) (pair : Pair) : Type 0 where
+pub record IsTaken (kept : AllTraces) (numbers : AuditNumbers) (seen : Sighting) (old : List Pair) (start : ℕ) (before : List Known) (bound : ℕ) (given : List Row) (pair : Pair) : Type 0 where
   pub after : List Known
   pub holds : Holds kept numbers after bound given
   pub once : AllPairs ◌≢◌ (pairs_of after)
@@ -128,7 +128,7 @@ pub record IsTaken (kept : AllTraces) (numbers : Numbers) (seen : Sighting) (old
   pub taken : IsAudited numbers.subjects pair → Contains (pairs_of after) pair
 
 -- All of them have.
-pub record AreBegun (kept : AllTraces) (numbers : Numbers) (seen : Sighting) (start : ℕ) (before : List Known) (bound : ℕ) (given : List Row) : Type 0 where
+pub record AreBegun (kept : AllTraces) (numbers : AuditNumbers) (seen : Sighting) (start : ℕ) (before : List Known) (bound : ℕ) (given : List Row) : Type 0 where
   pub after : List Known
   pub holds : Holds kept numbers after bound given
   pub once : AllPairs ◌≢◌ (pairs_of after)
@@ -137,7 +137,7 @@ pub record AreBegun (kept : AllTraces) (numbers : Numbers) (seen : Sighting) (st
       → Contains (pairs_of after) pair
 
 -- There are as many traces as there may be, and a further pair begins one.
-pub record AreTooMany (numbers : Numbers) (seen : Sighting) (old : List Pair) (start : ℕ) (before : List Known) : Type 0 where
+pub record AreTooMany (numbers : AuditNumbers) (seen : Sighting) (old : List Pair) (start : ℕ) (before : List Known) : Type 0 where
   pub full : List Known
   pub many : length full ≡ 4096
   pub once : AllPairs ◌≢◌ (pairs_of full)
@@ -149,26 +149,26 @@ pub record AreTooMany (numbers : Numbers) (seen : Sighting) (old : List Pair) (s
 -- ---- from one tick to the next
 
 -- So many ticks of a window with these subjects and this last tick were given, and no row was handed out that ends at the next or later.
-pub record IsNextTick (numbers : Numbers) (ticks : List Sighting) (subjects : List ℕ) (last_tick given bound : ℕ) : Type 0 where
+pub record IsNextTick (numbers : AuditNumbers) (ticks : List Sighting) (subjects : List ℕ) (last_tick given bound : ℕ) : Type 0 where
   pub count : given ≡ length ticks
   pub chosen : numbers.subjects ≡ subjects
   pub last : numbers.last_tick ≡ last_tick
   pub early : bound ≤ given
 
 -- The traces are those that the ticks before this one have begun, with their steps up to it.
-pub record AreKnownOn (numbers : Numbers) (ticks : List Sighting) (seen : Sighting) (knowns : List Known) : Type 0 where
+pub record AreKnownOn (numbers : AuditNumbers) (ticks : List Sighting) (seen : Sighting) (knowns : List Known) : Type 0 where
   pub each : (known : Known) → Contains knowns known → IsKnown numbers (ticks ++ seen ∷ []) known
   pub all : (pair : Pair) (start : ℕ) → Begins numbers ticks pair start → Contains (pairs_of knowns) pair
   pub before : (pair : Pair) → Contains (pairs_of knowns) pair → (start : ℕ) × Begins numbers ticks pair start
   pub once : AllPairs ◌≢◌ (pairs_of knowns)
 
-pub record HoldsOn (kept : AllTraces) (numbers : Numbers) (ticks : List Sighting) (seen : Sighting) (bound : ℕ) (given : List Row) : Type 0 where
+pub record HoldsOn (kept : AllTraces) (numbers : AuditNumbers) (ticks : List Sighting) (seen : Sighting) (bound : ℕ) (given : List Row) : Type 0 where
   pub knowns : List Known
   pub are_known : AreKnownOn numbers ticks seen knowns
   pub holds : Holds kept numbers knowns bound given
 
 -- The traces are those that the ticks have begun.
-pub record HoldsNow (kept : AllTraces) (numbers : Numbers) (ticks : List Sighting) (bound : ℕ) (given : List Row) : Type 0 where
+pub record HoldsNow (kept : AllTraces) (numbers : AuditNumbers) (ticks : List Sighting) (bound : ℕ) (given : List Row) : Type 0 where
   pub knowns : List Known
   pub are_known : AreKnown numbers ticks knowns
   pub holds : Holds kept numbers knowns bound given
@@ -176,10 +176,10 @@ pub record HoldsNow (kept : AllTraces) (numbers : Numbers) (ticks : List Sightin
 -- ---- rows so far
 
 -- The tracks so far are settled up to the bound.
-abbrev pub AreSettledKnowns : ℕ → Numbers → List Known → Type 0
+abbrev pub AreSettledKnowns : ℕ → AuditNumbers → List Known → Type 0
 AreSettledKnowns bound numbers knowns = (tracks : List Track) → AreAllTracks numbers knowns tracks → AreSettled bound tracks
 
-pub record HaveRowsBelow (bound : ℕ) (numbers : Numbers) (knowns : List Known) (rows : List Row) : Type 0 where
+pub record HaveRowsBelow (bound : ℕ) (numbers : AuditNumbers) (knowns : List Known) (rows : List Row) : Type 0 where
   pub tracks : List Track
   pub are_tracks : AreAllTracks numbers knowns tracks
   pub are_rows : AreRowsBelow bound tracks rows
@@ -187,13 +187,13 @@ pub record HaveRowsBelow (bound : ℕ) (numbers : Numbers) (knowns : List Known)
 -- ---- the end
 
 -- Their tracks have marks at all positions.
-pub record AreFinished (numbers : Numbers) (knowns : List Known) (marks : Marks) (bound : ℕ) (given : List Row) : Type 0 where
+pub record AreFinished (numbers : AuditNumbers) (knowns : List Known) (marks : Marks) (bound : ℕ) (given : List Row) : Type 0 where
   pub tracks : List Track
   pub are_tracks : AreTracksOfAll AreRuleMarksWhole numbers knowns tracks
   pub keeps : Keeps marks (length numbers.rules) tracks bound given
 
 -- The rows and the totals are those of the traces with marks at all positions.
-pub record AreEnded (numbers : Numbers) (knowns : List Known) (rows : List Row) (totals : List Total) : Type 0 where
+pub record AreEnded (numbers : AuditNumbers) (knowns : List Known) (rows : List Row) (totals : List Total) : Type 0 where
   pub tracks : List Track
   pub are_tracks : AreTracksOfAll AreRuleMarksWhole numbers knowns tracks
   pub are_rows : AreRows tracks rows

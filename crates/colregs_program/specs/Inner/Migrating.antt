@@ -3,7 +3,7 @@ use Rattle.std.specs.Prelude.{ℕ, ◌≡◌, ◌≤◌, ◌<◌, ◌⊎◌, Lis
 use Rattle.std.specs.declared.alloc.Global.{Global}
 use Rattle.outside.specs.Shelves.{Files, IsMissing}
 use Rattle.scenario.specs.Migration.{IsMigrated, IsNotMigrated}
-use Rattle.colregs_program.specs.Answers.{CanMigrate, Holds, LiesUnder, greatest_scenario}
+use Rattle.colregs_program.specs.Answers.{CanMigrate, HoldsUnder, LiesUnder, greatest_scenario}
 use Rattle.colregs_program.specs.Inner.SetUps.{answer_of}
 use Rattle.command_line.specs.declared.request.Request.{Request}
 use Rattle.colregs_program.specs.declared.set_up.SetUpFault.{SetUpFault}
@@ -14,7 +14,7 @@ use Rattle.colregs_program.specs.declared.status.Which.TheVariants as which
 
 -- The bytes under the name are a scenario of version 1, and P holds of some text that is the same scenario in version 2.
 abbrev pub HoldsMigrated : Option Files → List ℕ → (List ℕ → Type 0) → Type 0
-HoldsMigrated files name P = Holds files name (λ text. (length text ≤ greatest_scenario) × (migrated : List ℕ) × IsMigrated text migrated × P migrated)
+HoldsMigrated files name P = HoldsUnder files name (λ text. (length text ≤ greatest_scenario) × (migrated : List ℕ) × IsMigrated text migrated × P migrated)
 
 -- the answer that the bytes under the name call for, where they are to be migrated
 abbrev pub IsMigrationDue : Request → Option Files → Status → Type 0

@@ -5,7 +5,7 @@ use Rattle.outside.specs.Shelves.{Files, IsMissing}
 use Rattle.scenario.specs.declared.values.Scenario.{Scenario}
 use Rattle.scenario_keys.specs.declared.fault.ScenarioFault.{ScenarioFault}
 use Rattle.scenario_keys.specs.declared.fault.ScenarioFault.TheVariants as refusal
-use Rattle.colregs_program.specs.Answers.{Holds, IsRefusedBy, IsScenario, LiesUnder, greatest_scenario}
+use Rattle.colregs_program.specs.Answers.{HoldsUnder, IsRefusedBy, IsScenario, LiesUnder, greatest_scenario}
 use Rattle.command_line.specs.declared.request.Options.{Options}
 use Rattle.command_line.specs.declared.request.Request.{Request}
 use Rattle.colregs_program.specs.declared.set_up.SetUpFault.{SetUpFault}
@@ -35,9 +35,9 @@ answer_of fault.Memory = status.Memory
 -- what the fault says of the bytes under the name, and of the shelf's count of faults
 abbrev pub SetUpCause : Request → Option Files → ℕ → ℕ → SetUpFault → Type 0
 SetUpCause request files before now fault.NotHad = (now ≡ one_more before) ⊎ IsMissing files request.name
-SetUpCause request files before now fault.TooLong = Holds files request.name (λ text. greatest_scenario < length text)
+SetUpCause request files before now fault.TooLong = HoldsUnder files request.name (λ text. greatest_scenario < length text)
 SetUpCause request files before now (fault.Refused key cause) =
-    Holds files request.name (λ text. (length text ≤ greatest_scenario) × IsRefusedBy request.mode text key cause)
+    HoldsUnder files request.name (λ text. (length text ≤ greatest_scenario) × IsRefusedBy request.mode text key cause)
 SetUpCause request files before now fault.Memory = Unit {0}
 
 -- what the bytes under the name call for, where the shelf tells them

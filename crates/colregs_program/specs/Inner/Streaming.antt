@@ -13,7 +13,7 @@ use Rattle.scenario.specs.declared.values.Scenario.{Scenario}
 use Rattle.sessions.specs.Endings.{IsAnswerTo}
 use Rattle.sessions.specs.Modes.{reads_log}
 use Rattle.sessions.specs.Refusals.{IsStopped, IsUnrefused}
-use Rattle.sessions.specs.Standing.{StandsFor, mode_of, scenario_of}
+use Rattle.sessions.specs.Standing.{StandsFor, mode_of, session_scenario}
 use Rattle.sessions.specs.declared.session.Session.{Session}
 use Rattle.sessions.specs.declared.session_fault.SessionFault.{SessionFault}
 use Rattle.sessions.specs.declared.session_fault.SessionFault.TheVariants as why
@@ -80,16 +80,16 @@ RefusedCause text refusal now now' (fault.Unreported because) =
 abbrev pub PieceCause : Session → List ℕ → Option (List ℕ) → Option (List ℕ) → StreamFault → Type 0
 PieceCause session piece now now' fault.NotRead = ⊥
 PieceCause session piece now now' fault.NotWritten =
-    FromHere session piece now (λ first left' contents. LeavesPart (mode_of session) (scenario_of session) first left' contents now')
+    FromHere session piece now (λ first left' contents. LeavesPart (mode_of session) (session_scenario session) first left' contents now')
 PieceCause session piece now now' (fault.Unreported why.Memory) =
-    FromHere session piece now (λ first left' contents. IfSome first (λ log. GainsFront (mode_of session) (scenario_of session) log contents now'))
+    FromHere session piece now (λ first left' contents. IfSome first (λ log. GainsFront (mode_of session) (session_scenario session) log contents now'))
 PieceCause session piece now now' (fault.Unreported why.Vessels) =
-    FromHere session piece now (λ first left' contents. Stops (mode_of session) (scenario_of session) first contents now' why.Vessels)
+    FromHere session piece now (λ first left' contents. Stops (mode_of session) (session_scenario session) first contents now' why.Vessels)
 PieceCause session piece now now' (fault.Unreported why.Pairs) =
-    FromHere session piece now (λ first left' contents. Stops (mode_of session) (scenario_of session) first contents now' why.Pairs)
+    FromHere session piece now (λ first left' contents. Stops (mode_of session) (session_scenario session) first contents now' why.Pairs)
 PieceCause session piece now now' (fault.Unreported why.LogBytes) =
-    FromHere session piece now (λ first left' contents. Stops (mode_of session) (scenario_of session) first contents now' why.LogBytes)
-    × ((fed given : List ℕ) → StandsFor session fed given → (scenario_of session).log.max_bytes < length (fed ++ piece))
+    FromHere session piece now (λ first left' contents. Stops (mode_of session) (session_scenario session) first contents now' why.LogBytes)
+    × ((fed given : List ℕ) → StandsFor session fed given → (session_scenario session).log.max_bytes < length (fed ++ piece))
 PieceCause session piece now now' (fault.Unreported (why.Own lack)) = ⊥
 PieceCause session piece now now' (fault.Unreported why.Targets) = ⊥
 

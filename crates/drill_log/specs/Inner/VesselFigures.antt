@@ -5,7 +5,7 @@ use Rattle.ais_messages.specs.declared.message.PositionReport.{PositionReport}
 use Rattle.fixed_geometry.specs.Bearing.{bearing_of}
 use Rattle.fixed_geometry.specs.Place.{Place}
 use Rattle.fixed_geometry.specs.Sizes.{IsWithin}
-use Rattle.drill_log.specs.DrillLog.{reached, speed_of, start_of, way_of}
+use Rattle.drill_log.specs.DrillLog.{coordinate_after, speed_of, start_of, way_of}
 use Rattle.drill_log.specs.declared.vessel.Vessel.{Vessel}
 
 unfoldable pub vessel_of : ℕ → ℕ → Vessel
@@ -24,7 +24,7 @@ report_by vessel reference minutes = record {
   kind = 1;
   mmsi = vessel.mmsi;
   status = 0;
-  place = place_of (reached reference.latitude vessel.north vessel.way.y minutes) (reached reference.longitude vessel.east vessel.way.x minutes);
+  place = place_of (coordinate_after reference.latitude vessel.north vessel.way.y minutes) (coordinate_after reference.longitude vessel.east vessel.way.x minutes);
   sog = Some vessel.speed;
   cog = vessel.course;
   heading = None;

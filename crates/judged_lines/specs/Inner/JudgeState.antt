@@ -4,7 +4,7 @@ use Rattle.aivdm.specs.FragmentJoining.{Taken}
 use Rattle.aivdm.specs.OpenMessages.{StandsFor as JoinerStandsFor}
 use Rattle.aivdm.specs.Sentences.{SentenceFields}
 use Rattle.aivdm.specs.declared.sentence.LineCause.{LineCause}
-use Rattle.tracks.specs.AcceptedReports.{Numbers}
+use Rattle.tracks.specs.AcceptedReports.{JudgingNumbers}
 use Rattle.tracks.specs.Standing.{StandsFor as BookStandsFor}
 use Rattle.tracks.specs.VesselsHeld.{Sent, held_of}
 use Rattle.judged_lines.specs.JudgedLines.{greatest_held, judged_sent}
@@ -27,16 +27,16 @@ listed (Ok value) = value ∷ []
 listed (Err came) = []
 
 -- how many vessels are held with a message more, if there is one
-abbrev pub held_with : Numbers → List Sent → Result Sent LineOutcome → ℕ
+abbrev pub held_with : JudgingNumbers → List Sent → Result Sent LineOutcome → ℕ
 held_with numbers before next = length (held_of numbers (before ++ listed next))
 
 -- Behind a message, or a line without one, the book stands for the longer list, and the line came to this.
-pub record Enters (numbers : Numbers) (judge : Judge) (came : Judged) (before : List Sent) (next : Result Sent LineOutcome) : Type 0 where
+pub record Enters (numbers : JudgingNumbers) (judge : Judge) (came : Judged) (before : List Sent) (next : Result Sent LineOutcome) : Type 0 where
   pub is : came ≡ judged_sent numbers before next
   pub book : BookStandsFor judge.book numbers (before ++ listed next)
   pub few : held_with numbers before next ≤ greatest_held
 
 -- Behind a line on which this was heard, joiner and book stand for the longer lists, and the line came to this.
-pub record GoesOn (numbers : Numbers) (judge : Judge) (came : Judged) (taken : List Taken) (messages : List Sent) (heard : Result Taken LineOutcome) : Type 0 where
+pub record GoesOn (numbers : JudgingNumbers) (judge : Judge) (came : Judged) (taken : List Taken) (messages : List Sent) (heard : Result Taken LineOutcome) : Type 0 where
   pub joiner : JoinerStandsFor judge.joiner (taken ++ listed heard)
   pub enters : Enters numbers judge came messages (sent_heard taken heard)

@@ -10,7 +10,7 @@ use Rattle.mtl_formulas.specs.declared.verdict.Verdict.TheVariants.{No, Open, Ye
 use Rattle.encounters.specs.declared.engagement_state.EngagementState.{EngagementState}
 use Rattle.encounters.specs.declared.engagement_state.EngagementState.TheVariants.{Apart, Engaged}
 use Rattle.encounters.specs.declared.pair_step.PairStep.{PairStep}
-use Rattle.meetings.specs.Ahead.{crosses_ahead, end_of}
+use Rattle.meetings.specs.Ahead.{crosses_ahead, end_point}
 use Rattle.meetings.specs.declared.atom_row.Meeting.{Meeting}
 
 abbrev pub told : Bool → Verdict
@@ -19,7 +19,7 @@ told false = No
 
 -- separation by the two ends and one comparison of squares
 unfoldable pub is_separated : RelativeMove → ℕ → Bool
-is_separated step r = int_le (pos (r * r)) (norm2_of step.p) && (int_le (pos (r * r)) (norm2_of (end_of step))
+is_separated step r = int_le (pos (r * r)) (norm2_of step.p) && (int_le (pos (r * r)) (norm2_of (end_point step))
     && (int_le (pos 0) (dot_of step.p step.w) || (int_le (norm2_of step.w) (neg_ℤ (dot_of step.p step.w))
     || int_le (pos (r * r) *ℤ norm2_of step.w) (turn_of step.p step.w *ℤ turn_of step.p step.w))))
 

@@ -12,10 +12,10 @@ use Rattle.planner.specs.Prediction.{AreChanges, predicted_state}
 use Rattle.planner.specs.Situations.{IsTracked, sighting}
 use Rattle.planner.specs.declared.situation.Target.{Target}
 use Rattle.scenario.specs.ScenarioValues.{IsOwnPart, IsWindow}
-use Rattle.scenario.specs.Ticks.{end_of, time_of_tick}
+use Rattle.scenario.specs.Ticks.{window_end, time_of_tick}
 use Rattle.scenario.specs.declared.own_part.OwnPart.{OwnPart}
 use Rattle.scenario.specs.declared.values.Window.{Window}
-use Rattle.tracks.specs.AcceptedReports.{Numbers}
+use Rattle.tracks.specs.AcceptedReports.{JudgingNumbers}
 use Rattle.tracks.specs.Standing.{BookValue, IsAccepted, StandsFor}
 use Rattle.tracks.specs.VesselsHeld.{Sent}
 use Rattle.tracks.specs.declared.accepted.Accepted.{Accepted}
@@ -51,7 +51,7 @@ pub record IsTrack (track : Track) : Type 0 where
   pub window : IsWindow track.window
   pub accepted : IsAccepted track.latest
   pub changes : AreChanges track.changes.now
-  pub fresh : IsFresh (end_of track.window) track.latest
+  pub fresh : IsFresh (window_end track.window) track.latest
   pub moves : (t u : ℕ) (before after : TickState) → t ≤ u → u ≤ t + track.window.tick → state_at t (legs_known (option_copied track.legs)) ≡ Some before
       → state_at u (legs_known (option_copied track.legs)) ≡ Some after → IsWithin ((u - t) * 525763 + 2) (displacement before.point after.point)
   pub comes : (t : ℕ) (before : TickState) → t < track.latest.time → track.latest.time ≤ t + track.window.tick → state_at t (legs_known (option_copied track.legs)) ≡ Some before
@@ -59,11 +59,11 @@ pub record IsTrack (track : Track) : Type 0 where
 
 -- her state at a tick, as it is known
 abbrev pub known_at : Track → ℕ → Option TickState
-known_at track k = known_state track.latest (legs_known (option_copied track.legs)) track.changes.now (end_of track.window) (time_of_tick track.window k)
+known_at track k = known_state track.latest (legs_known (option_copied track.legs)) track.changes.now (window_end track.window) (time_of_tick track.window k)
 
 -- her state at a tick from now on, as it is predicted
 abbrev pub predicted_at : Track → ℕ → TickState
-predicted_at track k = predicted_state track.latest track.changes.now (end_of track.window) (time_of_tick track.window (track.window.ticks + k))
+predicted_at track k = predicted_state track.latest track.changes.now (window_end track.window) (time_of_tick track.window (track.window.ticks + k))
 
 -- At the ticks below a bound she is where a state may be, and moves so from each to the next.
 pub record IsKnownBelow (bound : ℕ) (state_at : ℕ → Option TickState) : Type 0 where
@@ -93,16 +93,16 @@ pub record IsSetting (setting : Setting) : Type 0 where
 pub record IsNear (now : ℕ) (book : BookValue) (vessel : Near) : Type 0 where
   pub accepted : IsAccepted vessel.latest
   pub fresh : IsFresh now vessel.latest
-  pub latest : (numbers : Numbers) (messages : List Sent) → StandsFor book numbers messages → latest_of numbers messages vessel.mmsi ≡ Some vessel.latest
+  pub latest : (numbers : JudgingNumbers) (messages : List Sent) → StandsFor book numbers messages → latest_of numbers messages vessel.mmsi ≡ Some vessel.latest
 
 -- own ship as a vessel near herself
 abbrev pub own_near : OwnPart → Ready → Near
 own_near own ready = record { mmsi = own.mmsi; latest = ready.latest }
 
 -- She is ready, and has more targets than are planned for.
-abbrev pub HasMany : Numbers → List Sent → Window → OwnPart → Type 0
-HasMany numbers messages window own = (ready : Ready) × (readiness_of numbers messages (end_of window) own.mmsi ≡ Ok ready)
-    × (greatest_targets < length (others_of own.mmsi (near_of numbers messages (end_of window) (metre * own.range) (point_now (end_of window) ready.latest))))
+abbrev pub HasMany : JudgingNumbers → List Sent → Window → OwnPart → Type 0
+HasMany numbers messages window own = (ready : Ready) × (readiness_of numbers messages (window_end window) own.mmsi ≡ Ok ready)
+    × (greatest_targets < length (others_of own.mmsi (near_of numbers messages (window_end window) (metre * own.range) (point_now (window_end window) ready.latest))))
 
 -- the sizes of a lattice
 pub record IsSized (lattice : Grid) : Type 0 where

@@ -7,7 +7,7 @@ use Rattle.mtl_formulas.specs.contracts.formula.PairKind as pair_kind
 use Rattle.mtl_formulas.specs.contracts.formula.SpanKind as span_kind
 use Rattle.mtl_formulas.specs.contracts.formula.LinkKind as link_kind
 use Rattle.mtl_formulas.specs.FormulaTree.{FormulaTree, leaf, negation, pair, span, link}
-use Rattle.rule_set.specs.NamedTrees.{NamedTree, named}
+use Rattle.rule_set.specs.NamedTrees.{NamedTree, rule_named}
 
 abbrev head : Gv → Gv
 head gnil = gnil
@@ -62,5 +62,5 @@ coded_tree = record { code = tree_code; inj = tree_inj }
 abbrev pub coded_named_trees : Coded (List NamedTree)
 coded_named_trees =
     coded_list
-    (code_by (List ℕ × FormulaTree) (coded× (coded_list coded_ℕ) coded_tree) (λ r. (r.name, r.tree)) (λ p. named p.0 p.1)
+    (code_by (List ℕ × FormulaTree) (coded× (coded_list coded_ℕ) coded_tree) (λ r. (r.name, r.tree)) (λ p. rule_named p.0 p.1)
     (λ _. refl))

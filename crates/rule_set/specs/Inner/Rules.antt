@@ -2,10 +2,10 @@
 use Rattle.std.specs.Prelude.{List, map}
 use Rattle.mtl_formulas.specs.FormulaTree.{tree_of}
 use Rattle.rule_set.specs.declared.rule.Rule.{Rule}
-use Rattle.rule_set.specs.NamedTrees.{NamedTree, named}
+use Rattle.rule_set.specs.NamedTrees.{NamedTree, rule_named}
 
 abbrev pub named_tree : Rule → NamedTree
-named_tree rule = named rule.name (tree_of rule.formula)
+named_tree rule = rule_named rule.name (tree_of rule.formula)
 
 abbrev pub named_trees : List Rule → List NamedTree
 named_trees rules = map named_tree rules

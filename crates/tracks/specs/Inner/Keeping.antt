@@ -7,7 +7,7 @@ use Rattle.motion.specs.TickStates.{AreJoined}
 use Rattle.motion.specs.declared.leg.Leg.{Leg}
 use Rattle.ais_messages.specs.MessageFields.{IsShipData}
 use Rattle.ais_messages.specs.declared.message.StaticReport.{StaticReport}
-use Rattle.tracks.specs.AcceptedReports.{Numbers, Reported, distance2, judged, square}
+use Rattle.tracks.specs.AcceptedReports.{JudgingNumbers, Reported, distance2, judged, square}
 use Rattle.tracks.specs.JoinedReports.{joined, legs_between}
 use Rattle.tracks.specs.Standing.{BookValue, IsAccepted, IsNumbers, VesselValue, kept_points}
 use Rattle.tracks.specs.VesselsHeld.{Sent, reported_in, static_in}
@@ -30,7 +30,7 @@ accepted_by (Ok accepted) = Some accepted
 accepted_by (Err _) = None
 
 -- the accepted report of a message, after the latest accepted one
-abbrev pub accepted_in : Numbers → Option Accepted → Option Reported → Option Accepted
+abbrev pub accepted_in : JudgingNumbers → Option Accepted → Option Reported → Option Accepted
 accepted_in numbers latest None = None
 accepted_in numbers latest (Some now) = accepted_by (judged numbers latest now)
 
@@ -58,7 +58,7 @@ abbrev pub told : VesselValue → Option StaticReport → VesselValue
 told vessel report = record { points = vessel.points; legs = vessel.legs; statics = statics_with vessel.statics report }
 
 -- what is kept of a vessel after a message of hers
-unfoldable pub vessel_after : Keeping → Numbers → VesselValue → Sent → VesselValue
+unfoldable pub vessel_after : Keeping → JudgingNumbers → VesselValue → Sent → VesselValue
 vessel_after keeping numbers vessel one =
     told (vessel_with keeping numbers.gap vessel (accepted_in numbers (last_or None vessel.points) (reported_in one))) (static_in one.message)
 
@@ -67,7 +67,7 @@ abbrev pub untold : VesselValue
 untold = record { points = []; legs = []; statics = record { name = None; ship = None } }
 
 -- The message makes its vessel held, of whom nothing was told.
-abbrev pub makes_held : Numbers → Sent → Bool
+abbrev pub makes_held : JudgingNumbers → Sent → Bool
 makes_held numbers one = is_some (static_in one.message) || is_some (accepted_in numbers None (reported_in one))
 
 -- ---- what holds of what is kept

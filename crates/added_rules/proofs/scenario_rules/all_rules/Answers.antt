@@ -2,7 +2,7 @@ use Rattle.std.proofs.Common.{List, Some, map, take, drop, suc, ◌+◌, sym, su
 use Rattle.std.proofs.lemmas.Result.{err_from_is_err_and}
 use Rattle.toml.specs.Data.{Data}
 use Rattle.toml.specs.View.{view}
-use Rattle.rule_set.specs.NamedTrees.{holds}
+use Rattle.rule_set.specs.NamedTrees.{has_rule}
 use Rattle.added_rules.specs.FormulaTables.{IsFaultBy, IsFormulaFault}
 use Rattle.added_rules.specs.Inner.{Stands}
 use Rattle.scenario_keys.proofs.ForCallers.{faults_alike}
@@ -16,7 +16,7 @@ returns-in_err-add_table-clause-fault c =
     let i = c.loop-table.table-index in
     let p = err_from_is_err_and c.from_residual-in_err-add_table.result c.from_residual-in_err-add_table.ensures.1 in
     rw (p.1, p.2)
-    (faults_alike (λ told. IsFaultBy (holds c.loop-table.rules) c.args.tick c.loop-table.item (view here) (Some told))
+    (faults_alike (λ told. IsFaultBy (has_rule c.loop-table.rules) c.args.tick c.loop-table.item (view here) (Some told))
     (λ told. IsFormulaFault c.args.tick (map view values) (Some told))
     (λ told h. fault_here c.args.tick c.args.numbers.now (map view values) (map view (take i values)) (view here) (map view (drop (suc i) values)) c.loop-table.rules
     c.loop-table.item told (values_split values i here c.table-item.is c.loop-table-test.true) c.loop-table.invariant h)

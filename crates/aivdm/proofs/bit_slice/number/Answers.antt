@@ -1,11 +1,11 @@
 use Rattle.std.proofs.Common.{refl, sym, get_or, take, arith}
 use Rattle.std.proofs.lemmas.List.{take_more, length-take}
-use Rattle.aivdm.specs.BitFields.{number_of}
+use Rattle.aivdm.specs.BitFields.{bits_value}
 use Rattle.aivdm.proofs.BitLists.{number_of-bits_in_push, number_of-bits_in_below}
 use Rattle.aivdm.proofs.bit_slice.number.Goals as goal
 
 pub loop-sextet-init : goal.loop-sextet-init
-unfolding number_of
+unfolding bits_value
 loop-sextet-init c = refl
 
 pub overflow_mul-number : goal.overflow_mul-number

@@ -1,7 +1,7 @@
 use Rattle.std.proofs.Common.{◌≤◌, length, inl, inr, true, false, Err, refl, subst, sym, ◌∙◌, ap}
 use Rattle.command_line.proofs.Asked.{asked_or_nothing}
 use Rattle.sessions.specs.Modes.{reads_log}
-use Rattle.colregs_program.specs.Answers.{Holds, IsRefusedBy, greatest_scenario}
+use Rattle.colregs_program.specs.Answers.{HoldsUnder, IsRefusedBy, greatest_scenario}
 use Rattle.command_line.specs.declared.mode.Mode.{Mode}
 use Rattle.colregs_program.proofs.Due.{migration_due}
 use Rattle.colregs_program.proofs.Refusals.{bytes_told, calm_told, drill_status, drill_told, drills_too, log_decides, memory_failed, memory_front, met_is, migrates, no_migration, no_report, not_asked, not_set_up, nothing_told, own_told, pairs_told, put_told, read_told, reported_met, reported_so, runs, targets_told, unread_too, vessels_told}
@@ -59,7 +59,7 @@ returns-then-not-reports-clause-refused g c = λ key why is.
     let mode = migrates c.in-Ok.request.mode (sym c.reports.ensures ∙ c.if-not-reports.true) in (
       c.in-Ok.request,
       c.in-Ok.ensures.asked,
-      subst (λ (m : Mode). Holds (g.H.Shelf.files c.args.shelf.now) c.in-Ok.request.name (λ text. (length text ≤ greatest_scenario) × IsRefusedBy m text key why)) (sym mode)
+      subst (λ (m : Mode). HoldsUnder (g.H.Shelf.files c.args.shelf.now) c.in-Ok.request.name (λ text. (length text ≤ greatest_scenario) × IsRefusedBy m text key why)) (sym mode)
           (c.write_migrated.ensures.refused key why is),
     )
 

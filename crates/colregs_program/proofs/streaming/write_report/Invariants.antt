@@ -1,5 +1,5 @@
 use Rattle.std.proofs.Common.{◌≡◌, ◌<◌, ◌-◌, vec_len}
-use Rattle.sessions.specs.Standing.{mode_of, scenario_of, taken_of}
+use Rattle.sessions.specs.Standing.{mode_of, session_scenario, taken_of}
 use Rattle.colregs_program.specs.Inner.Streaming.{HasWritten}
 use Rattle.colregs_program.proofs.streaming.write_report.Given as goal
 
@@ -8,11 +8,11 @@ abbrev pub invariant-loop-block : goal.invariant-loop-block
 invariant-loop-block g l = record {
   room : 0 < vec_len l.block;
   mode : mode_of l.session ≡ l.fn.mode;
-  scenario : scenario_of l.session ≡ l.fn.scenario;
+  scenario : session_scenario l.session ≡ l.fn.scenario;
   written : HasWritten l.session (g.S.Source.left l.fn.log) (g.S.Source.left l.log) (g.K.Sink.contents l.fn.out) (g.K.Sink.contents l.out);
   log_faults : g.S.Source.faults l.log ≡ g.S.Source.faults l.fn.log;
   out_faults : g.K.Sink.faults l.out ≡ g.K.Sink.faults l.fn.out;
 }
 
 abbrev pub decreases-loop-block : goal.decreases-loop-block
-decreases-loop-block g l = (scenario_of l.session).log.max_bytes - taken_of l.session
+decreases-loop-block g l = (session_scenario l.session).log.max_bytes - taken_of l.session

@@ -2,7 +2,7 @@ use Rattle.std.proofs.Common.{◌≡◌, ◌∙◌, inl, inr, ap, ap₂, map, sy
 use Rattle.std.proofs.lemmas.Result.{IfOk-weaker}
 use Rattle.clap.specs.Words.{app_of, fault_of, found_of, is_simple, is_simple_and_free, kind_of, matches_of, rows_of}
 use Rattle.command_line.specs.CommandLine.{AreModes, colregs}
-use Rattle.command_line.specs.Requests.{AskFor, Holds, HoldsNoNumber}
+use Rattle.command_line.specs.Requests.{AskFor, HoldsRequest, HoldsNoNumber}
 use Rattle.clap.specs.declared.error.kind.ErrorKind.TheVariants.{OutOfMemory}
 use Rattle.command_line.proofs.Asked.{asked_accepted}
 use Rattle.command_line.proofs.HeldRequests.{colregs_is_simple, colregs_simple, held_answer, parsed_numbers, plain_accepted, some_kind}
@@ -18,8 +18,8 @@ returns-in-Ok-try_get_matches_from-clause-asked c =
     let parse = c.in-Ok-try_get_matches_from.ensures in
     let faultless = sym (ap₂ fault_of app_is words_are) ∙ parse.kinds (ap is_simple_and_free app_is ∙ colregs_simple values) in
     let rows_are = (parse.matches (ap is_simple app_is ∙ colregs_is_simple values)).0 ∙ ap₂ matches_of app_is words_are in
-    IfOk-weaker c.request_in.result (Holds (rows_of (found_of c.in-Ok-try_get_matches_from.matches))) (AskFor words)
-    (λ request held. (colregs values, (values, are, refl), (faultless, subst (λ rows. Holds rows request) rows_are held))) c.request_in.ensures.held
+    IfOk-weaker c.request_in.result (HoldsRequest (rows_of (found_of c.in-Ok-try_get_matches_from.matches))) (AskFor words)
+    (λ request held. (colregs values, (values, are, refl), (faultless, subst (λ rows. HoldsRequest rows request) rows_are held))) c.request_in.ensures.held
 
 pub returns-in-Ok-try_get_matches_from-clause-refused : goal.returns-in-Ok-try_get_matches_from-clause-refused
 returns-in-Ok-try_get_matches_from-clause-refused c usage =
@@ -42,7 +42,7 @@ returns-in-Ok-try_get_matches_from-clause-accepted c request asked =
     let rows_are = (parse.matches (ap is_simple app_is ∙ colregs_is_simple values)).0 ∙ ap₂ matches_of app_is words_are in
     let accepted = asked_accepted c.args.words.now request asked values are in
     held_answer (rows_of (found_of c.in-Ok-try_get_matches_from.matches)) request c.request_in.result
-    (subst (λ rows. Holds rows request) (sym rows_are) accepted.1) c.request_in.ensures.held c.request_in.ensures.unheld
+    (subst (λ rows. HoldsRequest rows request) (sym rows_are) accepted.1) c.request_in.ensures.held c.request_in.ensures.unheld
 
 pub returns-in-Ok-try_get_matches_from-clause-plain : goal.returns-in-Ok-try_get_matches_from-clause-plain
 returns-in-Ok-try_get_matches_from-clause-plain c request plain =
@@ -54,7 +54,7 @@ returns-in-Ok-try_get_matches_from-clause-plain c request plain =
     let rows_are = (parse.matches (ap is_simple app_is ∙ colregs_is_simple values)).0 ∙ ap₂ matches_of app_is words_are in
     let accepted = plain_accepted values are c.args.words.now request plain in
     held_answer (rows_of (found_of c.in-Ok-try_get_matches_from.matches)) request c.request_in.result
-    (subst (λ rows. Holds rows request) (sym rows_are) accepted.1) c.request_in.ensures.held c.request_in.ensures.unheld
+    (subst (λ rows. HoldsRequest rows request) (sym rows_are) accepted.1) c.request_in.ensures.held c.request_in.ensures.unheld
 
 pub returns-clause-refused : goal.returns-clause-refused
 returns-clause-refused c usage =

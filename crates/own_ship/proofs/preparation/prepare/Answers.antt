@@ -7,7 +7,7 @@ use Rattle.own_ship.specs.Inner.Facts.{IsSized, IsTargetOver}
 use Rattle.planner.specs.declared.situation.Situation.{Situation}
 use Rattle.planner.specs.declared.situation.Target.{Target}
 use Rattle.scenario.specs.ScenarioValues.{IsOwnPart}
-use Rattle.scenario.specs.Ticks.{end_of}
+use Rattle.scenario.specs.Ticks.{window_end}
 use Rattle.scenario.specs.declared.own_part.OwnPart.{OwnPart}
 use Rattle.tracks.specs.VesselsHeld.{is_held}
 use Rattle.own_ship.specs.NearVessels.{near_of, others_of, point_now}
@@ -52,8 +52,8 @@ returns-clause-prepared c = λ numbers messages stands.
     let ready = c.in_ok-ready.ready in
     let near : List Near = c.in_ok-ready.near.items in
     let vessel : Near = record { mmsi = own.mmsi; latest = ready.latest } in
-    let point = point_now (end_of window) ready.latest in
-    let near-is : near ≡ near_of numbers messages (end_of window) (metre * own.range) point = found.near numbers messages stands in
+    let point = point_now (window_end window) ready.latest in
+    let near-is : near ≡ near_of numbers messages (window_end window) (metre * own.range) point = found.near numbers messages stands in
     let part = subst (λ (o : Option OwnPart). IfSome o (IsOwnPart window.tick)) c.unwrap-own.ensures c.requires.in_range.own in
     let grid : IsSized own.lattice = c.is_sized.ensures in
     let past = c.in_ok-own_past.ensures.value numbers messages stands in
@@ -61,7 +61,7 @@ returns-clause-prepared c = λ numbers messages stands.
     let targets = c.new.ensures ∙ c.in_ok-targets.ensures.value numbers messages stands
     ∙ ap (λ (vs : List Near). map (target_of numbers messages window own) (others_of own.mmsi vs)) (c.deref.ensures.value ∙ near-is) in
     let few = subst (λ (vs : List Near). length vs ≤ greatest_targets) others found.few in
-    let order = others_in_order own.mmsi (near_of numbers messages (end_of window) (metre * own.range) point) (near_in_order numbers messages (end_of window) (metre * own.range) point) in
+    let order = others_in_order own.mmsi (near_of numbers messages (window_end window) (metre * own.range) point) (near_in_order numbers messages (window_end window) (metre * own.range) point) in
     let start = c.start_of-start.ensures in
     let situation : Situation = record {
       own_past = c.in_ok-own_past.own_past;
@@ -77,7 +77,7 @@ returns-clause-prepared c = λ numbers messages stands.
     subst (λ (o : Option OwnPart). IfSome o (λ own. IsPrepared numbers messages scenario own prepared)) (sym c.unwrap-own.ensures) (record {
       is_ready = found.ready numbers messages stands;
       near = near-is;
-      held = subst (All (λ (v : Near). is_held numbers messages v.mmsi ≡ true)) (sym near-is) (near_are_held numbers messages (end_of window) (metre * own.range) point);
+      held = subst (All (λ (v : Near). is_held numbers messages v.mmsi ≡ true)) (sym near-is) (near_are_held numbers messages (window_end window) (metre * own.range) point);
       few = few;
       situation = λ i. record {
         own_past = past i;

@@ -1,6 +1,6 @@
 use Rattle.std.proofs.Common.{ℕ, List, ◌++◌, flat_map, slice_index, take}
 use Rattle.audit_report.specs.CsvRows.{row_of}
-use Rattle.judged_lines.specs.LineOutcomes.{place_of}
+use Rattle.judged_lines.specs.LineOutcomes.{outcome_index}
 use Rattle.audit_report.specs.ReportRows.{count_fields}
 use Rattle.audit_report.specs.ReportTexts.{HasText}
 use Rattle.sessions.proofs.outcome_rows.write_counts.Given as goal
@@ -8,4 +8,4 @@ use Rattle.sessions.proofs.outcome_rows.write_counts.Given as goal
 -- the rows of the outcomes so far were added
 abbrev pub invariant-loop-outcome : goal.invariant-loop-outcome
 invariant-loop-outcome l = (front : List ℕ) → HasText l.initial.text front → HasText l.text (front
-    ++ flat_map (λ outcome. row_of (count_fields outcome (slice_index l.counts (place_of outcome)))) (take l.outcome-index l.outcomes))
+    ++ flat_map (λ outcome. row_of (count_fields outcome (slice_index l.counts (outcome_index outcome)))) (take l.outcome-index l.outcomes))

@@ -2,7 +2,7 @@ use Rattle.std.proofs.Common.{ℕ, ◌≡◌, List, ◌++◌, take, true}
 use Rattle.std.specs.List.{All}
 use Rattle.audit_report.specs.ReportTexts.{HasText}
 use Rattle.own_ship.specs.declared.near.Near.{Near}
-use Rattle.tracks.specs.AcceptedReports.{Numbers}
+use Rattle.tracks.specs.AcceptedReports.{JudgingNumbers}
 use Rattle.tracks.specs.Standing.{StandsFor as BookStandsFor}
 use Rattle.tracks.specs.VesselsHeld.{Sent, is_held}
 use Rattle.sessions.specs.PlanReport.{near_rows}
@@ -10,6 +10,6 @@ use Rattle.sessions.proofs.plan.write_near.Given as goal
 
 -- the rows of the first vessels were added
 abbrev pub invariant-loop-vessel : goal.invariant-loop-vessel
-invariant-loop-vessel l = (numbers : Numbers) (messages : List Sent) (front : List ℕ) → BookStandsFor l.book numbers messages
+invariant-loop-vessel l = (numbers : JudgingNumbers) (messages : List Sent) (front : List ℕ) → BookStandsFor l.book numbers messages
     → All (λ (vessel : Near). is_held numbers messages vessel.mmsi ≡ true) l.near → HasText l.initial.text front
     → HasText l.text (front ++ near_rows numbers messages (take l.vessel-index l.near))

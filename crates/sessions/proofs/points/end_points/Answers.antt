@@ -2,13 +2,13 @@ use Rattle.std.proofs.Common.{[]}
 use Rattle.judged_lines.specs.JudgedLines.{judged_lines}
 use Rattle.judged_lines.specs.LogLines.{lines_of}
 use Rattle.growing_log.specs.GrowingLog.{ended_lines}
-use Rattle.sessions.specs.PointsReport.{report_of}
+use Rattle.sessions.specs.PointsReport.{points_report}
 use Rattle.sessions.proofs.OutcomeRows.{count_rows-from_counts}
 use Rattle.sessions.proofs.TakingLines.{points_whole}
 use Rattle.sessions.proofs.points.end_points.Goals as goal
 
 pub returns : goal.returns
-unfolding report_of
+unfolding points_report
 returns c = λ scenario log of.
     let lines = judged_lines scenario (lines_of log) in
     let last = c.in_ok-write_last.ensures [] c.new-text.ensures in

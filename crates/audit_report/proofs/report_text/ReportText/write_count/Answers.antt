@@ -1,5 +1,5 @@
 use Rattle.std.proofs.Common.{rules, ◌≡◌, ℕ, List, ◌++◌, OnOk, refl, subst}
-use Rattle.judged_lines.specs.LineOutcomes.{name_of}
+use Rattle.judged_lines.specs.LineOutcomes.{outcome_name}
 use Rattle.audit_report.specs.CsvRows.{row_of}
 use Rattle.audit_report.specs.ReportTexts.{HasText}
 use Rattle.audit_report.proofs.RowFields.{seven}
@@ -7,7 +7,7 @@ use Rattle.audit_report.proofs.report_text.ReportText.write_count.Goals as goal
 
 pub returns : goal.returns
 returns c =
-    let named : c.as_bytes.result.now ≡ name_of c.args.outcome = search rules in
+    let named : c.as_bytes.result.now ≡ outcome_name c.args.outcome = search rules in
     subst
     (λ (fields : List (List ℕ)). OnOk c.write_fields.result ((text : List ℕ) → HasText c.args.self.now text → HasText c.write_fields.new.self (text ++ row_of fields)))
     (seven refl named c.digits.ensures refl refl refl refl)

@@ -4,7 +4,7 @@ use Rattle.mtl_monitor.specs.Following.{Closes, Fits, Follows, fed_of, past_of}
 use Rattle.mtl_monitor.specs.Traces.{Trace}
 use Rattle.audit_rows.specs.Tracks.{Track}
 use Rattle.audit_rows.specs.declared.row.Row.{Row}
-use Rattle.audit_traces.specs.Audited.{Numbers}
+use Rattle.audit_traces.specs.Audited.{AuditNumbers}
 use Rattle.audit_traces.specs.Tallies.{Keeps, rules_of}
 use Rattle.audit_traces.specs.TraceKeeping.{AreTracksSoFar, Known, StandsFor}
 use Rattle.audit_traces.proofs.TraceKeeping.{HasTracksPast}
@@ -20,7 +20,7 @@ invariant-loop l =
       follows : (formulas : List FormulaTree) (rows : Trace) → Follows l.program l.fn.self.values formulas rows
           → Follows l.program l.self.values formulas rows ⊎ Closes l.program l.self.values formulas rows;
       rules : rules_of l.marks ≡ rules_of l.fn.marks;
-      tracks : (numbers : Numbers) (known : Known) (before mine after : List Track) (bound : ℕ) (given : List Row) → StandsFor l.program numbers l.fn.self known
+      tracks : (numbers : AuditNumbers) (known : Known) (before mine after : List Track) (bound : ℕ) (given : List Row) → StandsFor l.program numbers l.fn.self known
           → AreTracksSoFar numbers known mine → l.first ≡ length before → Keeps l.fn.marks (length numbers.rules) (before ++ mine ++ after) bound given
           → HasTracksPast l.counter numbers known l.marks before after bound given;
     }

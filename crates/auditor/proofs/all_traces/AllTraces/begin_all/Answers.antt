@@ -4,7 +4,7 @@ use Rattle.encounters.specs.declared.detect.Detect.{Detect}
 use Rattle.meetings.specs.Traces.{AreInContact}
 use Rattle.meetings.specs.declared.pair.Pair.{Pair}
 use Rattle.audit_rows.specs.declared.row.Row.{Row}
-use Rattle.audit_traces.specs.Audited.{Numbers, Sighting, state_in}
+use Rattle.audit_traces.specs.Audited.{AuditNumbers, Sighting, state_in}
 use Rattle.audit_traces.specs.Contacts.{AreContacts}
 use Rattle.auditor.specs.Inner.AuditKeeping.{pairs_of}
 use Rattle.auditor.specs.Inner.TracesKept.{MayTake}
@@ -22,7 +22,7 @@ contacts_of detect other own subjects seen pairs items e f g h =
     subst (λ (ps : List Pair). AreContacts own other.watch seen ps) (sym g)
     (subst (λ (ss : List ℕ). AreContacts ss other.watch seen pairs) (sym f) (subst (λ (d : Detect). AreContacts subjects d.watch seen pairs) e h))
 
-may : (kept : AllTraces) (numbers : Numbers) (seen : Sighting) (start : ℕ) (before : List Known) (bound : ℕ) (given : List Row) (subjects : List ℕ) (pairs : List Pair) (i : ℕ) (d : Pair)
+may : (kept : AllTraces) (numbers : AuditNumbers) (seen : Sighting) (start : ℕ) (before : List Known) (bound : ℕ) (given : List Row) (subjects : List ℕ) (pairs : List Pair) (i : ℕ) (d : Pair)
     → AreContacts numbers.subjects numbers.detect.watch seen pairs → i < length pairs → numbers.subjects ≡ subjects → (b : AreBegunSo kept numbers seen start before bound given (take i pairs))
     → MayTake numbers subjects seen (pairs_of before) b.after (get_or pairs i d)
 may kept numbers seen start before bound given subjects pairs i d contacts lt e b =

@@ -2,7 +2,7 @@ use Rattle.std.proofs.Common.{◌≡◌, ◌⊎◌, ◌≤◌, ℕ, List, [], �
 use Rattle.std.specs.List.{Contains}
 use Rattle.meetings.specs.declared.pair.Pair.{Pair}
 use Rattle.audit_rows.specs.declared.row.Row.{Row}
-use Rattle.audit_traces.specs.Audited.{Numbers, Sighting}
+use Rattle.audit_traces.specs.Audited.{AuditNumbers, Sighting}
 use Rattle.auditor.specs.Inner.AuditKeeping.{pairs_of}
 use Rattle.auditor.specs.Inner.TracesKept.{AreTooMany, Holds, IsTaken, MayTake, swapped}
 use Rattle.audit_traces.specs.TraceKeeping.{Known, StandsFor, opened}
@@ -14,10 +14,10 @@ use Rattle.auditor.proofs.Results.{on_done, same_fault}
 use Rattle.auditor.proofs.Taking.{after, after_is, both_after, fresh_one, fresh_other, grew_after, grew_mid, grew_none, mid, mid_is, new_other, once_after, once_mid, taken_one}
 use Rattle.auditor.proofs.all_traces.AllTraces.take.Goals as goal
 
-many_known : (kept : AllTraces) (numbers : Numbers) (knowns : List Known) (bound : ℕ) (given : List Row) → Holds kept numbers knowns bound given → length kept.traces.items ≡ 4096 → length knowns ≡ 4096
+many_known : (kept : AllTraces) (numbers : AuditNumbers) (knowns : List Known) (bound : ℕ) (given : List Row) → Holds kept numbers knowns bound given → length kept.traces.items ≡ 4096 → length knowns ≡ 4096
 many_known kept numbers knowns bound given h e = sym (zip_length (StandsFor kept.program numbers) kept.traces.items knowns h.traces) ∙ e
 
-module _ (numbers : Numbers) (seen : Sighting) (old : List Pair) (start : ℕ) (subjects : List ℕ) (knowns : List Known) (pair : Pair) (bound : ℕ) (given : List Row) (may : MayTake numbers subjects seen old knowns pair)
+module _ (numbers : AuditNumbers) (seen : Sighting) (old : List Pair) (start : ℕ) (subjects : List ℕ) (knowns : List Known) (pair : Pair) (bound : ℕ) (given : List Row) (may : MayTake numbers subjects seen old knowns pair)
     (chosen : (subjects ≡ []) ⊎ Contains subjects pair.subject ⊎ Contains subjects pair.other) (new : Contains (pairs_of knowns) pair → ⊥) where
   full_at_one : (kept : AllTraces) → Holds kept numbers knowns bound given → length kept.traces.items ≡ 4096 → AreTooMany numbers seen old start knowns
   full_at_one kept h e = record {
@@ -48,7 +48,7 @@ module _ (numbers : Numbers) (seen : Sighting) (old : List Pair) (start : ℕ) (
   }
 
   both_taken : (kept next : AllTraces) → Holds kept numbers (knowns ++ opened pair start ∷ []) bound given
-      → ((numbers : Numbers) (knowns : List Known) (bound : ℕ) (given : List Row) → Holds kept numbers knowns bound given → (Contains (pairs_of knowns) (swapped pair) → ⊥) → bound ≤ start
+      → ((numbers : AuditNumbers) (knowns : List Known) (bound : ℕ) (given : List Row) → Holds kept numbers knowns bound given → (Contains (pairs_of knowns) (swapped pair) → ⊥) → bound ≤ start
       → Holds next numbers (knowns ++ opened (swapped pair) start ∷ []) bound given) → bound ≤ start → IsTaken next numbers seen old start knowns bound given pair
   both_taken kept next h stands le = record {
     after = after numbers seen old start subjects knowns pair may chosen new;

@@ -1,5 +1,5 @@
 use Rattle.std.proofs.Common.{◌≡◌, ℕ, [], refl, subst, arith}
-use Rattle.audit_traces.specs.Audited.{Numbers}
+use Rattle.audit_traces.specs.Audited.{AuditNumbers}
 use Rattle.auditor.specs.Inner.TracesKept.{Holds}
 use Rattle.auditor.specs.Standing.{settled_by}
 use Rattle.auditor.proofs.Different.{different_none}
@@ -9,7 +9,7 @@ use Rattle.auditor.proofs.audit.Audit.new.Goals as goal
 
 pub returns-clause-stands : goal.returns-clause-stands
 returns-clause-stands c =
-    let numbers : Numbers = record {
+    let numbers : AuditNumbers = record {
       detect = c.args.detect;
       act = c.args.act;
       tick = c.args.window.tick;

@@ -3,7 +3,7 @@ use Rattle.std.specs.Prelude.{map}
 use Rattle.mtl_formulas.specs.declared.atom.Atom.{Atom}
 use Rattle.mtl_formulas.specs.declared.verdict.Verdict.{Verdict}
 use Rattle.meetings.specs.Answers.{Kept, answer_of}
-use Rattle.meetings.specs.Atoms.{AreRows, IsAtomRow}
+use Rattle.meetings.specs.Atoms.{AreAtomRows, IsAtomRow}
 use Rattle.meetings.specs.Ranks.{all_power_driven}
 use Rattle.meetings.specs.Standing.{Follows, StandsFor, Traced}
 use Rattle.meetings.proofs.ForCallers.{rows_then}
@@ -26,7 +26,7 @@ returns-clause-ok c = λ pair terms steps short stands.
     record {
       of_pair = before.of_pair;
       follows = follows;
-      rows = subst (λ (r : List (Atom → Verdict)). AreRows terms (steps ++ c.args.seen ∷ []) r)
+      rows = subst (λ (r : List (Atom → Verdict)). AreAtomRows terms (steps ++ c.args.seen ∷ []) r)
           (sym (ap (map answer_of) items ∙ answers_then c.self.inside.rows.items c.step-row.result))
           (rows_then terms all_power_driven steps (map answer_of c.self.inside.rows.items) c.args.seen (answer_of c.step-row.result) before.rows row);
     }

@@ -1,6 +1,6 @@
 use Rattle.std.proofs.Common.{◌≡◌, List, take}
 use Rattle.std.specs.List.{All, filter_map}
-use Rattle.tracks.specs.AcceptedReports.{Numbers}
+use Rattle.tracks.specs.AcceptedReports.{JudgingNumbers}
 use Rattle.tracks.specs.Standing.{StandsFor}
 use Rattle.tracks.specs.VesselsHeld.{Sent, held_of}
 use Rattle.own_ship.specs.NearVessels.{near_by}
@@ -11,7 +11,7 @@ use Rattle.own_ship.proofs.near.Circle.vessels.Given as goal
 -- those among the first vessels that are held
 abbrev pub invariant-loop-k : goal.invariant-loop-k
 invariant-loop-k l = record {
-  value : (numbers : Numbers) (messages : List Sent) → StandsFor l.book numbers messages
+  value : (numbers : JudgingNumbers) (messages : List Sent) → StandsFor l.book numbers messages
       → l.near.items ≡ filter_map (λ mmsi. near_by numbers.gap l.self.time l.self.range l.self.point mmsi (latest_of numbers messages mmsi)) (take l.k (held_of numbers messages));
   each : All (IsNear l.self.time l.book) l.near.items;
 }

@@ -2,7 +2,7 @@ use Rattle.std.proofs.Common.{◌∙◌, ◌<◌, ap, ap₂, sym, subst, arith}
 use Rattle.std.specs.Option.{option_copied}
 use Rattle.meetings.specs.Traces.{IsShortMove}
 use Rattle.motion.specs.TickStates.{state_at}
-use Rattle.scenario.specs.Ticks.{end_of, time_of_tick}
+use Rattle.scenario.specs.Ticks.{window_end, time_of_tick}
 use Rattle.own_ship.specs.Inner.Facts.{known_at, legs_known}
 use Rattle.own_ship.proofs.Moving.{known_before, none_seen, on_legs}
 use Rattle.own_ship.proofs.track.Track.at.Goals as goal
@@ -20,4 +20,4 @@ returns-in-None-clause-value c =
     let track = c.args.self.now in
     let lt : time_of_tick track.window c.args.tick < track.latest.time = omega (arith, c.if-time-self.false, c.time-time.ensures) in
     let legs = ap (λ o. legs_known (option_copied o)) c.in-None.is in
-    sym (known_before track.latest _ track.changes.now (end_of track.window) (time_of_tick track.window c.args.tick) lt ∙ ap (state_at (time_of_tick track.window c.args.tick)) legs ∙ none_seen _)
+    sym (known_before track.latest _ track.changes.now (window_end track.window) (time_of_tick track.window c.args.tick) lt ∙ ap (state_at (time_of_tick track.window c.args.tick)) legs ∙ none_seen _)

@@ -1,7 +1,7 @@
 use Rattle.std.proofs.Common.{ℕ, List, ◌+◌, ◌-◌, ◌++◌, length, take, drop, subst, ap, ◌∙◌, arith}
 use Rattle.std.proofs.lemmas.List.{length-drop, length-take-le, take_all}
 use Rattle.outside.proofs.ForCallers.{err_cause}
-use Rattle.sessions.specs.Feeding.{Takes}
+use Rattle.sessions.specs.Feeding.{TookPiece}
 use Rattle.sessions.proofs.Feeding.{cut_all, cut_on, refuses_more, rest_is, takes_more, unless_weaker}
 use Rattle.sessions.proofs.session.Session.feed_into.Goals as goal
 
@@ -43,7 +43,7 @@ loop-at-preserved c =
 
 pub returns-clause-taken : goal.returns-clause-taken
 returns-clause-taken c = λ front has.
-    subst (λ (piece : List ℕ). Takes c.args.self.now c.loop-at.self piece front c.loop-at.text) (take_all c.loop-at.at c.args.piece.now c.loop-at-test.false) (c.loop-at.invariant.so_far front has)
+    subst (λ (piece : List ℕ). TookPiece c.args.self.now c.loop-at.self piece front c.loop-at.text) (take_all c.loop-at.at c.args.piece.now c.loop-at-test.false) (c.loop-at.invariant.so_far front has)
 
 pub returns-clause-in_use : goal.returns-clause-in_use
 returns-clause-in_use c =

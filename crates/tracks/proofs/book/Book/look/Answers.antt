@@ -3,7 +3,7 @@ use Rattle.std.specs.List.Sorted.{IsStrictlyIncreasing}
 use Rattle.std.specs.Option.{option_to_list}
 use Rattle.motion.specs.declared.leg.TickState.{TickState}
 use Rattle.tracks.specs.Inner.Keeping.{IsBook}
-use Rattle.tracks.specs.SeenVessels.{sighting}
+use Rattle.tracks.specs.SeenVessels.{seen_vessel}
 use Rattle.tracks.specs.Standing.{BookValue, legs_in}
 use Rattle.tracks.proofs.Seen.{seen_all, seen_ascends, seen_in-is, seen_more}
 use Rattle.tracks.proofs.book.Book.look.Goals as goal
@@ -15,8 +15,8 @@ loop-at-preserved c =
     let lt : c.loop-at.at < length book.held = omega (arith, c.len-at-end.ensures) in
     record {
       kept = c.in_ok-look_at.ensures.more
-          ∙ ap (λ (vessels : List (ℕ × TickState)). vessels ++ option_to_list (sighting c.args.time (legs_in book) (get_or book.held c.loop-at.at 0))) c.loop-at.invariant.kept
-          ∙ sym (seen_more (sighting c.args.time (legs_in book)) book.held c.loop-at.at lt);
+          ∙ ap (λ (vessels : List (ℕ × TickState)). vessels ++ option_to_list (seen_vessel c.args.time (legs_in book) (get_or book.held c.loop-at.at 0))) c.loop-at.invariant.kept
+          ∙ sym (seen_more (seen_vessel c.args.time (legs_in book)) book.held c.loop-at.at lt);
       placed = c.in_ok-look_at.ensures.placed c.loop-at.invariant.placed;
       few = let more = c.look_at.ensures.few in let before = c.loop-at.invariant.few in omega arith;
       capacity = let more = c.look_at.ensures.capacity in let before = c.loop-at.invariant.capacity in omega arith;

@@ -3,7 +3,7 @@ use Rattle.std.specs.Prelude.{slice_get}
 use Rattle.std.specs.List.{last_or}
 use Rattle.std.proofs.lemmas.Result.{IfOk-weaker, on_ok_weaker}
 use Rattle.ais_messages.specs.declared.message.Message.TheVariants.{Position}
-use Rattle.tracks.specs.AcceptedReports.{Numbers}
+use Rattle.tracks.specs.AcceptedReports.{JudgingNumbers}
 use Rattle.tracks.specs.Inner.Keeping.{vessel_after}
 use Rattle.tracks.specs.Standing.{BookValue, StandsFor, VesselValue}
 use Rattle.tracks.specs.VesselsHeld.{Sent, entry_at, reported_in}
@@ -18,7 +18,7 @@ book c = record { keeping = c.self.inside.keeping; numbers = c.self.inside.numbe
 one : goal.After-self-1 → Sent
 one c = record { message = Position c.args.report.now; time = c.args.time }
 
-stood : (c : goal.After-self-1) (numbers : Numbers) (sent : List Sent) → StandsFor c.args.self.now numbers sent → StandsFor (book c) numbers sent
+stood : (c : goal.After-self-1) (numbers : JudgingNumbers) (sent : List Sent) → StandsFor c.args.self.now numbers sent → StandsFor (book c) numbers sent
 unfolding book
 stood c numbers sent h = subst (λ (b : BookValue). StandsFor b numbers sent) (sym c.self.view_is) h
 
@@ -37,7 +37,7 @@ returns-clause-entry c =
     (λ entry e numbers sent h.
     let s = stood c numbers sent h in
     let at = vessel_at (book c) numbers sent c.args.at _ c.index_mut-vessel.result.now s (here c) c.index_mut-vessel.ensures.value in
-    e ∙ ap (λ (n : Numbers). entry_at n (last_or None c.index_mut-vessel.result.now.points) (reported_in (one c))) s.by
+    e ∙ ap (λ (n : JudgingNumbers). entry_at n (last_or None c.index_mut-vessel.result.now.points) (reported_in (one c))) s.by
     ∙ entry_after c.self.inside.keeping numbers sent (one c) c.index_mut-vessel.result.now.points (ap (λ (v : VesselValue). v.points) at))
     c.take_report.ensures.entry
 

@@ -1,5 +1,5 @@
 use Rattle.std.proofs.Common.{◌≡◌, ◌∙◌, length, true, false, None, refl, ap, sym, arith}
-use Rattle.tracks.specs.AcceptedReports.{Numbers}
+use Rattle.tracks.specs.AcceptedReports.{JudgingNumbers}
 use Rattle.tracks.specs.Standing.{BookValue}
 use Rattle.tracks.specs.VesselsHeld.{Sent, entry_at, reported_in}
 use Rattle.tracks.specs.Inner.Keeping.{makes_held}
@@ -13,7 +13,7 @@ returns-then-not-is_holding-clause-entry c =
     record { sender = c.requires.sender; place = c.requires.place; absent = c.requires.absent; more = c.requires.more } in
     let same : c.self.inside.numbers ≡ c.args.self.now.numbers = ap (λ (b : BookValue). b.numbers) c.self.view_is in
     first_entry c.args.self.now one c.args.at c.args.mmsi c.first_entry-entry.result first
-    (c.first_entry-entry.ensures ∙ ap (λ (n : Numbers). entry_at n None (reported_in one)) same)
+    (c.first_entry-entry.ensures ∙ ap (λ (n : JudgingNumbers). entry_at n None (reported_in one)) same)
 
 pub returns-then-not-is_holding-clause-stands : goal.returns-then-not-is_holding-clause-stands
 returns-then-not-is_holding-clause-stands c =
@@ -22,7 +22,7 @@ returns-then-not-is_holding-clause-stands c =
     record { sender = c.requires.sender; place = c.requires.place; absent = c.requires.absent; more = c.requires.more } in
     let same : c.self.inside.numbers ≡ c.args.self.now.numbers = ap (λ (b : BookValue). b.numbers) c.self.view_is in
     let holding : makes_held c.args.self.now.numbers one ≡ false =
-    ap (λ (n : Numbers). makes_held n one) (sym same) ∙ sym (c.is_holding.ensures c.self.inside.numbers c.args.time c.first_entry-entry.ensures) ∙ c.if-not-is_holding.true in
+    ap (λ (n : JudgingNumbers). makes_held n one) (sym same) ∙ sym (c.is_holding.ensures c.self.inside.numbers c.args.time c.first_entry-entry.ensures) ∙ c.if-not-is_holding.true in
     first_stands c.args.self.now one c.args.at c.args.mmsi first holding
 
 pub returns-then-not-is_holding-clause-too_many : goal.returns-then-not-is_holding-clause-too_many
@@ -32,7 +32,7 @@ returns-then-not-is_holding-clause-too_many c =
     record { sender = c.requires.sender; place = c.requires.place; absent = c.requires.absent; more = c.requires.more } in
     let same : c.self.inside.numbers ≡ c.args.self.now.numbers = ap (λ (b : BookValue). b.numbers) c.self.view_is in
     let holding : makes_held c.args.self.now.numbers one ≡ false =
-    ap (λ (n : Numbers). makes_held n one) (sym same) ∙ sym (c.is_holding.ensures c.self.inside.numbers c.args.time c.first_entry-entry.ensures) ∙ c.if-not-is_holding.true in
+    ap (λ (n : JudgingNumbers). makes_held n one) (sym same) ∙ sym (c.is_holding.ensures c.self.inside.numbers c.args.time c.first_entry-entry.ensures) ∙ c.if-not-is_holding.true in
     let held : length c.self.inside.held.items ≡ length c.args.self.now.held = ap (λ (b : BookValue). length b.held) c.self.view_is in
     λ numbers sent h.
     let count = first_count c.args.self.now one c.args.at c.args.mmsi first holding numbers sent h in
@@ -45,7 +45,7 @@ returns-then-len-ge-MOST_VESSELS-clause-too_many c =
     record { sender = c.requires.sender; place = c.requires.place; absent = c.requires.absent; more = c.requires.more } in
     let same : c.self.inside.numbers ≡ c.args.self.now.numbers = ap (λ (b : BookValue). b.numbers) c.self.view_is in
     let holding : makes_held c.args.self.now.numbers one ≡ true =
-    ap (λ (n : Numbers). makes_held n one) (sym same) ∙ sym (c.is_holding.ensures c.self.inside.numbers c.args.time c.first_entry-entry.ensures) ∙ c.if-not-is_holding.false in
+    ap (λ (n : JudgingNumbers). makes_held n one) (sym same) ∙ sym (c.is_holding.ensures c.self.inside.numbers c.args.time c.first_entry-entry.ensures) ∙ c.if-not-is_holding.false in
     let held : length c.self.inside.held.items ≡ length c.args.self.now.held = ap (λ (b : BookValue). length b.held) c.self.view_is in
     λ numbers sent h.
     let count = first_count_more c.args.self.now one c.args.at c.args.mmsi first holding numbers sent h in
@@ -58,7 +58,7 @@ returns-in-Ok-clause-entry c =
     record { sender = c.requires.sender; place = c.requires.place; absent = c.requires.absent; more = c.requires.more } in
     let same : c.self.inside.numbers ≡ c.args.self.now.numbers = ap (λ (b : BookValue). b.numbers) c.self.view_is in
     first_entry c.args.self.now one c.args.at c.args.mmsi c.first_entry-entry.result first
-    (c.first_entry-entry.ensures ∙ ap (λ (n : Numbers). entry_at n None (reported_in one)) same)
+    (c.first_entry-entry.ensures ∙ ap (λ (n : JudgingNumbers). entry_at n None (reported_in one)) same)
 
 pub returns-in-Ok-clause-too_many : goal.returns-in-Ok-clause-too_many
 returns-in-Ok-clause-too_many c =
@@ -67,7 +67,7 @@ returns-in-Ok-clause-too_many c =
     record { sender = c.requires.sender; place = c.requires.place; absent = c.requires.absent; more = c.requires.more } in
     let same : c.self.inside.numbers ≡ c.args.self.now.numbers = ap (λ (b : BookValue). b.numbers) c.self.view_is in
     let holding : makes_held c.args.self.now.numbers one ≡ true =
-    ap (λ (n : Numbers). makes_held n one) (sym same) ∙ sym (c.is_holding.ensures c.self.inside.numbers c.args.time c.first_entry-entry.ensures) ∙ c.if-not-is_holding.false in
+    ap (λ (n : JudgingNumbers). makes_held n one) (sym same) ∙ sym (c.is_holding.ensures c.self.inside.numbers c.args.time c.first_entry-entry.ensures) ∙ c.if-not-is_holding.false in
     let held : length c.self.inside.held.items ≡ length c.args.self.now.held = ap (λ (b : BookValue). length b.held) c.self.view_is in
     λ numbers sent h.
     let count = first_count_more c.args.self.now one c.args.at c.args.mmsi first holding numbers sent h in
@@ -80,7 +80,7 @@ returns-in-Err-clause-too_many c =
     record { sender = c.requires.sender; place = c.requires.place; absent = c.requires.absent; more = c.requires.more } in
     let same : c.self.inside.numbers ≡ c.args.self.now.numbers = ap (λ (b : BookValue). b.numbers) c.self.view_is in
     let holding : makes_held c.args.self.now.numbers one ≡ true =
-    ap (λ (n : Numbers). makes_held n one) (sym same) ∙ sym (c.is_holding.ensures c.self.inside.numbers c.args.time c.first_entry-entry.ensures) ∙ c.if-not-is_holding.false in
+    ap (λ (n : JudgingNumbers). makes_held n one) (sym same) ∙ sym (c.is_holding.ensures c.self.inside.numbers c.args.time c.first_entry-entry.ensures) ∙ c.if-not-is_holding.false in
     let held : length c.self.inside.held.items ≡ length c.args.self.now.held = ap (λ (b : BookValue). length b.held) c.self.view_is in
     λ numbers sent h.
     let count = first_count_more c.args.self.now one c.args.at c.args.mmsi first holding numbers sent h in
