@@ -10,7 +10,7 @@ use Rattle.audit_rows.proofs.Tracks.{StandsAt}
 use Rattle.audit_rows.proofs.Pending.{inserted}
 use Rattle.audit_rows.proofs.Queues.{quiet, closing}
 use Rattle.audit_rows.specs.declared.mark.Mark.TheVariants.{Nothing}
-use Rattle.audit_rows.specs.declared.place.Place.{Place}
+use Rattle.audit_rows.specs.declared.sort_key.SortKey.{SortKey}
 use Rattle.audit_rows.specs.declared.row.Row.{Row}
 use Rattle.audit_rows.specs.Inner.Closed.{Closes, IsClosed, IsClosedOf}
 use Rattle.audit_rows.specs.Order.{last_step_of, place_cmp, sort_key_of}
@@ -67,7 +67,7 @@ all_rows (suc n) (t ∷ ts) row le (inl h) = inl (row_of_ended t row h)
 all_rows (suc n) (t ∷ ts) row le (inr h) = inr (all_rows n ts row (omega arith) h)
 
 -- Once all are ended, all rows are closed.
-pub rows_of_ended : (entries : List (Place × Row)) (tracks : List Track) (n bound : ℕ) (given : List Row) → length tracks ≤ n → Holds entries (ended n tracks) bound given → AreRows tracks (given ++ values_of entries)
+pub rows_of_ended : (entries : List (SortKey × Row)) (tracks : List Track) (n bound : ℕ) (given : List Row) → length tracks ≤ n → Holds entries (ended n tracks) bound given → AreRows tracks (given ++ values_of entries)
 rows_of_ended entries tracks n bound given le h = record {
   each = λ row. (λ i. all_rows n tracks row le ((h.rows.each row).0 i), λ is. (h.rows.each row).1 (all_closed n tracks row le is));
   ordered = h.rows.ordered;
@@ -92,12 +92,12 @@ as_many [] (t ∷ ts) z = absurd z
 as_many (l ∷ ls) [] z = absurd z
 as_many (l ∷ ls) (t ∷ ts) z = let n = as_many ls ts z.1 in omega arith
 
-module _ (lanes : List Lane) (tracks : List Track) (n bound : ℕ) (given : List Row) (d : Lane) (closed : Option Row) (old : List (Place × Row)) (z : AllZip Stands lanes tracks) (lt : n < length lanes)
+module _ (lanes : List Lane) (tracks : List Track) (n bound : ℕ) (given : List Row) (d : Lane) (closed : Option Row) (old : List (SortKey × Row)) (z : AllZip Stands lanes tracks) (lt : n < length lanes)
     (end : ℕ) (ends : EndAt end tracks) (closes : (track : Track) → Stands (get_or lanes n d) track → end ≡ next_step track → Closes track Nothing closed) (h : Holds old (ended n tracks) bound given) where
   there : StandsAt tracks n (get_or lanes n d)
   there = stands_there lanes tracks n d z lt
 
-  further : (es : List (Place × Row)) → Holds es (marked (ended n tracks) n Nothing) bound given → Holds es (ended (n + 1) tracks) bound given
+  further : (es : List (SortKey × Row)) → Holds es (marked (ended n tracks) n Nothing) bound given → Holds es (ended (n + 1) tracks) bound given
   further es g = rw add-one (subst (λ (ts : List Track). Holds es ts bound given) (ended_more n tracks) g)
 
   pub end_quiet : closed ≡ None → Holds old (ended (n + 1) tracks) bound given

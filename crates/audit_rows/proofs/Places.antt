@@ -7,17 +7,17 @@ use Rattle.std.proofs.lemmas.Bool.Decides.{nat_tests}
 use Rattle.std.specs.Cmp.{IsTotalOrder}
 use Rattle.std.specs.Ordering.{nat_cmp, ordering_then, is_gt}
 use Rattle.meetings.specs.declared.pair.Pair.{Pair}
-use Rattle.audit_rows.specs.contracts.place.PlaceOrd.TheImpl as place_ord
-use Rattle.audit_rows.specs.contracts.place.PlaceOrd.TheImpl.Laws as place_laws
+use Rattle.audit_rows.specs.contracts.sort_key.SortKeyOrd.TheImpl as place_ord
+use Rattle.audit_rows.specs.contracts.sort_key.SortKeyOrd.TheImpl.Laws as place_laws
 use Rattle.audit_rows.specs.contracts.topic.TopicOrd.TheImpl as topic_ord
-use Rattle.audit_rows.specs.declared.place.Place.{Place}
+use Rattle.audit_rows.specs.declared.sort_key.SortKey.{SortKey}
 use Rattle.audit_rows.specs.declared.topic.Topic.{Topic}
 use Rattle.audit_rows.specs.declared.topic.Topic.TheVariants.{Meeting, Verdict}
 use Rattle.audit_rows.specs.Order.{pair_cmp, topic_cmp, place_cmp}
 
 -- ---- the order that is derived
 
-abbrev pub derived_cmp : Place → Place → Ordering
+abbrev pub derived_cmp : SortKey → SortKey → Ordering
 derived_cmp = (place_ord.ghosts).cmp
 
 topics_alike : (a b : Topic) → (topic_ord.ghosts).cmp a b ≡ topic_cmp a b
@@ -59,7 +59,7 @@ same_topic (Verdict a rule) (Verdict b other) e =
     let r = same_number rule other p.1 in
     λ i. Verdict (s i) (r i)
 
-pub same_place : (a b : Place) → place_cmp a b ≡ Equal → a ≡ b
+pub same_place : (a b : SortKey) → place_cmp a b ≡ Equal → a ≡ b
 same_place a b e =
     let p = then_equal (nat_cmp a.last b.last) _ e in
     let l = same_number a.last b.last p.0 in
@@ -69,10 +69,10 @@ same_place a b e =
 -- ---- the last step counts first
 
 -- what ends before another stands before it
-pub earlier_first : (a b : Place) → a.last < b.last → place_cmp a b ≡ Less
+pub earlier_first : (a b : SortKey) → a.last < b.last → place_cmp a b ≡ Less
 earlier_first a b lt = let e : nat_cmp a.last b.last ≡ Less = grind (arith, nat_tests) in ap (λ (o : Ordering). ordering_then o (topic_cmp a.topic b.topic)) e
 
-pub not_later : (a b : Place) → is_gt (place_cmp a b) ≡ false → a.last ≤ b.last
+pub not_later : (a b : SortKey) → is_gt (place_cmp a b) ≡ false → a.last ≤ b.last
 not_later a b h = elim (leb_or a.last b.last) [
   | inl le ↦ le
   | inr gt ↦ (let e : nat_cmp a.last b.last ≡ Greater = grind (arith, nat_tests) in

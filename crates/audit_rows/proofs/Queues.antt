@@ -11,7 +11,7 @@ use Rattle.std.proofs.lemmas.List.Elements.{Contains-append_left, Contains-appen
 use Rattle.audit_rows.specs.declared.mark.Mark.{Mark}
 use Rattle.audit_rows.specs.declared.row.Row.{Row}
 use Rattle.audit_rows.specs.declared.topic.Topic.{Topic}
-use Rattle.audit_rows.specs.declared.place.Place.{Place}
+use Rattle.audit_rows.specs.declared.sort_key.SortKey.{SortKey}
 use Rattle.audit_rows.specs.declared.lane.Lane.{Lane}
 use Rattle.audit_rows.specs.Inner.Closed.{AreClosedRows, Closes, IsClosed}
 use Rattle.audit_rows.specs.Order.{last_step_of, place_cmp, sort_key_of}
@@ -24,7 +24,7 @@ use Rattle.audit_rows.proofs.Tracks.{closed_is_row, settled_is_closed, own_topic
 use Rattle.audit_rows.proofs.Pending.{inserted, placed_inserted, has_inserted, still_inserted, only_inserted, free_place, placed_in_order}
 
 -- The rows that were given are those that end below the bound.
-pub given_rows : (entries : List (Place × Row)) (tracks : List Track) (bound : ℕ) (given : List Row) → Holds entries tracks bound given → AreRowsBelow bound tracks given
+pub given_rows : (entries : List (SortKey × Row)) (tracks : List Track) (bound : ℕ) (given : List Row) → Holds entries tracks bound given → AreRowsBelow bound tracks given
 given_rows entries tracks bound given h =
     let pending : List Row = values_of entries in
     record {
@@ -38,7 +38,7 @@ given_rows entries tracks bound given h =
       ordered = sorted_front sort_key_of place_cmp given pending h.rows.ordered;
     }
 
-pub popped : (entries new : List (Place × Row)) (tracks : List Track) (old bound : ℕ) (given rows : List Row) → Holds entries tracks old given → old ≤ bound → AreSettled bound tracks
+pub popped : (entries new : List (SortKey × Row)) (tracks : List Track) (old bound : ℕ) (given rows : List Row) → Holds entries tracks old given → old ≤ bound → AreSettled bound tracks
     → IsPopped bound entries rows new → Holds new tracks bound (given ++ rows)
 popped entries new tracks old bound given rows h le settled p = record {
   own_topics = h.own_topics;
@@ -49,7 +49,7 @@ popped entries new tracks old bound given rows h le settled p = record {
   late = p.late;
 }
 
-pub begins : (entries : List (Place × Row)) (tracks : List Track) (bound : ℕ) (given : List Row) (topic : Topic) (first : ℕ) → Holds entries tracks bound given → IsNew topic tracks → bound ≤ first
+pub begins : (entries : List (SortKey × Row)) (tracks : List Track) (bound : ℕ) (given : List Row) (topic : Topic) (first : ℕ) → Holds entries tracks bound given → IsNew topic tracks → bound ≤ first
     → Holds entries (tracks ++ begun topic first ∷ []) bound given
 begins entries tracks bound given topic first h new le = record {
   own_topics = own_topics_begun topic first tracks h.own_topics new;
@@ -64,7 +64,7 @@ begins entries tracks bound given topic first h new le = record {
 }
 
 -- one more mark of the track at an index
-module _ (old : List (Place × Row)) (tracks : List Track) (bound : ℕ) (given : List Row) (index : ℕ) (mark : Mark) (track : Track) (closed : Option Row)
+module _ (old : List (SortKey × Row)) (tracks : List Track) (bound : ℕ) (given : List Row) (index : ℕ) (mark : Mark) (track : Track) (closed : Option Row)
     (h : Holds old tracks bound given) (at : slice_get tracks index ≡ Some track) (closes : Closes track mark closed) where
   before : (row : Row) → IsClosed (marked tracks index mark) row → IsClosed tracks row ⊎ (closed ≡ Some row)
   before row = closed_before track mark closed closes tracks index row at

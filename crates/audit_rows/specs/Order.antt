@@ -5,7 +5,7 @@ use Rattle.std.specs.declared.cmp.Ordering.{Ordering}
 use Rattle.std.specs.declared.cmp.Ordering.TheVariants.{Less, Greater}
 use Rattle.std.specs.Ordering.{ordering_then, nat_cmp}
 use Rattle.meetings.specs.declared.pair.Pair.{Pair}
-use Rattle.audit_rows.specs.declared.place.Place.{Place}
+use Rattle.audit_rows.specs.declared.sort_key.SortKey.{SortKey}
 use Rattle.audit_rows.specs.declared.row.Row.{Row}
 use Rattle.audit_rows.specs.declared.row.Row.TheVariants as row
 use Rattle.audit_rows.specs.declared.topic.Topic.{Topic}
@@ -23,7 +23,7 @@ topic_cmp (topic.Verdict a rule) (topic.Meeting b) = Greater
 topic_cmp (topic.Verdict a rule) (topic.Verdict b other) = ordering_then (pair_cmp a b) (nat_cmp rule other)
 
 -- by the last step, then by the topic
-abbrev pub place_cmp : Place → Place → Ordering
+abbrev pub place_cmp : SortKey → SortKey → Ordering
 place_cmp a b = ordering_then (nat_cmp a.last b.last) (topic_cmp a.topic b.topic)
 
 abbrev pub topic_of : Row → Topic
@@ -38,7 +38,7 @@ abbrev pub last_step_of : Row → ℕ
 last_step_of (row.Meeting pair kind first last least) = last
 last_step_of (row.Verdict pair rule undecided first last) = last
 
-abbrev pub sort_key_of : Row → Place
+abbrev pub sort_key_of : Row → SortKey
 sort_key_of row = record { last = last_step_of row; topic = topic_of row }
 
 -- The places of the rows ascend strictly.

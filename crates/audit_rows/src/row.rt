@@ -2,7 +2,7 @@
 ghost use Rattle.std.specs.Prelude.{◌≡◌};
 ghost use Rattle.audit_rows.specs.Order.{sort_key_of};
 
-use crate::place::Place;
+use crate::sort_key::SortKey;
 use crate::topic::Topic;
 use meetings::Pair;
 use sectors::Class;
@@ -40,11 +40,11 @@ pub enum Row {
 
 impl Row {
     /// Where the row stands among all rows.
-    pub(crate) fn place(&self) -> Place
+    pub(crate) fn place(&self) -> SortKey
         ensures { result ≡ sort_key_of self.now }
     {
         match *self {
-            Row::Meeting { pair, last, .. } => Place {
+            Row::Meeting { pair, last, .. } => SortKey {
                 last,
                 topic: Topic::Meeting(pair),
             },
@@ -53,7 +53,7 @@ impl Row {
                 rule,
                 last,
                 ..
-            } => Place {
+            } => SortKey {
                 last,
                 topic: Topic::Verdict(pair, rule),
             },

@@ -12,8 +12,8 @@ ghost use Rattle.audit_rows.specs.Tracks.{AreSettled, EndAt, IsNew, IsNextAt, Tr
 use crate::counts::MarkCounts;
 use crate::lane::Lane;
 use crate::mark::Mark;
-use crate::place::Place;
 use crate::row::Row;
+use crate::sort_key::SortKey;
 use crate::topic::Topic;
 use outside::Memory;
 use std::alloc::Global;
@@ -22,7 +22,7 @@ use std::collections::BTreeMap;
 /// Takes the first rows off, as far as they end below the bound.
 fn pop_below(
     alloc: Global,
-    pending: &mut BTreeMap<Place, Row>,
+    pending: &mut BTreeMap<SortKey, Row>,
     bound: u32,
 ) -> Result<Vec<Row>, Memory>
     ensures { IfOk result (λ rows. ArePlaced pending.old.entries → IsPopped bound pending.old.entries rows.items pending.new.entries) }
@@ -40,7 +40,7 @@ fn pop_below(
 }
 
 /// Takes all rows off.
-fn pop_all(alloc: Global, pending: &mut BTreeMap<Place, Row>) -> Result<Vec<Row>, Memory>
+fn pop_all(alloc: Global, pending: &mut BTreeMap<SortKey, Row>) -> Result<Vec<Row>, Memory>
     ensures { IfOk result (λ rows. rows.items ≡ values_of pending.old.entries) }
 {
     let mut rows = Vec::new(alloc);
@@ -51,7 +51,7 @@ fn pop_all(alloc: Global, pending: &mut BTreeMap<Place, Row>) -> Result<Vec<Row>
 }
 
 /// Adds the rows that the end of all tracks closes.
-fn end_all(lanes: &[Lane], end: u32, pending: &mut BTreeMap<Place, Row>) -> Result<(), Memory>
+fn end_all(lanes: &[Lane], end: u32, pending: &mut BTreeMap<SortKey, Row>) -> Result<(), Memory>
     ensures { OnOk result ((tracks : List Track) (bound : ℕ) (given : List Row) → AllZip Stands lanes.now tracks → EndAt end tracks
         → Holds pending.old.entries tracks bound given → AreRows tracks (given ++ values_of pending.new.entries)) }
 {
@@ -71,7 +71,7 @@ pub struct RowQueue {
     alloc: Global,
     lanes: Vec<Lane>,
     /// The rows that no further mark changes and that were not handed out yet.
-    pending: BTreeMap<Place, Row>,
+    pending: BTreeMap<SortKey, Row>,
 }
 
 impl RowQueue {

@@ -4,18 +4,18 @@ ghost use Rattle.drill_log.specs.DrillLog.{centred, next_state};
 
 /// A linear congruential generator. Its lowest bits are of short periods, so eight of them are left out.
 #[derive(Drop)]
-pub(crate) struct Numbers {
+pub(crate) struct DrawnNumbers {
     pub(crate) state: u32,
     ghost within: { state < 2 ^ 31 },
 }
 
-impl Numbers {
+impl DrawnNumbers {
     /// The generator in the state that is the seed.
-    pub(crate) fn new(seed: u32) -> Numbers
+    pub(crate) fn new(seed: u32) -> DrawnNumbers
         requires { seed < 2 ^ 31 }
         ensures { result.state ≡ seed }
     {
-        Numbers { state: seed }
+        DrawnNumbers { state: seed }
     }
 
     /// The next number, from `-half` to `half`.

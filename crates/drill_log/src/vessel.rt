@@ -7,7 +7,7 @@ ghost use Rattle.fixed_geometry.specs.Sizes.{IsWithin};
 ghost use Rattle.drill_log.specs.DrillLog.{coordinate_after, root_of, speed_of, state_of};
 ghost use Rattle.drill_log.specs.Inner.VesselFigures.{report_by, vessel_of, IsVessel};
 
-use crate::numbers::Numbers;
+use crate::numbers::DrawnNumbers;
 use ais_messages::{PositionReport, place};
 use fixed_geometry::{Point, Reference, bearing, isqrt, norm2};
 use outside::Memory;
@@ -81,7 +81,7 @@ fn reached(reference: i32, start: i32, way: i64, minutes: u32) -> i32
 
 impl Vessel {
     /// The vessel with this identity and the next four numbers.
-    fn draw(numbers: &mut Numbers, mmsi: u32) -> Vessel
+    fn draw(numbers: &mut DrawnNumbers, mmsi: u32) -> Vessel
         requires mmsi_from { 200000000 ≤ mmsi }
         requires mmsi_to { mmsi ≤ 799999999 }
         ensures state { (seed steps : ℕ) → numbers.old.state ≡ state_of seed steps → numbers.new.state ≡ state_of seed (steps + 4) }
@@ -136,7 +136,7 @@ pub(crate) fn vessels(alloc: Global, seed: u32) -> Result<Vec<Vessel>, Memory>
     ensures figures { IfOk result (λ vessels. vessels.items ≡ map (vessel_of seed) (range_with_len 0 40)) }
     ensures ranges { IfOk result (λ vessels. All IsVessel vessels.items) }
 {
-    let mut numbers = Numbers::new(seed);
+    let mut numbers = DrawnNumbers::new(seed);
     let mut vessels = Vec::with_capacity(alloc, VESSELS as usize)?;
     for number in 0..VESSELS {
         vessels.push(Vessel::draw(&mut numbers, 200_000_001 + number))?;

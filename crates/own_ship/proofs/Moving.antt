@@ -20,7 +20,7 @@ use Rattle.scenario.specs.declared.values.Window.{Window}
 use Rattle.tracks.specs.declared.accepted.Accepted.{Accepted}
 use Rattle.own_ship.specs.KnownStates.{known_state}
 use Rattle.own_ship.specs.Inner.Facts.{IsFresh, IsTrack, known_at, legs_known, predicted_at}
-use Rattle.own_ship.specs.declared.track.Track.{Track}
+use Rattle.own_ship.specs.declared.track.KnownTrack.{KnownTrack}
 
 -- ---- what is known, before and from the latest report on
 
@@ -61,7 +61,7 @@ starts latest changes now =
     let none : latest.time - latest.time ≡ 0 = omega arith in
     ap (point_after latest changes now) none
 
-module _ (track : Track) (is : IsTrack track) (earlier tick : ℕ) (next : tick ≡ earlier + 1) where
+module _ (track : KnownTrack) (is : IsTrack track) (earlier tick : ℕ) (next : tick ≡ earlier + 1) where
   abbrev Was : ℕ
   Was = time_of_tick track.window earlier
 
@@ -135,7 +135,7 @@ pub later_tick : (window : Window) (k : ℕ) → window_end window ≤ time_of_t
 later_tick window k = let more : (window.ticks + k) * window.tick ≡ window.ticks * window.tick + k * window.tick = add-mul window.ticks k window.tick in omega (arith, more)
 
 -- what is known of her behind now is what is predicted
-pub known_ahead : (track : Track) → IsTrack track → (k : ℕ) → known_at track (track.window.ticks + k) ≡ Some (predicted_at track k)
+pub known_ahead : (track : KnownTrack) → IsTrack track → (k : ℕ) → known_at track (track.window.ticks + k) ≡ Some (predicted_at track k)
 known_ahead track is k =
     let before = is.fresh.before in
     let later = later_tick track.window k in

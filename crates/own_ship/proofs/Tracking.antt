@@ -12,7 +12,7 @@ use Rattle.motion.specs.declared.leg.TickState.{TickState}
 use Rattle.planner.specs.Situations.{IsTracked, sighting}
 use Rattle.planner.specs.declared.situation.Target.{Target}
 use Rattle.own_ship.specs.Inner.Facts.{IsKnownBelow, IsTargetOver, IsTrack, known_at, predicted_at, told_at}
-use Rattle.own_ship.specs.declared.track.Track.{Track}
+use Rattle.own_ship.specs.declared.track.KnownTrack.{KnownTrack}
 use Rattle.own_ship.proofs.Lists.{sighting_made, slice_get_made}
 use Rattle.own_ship.proofs.Moving.{known_ahead}
 
@@ -91,7 +91,7 @@ module _ (ticks positions : ℕ) (target : Target) (past : IsKnownBelow (ticks +
 
 -- ---- a predicted state more
 
-pub one_predicted_more : (track : Track) → IsTrack track → (k : ℕ) (here : TickState) → IsKnownBelow k (λ (i : ℕ). Some (predicted_at track i)) → here ≡ predicted_at track k
+pub one_predicted_more : (track : KnownTrack) → IsTrack track → (k : ℕ) (here : TickState) → IsKnownBelow k (λ (i : ℕ). Some (predicted_at track i)) → here ≡ predicted_at track k
     → IsTickState 7900640400 here → ((earlier : ℕ) → track.window.ticks + k ≡ earlier + 1 → IsShortMove (known_at track earlier) (Some here))
     → IsKnownBelow (k + 1) (λ (i : ℕ). Some (predicted_at track i))
 one_predicted_more track is k here known value state moves =
@@ -100,7 +100,7 @@ one_predicted_more track is k here known value state moves =
 
 -- ---- a target, from the track of a vessel
 
-pub target_over : (track : Track) → IsTrack track → (positions : ℕ) (target : Target) → target.past ≡ map (known_at track) (range_with_len 0 (track.window.ticks + 1))
+pub target_over : (track : KnownTrack) → IsTrack track → (positions : ℕ) (target : Target) → target.past ≡ map (known_at track) (range_with_len 0 (track.window.ticks + 1))
     → IsKnownBelow (track.window.ticks + 1) (sighting target.past) → target.ahead ≡ map (predicted_at track) (range_with_len 0 (positions + 1))
     → IsKnownBelow (positions + 1) (slice_get target.ahead) → target.radius < 2 ^ 31 → IsTargetOver track.window.ticks positions target
 target_over track is positions target past past-known ahead ahead-known domain =

@@ -30,7 +30,7 @@ use Rattle.own_ship.specs.PlanSituations.{ahead_of, past_of}
 use Rattle.own_ship.specs.Readiness.{latest_of}
 use Rattle.own_ship.specs.Inner.Facts.{known_at, legs_known, predicted_at}
 use Rattle.own_ship.specs.declared.near.Near.{Near}
-use Rattle.own_ship.specs.declared.track.Track.{Track}
+use Rattle.own_ship.specs.declared.track.KnownTrack.{KnownTrack}
 use Rattle.own_ship.proofs.Moving.{none_seen}
 
 -- ---- she is held
@@ -85,7 +85,7 @@ are_changes tick (p ∷ ps) mmsi h = by (p.mmsi == mmsi) (All-head (λ (q : Pred
 
 -- ---- her states
 
-module _ (numbers : JudgingNumbers) (messages : List Sent) (window : Window) (changes : List Change) (vessel : Near) (track : Track) (same : track.window ≡ window)
+module _ (numbers : JudgingNumbers) (messages : List Sent) (window : Window) (changes : List Change) (vessel : Near) (track : KnownTrack) (same : track.window ≡ window)
     (latest : track.latest ≡ vessel.latest) (predicted : track.changes.now ≡ changes) where
   pub past_is : legs_known (option_copied track.legs) ≡ legs_of numbers messages vessel.mmsi
       → map (known_at track) (range_with_len 0 (track.window.ticks + 1)) ≡ past_of numbers messages window changes vessel

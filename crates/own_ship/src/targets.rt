@@ -14,7 +14,7 @@ ghost use Rattle.own_ship.specs.PlanSituations.{metre, past_of, target_of};
 ghost use Rattle.own_ship.specs.Inner.Facts.{legs_known, IsKnownBelow, IsNear, IsSetting, IsTargetOver, IsTrack};
 
 use crate::near::Near;
-use crate::track::{Track, changes_for};
+use crate::track::{KnownTrack, changes_for};
 use outside::Memory;
 use planner::{Past, Target};
 use predictions::Change;
@@ -32,7 +32,7 @@ pub(crate) struct Setting<'a> {
 
 impl Setting<'_> {
     /// The track of a vessel, of whom these changes are predicted.
-    fn track<'b>(&'b self, vessel: &Near, changes: &'b [Change]) -> Track<'b>
+    fn track<'b>(&'b self, vessel: &Near, changes: &'b [Change]) -> KnownTrack<'b>
         requires setting { IsSetting self.now }
         requires near { IsNear (window_end self.now.window) self.now.book.now vessel.now }
         requires changes { AreChanges changes.now }
@@ -44,7 +44,7 @@ impl Setting<'_> {
             → legs_known (option_copied result.legs) ≡ legs_of numbers messages vessel.now.mmsi }
     {
         self.book.comes_to_latest(vessel.mmsi);
-        Track {
+        KnownTrack {
             window: self.window,
             latest: vessel.latest,
             legs: self.book.legs(vessel.mmsi),

@@ -39,7 +39,7 @@ pub(crate) fn changes_for(predictions: &[Predict], mmsi: u32) -> &[Change]
 /// What is known of a vessel at now, the last tick: her latest accepted report, the legs up to it, and the changes that are predicted
 /// of her from now on.
 #[derive(Clone, Copy)]
-pub(crate) struct Track<'a> {
+pub(crate) struct KnownTrack<'a> {
     pub(crate) window: Window,
     pub(crate) latest: Accepted,
     /// None where she has none.
@@ -47,7 +47,7 @@ pub(crate) struct Track<'a> {
     pub(crate) changes: &'a [Change],
 }
 
-impl Track<'_> {
+impl KnownTrack<'_> {
     /// Her state at a tick from her latest accepted report on.
     fn predicted(&self, tick: u32) -> TickState
         requires track { IsTrack self.now }

@@ -21,7 +21,7 @@ use Rattle.planner.specs.Inner.Paths.{EntersAlong, HasReached, start_of}
 use Rattle.planner.specs.Inner.Watching.{Stands, StandsFor}
 use Rattle.planner.specs.Prefixes.{PrefixFails, reached, steps_told}
 use Rattle.planner.specs.Situations.{now_of, own_at, target_at, terms_of}
-use Rattle.planner.specs.declared.basis.Basis.{Basis}
+use Rattle.planner.specs.declared.basis.SearchBasis.{SearchBasis}
 use Rattle.planner.specs.declared.situation.Situation.{Situation}
 use Rattle.planner.specs.declared.situation.Target.{Target}
 use Rattle.planner.specs.declared.watched.Watched.{Watched}
@@ -116,7 +116,7 @@ module _ (s : Situation) (X Y : List ℕ) (n : ℕ) (same : (step : ℕ) → ste
         h.unbroken start rows (begins_too s Y X n back at told T at start (omega arith) begins) (rows_too s Y X n back at told T start rows (omega arith) are) passed after le told_there;
   }
 
-pub level_too : (basis : Basis) (X Y : List ℕ) (n : ℕ) → ((step : ℕ) → step < n → choice_in_force basis.situation.lattice X step ≡ choice_in_force basis.situation.lattice Y step)
+pub level_too : (basis : SearchBasis) (X Y : List ℕ) (n : ℕ) → ((step : ℕ) → step < n → choice_in_force basis.situation.lattice X step ≡ choice_in_force basis.situation.lattice Y step)
     → (at : ℕ) → at ≤ now_of basis.situation + n → (watched : List Watched) → StandsAt basis X at watched → StandsAt basis Y at watched
 level_too basis X Y n same at told watched h = λ k t a w cut lt is_cut tells.
     stands_too basis.situation X Y n same at told basis.program (get_or basis.situation.targets k t) cut (get_or watched k w) (h k t a w cut lt is_cut tells)
@@ -167,7 +167,7 @@ module _ (s : Situation) (W : List ℕ) (at : ℕ) where
 
 -- ---- from a prefix to the plan that is followed, and back to the longer prefix
 
-module _ (basis : Basis) (leg number : ℕ) (W : List ℕ) (some : 1 ≤ basis.situation.lattice.legs)
+module _ (basis : SearchBasis) (leg number : ℕ) (W : List ℕ) (some : 1 ≤ basis.situation.lattice.legs)
     (begins : take (leg + 1) W ≡ plan_of (choices_of basis.situation.lattice) (leg + 1) number) where
   same_front : (step : ℕ) → step < steps_told basis.situation.lattice leg → choice_in_force basis.situation.lattice (plan_of (choices_of basis.situation.lattice) leg (number / choices_of basis.situation.lattice)) step
       ≡ choice_in_force basis.situation.lattice W step

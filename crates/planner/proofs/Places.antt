@@ -8,7 +8,7 @@ use Rattle.planner.specs.Inner.Breaking.{Tells, formulas_of}
 use Rattle.planner.specs.Inner.Levels.{IsBasis, IsToldAtNow, StandsAt}
 use Rattle.planner.specs.Inner.Watching.{IsCutAtNow, Stands}
 use Rattle.planner.specs.declared.already.Already.{Already}
-use Rattle.planner.specs.declared.basis.Basis.{Basis}
+use Rattle.planner.specs.declared.basis.SearchBasis.{SearchBasis}
 use Rattle.planner.specs.declared.situation.Target.{Target}
 use Rattle.planner.specs.declared.watched.Watched.{Watched}
 
@@ -38,7 +38,7 @@ pub an_element : {X : Type 0} (xs : List X) (k : ℕ) → k < length xs → X
 an_element [] k lt = absurd (omega arith)
 an_element (x ∷ xs) k lt = x
 
-pub rules_few : (basis : Basis) → IsBasis basis → (k : ℕ) (A : Already) → A ≡ get_or basis.already.items k A → k < length basis.situation.targets → (T : Target) → A.rules ≤ 17
+pub rules_few : (basis : SearchBasis) → IsBasis basis → (k : ℕ) (A : Already) → A ≡ get_or basis.already.items k A → k < length basis.situation.targets → (T : Target) → A.rules ≤ 17
 rules_few basis is k A is_already lt T =
     let told = is.each k T A lt in
     let width = told.tells.width in
@@ -47,13 +47,13 @@ rules_few basis is k A is_already lt T =
     let here : (get_or basis.already.items k A).rules ≤ 17 = omega arith in
     subst (λ (a : Already). a.rules ≤ 17) (sym is_already) here
 
-pub told_here : (basis : Basis) → IsBasis basis → (k : ℕ) (T : Target) (A : Already) → T ≡ get_or basis.situation.targets k T → A ≡ get_or basis.already.items k A → k < length basis.situation.targets
+pub told_here : (basis : SearchBasis) → IsBasis basis → (k : ℕ) (T : Target) (A : Already) → T ≡ get_or basis.situation.targets k T → A ≡ get_or basis.already.items k A → k < length basis.situation.targets
     → IsToldAtNow basis.situation T A
 told_here basis is k T A is_target is_already lt =
     subst (λ (t : Target). IsToldAtNow basis.situation t A) (sym is_target)
     (subst (λ (a : Already). IsToldAtNow basis.situation (get_or basis.situation.targets k T) a) (sym is_already) (is.each k T A lt))
 
-pub stands_here : (basis : Basis) (plan : List ℕ) (at : ℕ) (watched : List Watched) (k : ℕ) (T : Target) (A : Already) (W : Watched)
+pub stands_here : (basis : SearchBasis) (plan : List ℕ) (at : ℕ) (watched : List Watched) (k : ℕ) (T : Target) (A : Already) (W : Watched)
     → T ≡ get_or basis.situation.targets k T → A ≡ get_or basis.already.items k A → W ≡ get_or watched k W → k < length basis.situation.targets
     → StandsAt basis plan at watched → (cut : Trace) → IsCutAtNow basis.situation T cut → Tells (formulas_of basis.situation) cut A → Stands basis.program basis.situation plan T cut at W
 stands_here basis plan at watched k T A W is_target is_already is_watched lt stands cut is_cut tells =

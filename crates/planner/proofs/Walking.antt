@@ -10,14 +10,14 @@ use Rattle.planner.specs.Inner.Levels.{ArePlaces, HasPlaces}
 use Rattle.planner.specs.Inner.Walk.{IsFirst}
 use Rattle.planner.specs.Prefixes.{PrefixFails, reached}
 use Rattle.planner.specs.Situations.{end_of}
-use Rattle.planner.specs.declared.basis.Basis.{Basis}
+use Rattle.planner.specs.declared.basis.SearchBasis.{SearchBasis}
 use Rattle.planner.specs.declared.level.Level.{Level}
 use Rattle.planner.specs.declared.situation.Situation.{Situation}
 use Rattle.planner.proofs.Blocks.{none_fail, reached_end}
 
 -- ---- places
 
-pub split_places : (basis : Basis) (leg : ℕ) (below : List Level) (to : Level) (rest : List Level) → below ≡ to ∷ rest → ArePlaces basis leg below → HasPlaces basis leg to × ArePlaces basis (leg + 1) rest
+pub split_places : (basis : SearchBasis) (leg : ℕ) (below : List Level) (to : Level) (rest : List Level) → below ≡ to ∷ rest → ArePlaces basis leg below → HasPlaces basis leg to × ArePlaces basis (leg + 1) rest
 split_places basis leg below to rest e h =
     let g = subst (ArePlaces basis leg) e h in
     let count = g.count in
@@ -29,7 +29,7 @@ split_places basis leg below to rest e h =
       },
     )
 
-pub join_places : (basis : Basis) (leg : ℕ) (to : Level) (rest : List Level) → HasPlaces basis leg to → ArePlaces basis (leg + 1) rest → ArePlaces basis leg (to ∷ rest)
+pub join_places : (basis : SearchBasis) (leg : ℕ) (to : Level) (rest : List Level) → HasPlaces basis leg to → ArePlaces basis (leg + 1) rest → ArePlaces basis leg (to ∷ rest)
 join_places basis leg to rest place h =
     let count = h.count in
     record { count = omega arith; each = each }

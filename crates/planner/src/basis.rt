@@ -19,7 +19,7 @@ use std::alloc::Global;
 
 /// A situation, its rules as one program, and what is broken at now towards each target.
 #[derive(Drop)]
-pub(crate) struct Basis {
+pub(crate) struct SearchBasis {
     pub(crate) situation: Situation,
     pub(crate) program: Program,
     pub(crate) already: Vec<Already>,
@@ -71,7 +71,7 @@ pub(crate) fn watched_at_now(
     Ok(watched)
 }
 
-impl Basis {
+impl SearchBasis {
     ghost use Rattle.planner.specs.Inner.Levels.{lasts, IsBasis};
     ghost use Rattle.planner.specs.Inner.Paths.{HasReached};
 

@@ -6,13 +6,13 @@ ghost use Rattle.planner.specs.Inner.Levels.{AreEarly, ArePlaces, HasTargets, Is
 ghost use Rattle.planner.specs.Inner.Walk.{AllFailFrom, IsFirst};
 ghost use Rattle.planner.specs.Prefixes.{reached, PrefixFails};
 
-use crate::basis::Basis;
+use crate::basis::SearchBasis;
 use crate::level::{Extended, Level};
 
 /// The number of the first plan that extends a prefix and does not fail. `number` is that of the prefix, which has so many legs, and
 /// `below` has places for each leg that is left.
 pub(crate) fn explore(
-    basis: &Basis,
+    basis: &SearchBasis,
     from: &Level,
     below: &mut [Level],
     leg: u8,

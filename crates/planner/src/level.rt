@@ -16,7 +16,7 @@ ghost use Rattle.planner.specs.declared.situation.Target.{Target};
 ghost use Rattle.planner.specs.declared.watched.Watched.{Watched};
 
 use crate::already::Already;
-use crate::basis::Basis;
+use crate::basis::SearchBasis;
 use crate::situation::{Situation, Target};
 use crate::watched::Watched;
 use fixed_geometry::Point;
@@ -190,7 +190,7 @@ fn enters(situation: &Situation, path: &[TickState], first: u32, latest: &mut us
 /// Follows a path towards all targets, from what is kept of them after other legs. Tells whether some row decides a position as
 /// newly broken: nothing is then kept of the targets behind that one.
 fn follow_all(
-    basis: &Basis,
+    basis: &SearchBasis,
     path: &[TickState],
     first: u32,
     from: &[Watched],
@@ -230,7 +230,7 @@ fn follow_all(
 }
 
 /// Whether some position is newly broken towards some target if the traces end here.
-fn ends_broken(basis: &Basis, watched: &[Watched], ending: &mut TraceState) -> bool
+fn ends_broken(basis: &SearchBasis, watched: &[Watched], ending: &mut TraceState) -> bool
     requires basis { IsBasis basis.now }
     requires targets { HasTargets basis.now watched.now }
     requires early { AreEarly (end_of basis.now.situation) watched.now }
@@ -264,7 +264,7 @@ pub(crate) enum Extended {
 /// rules. Where the traces end before the leg is looked at once, for the first leg there that enters no domain: `ended` says whether
 /// it was.
 fn follow_leg(
-    basis: &Basis,
+    basis: &SearchBasis,
     plan: &Plan,
     first: u32,
     own: UnderWay,
@@ -339,7 +339,7 @@ impl Level {
     }
 
     /// The places for a leg that lasts so many ticks.
-    pub(crate) fn new(alloc: Global, basis: &Basis, ticks: u32) -> Result<Level, Memory>
+    pub(crate) fn new(alloc: Global, basis: &SearchBasis, ticks: u32) -> Result<Level, Memory>
         requires { IsBasis basis.now }
         ensures path { IfOk result (λ level. length level.path.items ≡ ticks + 1) }
         ensures targets { IfOk result (λ level. HasTargets basis.now level.watched.items) }
@@ -362,7 +362,7 @@ impl Level {
     /// the traces end before the leg.
     pub(crate) fn extend(
         &mut self,
-        basis: &Basis,
+        basis: &SearchBasis,
         from: &Level,
         own: UnderWay,
         leg: u8,

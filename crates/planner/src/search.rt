@@ -4,7 +4,7 @@ ghost use Rattle.planner.specs.Inner.Levels.{IsPrepared};
 ghost use Rattle.planner.specs.LeastPlans.{AllFail, IsLeastPlan};
 ghost use Rattle.planner.specs.Situations.{IsSituation};
 
-use crate::basis::{Basis, program_of, watched_at_now};
+use crate::basis::{SearchBasis, program_of, watched_at_now};
 use crate::explore::explore;
 use crate::level::Level;
 use crate::situation::Situation;
@@ -16,13 +16,13 @@ use std::alloc::Global;
 /// The search for the least numbered plan that does not fail. It holds all places that it needs.
 #[derive(Drop)]
 pub struct Search {
-    basis: Basis,
+    basis: SearchBasis,
     start: Level,
     below: Vec<Level>,
 }
 
 /// What is kept at now, and the situation with what is broken there.
-fn prepared(alloc: Global, situation: Situation) -> Result<(Basis, Level), Memory>
+fn prepared(alloc: Global, situation: Situation) -> Result<(SearchBasis, Level), Memory>
     requires { IsSituation situation }
     ensures prepared { IfOk result (λ pair. IsPrepared pair.0 pair.1) }
     ensures situation { IfOk result (λ pair. pair.0.situation ≡ situation) }
@@ -37,7 +37,7 @@ fn prepared(alloc: Global, situation: Situation) -> Result<(Basis, Level), Memor
         watched.push(here)?;
     }
     let start = Level::at_now(alloc, &program, watched)?;
-    let basis = Basis {
+    let basis = SearchBasis {
         situation,
         program,
         already,

@@ -48,14 +48,14 @@ fn write_near(text: &mut ReportText, book: &Book, near: &[Near]) -> Result<(), M
 
 /// What the legs of a plan are told by.
 #[derive(Clone, Copy)]
-struct Legs<'a> {
+struct PlannedLegs<'a> {
     /// The tick of now, at most 20,000.
     begin: u32,
     lattice: &'a Lattice,
     ready: Ready,
 }
 
-impl Legs<'_> {
+impl PlannedLegs<'_> {
     /// The tick at which a leg begins.
     fn first_tick(&self, leg: u8) -> u32
         requires begin { self.now.begin ≤ 20000 }
@@ -140,7 +140,7 @@ fn write_search(
     let ready = prepared.ready;
     let mut search = Search::new(alloc, prepared.situation)?;
     let plan = search.run();
-    let legs = Legs {
+    let legs = PlannedLegs {
         begin,
         lattice: &search.situation().lattice,
         ready,

@@ -2,7 +2,7 @@
 use Rattle.std.specs.Prelude.{ℕ, ◌≡◌, ◌<◌, ◌≤◌, List, ◌++◌}
 use Rattle.std.specs.List.{Contains, AllByRecursion, AllZip}
 use Rattle.std.specs.Map.{values_of}
-use Rattle.audit_rows.specs.declared.place.Place.{Place}
+use Rattle.audit_rows.specs.declared.sort_key.SortKey.{SortKey}
 use Rattle.audit_rows.specs.declared.row.Row.{Row}
 use Rattle.audit_rows.specs.declared.row_queue.RowQueue.{RowQueue}
 use Rattle.audit_rows.specs.Inner.Closed.{AreClosedRows, HaveOwnTopics}
@@ -10,11 +10,11 @@ use Rattle.audit_rows.specs.Inner.Lanes.{Stands}
 use Rattle.audit_rows.specs.Order.{last_step_of, sort_key_of}
 use Rattle.audit_rows.specs.Tracks.{Track, AreSettled}
 
-abbrev pub ArePlaced : List (Place × Row) → Type 0
+abbrev pub ArePlaced : List (SortKey × Row) → Type 0
 ArePlaced entries = AllByRecursion (λ entry. entry.0 ≡ sort_key_of entry.1) entries
 
 -- The pending entries are the closed rows that were not given. Those that were given are the ones that end below the bound.
-pub record Holds (entries : List (Place × Row)) (tracks : List Track) (bound : ℕ) (given : List Row) : Type 0 where
+pub record Holds (entries : List (SortKey × Row)) (tracks : List Track) (bound : ℕ) (given : List Row) : Type 0 where
   pub own_topics : HaveOwnTopics tracks
   pub settled : AreSettled bound tracks
   pub rows : AreClosedRows tracks (given ++ values_of entries)
@@ -28,12 +28,12 @@ pub record StandsFor (queue : RowQueue) (tracks : List Track) (bound : ℕ) (giv
   pub holds : Holds queue.pending.entries tracks bound given
 
 -- The first values were taken off, and their rows end below the bound.
-pub record IsPopping (bound : ℕ) (old : List (Place × Row)) (rows : List Row) (new : List (Place × Row)) : Type 0 where
+pub record IsPopping (bound : ℕ) (old : List (SortKey × Row)) (rows : List Row) (new : List (SortKey × Row)) : Type 0 where
   pub whole : values_of old ≡ rows ++ values_of new
   pub early : (row : Row) → Contains rows row → last_step_of row < bound
   pub placed : ArePlaced new
 
 -- And no other row does.
-pub record IsPopped (bound : ℕ) (old : List (Place × Row)) (rows : List Row) (new : List (Place × Row)) : Type 0 where
+pub record IsPopped (bound : ℕ) (old : List (SortKey × Row)) (rows : List Row) (new : List (SortKey × Row)) : Type 0 where
   pub front : IsPopping bound old rows new
   pub late : (row : Row) → Contains (values_of new) row → bound ≤ last_step_of row

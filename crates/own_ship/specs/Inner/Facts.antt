@@ -28,7 +28,7 @@ use Rattle.own_ship.specs.Readiness.{latest_of, readiness_of}
 use Rattle.own_ship.specs.declared.near.Near.{Near}
 use Rattle.own_ship.specs.declared.readiness.Ready.{Ready}
 use Rattle.own_ship.specs.declared.targets.Setting.{Setting}
-use Rattle.own_ship.specs.declared.track.Track.{Track}
+use Rattle.own_ship.specs.declared.track.KnownTrack.{KnownTrack}
 
 pub record IsReady (ready : Ready) : Type 0 where
   pub accepted : IsAccepted ready.latest
@@ -47,7 +47,7 @@ legs_known (Some legs) = legs
 
 -- The latest accepted report of the track's vessel came before now, at most an hour ago. From one tick to the next she moves on her
 -- legs, and from a leg to that report, by no more than a report can say, and by 2 more for rounding.
-pub record IsTrack (track : Track) : Type 0 where
+pub record IsTrack (track : KnownTrack) : Type 0 where
   pub window : IsWindow track.window
   pub accepted : IsAccepted track.latest
   pub changes : AreChanges track.changes.now
@@ -58,11 +58,11 @@ pub record IsTrack (track : Track) : Type 0 where
       → IsWithin ((track.latest.time - t) * 525763 + 2) (displacement before.point track.latest.point)
 
 -- her state at a tick, as it is known
-abbrev pub known_at : Track → ℕ → Option TickState
+abbrev pub known_at : KnownTrack → ℕ → Option TickState
 known_at track k = known_state track.latest (legs_known (option_copied track.legs)) track.changes.now (window_end track.window) (time_of_tick track.window k)
 
 -- her state at a tick from now on, as it is predicted
-abbrev pub predicted_at : Track → ℕ → TickState
+abbrev pub predicted_at : KnownTrack → ℕ → TickState
 predicted_at track k = predicted_state track.latest track.changes.now (window_end track.window) (time_of_tick track.window (track.window.ticks + k))
 
 -- At the ticks below a bound she is where a state may be, and moves so from each to the next.

@@ -8,7 +8,7 @@ use Rattle.planner.specs.Inner.Breaking.{Tells, formulas_of}
 use Rattle.planner.specs.Inner.Watching.{IsCutAtNow, IsEarly, IsReady, Stands}
 use Rattle.planner.specs.Situations.{IsSituation, now_of}
 use Rattle.planner.specs.declared.already.Already.{Already}
-use Rattle.planner.specs.declared.basis.Basis.{Basis}
+use Rattle.planner.specs.declared.basis.SearchBasis.{SearchBasis}
 use Rattle.planner.specs.declared.level.Level.{Level}
 use Rattle.planner.specs.declared.situation.Situation.{Situation}
 use Rattle.planner.specs.declared.situation.Target.{Target}
@@ -20,7 +20,7 @@ pub record IsToldAtNow (situation : Situation) (target : Target) (already : Alre
   pub is_cut : IsCutAtNow situation target cut
   pub tells : Tells (formulas_of situation) cut already
 
-pub record IsBasis (basis : Basis) : Type 0 where
+pub record IsBasis (basis : SearchBasis) : Type 0 where
   pub is_situation : IsSituation basis.situation
   pub of_rules : monitor.IsProgramOf basis.program (formulas_of basis.situation)
   pub few : monitor.count_of basis.program ≤ 17
@@ -33,7 +33,7 @@ lasts situation leg =
     if nat_lt (leg + 1) situation.lattice.legs then situation.lattice.leg_ticks else positions_of situation.lattice - leg * situation.lattice.leg_ticks
 
 -- There is a place for each target.
-pub record HasTargets (basis : Basis) (watched : List Watched) : Type 0 where
+pub record HasTargets (basis : SearchBasis) (watched : List Watched) : Type 0 where
   pub count : length watched ≡ length basis.situation.targets
   pub ready : All (IsReady basis.program) watched
 
@@ -42,14 +42,14 @@ abbrev pub AreEarly : ℕ → List Watched → Type 0
 AreEarly at watched = All (IsEarly at) watched
 
 -- A level has the places for a leg.
-pub record HasPlaces (basis : Basis) (leg : ℕ) (level : Level) : Type 0 where
+pub record HasPlaces (basis : SearchBasis) (leg : ℕ) (level : Level) : Type 0 where
   pub path : length level.path.items ≡ lasts basis.situation leg + 1
   pub targets : HasTargets basis level.watched.items
   pub fits : monitor.Fits basis.program level.ending
   pub room : monitor.HasRoom basis.program level.ending
 
 -- What is kept stands for the steps of a plan up to a tick.
-abbrev pub StandsAt : Basis → List ℕ → ℕ → List Watched → Type 0
+abbrev pub StandsAt : SearchBasis → List ℕ → ℕ → List Watched → Type 0
 StandsAt basis plan at watched = (k : ℕ) (t : Target) (a : Already) (w : Watched) (cut : Trace) → k < length basis.situation.targets
     → IsCutAtNow basis.situation (get_or basis.situation.targets k t) cut
     → Tells (formulas_of basis.situation) cut (get_or basis.already.items k a)
@@ -60,12 +60,12 @@ abbrev pub StaysOut : Situation → List ℕ → ℕ → Type 0
 StaysOut situation plan at = ¬ Some_ (EntersDomain situation plan at) situation.targets
 
 -- All of a search: a level at now, and one for each leg.
-pub record ArePlaces (basis : Basis) (leg : ℕ) (below : List Level) : Type 0 where
+pub record ArePlaces (basis : SearchBasis) (leg : ℕ) (below : List Level) : Type 0 where
   pub count : leg + length below ≡ basis.situation.lattice.legs
   pub each : (i : ℕ) (l : Level) → i < length below → HasPlaces basis (leg + i) (get_or below i l)
 
 -- What stands at now.
-pub record IsPrepared (basis : Basis) (start : Level) : Type 0 where
+pub record IsPrepared (basis : SearchBasis) (start : Level) : Type 0 where
   pub is_basis : IsBasis basis
   pub targets : HasTargets basis start.watched.items
   pub early : AreEarly (now_of basis.situation) start.watched.items

@@ -1,6 +1,6 @@
 use Rattle.std.proofs.Common.{◌≡◌, ◌<◌, ◌≤◌, List, length, refl, sym, subst, rules, arith, ℕ}
 use Rattle.std.specs.Vec.{vec_len}
-use Rattle.audit_rows.specs.declared.place.Place.{Place}
+use Rattle.audit_rows.specs.declared.sort_key.SortKey.{SortKey}
 use Rattle.audit_rows.specs.declared.row.Row.{Row}
 use Rattle.audit_rows.specs.Inner.Queues.{Holds, StandsFor}
 use Rattle.audit_rows.specs.Tracks.{Track, marked}
@@ -48,7 +48,7 @@ returns-in_ok-insert c = λ tracks bound given h next.
     let entries = entries_after old _ _ row c.in_ok-insert.ensures.entries c.place.ensures in
     record {
       lanes = lanes_marked lanes tracks i lane c.push.new.self c.args.step c.args.mark h.lanes there (sym c.in-Some.ensures.value) next c.push.ensures.stands;
-      holds = subst (λ (es : List (Place × Row)). Holds es (marked tracks i c.args.mark) bound given) (sym entries)
+      holds = subst (λ (es : List (SortKey × Row)). Holds es (marked tracks i c.args.mark) bound given) (sym entries)
           (closing old tracks bound given i c.args.mark at.track c.push.result h.holds at.at (c.push.ensures.closes at.track at.stands (next_of _ at.track c.args.step at.at next)) row c.in-Some-push.is
           (keys_in_order old _ row c.in_ok-insert.ensures.ordered entries));
     }

@@ -5,7 +5,7 @@ use Rattle.motion.specs.TickStates.{state_at}
 use Rattle.scenario.specs.Ticks.{window_end, time_of_tick}
 use Rattle.own_ship.specs.Inner.Facts.{known_at, legs_known}
 use Rattle.own_ship.proofs.Moving.{known_before, none_seen, on_legs}
-use Rattle.own_ship.proofs.track.Track.at.Goals as goal
+use Rattle.own_ship.proofs.track.KnownTrack.at.Goals as goal
 
 pub returns-in-Some-clause-moves : goal.returns-in-Some-clause-moves
 returns-in-Some-clause-moves c = λ earlier next.

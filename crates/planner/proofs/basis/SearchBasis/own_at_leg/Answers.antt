@@ -1,7 +1,7 @@
 use Rattle.std.proofs.Common.{ℕ, subst}
 use Rattle.planner.specs.Inner.Paths.{HasReached}
 use Rattle.planner.proofs.Extending.{reached_prefix}
-use Rattle.planner.proofs.basis.Basis.own_at_leg.Goals as goal
+use Rattle.planner.proofs.basis.SearchBasis.own_at_leg.Goals as goal
 
 pub returns : goal.returns
 returns c =

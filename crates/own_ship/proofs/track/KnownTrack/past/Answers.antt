@@ -9,7 +9,7 @@ use Rattle.planner.specs.Situations.{sighting}
 use Rattle.own_ship.specs.Inner.Facts.{IsKnownBelow, known_at}
 use Rattle.own_ship.proofs.Lists.{sighting_made}
 use Rattle.own_ship.proofs.Tracking.{known_so, one_known_more}
-use Rattle.own_ship.proofs.track.Track.past.Goals as goal
+use Rattle.own_ship.proofs.track.KnownTrack.past.Goals as goal
 
 pub loop-tick-preserved : goal.loop-tick-preserved
 loop-tick-preserved c =

@@ -6,7 +6,7 @@ use Rattle.motion.specs.declared.leg.TickState.{TickState}
 use Rattle.own_ship.specs.Inner.Facts.{IsKnownBelow, predicted_at}
 use Rattle.own_ship.proofs.Lists.{slice_get_made}
 use Rattle.own_ship.proofs.Tracking.{known_so, one_predicted_more}
-use Rattle.own_ship.proofs.track.Track.ahead.Goals as goal
+use Rattle.own_ship.proofs.track.KnownTrack.ahead.Goals as goal
 
 pub loop-tick-preserved : goal.loop-tick-preserved
 loop-tick-preserved c =

@@ -1,7 +1,7 @@
 use Rattle.std.proofs.Common.{◌≡◌, map, Some}
 use Rattle.std.specs.List.{range_with_len}
 use Rattle.own_ship.specs.Inner.Facts.{IsKnownBelow, predicted_at}
-use Rattle.own_ship.proofs.track.Track.ahead.Given as goal
+use Rattle.own_ship.proofs.track.KnownTrack.ahead.Given as goal
 
 -- the states at the first ticks from now on
 abbrev pub invariant-loop-tick : goal.invariant-loop-tick

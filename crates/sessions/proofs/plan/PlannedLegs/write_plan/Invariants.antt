@@ -3,7 +3,7 @@ use Rattle.std.specs.List.{range_with_len}
 use Rattle.audit_report.specs.CsvRows.{row_of}
 use Rattle.audit_report.specs.ReportTexts.{HasText}
 use Rattle.sessions.specs.PlanReport.{leg_fields}
-use Rattle.sessions.proofs.plan.Legs.write_plan.Given as goal
+use Rattle.sessions.proofs.plan.PlannedLegs.write_plan.Given as goal
 
 -- the rows of the first legs were added
 abbrev pub invariant-loop-leg : goal.invariant-loop-leg

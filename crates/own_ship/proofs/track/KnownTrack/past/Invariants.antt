@@ -1,7 +1,7 @@
 use Rattle.std.proofs.Common.{◌≡◌, map}
 use Rattle.std.specs.List.{range_with_len}
 use Rattle.own_ship.specs.Inner.Facts.{IsKnownBelow, known_at}
-use Rattle.own_ship.proofs.track.Track.past.Given as goal
+use Rattle.own_ship.proofs.track.KnownTrack.past.Given as goal
 
 -- the states at the first ticks
 abbrev pub invariant-loop-tick : goal.invariant-loop-tick

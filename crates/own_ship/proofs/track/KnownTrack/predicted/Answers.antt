@@ -1,5 +1,5 @@
 use Rattle.own_ship.proofs.Moving.{to_predicted}
-use Rattle.own_ship.proofs.track.Track.predicted.Goals as goal
+use Rattle.own_ship.proofs.track.KnownTrack.predicted.Goals as goal
 
 pub returns-clause-moves : goal.returns-clause-moves
 returns-clause-moves c = λ earlier next.

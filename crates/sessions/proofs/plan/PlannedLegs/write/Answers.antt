@@ -1,4 +1,4 @@
-use Rattle.sessions.proofs.plan.Legs.write.Goals as goal
+use Rattle.sessions.proofs.plan.PlannedLegs.write.Goals as goal
 
 pub returns-in-Some : goal.returns-in-Some
 returns-in-Some c = rw c.in-Some.is c.write_plan.ensures

@@ -4,7 +4,7 @@ use Rattle.audit_report.specs.CsvRows.{row_of}
 use Rattle.audit_report.specs.ReportTexts.{HasText}
 use Rattle.sessions.specs.PlanReport.{leg_fields}
 use Rattle.sessions.proofs.PlanText.{one_leg_on}
-use Rattle.sessions.proofs.plan.Legs.write_plan.Goals as goal
+use Rattle.sessions.proofs.plan.PlannedLegs.write_plan.Goals as goal
 
 pub loop-leg-preserved : goal.loop-leg-preserved
 loop-leg-preserved c = λ front has.
