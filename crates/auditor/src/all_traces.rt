@@ -27,8 +27,8 @@ use outside::Memory;
 use std::alloc::Global;
 use std::collections::BTreeSet;
 
-/// The greatest number of traces.
-const MOST_TRACES: usize = 4096;
+/// So many traces an audit follows at most.
+pub const MOST_TRACES: usize = 4096;
 
 /// Takes the step of a trace from the one sighting to the next: its tracks begin at this index.
 fn follow_one(
@@ -76,7 +76,7 @@ fn follow_each(
     requires moves { MoveLittle before.now seen.now }
     requires few { step < 20000 }
     requires ready { All (IsReady program.now step) traces.old }
-    requires many { length traces.old ≤ 4096 }
+    requires many { length traces.old ≤ MOST_TRACES }
     requires rules { count_of program.now ≤ 17 }
     requires totals { rules_of marks.old ≡ count_of program.now }
     ensures ready { OnOk result (All (IsReady program.now (step + 1)) traces.new) }
@@ -99,7 +99,7 @@ fn follow_each(
 /// Ends each trace.
 fn end_each(traces: &mut [AuditTrace], program: &Program, marks: &mut Marks) -> Result<(), Memory>
     requires ready { All (IsReady program.now 20000) traces.old }
-    requires many { length traces.old ≤ 4096 }
+    requires many { length traces.old ≤ MOST_TRACES }
     requires rules { count_of program.now ≤ 17 }
     requires totals { rules_of marks.old ≡ count_of program.now }
     ensures { OnOk result ((numbers : AuditNumbers) (knowns : List Known) (tracks : List Track) (bound : ℕ) (given : List Row)
@@ -196,7 +196,7 @@ impl AllTraces {
     fn begin_one(&mut self, pair: Pair, start: u32) -> Result<(), Memory>
         requires early { start ≤ 20000 }
         requires ready { AreReady self.old start }
-        requires few { traces_of self.old < 4096 }
+        requires few { traces_of self.old < MOST_TRACES }
         ensures ready { OnOk result (AreReady self.new start) }
         ensures holds { OnOk result ((numbers : AuditNumbers) (knowns : List Known) (bound : ℕ) (given : List Row) → Holds self.old numbers knowns bound given
             → ¬ Contains (pairs_of knowns) pair → bound ≤ start → Holds self.new numbers (knowns ++ opened pair start ∷ []) bound given) }
@@ -221,7 +221,7 @@ impl AllTraces {
         ensures ready { OnOk result (AreReady self.new start) }
         ensures holds { OnOk result ((numbers : AuditNumbers) (knowns : List Known) (bound : ℕ) (given : List Row) → Holds self.old numbers knowns bound given
             → ¬ Contains (pairs_of knowns) pair → bound ≤ start → Holds self.new numbers (knowns ++ opened pair start ∷ []) bound given) }
-        ensures many { result ≡ Err TooManyPairs → traces_of self.old ≡ 4096 }
+        ensures many { result ≡ Err TooManyPairs → traces_of self.old ≡ MOST_TRACES }
     {
         if self.traces.len() == MOST_TRACES {
             return Err(AuditFault::TooManyPairs);

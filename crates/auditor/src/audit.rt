@@ -9,6 +9,7 @@ ghost use Rattle.auditor.specs.AuditRows.{AreAuditRows, AreAuditRowsBelow};
 ghost use Rattle.auditor.specs.AuditTotals.{AreTotals};
 ghost use Rattle.auditor.specs.Inner.TracesKept.{AreReady, HoldsNow, HoldsOn, IsNextTick};
 ghost use Rattle.auditor.specs.Standing.{HaveMoreThan, IsSound, StandsFor, given_of, last_tick_of, latest_sighting, settled_by};
+ghost use Rattle.auditor.specs.declared.all_traces.TheConstants.{MOST_TRACES};
 ghost use Rattle.auditor.specs.declared.fault.AuditFault.TheVariants.{TooManyPairs};
 
 use crate::all_traces::AllTraces;
@@ -78,7 +79,7 @@ fn begin(
         → HoldsNow traces.new numbers (ticks ++ seen.now ∷ []) bound rows) }
     ensures many { result ≡ Err TooManyPairs → (numbers : AuditNumbers) (ticks : List Sighting) (bound : ℕ) (rows : List Row)
         → IsNextTick numbers ticks subjects.now last_tick given bound → HoldsOn traces.old numbers ticks seen.now bound rows
-        → HaveMoreThan 4096 numbers (ticks ++ seen.now ∷ []) }
+        → HaveMoreThan MOST_TRACES numbers (ticks ++ seen.now ∷ []) }
 {
     if last_tick <= given {
         return Ok(());
@@ -109,7 +110,7 @@ fn take(
         → HoldsNow traces.old numbers ticks bound rows → HoldsNow traces.new numbers (ticks ++ seen.now ∷ []) bound rows) }
     ensures many { result ≡ Err TooManyPairs → (numbers : AuditNumbers) (ticks : List Sighting) (bound : ℕ) (rows : List Row)
         → IsNextTick numbers ticks subjects.now last_tick given bound → latest.now ≡ last_sighting ticks
-        → HoldsNow traces.old numbers ticks bound rows → HaveMoreThan 4096 numbers (ticks ++ seen.now ∷ []) }
+        → HoldsNow traces.old numbers ticks bound rows → HaveMoreThan MOST_TRACES numbers (ticks ++ seen.now ∷ []) }
 {
     follow(traces, latest, seen, given)?;
     begin(traces, subjects, seen, given, last_tick)
@@ -195,9 +196,9 @@ impl Audit {
             → AreAuditRowsBelow numbers (ticks ++ seen.now ∷ []) (settled_by numbers (length ticks)) (given ++ rows.items)) }
         // The limit is met exactly where the tick begins a 4097th trace; memory may run out before.
         ensures many { result ≡ Err TooManyPairs → (numbers : AuditNumbers) (ticks : List Sighting) (given : List Row) → StandsFor self.old numbers ticks given
-            → HaveMoreThan 4096 numbers (ticks ++ seen.now ∷ []) }
+            → HaveMoreThan MOST_TRACES numbers (ticks ++ seen.now ∷ []) }
         ensures few { OnOk result ((numbers : AuditNumbers) (ticks : List Sighting) (given : List Row) → StandsFor self.old numbers ticks given
-            → HaveMoreThan 4096 numbers (ticks ++ seen.now ∷ []) → ⊥) }
+            → HaveMoreThan MOST_TRACES numbers (ticks ++ seen.now ∷ []) → ⊥) }
     {
         take(
             &mut self.traces,

@@ -11,6 +11,7 @@ mod fault;
 mod known_pairs;
 pub mod laws;
 
+pub use all_traces::MOST_TRACES;
 pub use audit::{Audit, AuditEnd};
 pub use audit_rows::Row;
 pub use audit_traces::Total;

@@ -4,16 +4,10 @@ ghost use Rattle.colregs_program.specs.Inner.Streaming.{stream_status};
 
 use crate::status::{Status, Which};
 use crate::streaming::StreamFault;
+use auditor::MOST_TRACES;
+use own_ship::MOST_TARGETS;
 use sessions::SessionFault;
-
-/// The greatest number of vessels that are held.
-const GREATEST_HELD: u64 = 4096;
-
-/// The greatest number of traces.
-const GREATEST_TRACES: u64 = 4096;
-
-/// The greatest number of targets.
-const GREATEST_TARGETS: u64 = 64;
+use tracks::MOST_VESSELS;
 
 /// How a run ends with a fault, where its log may have so many bytes.
 pub(crate) fn stream_status(fault: StreamFault, most: u64) -> Status
@@ -23,11 +17,11 @@ pub(crate) fn stream_status(fault: StreamFault, most: u64) -> Status
         StreamFault::NotRead => Status::ReadFault,
         StreamFault::NotWritten => Status::WriteFault,
         StreamFault::Unreported(why) => match why {
-            SessionFault::Vessels => Status::Limit(Which::Vessels, GREATEST_HELD),
-            SessionFault::Pairs => Status::Limit(Which::Pairs, GREATEST_TRACES),
+            SessionFault::Vessels => Status::Limit(Which::Vessels, MOST_VESSELS as u64),
+            SessionFault::Pairs => Status::Limit(Which::Pairs, MOST_TRACES as u64),
             SessionFault::LogBytes => Status::Limit(Which::Log, most),
             SessionFault::Own(why) => Status::OwnUnready(why),
-            SessionFault::Targets => Status::Limit(Which::Targets, GREATEST_TARGETS),
+            SessionFault::Targets => Status::Limit(Which::Targets, MOST_TARGETS as u64),
             SessionFault::Memory => Status::Memory,
         },
     }

@@ -130,6 +130,54 @@ fn each_rule_is_printed_as_its_text_means(rt: HostRuntime) -> Result<(), Fail> {
     Ok(())
 }
 
+/// The same of the rules with ranks: the name of each, and how it is printed.
+const RANKED: [(&[u8], &[u8]); 12] = [
+    (b"r8b", b"(alters -> F[0,60] (apparent | !engaged))"),
+    (b"r8d", b"(engaged -> clear(200))"),
+    (b"r13", b"((engaged & overtaking) -> clear(250))"),
+    (
+        b"r14a",
+        b"(((begin & head_on) & both_power) -> F[0,70] (to_starboard | !engaged))",
+    ),
+    (b"r14b", b"(((engaged & head_on) & both_power) -> !to_port)"),
+    (
+        b"r14p",
+        b"((((engaged & head_on) & both_power) & opening) -> other_on_port)",
+    ),
+    (
+        b"r15",
+        b"(((engaged & crossing_gives) & both_power) -> !ahead)",
+    ),
+    (
+        b"r16",
+        b"((begin & ((overtaking | rank_gives) | (crossing_gives & both_power))) -> F[0,70] (apparent | !engaged))",
+    ),
+    (
+        b"r17a",
+        b"(((engaged & ((overtaken | rank_stands) | (crossing_stands & both_power))) & !(engaged S[0,600] ((age(100) & H[0,100] ((engaged & risk) & !other_apparent)) | ((engaged & risk) & close(300))))) -> !alters)",
+    ),
+    (
+        b"r17b",
+        b"((((overtaken | rank_stands) | (crossing_stands & both_power)) & ((engaged & risk) & close(300))) -> F[0,20] (apparent | !engaged))",
+    ),
+    (
+        b"r17c",
+        b"(((((engaged & crossing_stands) & both_power) & (engaged S[0,600] ((age(100) & H[0,100] ((engaged & risk) & !other_apparent)) | ((engaged & risk) & close(300))))) & !((engaged & risk) & close(300))) -> !to_port)",
+    ),
+    (b"r18", b"((engaged & rank_gives) -> clear(200))"),
+];
+
+#[test]
+fn each_ranked_rule_is_printed(rt: HostRuntime) -> Result<(), Fail> {
+    let alloc = rt.alloc();
+    let set = RuleSet::new_ranked(alloc, &NUMBERS, TICK)?;
+    is(&rt, set.len(), RANKED.len());
+    for (k, (name, printed)) in RANKED.iter().enumerate() {
+        is_printed(&rt, alloc, &set, k, name, printed)?;
+    }
+    Ok(())
+}
+
 #[test]
 fn a_distance_per_kind_has_a_part_each(rt: HostRuntime) -> Result<(), Fail> {
     let alloc = rt.alloc();

@@ -8,6 +8,7 @@ use Rattle.tracks.specs.AcceptedReports.{JudgingNumbers}
 use Rattle.tracks.specs.VesselsHeld.{Sent, entry_of, held_of, report_in}
 use Rattle.tracks.specs.declared.entry.Entry.{Entry}
 use Rattle.tracks.specs.declared.entry.Entry.TheVariants as entry
+use Rattle.tracks.specs.declared.book.TheConstants.{MOST_VESSELS}
 use Rattle.judged_lines.specs.EachLine.{each_line}
 use Rattle.judged_lines.specs.LineOutcomes.{outcome_index, report_outcome}
 use Rattle.judged_lines.specs.SentLines.{sent, sent_of}
@@ -58,7 +59,7 @@ held_behind scenario before line = length (held_of (numbers_of scenario) (sent s
 
 -- the greatest number of vessels that are held
 abbrev pub greatest_held : ℕ
-greatest_held = 4096
+greatest_held = MOST_VESSELS
 
 -- Some line makes more vessels held.
 unfoldable pub is_crowded : Scenario → List (List ℕ) → Bool

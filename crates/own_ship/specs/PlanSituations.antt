@@ -20,6 +20,7 @@ use Rattle.own_ship.specs.Readiness.{readiness_of}
 use Rattle.own_ship.specs.declared.near.Near.{Near}
 use Rattle.own_ship.specs.declared.readiness.Ready.{Ready}
 use Rattle.own_ship.specs.declared.readiness.Unready.{Unready}
+use Rattle.own_ship.specs.declared.preparation.TheConstants.{MOST_TARGETS}
 
 -- tenths of a millimetre in a metre
 abbrev pub metre : ℕ
@@ -27,7 +28,7 @@ metre = 10000
 
 -- the greatest number of targets
 abbrev pub greatest_targets : ℕ
-greatest_targets = 64
+greatest_targets = MOST_TARGETS
 
 -- how a vessel is known at the ticks up to now, by the changes that are predicted of her
 abbrev pub past_of : JudgingNumbers → List Sent → Window → List Change → Near → List (Option TickState)

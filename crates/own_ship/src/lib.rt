@@ -9,5 +9,5 @@ mod targets;
 mod track;
 
 pub use near::Near;
-pub use preparation::{PrepareFault, Prepared, prepare};
+pub use preparation::{MOST_TARGETS, PrepareFault, Prepared, prepare};
 pub use readiness::{Ready, Unready};

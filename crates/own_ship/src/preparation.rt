@@ -27,7 +27,7 @@ use std::alloc::Global;
 use tracks::Book;
 
 /// The greatest number of targets.
-const MOST_TARGETS: usize = 64;
+pub const MOST_TARGETS: usize = 64;
 
 /// Why there is no situation in which to seek a plan.
 #[derive(Clone, Copy, Debug, PartialEq, Eq)]

@@ -7,6 +7,7 @@ use Rattle.fixed_geometry.specs.Velocity.{velocity_of}
 use Rattle.fixed_geometry.specs.declared.point.Point.{Point}
 use Rattle.motion.specs.declared.leg.TickState.{TickState}
 use Rattle.predictions.specs.declared.changes.Change.{Change}
+use Rattle.tracks.specs.JoinedReports.{reported_direction}
 use Rattle.tracks.specs.declared.accepted.Accepted.{Accepted}
 use Rattle.planner.specs.declared.prediction.Motion.{Motion}
 
@@ -14,14 +15,6 @@ use Rattle.planner.specs.declared.prediction.Motion.{Motion}
 unfoldable pub velocity_by : Option ℕ → Option ℕ → Point
 velocity_by (Some course) (Some speed) = velocity_of course speed
 velocity_by _ _ = record { x = pos 0; y = pos 0 }
-
--- the direction of a report: its heading, which is in whole degrees, else its course
-unfoldable pub reported_direction : PositionReport → Option ℕ
-reported_direction report = heading_else report.cog report.heading
-  where
-    heading_else : Option ℕ → Option ℕ → Option ℕ
-    heading_else course (Some degrees) = Some (10 * degrees)
-    heading_else course None = course
 
 -- how she moves by her report, and by a change, whose course is her direction too
 unfoldable pub reported_motion : PositionReport → Motion

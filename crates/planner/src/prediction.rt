@@ -5,14 +5,14 @@ ghost use Rattle.fixed_geometry.specs.Sizes.{IsWithin};
 ghost use Rattle.motion.specs.Displacement.{displacement};
 ghost use Rattle.motion.specs.TickStates.{IsTickState};
 ghost use Rattle.tracks.specs.Standing.{IsAccepted};
-ghost use Rattle.planner.specs.Prediction.{changed_motion, predicted_state, reported_direction, reported_motion, velocity_by, AreChanges};
+ghost use Rattle.planner.specs.Prediction.{changed_motion, predicted_state, reported_motion, velocity_by, AreChanges};
 ghost use Rattle.planner.specs.Inner.Runs.{gone_by, IsMotion};
 
 use ais_messages::PositionReport;
 use fixed_geometry::{Point, velocity};
 use motion::TickState;
 use predictions::Change;
-use tracks::Accepted;
+use tracks::{Accepted, reported_direction};
 
 /// How a vessel moves for a while.
 #[derive(Clone, Copy, Debug, PartialEq, Eq)]
@@ -41,19 +41,6 @@ fn velocity_by(course: Option<u16>, speed: Option<u16>) -> Point
     match (course, speed) {
         (Some(course), Some(speed)) => velocity(course, speed),
         _ => Point { x: 0, y: 0 },
-    }
-}
-
-/// The direction of a report, in tenths of a degree: its heading, which is in whole degrees, else its course.
-#[tactic(auto, unfolding(crate::specs::Prediction::reported_direction))]
-fn reported_direction(report: &PositionReport) -> Option<u16>
-    requires { IsReport report.now }
-    ensures value { result ≡ reported_direction report.now }
-    ensures below { IfSome result (λ d. d < 3600) }
-{
-    match report.heading {
-        Some(degrees) => Some(10 * degrees),
-        None => report.cog,
     }
 }
 

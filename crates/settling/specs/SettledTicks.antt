@@ -1,6 +1,7 @@
 -- Which ticks no later line of a log can change.
 use Rattle.std.specs.Prelude.{ℕ, ◌+◌, ◌<◌, ◌≤◌, List, IsSomeAnd}
 use Rattle.auditor.specs.Standing.{HaveMoreThan}
+use Rattle.auditor.specs.declared.all_traces.TheConstants.{MOST_TRACES}
 use Rattle.judged_lines.specs.LineTimes.{clock_of}
 use Rattle.judged_lines.specs.SentLines.{sent}
 use Rattle.scenario.specs.declared.values.Scenario.{Scenario}
@@ -15,7 +16,7 @@ pub record IsSettled (scenario : Scenario) (lines : List (List ℕ)) (i : ℕ) :
 
 -- the greatest number of traces
 abbrev pub greatest_traces : ℕ
-greatest_traces = 4096
+greatest_traces = MOST_TRACES
 
 -- More traces begin at settled ticks, the first so many.
 pub record HaveManySettled (scenario : Scenario) (lines : List (List ℕ)) : Type 0 where

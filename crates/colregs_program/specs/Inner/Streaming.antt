@@ -9,7 +9,10 @@ use Rattle.audit_report.specs.declared.report_text.ReportText.{ReportText}
 use Rattle.outside.specs.declared.whole.ReadFault.TheVariants as read
 use Rattle.command_line.specs.declared.mode.Mode.{Mode}
 use Rattle.command_line.specs.declared.request.Request.{Request}
+use Rattle.judged_lines.specs.JudgedLines.{greatest_held}
+use Rattle.own_ship.specs.PlanSituations.{greatest_targets}
 use Rattle.scenario.specs.declared.values.Scenario.{Scenario}
+use Rattle.settling.specs.SettledTicks.{greatest_traces}
 use Rattle.sessions.specs.Endings.{IsAnswerTo}
 use Rattle.sessions.specs.Modes.{reads_log}
 use Rattle.sessions.specs.Refusals.{IsStopped, IsUnrefused}
@@ -33,11 +36,11 @@ no_memory = fault.Unreported why.Memory
 abbrev pub stream_status : StreamFault → ℕ → Status
 stream_status fault.NotRead most = status.ReadFault
 stream_status fault.NotWritten most = status.WriteFault
-stream_status (fault.Unreported why.Vessels) most = status.Limit which.Vessels 4096
-stream_status (fault.Unreported why.Pairs) most = status.Limit which.Pairs 4096
+stream_status (fault.Unreported why.Vessels) most = status.Limit which.Vessels greatest_held
+stream_status (fault.Unreported why.Pairs) most = status.Limit which.Pairs greatest_traces
 stream_status (fault.Unreported why.LogBytes) most = status.Limit which.Log most
 stream_status (fault.Unreported (why.Own lack)) most = status.OwnUnready lack
-stream_status (fault.Unreported why.Targets) most = status.Limit which.Targets 64
+stream_status (fault.Unreported why.Targets) most = status.Limit which.Targets greatest_targets
 stream_status (fault.Unreported why.Memory) most = status.Memory
 
 -- The session was fed what was taken of the log, and the sink gained what it has given.
