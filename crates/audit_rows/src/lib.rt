@@ -13,9 +13,9 @@ mod counts;
 mod lane;
 pub mod laws;
 mod mark;
-mod place;
 mod row;
 mod row_queue;
+mod sort_key;
 mod stretch;
 mod topic;
 
