@@ -9,7 +9,7 @@ use Rattle.std.proofs.lemmas.Bool.Decides.{nat_tests}
 use Rattle.std.proofs.lemmas.Cmp.{nat_cmp_total}
 use Rattle.meetings.specs.declared.pair.Pair.{Pair}
 use Rattle.audit_rows.specs.Order.{InOrder, pair_cmp, place_cmp, sort_key_of, topic_cmp}
-use Rattle.audit_rows.specs.declared.place.Place.{Place}
+use Rattle.audit_rows.specs.declared.sort_key.SortKey.{SortKey}
 use Rattle.audit_rows.specs.declared.row.Row.{Row}
 use Rattle.audit_rows.specs.declared.topic.Topic.{Topic}
 use Rattle.audit_rows.specs.declared.topic.Topic.TheVariants.{Meeting, Verdict}
@@ -48,18 +48,18 @@ topic_back (Verdict a rule) (Meeting b) = refl
 topic_back (Verdict a rule) (Verdict b other) =
     ap₂ ordering_then (pair_back a b) (nat_cmp_total.antisymm rule other) ∙ then_back (pair_cmp b a) (nat_cmp other rule)
 
-place_back : (a b : Place) → place_cmp a b ≡ ordering_reverse (place_cmp b a)
+place_back : (a b : SortKey) → place_cmp a b ≡ ordering_reverse (place_cmp b a)
 place_back a b =
     ap₂ ordering_then (nat_cmp_total.antisymm a.last b.last) (topic_back a.topic b.topic) ∙ then_back (nat_cmp b.last a.last) (topic_cmp b.topic a.topic)
 
-not_both : {G : Type 0} (a b : Place) → place_cmp a b ≡ Less → place_cmp b a ≡ Less → G
+not_both : {G : Type 0} (a b : SortKey) → place_cmp a b ≡ Less → place_cmp b a ≡ Less → G
 not_both a b p q = let e : Less ≡ ordering_reverse Less = sym p ∙ (place_back a b ∙ ap ordering_reverse q) in absurd (cc)
 
 le_or_gt : (m n : ℕ) → (m ≤ n) ⊎ (n < m)
 le_or_gt m n = grind arith
 
 -- what stands before another ends no later
-pub no_later : (a b : Place) → place_cmp a b ≡ Less → a.last ≤ b.last
+pub no_later : (a b : SortKey) → place_cmp a b ≡ Less → a.last ≤ b.last
 no_later a b before = elim (le_or_gt a.last b.last) [
   | inl le ↦ le
   | inr gt ↦ (let e : nat_cmp a.last b.last ≡ Greater = grind (arith, nat_tests) in
@@ -69,7 +69,7 @@ no_later a b before = elim (le_or_gt a.last b.last) [
 
 -- ---- rows in order
 
-all_at : (P : Place → Type 0) (rows : List Row) (row : Row) → AllByRecursion P (map sort_key_of rows) → Contains rows row → P (sort_key_of row)
+all_at : (P : SortKey → Type 0) (rows : List Row) (row : Row) → AllByRecursion P (map sort_key_of rows) → Contains rows row → P (sort_key_of row)
 all_at P [] row all i = in_none row i
 all_at P (r ∷ rs) row all i = elim (in_cons r rs row i) [
   | inl same ↦ subst (λ (x : Row). P (sort_key_of x)) same all.0
