@@ -1,4 +1,5 @@
 //! Lines that are judged as they end.
+use crate::compared::is;
 use scenario::read;
 use scenario_rows::SCENARIO;
 use std::test::Fail;
@@ -14,8 +15,8 @@ fn a_line_is_judged_as_it_ends(rt: HostRuntime) -> Result<(), Fail> {
     for byte in b"!AIVDM,1,1,,A,15P5TL0P2l00001wwHt000000000,0*5C\r\n!AIVDM" {
         lines.take(&[*byte])?;
     }
-    assert_eq!(rt; lines.judge().counts()[20], 1);
+    is(&rt, lines.judge().counts()[20], 1);
     let ended = lines.end()?;
-    assert_eq!(rt; ended.judge.counts()[3], 1);
+    is(&rt, ended.judge.counts()[3], 1);
     Ok(())
 }

@@ -2,6 +2,8 @@
 #![tactic(auto)]
 
 #[cfg(test)]
+mod compared;
+#[cfg(test)]
 mod ended_lines;
 #[cfg(test)]
 mod open_lines;

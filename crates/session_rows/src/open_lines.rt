@@ -1,4 +1,5 @@
 //! A line that comes in pieces.
+use crate::compared::is_true;
 use growing_log::OpenLine;
 
 fn has_line(open: &OpenLine, bytes: &[u8]) -> bool {
@@ -11,12 +12,12 @@ fn has_line(open: &OpenLine, bytes: &[u8]) -> bool {
 #[test]
 fn a_line_comes_in_pieces(rt: HostRuntime) -> Result<(), outside::Memory> {
     let mut open = OpenLine::new(rt.alloc());
-    assert!(&rt; open.is_empty());
+    is_true(&rt, open.is_empty());
     open.extend(b"!AIVDM")?;
     open.extend(b",1\r")?;
-    assert!(&rt; has_line(&open, b"!AIVDM,1"));
+    is_true(&rt, has_line(&open, b"!AIVDM,1"));
     open.end();
-    assert!(&rt; has_line(&open, b""));
+    is_true(&rt, has_line(&open, b""));
     Ok(())
 }
 
@@ -27,8 +28,8 @@ fn no_more_is_kept_than_tells_that_a_line_is_too_long(
     let mut open = OpenLine::new(rt.alloc());
     open.extend(&[b'x'; 1024])?;
     open.extend(b"\r")?;
-    assert!(&rt; has_line(&open, &[b'x'; 1024]));
+    is_true(&rt, has_line(&open, &[b'x'; 1024]));
     open.extend(b"x")?;
-    assert!(&rt; open.line().is_none());
+    is_true(&rt, open.line().is_none());
     Ok(())
 }

@@ -3,6 +3,7 @@ ghost use Rattle.std.specs.Prelude.{◌≡◌, ◌≤◌, IfOk, IsTrue, false};
 ghost use Rattle.sessions.specs.Modes.{needs_own, reports};
 ghost use Rattle.sessions.specs.Standing.{IsInUse};
 
+use crate::compared::{is, is_true};
 use scenario::read;
 use scenario_rows::{HEAD_ON, SCENARIO};
 use sessions::{Mode, Session, SessionFault};
@@ -62,17 +63,18 @@ fn audit(alloc: Global, last: &[u8], count: usize) -> Result<(Vec<u8>, Vec<u8>),
 fn rows_are_given_once_no_later_line_can_change_them(rt: HostRuntime) -> Result<(), Fail> {
     for count in [1, 50, 4096] {
         let (given, rest) = audit(rt.alloc(), b"\\c:1700000740*5C\\x\n", count)?;
-        assert_eq!(rt; given.as_slice(), b"".as_slice());
-        assert!(rt; rest.as_slice().starts_with(FIRST_FOUR));
+        is(&rt, given.as_slice(), b"".as_slice());
+        is_true(&rt, rest.as_slice().starts_with(FIRST_FOUR));
         let (given, rest) = audit(rt.alloc(), b"\\c:1700000741*5D\\x\n", count)?;
-        assert_eq!(rt; given.as_slice(), FIRST_TWO);
-        assert!(rt;
+        is(&rt, given.as_slice(), FIRST_TWO);
+        is_true(
+            &rt,
             rest.as_slice()
-                .ends_with(b"lines,static,1,,,,\nlines,point,4,,,,\n")
+                .ends_with(b"lines,static,1,,,,\nlines,point,4,,,,\n"),
         );
         let (given, rest) = audit(rt.alloc(), b"\\c:1700000951*52\\x\n", count)?;
-        assert_eq!(rt; given.as_slice(), FIRST_FOUR);
-        assert!(rt; rest.as_slice().starts_with(REST));
+        is(&rt, given.as_slice(), FIRST_FOUR);
+        is_true(&rt, rest.as_slice().starts_with(REST));
     }
     Ok(())
 }
@@ -81,8 +83,8 @@ fn rows_are_given_once_no_later_line_can_change_them(rt: HostRuntime) -> Result<
 #[test]
 fn a_line_without_its_line_feed_moves_no_clock(rt: HostRuntime) -> Result<(), Fail> {
     let (given, rest) = audit(rt.alloc(), b"\\c:1700000951*52\\x", 50)?;
-    assert_eq!(rt; given.as_slice(), b"".as_slice());
-    assert!(rt; rest.as_slice().starts_with(FIRST_FOUR));
+    is(&rt, given.as_slice(), b"".as_slice());
+    is_true(&rt, rest.as_slice().starts_with(FIRST_FOUR));
     Ok(())
 }
 
@@ -98,19 +100,23 @@ fn a_piece_of_a_million_bytes(rt: HostRuntime) -> Result<(), Fail> {
     let Ok(given) = session.feed(log.as_slice()) else {
         return Err("nothing is refused".into());
     };
-    assert_eq!(rt;
+    is(
+        &rt,
         given
             .as_slice()
             .iter()
             .filter(|byte| **byte == b'\n')
             .count(),
-        4
+        4,
     );
     let Ok(ending) = session.end() else {
         return Err("nothing is refused".into());
     };
-    assert!(rt; ending.bytes.as_slice().starts_with(b"lines,empty,0,,,,\n"));
-    assert!(rt; !ending.none);
+    is_true(
+        &rt,
+        ending.bytes.as_slice().starts_with(b"lines,empty,0,,,,\n"),
+    );
+    is_true(&rt, !ending.none);
     Ok(())
 }
 
@@ -119,15 +125,16 @@ fn a_piece_of_a_million_bytes(rt: HostRuntime) -> Result<(), Fail> {
 fn a_log_of_one_byte_too_many(rt: HostRuntime) -> Result<(), Fail> {
     let line = b"!AIVDM,1,1,,A,15P5TL0P2l00001wwHt000000000,0*5C\n";
     let mut long = session(rt.alloc(), "max_bytes = 47\n", Mode::Points)?;
-    assert!(rt; matches!(long.feed(line), Err(SessionFault::LogBytes)));
+    is_true(&rt, matches!(long.feed(line), Err(SessionFault::LogBytes)));
     let mut short = session(rt.alloc(), "max_bytes = 48\n", Mode::Points)?;
     let Ok(given) = short.feed(line) else {
         return Err("nothing is refused".into());
     };
-    assert_eq!(rt;
+    is(
+        &rt,
         given.as_slice(),
-        b"point,369190000,1700000000,0,-18520000,180,0\n".as_slice()
+        b"point,369190000,1700000000,0,-18520000,180,0\n".as_slice(),
     );
-    assert_eq!(rt; short.room(), 0);
+    is(&rt, short.room(), 0);
     Ok(())
 }

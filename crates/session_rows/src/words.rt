@@ -1,4 +1,5 @@
 //! Words that are accepted and words that are not, as a user writes them.
+use crate::compared::{is, is_true};
 use command_line::{Mode, Options, Request, Told, WordsFault, request_of, told_text, told_word};
 use outside::{Memory, Word};
 use std::alloc::{AllocError, Global};
@@ -33,9 +34,9 @@ fn are_asked(rt: &impl Abort, alloc: Global, rows: &[Asked]) {
     for (texts, mode, name, options) in rows {
         match asked(alloc, texts) {
             Ok(request) => {
-                assert_eq!(rt; request.mode, *mode);
-                assert_eq!(rt; request.name.text(), *name);
-                assert_eq!(rt; request.options, *options);
+                is(rt, request.mode, *mode);
+                is(rt, request.name.text(), *name);
+                is(rt, request.options, *options);
             }
             Err(_) => assert!(rt; false, "{name}"),
         }
@@ -45,7 +46,7 @@ fn are_asked(rt: &impl Abort, alloc: Global, rows: &[Asked]) {
 /// Whether the words of each row ask for nothing.
 fn are_usage(rt: &impl Abort, alloc: Global, rows: &[&'static [&'static str]]) {
     for texts in rows {
-        assert!(rt; matches!(asked(alloc, texts), Err(WordsFault::Usage)));
+        is_true(rt, matches!(asked(alloc, texts), Err(WordsFault::Usage)));
     }
 }
 
@@ -151,7 +152,7 @@ const TOLD: [(&[&str], Option<Told>); 7] = [
 #[test]
 fn a_single_word_is_told(rt: HostRuntime) -> Result<(), Memory> {
     for (texts, expected) in TOLD {
-        assert_eq!(rt; told(rt.alloc(), texts)?, expected);
+        is(&rt, told(rt.alloc(), texts)?, expected);
     }
     Ok(())
 }
