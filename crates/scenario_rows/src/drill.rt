@@ -2,6 +2,7 @@
 ghost use Rattle.std.specs.Prelude.{◌≤◌};
 
 use crate::SCENARIO;
+use crate::compared::{is, is_true};
 use ais_messages::{Decoded, Message, PositionReport, decode};
 use aivdm::{Body, Joined, Joiner, read_line};
 use drill_log::drill_log;
@@ -35,14 +36,16 @@ fn reported(alloc: Global, log: &[u8], line: usize) -> Result<PositionReport, Fa
 #[test]
 fn first_and_last_lines(rt: HostRuntime) -> Result<(), Fail> {
     let log = log_with(rt.alloc(), 1)?;
-    assert_eq!(rt; log.len(), 280 * 65);
-    assert!(rt;
+    is(&rt, log.len(), 280 * 65);
+    is_true(
+        &rt,
         log.starts_with(
-            b"\\c:1700000000*5F\\!AIVDM,1,1,,A,12vg20@P1<006sH00a<t3?v00000,0*45\n\\c:1700000000*5F\\!AIVDM,1,1,,A,12vg20PP1eOwnQP00SNAiwv00000,0*31\n"
-        )
+            b"\\c:1700000000*5F\\!AIVDM,1,1,,A,12vg20@P1<006sH00a<t3?v00000,0*45\n\\c:1700000000*5F\\!AIVDM,1,1,,A,12vg20PP1eOwnQP00SNAiwv00000,0*31\n",
+        ),
     );
-    assert!(rt;
-        log.ends_with(b"\n\\c:1700000360*5A\\!AIVDM,1,1,,A,12vg2:0P1K002wf00D3<pOv00000,0*37\n")
+    is_true(
+        &rt,
+        log.ends_with(b"\n\\c:1700000360*5A\\!AIVDM,1,1,,A,12vg2:0P1K002wf00D3<pOv00000,0*37\n"),
     );
     Ok(())
 }
@@ -60,16 +63,16 @@ fn two_reports_of_the_first_vessel(rt: HostRuntime) -> Result<(), Fail> {
         heading: None,
         second: 0,
     };
-    assert_eq!(rt; reported(rt.alloc(), &log, 0)?, report);
+    is(&rt, reported(rt.alloc(), &log, 0)?, report);
     report.place = Some((11341, 13189));
-    assert_eq!(rt; reported(rt.alloc(), &log, 40)?, report);
+    is(&rt, reported(rt.alloc(), &log, 40)?, report);
     Ok(())
 }
 
 #[test]
 fn same_bytes_from_the_same_seed(rt: HostRuntime) -> Result<(), Fail> {
     let log = log_with(rt.alloc(), 7)?;
-    assert!(rt; log == log_with(rt.alloc(), 7)?);
-    assert!(rt; log != log_with(rt.alloc(), 1)?);
+    is_true(&rt, log == log_with(rt.alloc(), 7)?);
+    is_true(&rt, log != log_with(rt.alloc(), 1)?);
     Ok(())
 }

@@ -1,4 +1,5 @@
 //! Scenarios of version 1 as ones of version 2.
+use crate::compared::{is, is_true};
 use crate::values::{
     ACT, DETECT, LOG, WINDOW, good, is_rule, scenario_of, second_version, with_own,
     with_predictions,
@@ -27,13 +28,16 @@ fn a_migrated_scenario_has_the_same_values(rt: HostRuntime) -> Result<(), Fail> 
     let first = good(rt.alloc())?;
     let text = moved(rt.alloc(), first.as_str())?;
     let scenario = scenario_of(rt.alloc(), text.as_str(), false)?;
-    assert_eq!(rt; scenario.window, WINDOW);
-    assert_eq!(rt; scenario.log, LOG);
-    assert_eq!(rt; scenario.detect, DETECT);
-    assert_eq!(rt; scenario.act, ACT);
-    assert_eq!(rt; scenario.rules.len(), 11);
-    assert!(rt; is_rule(rt.alloc(), &scenario.rules, 1, "r8d", SAME_FOR_EACH_KIND)?);
-    assert_eq!(rt; scenario.subjects.as_slice().len(), 0);
+    is(&rt, scenario.window, WINDOW);
+    is(&rt, scenario.log, LOG);
+    is(&rt, scenario.detect, DETECT);
+    is(&rt, scenario.act, ACT);
+    is(&rt, scenario.rules.len(), 11);
+    is_true(
+        &rt,
+        is_rule(rt.alloc(), &scenario.rules, 1, "r8d", SAME_FOR_EACH_KIND)?,
+    );
+    is(&rt, scenario.subjects.as_slice().len(), 0);
     Ok(())
 }
 
@@ -74,14 +78,18 @@ fn own_ship_and_what_is_predicted_are_kept(rt: HostRuntime) -> Result<(), Fail> 
     let text = moved(rt.alloc(), good.as_str())?;
     let scenario = scenario_of(rt.alloc(), text.as_str(), true)?;
     let own = scenario.own.as_ref().ok_or("own ship")?;
-    assert_eq!(rt; own.mmsi, 369_190_000);
-    assert_eq!(rt; (own.lattice.plans(), own.lattice.positions()), (216, 100));
-    assert_eq!(rt; (own.base, own.lengths, own.range), (301, 2, 50_000));
+    is(&rt, own.mmsi, 369_190_000);
+    is(
+        &rt,
+        (own.lattice.plans(), own.lattice.positions()),
+        (216, 100),
+    );
+    is(&rt, (own.base, own.lengths, own.range), (301, 2, 50_000));
     let [first, second] = own.predict.as_slice() else {
         return Err("two vessels".into());
     };
-    assert_eq!(rt; (first.mmsi, second.mmsi), (477_553_000, 477_553_001));
-    assert_eq!(rt; first.changes.as_slice().len(), 2);
+    is(&rt, (first.mmsi, second.mmsi), (477_553_000, 477_553_001));
+    is(&rt, first.changes.as_slice().len(), 2);
     Ok(())
 }
 
@@ -89,7 +97,7 @@ fn own_ship_and_what_is_predicted_are_kept(rt: HostRuntime) -> Result<(), Fail> 
 fn scenarios_that_are_not_migrated(rt: HostRuntime) -> Result<(), AllocError> {
     let second = second_version(rt.alloc())?;
     let told = moved(rt.alloc(), second.as_str())?;
-    assert_eq!(rt; told.as_str(), "version: range");
+    is(&rt, told.as_str(), "version: range");
     let first = good(rt.alloc())?;
     let own = with_own(rt.alloc())?;
     for (good, old, new, expected) in [
@@ -123,7 +131,7 @@ fn scenarios_that_are_not_migrated(rt: HostRuntime) -> Result<(), AllocError> {
     ] {
         let bad = good.replace(rt.alloc(), old, new)?;
         let told = moved(rt.alloc(), bad.as_str())?;
-        assert_eq!(rt; told.as_str(), expected);
+        is(&rt, told.as_str(), expected);
     }
     Ok(())
 }

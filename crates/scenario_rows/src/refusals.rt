@@ -1,4 +1,5 @@
 //! Scenarios that are refused: each key with each of its causes.
+use crate::compared::is;
 use crate::values::{good, second_version, with_formulas, with_own, with_predictions};
 use scenario::read;
 use std::alloc::{AllocError, Global};
@@ -293,7 +294,7 @@ fn a_formula_has_at_most_1024_bytes(rt: HostRuntime) -> Result<(), AllocError> {
     for (spaces, expected) in [(1020, ""), (1021, "formula.text[0]: range")] {
         let text = with_spaces(rt.alloc(), spaces)?;
         let told = told(rt.alloc(), text.as_str(), false)?;
-        assert_eq!(rt; told.as_str(), expected);
+        is(&rt, told.as_str(), expected);
     }
     Ok(())
 }
@@ -396,7 +397,7 @@ fn own_ship_is_not_looked_at_where_she_is_not_needed(rt: HostRuntime) -> Result<
     let good = with_own(rt.alloc())?;
     let text = good.as_str().replace(rt.alloc(), "legs = 3", "legs = 0")?;
     let told = told(rt.alloc(), text.as_str(), false)?;
-    assert_eq!(rt; told.as_str(), "");
+    is(&rt, told.as_str(), "");
     Ok(())
 }
 
@@ -462,7 +463,7 @@ fn at_most_64_vessels_are_predicted(rt: HostRuntime) -> Result<(), AllocError> {
     for (many, expected) in [(64, "predict.mmsi[0]: missing"), (65, "predict: range")] {
         let text = with_tables(rt.alloc(), many)?;
         let told = told(rt.alloc(), text.as_str(), true)?;
-        assert_eq!(rt; told.as_str(), expected);
+        is(&rt, told.as_str(), expected);
     }
     Ok(())
 }

@@ -1,5 +1,6 @@
 //! Scenarios with known values, known first faults and known texts.
 use crate::SCENARIO;
+use crate::compared::{is, is_true};
 use crate::refusals::told;
 use encounters::{Act, Detect};
 use mtl_formulas::print;
@@ -137,9 +138,9 @@ fn changes_are_predicted_of_other_vessels(rt: HostRuntime) -> Result<(), Fail> {
     let [first, second] = own.predict.as_slice() else {
         return Err("two vessels".into());
     };
-    assert_eq!(rt; (first.mmsi, second.mmsi), (477_553_000, 477_553_001));
-    assert!(rt; first.changes.as_slice() == CHANGES.as_slice());
-    assert_eq!(rt; second.changes.as_slice().len(), 1);
+    is(&rt, (first.mmsi, second.mmsi), (477_553_000, 477_553_001));
+    is_true(&rt, first.changes.as_slice() == CHANGES.as_slice());
+    is(&rt, second.changes.as_slice().len(), 1);
     Ok(())
 }
 
@@ -148,11 +149,11 @@ fn own_ship_has_her_plans(rt: HostRuntime) -> Result<(), Fail> {
     let text = with_own(rt.alloc())?;
     let scenario = scenario_of(rt.alloc(), text.as_str(), true)?;
     let own = scenario.own.as_ref().ok_or("own ship")?;
-    assert_eq!(rt; own.mmsi, 369_190_000);
-    assert_eq!(rt; own.lattice.choices(), 6);
-    assert_eq!(rt; own.lattice.plans(), 216);
-    assert_eq!(rt; own.lattice.positions(), 100);
-    assert_eq!(rt; (own.base, own.lengths, own.range), (301, 2, 50_000));
+    is(&rt, own.mmsi, 369_190_000);
+    is(&rt, own.lattice.choices(), 6);
+    is(&rt, own.lattice.plans(), 216);
+    is(&rt, own.lattice.positions(), 100);
+    is(&rt, (own.base, own.lengths, own.range), (301, 2, 50_000));
     Ok(())
 }
 
@@ -160,22 +161,23 @@ fn own_ship_has_her_plans(rt: HostRuntime) -> Result<(), Fail> {
 fn values_of_a_good_scenario(rt: HostRuntime) -> Result<(), Fail> {
     let text = good(rt.alloc())?;
     let scenario = scenario_of(rt.alloc(), text.as_str(), false)?;
-    assert_eq!(rt; scenario.window, WINDOW);
-    assert_eq!(rt; scenario.log, LOG);
-    assert_eq!(rt; scenario.detect, DETECT);
-    assert_eq!(rt; scenario.act, ACT);
-    assert_eq!(rt; scenario.rules.len(), 11);
-    assert!(rt;
+    is(&rt, scenario.window, WINDOW);
+    is(&rt, scenario.log, LOG);
+    is(&rt, scenario.detect, DETECT);
+    is(&rt, scenario.act, ACT);
+    is(&rt, scenario.rules.len(), 11);
+    is_true(
+        &rt,
         is_rule(
             rt.alloc(),
             &scenario.rules,
             1,
             "r8d",
-            "(engaged -> clear(201))"
-        )?
+            "(engaged -> clear(201))",
+        )?,
     );
-    assert_eq!(rt; scenario.subjects.as_slice().len(), 0);
-    assert!(rt; scenario.own.is_none());
+    is(&rt, scenario.subjects.as_slice().len(), 0);
+    is_true(&rt, scenario.own.is_none());
     Ok(())
 }
 
@@ -187,7 +189,10 @@ const SAFE_PER_KIND: &str =
 fn version_two_has_a_safe_distance_for_each_kind(rt: HostRuntime) -> Result<(), Fail> {
     let text = second_version(rt.alloc())?;
     let scenario = scenario_of(rt.alloc(), text.as_str(), false)?;
-    assert!(rt; is_rule(rt.alloc(), &scenario.rules, 1, "r8d", SAFE_PER_KIND)?);
+    is_true(
+        &rt,
+        is_rule(rt.alloc(), &scenario.rules, 1, "r8d", SAFE_PER_KIND)?,
+    );
     Ok(())
 }
 
@@ -204,9 +209,9 @@ pub(crate) fn with_formulas(alloc: Global) -> Result<String, AllocError> {
 fn formulas_stand_behind_the_rules(rt: HostRuntime) -> Result<(), Fail> {
     let text = with_formulas(rt.alloc())?;
     let scenario = scenario_of(rt.alloc(), text.as_str(), false)?;
-    assert_eq!(rt; scenario.rules.len(), 13);
+    is(&rt, scenario.rules.len(), 13);
     for (k, name, printed) in [(11, "u1", "(F[0,20] risk & !seen)"), (12, "r18", "seen")] {
-        assert!(rt; is_rule(rt.alloc(), &scenario.rules, k, name, printed)?);
+        is_true(&rt, is_rule(rt.alloc(), &scenario.rules, k, name, printed)?);
     }
     Ok(())
 }
@@ -218,11 +223,11 @@ const GREATEST: &str =
 #[test]
 fn the_greatest_values_are_read(rt: HostRuntime) -> Result<(), Fail> {
     let scenario = scenario_of(rt.alloc(), GREATEST, false)?;
-    assert_eq!(rt; scenario.window.start, 9_999_999_999);
-    assert_eq!(rt; scenario.log.gap, 3600);
-    assert_eq!(rt; scenario.log.max_bytes, 1 << 30);
-    assert_eq!(rt; scenario.detect.watch, 1_000_000_000);
-    assert_eq!(rt; scenario.detect.horizon, 120);
+    is(&rt, scenario.window.start, 9_999_999_999);
+    is(&rt, scenario.log.gap, 3600);
+    is(&rt, scenario.log.max_bytes, 1 << 30);
+    is(&rt, scenario.detect.watch, 1_000_000_000);
+    is(&rt, scenario.detect.horizon, 120);
     Ok(())
 }
 
@@ -244,9 +249,9 @@ fn a_list_has_at_most_its_length(rt: HostRuntime) -> Result<(), Fail> {
     let most = with_subjects(rt.alloc(), 64, "799999999")?;
     let scenario = scenario_of(rt.alloc(), most.as_str(), false)?;
     let subjects = scenario.subjects.as_slice();
-    assert_eq!(rt; subjects.len(), 64);
-    assert_eq!(rt; subjects.first(), Some(&200_000_000));
-    assert_eq!(rt; subjects.last(), Some(&799_999_999));
+    is(&rt, subjects.len(), 64);
+    is(&rt, subjects.first(), Some(&200_000_000));
+    is(&rt, subjects.last(), Some(&799_999_999));
     for (many, last, expected) in [
         (65, "1", "subjects[0]: range"),
         (65, "true", "subjects[64]: type"),
@@ -254,7 +259,7 @@ fn a_list_has_at_most_its_length(rt: HostRuntime) -> Result<(), Fail> {
     ] {
         let text = with_subjects(rt.alloc(), many, last)?;
         let told = told(rt.alloc(), text.as_str(), false)?;
-        assert_eq!(rt; told.as_str(), expected);
+        is(&rt, told.as_str(), expected);
     }
     Ok(())
 }
@@ -263,8 +268,8 @@ fn a_list_has_at_most_its_length(rt: HostRuntime) -> Result<(), Fail> {
 fn subjects_give_their_list_back(rt: HostRuntime) -> Result<(), AllocError> {
     let list = vec![in rt.alloc(); 200_000_000, 200_000_001]?;
     let back = Subjects::new(list).into_list();
-    assert_eq!(rt; back.len(), 2);
-    assert_eq!(rt; back.last(), Some(&200_000_001));
+    is(&rt, back.len(), 2);
+    is(&rt, back.last(), Some(&200_000_001));
     Ok(())
 }
 
@@ -272,9 +277,13 @@ fn subjects_give_their_list_back(rt: HostRuntime) -> Result<(), AllocError> {
 fn texts_of_faults(rt: HostRuntime) -> Result<(), AllocError> {
     let key = Key { row: 9, item: 0 };
     let line = format!(in rt.alloc(); "scenario: {key}: {}\n", Cause::Formula(1024))?;
-    assert_eq!(rt; line.as_str(), "scenario: log.max_speed: formula at 1024\n");
+    is(
+        &rt,
+        line.as_str(),
+        "scenario: log.max_speed: formula at 1024\n",
+    );
     let item = format!(in rt.alloc(); "{}", Key { row: 30, item: 7 })?;
-    assert_eq!(rt; item.as_str(), "subjects[7]");
+    is(&rt, item.as_str(), "subjects[7]");
     for (fault, expected) in [
         (
             ScenarioFault::Fault(key, Cause::Multiple),
@@ -287,7 +296,7 @@ fn texts_of_faults(rt: HostRuntime) -> Result<(), AllocError> {
         (ScenarioFault::from(Memory), "out of memory"),
     ] {
         let text = format!(in rt.alloc(); "{fault}")?;
-        assert_eq!(rt; text.as_str(), expected);
+        is(&rt, text.as_str(), expected);
     }
     Ok(())
 }
