@@ -1,4 +1,5 @@
 //! Devices that fail: what a run has written by then, and that it asks for no more.
+use crate::compared::{is, is_true};
 use crate::logs::{ABOUT_SEATTLE, FIRST_FOUR, FIRST_TWO, LOG, REPORT};
 use crate::whole_run::{Devices, RunEnd, SOUND, edited, ended};
 use crate::worked_row::{AUDIT, POINTS};
@@ -19,11 +20,11 @@ fn a_source_that_fails_after_a_hundred_bytes(rt: HostRuntime) -> Result<(), Fail
     };
     let log = [b'#'; 150];
     let ended = ended(rt.alloc(), POINTS, scenario.as_str(), &log, devices)?;
-    assert_eq!(rt; ended.status, Status::ReadFault);
-    assert_eq!(rt; ended.status.number(), 5);
-    assert_eq!(rt; ended.err.bytes(), b"log: not read\n".as_slice());
-    assert!(rt; ended.out.bytes().is_empty());
-    assert_eq!(rt; ended.next, Taken::Got(50));
+    is(&rt, ended.status, Status::ReadFault);
+    is(&rt, ended.status.number(), 5);
+    is(&rt, ended.err.bytes(), b"log: not read\n".as_slice());
+    is_true(&rt, ended.out.bytes().is_empty());
+    is(&rt, ended.next, Taken::Got(50));
     Ok(())
 }
 
@@ -45,8 +46,8 @@ fn a_read_that_fails_leaves_the_rows_that_are_settled(rt: HostRuntime) -> Result
         ..SOUND
     };
     let ended = audited(rt.alloc(), last, devices)?;
-    assert_eq!(rt; ended.status, Status::ReadFault);
-    assert_eq!(rt; ended.out.bytes(), FIRST_TWO);
+    is(&rt, ended.status, Status::ReadFault);
+    is(&rt, ended.out.bytes(), FIRST_TWO);
     Ok(())
 }
 
@@ -64,11 +65,11 @@ fn each_read_that_fails_leaves_what_was_settled(rt: HostRuntime) -> Result<(), F
         };
         let ended = audited(rt.alloc(), SETTLES, devices)?;
         if call < 8 {
-            assert_eq!(rt; ended.status, Status::ReadFault);
+            is(&rt, ended.status, Status::ReadFault);
             let settled: &[u8] = if call < 7 { b"" } else { FIRST_FOUR };
-            assert_eq!(rt; ended.out.bytes(), settled);
+            is(&rt, ended.out.bytes(), settled);
         } else {
-            assert_eq!(rt; ended.status, Status::Done);
+            is(&rt, ended.status, Status::Done);
         }
     }
     Ok(())
@@ -77,7 +78,7 @@ fn each_read_that_fails_leaves_what_was_settled(rt: HostRuntime) -> Result<(), F
 #[test]
 fn each_write_that_fails_leaves_a_front_of_the_report(rt: HostRuntime) -> Result<(), Fail> {
     let whole = audited(rt.alloc(), SETTLES, SOUND)?;
-    assert_eq!(rt; whole.status, Status::Done);
+    is(&rt, whole.status, Status::Done);
     for call in 0..20u32 {
         let devices = Devices {
             failing_write: Some(call),
@@ -85,11 +86,11 @@ fn each_write_that_fails_leaves_a_front_of_the_report(rt: HostRuntime) -> Result
             ..SOUND
         };
         let ended = audited(rt.alloc(), SETTLES, devices)?;
-        assert!(rt; whole.out.bytes().starts_with(ended.out.bytes()));
+        is_true(&rt, whole.out.bytes().starts_with(ended.out.bytes()));
         if ended.out.bytes().len() < whole.out.bytes().len() {
-            assert_eq!(rt; ended.status, Status::WriteFault);
+            is(&rt, ended.status, Status::WriteFault);
         } else {
-            assert_eq!(rt; ended.status, Status::Done);
+            is(&rt, ended.status, Status::Done);
         }
     }
     Ok(())
@@ -106,11 +107,11 @@ fn each_write_that_fails_leaves_the_front_before_it(rt: HostRuntime) -> Result<(
             ..SOUND
         };
         let ended = ended(rt.alloc(), POINTS, scenario.as_str(), LOG, devices)?;
-        assert_eq!(rt; ended.status, Status::WriteFault);
-        assert_eq!(rt; ended.status.number(), 6);
-        assert_eq!(rt; ended.out.bytes().len(), length);
-        assert!(rt; REPORT.starts_with(ended.out.bytes()));
-        assert!(rt; ended.err.bytes().is_empty());
+        is(&rt, ended.status, Status::WriteFault);
+        is(&rt, ended.status.number(), 6);
+        is(&rt, ended.out.bytes().len(), length);
+        is_true(&rt, REPORT.starts_with(ended.out.bytes()));
+        is_true(&rt, ended.err.bytes().is_empty());
     }
     Ok(())
 }

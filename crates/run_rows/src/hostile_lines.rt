@@ -1,4 +1,5 @@
 //! Lines that strangers wrote.
+use crate::compared::is;
 use crate::whole_run::{SOUND, edited, ended};
 use crate::worked_row::POINTS;
 use std::alloc::Global;
@@ -79,7 +80,7 @@ const TABLE: [(&[u8], &str); 11] = [
 #[test]
 fn each_hostile_line_comes_to_its_outcome(rt: HostRuntime) -> Result<(), Fail> {
     for (log, counts) in TABLE {
-        assert_eq!(rt; counted(rt.alloc(), log)?.as_str(), counts);
+        is(&rt, counted(rt.alloc(), log)?.as_str(), counts);
     }
     Ok(())
 }
@@ -89,6 +90,10 @@ fn lines_of_the_greatest_length_and_of_a_byte_more(rt: HostRuntime) -> Result<()
     let mut log = vec![in rt.alloc(); b'x'; 2050]?;
     log[1025] = b'\n';
     let counts = counted(rt.alloc(), log.as_slice())?;
-    assert_eq!(rt; counts.as_str(), "lines,long,1,,,,\nlines,other,1,,,,\n");
+    is(
+        &rt,
+        counts.as_str(),
+        "lines,long,1,,,,\nlines,other,1,,,,\n",
+    );
     Ok(())
 }

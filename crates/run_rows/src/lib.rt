@@ -3,6 +3,8 @@
 #![tactic(auto)]
 
 #[cfg(test)]
+mod compared;
+#[cfg(test)]
 mod failing_devices;
 #[cfg(test)]
 mod hostile_lines;

@@ -1,4 +1,5 @@
 //! Each fault by its number, and the line that tells it.
+use crate::compared::is;
 use crate::logs::LOG;
 use crate::whole_run::{Edit, SOUND, ended};
 use crate::worked_row::{NOTHING, POINTS, Row, Written, is_as_worked_out};
@@ -167,7 +168,11 @@ fn marks(alloc: Global, count: usize) -> Result<String, Fail> {
 fn a_scenario_one_byte_too_long(rt: HostRuntime) -> Result<(), Fail> {
     let long = marks(rt.alloc(), 1048577)?;
     let ended = ended(rt.alloc(), POINTS, long.as_str(), LOG, SOUND)?;
-    assert_eq!(rt; ended.status, Status::Limit(Which::Scenario, 1048576));
-    assert_eq!(rt; ended.err.bytes(), b"limit: scenario 1048576\n".as_slice());
+    is(&rt, ended.status, Status::Limit(Which::Scenario, 1048576));
+    is(
+        &rt,
+        ended.err.bytes(),
+        b"limit: scenario 1048576\n".as_slice(),
+    );
     Ok(())
 }

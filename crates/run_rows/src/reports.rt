@@ -1,4 +1,5 @@
 //! The report of each mode.
+use crate::compared::{is, is_true};
 use crate::logs::{ABOUT_SEATTLE, HEAD_ON_AUDITED, LOG, POINT, REPORT};
 use crate::whole_run::{Devices, Edit, SOUND, edited, ended};
 use crate::worked_row::{AUDIT, NOTHING, POINTS, Row, Written, is_as_worked_out};
@@ -198,7 +199,7 @@ fn a_log_in_pieces_of_any_length(rt: HostRuntime) -> Result<(), Fail> {
         let ended = ended(rt.alloc(), POINTS, scenario.as_str(), LOG, devices)?;
         assert_eq!(rt; ended.status, Status::Done, "in pieces of {piece}");
         assert_eq!(rt; ended.out.bytes(), REPORT, "in pieces of {piece}");
-        assert!(rt; ended.err.bytes().is_empty());
+        is_true(&rt, ended.err.bytes().is_empty());
     }
     Ok(())
 }
@@ -222,11 +223,12 @@ fn a_log_of_three_hundred_lines(rt: HostRuntime) -> Result<(), Fail> {
         log.as_slice(),
         devices,
     )?;
-    assert_eq!(rt; ended.status, Status::Done);
-    assert!(rt;
+    is(&rt, ended.status, Status::Done);
+    is_true(
+        &rt,
         ended.out.bytes().ends_with(
-            b"lines,back,299,,,,\nlines,repeat,0,,,,\nlines,jump,0,,,,\nlines,static,0,,,,\nlines,point,1,,,,\n"
-        )
+            b"lines,back,299,,,,\nlines,repeat,0,,,,\nlines,jump,0,,,,\nlines,static,0,,,,\nlines,point,1,,,,\n",
+        ),
     );
     Ok(())
 }
@@ -241,13 +243,13 @@ fn a_migrated_scenario_audits_the_head_on_log_alike(rt: HostRuntime) -> Result<(
     };
     let scenario = edited(rt.alloc(), &[])?;
     let migrated = ended(rt.alloc(), &words, scenario.as_str(), b"", devices)?;
-    assert_eq!(rt; migrated.status, Status::Done);
+    is(&rt, migrated.status, Status::Done);
     let text = match std::str::from_utf8(migrated.out.bytes()) {
         Ok(text) => text,
         Err(_) => "",
     };
-    assert!(rt; text.contains("ticks = 40\n"));
+    is_true(&rt, text.contains("ticks = 40\n"));
     let again = ended(rt.alloc(), AUDIT, text, HEAD_ON, SOUND)?;
-    assert!(rt; again.out.bytes().starts_with(HEAD_ON_AUDITED));
+    is_true(&rt, again.out.bytes().starts_with(HEAD_ON_AUDITED));
     Ok(())
 }
