@@ -8,6 +8,8 @@ mod classes;
 #[cfg(test)]
 mod compared;
 #[cfg(test)]
+mod domains;
+#[cfg(test)]
 mod engagements;
 #[cfg(test)]
 mod geometry;

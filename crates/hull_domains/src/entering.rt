@@ -1,0 +1,131 @@
+//! Whether own ship is inside a target's shape at some instant of a step.
+ghost use Rattle.std.specs.Prelude.{ℕ, ℤ, pos, ◌≡◌, ◌+◌, ◌*◌, ◌^◌, ◌≤◌, ◌<◌, ◌↔◌, ◌+ℤ◌, ◌*ℤ◌, ◌<ℤ◌, ◌≤ℤ◌, IsNone, IfSome, IsTrue, unsigned_abs};
+ghost use Rattle.fixed_geometry.specs.Compass.{unit_of};
+ghost use Rattle.fixed_geometry.specs.Plane.{norm2_of};
+ghost use Rattle.fixed_geometry.specs.Sizes.{IsWithin};
+ghost use Rattle.hull_domains.specs.Crossings.{mediant, entry_moment, side_of};
+ghost use Rattle.hull_domains.specs.Domains.{IsInside, StaysOutside};
+ghost use Rattle.hull_domains.specs.Inner.EdgeSides.{IsBound, IsLow};
+
+use crate::shape::Shape;
+use crate::sides::{Fraction, Side, earlier, is_less, later, side_beside, times};
+use closest_approach::{Moment, separated};
+use fixed_geometry::{Point, norm2, square, unit};
+use motion::Step;
+
+/// On which side of an edge of a shape own ship is, where the target heads `ahead`.
+fn side_of(step: &Step, ahead: Point, shape: &Shape, k: usize) -> Side
+    requires ahead { IsWithin 1000000 ahead }
+    requires k { k < 6 }
+    ensures value { (direction : ℕ) → direction < 3600 → ahead ≡ unit_of direction → result ≡ side_of step.now direction shape.now k }
+    ensures low { IsLow result }
+{
+    side_beside(step, ahead, shape.edge(k))
+}
+
+/// Whether own ship is outside an edge all the time, beside which she moves.
+fn stays_outside(side: Side) -> bool
+    ensures { IsTrue result ↔ ((side.change ≡ pos 0) × (pos 0 ≤ℤ side.start)) }
+{
+    side.change == 0 && side.start >= 0
+}
+
+/// The moment between two times.
+fn mediant(from: Fraction, to: Fraction) -> Moment
+    requires from { IsBound from }
+    requires to { IsBound to }
+    requires small { unsigned_abs (from.over +ℤ to.over) < 2 ^ 64 }
+    ensures value { result ≡ mediant from to }
+    ensures small { result.b < 2 ^ 60 }
+{
+    Moment {
+        a: (from.over + to.over).unsigned_abs() as u64,
+        b: from.under + to.under,
+    }
+}
+
+/// Whether a radius in tenths of a millimetre is at least so many metres, where a vector ahead is as long as this one.
+fn covers(radius: u64, metres: u64, ahead: Point) -> bool
+    requires radius { radius < 2 ^ 31 }
+    requires metres { metres ≤ 4001 }
+    requires ahead { IsWithin 1000000 ahead }
+    ensures { IsTrue result ↔ (pos (metres * metres * 100000000000000000000) ≤ℤ (pos (radius * radius) *ℤ norm2_of ahead)) }
+{
+    square(metres) * 100_000_000_000_000_000_000 <= square(radius) * norm2(ahead)
+}
+
+/// Whether own ship stays out of a circle in which the whole shape lies. It takes a fraction of the time that the edges take.
+fn stays_out_of_the_circle(step: &Step, ahead: Point, shape: &Shape) -> bool
+    requires ahead { IsWithin 1000000 ahead }
+    ensures { IsTrue result → (direction : ℕ) → direction < 3600 → ahead ≡ unit_of direction → StaysOutside step.now direction shape.now }
+{
+    let metres = u64::from(shape.longest_way()) + 1;
+    let radius = 10_000 * (metres + 1);
+    covers(radius, metres, ahead) && separated(step, radius)
+}
+
+/// A moment of the step at which own ship is inside the shape of a target that heads in this direction, tenths of a degree below 3600;
+/// `None` where there is none. It lies between the latest crossing inwards, or the beginning, and the first one outwards, or the end:
+/// `(c1 + c2) / (d1 + d2)`, not reduced.
+pub fn enters(step: &Step, direction: u16, shape: &Shape) -> Option<Moment>
+    requires { direction < 3600 }
+    ensures none { IsNone result ↔ StaysOutside step.now direction shape.now }
+    ensures moment { IfSome result (λ moment. moment ≡ entry_moment step.now direction shape.now) }
+    ensures instant { IfSome result (λ moment. (moment.a ≤ moment.b) × (0 < moment.b) × (moment.b < 2 ^ 60)) }
+    ensures inside { IfSome result (λ moment. IsInside step.now direction shape.now moment.a moment.b) }
+{
+    let ahead = unit(direction);
+    if stays_out_of_the_circle(step, ahead, shape) {
+        return None;
+    }
+    let mut from = Fraction { over: 0, under: 1 };
+    let mut to = Fraction { over: 1, under: 1 };
+    for k in 0..6 {
+        let side = side_of(step, ahead, shape, k);
+        if stays_outside(side) {
+            return None;
+        }
+        from = later(from, side);
+        to = earlier(to, side);
+    }
+    if is_less(from, to) {
+        Some(mediant(from, to))
+    } else {
+        None
+    }
+}
+
+fn sum(a: i128, b: i128) -> i128
+    requires a_small { unsigned_abs a ≤ 161500000000000000000000000000000000000 }
+    requires b_small { unsigned_abs b ≤ 2 ^ 120 }
+    ensures { result ≡ a +ℤ b }
+{
+    a + b
+}
+
+/// Whether own ship is inside an edge at a moment.
+fn is_inside(side: Side, moment: Moment) -> bool
+    requires side { IsLow side }
+    requires a { moment.a ≤ moment.b }
+    requires b { moment.b < 2 ^ 60 }
+    ensures { IsTrue result ↔ ((pos moment.b *ℤ side.start +ℤ pos moment.a *ℤ side.change) <ℤ pos 0) }
+{
+    sum(times(side.start, moment.b), times(side.change, moment.a)) < 0
+}
+
+/// Whether own ship is inside the shape at a moment of the step. The target heads in this direction, tenths of a degree below 3600.
+pub fn inside(step: &Step, direction: u16, shape: &Shape, moment: &Moment) -> bool
+    requires direction { direction < 3600 }
+    requires a { moment.now.a ≤ moment.now.b }
+    requires some { 0 < moment.now.b }
+    requires b { moment.now.b < 2 ^ 60 }
+    ensures { IsTrue result ↔ IsInside step.now direction shape.now moment.now.a moment.now.b }
+{
+    let ahead = unit(direction);
+    for k in 0..6 {
+        if !is_inside(side_of(step, ahead, shape, k), *moment) {
+            return false;
+        }
+    }
+    true
+}
