@@ -1,5 +1,5 @@
 -- Words ask for one request at most, wherever the list of the modes stands.
-use Rattle.std.proofs.Common.{◌≡◌, ◌∙◌, ◌||◌, inl, inr, Bool, true, false, refl, sym, ap₂, subst, map, List, [], ◌∷◌, None}
+use Rattle.std.proofs.Common.{◌≡◌, ◌∙◌, ◌||◌, Bool, true, false, refl, sym, ap₂, subst, map, List, [], ◌∷◌, None}
 use Rattle.std.specs.Borrow.{Bor}
 use Rattle.std.specs.List.{list_any}
 use Rattle.std.specs.Str.{bytes_eq}
@@ -10,7 +10,7 @@ use Rattle.command_line.specs.Requests.{AskFor, AskForNothing, HoldsRequest, IsA
 use Rattle.command_line.specs.declared.mode.Mode.{Mode}
 use Rattle.command_line.specs.declared.request.Request.{Request}
 use Rattle.command_line.proofs.Alike.{fault_alike, matches_alike}
-use Rattle.command_line.proofs.HeldRequests.{holds_one, one_request, plain_accepted}
+use Rattle.command_line.proofs.HeldRequests.{one_request, plain_accepted}
 use Rattle.command_line.proofs.Walking.{Choices}
 
 same_values : (v w : Choices) → AreModes v.now → AreModes w.now → (text : Text) → list_any (possible_matches false text) v.now ≡ list_any (possible_matches false text) w.now
@@ -32,8 +32,7 @@ one_asked words a b first second =
     one_request (matches_of (colregs v) (with_program_name words)) a b here.1 there.1
 
 refused_here : (v : Choices) (words : List Text) (request : Request) → IsAccepted (colregs v) words request → AreWordsRefused (colregs v) words → ⊥
-refused_here v words request accepted (inl faulty) = faulty accepted.0
-refused_here v words request accepted (inr odd) = holds_one (matches_of (colregs v) (with_program_name words)) request accepted.1 (inr (inr (inr odd)))
+refused_here v words request accepted faulty = faulty accepted.0
 
 pub asked_or_nothing : (words : List Text) (request : Request) → AskFor words request → AskForNothing words → ⊥
 asked_or_nothing words request asked refused =

@@ -3,6 +3,7 @@ use Rattle.std.proofs.Common.{◌≡◌, ◌∙◌, ◌≤◌, ◌⊎◌, inl, i
 use Rattle.std.specs.Prelude.{Err, IfOk, Ok, Result, option_and_then, option_map, slice_get, unwrap_or}
 use Rattle.std.specs.List.{find, flat_map, list_any}
 use Rattle.std.specs.Str.{bytes_eq}
+use Rattle.std.specs.Str.Parse.{digits_value, without_leading_plus}
 use Rattle.std.proofs.lemmas.Slice.Eq.{bytes_eq-Decides}
 use Rattle.std.proofs.lemmas.Fmt.{decimal_digit}
 use Rattle.clap.specs.Words.{Row, Text, IsParsedFrom, app_of, found_of, rows_of, first_of, is_simple, is_simple_and_free}
@@ -11,8 +12,8 @@ use Rattle.clap.specs.declared.builder.value_parser.Reading.TheVariants.{AsWritt
 use Rattle.clap.specs.declared.parser.matches.ValueSource.TheVariants.{DefaultValue}
 use Rattle.clap.proofs.WalkLemmas.{find-map, first_value-rows, list_any-map}
 use Rattle.command_line.specs.CommandLine.{AreModes, Setting, colregs, label, least, mode_text, modes, most, seed, start, ticks}
-use Rattle.command_line.specs.Requests.{AreInRange, HoldsRequest, HoldsNoNumber, HoldsNumber, IsAccepted, IsPlain, MayHoldNumber, given_to, with_program_name, options_of, setting_words}
-use Rattle.command_line.specs.Inner.Reading.{HoldsNoMode, HoldsNone}
+use Rattle.command_line.specs.Requests.{AreInRange, HoldsRequest, HoldsNumber, IsNumber, IsNumberOf, IsAccepted, IsPlain, MayHoldNumber, given_to, with_program_name, options_of, setting_words}
+use Rattle.command_line.specs.Inner.Reading.{HoldsNoMode, HoldsNoNumber, HoldsNone}
 use Rattle.command_line.specs.declared.mode.Mode.{Mode}
 use Rattle.command_line.specs.declared.mode.Mode.TheVariants as mode
 use Rattle.command_line.specs.declared.request.Options.{Options}
@@ -22,12 +23,12 @@ use Rattle.command_line.specs.declared.request.WordsFault.TheVariants.{Memory, U
 use Rattle.clap.specs.Kinds.{IsAmong, Kinds}
 use Rattle.clap.specs.declared.error.kind.ErrorKind.{ErrorKind}
 use Rattle.clap.specs.declared.error.kind.ErrorKind.TheVariants.{OutOfMemory}
-use Rattle.command_line.proofs.Numbers.{decimal_injective, most_small}
+use Rattle.command_line.proofs.Numbers.{decimal_is_number, most_small}
 use Rattle.command_line.proofs.Finished.{seeded, walked_faultless, walked_matches}
 use Rattle.command_line.proofs.Plain.{plain_walks, setting_row}
 use Rattle.clap.specs.declared.builder.command.Command.{Command}
 use Rattle.clap.specs.declared.parser.matches.ArgMatches.{ArgMatches}
-use Rattle.command_line.proofs.Parsed.{mode_filled, mode_passed, scenario_filled, seed_filled}
+use Rattle.command_line.proofs.Parsed.{mode_filled, mode_passed, number_passed, scenario_filled, seed_filled}
 use Rattle.command_line.proofs.Walking.{Choices, at_row_missing, row}
 
 -- ---- names tell modes and options apart
@@ -67,7 +68,7 @@ some_is x y same = ap (λ o. unwrap_or o x) same
 number_is : (rows : List Row) (s : Setting) (m n : ℕ) → HoldsNumber rows s m → HoldsNumber rows s n → m ≡ n
 number_is rows s m n a b =
     let texts : a.0 ≡ b.0 = some_is a.0 b.0 (sym a.1 ∙ b.1) in
-    decimal_injective m n (most_small s m a.2.1) (most_small s n b.2.1) (sym a.2.2 ∙ texts ∙ b.2.2)
+    a.2.2.1 ∙ ap (λ (text : Text). digits_value 10 (without_leading_plus text)) texts ∙ sym b.2.2.1
 
 given_is : (rows : List Row) (s : Setting) (a b : Option ℕ) → MayHoldNumber rows s a → MayHoldNumber rows s b → a ≡ b
 given_is rows s None None a b = refl
@@ -84,11 +85,11 @@ one_request rows a b one two =
     let seeds = number_is rows seed a.options.seed b.options.seed one.seed_given two.seed_given in
     λ i. record { mode = modes i; name = names i; options = record { start = starts i; ticks = ticks_same i; seed = seeds i } }
 
-number_held : (rows : List Row) (s : Setting) (n : ℕ) (text : Text) → HoldsNumber rows s n → first_of (label s) rows ≡ Some text → text ≡ decimal n
-number_held rows s n text holds found = some_is text holds.0 (sym found ∙ holds.1) ∙ holds.2.2
+number_held : (rows : List Row) (s : Setting) (n : ℕ) (text : Text) → HoldsNumber rows s n → first_of (label s) rows ≡ Some text → IsNumber text n
+number_held rows s n text holds found = subst (λ (t : Text). IsNumber t n) (sym (some_is text holds.0 (sym found ∙ holds.1))) holds.2.2
 
 may_refuse : (rows : List Row) (s : Setting) (o : Option ℕ) (text : Text) → MayHoldNumber rows s o → first_of (label s) rows ≡ Some text
-    → ((n : ℕ) → (least s ≤ n) × (n ≤ most s) × (text ≡ decimal n) → ⊥) → ⊥
+    → ((n : ℕ) → (least s ≤ n) × (n ≤ most s) × IsNumber text n → ⊥) → ⊥
 may_refuse rows s None text holds found none = let bad : None ≡ Some text = sym holds ∙ found in cc
 may_refuse rows s (Some n) text holds found none = none n (holds.2.0, holds.2.1, number_held rows s n text holds found)
 
@@ -211,7 +212,7 @@ may_hold rows s given ranges first = go (given_to s given) refl
     go None e = first ∙ ap (option_map decimal) e
     go (Some n) e =
         let range = given_in_range s given n ranges e in
-        (decimal n, first ∙ ap (option_map decimal) e, (range.0, range.1, refl))
+        (decimal n, first ∙ ap (option_map decimal) e, (range.0, range.1, decimal_is_number n (most_small s n range.1)))
 
 seed_in_range : (given : List (Setting × ℕ)) → AreInRange given → (least seed ≤ unwrap_or (given_to seed given) 1) × (unwrap_or (given_to seed given) 1 ≤ most seed)
 seed_in_range given ranges = go (given_to seed given) (λ n e. given_in_range seed given n ranges e)
@@ -228,7 +229,7 @@ options_held mode name given request ranges mode_is name_is options_are =
     let starts = may_hold rows start given ranges (seeded_other (label start) (map setting_row given) refl ∙ first_given start given) in
     let ticks_held = may_hold rows ticks given ranges (seeded_other (label ticks) (map setting_row given) refl ∙ first_given ticks given) in
     let range = seed_in_range given ranges in
-    let seeds : HoldsNumber rows seed (unwrap_or (given_to seed given) 1) = (decimal (unwrap_or (given_to seed given) 1), first_seed given, (range.0, range.1, refl)) in
+    let seeds : HoldsNumber rows seed (unwrap_or (given_to seed given) 1) = (decimal (unwrap_or (given_to seed given) 1), first_seed given, (range.0, range.1, decimal_is_number (unwrap_or (given_to seed given) 1) (most_small seed (unwrap_or (given_to seed given) 1) range.1))) in
     record {
       mode = ap (λ t. Some t) mode_is;
       name = ap (λ t. Some t) name_is;
@@ -293,21 +294,24 @@ some_mode rows (Some text) e some with_program_name none =
     let found = named_mode modes text (with_program_name text refl) in
     none found.0 (e ∙ ap (λ t. Some t) found.1)
 
--- so what is missing is a number in its range, in digits without sign or leading zero
-pub only_numbers : (rows : List Row) → is_some (first_of (codes "mode") rows) ≡ true
+-- so nothing is missing
+none_missing : (rows : List Row) → is_some (first_of (codes "mode") rows) ≡ true
     → ((text : Text) → first_of (codes "mode") rows ≡ Some text → list_any (λ m. bytes_eq (mode_text m) text) modes ≡ true)
-    → is_some (first_of (codes "scenario") rows) ≡ true → is_some (first_of (label seed) rows) ≡ true → HoldsNone rows → HoldsNoNumber rows
-only_numbers rows mode_there with_program_name name_there seed_there (inl none) = absurd (some_mode rows (first_of (codes "mode") rows) refl mode_there with_program_name none)
-only_numbers rows mode_there with_program_name name_there seed_there (inr (inl none)) = absurd (missing (first_of (codes "scenario") rows) name_there none)
-only_numbers rows mode_there with_program_name name_there seed_there (inr (inr (inl none))) = absurd (missing (first_of (label seed) rows) seed_there none)
-only_numbers rows mode_there with_program_name name_there seed_there (inr (inr (inr odd))) = odd
+    → is_some (first_of (codes "scenario") rows) ≡ true → is_some (first_of (label seed) rows) ≡ true
+    → ((s : Setting) (text : Text) → first_of (label s) rows ≡ Some text → (n : ℕ) × IsNumberOf s text n) → HoldsNone rows → ⊥
+none_missing rows mode_there with_program_name name_there seed_there numbers (inl none) = some_mode rows (first_of (codes "mode") rows) refl mode_there with_program_name none
+none_missing rows mode_there with_program_name name_there seed_there numbers (inr (inl none)) = missing (first_of (codes "scenario") rows) name_there none
+none_missing rows mode_there with_program_name name_there seed_there numbers (inr (inr (inl none))) = missing (first_of (label seed) rows) seed_there none
+none_missing rows mode_there with_program_name name_there seed_there numbers (inr (inr (inr (s, text, found, none)))) = let number = numbers s text found in none number.0 number.1
 
 -- the same of what a parse by the command found
-pub parsed_numbers : (c : Command) (m : ArgMatches) → IsParsedFrom c m → (values : Choices) → AreModes values.now → app_of c ≡ colregs values
-    → HoldsNone (rows_of (found_of m)) → HoldsNoNumber (rows_of (found_of m))
-parsed_numbers c m p values are app_is =
+pub parsed_whole : (c : Command) (m : ArgMatches) → IsParsedFrom c m → (values : Choices) → AreModes values.now → app_of c ≡ colregs values
+    → HoldsNone (rows_of (found_of m)) → ⊥
+parsed_whole c m p values are app_is =
     let f = found_of m in
-    only_numbers (rows_of f) (ap is_some (sym (first_value-rows f (codes "mode"))) ∙ mode_filled c m p values app_is)
+    none_missing (rows_of f) (ap is_some (sym (first_value-rows f (codes "mode"))) ∙ mode_filled c m p values app_is)
     (λ text first. sym (are text) ∙ mode_passed c m p values app_is text (first_value-rows f (codes "mode") ∙ first))
     (ap is_some (sym (first_value-rows f (codes "scenario"))) ∙ scenario_filled c m p values app_is)
     (ap is_some (sym (first_value-rows f (codes "seed"))) ∙ seed_filled c m p values app_is)
+    (λ s text first. let passed = number_passed c m p values app_is s text (first_value-rows f (label s) ∙ first) in
+    (digits_value 10 (without_leading_plus text), (passed.2, passed.3, (passed.0, refl))))

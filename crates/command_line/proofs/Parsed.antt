@@ -1,11 +1,11 @@
--- What a parse by the command gives: values of the mode, the scenario and the seed.
+-- What a parse by the command gives: values of the mode, the scenario and the seed, and numbers of their ranges.
 use Rattle.std.proofs.Common.{◌≡◌, ◌∙◌, ◌<◌, ◌≤◌, ◌&&◌, inl, inr, ℕ, Bool, true, false, true≢false, not, is_some, zero, suc, refl, sym, ap, subst, arith, codes, length, List, [], ◌∷◌, map, Some, None, Option}
 use Rattle.std.specs.Prelude.{find, option_and_then, option_map, slice_get, unwrap_or}
 use Rattle.std.specs.Borrow.{Bor}
 use Rattle.std.specs.List.{All, list_all, list_any, slice_index_or}
 use Rattle.std.specs.Str.{bytes_eq}
 use Rattle.std.proofs.lemmas.Slice.Eq.{bytes_eq-Decides}
-use Rattle.clap.specs.Words.{Accepts, App, Rule, Text, app_of, args_of, first_value, found_of, groups_of, has_subcommand, items_of, matched_of, possible_matches, rule_of}
+use Rattle.clap.specs.Words.{Accepts, App, IsUnsignedIn, Rule, Text, app_of, args_of, first_value, found_of, groups_of, has_subcommand, items_of, matched_of, possible_matches, rule_of}
 use Rattle.clap.specs.Built.{IsAuto, IsParsedFrom, IsPlain, IsPlainArg, SameRules}
 use Rattle.clap.specs.Facts.{Entry, EntryPasses, HasIn, IsGroupEntry, IsParsed, PassesArg, least_values, parser_of, parser_of_value, unwrap_or_range}
 use Rattle.clap.specs.Simple.{shape_of}
@@ -15,13 +15,13 @@ use Rattle.clap.specs.declared.builder.arg.Arg.{Arg}
 use Rattle.clap.specs.declared.builder.command.Command.{Command}
 use Rattle.clap.specs.declared.builder.command.Command.TheViews.{out-Command}
 use Rattle.clap.specs.declared.builder.value_parser.ValueParser.{ValueParser}
-use Rattle.clap.specs.declared.builder.value_parser.ValueParser.TheVariants.{Values}
+use Rattle.clap.specs.declared.builder.value_parser.ValueParser.TheVariants.{Unsigned, Values}
 use Rattle.clap.specs.declared.parser.matches.ArgMatches.{ArgMatches}
 use Rattle.clap.specs.declared.parser.matches.MatchedArg.{MatchedArg}
 use Rattle.clap.proofs.CallerLemmas.{default_present, entry_by_id, present_has_entry, required_present, same_rules_by_id}
 use Rattle.clap.proofs.SimpleLemmas.{is_false, is_nil, plain_fields}
 use Rattle.clap.proofs.WalkLemmas.{both}
-use Rattle.command_line.specs.CommandLine.{colregs, mode_rule, scenario_rule, seed_rule}
+use Rattle.command_line.specs.CommandLine.{Setting, colregs, label, least, mode_rule, most, scenario_rule, seed, seed_rule, start, ticks}
 use Rattle.command_line.proofs.Walking.{Choices}
 
 -- ---- what a rule says of its argument
@@ -98,6 +98,22 @@ only_scenario (suc (suc zero)) lt e = cc
 only_scenario (suc (suc (suc zero))) lt e = cc
 only_scenario (suc (suc (suc (suc zero)))) lt e = cc
 only_scenario (suc (suc (suc (suc (suc j))))) lt e = absurd (omega arith)
+
+only_start : IsOnly 2
+only_start zero lt e = cc
+only_start (suc zero) lt e = cc
+only_start (suc (suc zero)) lt e = refl
+only_start (suc (suc (suc zero))) lt e = cc
+only_start (suc (suc (suc (suc zero)))) lt e = cc
+only_start (suc (suc (suc (suc (suc j))))) lt e = absurd (omega arith)
+
+only_ticks : IsOnly 3
+only_ticks zero lt e = cc
+only_ticks (suc zero) lt e = cc
+only_ticks (suc (suc zero)) lt e = cc
+only_ticks (suc (suc (suc zero))) lt e = refl
+only_ticks (suc (suc (suc (suc zero)))) lt e = cc
+only_ticks (suc (suc (suc (suc (suc j))))) lt e = absurd (omega arith)
 
 only_seed : IsOnly 4
 only_seed zero lt e = cc
@@ -299,6 +315,12 @@ module _ (c : Command) (m : ArgMatches) (p : IsParsedFrom c m) (values : Choices
   own_scenario : IsOwn 1
   own_scenario = (omega arith, only_scenario, apart (codes "scenario") [] refl, apart (codes "scenario") (codes "help") refl, apart (codes "scenario") (codes "version") refl)
 
+  own_start : IsOwn 2
+  own_start = (omega arith, only_start, apart (codes "start") [] refl, apart (codes "start") (codes "help") refl, apart (codes "start") (codes "version") refl)
+
+  own_ticks : IsOwn 3
+  own_ticks = (omega arith, only_ticks, apart (codes "ticks") [] refl, apart (codes "ticks") (codes "help") refl, apart (codes "ticks") (codes "version") refl)
+
   own_seed : IsOwn 4
   own_seed = (omega arith, only_seed, apart (codes "seed") [] refl, apart (codes "seed") (codes "help") refl, apart (codes "seed") (codes "version") refl)
 
@@ -343,3 +365,17 @@ module _ (c : Command) (m : ArgMatches) (p : IsParsedFrom c m) (values : Choices
       let case : (argument 0 any_argument).ignore_case ≡ false = ap (λ (r : Rule). r.ignore_case) is in
       let found = subst (λ (id : Text). first_value (found_of m) id ≡ Some text) (sym (ids_are 0 any_argument own_mode.0)) first in
       subst (λ (b : Bool). Accepts b (Values values) text) case (value_passed 0 any_argument own_mode (Values values) parser text found)
+
+  -- the text of a number is one of the option's range
+  passed_at : (k : ℕ) (s : Setting) → IsOwn k → slice_index_or ids k [] ≡ label s → (slice_index_or (colregs values).top.rules k (rule_of any_argument)).parser ≡ Some (Unsigned (least s) (most s))
+      → (text : Text) → first_value (found_of m) (label s) ≡ Some text → IsUnsignedIn (least s) (most s) text
+  passed_at k s own id_is parser_is text first =
+      let parser = ap (λ (r : Rule). r.parser) (rule_is k any_argument) ∙ parser_is in
+      let found = subst (λ (id : Text). first_value (found_of m) id ≡ Some text) (sym (ids_are k any_argument own.0 ∙ id_is)) first in
+      value_passed k any_argument own (Unsigned (least s) (most s)) parser text found
+
+  pub number_passed : (s : Setting) (text : Text) → first_value (found_of m) (label s) ≡ Some text → IsUnsignedIn (least s) (most s) text
+  unfolding colregs
+  number_passed start text first = passed_at 2 start own_start refl refl text first
+  number_passed ticks text first = passed_at 3 ticks own_ticks refl refl text first
+  number_passed seed text first = passed_at 4 seed own_seed refl refl text first

@@ -1,17 +1,18 @@
 -- What the words of a command line ask for. The program's own name is none of them.
-use Rattle.std.specs.Prelude.{◌≡◌, ◌≢◌, ◌⊎◌, ◌≤◌, ◌==◌, ⊤, ℕ, Bool, true, false, not, codes, List, [], ◌∷◌, ◌++◌, Option, Some, None}
+use Rattle.std.specs.Prelude.{◌≡◌, ◌≢◌, ◌≤◌, ◌==◌, ⊤, ℕ, Bool, true, false, not, codes, List, [], ◌∷◌, ◌++◌, Option, Some, None}
 use Rattle.std.specs.Prelude.{find, option_map, unwrap_or}
 use Rattle.std.specs.List.{flat_map, list_any}
 use Rattle.std.specs.Str.{bytes_eq}
 use Rattle.std.specs.Fmt.{decimal}
+use Rattle.std.specs.Str.Parse.{IsNumeral, digits_value, without_leading_plus}
 use Rattle.clap.specs.Words.{App, Row, Text, fault_of, first_of, matches_of}
 use Rattle.command_line.specs.CommandLine.{IsColregs, Setting, label, least, mode_text, most, start, ticks, seed}
 use Rattle.command_line.specs.declared.request.Options.{Options}
 use Rattle.command_line.specs.declared.request.Request.{Request}
 
--- the text is this number in decimal digits, without sign or leading zero
+-- the text is decimal digits, which a `+` may stand before, and they have this value
 abbrev pub IsNumber : Text → ℕ → Type 0
-IsNumber text n = text ≡ decimal n
+IsNumber text n = IsNumeral 10 (without_leading_plus text) × (n ≡ digits_value 10 (without_leading_plus text))
 
 -- ---- what `clap` makes of the words
 
@@ -36,10 +37,6 @@ pub record HoldsRequest (rows : List Row) (request : Request) : Type 0 where
   pub ticks_given : MayHoldNumber rows ticks request.options.ticks
   pub seed_given : HoldsNumber rows seed request.options.seed
 
--- the matches hold a value of an option that is no number of its range, in digits without sign or leading zero
-abbrev pub HoldsNoNumber : List Row → Type 0
-HoldsNoNumber rows = (s : Setting) × (text : Text) × (first_of (label s) rows ≡ Some text) × ((n : ℕ) → IsNumberOf s text n → ⊥)
-
 -- the words with the program's name, as `clap` reads them
 abbrev pub with_program_name : List Text → List Text
 with_program_name words = codes "colregs" ∷ words
@@ -48,9 +45,9 @@ with_program_name words = codes "colregs" ∷ words
 abbrev pub IsAccepted : App → List Text → Request → Type 0
 IsAccepted app words request = (fault_of app (with_program_name words) ≡ []) × HoldsRequest (matches_of app (with_program_name words)) request
 
--- `clap` refuses the words for this command, or its matches hold a number that is written otherwise
+-- `clap` refuses the words for this command
 abbrev pub AreWordsRefused : App → List Text → Type 0
-AreWordsRefused app words = (fault_of app (with_program_name words) ≢ []) ⊎ HoldsNoNumber (matches_of app (with_program_name words))
+AreWordsRefused app words = fault_of app (with_program_name words) ≢ []
 
 -- The words ask for the request, as `clap` reads them by the command.
 abbrev pub AskFor : List Text → Request → Type 0

@@ -1,26 +1,12 @@
-//! Numbers of the command line: decimal digits without sign or leading zero.
-ghost use Rattle.std.specs.Prelude.{◌≡◌, ◌<◌, ◌^◌, ℕ, MatchOption};
-ghost use Rattle.command_line.specs.Inner.Reading.{IsNumberIn, is_plain};
+//! Numbers of the command line.
+ghost use Rattle.std.specs.Prelude.{◌<◌, ◌^◌, ℕ, MatchOption};
+ghost use Rattle.command_line.specs.Inner.Reading.{IsNumberIn};
 ghost use Rattle.command_line.specs.Requests.{IsNumber};
-
-/// The text begins with no sign, and with no zero before other digits.
-fn is_plain(text: &str) -> bool
-    ensures { result ≡ is_plain text.now }
-{
-    match text.as_bytes() {
-        [] => false,
-        [_] => true,
-        [first, ..] => *first != b'+' && *first != b'0',
-    }
-}
 
 /// The number that the text writes.
 fn number_of(text: &str) -> Option<u64>
     ensures { MatchOption result ((n : ℕ) → n < 2 ^ 64 → IsNumber text.now n → ⊥) (IsNumber text.now) }
 {
-    if !is_plain(text) {
-        return None;
-    }
     match text.parse::<u64>() {
         Ok(number) => Some(number),
         Err(_) => None,

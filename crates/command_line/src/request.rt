@@ -135,7 +135,7 @@ fn named_words<'a>(alloc: Global, words: &'a [Word]) -> Result<Vec<&'a str>, All
 }
 
 /// What the words behind the program's name ask for, as `clap` reads them by the command `colregs`: a mode and the name of a
-/// scenario, and options anywhere. Numbers are decimal digits without sign or leading zero.
+/// scenario, and options anywhere. A number is what `u64` reads from its text. `Usage` comes only where `clap` refuses the words.
 pub fn request_of(alloc: Global, words: &[Word]) -> Result<Request, WordsFault>
     ensures asked { IfOk result (AskFor words.now) }
     ensures refused { result ≡ Err WordsFault.Usage → AskForNothing words.now }

@@ -77,12 +77,15 @@ const ALL: Options = Options {
 };
 
 #[rattlefmt::skip]
-const WITH_OPTIONS: [Asked; 6] = [
+const WITH_OPTIONS: [Asked; 9] = [
     (&["audit", "a", "--ticks", "4"], Mode::Audit, "a", FOUR),
     (&["--ticks", "4", "audit", "a"], Mode::Audit, "a", FOUR),
     (&["audit", "--ticks=4", "a"], Mode::Audit, "a", FOUR),
     (&["audit", "--ticks", "4", "--", "a"], Mode::Audit, "a", FOUR),
     (&["audit", "--", "--ticks"], Mode::Audit, "--ticks", BARE),
+    (&["audit", "a", "--ticks", "04"], Mode::Audit, "a", FOUR),
+    (&["audit", "a", "--ticks=+4"], Mode::Audit, "a", FOUR),
+    (&["--seed", "00", "--start=9999999999", "--ticks=0020000", "drill", "a"], Mode::Drill, "a", ALL),
     (&["--seed", "0", "drill", "--start=9999999999", "a", "--ticks", "20000"], Mode::Drill, "a", ALL),
 ];
 
@@ -92,20 +95,18 @@ fn options_stand_anywhere(rt: HostRuntime) {
 }
 
 #[rattlefmt::skip]
-const NO_NUMBERS: [&[&str]; 13] = [
+const NO_NUMBERS: [&[&str]; 11] = [
     &["audit", "a", "--ticks", "0"],
     &["audit", "a", "--ticks", "20001"],
     &["audit", "a", "--ticks", "x"],
     &["audit", "a", "--ticks", ""],
-    &["audit", "a", "--ticks", "+4"],
-    &["audit", "a", "--ticks", "04"],
+    &["audit", "a", "--ticks", "++4"],
     &["audit", "a", "--ticks", "-4"],
     &["audit", "a", "--ticks", "4 "],
     &["audit", "a", "--ticks", "18446744073709551617"],
     &["audit", "a", "--start=x"],
     &["audit", "a", "--start", "10000000000"],
     &["audit", "a", "--seed=1000000"],
-    &["audit", "a", "--seed", "00"],
 ];
 
 #[test]

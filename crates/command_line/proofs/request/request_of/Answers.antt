@@ -1,11 +1,11 @@
-use Rattle.std.proofs.Common.{◌≡◌, ◌∙◌, inl, inr, ap, ap₂, map, sym, subst, rules, refl, true, false, true≢false}
+use Rattle.std.proofs.Common.{◌≡◌, ◌∙◌, ap, ap₂, map, sym, subst, rules, refl, true, false, true≢false}
 use Rattle.std.proofs.lemmas.Result.{IfOk-weaker}
 use Rattle.clap.specs.Words.{app_of, fault_of, found_of, is_simple, is_simple_and_free, kind_of, matches_of, rows_of}
 use Rattle.command_line.specs.CommandLine.{AreModes, colregs}
-use Rattle.command_line.specs.Requests.{AskFor, HoldsRequest, HoldsNoNumber}
+use Rattle.command_line.specs.Requests.{AskFor, HoldsRequest}
 use Rattle.clap.specs.declared.error.kind.ErrorKind.TheVariants.{OutOfMemory}
 use Rattle.command_line.proofs.Asked.{asked_accepted}
-use Rattle.command_line.proofs.HeldRequests.{colregs_is_simple, colregs_simple, held_answer, parsed_numbers, plain_accepted, some_kind}
+use Rattle.command_line.proofs.HeldRequests.{colregs_is_simple, colregs_simple, held_answer, parsed_whole, plain_accepted, some_kind}
 use Rattle.command_line.proofs.request.request_of.Goals as goal
 
 pub returns-in-Ok-try_get_matches_from-clause-asked : goal.returns-in-Ok-try_get_matches_from-clause-asked
@@ -28,9 +28,7 @@ returns-in-Ok-try_get_matches_from-clause-refused c usage =
     let app_is : app_of c.in-Ok.command ≡ colregs values = c.in-Ok.ensures in
     let words_are = ap (map (λ s. s.now)) c.as_slice-2.ensures.value ∙ c.in-Ok-named_words.ensures in
     let parse = c.in-Ok-try_get_matches_from.ensures in
-    let rows_are = (parse.matches (ap is_simple app_is ∙ colregs_is_simple values)).0 ∙ ap₂ matches_of app_is words_are in
-    let odd = parsed_numbers c.in-Ok.command c.in-Ok-try_get_matches_from.matches parse.parsed values are app_is (c.request_in.ensures.unheld usage) in
-    (colregs values, (values, are, refl), inr (subst HoldsNoNumber rows_are odd))
+    absurd (parsed_whole c.in-Ok.command c.in-Ok-try_get_matches_from.matches parse.parsed values are app_is (c.request_in.ensures.unheld usage))
 
 pub returns-in-Ok-try_get_matches_from-clause-accepted : goal.returns-in-Ok-try_get_matches_from-clause-accepted
 returns-in-Ok-try_get_matches_from-clause-accepted c request asked =
@@ -70,7 +68,7 @@ returns-clause-refused c usage =
     let kinds = c.in-Err.ensures.kinds (ap is_simple_and_free app_is ∙ colregs_simple values) in (
       colregs values,
       (values, are, refl),
-      inl (λ none. some_kind (kind_of c.in-Err.error) _ (λ memory. other memory) kinds (ap₂ fault_of app_is words_are ∙ none)),
+      λ none. some_kind (kind_of c.in-Err.error) _ (λ memory. other memory) kinds (ap₂ fault_of app_is words_are ∙ none),
     )
 
 pub returns-clause-accepted : goal.returns-clause-accepted
