@@ -12,7 +12,7 @@ use crate::numbers::{RuleNumbers, Safe};
 use crate::ranks::Ranks;
 use crate::rule::Rule;
 use crate::words::{
-    between_power, both, either, engaged_and, extremis, free, implies, keeps_out, soon, stands_on,
+    between_power, both, engaged_and, extremis, free, implies, keeps_out, one_of, soon, stands_on,
 };
 use mtl_formulas::Atom;
 use outside::Memory;
@@ -43,7 +43,7 @@ fn either_passes_clear(alloc: Global, one: Atom, two: Atom, metres: u32) -> Resu
     requires two { IsValidAtom two }
     ensures { IfOk result (λ d. IsMade d.formula (passes_clear (leaf one or leaf two) metres) 7) }
 {
-    passes_clear(alloc, either(alloc, atom(one), atom(two))?, metres)
+    passes_clear(alloc, one_of(alloc, one, two)?, metres)
 }
 
 fn passes_clear_per_kind(

@@ -30,6 +30,15 @@ pub(crate) fn either(alloc: Global, a: Draft, b: Draft) -> Result<Draft, Memory>
     join(alloc, PairKind::Or, a, b)
 }
 
+/// `a | b`, of two atoms.
+pub(crate) fn one_of(alloc: Global, a: Atom, b: Atom) -> Result<Draft, Memory>
+    requires a { IsValidAtom a }
+    requires b { IsValidAtom b }
+    ensures { IfOk result (λ d. IsMade d.formula (leaf a or leaf b) 3) }
+{
+    either(alloc, atom(a), atom(b))
+}
+
 /// `a -> b`.
 pub(crate) fn implies(alloc: Global, a: Draft, b: Draft) -> Result<Draft, Memory>
     requires { node_count (tree_of a.formula) + node_count (tree_of b.formula) < 64 }
@@ -71,28 +80,14 @@ pub(crate) fn soon(alloc: Global, tick: u32, seconds: u32, act: Atom) -> Result<
     over(alloc, SpanKind::F, seconds / tick, over_or_done)
 }
 
-/// `overtaking | crossing_gives`, or the like of a vessel that stands on.
-fn by_kind(alloc: Global, overtaking: Atom, crossing: Atom) -> Result<Draft, Memory>
-    requires overtaking { IsValidAtom overtaking }
-    requires crossing { IsValidAtom crossing }
-    ensures { IfOk result (λ d. IsMade d.formula (leaf overtaking or leaf crossing) 3) }
-{
-    either(alloc, atom(overtaking), atom(crossing))
-}
-
 /// `overtaking | rank_gives | crossing_gives & both_power`, or the like of a vessel that stands on.
-fn by_kind_and_rank(
-    alloc: Global,
-    overtaking: Atom,
-    rank: Atom,
-    crossing: Atom,
-) -> Result<Draft, Memory>
+fn with_rank(alloc: Global, overtaking: Atom, rank: Atom, crossing: Atom) -> Result<Draft, Memory>
     requires overtaking { IsValidAtom overtaking }
     requires rank { IsValidAtom rank }
     requires crossing { IsValidAtom crossing }
     ensures { IfOk result (λ d. IsMade d.formula (leaf overtaking or leaf rank or (leaf crossing and leaf Atom.BothPower)) 7) }
 {
-    let before_crossing = by_kind(alloc, overtaking, rank)?;
+    let before_crossing = one_of(alloc, overtaking, rank)?;
     let crossing = both(alloc, atom(crossing), atom(Atom::BothPower))?;
     either(alloc, before_crossing, crossing)
 }
@@ -103,9 +98,9 @@ pub(crate) fn keeps_out(alloc: Global, ranks: Ranks) -> Result<Draft, Memory>
     ensures { IfOk result (λ d. IsMade d.formula (keeps_out ranks) 7) }
 {
     match ranks {
-        Ranks::Ignored => by_kind(alloc, Atom::Overtaking, Atom::CrossingGives),
+        Ranks::Ignored => one_of(alloc, Atom::Overtaking, Atom::CrossingGives),
         Ranks::Counted => {
-            by_kind_and_rank(
+            with_rank(
                 alloc,
                 Atom::Overtaking,
                 Atom::RankGives,
@@ -121,9 +116,9 @@ pub(crate) fn stands_on(alloc: Global, ranks: Ranks) -> Result<Draft, Memory>
     ensures { IfOk result (λ d. IsMade d.formula (stands_on ranks) 7) }
 {
     match ranks {
-        Ranks::Ignored => by_kind(alloc, Atom::Overtaken, Atom::CrossingStands),
+        Ranks::Ignored => one_of(alloc, Atom::Overtaken, Atom::CrossingStands),
         Ranks::Counted => {
-            by_kind_and_rank(
+            with_rank(
                 alloc,
                 Atom::Overtaken,
                 Atom::RankStands,
