@@ -3,8 +3,8 @@ use Rattle.std.proofs.Common.{◌≡◌, ◌∙◌, ℕ, zero, suc, ◌+◌, ◌
 use Rattle.std.proofs.lemmas.List.{append-nil}
 use Rattle.std.specs.Int.Digits.{number_from_digits_after, number_from_digits, AllBelowBase}
 use Rattle.std.proofs.lemmas.Int.Digits.{number_push, number_more, number_lt}
-use Rattle.std.proofs.Math.Nat.{div-lt_iff_lt-mul, pow-suc, pow-zero, pow-le-pow_right, mod-lt, mul-div_cancel, div-div-eq-div-mul}
-use Rattle.std.proofs.lemmas.Nat.{div-mul-add, mod-mul-add, div-add-mod'}
+use Rattle.std.proofs.Math.Nat.{div-lt_iff_lt-mul, pow-suc, pow-zero, pow-le-pow_right, mod-lt, mul-div_cancel, mul-le-mul_right, div-div-eq-div-mul}
+use Rattle.std.proofs.lemmas.Nat.{div-mul-add, mod-mul-add, div-add-mod', pow-add}
 use Rattle.lattice.specs.PlanNumbers.{plan_of, number_of, IsPlan, AreInverse}
 
 pub plan_none : (b n : ℕ) → plan_of b 0 n ≡ []
@@ -80,3 +80,16 @@ lower_weight b legs leg p h = rw (next_weight b legs leg p h) (mul-div_cancel (b
 pub plan_step : (b leg n weight : ℕ) → plan_of b (leg + 1) (n / weight) ≡ plan_of b leg (n / (weight * b)) ++ n / weight % b ∷ []
 unfolding plan_of
 plan_step b leg n weight = rw (add-one, ← div-div-eq-div-mul n weight b) refl
+
+-- ---- the block of a prefix that leaves so many legs
+
+pub few_extensions : (b legs left most : ℕ) → 0 < b → left ≤ legs → b ^ legs ≤ most → b ^ left ≤ most
+few_extensions b legs left most p le few = omega (arith, pow-le-pow_right p le)
+
+pub block_within : (b k legs n : ℕ) → k ≤ legs → n < b ^ k → (n + 1) * b ^ (legs - k) ≤ b ^ legs
+block_within b k legs n le lt =
+    let next : n + 1 ≤ b ^ k = omega arith in
+    let product = mul-le-mul_right (b ^ (legs - k)) next in
+    let e : k + (legs - k) ≡ legs = omega arith in
+    let whole = rw e at (pow-add b k (legs - k)) in
+    omega arith

@@ -1,9 +1,10 @@
 //! The lattice of own ship's plans, and their numbers.
-ghost use Rattle.std.specs.Prelude.{◌≡◌, ◌<◌, ◌≤◌, ◌^◌, length};
+ghost use Rattle.std.specs.Prelude.{◌≡◌, ◌+◌, ◌-◌, ◌*◌, ◌<◌, ◌≤◌, ◌^◌, length};
+ghost use Rattle.std.specs.Int.Digits.{AllBelowBase};
 ghost use Rattle.lattice.specs.Grids.{choices_of, grid, plans_of, positions_of, IsGrid};
 ghost use Rattle.lattice.specs.PlanNumbers.{number_of, plan_of, IsPlan};
 
-use crate::numbers::{number_of, plan_of};
+use crate::numbers::{block_of, number_of, plan_of};
 use crate::plan::Plan;
 use smallvec::SmallVec;
 use std::alloc::Global;
@@ -125,6 +126,19 @@ impl Lattice {
         ensures value { result ≡ number_of (choices_of self.now) plan.now }
         ensures within { result < plans_of self.now }
     {
-        number_of(self.choices(), plan)
+        number_of(self.choices(), plan.choices())
+    }
+
+    /// The block of a prefix, the choices of the first legs: the number of the first plan that extends it, and the number behind the
+    /// last one. The plans that extend it are those between, in consecutive numbers.
+    pub fn block(&self, prefix: &[u16]) -> (u32, u32)
+        requires few { length prefix.now ≤ self.now.legs }
+        requires below { AllBelowBase (choices_of self.now) prefix.now }
+        ensures first { result.0 ≡ number_of (choices_of self.now) prefix.now * choices_of self.now ^ (self.now.legs - length prefix.now) }
+        ensures behind { result.1 ≡ (number_of (choices_of self.now) prefix.now + 1) * choices_of self.now ^ (self.now.legs - length prefix.now) }
+        ensures some { result.0 < result.1 }
+        ensures within { result.1 ≤ plans_of self.now }
+    {
+        block_of(self.choices(), self.legs, prefix)
     }
 }

@@ -1,5 +1,5 @@
 //! The numbers of plans.
-ghost use Rattle.std.specs.Prelude.{◌≡◌, ◌<◌, ◌≤◌, ◌^◌, length};
+ghost use Rattle.std.specs.Prelude.{◌≡◌, ◌+◌, ◌-◌, ◌*◌, ◌<◌, ◌≤◌, ◌^◌, length};
 ghost use Rattle.std.specs.Int.Digits.{AllBelowBase};
 ghost use Rattle.lattice.specs.PlanNumbers.{number_of, plan_of, IsPlan};
 
@@ -25,17 +25,33 @@ pub(crate) fn plan_of(alloc: Global, choices: u32, legs: u8, plans: u32, number:
     plan
 }
 
-/// The number of a plan.
-pub(crate) fn number_of(choices: u32, plan: &Plan) -> u32
+/// The number of a plan, or of its first legs alone.
+pub(crate) fn number_of(choices: u32, legs: &[u16]) -> u32
     requires some_choice { 1 ≤ choices }
-    requires below { AllBelowBase choices plan.now }
-    requires few_plans { choices ^ length plan.now ≤ 2 ^ 30 }
-    ensures value { result ≡ number_of choices plan.now }
-    ensures within { result < choices ^ length plan.now }
+    requires below { AllBelowBase choices legs.now }
+    requires few_plans { choices ^ length legs.now ≤ 2 ^ 30 }
+    ensures value { result ≡ number_of choices legs.now }
+    ensures within { result < choices ^ length legs.now }
 {
     let mut number = 0;
-    for choice in plan.choices() {
+    for choice in legs {
         number = number * choices + u32::from(*choice);
     }
     number
+}
+
+/// The block of a prefix: the number of the first of the plans that extend it, and the number behind the last one.
+pub(crate) fn block_of(choices: u32, legs: u8, prefix: &[u16]) -> (u32, u32)
+    requires some_choice { 1 ≤ choices }
+    requires few_legs { length prefix.now ≤ legs }
+    requires below { AllBelowBase choices prefix.now }
+    requires few_plans { choices ^ legs ≤ 2 ^ 30 }
+    ensures first { result.0 ≡ number_of choices prefix.now * choices ^ (legs - length prefix.now) }
+    ensures behind { result.1 ≡ (number_of choices prefix.now + 1) * choices ^ (legs - length prefix.now) }
+    ensures some { result.0 < result.1 }
+    ensures within { result.1 ≤ choices ^ legs }
+{
+    let extensions = choices.pow(u32::from(legs) - prefix.len() as u32);
+    let number = number_of(choices, prefix);
+    (number * extensions, (number + 1) * extensions)
 }

@@ -32,6 +32,8 @@ fn numbers_of_plans(rt: HostRuntime) {
     let plan = lattice.plan(11);
     assert_eq!(rt; plan.choices(), [1, 5].as_slice());
     assert_eq!(rt; lattice.number(&plan), 11);
+    // The plans that begin with the choice 1 have the numbers 6 to 11.
+    assert_eq!(rt; lattice.block(&[1]), (6, 12));
     numbers_and_plans_are_inverse(&lattice);
     assert_eq!(rt; lattice.course(&plan, 0, 500), 500);
     assert_eq!(rt; lattice.speed(&plan, 0, 180), 130);

@@ -1,5 +1,5 @@
 -- A tree is no deeper than it has nodes, so a draft is within the limits.
-use Rattle.std.proofs.Common.{ℕ, ◌≡◌, ◌≤◌, ◌<◌, ◌+◌, ap, arith}
+use Rattle.std.proofs.Common.{ℕ, ◌≡◌, ◌≤◌, ◌<◌, ◌+◌, arith}
 use Rattle.mtl_formulas.specs.declared.formula.Formula.{Formula}
 use Rattle.mtl_formulas.specs.declared.formula.PairKind.{PairKind}
 use Rattle.mtl_formulas.specs.declared.formula.SpanKind.{SpanKind}
@@ -31,13 +31,13 @@ span_reach_within G u = omega arith
 span_reach_within O u = omega arith
 span_reach_within H u = omega arith
 
-pub span_draft : (kind : SpanKind) (u : ℕ) (t : FormulaTree) → IsDraft t → node_count t < 64 → u + reach_of t ≤ 7200 → IsDraft (span kind 0 u t)
-span_draft kind u t h few near =
-    record { parts = (omega arith, omega arith, h.parts); nodes = omega arith; reach = omega (arith, span_reach_within kind u) }
+pub span_draft : (kind : SpanKind) (u : ℕ) (t : FormulaTree) → IsDraft t → node_count t < 64 → u ≤ 7200 → reach_of t ≡ 0 → IsDraft (span kind 0 u t)
+span_draft kind u t h few near alone =
+    record { parts = (omega arith, near, h.parts); nodes = omega arith; reach = omega (arith, span_reach_within kind u) }
 
 pub since_draft : (u : ℕ) (s t : FormulaTree) → IsDraft s → IsDraft t → node_count s + node_count t < 64 → u ≤ 7200 → IsDraft (link S 0 u s t)
 since_draft u s t h k few near =
     record { parts = (omega arith, near, h.parts, k.parts); nodes = omega arith; reach = omega (arith, h.reach, k.reach) }
 
-pub made : (f : Formula) (t : FormulaTree) → tree_of f ≡ t → IsMade f t
-made f t h = record { tree = h; nodes = ap node_count h; reach = ap reach_of h }
+pub made : (f : Formula) (t : FormulaTree) (most : ℕ) → tree_of f ≡ t → node_count t ≤ most → IsMade f t most
+made f t most h few = record { tree = h; nodes = rw h few }

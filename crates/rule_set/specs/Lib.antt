@@ -1,5 +1,4 @@
 pub mod RuleTrees
-pub mod RankedRuleTrees
 pub mod NamedTrees
 pub use Rattle.mtl_formulas.specs.FormulaTree
 pub use Rattle.mtl_formulas.specs.FormulaMeasures

@@ -1,13 +1,14 @@
 -- The rules in order, each a name and a tree.
-use Rattle.std.specs.Prelude.{ℕ, ◌≡◌, ◌≤◌, Bool, false, bytes_eq, List, [], ◌∷◌, length, All, slice_index_or, codes}
+use Rattle.std.specs.Prelude.{ℕ, ◌≡◌, ◌≤◌, Bool, false, bytes_eq, List, [], ◌∷◌, ◌++◌, length, All, slice_index_or, codes}
 use Rattle.std.specs.List.{list_any}
 use Rattle.mtl_formulas.specs.declared.atom.Atom.TheVariants.{Never}
 use Rattle.mtl_formulas.specs.FormulaTree.{FormulaTree, leaf}
 use Rattle.mtl_formulas.specs.FormulaMeasures.{IsValid}
 use Rattle.rule_set.specs.declared.numbers.RuleNumbers.{RuleNumbers}
+use Rattle.rule_set.specs.declared.ranks.Ranks.{Ranks}
+use Rattle.rule_set.specs.declared.ranks.Ranks.TheVariants.{Ignored, Counted}
 use Rattle.rule_set.specs.declared.rule_set.TheConstants.{MOST_RULES}
 use Rattle.rule_set.specs.RuleTrees as tree
-use Rattle.rule_set.specs.RankedRuleTrees as ranked
 
 pub record NamedTree : Type 0 where
   pub name : List ℕ
@@ -16,38 +17,29 @@ pub record NamedTree : Type 0 where
 abbrev pub rule_named : List ℕ → FormulaTree → NamedTree
 rule_named name tree = record { name = name; tree = tree }
 
--- the eleven rules without ranks, at a tick of so many seconds
-abbrev pub rules_of : ℕ → RuleNumbers → List NamedTree
-rules_of tick numbers =
+-- the eleven rules that stand without ranks and with them, at a tick of so many seconds
+abbrev pub eleven_rules : Ranks → ℕ → RuleNumbers → List NamedTree
+eleven_rules ranks tick numbers =
     rule_named (codes "r8b") (tree.r8b tick numbers)
     ∷ rule_named (codes "r8d") (tree.r8d numbers)
     ∷ rule_named (codes "r13") (tree.r13 numbers)
-    ∷ rule_named (codes "r14a") (tree.r14a tick numbers)
-    ∷ rule_named (codes "r14b") tree.r14b
-    ∷ rule_named (codes "r14p") tree.r14p
-    ∷ rule_named (codes "r15") tree.r15
-    ∷ rule_named (codes "r16") (tree.r16 tick numbers)
-    ∷ rule_named (codes "r17a") (tree.r17a tick numbers)
-    ∷ rule_named (codes "r17b") (tree.r17b tick numbers)
-    ∷ rule_named (codes "r17c") (tree.r17c tick numbers)
+    ∷ rule_named (codes "r14a") (tree.r14a ranks tick numbers)
+    ∷ rule_named (codes "r14b") (tree.r14b ranks)
+    ∷ rule_named (codes "r14p") (tree.r14p ranks)
+    ∷ rule_named (codes "r15") (tree.r15 ranks)
+    ∷ rule_named (codes "r16") (tree.r16 ranks tick numbers)
+    ∷ rule_named (codes "r17a") (tree.r17a ranks tick numbers)
+    ∷ rule_named (codes "r17b") (tree.r17b ranks tick numbers)
+    ∷ rule_named (codes "r17c") (tree.r17c ranks tick numbers)
     ∷ []
 
--- the twelve rules with ranks, at a tick of so many seconds
+-- the eleven rules without ranks
+abbrev pub rules_of : ℕ → RuleNumbers → List NamedTree
+rules_of tick numbers = eleven_rules Ignored tick numbers
+
+-- the twelve rules with ranks
 abbrev pub ranked_rules_of : ℕ → RuleNumbers → List NamedTree
-ranked_rules_of tick numbers =
-    rule_named (codes "r8b") (tree.r8b tick numbers)
-    ∷ rule_named (codes "r8d") (tree.r8d numbers)
-    ∷ rule_named (codes "r13") (tree.r13 numbers)
-    ∷ rule_named (codes "r14a") (ranked.r14a_ranked tick numbers)
-    ∷ rule_named (codes "r14b") ranked.r14b_ranked
-    ∷ rule_named (codes "r14p") ranked.r14p_ranked
-    ∷ rule_named (codes "r15") ranked.r15_ranked
-    ∷ rule_named (codes "r16") (ranked.r16_ranked tick numbers)
-    ∷ rule_named (codes "r17a") (ranked.r17a_ranked tick numbers)
-    ∷ rule_named (codes "r17b") (ranked.r17b_ranked tick numbers)
-    ∷ rule_named (codes "r17c") (ranked.r17c_ranked tick numbers)
-    ∷ rule_named (codes "r18") (ranked.r18 numbers)
-    ∷ []
+ranked_rules_of tick numbers = eleven_rules Counted tick numbers ++ rule_named (codes "r18") (tree.r18 numbers) ∷ []
 
 -- the rule at an index below their number
 abbrev pub rule_at : List NamedTree → ℕ → NamedTree

@@ -1,7 +1,11 @@
 -- The formulas of the rules, as trees: the duties of the COLREGs 1972, with the numbers of a scenario. The bounds of their
 -- operators are in positions, each a tick of so many seconds.
+--
+-- Rule 18 says by what they are which of two vessels keeps out of the way of the other. Where these ranks count it has a duty of its
+-- own, r18, and the duties of meeting head-on and of crossing (Rules 14, 15 and 17) hold between power-driven vessels alone. What
+-- stands there only where ranks count is in brackets. Overtaking comes before any rank (Rule 13).
 use Rattle.std.specs.Prelude.{ℕ, ◌≡◌, ◌≤◌, ◌/◌, ◌%◌}
-use Rattle.mtl_formulas.specs.declared.atom.Atom.TheVariants.{Risk, Engaged, Begin, Overtaking, Overtaken, HeadOn, CrossingGives, CrossingStands, Passing, Unclassified, Age, Opening, Clear, Close, OtherOnPort, Ahead, Alters, Apparent, ToStarboard, ToPort, OtherApparent}
+use Rattle.mtl_formulas.specs.declared.atom.Atom.TheVariants.{Risk, Engaged, Begin, Overtaking, Overtaken, HeadOn, CrossingGives, CrossingStands, Passing, Unclassified, Age, Opening, Clear, Close, OtherOnPort, Ahead, Alters, Apparent, ToStarboard, ToPort, OtherApparent, RankGives, RankStands, BothPower}
 use Rattle.mtl_formulas.specs.declared.formula.PairKind.TheVariants.{And, Or, Implies}
 use Rattle.mtl_formulas.specs.declared.formula.SpanKind.TheVariants.{F, H}
 use Rattle.mtl_formulas.specs.declared.formula.LinkKind.TheVariants.{S}
@@ -10,6 +14,8 @@ use Rattle.mtl_formulas.specs.FormulaText.{IsTick}
 use Rattle.rule_set.specs.declared.numbers.Safe.{Safe}
 use Rattle.rule_set.specs.declared.numbers.Safe.TheVariants.{One, PerKind}
 use Rattle.rule_set.specs.declared.numbers.RuleNumbers.{RuleNumbers}
+use Rattle.rule_set.specs.declared.ranks.Ranks.{Ranks}
+use Rattle.rule_set.specs.declared.ranks.Ranks.TheVariants.{Ignored, Counted}
 
 infixl 30 ◌and◌
 infixl 25 ◌or◌
@@ -49,30 +55,37 @@ a or b = pair Or a b
 abbrev pub ◌implies◌ : FormulaTree → FormulaTree → FormulaTree
 a implies b = pair Implies a b
 
+-- Between power-driven vessels: a [& both_power]
+unfoldable pub between_power : Ranks → FormulaTree → FormulaTree
+between_power Ignored a = a
+between_power Counted a = a and leaf BothPower
+
 -- The duty to act within so many seconds, unless the engagement ends: F[0,seconds] (act | !engaged)
-abbrev pub soon : ℕ → ℕ → FormulaTree → FormulaTree
+unfoldable pub soon : ℕ → ℕ → FormulaTree → FormulaTree
 soon tick seconds act = span F 0 (seconds / tick) (act or negation (leaf Engaged))
 
--- The vessel is to keep out of the way: (overtaking | crossing_gives)
-abbrev pub keeps_out : FormulaTree
-keeps_out = leaf Overtaking or leaf CrossingGives
+-- The vessel is to keep out of the way: (overtaking [| rank_gives] | crossing_gives [& both_power])
+unfoldable pub keeps_out : Ranks → FormulaTree
+keeps_out Ignored = leaf Overtaking or leaf CrossingGives
+keeps_out Counted = leaf Overtaking or leaf RankGives or (leaf CrossingGives and leaf BothPower)
 
--- The vessel is to stand on: (overtaken | crossing_stands)
-abbrev pub stands_on : FormulaTree
-stands_on = leaf Overtaken or leaf CrossingStands
+-- The vessel is to stand on: (overtaken [| rank_stands] | crossing_stands [& both_power])
+unfoldable pub stands_on : Ranks → FormulaTree
+stands_on Ignored = leaf Overtaken or leaf CrossingStands
+stands_on Counted = leaf Overtaken or leaf RankStands or (leaf CrossingStands and leaf BothPower)
 
 -- In risk, and so near that the other vessel may be unable to avoid collision alone: (engaged & risk & close(close))
-abbrev pub extremis : RuleNumbers → FormulaTree
+unfoldable pub extremis : RuleNumbers → FormulaTree
 extremis n = leaf Engaged and leaf Risk and leaf (Close n.close)
 
 -- In risk for so long, in which the other vessel did not act: (age(tw) & H[0,tw] (engaged & risk & !other_apparent))
-abbrev pub waits : ℕ → RuleNumbers → FormulaTree
+unfoldable pub waits : ℕ → RuleNumbers → FormulaTree
 waits tick n =
     leaf (Age n.tw) and span H 0 (n.tw / tick) (leaf Engaged and leaf Risk and negation (leaf OtherApparent))
 
 -- The vessel that stands on is free to act: since she waited or was in extremis, at most so long ago, she stayed engaged.
 -- (engaged S[0,te] (waits | extremis))
-abbrev pub free : ℕ → RuleNumbers → FormulaTree
+unfoldable pub free : ℕ → RuleNumbers → FormulaTree
 free tick n = link S 0 (n.te / tick) (leaf Engaged) (waits tick n or extremis n)
 
 -- Engaged in an encounter of this kind, the vessels pass at so many metres: engaged & kind -> clear(metres)
@@ -104,41 +117,52 @@ abbrev pub r13 : RuleNumbers → FormulaTree
 r13 n = passes_clear (leaf Overtaking) n.overtake
 
 -- Rule 14(a). Vessels meeting head-on each alter course to starboard.
--- begin & head_on -> F[0,ta] (to_starboard | !engaged)
-abbrev pub r14a : ℕ → RuleNumbers → FormulaTree
-r14a tick n = leaf Begin and leaf HeadOn implies soon tick n.ta (leaf ToStarboard)
+-- begin & head_on [& both_power] -> F[0,ta] (to_starboard | !engaged)
+abbrev pub r14a : Ranks → ℕ → RuleNumbers → FormulaTree
+r14a ranks tick n = between_power ranks (leaf Begin and leaf HeadOn) implies soon tick n.ta (leaf ToStarboard)
 
 -- Rule 14(a). No vessel that meets another head-on alters course to port.
--- engaged & head_on -> !to_port
-abbrev pub r14b : FormulaTree
-r14b = leaf Engaged and leaf HeadOn implies negation (leaf ToPort)
+-- engaged & head_on [& both_power] -> !to_port
+abbrev pub r14b : Ranks → FormulaTree
+r14b ranks = between_power ranks (leaf Engaged and leaf HeadOn) implies negation (leaf ToPort)
 
 -- Rule 14(a). Vessels meeting head-on each pass on the port side of the other.
--- engaged & head_on & opening -> other_on_port
-abbrev pub r14p : FormulaTree
-r14p = leaf Engaged and leaf HeadOn and leaf Opening implies leaf OtherOnPort
+-- engaged & head_on [& both_power] & opening -> other_on_port
+abbrev pub r14p : Ranks → FormulaTree
+r14p ranks = between_power ranks (leaf Engaged and leaf HeadOn) and leaf Opening implies leaf OtherOnPort
 
 -- Rule 15. In a crossing, the vessel which has the other on her own starboard side avoids crossing ahead of her.
--- engaged & crossing_gives -> !ahead
-abbrev pub r15 : FormulaTree
-r15 = leaf Engaged and leaf CrossingGives implies negation (leaf Ahead)
+-- engaged & crossing_gives [& both_power] -> !ahead
+abbrev pub r15 : Ranks → FormulaTree
+r15 ranks = between_power ranks (leaf Engaged and leaf CrossingGives) implies negation (leaf Ahead)
 
 -- Rule 16. A vessel that is to keep out of the way takes early and substantial action.
 -- begin & keeps_out -> F[0,ta] (apparent | !engaged)
-abbrev pub r16 : ℕ → RuleNumbers → FormulaTree
-r16 tick n = leaf Begin and keeps_out implies soon tick n.ta (leaf Apparent)
+abbrev pub r16 : Ranks → ℕ → RuleNumbers → FormulaTree
+r16 ranks tick n = leaf Begin and keeps_out ranks implies soon tick n.ta (leaf Apparent)
 
 -- Rule 17(a). The vessel that is to stand on keeps her course and speed until she is free to act.
 -- engaged & stands_on & !free -> !alters
-abbrev pub r17a : ℕ → RuleNumbers → FormulaTree
-r17a tick n = leaf Engaged and stands_on and negation (free tick n) implies negation (leaf Alters)
+abbrev pub r17a : Ranks → ℕ → RuleNumbers → FormulaTree
+r17a ranks tick n = leaf Engaged and stands_on ranks and negation (free tick n) implies negation (leaf Alters)
 
 -- Rule 17(b). In extremis the vessel that is to stand on takes such action as will best aid to avoid collision.
 -- stands_on & extremis -> F[0,tl] (apparent | !engaged)
-abbrev pub r17b : ℕ → RuleNumbers → FormulaTree
-r17b tick n = stands_on and extremis n implies soon tick n.tl (leaf Apparent)
+abbrev pub r17b : Ranks → ℕ → RuleNumbers → FormulaTree
+r17b ranks tick n = stands_on ranks and extremis n implies soon tick n.tl (leaf Apparent)
 
 -- Rule 17(c). In a crossing, the vessel that is to stand on, free to act and not in extremis, does not alter course to port.
--- engaged & crossing_stands & free & !extremis -> !to_port
-abbrev pub r17c : ℕ → RuleNumbers → FormulaTree
-r17c tick n = leaf Engaged and leaf CrossingStands and free tick n and negation (extremis n) implies negation (leaf ToPort)
+-- engaged & crossing_stands [& both_power] & free & !extremis -> !to_port
+abbrev pub r17c : Ranks → ℕ → RuleNumbers → FormulaTree
+r17c ranks tick n =
+    between_power ranks (leaf Engaged and leaf CrossingStands) and free tick n and negation (extremis n) implies negation (leaf ToPort)
+
+-- the distance at which vessels pass safely in an encounter of no kind that has one of its own
+abbrev pub other_metres : Safe → ℕ
+other_metres (One metres) = metres
+other_metres (PerKind head_on overtaking crossing other) = other
+
+-- Rule 18. A vessel keeps out of the way of those that are less able to.
+-- engaged & rank_gives -> clear(safe)
+abbrev pub r18 : RuleNumbers → FormulaTree
+r18 n = passes_clear (leaf RankGives) (other_metres n.safe)

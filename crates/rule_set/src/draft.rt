@@ -19,7 +19,7 @@ pub(crate) struct Draft {
 #[tactic(auto, using(crate::proofs::Drafts::made))]
 pub(crate) fn atom(atom: Atom) -> Draft
     requires { IsValidAtom atom }
-    ensures { IsMade result.formula (leaf atom) }
+    ensures { IsMade result.formula (leaf atom) 1 }
 {
     Draft {
         formula: Formula::leaf(atom),
@@ -30,7 +30,7 @@ pub(crate) fn atom(atom: Atom) -> Draft
 #[tactic(auto, using(crate::proofs::Drafts::made))]
 pub(crate) fn not(alloc: Global, a: Draft) -> Result<Draft, Memory>
     requires { node_count (tree_of a.formula) < 64 }
-    ensures { IfOk result (λ d. IsMade d.formula (negation (tree_of a.formula))) }
+    ensures { IfOk result (λ d. IsMade d.formula (negation (tree_of a.formula)) (node_count (tree_of a.formula) + 1)) }
 {
     Ok(Draft {
         formula: Formula::negated(alloc, a.formula)?,
@@ -41,19 +41,21 @@ pub(crate) fn not(alloc: Global, a: Draft) -> Result<Draft, Memory>
 #[tactic(auto, using(crate::proofs::Drafts::made))]
 pub(crate) fn join(alloc: Global, kind: PairKind, a: Draft, b: Draft) -> Result<Draft, Memory>
     requires { node_count (tree_of a.formula) + node_count (tree_of b.formula) < 64 }
-    ensures { IfOk result (λ d. IsMade d.formula (pair kind (tree_of a.formula) (tree_of b.formula))) }
+    ensures { IfOk result (λ d. IsMade d.formula (pair kind (tree_of a.formula) (tree_of b.formula))
+        (node_count (tree_of a.formula) + node_count (tree_of b.formula) + 1)) }
 {
     Ok(Draft {
         formula: Formula::pair(alloc, kind, a.formula, b.formula)?,
     })
 }
 
-/// `F[0,upper] a` or `H[0,upper] a`, in positions.
+/// `F[0,upper] a` or `H[0,upper] a`, in positions, of a formula that looks at no later position.
 #[tactic(auto, using(crate::proofs::Drafts::made))]
 pub(crate) fn over(alloc: Global, kind: SpanKind, upper: u32, a: Draft) -> Result<Draft, Memory>
     requires few { node_count (tree_of a.formula) < 64 }
-    requires near { upper + reach_of (tree_of a.formula) ≤ 7200 }
-    ensures { IfOk result (λ d. IsMade d.formula (span kind 0 upper (tree_of a.formula))) }
+    requires near { upper ≤ 7200 }
+    requires alone { reach_of (tree_of a.formula) ≡ 0 }
+    ensures { IfOk result (λ d. IsMade d.formula (span kind 0 upper (tree_of a.formula)) (node_count (tree_of a.formula) + 1)) }
 {
     Ok(Draft {
         formula: Formula::span(alloc, kind, 0, upper, a.formula)?,
@@ -65,7 +67,8 @@ pub(crate) fn over(alloc: Global, kind: SpanKind, upper: u32, a: Draft) -> Resul
 pub(crate) fn since(alloc: Global, upper: u32, a: Draft, b: Draft) -> Result<Draft, Memory>
     requires few { node_count (tree_of a.formula) + node_count (tree_of b.formula) < 64 }
     requires near { upper ≤ 7200 }
-    ensures { IfOk result (λ d. IsMade d.formula (link LinkKind.S 0 upper (tree_of a.formula) (tree_of b.formula))) }
+    ensures { IfOk result (λ d. IsMade d.formula (link LinkKind.S 0 upper (tree_of a.formula) (tree_of b.formula))
+        (node_count (tree_of a.formula) + node_count (tree_of b.formula) + 1)) }
 {
     Ok(Draft {
         formula: Formula::link(alloc, LinkKind::S, 0, upper, a.formula, b.formula)?,

@@ -1,33 +1,37 @@
-//! The eleven rules without ranks.
-ghost use Rattle.std.specs.Prelude.{◌≡◌, ◌+◌, ◌<◌, ◌≤◌, IfOk};
+//! The rules, without ranks and with them.
+ghost use Rattle.std.specs.Prelude.{◌≡◌, ◌+◌, ◌<◌, ◌≤◌, IfOk, codes};
 ghost use Rattle.mtl_formulas.specs.FormulaTree.{leaf, tree_of};
 ghost use Rattle.mtl_formulas.specs.FormulaMeasures.{IsValidAtom, node_count};
 ghost use Rattle.rule_set.specs.Inner.Drafts.{IsMade};
-ghost use Rattle.rule_set.specs.RuleTrees.{AreMetres, AreSafeMetres, AreRuleNumbers, passes_clear, r8b, r8d, passes_safely, r13, r14a, r14b, r14p, r15, r16, r17a, r17b, r17c, ◌or◌};
+ghost use Rattle.rule_set.specs.Inner.Rules.{named_tree};
+ghost use Rattle.rule_set.specs.NamedTrees.{rule_named};
+ghost use Rattle.rule_set.specs.RuleTrees.{AreMetres, AreSafeMetres, AreRuleNumbers, passes_clear, passes_safely, other_metres, r8b, r8d, r13, r14a, r14b, r14p, r15, r16, r17a, r17b, r17c, r18, ◌or◌};
 
 use crate::draft::{Draft, atom, not};
 use crate::numbers::{RuleNumbers, Safe};
+use crate::ranks::Ranks;
+use crate::rule::Rule;
 use crate::words::{
-    both, either, engaged_and, extremis, free, implies, keeps_out, soon, stands_on,
+    between_power, both, engaged_and, extremis, free, implies, keeps_out, one_of, soon, stands_on,
 };
 use mtl_formulas::Atom;
 use outside::Memory;
 use std::alloc::Global;
 
 /// Rule 8(b): an alteration is readily apparent.
-pub(crate) fn r8b(alloc: Global, tick: u32, numbers: &RuleNumbers) -> Result<Draft, Memory>
+pub(crate) fn r8b(alloc: Global, tick: u32, numbers: &RuleNumbers) -> Result<Rule, Memory>
     requires { AreRuleNumbers tick numbers.now }
-    ensures { IfOk result (λ d. tree_of d.formula ≡ r8b tick numbers.now) }
+    ensures { IfOk result (λ rule. named_tree rule ≡ rule_named (codes "r8b") (r8b tick numbers.now)) }
 {
     let apparent = soon(alloc, tick, numbers.t8, Atom::Apparent)?;
-    implies(alloc, atom(Atom::Alters), apparent)
+    Ok(Rule::of(b"r8b", implies(alloc, atom(Atom::Alters), apparent)?))
 }
 
 /// Engaged in an encounter of this kind, the vessels pass at this distance.
-pub(crate) fn passes_clear(alloc: Global, kind: Draft, metres: u32) -> Result<Draft, Memory>
+fn passes_clear(alloc: Global, kind: Draft, metres: u32) -> Result<Draft, Memory>
     requires metres { AreMetres metres }
     requires few { node_count (tree_of kind.formula) < 60 }
-    ensures { IfOk result (λ d. IsMade d.formula (passes_clear (tree_of kind.formula) metres)) }
+    ensures { IfOk result (λ d. IsMade d.formula (passes_clear (tree_of kind.formula) metres) (node_count (tree_of kind.formula) + 4)) }
 {
     implies(alloc, engaged_and(alloc, kind)?, atom(Atom::Clear(metres)))
 }
@@ -37,9 +41,9 @@ fn either_passes_clear(alloc: Global, one: Atom, two: Atom, metres: u32) -> Resu
     requires metres { AreMetres metres }
     requires one { IsValidAtom one }
     requires two { IsValidAtom two }
-    ensures { IfOk result (λ d. IsMade d.formula (passes_clear (leaf one or leaf two) metres)) }
+    ensures { IfOk result (λ d. IsMade d.formula (passes_clear (leaf one or leaf two) metres) 7) }
 {
-    passes_clear(alloc, either(alloc, atom(one), atom(two))?, metres)
+    passes_clear(alloc, one_of(alloc, one, two)?, metres)
 }
 
 fn passes_clear_per_kind(
@@ -63,12 +67,12 @@ fn passes_clear_per_kind(
     )
 }
 
-/// Rule 8(d): the vessels pass at a safe distance.
-pub(crate) fn r8d(alloc: Global, numbers: &RuleNumbers) -> Result<Draft, Memory>
-    requires { AreSafeMetres numbers.now.safe }
-    ensures { IfOk result (λ d. tree_of d.formula ≡ r8d numbers.now) }
+/// The vessels pass at a safe distance.
+fn passes_safely(alloc: Global, safe: Safe) -> Result<Draft, Memory>
+    requires { AreSafeMetres safe }
+    ensures { IfOk result (λ d. tree_of d.formula ≡ passes_safely safe) }
 {
-    match numbers.safe {
+    match safe {
         Safe::One(metres) => implies(alloc, atom(Atom::Engaged), atom(Atom::Clear(metres))),
         Safe::PerKind {
             head_on,
@@ -79,86 +83,158 @@ pub(crate) fn r8d(alloc: Global, numbers: &RuleNumbers) -> Result<Draft, Memory>
     }
 }
 
-/// Rule 13: an overtaking vessel keeps out of the way.
-pub(crate) fn r13(alloc: Global, numbers: &RuleNumbers) -> Result<Draft, Memory>
-    requires { AreMetres numbers.now.overtake }
-    ensures { IfOk result (λ d. tree_of d.formula ≡ r13 numbers.now) }
+/// Rule 8(d): the vessels pass at a safe distance.
+pub(crate) fn r8d(alloc: Global, numbers: &RuleNumbers) -> Result<Rule, Memory>
+    requires { AreSafeMetres numbers.now.safe }
+    ensures { IfOk result (λ rule. named_tree rule ≡ rule_named (codes "r8d") (r8d numbers.now)) }
 {
-    passes_clear(alloc, atom(Atom::Overtaking), numbers.overtake)
+    Ok(Rule::of(b"r8d", passes_safely(alloc, numbers.safe)?))
+}
+
+/// Rule 13: an overtaking vessel keeps out of the way.
+pub(crate) fn r13(alloc: Global, numbers: &RuleNumbers) -> Result<Rule, Memory>
+    requires { AreMetres numbers.now.overtake }
+    ensures { IfOk result (λ rule. named_tree rule ≡ rule_named (codes "r13") (r13 numbers.now)) }
+{
+    Ok(Rule::of(
+        b"r13",
+        passes_clear(alloc, atom(Atom::Overtaking), numbers.overtake)?,
+    ))
 }
 
 /// Rule 14(a): head-on, each alters course to starboard.
-pub(crate) fn r14a(alloc: Global, tick: u32, numbers: &RuleNumbers) -> Result<Draft, Memory>
+pub(crate) fn r14a(
+    alloc: Global,
+    ranks: Ranks,
+    tick: u32,
+    numbers: &RuleNumbers,
+) -> Result<Rule, Memory>
     requires { AreRuleNumbers tick numbers.now }
-    ensures { IfOk result (λ d. tree_of d.formula ≡ r14a tick numbers.now) }
+    ensures { IfOk result (λ rule. named_tree rule ≡ rule_named (codes "r14a") (r14a ranks tick numbers.now)) }
 {
     let begins = both(alloc, atom(Atom::Begin), atom(Atom::HeadOn))?;
+    let begins = between_power(alloc, ranks, begins)?;
     let acts = soon(alloc, tick, numbers.ta, Atom::ToStarboard)?;
-    implies(alloc, begins, acts)
+    Ok(Rule::of(b"r14a", implies(alloc, begins, acts)?))
 }
 
 /// Rule 14(a): head-on, none alters course to port.
-pub(crate) fn r14b(alloc: Global) -> Result<Draft, Memory>
-    ensures { IfOk result (λ d. tree_of d.formula ≡ r14b) }
+pub(crate) fn r14b(alloc: Global, ranks: Ranks) -> Result<Rule, Memory>
+    ensures { IfOk result (λ rule. named_tree rule ≡ rule_named (codes "r14b") (r14b ranks)) }
 {
-    let head_on = engaged_and(alloc, atom(Atom::HeadOn))?;
-    implies(alloc, head_on, not(alloc, atom(Atom::ToPort))?)
+    let head_on = between_power(alloc, ranks, engaged_and(alloc, atom(Atom::HeadOn))?)?;
+    Ok(Rule::of(
+        b"r14b",
+        implies(alloc, head_on, not(alloc, atom(Atom::ToPort))?)?,
+    ))
 }
 
 /// Rule 14(a): head-on, each passes on the port side of the other.
-pub(crate) fn r14p(alloc: Global) -> Result<Draft, Memory>
-    ensures { IfOk result (λ d. tree_of d.formula ≡ r14p) }
+pub(crate) fn r14p(alloc: Global, ranks: Ranks) -> Result<Rule, Memory>
+    ensures { IfOk result (λ rule. named_tree rule ≡ rule_named (codes "r14p") (r14p ranks)) }
 {
-    let head_on = engaged_and(alloc, atom(Atom::HeadOn))?;
+    let head_on = between_power(alloc, ranks, engaged_and(alloc, atom(Atom::HeadOn))?)?;
     let opens = both(alloc, head_on, atom(Atom::Opening))?;
-    implies(alloc, opens, atom(Atom::OtherOnPort))
+    Ok(Rule::of(b"r14p", implies(alloc, opens, atom(Atom::OtherOnPort))?))
 }
 
 /// Rule 15: the vessel that gives way does not cross ahead.
-pub(crate) fn r15(alloc: Global) -> Result<Draft, Memory>
-    ensures { IfOk result (λ d. tree_of d.formula ≡ r15) }
+pub(crate) fn r15(alloc: Global, ranks: Ranks) -> Result<Rule, Memory>
+    ensures { IfOk result (λ rule. named_tree rule ≡ rule_named (codes "r15") (r15 ranks)) }
 {
     let crosses = engaged_and(alloc, atom(Atom::CrossingGives))?;
-    implies(alloc, crosses, not(alloc, atom(Atom::Ahead))?)
+    let crosses = between_power(alloc, ranks, crosses)?;
+    Ok(Rule::of(
+        b"r15",
+        implies(alloc, crosses, not(alloc, atom(Atom::Ahead))?)?,
+    ))
 }
 
 /// Rule 16: the vessel that gives way takes early and substantial action.
-pub(crate) fn r16(alloc: Global, tick: u32, numbers: &RuleNumbers) -> Result<Draft, Memory>
+pub(crate) fn r16(
+    alloc: Global,
+    ranks: Ranks,
+    tick: u32,
+    numbers: &RuleNumbers,
+) -> Result<Rule, Memory>
     requires { AreRuleNumbers tick numbers.now }
-    ensures { IfOk result (λ d. tree_of d.formula ≡ r16 tick numbers.now) }
+    ensures { IfOk result (λ rule. named_tree rule ≡ rule_named (codes "r16") (r16 ranks tick numbers.now)) }
 {
-    let begins = both(alloc, atom(Atom::Begin), keeps_out(alloc)?)?;
+    let begins = both(alloc, atom(Atom::Begin), keeps_out(alloc, ranks)?)?;
     let acts = soon(alloc, tick, numbers.ta, Atom::Apparent)?;
-    implies(alloc, begins, acts)
+    Ok(Rule::of(b"r16", implies(alloc, begins, acts)?))
 }
 
 /// Rule 17(a): the vessel that stands on keeps her course and speed until she is free to act.
-pub(crate) fn r17a(alloc: Global, tick: u32, numbers: &RuleNumbers) -> Result<Draft, Memory>
+pub(crate) fn r17a(
+    alloc: Global,
+    ranks: Ranks,
+    tick: u32,
+    numbers: &RuleNumbers,
+) -> Result<Rule, Memory>
     requires { AreRuleNumbers tick numbers.now }
-    ensures { IfOk result (λ d. tree_of d.formula ≡ r17a tick numbers.now) }
+    ensures { IfOk result (λ rule. named_tree rule ≡ rule_named (codes "r17a") (r17a ranks tick numbers.now)) }
 {
-    let stands = engaged_and(alloc, stands_on(alloc)?)?;
+    let stands = engaged_and(alloc, stands_on(alloc, ranks)?)?;
     let bound = both(alloc, stands, not(alloc, free(alloc, tick, numbers)?)?)?;
-    implies(alloc, bound, not(alloc, atom(Atom::Alters))?)
+    Ok(Rule::of(
+        b"r17a",
+        implies(alloc, bound, not(alloc, atom(Atom::Alters))?)?,
+    ))
 }
 
 /// Rule 17(b): the vessel that stands on acts in extremis.
-pub(crate) fn r17b(alloc: Global, tick: u32, numbers: &RuleNumbers) -> Result<Draft, Memory>
+pub(crate) fn r17b(
+    alloc: Global,
+    ranks: Ranks,
+    tick: u32,
+    numbers: &RuleNumbers,
+) -> Result<Rule, Memory>
     requires { AreRuleNumbers tick numbers.now }
-    ensures { IfOk result (λ d. tree_of d.formula ≡ r17b tick numbers.now) }
+    ensures { IfOk result (λ rule. named_tree rule ≡ rule_named (codes "r17b") (r17b ranks tick numbers.now)) }
 {
-    let in_extremis = both(alloc, stands_on(alloc)?, extremis(alloc, numbers)?)?;
+    let in_extremis = both(alloc, stands_on(alloc, ranks)?, extremis(alloc, numbers)?)?;
     let acts = soon(alloc, tick, numbers.tl, Atom::Apparent)?;
-    implies(alloc, in_extremis, acts)
+    Ok(Rule::of(b"r17b", implies(alloc, in_extremis, acts)?))
 }
 
 /// Rule 17(c): crossing, the vessel that stands on does not alter course to port when she is free to act and not in extremis.
-pub(crate) fn r17c(alloc: Global, tick: u32, numbers: &RuleNumbers) -> Result<Draft, Memory>
+pub(crate) fn r17c(
+    alloc: Global,
+    ranks: Ranks,
+    tick: u32,
+    numbers: &RuleNumbers,
+) -> Result<Rule, Memory>
     requires { AreRuleNumbers tick numbers.now }
-    ensures { IfOk result (λ d. tree_of d.formula ≡ r17c tick numbers.now) }
+    ensures { IfOk result (λ rule. named_tree rule ≡ rule_named (codes "r17c") (r17c ranks tick numbers.now)) }
 {
     let stands = engaged_and(alloc, atom(Atom::CrossingStands))?;
+    let stands = between_power(alloc, ranks, stands)?;
     let may_act = both(alloc, stands, free(alloc, tick, numbers)?)?;
     let early = both(alloc, may_act, not(alloc, extremis(alloc, numbers)?)?)?;
-    implies(alloc, early, not(alloc, atom(Atom::ToPort))?)
+    Ok(Rule::of(
+        b"r17c",
+        implies(alloc, early, not(alloc, atom(Atom::ToPort))?)?,
+    ))
+}
+
+/// The distance at which vessels pass safely in an encounter of no kind that has one of its own.
+fn other_metres(safe: Safe) -> u32
+    ensures { result ≡ other_metres safe }
+{
+    match safe {
+        Safe::One(metres) => metres,
+        Safe::PerKind { other, .. } => other,
+    }
+}
+
+/// Rule 18: a vessel keeps out of the way of those that are less able to.
+pub(crate) fn r18(alloc: Global, numbers: &RuleNumbers) -> Result<Rule, Memory>
+    requires { AreSafeMetres numbers.now.safe }
+    ensures { IfOk result (λ rule. named_tree rule ≡ rule_named (codes "r18") (r18 numbers.now)) }
+{
+    Ok(Rule::of(
+        b"r18",
+        passes_clear(alloc, atom(Atom::RankGives), other_metres(numbers.safe))?,
+    ))
 }

@@ -2,13 +2,14 @@
 ghost use Rattle.std.specs.Prelude.{◌≡◌, ◌<◌, ◌∷◌, [], ◌++◌, false, length, IfOk, IfErr, OnErr, OnOk};
 ghost use Rattle.mtl_formulas.specs.FormulaTree.{tree_of};
 ghost use Rattle.mtl_formulas.specs.FormulaMeasures.{IsValid};
-ghost use Rattle.rule_set.specs.NamedTrees.{rule_named, rules_of, ranked_rules_of, rule_at, has_rule, AreRules};
+ghost use Rattle.rule_set.specs.NamedTrees.{rule_named, eleven_rules, rules_of, ranked_rules_of, rule_at, has_rule, AreRules};
+ghost use Rattle.rule_set.specs.Inner.Rules.{named_trees};
 ghost use Rattle.rule_set.specs.RuleTrees.{AreRuleNumbers};
 
-use crate::duties::{r8b, r8d, r13, r14a, r14b, r14p, r15, r16, r17a, r17b, r17c};
+use crate::duties::{r8b, r8d, r13, r14a, r14b, r14p, r15, r16, r17a, r17b, r17c, r18};
 use crate::name::Name;
 use crate::numbers::RuleNumbers;
-use crate::ranked_duties as ranked;
+use crate::ranks::Ranks;
 use crate::rule::{Rule, has_name};
 use mtl_formulas::Formula;
 use outside::Memory;
@@ -43,6 +44,31 @@ impl Model for RuleSet {
     ghost invariant = { λ s. (length s.rules.items ≤ MOST_RULES) × RulesHaveDifferentNames (named_trees s.rules.items) };
 }
 
+/// The eleven rules that stand without ranks and with them.
+fn eleven_rules(
+    alloc: Global,
+    ranks: Ranks,
+    tick: u32,
+    numbers: &RuleNumbers,
+) -> Result<Vec<Rule>, Memory>
+    requires { AreRuleNumbers tick numbers.now }
+    ensures { IfOk result (λ rules. named_trees rules.items ≡ eleven_rules ranks tick numbers.now) }
+{
+    Ok(vec![in alloc;
+        r8b(alloc, tick, numbers)?,
+        r8d(alloc, numbers)?,
+        r13(alloc, numbers)?,
+        r14a(alloc, ranks, tick, numbers)?,
+        r14b(alloc, ranks)?,
+        r14p(alloc, ranks)?,
+        r15(alloc, ranks)?,
+        r16(alloc, ranks, tick, numbers)?,
+        r17a(alloc, ranks, tick, numbers)?,
+        r17b(alloc, ranks, tick, numbers)?,
+        r17c(alloc, ranks, tick, numbers)?,
+    ]?)
+}
+
 impl RuleSet {
     /// The eleven rules without ranks, with these numbers, at a tick of 1 to 60 seconds: `r8b`, `r8d`, `r13`, `r14a`, `r14b`, `r14p`,
     /// `r15`, `r16`, `r17a`, `r17b` and `r17c`. Each is the duty of the Rule of the COLREGs 1972 with its number (8, and 13 to 17).
@@ -50,20 +76,9 @@ impl RuleSet {
         requires { AreRuleNumbers tick numbers.now }
         ensures rules { IfOk result (λ set. set ≡ rules_of tick numbers.now) }
     {
-        let rules = vec![in alloc;
-            Rule::of(b"r8b", r8b(alloc, tick, numbers)?),
-            Rule::of(b"r8d", r8d(alloc, numbers)?),
-            Rule::of(b"r13", r13(alloc, numbers)?),
-            Rule::of(b"r14a", r14a(alloc, tick, numbers)?),
-            Rule::of(b"r14b", r14b(alloc)?),
-            Rule::of(b"r14p", r14p(alloc)?),
-            Rule::of(b"r15", r15(alloc)?),
-            Rule::of(b"r16", r16(alloc, tick, numbers)?),
-            Rule::of(b"r17a", r17a(alloc, tick, numbers)?),
-            Rule::of(b"r17b", r17b(alloc, tick, numbers)?),
-            Rule::of(b"r17c", r17c(alloc, tick, numbers)?),
-        ]?;
-        Ok(RuleSet { rules })
+        Ok(RuleSet {
+            rules: eleven_rules(alloc, Ranks::Ignored, tick, numbers)?,
+        })
     }
 
     /// The twelve rules with ranks, with these numbers, at a tick of 1 to 60 seconds. The eleven have the same names, and look at ranks
@@ -72,20 +87,8 @@ impl RuleSet {
         requires { AreRuleNumbers tick numbers.now }
         ensures rules { IfOk result (λ set. set ≡ ranked_rules_of tick numbers.now) }
     {
-        let rules = vec![in alloc;
-            Rule::of(b"r8b", r8b(alloc, tick, numbers)?),
-            Rule::of(b"r8d", r8d(alloc, numbers)?),
-            Rule::of(b"r13", r13(alloc, numbers)?),
-            Rule::of(b"r14a", ranked::r14a(alloc, tick, numbers)?),
-            Rule::of(b"r14b", ranked::r14b(alloc)?),
-            Rule::of(b"r14p", ranked::r14p(alloc)?),
-            Rule::of(b"r15", ranked::r15(alloc)?),
-            Rule::of(b"r16", ranked::r16(alloc, tick, numbers)?),
-            Rule::of(b"r17a", ranked::r17a(alloc, tick, numbers)?),
-            Rule::of(b"r17b", ranked::r17b(alloc, tick, numbers)?),
-            Rule::of(b"r17c", ranked::r17c(alloc, tick, numbers)?),
-            Rule::of(b"r18", ranked::r18(alloc, numbers)?),
-        ]?;
+        let mut rules = eleven_rules(alloc, Ranks::Counted, tick, numbers)?;
+        rules.push(r18(alloc, numbers)?)?;
         Ok(RuleSet { rules })
     }
 

@@ -3,10 +3,11 @@ ghost use Rattle.std.specs.Prelude.{◌≡◌, ◌+◌, ◌<◌, ◌≤◌, IfOk
 ghost use Rattle.mtl_formulas.specs.FormulaTree.{leaf, tree_of};
 ghost use Rattle.mtl_formulas.specs.FormulaMeasures.{IsValidAtom, node_count};
 ghost use Rattle.rule_set.specs.Inner.Drafts.{IsMade};
-ghost use Rattle.rule_set.specs.RuleTrees.{AreMetres, AreSeconds, AreRuleNumbers, ◌and◌, ◌or◌, ◌implies◌, soon, keeps_out, stands_on, extremis, waits, free};
+ghost use Rattle.rule_set.specs.RuleTrees.{AreMetres, AreSeconds, AreRuleNumbers, ◌and◌, ◌or◌, ◌implies◌, between_power, soon, keeps_out, stands_on, extremis, waits, free};
 
 use crate::draft::{Draft, atom, join, not, over, since};
 use crate::numbers::RuleNumbers;
+use crate::ranks::Ranks;
 use mtl_formulas::{Atom, PairKind, SpanKind};
 use outside::Memory;
 use std::alloc::Global;
@@ -14,7 +15,8 @@ use std::alloc::Global;
 /// `a & b`.
 pub(crate) fn both(alloc: Global, a: Draft, b: Draft) -> Result<Draft, Memory>
     requires { node_count (tree_of a.formula) + node_count (tree_of b.formula) < 64 }
-    ensures { IfOk result (λ d. IsMade d.formula (tree_of a.formula and tree_of b.formula)) }
+    ensures { IfOk result (λ d. IsMade d.formula (tree_of a.formula and tree_of b.formula)
+        (node_count (tree_of a.formula) + node_count (tree_of b.formula) + 1)) }
 {
     join(alloc, PairKind::And, a, b)
 }
@@ -22,15 +24,26 @@ pub(crate) fn both(alloc: Global, a: Draft, b: Draft) -> Result<Draft, Memory>
 /// `a | b`.
 pub(crate) fn either(alloc: Global, a: Draft, b: Draft) -> Result<Draft, Memory>
     requires { node_count (tree_of a.formula) + node_count (tree_of b.formula) < 64 }
-    ensures { IfOk result (λ d. IsMade d.formula (tree_of a.formula or tree_of b.formula)) }
+    ensures { IfOk result (λ d. IsMade d.formula (tree_of a.formula or tree_of b.formula)
+        (node_count (tree_of a.formula) + node_count (tree_of b.formula) + 1)) }
 {
     join(alloc, PairKind::Or, a, b)
+}
+
+/// `a | b`, of two atoms.
+pub(crate) fn one_of(alloc: Global, a: Atom, b: Atom) -> Result<Draft, Memory>
+    requires a { IsValidAtom a }
+    requires b { IsValidAtom b }
+    ensures { IfOk result (λ d. IsMade d.formula (leaf a or leaf b) 3) }
+{
+    either(alloc, atom(a), atom(b))
 }
 
 /// `a -> b`.
 pub(crate) fn implies(alloc: Global, a: Draft, b: Draft) -> Result<Draft, Memory>
     requires { node_count (tree_of a.formula) + node_count (tree_of b.formula) < 64 }
-    ensures { IfOk result (λ d. IsMade d.formula (tree_of a.formula implies tree_of b.formula)) }
+    ensures { IfOk result (λ d. IsMade d.formula (tree_of a.formula implies tree_of b.formula)
+        (node_count (tree_of a.formula) + node_count (tree_of b.formula) + 1)) }
 {
     join(alloc, PairKind::Implies, a, b)
 }
@@ -38,55 +51,104 @@ pub(crate) fn implies(alloc: Global, a: Draft, b: Draft) -> Result<Draft, Memory
 /// `engaged & a`.
 pub(crate) fn engaged_and(alloc: Global, a: Draft) -> Result<Draft, Memory>
     requires { node_count (tree_of a.formula) < 63 }
-    ensures { IfOk result (λ d. IsMade d.formula (leaf Atom.Engaged and tree_of a.formula)) }
+    ensures { IfOk result (λ d. IsMade d.formula (leaf Atom.Engaged and tree_of a.formula) (node_count (tree_of a.formula) + 2)) }
 {
     both(alloc, atom(Atom::Engaged), a)
 }
 
+/// `a`, where ranks count `a & both_power`: between two power-driven vessels.
+#[tactic(auto, unfolding(crate::specs::RuleTrees::between_power))]
+pub(crate) fn between_power(alloc: Global, ranks: Ranks, a: Draft) -> Result<Draft, Memory>
+    requires { node_count (tree_of a.formula) < 63 }
+    ensures { IfOk result (λ d. IsMade d.formula (between_power ranks (tree_of a.formula)) (node_count (tree_of a.formula) + 2)) }
+{
+    match ranks {
+        Ranks::Ignored => Ok(a),
+        Ranks::Counted => both(alloc, a, atom(Atom::BothPower)),
+    }
+}
+
 /// `F[0,seconds] (act | !engaged)`.
+#[tactic(auto, unfolding(crate::specs::RuleTrees::soon))]
 pub(crate) fn soon(alloc: Global, tick: u32, seconds: u32, act: Atom) -> Result<Draft, Memory>
     requires tick { 1 ≤ tick }
     requires seconds { AreSeconds tick seconds }
     requires act { IsValidAtom act }
-    ensures { IfOk result (λ d. IsMade d.formula (soon tick seconds (leaf act))) }
+    ensures { IfOk result (λ d. IsMade d.formula (soon tick seconds (leaf act)) 5) }
 {
     let over_or_done = either(alloc, atom(act), not(alloc, atom(Atom::Engaged))?)?;
     over(alloc, SpanKind::F, seconds / tick, over_or_done)
 }
 
-/// The vessel is to keep out of the way.
-pub(crate) fn keeps_out(alloc: Global) -> Result<Draft, Memory>
-    ensures { IfOk result (λ d. IsMade d.formula keeps_out) }
+/// `overtaking | rank_gives | crossing_gives & both_power`, or the like of a vessel that stands on.
+fn with_rank(alloc: Global, overtaking: Atom, rank: Atom, crossing: Atom) -> Result<Draft, Memory>
+    requires overtaking { IsValidAtom overtaking }
+    requires rank { IsValidAtom rank }
+    requires crossing { IsValidAtom crossing }
+    ensures { IfOk result (λ d. IsMade d.formula (leaf overtaking or leaf rank or (leaf crossing and leaf Atom.BothPower)) 7) }
 {
-    either(alloc, atom(Atom::Overtaking), atom(Atom::CrossingGives))
+    let before_crossing = one_of(alloc, overtaking, rank)?;
+    let crossing = both(alloc, atom(crossing), atom(Atom::BothPower))?;
+    either(alloc, before_crossing, crossing)
+}
+
+/// The vessel is to keep out of the way.
+#[tactic(auto, unfolding(crate::specs::RuleTrees::keeps_out))]
+pub(crate) fn keeps_out(alloc: Global, ranks: Ranks) -> Result<Draft, Memory>
+    ensures { IfOk result (λ d. IsMade d.formula (keeps_out ranks) 7) }
+{
+    match ranks {
+        Ranks::Ignored => one_of(alloc, Atom::Overtaking, Atom::CrossingGives),
+        Ranks::Counted => {
+            with_rank(
+                alloc,
+                Atom::Overtaking,
+                Atom::RankGives,
+                Atom::CrossingGives,
+            )
+        }
+    }
 }
 
 /// The vessel is to stand on.
-pub(crate) fn stands_on(alloc: Global) -> Result<Draft, Memory>
-    ensures { IfOk result (λ d. IsMade d.formula stands_on) }
+#[tactic(auto, unfolding(crate::specs::RuleTrees::stands_on))]
+pub(crate) fn stands_on(alloc: Global, ranks: Ranks) -> Result<Draft, Memory>
+    ensures { IfOk result (λ d. IsMade d.formula (stands_on ranks) 7) }
 {
-    either(alloc, atom(Atom::Overtaken), atom(Atom::CrossingStands))
+    match ranks {
+        Ranks::Ignored => one_of(alloc, Atom::Overtaken, Atom::CrossingStands),
+        Ranks::Counted => {
+            with_rank(
+                alloc,
+                Atom::Overtaken,
+                Atom::RankStands,
+                Atom::CrossingStands,
+            )
+        }
+    }
 }
 
 /// `engaged & risk`.
 fn in_risk(alloc: Global) -> Result<Draft, Memory>
-    ensures { IfOk result (λ d. IsMade d.formula (leaf Atom.Engaged and leaf Atom.Risk)) }
+    ensures { IfOk result (λ d. IsMade d.formula (leaf Atom.Engaged and leaf Atom.Risk) 3) }
 {
     engaged_and(alloc, atom(Atom::Risk))
 }
 
 /// In risk, and nearer than the metres at which the other may be unable to avoid collision alone.
+#[tactic(auto, unfolding(crate::specs::RuleTrees::extremis))]
 pub(crate) fn extremis(alloc: Global, numbers: &RuleNumbers) -> Result<Draft, Memory>
     requires { AreMetres numbers.now.close }
-    ensures { IfOk result (λ d. IsMade d.formula (extremis numbers.now)) }
+    ensures { IfOk result (λ d. IsMade d.formula (extremis numbers.now) 5) }
 {
     both(alloc, in_risk(alloc)?, atom(Atom::Close(numbers.close)))
 }
 
 /// In risk for so long, in which the other did not act.
+#[tactic(auto, unfolding(crate::specs::RuleTrees::waits))]
 fn waits(alloc: Global, tick: u32, numbers: &RuleNumbers) -> Result<Draft, Memory>
     requires { AreRuleNumbers tick numbers.now }
-    ensures { IfOk result (λ d. IsMade d.formula (waits tick numbers.now)) }
+    ensures { IfOk result (λ d. IsMade d.formula (waits tick numbers.now) 9) }
 {
     let idle = both(
         alloc,
@@ -98,9 +160,10 @@ fn waits(alloc: Global, tick: u32, numbers: &RuleNumbers) -> Result<Draft, Memor
 }
 
 /// The vessel that stands on is free to act: she has waited, or was in extremis.
+#[tactic(auto, unfolding(crate::specs::RuleTrees::free))]
 pub(crate) fn free(alloc: Global, tick: u32, numbers: &RuleNumbers) -> Result<Draft, Memory>
     requires { AreRuleNumbers tick numbers.now }
-    ensures { IfOk result (λ d. IsMade d.formula (free tick numbers.now)) }
+    ensures { IfOk result (λ d. IsMade d.formula (free tick numbers.now) 17) }
 {
     let waited = waits(alloc, tick, numbers)?;
     let cause = either(alloc, waited, extremis(alloc, numbers)?)?;

@@ -1,5 +1,5 @@
 -- What is built of a rule: small enough that its nodes bound its depth.
-use Rattle.std.specs.Prelude.{◌≡◌, ◌≤◌}
+use Rattle.std.specs.Prelude.{ℕ, ◌≡◌, ◌≤◌}
 use Rattle.std.specs.Coded.{le_prop}
 use Rattle.mtl_formulas.specs.declared.formula.Formula.{Formula}
 use Rattle.mtl_formulas.specs.FormulaTree.{FormulaTree, tree_of}
@@ -14,8 +14,7 @@ pub record IsDraft (t : FormulaTree) : Type 0 where
 pub draft_prop : (t : FormulaTree) → IsProp (IsDraft t)
 draft_prop t = hlevel (le_prop, valid_parts_prop t)
 
--- the formula is this tree, and so it has as many nodes and reaches as far
-pub record IsMade (f : Formula) (t : FormulaTree) : Type 0 where
+-- the formula is this tree, of at most so many nodes
+pub record IsMade (f : Formula) (t : FormulaTree) (most : ℕ) : Type 0 where
   pub tree : tree_of f ≡ t
-  pub nodes : node_count (tree_of f) ≡ node_count t
-  pub reach : reach_of (tree_of f) ≡ reach_of t
+  pub nodes : node_count (tree_of f) ≤ most

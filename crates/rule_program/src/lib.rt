@@ -1,0 +1,25 @@
+//! The rules of an audit as one program, which gives the values of all of them along a trace.
+#![tactic(auto)]
+
+ghost use Rattle.std.specs.Prelude.{◌≡◌, ◌≤◌, IfOk, length, map};
+ghost use Rattle.mtl_monitor.specs.Following.{IsProgramOf, count_of};
+ghost use Rattle.rule_set.specs.NamedTrees.{NamedTree};
+ghost use Rattle.rule_set.specs.declared.rule_set.TheConstants.{MOST_RULES};
+
+use mtl_monitor::Program;
+use outside::Memory;
+use rule_set::RuleSet;
+use std::alloc::Global;
+
+/// The formulas of all rules in order, each at the index of its rule, as one program.
+pub fn program_of(alloc: Global, rules: &RuleSet) -> Result<Program, Memory>
+    ensures formulas { IfOk result (λ program. IsProgramOf program (map (λ (rule : NamedTree). rule.tree) rules.now)) }
+    ensures count { IfOk result (λ program. count_of program ≡ length rules.now) }
+    ensures few { IfOk result (λ program. count_of program ≤ MOST_RULES) }
+{
+    let mut program = Program::new(alloc);
+    for rule in 0..rules.len() {
+        program = program.with(rules.formula(rule))?;
+    }
+    Ok(program)
+}

@@ -1,0 +1,10 @@
+//! Whether ranks count.
+
+/// Whether the rules look at the ranks of vessels (COLREGs Rule 18).
+#[derive(Clone, Copy, Debug, PartialEq, Eq)]
+pub(crate) enum Ranks {
+    /// They do not.
+    Ignored,
+    /// They do.
+    Counted,
+}
