@@ -5,8 +5,8 @@ use Rattle.mtl_formulas.specs.declared.atom.Atom.TheVariants.{Never}
 use Rattle.mtl_formulas.specs.FormulaTree.{FormulaTree, leaf}
 use Rattle.mtl_formulas.specs.FormulaMeasures.{IsValid}
 use Rattle.rule_set.specs.declared.numbers.RuleNumbers.{RuleNumbers}
-use Rattle.rule_set.specs.declared.ranks.Ranks.{Ranks}
-use Rattle.rule_set.specs.declared.ranks.Ranks.TheVariants.{Ignored, Counted}
+use Rattle.rule_set.specs.declared.ranking.Ranking.{Ranking}
+use Rattle.rule_set.specs.declared.ranking.Ranking.TheVariants.{Ignored, Counted}
 use Rattle.rule_set.specs.declared.rule_set.TheConstants.{MOST_RULES}
 use Rattle.rule_set.specs.RuleTrees as tree
 
@@ -18,7 +18,7 @@ abbrev pub rule_named : List ℕ → FormulaTree → NamedTree
 rule_named name tree = record { name = name; tree = tree }
 
 -- the eleven rules that stand without ranks and with them, at a tick of so many seconds
-abbrev pub eleven_rules : Ranks → ℕ → RuleNumbers → List NamedTree
+abbrev pub eleven_rules : Ranking → ℕ → RuleNumbers → List NamedTree
 eleven_rules ranks tick numbers =
     rule_named (codes "r8b") (tree.r8b tick numbers)
     ∷ rule_named (codes "r8d") (tree.r8d numbers)

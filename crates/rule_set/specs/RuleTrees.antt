@@ -14,8 +14,8 @@ use Rattle.mtl_formulas.specs.FormulaText.{IsTick}
 use Rattle.rule_set.specs.declared.numbers.Safe.{Safe}
 use Rattle.rule_set.specs.declared.numbers.Safe.TheVariants.{One, PerKind}
 use Rattle.rule_set.specs.declared.numbers.RuleNumbers.{RuleNumbers}
-use Rattle.rule_set.specs.declared.ranks.Ranks.{Ranks}
-use Rattle.rule_set.specs.declared.ranks.Ranks.TheVariants.{Ignored, Counted}
+use Rattle.rule_set.specs.declared.ranking.Ranking.{Ranking}
+use Rattle.rule_set.specs.declared.ranking.Ranking.TheVariants.{Ignored, Counted}
 
 infixl 30 ◌and◌
 infixl 25 ◌or◌
@@ -56,7 +56,7 @@ abbrev pub ◌implies◌ : FormulaTree → FormulaTree → FormulaTree
 a implies b = pair Implies a b
 
 -- Between power-driven vessels: a [& both_power]
-unfoldable pub between_power : Ranks → FormulaTree → FormulaTree
+unfoldable pub between_power : Ranking → FormulaTree → FormulaTree
 between_power Ignored a = a
 between_power Counted a = a and leaf BothPower
 
@@ -65,12 +65,12 @@ unfoldable pub soon : ℕ → ℕ → FormulaTree → FormulaTree
 soon tick seconds act = span F 0 (seconds / tick) (act or negation (leaf Engaged))
 
 -- The vessel is to keep out of the way: (overtaking [| rank_gives] | crossing_gives [& both_power])
-unfoldable pub keeps_out : Ranks → FormulaTree
+unfoldable pub keeps_out : Ranking → FormulaTree
 keeps_out Ignored = leaf Overtaking or leaf CrossingGives
 keeps_out Counted = leaf Overtaking or leaf RankGives or (leaf CrossingGives and leaf BothPower)
 
 -- The vessel is to stand on: (overtaken [| rank_stands] | crossing_stands [& both_power])
-unfoldable pub stands_on : Ranks → FormulaTree
+unfoldable pub stands_on : Ranking → FormulaTree
 stands_on Ignored = leaf Overtaken or leaf CrossingStands
 stands_on Counted = leaf Overtaken or leaf RankStands or (leaf CrossingStands and leaf BothPower)
 
@@ -118,42 +118,42 @@ r13 n = passes_clear (leaf Overtaking) n.overtake
 
 -- Rule 14(a). Vessels meeting head-on each alter course to starboard.
 -- begin & head_on [& both_power] -> F[0,ta] (to_starboard | !engaged)
-abbrev pub r14a : Ranks → ℕ → RuleNumbers → FormulaTree
+abbrev pub r14a : Ranking → ℕ → RuleNumbers → FormulaTree
 r14a ranks tick n = between_power ranks (leaf Begin and leaf HeadOn) implies soon tick n.ta (leaf ToStarboard)
 
 -- Rule 14(a). No vessel that meets another head-on alters course to port.
 -- engaged & head_on [& both_power] -> !to_port
-abbrev pub r14b : Ranks → FormulaTree
+abbrev pub r14b : Ranking → FormulaTree
 r14b ranks = between_power ranks (leaf Engaged and leaf HeadOn) implies negation (leaf ToPort)
 
 -- Rule 14(a). Vessels meeting head-on each pass on the port side of the other.
 -- engaged & head_on [& both_power] & opening -> other_on_port
-abbrev pub r14p : Ranks → FormulaTree
+abbrev pub r14p : Ranking → FormulaTree
 r14p ranks = between_power ranks (leaf Engaged and leaf HeadOn) and leaf Opening implies leaf OtherOnPort
 
 -- Rule 15. In a crossing, the vessel which has the other on her own starboard side avoids crossing ahead of her.
 -- engaged & crossing_gives [& both_power] -> !ahead
-abbrev pub r15 : Ranks → FormulaTree
+abbrev pub r15 : Ranking → FormulaTree
 r15 ranks = between_power ranks (leaf Engaged and leaf CrossingGives) implies negation (leaf Ahead)
 
 -- Rule 16. A vessel that is to keep out of the way takes early and substantial action.
 -- begin & keeps_out -> F[0,ta] (apparent | !engaged)
-abbrev pub r16 : Ranks → ℕ → RuleNumbers → FormulaTree
+abbrev pub r16 : Ranking → ℕ → RuleNumbers → FormulaTree
 r16 ranks tick n = leaf Begin and keeps_out ranks implies soon tick n.ta (leaf Apparent)
 
 -- Rule 17(a). The vessel that is to stand on keeps her course and speed until she is free to act.
 -- engaged & stands_on & !free -> !alters
-abbrev pub r17a : Ranks → ℕ → RuleNumbers → FormulaTree
+abbrev pub r17a : Ranking → ℕ → RuleNumbers → FormulaTree
 r17a ranks tick n = leaf Engaged and stands_on ranks and negation (free tick n) implies negation (leaf Alters)
 
 -- Rule 17(b). In extremis the vessel that is to stand on takes such action as will best aid to avoid collision.
 -- stands_on & extremis -> F[0,tl] (apparent | !engaged)
-abbrev pub r17b : Ranks → ℕ → RuleNumbers → FormulaTree
+abbrev pub r17b : Ranking → ℕ → RuleNumbers → FormulaTree
 r17b ranks tick n = stands_on ranks and extremis n implies soon tick n.tl (leaf Apparent)
 
 -- Rule 17(c). In a crossing, the vessel that is to stand on, free to act and not in extremis, does not alter course to port.
 -- engaged & crossing_stands [& both_power] & free & !extremis -> !to_port
-abbrev pub r17c : Ranks → ℕ → RuleNumbers → FormulaTree
+abbrev pub r17c : Ranking → ℕ → RuleNumbers → FormulaTree
 r17c ranks tick n =
     between_power ranks (leaf Engaged and leaf CrossingStands) and free tick n and negation (extremis n) implies negation (leaf ToPort)
 

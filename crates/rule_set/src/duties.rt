@@ -9,7 +9,7 @@ ghost use Rattle.rule_set.specs.RuleTrees.{AreMetres, AreSafeMetres, AreRuleNumb
 
 use crate::draft::{Draft, atom, not};
 use crate::numbers::{RuleNumbers, Safe};
-use crate::ranks::Ranks;
+use crate::ranking::Ranking;
 use crate::rule::Rule;
 use crate::words::{
     between_power, both, engaged_and, extremis, free, implies, keeps_out, one_of, soon, stands_on,
@@ -105,7 +105,7 @@ pub(crate) fn r13(alloc: Global, numbers: &RuleNumbers) -> Result<Rule, Memory>
 /// Rule 14(a): head-on, each alters course to starboard.
 pub(crate) fn r14a(
     alloc: Global,
-    ranks: Ranks,
+    ranks: Ranking,
     tick: u32,
     numbers: &RuleNumbers,
 ) -> Result<Rule, Memory>
@@ -119,7 +119,7 @@ pub(crate) fn r14a(
 }
 
 /// Rule 14(a): head-on, none alters course to port.
-pub(crate) fn r14b(alloc: Global, ranks: Ranks) -> Result<Rule, Memory>
+pub(crate) fn r14b(alloc: Global, ranks: Ranking) -> Result<Rule, Memory>
     ensures { IfOk result (λ rule. named_tree rule ≡ rule_named (codes "r14b") (r14b ranks)) }
 {
     let head_on = between_power(alloc, ranks, engaged_and(alloc, atom(Atom::HeadOn))?)?;
@@ -130,7 +130,7 @@ pub(crate) fn r14b(alloc: Global, ranks: Ranks) -> Result<Rule, Memory>
 }
 
 /// Rule 14(a): head-on, each passes on the port side of the other.
-pub(crate) fn r14p(alloc: Global, ranks: Ranks) -> Result<Rule, Memory>
+pub(crate) fn r14p(alloc: Global, ranks: Ranking) -> Result<Rule, Memory>
     ensures { IfOk result (λ rule. named_tree rule ≡ rule_named (codes "r14p") (r14p ranks)) }
 {
     let head_on = between_power(alloc, ranks, engaged_and(alloc, atom(Atom::HeadOn))?)?;
@@ -139,7 +139,7 @@ pub(crate) fn r14p(alloc: Global, ranks: Ranks) -> Result<Rule, Memory>
 }
 
 /// Rule 15: the vessel that gives way does not cross ahead.
-pub(crate) fn r15(alloc: Global, ranks: Ranks) -> Result<Rule, Memory>
+pub(crate) fn r15(alloc: Global, ranks: Ranking) -> Result<Rule, Memory>
     ensures { IfOk result (λ rule. named_tree rule ≡ rule_named (codes "r15") (r15 ranks)) }
 {
     let crosses = engaged_and(alloc, atom(Atom::CrossingGives))?;
@@ -153,7 +153,7 @@ pub(crate) fn r15(alloc: Global, ranks: Ranks) -> Result<Rule, Memory>
 /// Rule 16: the vessel that gives way takes early and substantial action.
 pub(crate) fn r16(
     alloc: Global,
-    ranks: Ranks,
+    ranks: Ranking,
     tick: u32,
     numbers: &RuleNumbers,
 ) -> Result<Rule, Memory>
@@ -168,7 +168,7 @@ pub(crate) fn r16(
 /// Rule 17(a): the vessel that stands on keeps her course and speed until she is free to act.
 pub(crate) fn r17a(
     alloc: Global,
-    ranks: Ranks,
+    ranks: Ranking,
     tick: u32,
     numbers: &RuleNumbers,
 ) -> Result<Rule, Memory>
@@ -186,7 +186,7 @@ pub(crate) fn r17a(
 /// Rule 17(b): the vessel that stands on acts in extremis.
 pub(crate) fn r17b(
     alloc: Global,
-    ranks: Ranks,
+    ranks: Ranking,
     tick: u32,
     numbers: &RuleNumbers,
 ) -> Result<Rule, Memory>
@@ -201,7 +201,7 @@ pub(crate) fn r17b(
 /// Rule 17(c): crossing, the vessel that stands on does not alter course to port when she is free to act and not in extremis.
 pub(crate) fn r17c(
     alloc: Global,
-    ranks: Ranks,
+    ranks: Ranking,
     tick: u32,
     numbers: &RuleNumbers,
 ) -> Result<Rule, Memory>

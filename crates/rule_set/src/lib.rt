@@ -6,7 +6,7 @@ mod draft;
 mod duties;
 mod name;
 mod numbers;
-mod ranks;
+mod ranking;
 mod rule;
 mod rule_set;
 mod words;

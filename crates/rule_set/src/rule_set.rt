@@ -9,7 +9,7 @@ ghost use Rattle.rule_set.specs.RuleTrees.{AreRuleNumbers};
 use crate::duties::{r8b, r8d, r13, r14a, r14b, r14p, r15, r16, r17a, r17b, r17c, r18};
 use crate::name::Name;
 use crate::numbers::RuleNumbers;
-use crate::ranks::Ranks;
+use crate::ranking::Ranking;
 use crate::rule::{Rule, has_name};
 use mtl_formulas::Formula;
 use outside::Memory;
@@ -47,7 +47,7 @@ impl Model for RuleSet {
 /// The eleven rules that stand without ranks and with them.
 fn eleven_rules(
     alloc: Global,
-    ranks: Ranks,
+    ranks: Ranking,
     tick: u32,
     numbers: &RuleNumbers,
 ) -> Result<Vec<Rule>, Memory>
@@ -77,7 +77,7 @@ impl RuleSet {
         ensures rules { IfOk result (λ set. set ≡ rules_of tick numbers.now) }
     {
         Ok(RuleSet {
-            rules: eleven_rules(alloc, Ranks::Ignored, tick, numbers)?,
+            rules: eleven_rules(alloc, Ranking::Ignored, tick, numbers)?,
         })
     }
 
@@ -87,7 +87,7 @@ impl RuleSet {
         requires { AreRuleNumbers tick numbers.now }
         ensures rules { IfOk result (λ set. set ≡ ranked_rules_of tick numbers.now) }
     {
-        let mut rules = eleven_rules(alloc, Ranks::Counted, tick, numbers)?;
+        let mut rules = eleven_rules(alloc, Ranking::Counted, tick, numbers)?;
         rules.push(r18(alloc, numbers)?)?;
         Ok(RuleSet { rules })
     }

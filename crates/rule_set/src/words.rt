@@ -7,7 +7,7 @@ ghost use Rattle.rule_set.specs.RuleTrees.{AreMetres, AreSeconds, AreRuleNumbers
 
 use crate::draft::{Draft, atom, join, not, over, since};
 use crate::numbers::RuleNumbers;
-use crate::ranks::Ranks;
+use crate::ranking::Ranking;
 use mtl_formulas::{Atom, PairKind, SpanKind};
 use outside::Memory;
 use std::alloc::Global;
@@ -58,13 +58,13 @@ pub(crate) fn engaged_and(alloc: Global, a: Draft) -> Result<Draft, Memory>
 
 /// `a`, where ranks count `a & both_power`: between two power-driven vessels.
 #[tactic(auto, unfolding(crate::specs::RuleTrees::between_power))]
-pub(crate) fn between_power(alloc: Global, ranks: Ranks, a: Draft) -> Result<Draft, Memory>
+pub(crate) fn between_power(alloc: Global, ranks: Ranking, a: Draft) -> Result<Draft, Memory>
     requires { node_count (tree_of a.formula) < 63 }
     ensures { IfOk result (λ d. IsMade d.formula (between_power ranks (tree_of a.formula)) (node_count (tree_of a.formula) + 2)) }
 {
     match ranks {
-        Ranks::Ignored => Ok(a),
-        Ranks::Counted => both(alloc, a, atom(Atom::BothPower)),
+        Ranking::Ignored => Ok(a),
+        Ranking::Counted => both(alloc, a, atom(Atom::BothPower)),
     }
 }
 
@@ -94,12 +94,12 @@ fn with_rank(alloc: Global, overtaking: Atom, rank: Atom, crossing: Atom) -> Res
 
 /// The vessel is to keep out of the way.
 #[tactic(auto, unfolding(crate::specs::RuleTrees::keeps_out))]
-pub(crate) fn keeps_out(alloc: Global, ranks: Ranks) -> Result<Draft, Memory>
+pub(crate) fn keeps_out(alloc: Global, ranks: Ranking) -> Result<Draft, Memory>
     ensures { IfOk result (λ d. IsMade d.formula (keeps_out ranks) 7) }
 {
     match ranks {
-        Ranks::Ignored => one_of(alloc, Atom::Overtaking, Atom::CrossingGives),
-        Ranks::Counted => {
+        Ranking::Ignored => one_of(alloc, Atom::Overtaking, Atom::CrossingGives),
+        Ranking::Counted => {
             with_rank(
                 alloc,
                 Atom::Overtaking,
@@ -112,12 +112,12 @@ pub(crate) fn keeps_out(alloc: Global, ranks: Ranks) -> Result<Draft, Memory>
 
 /// The vessel is to stand on.
 #[tactic(auto, unfolding(crate::specs::RuleTrees::stands_on))]
-pub(crate) fn stands_on(alloc: Global, ranks: Ranks) -> Result<Draft, Memory>
+pub(crate) fn stands_on(alloc: Global, ranks: Ranking) -> Result<Draft, Memory>
     ensures { IfOk result (λ d. IsMade d.formula (stands_on ranks) 7) }
 {
     match ranks {
-        Ranks::Ignored => one_of(alloc, Atom::Overtaken, Atom::CrossingStands),
-        Ranks::Counted => {
+        Ranking::Ignored => one_of(alloc, Atom::Overtaken, Atom::CrossingStands),
+        Ranking::Counted => {
             with_rank(
                 alloc,
                 Atom::Overtaken,
