@@ -3,7 +3,7 @@ use crate::compared::is;
 use scenario::read;
 use scenario_rows::SCENARIO;
 use std::test::Fail;
-use streamed_lines::StreamedLines;
+use log_lines::StreamedLines;
 use tracks::Keeping;
 
 #[test]
