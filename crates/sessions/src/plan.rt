@@ -22,10 +22,10 @@ ghost use Rattle.command_line.specs.declared.mode.Mode.TheVariants as mode;
 use crate::ending::Ending;
 use crate::outcome_rows::{all_outcomes, write_counts};
 use crate::session_fault::SessionFault;
-use crate::vessels::write_vessel;
+use crate::vessels::write_vessel_of;
 use audit_report::{ReportRow, ReportText};
-use log_lines::Judge;
 use lattice::{Lattice, Plan};
+use log_lines::Judge;
 use outside::Memory;
 use own_ship::{Near, PrepareFault, Ready, prepare};
 use planner::Search;
@@ -41,7 +41,7 @@ fn write_near(text: &mut ReportText, book: &Book, near: &[Near]) -> Result<(), M
         → HasText text.new (front ++ near_rows numbers messages near.now)) }
 {
     for vessel in near {
-        write_vessel(text, book, vessel.mmsi)?;
+        write_vessel_of(text, book, vessel.mmsi)?;
     }
     Ok(())
 }
