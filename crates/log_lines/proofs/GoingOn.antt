@@ -18,6 +18,7 @@ use Rattle.log_lines.specs.LineOutcomes.{outcome_index}
 use Rattle.log_lines.specs.LineTimes.{clock_of, stamp_of, time_of}
 use Rattle.log_lines.specs.SentLines.{heard, heard_of, heard_in, heard_unless, sent, sent_decoded, sent_heard, sent_joined, sent_of, untimely}
 use Rattle.log_lines.specs.Standing.{AreCounts, StandsFor}
+use Rattle.log_lines.specs.StaticReports.{told_of}
 use Rattle.log_lines.specs.Inner.JudgeState.{Enters, GoesOn, heard_by, held_with}
 use Rattle.log_lines.specs.Inner.Times.{KeepsTimes, nearest_of, times_behind, untimely_by}
 use Rattle.log_lines.specs.declared.judge.Judge.{Judge}
@@ -28,7 +29,7 @@ use Rattle.log_lines.specs.declared.outcome.LineOutcome.{LineOutcome}
 use Rattle.log_lines.specs.declared.outcome.LineOutcome.TheVariants as outcome
 use Rattle.log_lines.proofs.Counting.{AreCounts-push}
 use Rattle.log_lines.proofs.OneOutcome.{each_after-length}
-use Rattle.log_lines.proofs.Pushing.{calm-push, heard-push, judged-push, sent-push}
+use Rattle.log_lines.proofs.Pushing.{calm-push, heard-push, judged-push, sent-push, told-push}
 use Rattle.log_lines.proofs.Timing.{KeepsTimes-push, time_is}
 
 -- what is not above the greatest number of vessels
@@ -41,12 +42,13 @@ few_unless n calm = decide (nat_lt greatest_held n) refl
 
 -- ---- a line without a message
 
-pub Enters-none : (numbers : JudgingNumbers) (judge : Judge) (came : LineOutcome) (before : List Sent) → BookStandsFor judge.book numbers before
+pub Enters-none : (numbers : JudgingNumbers) (judge : Judge) (came : LineOutcome) (before : List Sent) → judge.told ≡ None → BookStandsFor judge.book numbers before
     → length (held_of numbers before) ≤ greatest_held → Enters numbers judge (judged.Without came) before (Err came)
-Enters-none numbers judge came before stands few =
+Enters-none numbers judge came before untold stands few =
     let same : before ++ [] ≡ before = append-nil before in
     record {
       is = refl;
+      told = untold;
       book = subst (BookStandsFor judge.book numbers) (sym same) stands;
       few = subst (λ (l : List Sent). length (held_of numbers l) ≤ greatest_held) (sym same) few;
     }
@@ -76,21 +78,21 @@ crowded_message numbers taken messages next joined_now decoded joins is more =
     subst (λ (r : Result Sent LineOutcome). greatest_held < held_with numbers messages r) (sends taken next joined_now (sent_decoded next.time decoded) joins is) more
 
 pub GoesOn-silent : (numbers : JudgingNumbers) (judge : Judge) (came : LineOutcome) (taken : List Taken) (messages : List Sent) (next : Taken) (joined_now : Joined)
-    → joined_now ≡ joined_of taken next → sent_joined next.time joined_now ≡ Err came
+    → joined_now ≡ joined_of taken next → sent_joined next.time joined_now ≡ Err came → judge.told ≡ None
     → JoinerStandsFor judge.joiner (after taken next) → BookStandsFor judge.book numbers messages → length (held_of numbers messages) ≤ greatest_held
     → GoesOn numbers judge (judged.Without came) taken messages (Ok next)
-GoesOn-silent numbers judge came taken messages next joined_now joins is stands book few = record {
+GoesOn-silent numbers judge came taken messages next joined_now joins is untold stands book few = record {
   joiner = stands;
-  enters = subst (Enters numbers judge (judged.Without came) messages) (sends taken next joined_now (Err came) joins is) (Enters-none numbers judge came messages book few);
+  enters = subst (Enters numbers judge (judged.Without came) messages) (sends taken next joined_now (Err came) joins is) (Enters-none numbers judge came messages untold book few);
 }
 
 -- a line on which nothing is heard
-pub GoesOn-unheard : (numbers : JudgingNumbers) (judge : Judge) (came : LineOutcome) (taken : List Taken) (messages : List Sent)
+pub GoesOn-unheard : (numbers : JudgingNumbers) (judge : Judge) (came : LineOutcome) (taken : List Taken) (messages : List Sent) → judge.told ≡ None
     → JoinerStandsFor judge.joiner taken → BookStandsFor judge.book numbers messages → length (held_of numbers messages) ≤ greatest_held
     → GoesOn numbers judge (judged.Without came) taken messages (Err came)
-GoesOn-unheard numbers judge came taken messages stands book few = record {
+GoesOn-unheard numbers judge came taken messages untold stands book few = record {
   joiner = subst (JoinerStandsFor judge.joiner) (sym (append-nil taken)) stands;
-  enters = Enters-none numbers judge came messages book few;
+  enters = Enters-none numbers judge came messages untold book few;
 }
 
 -- ---- the whole line
@@ -150,9 +152,9 @@ counted counts came = slice_set counts (outcome_index (outcome_of came)) (min (s
 
 pub stands_on : (old noted new : Judge) (came : Judged) (line : List ℕ) (scenario : Scenario) (before : List (List ℕ)) → length before + 1 < 2 ^ 64
     → StandsFor old scenario before → Judges old noted came line
-    → new ≡ record { times = times_behind old.times (stamp_of line); joiner = noted.joiner; book = noted.book; counts = counted old.counts came }
+    → new ≡ record { times = times_behind old.times (stamp_of line); joiner = noted.joiner; book = noted.book; told = noted.told; counts = counted old.counts came }
     → StandsFor new scenario (before ++ line ∷ [])
-unfolding sent_of held_behind
+unfolding sent_of held_behind told_of
 stands_on old noted new came line scenario before few stands judges is =
     let on = goes_on old noted came line scenario before stands judges in
     let came_is = judged_is old noted came line scenario before stands judges in
@@ -167,6 +169,7 @@ stands_on old noted new came line scenario before few stands judges is =
       book = subst (BookStandsFor noted.book (numbers_of scenario)) (sym (sent-push scenario before line)) on.enters.book;
       few = held;
       calm = calm-push scenario before line stands.calm held;
+      told = on.enters.told ∙ sym (told-push scenario before line);
       counts = subst (AreCounts (counted old.counts came)) judged_more counts;
     })
 
@@ -180,13 +183,13 @@ pub long_has_no_stamp : (line : List ℕ) → 1024 < length line → None ≡ st
 long_has_no_stamp line long = sym (ap (λ (content : LineContent). content.stamp) (long_is_dropped line long))
 
 -- The judge does not look at it.
-pub judges_long : (old : Judge) (line : List ℕ) → 1024 < length line → Judges old old (judged.Without outcome.Long) line
+pub judges_long : (old : Judge) (line : List ℕ) → 1024 < length line → Judges old (record old { told = None }) (judged.Without outcome.Long) line
 judges_long old line long = record {
   time = unwrap_or (nearest_of (stamp_of line) old.times.nearest) old.times.window.start;
   body = Err line_cause.Long;
   timed = refl;
   said = sym (ap (λ (content : LineContent). content.body) (long_is_dropped line long));
-  on = λ numbers taken messages joiner book few. GoesOn-unheard numbers old outcome.Long taken messages joiner book few;
+  on = λ numbers taken messages joiner book few. GoesOn-unheard numbers (record old { told = None }) outcome.Long taken messages refl joiner book few;
 }
 
 -- ---- a line that makes more vessels held
@@ -205,14 +208,15 @@ crowded_by old line scenario before time body stands timed said more =
 
 -- the record that counting makes, in the words of the lemma above
 pub new_is : (old noted new : Judge) (came : Judged) (line : List ℕ) (times : LineTimes) (stamp : Option ℕ) (outcome : LineOutcome)
-    → noted ≡ record old { joiner = noted.joiner; book = noted.book } → times ≡ times_behind noted.times stamp → stamp ≡ stamp_of line → outcome ≡ outcome_of came
+    → noted ≡ record old { joiner = noted.joiner; book = noted.book; told = noted.told } → times ≡ times_behind noted.times stamp → stamp ≡ stamp_of line → outcome ≡ outcome_of came
     → new ≡ record {
       times = times;
       joiner = noted.joiner;
       book = noted.book;
+      told = noted.told;
       counts = slice_set noted.counts (outcome_index outcome) (min (slice_index noted.counts (outcome_index outcome) + 1) (2 ^ 64 - 1));
     }
-    → new ≡ record { times = times_behind old.times (stamp_of line); joiner = noted.joiner; book = noted.book; counts = counted old.counts came }
+    → new ≡ record { times = times_behind old.times (stamp_of line); joiner = noted.joiner; book = noted.book; told = noted.told; counts = counted old.counts came }
 new_is old noted new came line times stamp outcome same passed stamped told is =
     let kept : noted.times ≡ old.times = ap (λ (j : Judge). j.times) same in
     let counts : noted.counts ≡ old.counts = ap (λ (j : Judge). j.counts) same in
@@ -221,5 +225,6 @@ new_is old noted new came line times stamp outcome same passed stamped told is =
       times = timed i;
       joiner = noted.joiner;
       book = noted.book;
+      told = noted.told;
       counts = slice_set (counts i) (outcome_index (told i)) (min (slice_index (counts i) (outcome_index (told i)) + 1) (2 ^ 64 - 1));
     })

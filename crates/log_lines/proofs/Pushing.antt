@@ -1,17 +1,22 @@
 -- What one line more adds to what is made of each line.
-use Rattle.std.proofs.Common.{◌≡◌, ℕ, List, [], ◌∷◌, ◌++◌, length, append_assoc, append-nil, Bool, true, false, ◌||◌, IsTrue, ◌<◌, ◌≤◌, nat_lt, Result, Ok, Err, refl, ap, sym, ◌∙◌, arith}
-use Rattle.std.specs.List.{filter_map, list_any}
+use Rattle.std.proofs.Common.{◌≡◌, ℕ, List, [], ◌∷◌, ◌++◌, length, append_assoc, append-nil, Bool, true, false, ◌||◌, IsTrue, ◌<◌, ◌≤◌, nat_lt, Option, None, Some, unwrap_or, Result, Ok, Err, refl, ap, sym, ◌∙◌, arith}
+use Rattle.std.specs.List.{filter_map, last_or, list_any}
+use Rattle.std.specs.Option.{option_to_list}
 use Rattle.std.proofs.lemmas.Bool.Decides.{nat_tests}
 use Rattle.std.proofs.lemmas.List.Elements.{filter_map-append}
 use Rattle.std.proofs.lemmas.List.Folds.{list_any-append}
 use Rattle.scenario.specs.declared.values.Scenario.{Scenario}
 use Rattle.tracks.specs.AcceptedReports.{JudgingNumbers}
-use Rattle.tracks.specs.VesselsHeld.{held_of}
+use Rattle.tracks.specs.VesselsHeld.{Sent, held_of}
+use Rattle.tracks.proofs.Lasts.{last_or-push}
 use Rattle.log_lines.specs.EachLine.{each_after, each_line, ok_value}
 use Rattle.log_lines.specs.JudgedLines.{greatest_held, held_behind, is_crowded, judged_line, judged_lines}
 use Rattle.log_lines.specs.SentLines.{heard, heard_of, sent, sent_of}
+use Rattle.log_lines.specs.Standing.{last_told}
+use Rattle.log_lines.specs.StaticReports.{static_reports, static_told, told_of, told_sent}
 use Rattle.log_lines.specs.Inner.JudgeState.{listed}
 use Rattle.log_lines.specs.declared.outcome.LineOutcome.{LineOutcome}
+use Rattle.log_lines.specs.declared.told_static.ToldStatic.{ToldStatic}
 
 each_after-push : {A B : Type 0} (f : List A → A → B) (before xs : List A) (y : A)
     → each_after f before (xs ++ y ∷ []) ≡ each_after f before xs ++ f (before ++ xs) y ∷ []
@@ -58,6 +63,33 @@ nothing_heard scenario = refl
 pub nothing_judged : (scenario : Scenario) → judged_lines scenario [] ≡ []
 unfolding judged_lines each_after
 nothing_judged scenario = refl
+
+-- ---- the static reports
+
+pub told-push : (scenario : Scenario) (before : List (List ℕ)) (line : List ℕ) → last_told scenario (before ++ line ∷ []) ≡ told_of scenario before line
+told-push scenario before line =
+    ap (λ (all : List (Option ToldStatic)). unwrap_or (last_or None all) None) (each_after-push (told_of scenario) [] before line)
+    ∙ ap (λ (last : Option (Option ToldStatic)). unwrap_or last None) (last_or-push None (each_line (told_of scenario) before) (told_of scenario before line))
+
+pub nothing_told : (scenario : Scenario) → last_told scenario [] ≡ None
+unfolding each_after
+nothing_told scenario = refl
+
+listed_told : (next : Result Sent LineOutcome) → filter_map static_told (listed next) ≡ option_to_list (told_sent next)
+listed_told (Ok one) = alone (static_told one) refl
+  where
+    alone : (told : Option ToldStatic) → static_told one ≡ told → filter_map static_told (one ∷ []) ≡ option_to_list (static_told one)
+    alone None is = rw is refl
+    alone (Some told) is = rw is refl
+listed_told (Err came) = refl
+
+pub static_reports-push : (scenario : Scenario) (before : List (List ℕ)) (line : List ℕ)
+    → static_reports scenario (before ++ line ∷ []) ≡ static_reports scenario before ++ option_to_list (told_of scenario before line)
+unfolding static_reports told_of
+static_reports-push scenario before line =
+    ap (filter_map static_told) (sent-push scenario before line)
+    ∙ filter_map-append static_told (sent scenario before) (listed (sent_of scenario before line))
+    ∙ ap (λ l. filter_map static_told (sent scenario before) ++ l) (listed_told (sent_of scenario before line))
 
 -- ---- more vessels than are held
 

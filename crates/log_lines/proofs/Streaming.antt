@@ -1,14 +1,12 @@
 -- Lines that end, of a log that comes in pieces.
-use Rattle.std.proofs.Common.{◌≡◌, ℕ, suc, ◌+◌, ◌-◌, ◌<◌, false, List, [], ◌∷◌, ◌++◌, length, take, get_or, refl, ap, ap₂, sym, subst, ◌∙◌, append_assoc, append-nil, arith}
-use Rattle.std.specs.List.{All, list_any}
-use Rattle.std.specs.Prelude.{◌==◌, ◌||◌, Bool, true, nat_lt, IsTrue}
-use Rattle.std.proofs.lemmas.Bool.Decides.{nat_tests}
+use Rattle.std.proofs.Common.{◌≡◌, ℕ, suc, ◌+◌, ◌-◌, false, List, [], ◌∷◌, ◌++◌, length, take, get_or, refl, ap, ap₂, sym, subst, ◌∙◌, append_assoc, append-nil, arith}
+use Rattle.std.specs.List.{All}
+use Rattle.std.specs.Prelude.{◌==◌, true}
 use Rattle.std.proofs.lemmas.List.{take_all}
 use Rattle.std.proofs.Math.Seq.{take-suc}
 use Rattle.log_lines.specs.GrowingLog.{ended_lines, open_part}
 use Rattle.log_lines.proofs.ForCallers.{ended_by_feed, ended_so_far, lines_ended_or_open, open_by_feed, open_so_far, judged-push}
-use Rattle.log_lines.specs.EachLine.{each_after}
-use Rattle.log_lines.specs.JudgedLines.{greatest_held, held_behind, is_crowded, judged_line, judged_lines}
+use Rattle.log_lines.specs.JudgedLines.{judged_line, judged_lines}
 use Rattle.log_lines.specs.LogLines.{is_line_feed, lines_of, without_carriage_return}
 use Rattle.log_lines.specs.declared.judged.Judged.{Judged}
 use Rattle.scenario.specs.declared.values.Scenario.{Scenario}

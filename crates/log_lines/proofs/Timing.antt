@@ -7,10 +7,7 @@ use Rattle.log_lines.specs.LineTimes.{clock_of, greatest, is_in_window, reach_be
 use Rattle.log_lines.specs.Inner.Times.{KeepsTimes, at_least, clock_behind, nearest_of, times_behind}
 use Rattle.log_lines.specs.declared.line_times.LineTimes.{LineTimes}
 use Rattle.scenario.specs.declared.values.Scenario.{Scenario}
-
-last_or-push : (o : Option ℕ) (xs : List ℕ) (y : ℕ) → last_or o (xs ++ y ∷ []) ≡ Some y
-last_or-push o [] y = refl
-last_or-push o (x ∷ xs) y = last_or-push (Some x) xs y
+use Rattle.tracks.proofs.Lasts.{last_or-push}
 
 -- the list of a stamp, if there is one
 abbrev stamp_list : Option ℕ → List ℕ

@@ -6,5 +6,6 @@ pub mod JudgedLines
 pub mod EachLine
 pub mod LineTimes
 pub mod SentLines
+pub mod StaticReports
 pub mod Standing
 pub mod Inner

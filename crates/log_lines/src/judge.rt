@@ -1,5 +1,6 @@
 //! Judging a log's lines one after the other.
-ghost use Rattle.std.specs.Prelude.{◌≡◌, ◌≤◌, ◌<◌, ◌+◌, ◌^◌, ◌++◌, ◌∷◌, [], ◌↔◌, List, ℕ, IfOk, IfSome, OnOk, Ok, Err, length, slice_index};
+ghost use Rattle.std.specs.Prelude.{◌≡◌, ◌≤◌, ◌<◌, ◌+◌, ◌^◌, ◌++◌, ◌∷◌, [], ◌↔◌, List, ℕ, IfOk, IfSome, None, OnOk, Ok, Err, length, slice_index};
+ghost use Rattle.std.specs.Option.{option_to_list};
 ghost use Rattle.aivdm.specs.FragmentJoining.{Taken};
 ghost use Rattle.aivdm.specs.OpenMessages.{StandsFor as JoinerStandsFor};
 ghost use Rattle.aivdm.specs.Sentences.{IfSentence, IsSentence, body_seen, fields_seen};
@@ -16,10 +17,12 @@ ghost use Rattle.tracks.specs.declared.entry.BookFault.TheVariants.{TooManyVesse
 ghost use Rattle.log_lines.specs.JudgedLines.{greatest_held, held_behind, judged_entry, judged_line, judged_lines, numbers_of};
 ghost use Rattle.log_lines.specs.LineTimes.{clock_of};
 ghost use Rattle.log_lines.specs.SentLines.{sent, sent_decoded, sent_heard};
+ghost use Rattle.log_lines.specs.StaticReports.{static_reports, told_of};
 
 use crate::judged::Judged;
 use crate::line_times::LineTimes;
 use crate::outcome::LineOutcome;
+use crate::told_static::{ToldStatic, static_told};
 use ais_messages::{Decoded, Message, PositionReport, decode, position};
 use aivdm::{Body, Joined, Joiner, Sentence, SentenceRoom, read_line};
 use scenario::Scenario;
@@ -80,6 +83,8 @@ pub struct Judge {
     times: LineTimes,
     joiner: Joiner,
     book: Book,
+    /// What the last line tells of a vessel's static data.
+    told: Option<ToldStatic>,
     /// How many lines came to each outcome, by its index.
     counts: [u64; 21],
 }
@@ -107,6 +112,7 @@ impl Judge {
                 scenario.log.gap,
                 scenario.log.max_speed,
             ),
+            told: None,
             counts: [0; 21],
         }
     }
@@ -126,6 +132,16 @@ impl Judge {
             → BookStandsFor result.now (numbers_of scenario) (sent scenario lines) }
     {
         &self.book
+    }
+
+    /// What the last line tells of a vessel's static data, if it completes a message with a static report.
+    pub fn told(&self) -> Option<ToldStatic>
+        ensures line { (scenario : Scenario) (before : List (List ℕ)) (line : List ℕ) → StandsFor self.now scenario (before ++ line ∷ [])
+            → result ≡ told_of scenario before line }
+        ensures reports { (scenario : Scenario) (before : List (List ℕ)) (line : List ℕ) → StandsFor self.now scenario (before ++ line ∷ [])
+            → static_reports scenario (before ++ line ∷ []) ≡ static_reports scenario before ++ option_to_list result }
+    {
+        self.told
     }
 
     /// The clock behind the lines so far.
@@ -149,27 +165,30 @@ impl Judge {
 
     /// Judges a message, and keeps what it tells.
     fn judge_message(&mut self, message: &Message, time: u64) -> Result<Judged, BookFault>
-        requires { IsMessage message.now }
+        requires message { IsMessage message.now }
+        requires untold { self.old.told ≡ None }
         ensures judged { IfOk result (λ judged. (numbers : JudgingNumbers) (before : List Sent) → BookStandsFor self.old.book numbers before
             → Enters numbers self.new judged before (Ok (record { message = message.now; time = time }))) }
         ensures crowded { result ≡ Err TooManyVessels → (numbers : JudgingNumbers) (before : List Sent) → BookStandsFor self.old.book numbers before
             → greatest_held < held_with numbers before (Ok (record { message = message.now; time = time })) }
-        ensures same { self.new ≡ record self.old { book = self.new.book } }
+        ensures same { self.new ≡ record self.old { book = self.new.book; told = self.new.told } }
         ensures keeping { keeping_of self.new ≡ keeping_of self.old }
     {
         let entry = self.book.take(message, time)?;
+        self.told = static_told(message, time);
         Ok(judged(message, time, entry))
     }
 
     /// Judges what the bits of a message are read as.
     fn judge_decoded(&mut self, decoded: &Decoded, time: u64) -> Result<Judged, BookFault>
-        requires { IfMessage decoded.now IsMessage }
+        requires message { IfMessage decoded.now IsMessage }
+        requires untold { self.old.told ≡ None }
         ensures judged { IfOk result (λ judged. (numbers : JudgingNumbers) (before : List Sent) → BookStandsFor self.old.book numbers before
             → length (held_of numbers before) ≤ greatest_held
             → Enters numbers self.new judged before (sent_decoded time decoded.now)) }
         ensures crowded { result ≡ Err TooManyVessels → (numbers : JudgingNumbers) (before : List Sent) → BookStandsFor self.old.book numbers before
             → greatest_held < held_with numbers before (sent_decoded time decoded.now) }
-        ensures same { self.new ≡ record self.old { book = self.new.book } }
+        ensures same { self.new ≡ record self.old { book = self.new.book; told = self.new.told } }
         ensures keeping { keeping_of self.new ≡ keeping_of self.old }
     {
         match decoded {
@@ -181,12 +200,13 @@ impl Judge {
     /// Judges a position report that is a message by itself.
     #[inline(always)]
     fn judge_report(&mut self, report: &PositionReport, time: u64) -> Result<Judged, BookFault>
-        requires { IsReport report.now }
+        requires report { IsReport report.now }
+        requires untold { self.old.told ≡ None }
         ensures judged { IfOk result (λ judged. (numbers : JudgingNumbers) (before : List Sent) → BookStandsFor self.old.book numbers before
             → Enters numbers self.new judged before (Ok (record { message = Position report.now; time = time }))) }
         ensures crowded { result ≡ Err TooManyVessels → (numbers : JudgingNumbers) (before : List Sent) → BookStandsFor self.old.book numbers before
             → greatest_held < held_with numbers before (Ok (record { message = Position report.now; time = time })) }
-        ensures same { self.new ≡ record self.old { book = self.new.book } }
+        ensures same { self.new ≡ record self.old { book = self.new.book; told = self.new.told } }
         ensures keeping { keeping_of self.new ≡ keeping_of self.old }
     {
         let entry = self.book.take_report(report, time)?;
@@ -201,14 +221,15 @@ impl Judge {
         sentence: &Sentence<'_>,
         time: u64,
     ) -> Result<Judged, BookFault>
-        requires { IsSentence (fields_seen sentence.now) }
+        requires sentence { IsSentence (fields_seen sentence.now) }
+        requires untold { self.old.told ≡ None }
         ensures judged { IfOk result (λ judged. (numbers : JudgingNumbers) (taken : List Taken) (messages : List Sent) → JoinerStandsFor self.old.joiner taken
             → BookStandsFor self.old.book numbers messages → length (held_of numbers messages) ≤ greatest_held
             → GoesOn numbers self.new judged taken messages (Ok (record { sentence = fields_seen sentence.now; time = time }))) }
         ensures crowded { result ≡ Err TooManyVessels → (numbers : JudgingNumbers) (taken : List Taken) (messages : List Sent)
             → JoinerStandsFor self.old.joiner taken → BookStandsFor self.old.book numbers messages
             → greatest_held < held_with numbers messages (sent_heard taken (Ok (record { sentence = fields_seen sentence.now; time = time }))) }
-        ensures same { self.new ≡ record self.old { joiner = self.new.joiner; book = self.new.book } }
+        ensures same { self.new ≡ record self.old { joiner = self.new.joiner; book = self.new.book; told = self.new.told } }
         ensures keeping { keeping_of self.new ≡ keeping_of self.old }
     {
         match report_of(room, sentence) {
@@ -220,14 +241,15 @@ impl Judge {
     /// Judges a sentence that is in time, by way of the joiner.
     #[inline(never)]
     fn judge_part(&mut self, sentence: &Sentence<'_>, time: u64) -> Result<Judged, BookFault>
-        requires { IsSentence (fields_seen sentence.now) }
+        requires sentence { IsSentence (fields_seen sentence.now) }
+        requires untold { self.old.told ≡ None }
         ensures judged { IfOk result (λ judged. (numbers : JudgingNumbers) (taken : List Taken) (messages : List Sent) → JoinerStandsFor self.old.joiner taken
             → BookStandsFor self.old.book numbers messages → length (held_of numbers messages) ≤ greatest_held
             → GoesOn numbers self.new judged taken messages (Ok (record { sentence = fields_seen sentence.now; time = time }))) }
         ensures crowded { result ≡ Err TooManyVessels → (numbers : JudgingNumbers) (taken : List Taken) (messages : List Sent)
             → JoinerStandsFor self.old.joiner taken → BookStandsFor self.old.book numbers messages
             → greatest_held < held_with numbers messages (sent_heard taken (Ok (record { sentence = fields_seen sentence.now; time = time }))) }
-        ensures same { self.new ≡ record self.old { joiner = self.new.joiner; book = self.new.book } }
+        ensures same { self.new ≡ record self.old { joiner = self.new.joiner; book = self.new.book; told = self.new.told } }
         ensures keeping { keeping_of self.new ≡ keeping_of self.old }
     {
         match self.joiner.take(sentence, time)? {
@@ -245,14 +267,15 @@ impl Judge {
         body: &Body<'_>,
         time: u64,
     ) -> Result<Judged, BookFault>
-        requires { IfSentence body.now (λ s. IsSentence (fields_seen s)) }
+        requires sentence { IfSentence body.now (λ s. IsSentence (fields_seen s)) }
+        requires untold { self.old.told ≡ None }
         ensures judged { IfOk result (λ judged. (numbers : JudgingNumbers) (taken : List Taken) (messages : List Sent) → JoinerStandsFor self.old.joiner taken
             → BookStandsFor self.old.book numbers messages → length (held_of numbers messages) ≤ greatest_held
             → GoesOn numbers self.new judged taken messages (heard_by self.old.times time (body_seen body.now))) }
         ensures crowded { result ≡ Err TooManyVessels → (numbers : JudgingNumbers) (taken : List Taken) (messages : List Sent)
             → JoinerStandsFor self.old.joiner taken → BookStandsFor self.old.book numbers messages
             → greatest_held < held_with numbers messages (sent_heard taken (heard_by self.old.times time (body_seen body.now))) }
-        ensures same { self.new ≡ record self.old { joiner = self.new.joiner; book = self.new.book } }
+        ensures same { self.new ≡ record self.old { joiner = self.new.joiner; book = self.new.book; told = self.new.told } }
         ensures keeping { keeping_of self.new ≡ keeping_of self.old }
     {
         match body {
@@ -278,6 +301,7 @@ impl Judge {
     {
         let reading = read_line(line);
         let time = self.times.time(reading.stamp);
+        self.told = None;
         let judged = self.judge_body(room, &reading.body, time)?;
         self.times.pass(reading.stamp);
         self.count(judged.outcome());
@@ -293,6 +317,7 @@ impl Judge {
             → StandsFor self.old scenario before → StandsFor self.new scenario (before ++ line ∷ []) }
         ensures keeping { keeping_of self.new ≡ keeping_of self.old }
     {
+        self.told = None;
         self.times.pass(None);
         self.count(LineOutcome::Long);
         Judged::Without(LineOutcome::Long)

@@ -17,6 +17,7 @@ mod line_times;
 mod open_line;
 mod outcome;
 mod streamed;
+mod told_static;
 
 pub use judge::Judge;
 pub use judged::Judged;
@@ -24,3 +25,4 @@ pub use line_feeds::{first_line_feed, strip_carriage_return};
 pub use open_line::OpenLine;
 pub use outcome::LineOutcome;
 pub use streamed::{EndedLines, StreamedLines};
+pub use told_static::ToldStatic;

@@ -10,6 +10,7 @@ use Rattle.tracks.specs.VesselsHeld.{Sent, held_of}
 use Rattle.log_lines.specs.JudgedLines.{greatest_held, judged_sent}
 use Rattle.log_lines.specs.LineOutcomes.{line_outcome}
 use Rattle.log_lines.specs.SentLines.{heard_unless, sent_heard}
+use Rattle.log_lines.specs.StaticReports.{told_sent}
 use Rattle.log_lines.specs.Inner.Times.{untimely_by}
 use Rattle.log_lines.specs.declared.judged.Judged.{Judged}
 use Rattle.log_lines.specs.declared.judge.Judge.{Judge}
@@ -30,9 +31,10 @@ listed (Err came) = []
 abbrev pub held_with : JudgingNumbers → List Sent → Result Sent LineOutcome → ℕ
 held_with numbers before next = length (held_of numbers (before ++ listed next))
 
--- Behind a message, or a line without one, the book stands for the longer list, and the line came to this.
+-- Behind a message, or a line without one, the book stands for the longer list, the static report is kept, and the line came to this.
 pub record Enters (numbers : JudgingNumbers) (judge : Judge) (came : Judged) (before : List Sent) (next : Result Sent LineOutcome) : Type 0 where
   pub is : came ≡ judged_sent numbers before next
+  pub told : judge.told ≡ told_sent next
   pub book : BookStandsFor judge.book numbers (before ++ listed next)
   pub few : held_with numbers before next ≤ greatest_held
 

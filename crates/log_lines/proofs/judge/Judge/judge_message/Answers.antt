@@ -11,6 +11,7 @@ returns-in_err-entry-clause-crowded c = λ told numbers before stands.
 pub returns-clause-judged : goal.returns-clause-judged
 returns-clause-judged c = λ numbers before stands. record {
   is = c.judged.ensures ∙ ap (judged_entry _) (c.in_ok-entry.ensures.entry numbers before stands);
+  told = c.static_told-self.ensures;
   book = c.in_ok-entry.ensures.stands numbers before stands;
   few = few_unless _ (λ more. cc ((c.in_ok-entry.ensures.too_many numbers before stands).1 more));
 }

@@ -29,10 +29,10 @@ returns-in-Message-clause-crowded c = λ fault numbers taken messages stands boo
 
 pub returns-in-Waiting-clause-judged : goal.returns-in-Waiting-clause-judged
 returns-in-Waiting-clause-judged c = λ numbers taken messages stands book few.
-    GoesOn-silent numbers _ outcome.Part taken messages _ _ (sym c.in-Waiting.is ∙ c.in_ok-bits.ensures.joined taken stands) refl
+    GoesOn-silent numbers _ outcome.Part taken messages _ _ (sym c.in-Waiting.is ∙ c.in_ok-bits.ensures.joined taken stands) refl c.requires.untold
     (c.in_ok-bits.ensures.stands taken stands) book few
 
 pub returns-in-Orphan-clause-judged : goal.returns-in-Orphan-clause-judged
 returns-in-Orphan-clause-judged c = λ numbers taken messages stands book few.
-    GoesOn-silent numbers _ outcome.Orphan taken messages _ _ (sym c.in-Orphan.is ∙ c.in_ok-bits.ensures.joined taken stands) refl
+    GoesOn-silent numbers _ outcome.Orphan taken messages _ _ (sym c.in-Orphan.is ∙ c.in_ok-bits.ensures.joined taken stands) refl c.requires.untold
     (c.in_ok-bits.ensures.stands taken stands) book few

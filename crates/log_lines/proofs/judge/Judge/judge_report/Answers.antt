@@ -12,6 +12,7 @@ returns-in_err-entry-clause-crowded c = λ told numbers before stands.
 pub returns-clause-judged : goal.returns-clause-judged
 returns-clause-judged c = λ numbers before stands. record {
   is = c.judged_report.ensures ∙ ap (judged_entry (record { message = Position c.args.report.now; time = c.args.time })) (c.in_ok-entry.ensures.entry numbers before stands);
+  told = c.requires.untold;
   book = c.in_ok-entry.ensures.stands numbers before stands;
   few = few_unless _ (λ more. cc ((c.in_ok-entry.ensures.too_many numbers before stands).1 more));
 }

@@ -5,7 +5,7 @@ use Rattle.tracks.specs.VesselsHeld.{Sent, held_of}
 use Rattle.log_lines.specs.JudgedLines.{greatest_held, numbers_of}
 use Rattle.log_lines.specs.Standing.{AreCounts}
 use Rattle.log_lines.proofs.Counting.{AreCounts-zeros}
-use Rattle.log_lines.proofs.Pushing.{nothing_crowded, nothing_heard, nothing_held, nothing_judged, nothing_sent}
+use Rattle.log_lines.proofs.Pushing.{nothing_crowded, nothing_heard, nothing_held, nothing_judged, nothing_sent, nothing_told}
 use Rattle.log_lines.proofs.judge.Judge.new.Goals as goal
 
 pub returns-clause-stands : goal.returns-clause-stands
@@ -18,5 +18,6 @@ returns-clause-stands c =
       book = subst (BookStandsFor c.with_keeping.result numbers) (sym (nothing_sent scenario)) c.with_keeping.ensures.stands;
       few = subst (λ (l : List Sent). length (held_of numbers l) ≤ greatest_held) (sym (nothing_sent scenario)) (nothing_held numbers);
       calm = nothing_crowded scenario;
+      told = sym (nothing_told scenario);
       counts = subst (AreCounts _) (sym (nothing_judged scenario)) AreCounts-zeros;
     }

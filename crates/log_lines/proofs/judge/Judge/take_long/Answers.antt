@@ -7,11 +7,11 @@ use Rattle.log_lines.proofs.judge.Judge.take_long.Goals as goal
 pub returns-clause-judged : goal.returns-clause-judged
 returns-clause-judged c = λ scenario before line long stands.
     let old = c.args.self.now in
-    judged_is old old (judged.Without outcome.Long) line scenario before stands (judges_long old line long)
+    judged_is old (record old { told = None }) (judged.Without outcome.Long) line scenario before stands (judges_long old line long)
 
 pub returns-clause-stands : goal.returns-clause-stands
 returns-clause-stands c = λ scenario before line long few stands.
     let old = c.args.self.now in
-    let is = new_is old old c.count.new.self (judged.Without outcome.Long) line c.pass.new.self None outcome.Long
+    let is = new_is old (record old { told = None }) c.count.new.self (judged.Without outcome.Long) line c.pass.new.self None outcome.Long
     refl c.pass.ensures (long_has_no_stamp line long) refl c.count.ensures in
-    stands_on old old c.count.new.self (judged.Without outcome.Long) line scenario before few stands (judges_long old line long) is
+    stands_on old (record old { told = None }) c.count.new.self (judged.Without outcome.Long) line scenario before few stands (judges_long old line long) is
