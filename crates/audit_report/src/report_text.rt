@@ -10,7 +10,7 @@ use audit_traces::Total;
 use csv::{Writer, WriterBuilder};
 use fixed_geometry::Point;
 use itoa::Buffer;
-use judged_lines::LineOutcome;
+use log_lines::LineOutcome;
 use meetings::Pair;
 use outside::Memory;
 use sectors::Class;

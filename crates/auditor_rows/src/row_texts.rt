@@ -2,7 +2,7 @@
 use audit_report::{ReportRow, row_bytes};
 use audit_traces::Total;
 use fixed_geometry::Point;
-use judged_lines::LineOutcome;
+use log_lines::LineOutcome;
 use meetings::Pair;
 use sectors::Class;
 use std::test::Fail;

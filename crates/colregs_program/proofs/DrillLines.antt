@@ -19,7 +19,7 @@ use Rattle.drill_log.specs.DrillFacts.{IsDrillReport}
 use Rattle.drill_log.specs.DrillLog.{TimedReport, drill_log_of, drill_reports, report_line}
 use Rattle.drill_log.proofs.ReadAgain.{no_line_end, read_again}
 use Rattle.drill_log.proofs.Reports.{all_reports}
-use Rattle.judged_lines.specs.LogLines.{is_line_feed, lines_among, lines_of, without_carriage_return}
+use Rattle.log_lines.specs.LogLines.{is_line_feed, lines_among, lines_of, without_carriage_return}
 use Rattle.scenario.specs.ScenarioValues.{IsWindow}
 use Rattle.scenario.specs.declared.values.Scenario.{Scenario}
 use Rattle.scenario.specs.declared.values.Window.{Window}

@@ -9,12 +9,12 @@ use Rattle.std.proofs.lemmas.List.Elements.{All-cons, All-filter, All-head, All-
 use Rattle.std.proofs.lemmas.List.Folds.{list_any_none}
 use Rattle.aivdm.specs.FragmentJoining.{Taken, joined_of}
 use Rattle.drill_log.specs.DrillLog.{drill_log_of}
-use Rattle.judged_lines.specs.EachLine.{each_after, each_line, ok_value}
-use Rattle.judged_lines.specs.JudgedLines.{greatest_held, held_behind, is_crowded, numbers_of}
-use Rattle.judged_lines.specs.LogLines.{lines_of}
-use Rattle.judged_lines.specs.SentLines.{heard, heard_of, heard_unless, sent, sent_heard, sent_of, untimely}
-use Rattle.judged_lines.specs.LineTimes.{clock_of, time_of}
-use Rattle.judged_lines.specs.declared.outcome.LineOutcome.{LineOutcome}
+use Rattle.log_lines.specs.EachLine.{each_after, each_line, ok_value}
+use Rattle.log_lines.specs.JudgedLines.{greatest_held, held_behind, is_crowded, numbers_of}
+use Rattle.log_lines.specs.LogLines.{lines_of}
+use Rattle.log_lines.specs.SentLines.{heard, heard_of, heard_unless, sent, sent_heard, sent_of, untimely}
+use Rattle.log_lines.specs.LineTimes.{clock_of, time_of}
+use Rattle.log_lines.specs.declared.outcome.LineOutcome.{LineOutcome}
 use Rattle.scenario.specs.ScenarioValues.{IsWindow}
 use Rattle.scenario.specs.declared.values.Scenario.{Scenario}
 use Rattle.tracks.specs.AcceptedReports.{JudgingNumbers}
@@ -37,7 +37,7 @@ use Rattle.colregs_program.proofs.DrillLines.{InFleet, IsFleetLine, fleet_lines}
 use Rattle.colregs_program.proofs.FewDifferent.{few_between}
 use Rattle.settling.specs.Sightings.{audit_numbers, sighted}
 use Rattle.std.proofs.lemmas.List.{take-append-drop}
-use Rattle.growing_log.specs.GrowingLog.{ended_lines}
+use Rattle.log_lines.specs.GrowingLog.{ended_lines}
 use Rattle.sessions.specs.Modes.{reads_log, reports}
 use Rattle.colregs_program.proofs.AskedLogs.{drills, not_read}
 use Rattle.std.specs.Prelude.{IfErr, MatchResult}

@@ -23,14 +23,14 @@ use Rattle.tracks.specs.declared.entry.Entry.TheVariants as entry
 use Rattle.tracks.specs.declared.entry.ReportCause.{ReportCause}
 use Rattle.tracks.specs.declared.entry.ReportCause.TheVariants as report_cause
 use Rattle.scenario.specs.declared.values.Scenario.{Scenario}
-use Rattle.judged_lines.specs.EachLine.{each_after, each_line, ok_value}
-use Rattle.judged_lines.specs.JudgedLines.{accepted_at, judged_entry, judged_line, judged_lines, judged_sent, numbers_of, outcome_of}
-use Rattle.judged_lines.specs.LineOutcomes.{line_outcome, message_outcome, report_outcome}
-use Rattle.judged_lines.specs.LineTimes.{clock_of, greatest, is_in_window, is_late, stamp_of, stamps_of, time_of}
-use Rattle.judged_lines.specs.SentLines.{heard, heard_in, heard_of, heard_unless, sent, sent_decoded, sent_heard, sent_joined, sent_of}
-use Rattle.judged_lines.specs.declared.judged.Judged.TheVariants as judged
-use Rattle.judged_lines.specs.declared.outcome.LineOutcome.{LineOutcome}
-use Rattle.judged_lines.specs.declared.outcome.LineOutcome.TheVariants as outcome
+use Rattle.log_lines.specs.EachLine.{each_after, each_line, ok_value}
+use Rattle.log_lines.specs.JudgedLines.{accepted_at, judged_entry, judged_line, judged_lines, judged_sent, numbers_of, outcome_of}
+use Rattle.log_lines.specs.LineOutcomes.{line_outcome, message_outcome, report_outcome}
+use Rattle.log_lines.specs.LineTimes.{clock_of, greatest, is_in_window, is_late, stamp_of, stamps_of, time_of}
+use Rattle.log_lines.specs.SentLines.{heard, heard_in, heard_of, heard_unless, sent, sent_decoded, sent_heard, sent_joined, sent_of}
+use Rattle.log_lines.specs.declared.judged.Judged.TheVariants as judged
+use Rattle.log_lines.specs.declared.outcome.LineOutcome.{LineOutcome}
+use Rattle.log_lines.specs.declared.outcome.LineOutcome.TheVariants as outcome
 use Rattle.colregs_program.specs.InertLines.{IsInert}
 
 -- ---- which lines come to such an outcome

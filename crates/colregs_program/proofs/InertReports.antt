@@ -9,14 +9,14 @@ use Rattle.auditor.specs.AuditTotals.{AreTotals}
 use Rattle.audit_traces.specs.Audited.{Sighting}
 use Rattle.command_line.specs.declared.mode.Mode.{Mode}
 use Rattle.command_line.specs.declared.mode.Mode.TheVariants as mode
-use Rattle.judged_lines.specs.EachLine.{each_after}
-use Rattle.judged_lines.specs.JudgedLines.{count_of, judged_line, judged_lines, numbers_of, outcome_of}
-use Rattle.judged_lines.specs.LineOutcomes.{line_outcome, outcome_index}
-use Rattle.judged_lines.specs.LogLines.{lines_of}
-use Rattle.judged_lines.specs.SentLines.{sent}
-use Rattle.judged_lines.specs.declared.judged.Judged.{Judged}
-use Rattle.judged_lines.specs.declared.judged.Judged.TheVariants as judged
-use Rattle.judged_lines.specs.declared.outcome.LineOutcome.{LineOutcome}
+use Rattle.log_lines.specs.EachLine.{each_after}
+use Rattle.log_lines.specs.JudgedLines.{count_of, judged_line, judged_lines, numbers_of, outcome_of}
+use Rattle.log_lines.specs.LineOutcomes.{line_outcome, outcome_index}
+use Rattle.log_lines.specs.LogLines.{lines_of}
+use Rattle.log_lines.specs.SentLines.{sent}
+use Rattle.log_lines.specs.declared.judged.Judged.{Judged}
+use Rattle.log_lines.specs.declared.judged.Judged.TheVariants as judged
+use Rattle.log_lines.specs.declared.outcome.LineOutcome.{LineOutcome}
 use Rattle.own_ship.specs.PlanSituations.{own_readiness, situation_of, vessels_near}
 use Rattle.scenario.specs.declared.values.Scenario.{Scenario}
 use Rattle.sessions.specs.AuditReport.{IsAuditReport, rows_behind, sightings_of, stretch_rows, total_rows, vessel_rows}

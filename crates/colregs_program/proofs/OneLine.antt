@@ -5,9 +5,9 @@ use Rattle.std.proofs.lemmas.List.{map-append}
 use Rattle.std.proofs.lemmas.List.Splits.{length-slice_split, slice_split-cons_no, slice_split-cons_yes}
 use Rattle.std.proofs.lemmas.Bool.Decides.{nat_tests}
 use Rattle.std.specs.Prelude.{◌==◌, if◌then◌else◌}
-use Rattle.judged_lines.specs.LogLines.{is_line_feed, lines_among, lines_of, without_carriage_return}
-use Rattle.growing_log.specs.GrowingLog.{ended_among, ended_lines, last_part, open_lines, open_part}
-use Rattle.growing_log.proofs.ForCallers.{ended_by_feed, ended_so_far, lines_ended_or_open, open_by_feed, open_so_far}
+use Rattle.log_lines.specs.LogLines.{is_line_feed, lines_among, lines_of, without_carriage_return}
+use Rattle.log_lines.specs.GrowingLog.{ended_among, ended_lines, last_part, open_lines, open_part}
+use Rattle.log_lines.proofs.ForCallers.{ended_by_feed, ended_so_far, lines_ended_or_open, open_by_feed, open_so_far}
 use Rattle.colregs_program.specs.InertLines.{IsOneLine}
 
 -- ---- the parts of two lists of bytes one after the other

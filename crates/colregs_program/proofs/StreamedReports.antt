@@ -5,7 +5,7 @@ use Rattle.std.specs.Io.KnownBytes.{Appends, Consumes, IsAtEnd, Keeps}
 use Rattle.std.proofs.KnownBytes.{Appends-nil, Appends-trans, Consumes-trans}
 use Rattle.std.proofs.Math.Seq.{take-append-add}
 use Rattle.std.proofs.lemmas.List.{take-append-drop}
-use Rattle.growing_log.specs.GrowingLog.{ended_lines}
+use Rattle.log_lines.specs.GrowingLog.{ended_lines}
 use Rattle.outside.specs.Streams.{AppendsPart}
 use Rattle.scenario.specs.declared.values.Scenario.{Scenario}
 use Rattle.command_line.specs.declared.mode.Mode.{Mode}

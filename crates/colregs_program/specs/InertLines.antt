@@ -4,12 +4,12 @@ use Rattle.std.specs.List.{All}
 use Rattle.aivdm.specs.declared.sentence.LineCause.{LineCause}
 use Rattle.audit_report.specs.CsvRows.{row_of}
 use Rattle.audit_report.specs.ReportRows.{count_fields}
-use Rattle.growing_log.specs.GrowingLog.{open_part}
-use Rattle.judged_lines.specs.JudgedLines.{judged_line, outcome_of}
-use Rattle.judged_lines.specs.LineOutcomes.{all_outcomes, line_outcome, outcome_index}
-use Rattle.judged_lines.specs.LineTimes.{stamp_of}
-use Rattle.judged_lines.specs.LogLines.{is_line_feed}
-use Rattle.judged_lines.specs.declared.outcome.LineOutcome.{LineOutcome}
+use Rattle.log_lines.specs.GrowingLog.{open_part}
+use Rattle.log_lines.specs.JudgedLines.{judged_line, outcome_of}
+use Rattle.log_lines.specs.LineOutcomes.{all_outcomes, line_outcome, outcome_index}
+use Rattle.log_lines.specs.LineTimes.{stamp_of}
+use Rattle.log_lines.specs.LogLines.{is_line_feed}
+use Rattle.log_lines.specs.declared.outcome.LineOutcome.{LineOutcome}
 use Rattle.scenario.specs.declared.values.Scenario.{Scenario}
 
 -- The bytes of one line stand between others of a log, with the line feed that ends them, or none at the end of the log.

@@ -3,9 +3,9 @@ ghost use Rattle.std.specs.Prelude.{◌++◌, ℕ, List};
 ghost use Rattle.aivdm.specs.declared.sentence.LineCause.{LineCause};
 ghost use Rattle.colregs_program.specs.InertLines.{HasOneFewer, IsInert, IsOneLine};
 ghost use Rattle.command_line.specs.declared.mode.Mode.{Mode};
-ghost use Rattle.growing_log.specs.GrowingLog.{ended_lines};
-ghost use Rattle.judged_lines.specs.LineOutcomes.{line_outcome};
-ghost use Rattle.judged_lines.specs.LogLines.{without_carriage_return};
+ghost use Rattle.log_lines.specs.GrowingLog.{ended_lines};
+ghost use Rattle.log_lines.specs.LineOutcomes.{line_outcome};
+ghost use Rattle.log_lines.specs.LogLines.{without_carriage_return};
 ghost use Rattle.scenario.specs.declared.values.Scenario.{Scenario};
 ghost use Rattle.sessions.specs.Endings.{IsEnding};
 

@@ -11,7 +11,7 @@ ghost use Rattle.colregs_program.specs.Inner.Streaming.{LogCount, OutCount, Repo
 use crate::streaming::{BLOCK, StreamFault, write_report};
 use command_line::Request;
 use drill_log::drill_log;
-use growing_log::laws::ended_lines_stay;
+use log_lines::laws::ended_lines_stay;
 use outside::{PlainSource, Sink, Source};
 use scenario::Scenario;
 use sessions::reads_log;

@@ -1,7 +1,7 @@
 //! Messages with known fields.
 use crate::compared::{is, is_true};
 use ais_messages::{
-    Decoded, Message, MessageCause, PositionReport, ShipData, decode, encode_position,
+    Decoded, Message, MessageCause, PositionReport, ShipData, decode, encode_position, is_ship,
 };
 use aivdm::{Body, Joined, Joiner, read_line, write_sentence};
 use std::alloc::Global;
@@ -309,4 +309,19 @@ fn ends_of_the_fields(rt: HostRuntime) -> Result<(), Fail> {
         (None, None, None),
     );
     Ok(())
+}
+
+// The first three digits of a ship's identity are a country's, from 200 to 799.
+#[test]
+fn identities_of_ships(rt: HostRuntime) {
+    for (mmsi, ship) in [
+        (2006, false),
+        (199999999, false),
+        (200000000, true),
+        (369190000, true),
+        (799999999, true),
+        (800000000, false),
+    ] {
+        is(&rt, is_ship(mmsi), ship);
+    }
 }

@@ -93,6 +93,31 @@ fn an_overtaking_vessel_does_not_become_a_crossing_one(rt: HostRuntime) -> Resul
 }
 
 #[test]
+fn steps_that_are_taken_in_place(rt: HostRuntime) -> Result<(), Fail> {
+    let pair = northward(Point {
+        x: -3_000_000,
+        y: 20_000_000,
+    })
+    .ok_or("a step")?;
+    let mut engagement = Engagement::new(DETECT);
+    is(&rt, *engagement.latest(), EngagementState::Apart);
+    is_true(&rt, engagement.take(Some(&pair)));
+    is(
+        &rt,
+        *engagement.latest(),
+        EngagementState::Engaged {
+            kind: Class::Overtaking,
+            age: 0,
+            a: pair.a,
+            b: pair.b,
+        },
+    );
+    is_true(&rt, !engagement.take(None));
+    is(&rt, *engagement.latest(), EngagementState::Apart);
+    Ok(())
+}
+
+#[test]
 fn risk_until_past_and_clear(rt: HostRuntime) -> Result<(), Fail> {
     let ahead = northward(Point {
         x: -3_000_000,

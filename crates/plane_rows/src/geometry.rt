@@ -1,8 +1,8 @@
 //! Published values of the plane and the compass.
 use crate::compared::{is, is_true};
 use fixed_geometry::{
-    Point, Reference, bearing, dot, isqrt, norm2, project, relative, swing, to_port, turn, unit,
-    velocity,
+    Point, Reference, bearing, displacement, dot, isqrt, norm2, project, relative, square, swing,
+    to_port, turn, unit, velocity, within,
 };
 use std::test::Fail;
 
@@ -93,4 +93,17 @@ fn products_of_a_right_triangle(rt: HostRuntime) {
     is(&rt, dot(east, north), 0);
     is(&rt, turn(east, north), 12);
     is(&rt, isqrt(norm2(Point { x: 3, y: 4 })), 5);
+}
+
+// From (3, -4) to (-2, 8) it is 5 to the west and 12 to the north, 13 in all.
+#[test]
+fn displacement_and_distance_of_two_points(rt: HostRuntime) {
+    let a = Point { x: 3, y: -4 };
+    let b = Point { x: -2, y: 8 };
+    is(&rt, displacement(a, b), Point { x: -5, y: 12 });
+    is(&rt, displacement(b, a), Point { x: 5, y: -12 });
+    is_true(&rt, within(a, b, 13));
+    is_true(&rt, !within(a, b, 12));
+    is(&rt, square(13), 169);
+    is(&rt, square(10_000_000_000), 100_000_000_000_000_000_000);
 }

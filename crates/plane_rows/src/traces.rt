@@ -7,7 +7,7 @@ ghost use Rattle.encounters.specs.Directions.{HasDirection, HaveDirections};
 use crate::compared::{is, is_true};
 use encounters::{Act, Detect, EngagementState, PairStep, past_clear};
 use fixed_geometry::Point;
-use meetings::{AtomRow, Follower, Pair, PairTrace, atoms_at, contact, step_between};
+use meetings::{AtomRow, Follower, Pair, PairTrace, atoms_at, contact, step_between, with_ranks};
 use motion::{Step, TickState};
 use mtl_formulas::{Atom, Atoms, Verdict};
 use sectors::{Angles, Class};
@@ -227,6 +227,32 @@ fn alterations_since_the_beginning(rt: HostRuntime) -> Result<(), Fail> {
         is(&rt, row.value(atom), Verdict::No);
     }
     is(&rt, row.value(Atom::BothPower), Verdict::Yes);
+    Ok(())
+}
+
+/// A sailing vessel and a power-driven one, which gives way to her (Rule 18 (a)), where their engagement begins.
+#[test]
+fn ranks_where_an_engagement_begins(rt: HostRuntime) -> Result<(), Fail> {
+    let begins = EngagementState::Engaged {
+        kind: Class::CrossingStands,
+        age: 0,
+        a: state(0, 0, Some(0)),
+        b: state(0, 0, Some(900)),
+    };
+    let pair = pair_step((-10, 10), (0, 0), Some(0), Some(900)).ok_or("a step")?;
+    let power = atoms_at(&DETECT, &begins, Some(&pair), &ACT, 10);
+    for (gives, stands, both_power) in [
+        (true, false, false),
+        (false, true, false),
+        (false, false, false),
+        (false, false, true),
+    ] {
+        let row = with_ranks(&power, gives, stands, both_power);
+        is(&rt, row.value(Atom::RankGives), told(gives));
+        is(&rt, row.value(Atom::RankStands), told(stands));
+        is(&rt, row.value(Atom::BothPower), told(both_power));
+        is(&rt, row.value(Atom::CrossingStands), Verdict::Yes);
+    }
     Ok(())
 }
 

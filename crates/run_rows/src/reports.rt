@@ -4,7 +4,7 @@ use crate::logs::{ABOUT_SEATTLE, HEAD_ON_AUDITED, LOG, POINT, REPORT};
 use crate::whole_run::{Devices, Edit, SOUND, edited, ended};
 use crate::worked_row::{AUDIT, NOTHING, POINTS, Row, Written, is_as_worked_out};
 use colregs_program::Status;
-use judged_lines::laws;
+use log_lines::laws;
 use scenario_rows::HEAD_ON;
 use std::test::Fail;
 

@@ -1,6 +1,6 @@
 //! A line that comes in pieces.
 use crate::compared::is_true;
-use growing_log::OpenLine;
+use log_lines::OpenLine;
 
 fn has_line(open: &OpenLine, bytes: &[u8]) -> bool {
     match open.line() {

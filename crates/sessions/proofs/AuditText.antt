@@ -3,8 +3,8 @@ use Rattle.std.proofs.Common.{ℕ, ◌≡◌, ◌++◌, false, refl, List, appen
 use Rattle.audit_rows.specs.declared.row.Row.{Row}
 use Rattle.audit_traces.specs.declared.total.Total.{Total}
 use Rattle.auditor.specs.Standing.{HaveMoreThan}
-use Rattle.judged_lines.specs.JudgedLines.{is_crowded, numbers_of}
-use Rattle.judged_lines.specs.LogLines.{lines_of}
+use Rattle.log_lines.specs.JudgedLines.{is_crowded, numbers_of}
+use Rattle.log_lines.specs.LogLines.{lines_of}
 use Rattle.scenario.specs.declared.values.Scenario.{Scenario}
 use Rattle.tracks.specs.VesselsHeld.{Sent}
 use Rattle.sessions.specs.AuditReport.{sightings_of, stretch_rows, total_rows, vessel_rows}

@@ -17,7 +17,7 @@ use Rattle.audit_report.specs.declared.report_text.ReportText.{ReportText}
 use Rattle.audit_traces.specs.AuditTracks.{AreMarksOf}
 use Rattle.audit_traces.specs.Audited.{AuditNumbers, Sighting}
 use Rattle.auditor.specs.AuditRows.{AreAuditRows, IsAuditRow}
-use Rattle.judged_lines.specs.SentLines.{sent}
+use Rattle.log_lines.specs.SentLines.{sent}
 use Rattle.rule_set.specs.NamedTrees.{NamedTree}
 use Rattle.scenario.specs.declared.values.Scenario.{Scenario}
 use Rattle.settling.specs.DecidedRows.{AreDecided}

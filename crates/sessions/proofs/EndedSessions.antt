@@ -3,16 +3,15 @@ use Rattle.std.proofs.Common.{ℕ, ◌≡◌, ◌+◌, ◌<◌, ◌^◌, List, [
 use Rattle.std.specs.Prelude.{IsSome}
 use Rattle.std.specs.Option.{option_to_list}
 use Rattle.audit_rows.specs.declared.row.Row.{Row}
-use Rattle.growing_log.specs.GrowingLog.{ended_lines, open_lines, open_part}
-use Rattle.growing_log.proofs.ForCallers.{lines_ended_or_open}
-use Rattle.judged_lines.specs.JudgedLines.{judged_lines}
-use Rattle.judged_lines.specs.LogLines.{lines_of}
-use Rattle.judged_lines.specs.Standing.{StandsFor as JudgeStandsFor}
-use Rattle.judged_lines.specs.declared.judge.Judge.{Judge}
+use Rattle.log_lines.specs.GrowingLog.{ended_lines, open_lines, open_part}
+use Rattle.log_lines.proofs.ForCallers.{lines_ended_or_open}
+use Rattle.log_lines.specs.JudgedLines.{judged_lines}
+use Rattle.log_lines.specs.LogLines.{lines_of}
+use Rattle.log_lines.specs.Standing.{StandsFor as JudgeStandsFor, LinesStandFor}
+use Rattle.log_lines.specs.declared.judge.Judge.{Judge}
 use Rattle.scenario.specs.declared.values.Scenario.{Scenario}
 use Rattle.settling.specs.declared.settled_audit.SettledAudit.{SettledAudit}
-use Rattle.streamed_lines.specs.Standing.{StandsFor as LinesStandFor}
-use Rattle.streamed_lines.specs.declared.streamed_lines.EndedLines.{EndedLines}
+use Rattle.log_lines.specs.declared.streamed.EndedLines.{EndedLines}
 use Rattle.sessions.specs.AuditReport.{stretch_rows}
 use Rattle.sessions.specs.Feeding.{UnlessMemory}
 use Rattle.sessions.specs.Modes.{needs_own}

@@ -11,16 +11,15 @@ use Rattle.outside.proofs.ForCallers.{err_cause}
 use Rattle.aivdm.proofs.Parts.{position-fails}
 use Rattle.audit_report.specs.ReportTexts.{HasText}
 use Rattle.audit_report.specs.declared.report_text.ReportText.{ReportText}
-use Rattle.growing_log.specs.GrowingLog.{ended_among, ended_lines}
-use Rattle.judged_lines.specs.JudgedLines.{is_crowded, judged_lines}
-use Rattle.judged_lines.specs.LogLines.{is_line_feed, without_carriage_return}
-use Rattle.judged_lines.specs.Standing.{StandsFor as JudgeStandsFor}
-use Rattle.judged_lines.specs.declared.judge.Judge.{Judge}
-use Rattle.judged_lines.specs.declared.judged.Judged.{Judged}
+use Rattle.log_lines.specs.GrowingLog.{ended_among, ended_lines}
+use Rattle.log_lines.specs.JudgedLines.{is_crowded, judged_lines}
+use Rattle.log_lines.specs.LogLines.{is_line_feed, without_carriage_return}
+use Rattle.log_lines.specs.Standing.{StandsFor as JudgeStandsFor, LinesStandFor, kept_of}
+use Rattle.log_lines.specs.declared.judge.Judge.{Judge}
+use Rattle.log_lines.specs.declared.judged.Judged.{Judged}
 use Rattle.scenario.specs.declared.values.Scenario.{Scenario}
-use Rattle.streamed_lines.specs.Pieces.{IsPiece}
-use Rattle.streamed_lines.specs.Standing.{StandsFor as LinesStandFor, kept_of}
-use Rattle.streamed_lines.specs.declared.streamed_lines.StreamedLines.{StreamedLines}
+use Rattle.log_lines.specs.Pieces.{IsPiece}
+use Rattle.log_lines.specs.declared.streamed.StreamedLines.{StreamedLines}
 use Rattle.command_line.specs.declared.mode.Mode.{Mode}
 use Rattle.sessions.specs.Feeding.{Refuses, TookPiece, UnlessMemory}
 use Rattle.sessions.specs.Modes.{needs_own}

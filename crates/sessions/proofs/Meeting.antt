@@ -2,8 +2,8 @@
 use Rattle.std.proofs.Common.{ℕ, ◌≡◌, inl, inr, true, false, IsTrue, List, Option, None, Some, Ok, Err, refl, sym, subst, ◌∙◌}
 use Rattle.own_ship.specs.declared.readiness.Unready.{Unready}
 use Rattle.scenario.specs.declared.values.Scenario.{Scenario}
-use Rattle.judged_lines.specs.JudgedLines.{is_crowded}
-use Rattle.judged_lines.specs.LogLines.{lines_of}
+use Rattle.log_lines.specs.JudgedLines.{is_crowded}
+use Rattle.log_lines.specs.LogLines.{lines_of}
 use Rattle.command_line.specs.declared.mode.Mode.{Mode}
 use Rattle.command_line.specs.declared.mode.Mode.TheVariants as mode
 use Rattle.sessions.specs.Endings.{Came, First, MeetsTargetLimit, HasManyTraces, HasNoManoeuvre, IsAnswerTo, Unless, unready_of}

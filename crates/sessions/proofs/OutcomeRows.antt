@@ -7,12 +7,12 @@ use Rattle.audit_report.specs.CsvRows.{row_of}
 use Rattle.audit_report.specs.ReportRows.{count_fields}
 use Rattle.audit_report.specs.ReportTexts.{HasText}
 use Rattle.audit_report.specs.declared.report_text.ReportText.{ReportText}
-use Rattle.judged_lines.specs.LineOutcomes.{all_outcomes, outcome_index}
-use Rattle.judged_lines.specs.Standing.{AreCounts}
-use Rattle.judged_lines.specs.declared.judged.Judged.{Judged}
-use Rattle.judged_lines.specs.declared.outcome.LineOutcome.{LineOutcome}
-use Rattle.judged_lines.specs.declared.outcome.LineOutcome.TheVariants as outcomes
-use Rattle.judged_lines.proofs.ForCallers.{place_within}
+use Rattle.log_lines.specs.LineOutcomes.{all_outcomes, outcome_index}
+use Rattle.log_lines.specs.Standing.{AreCounts}
+use Rattle.log_lines.specs.declared.judged.Judged.{Judged}
+use Rattle.log_lines.specs.declared.outcome.LineOutcome.{LineOutcome}
+use Rattle.log_lines.specs.declared.outcome.LineOutcome.TheVariants as outcomes
+use Rattle.log_lines.proofs.ForCallers.{place_within}
 use Rattle.sessions.specs.OutcomeRows.{count_rows}
 
 -- the rows of the counts are those of the outcomes

@@ -5,13 +5,13 @@ use Rattle.std.proofs.lemmas.List.{length-take, length-take-le, take-append-drop
 use Rattle.std.proofs.lemmas.List.Elements.{All-take}
 use Rattle.std.proofs.Math.Seq.{take-append-add}
 use Rattle.std.specs.List.{All, list_any}
-use Rattle.growing_log.specs.GrowingLog.{ended_lines}
-use Rattle.judged_lines.specs.EachLine.{each_after}
-use Rattle.judged_lines.specs.JudgedLines.{greatest_held, held_behind, is_crowded}
-use Rattle.judged_lines.specs.LogLines.{is_line_feed}
+use Rattle.log_lines.specs.GrowingLog.{ended_lines}
+use Rattle.log_lines.specs.EachLine.{each_after}
+use Rattle.log_lines.specs.JudgedLines.{greatest_held, held_behind, is_crowded}
+use Rattle.log_lines.specs.LogLines.{is_line_feed}
 use Rattle.scenario.specs.declared.values.Scenario.{Scenario}
 use Rattle.settling.specs.SettledTicks.{HaveManySettled}
-use Rattle.streamed_lines.specs.Pieces.{IsPiece}
+use Rattle.log_lines.specs.Pieces.{IsPiece}
 use Rattle.command_line.specs.declared.mode.Mode.{Mode}
 use Rattle.command_line.specs.declared.mode.Mode.TheVariants as mode
 use Rattle.own_ship.specs.declared.readiness.Unready.{Unready}

@@ -3,8 +3,8 @@ use Rattle.std.proofs.Common.{ℕ, ◌≡◌, ◌∙◌, ◌++◌, ◌<◌, ◌�
 use Rattle.std.specs.Prelude.{Option, None, Some, Result, Ok, Err, IfSome, IsSome, is_none, is_some, not}
 use Rattle.audit_report.specs.ReportTexts.{HasText}
 use Rattle.audit_report.specs.declared.report_text.ReportText.{ReportText}
-use Rattle.judged_lines.specs.JudgedLines.{is_crowded, numbers_of}
-use Rattle.judged_lines.specs.LogLines.{lines_of}
+use Rattle.log_lines.specs.JudgedLines.{is_crowded, numbers_of}
+use Rattle.log_lines.specs.LogLines.{lines_of}
 use Rattle.lattice.specs.Grids.{Grid}
 use Rattle.own_ship.specs.PlanSituations.{greatest_targets, own_readiness, situation_of, targets_near, vessels_near}
 use Rattle.own_ship.specs.Preparing.{HasManyTargets as HaveManyTargets, IsPrepared}

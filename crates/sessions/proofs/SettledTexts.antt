@@ -4,12 +4,12 @@ use Rattle.std.proofs.lemmas.Grind.{flat_map-append}
 use Rattle.audit_report.specs.CsvRows.{row_of}
 use Rattle.audit_rows.specs.declared.row.Row.{Row}
 use Rattle.auditor.specs.AuditRows.{AreAuditRows}
-use Rattle.growing_log.specs.GrowingLog.{ended_lines}
-use Rattle.judged_lines.specs.JudgedLines.{judged_line, judged_lines}
-use Rattle.judged_lines.specs.LogLines.{lines_of}
-use Rattle.judged_lines.specs.SentLines.{sent}
-use Rattle.judged_lines.specs.declared.judged.Judged.{Judged}
-use Rattle.judged_lines.proofs.ForCallers.{judged-push}
+use Rattle.log_lines.specs.GrowingLog.{ended_lines}
+use Rattle.log_lines.specs.JudgedLines.{judged_line, judged_lines}
+use Rattle.log_lines.specs.LogLines.{lines_of}
+use Rattle.log_lines.specs.SentLines.{sent}
+use Rattle.log_lines.specs.declared.judged.Judged.{Judged}
+use Rattle.log_lines.proofs.ForCallers.{judged-push}
 use Rattle.scenario.specs.declared.values.Scenario.{Scenario}
 use Rattle.settling.specs.DecidedRows.{AreDecided}
 use Rattle.settling.specs.Sightings.{audit_numbers, sighted}

@@ -5,14 +5,13 @@ use Rattle.std.proofs.lemmas.Grind.{flat_map-append}
 use Rattle.std.proofs.lemmas.List.{take_more}
 use Rattle.std.proofs.lemmas.Option.{get_or_from_slice_get, slice_get_within}
 use Rattle.std.proofs.Math.ListN.{get_or}
-use Rattle.std.specs.List.{filter}
 use Rattle.audit_report.specs.CsvRows.{row_of}
 use Rattle.ais_messages.specs.declared.message.ShipData.{ShipData}
 use Rattle.audit_report.specs.ReportRows.{total_fields, vessel_fields}
 use Rattle.audit_traces.specs.declared.total.Total.{Total}
 use Rattle.rule_set.specs.NamedTrees.{NamedTree, rule_at}
 use Rattle.tracks.specs.AcceptedReports.{JudgingNumbers}
-use Rattle.tracks.specs.VesselsHeld.{Sent, held_of, is_held, senders_of}
+use Rattle.tracks.specs.VesselsHeld.{Sent, held_of}
 use Rattle.tracks.specs.Lengths.{length_of}
 use Rattle.sessions.specs.AuditReport.{held_fields, ship_type_of, told_fields, total_rows}
 
@@ -32,20 +31,6 @@ rows_get f xs k x at =
     let is : get_or xs k x ≡ x = get_or_from_slice_get xs k x x at in
     ap (λ y. flat_map f (take k xs) ++ f y) (sym is) ∙ rows_push f xs k x within
 
--- An element that is kept passes the test.
-first_or_later : (p : ℕ → Bool) (y : ℕ) (ys : List ℕ) (x : ℕ) → ((i : ℕ) → slice_get (filter p ys) i ≡ Some x → p x ≡ true) → (k : ℕ) → p y ≡ true
-    → slice_get (y ∷ filter p ys) k ≡ Some x → p x ≡ true
-first_or_later p y ys x again zero test found = let same : y ≡ x = cc found in subst (λ (z : ℕ). p z ≡ true) same test
-first_or_later p y ys x again (suc i) test found = again i found
-
-at_kept : (p : ℕ → Bool) (xs : List ℕ) (k x : ℕ) → slice_get (filter p xs) k ≡ Some x → p x ≡ true
-at_kept p [] k x at = cc at
-at_kept p (y ∷ ys) k x at =
-    elim (p y) as (λ (b : Bool). p y ≡ b → slice_get (cond b (y ∷ filter p ys) (filter p ys)) k ≡ Some x → p x ≡ true) [
-      | true ↦ λ test found. first_or_later p y ys x (λ i here. at_kept p ys i x here) k test found
-      | false ↦ λ test found. at_kept p ys k x found
-    ] refl at
-
 -- what each of the first rules comes to, and one more
 totals_more : (rules : List NamedTree) (totals : List Total) (k : ℕ) (d : Total) → k < length rules → length totals ≡ length rules
     → total_rows (take k rules) (take k totals) ++ row_of (total_fields (rule_at rules k).name (get_or totals k d))
@@ -63,11 +48,6 @@ totals_push : (rules : List NamedTree) (totals : List Total) (k : ℕ) (d : Tota
 totals_push rules totals k d lt same =
     let next : suc k ≡ k + 1 = omega arith in
     totals_more rules totals k d lt same ∙ ap (λ (n : ℕ). total_rows (take n rules) (take n totals)) next
-
--- A vessel of the list is held.
-pub held_at : (numbers : JudgingNumbers) (messages : List Sent) (k mmsi : ℕ) → slice_get (held_of numbers messages) k ≡ Some mmsi → is_held numbers messages mmsi ≡ true
-unfolding held_of
-held_at numbers messages k mmsi at = at_kept (is_held numbers messages) (senders_of messages) k mmsi at
 
 -- the rows of the first vessels, and of one more
 pub one_vessel_on : (numbers : JudgingNumbers) (messages : List Sent) (front : List ℕ) (k mmsi : ℕ) → slice_get (held_of numbers messages) k ≡ Some mmsi

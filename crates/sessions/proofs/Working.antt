@@ -5,12 +5,12 @@ use Rattle.audit_report.specs.CsvRows.{row_of}
 use Rattle.audit_report.specs.ReportTexts.{HasText}
 use Rattle.audit_report.specs.declared.report_text.ReportText.{ReportText}
 use Rattle.audit_rows.specs.declared.row.Row.{Row}
-use Rattle.growing_log.specs.GrowingLog.{ended_lines}
-use Rattle.judged_lines.specs.JudgedLines.{judged_lines}
-use Rattle.judged_lines.specs.Standing.{StandsFor as JudgeStandsFor}
-use Rattle.judged_lines.specs.declared.judge.Judge.{Judge}
-use Rattle.judged_lines.specs.declared.judged.Judged.{Judged}
-use Rattle.judged_lines.proofs.ForCallers.{nothing_judged}
+use Rattle.log_lines.specs.GrowingLog.{ended_lines}
+use Rattle.log_lines.specs.JudgedLines.{judged_lines}
+use Rattle.log_lines.specs.Standing.{StandsFor as JudgeStandsFor}
+use Rattle.log_lines.specs.declared.judge.Judge.{Judge}
+use Rattle.log_lines.specs.declared.judged.Judged.{Judged}
+use Rattle.log_lines.proofs.ForCallers.{nothing_judged}
 use Rattle.scenario.specs.declared.values.Scenario.{Scenario}
 use Rattle.settling.specs.DecidedRows.{AreDecided}
 use Rattle.settling.specs.Standing.{StandsFor as AuditStandsFor}

@@ -10,9 +10,9 @@ use Rattle.audit_traces.specs.Audited.{Sighting}
 use Rattle.audit_traces.specs.declared.total.Total.{Total}
 use Rattle.auditor.specs.AuditRows.{AreAuditRows}
 use Rattle.auditor.specs.AuditTotals.{AreTotals}
-use Rattle.judged_lines.specs.JudgedLines.{judged_lines, numbers_of}
-use Rattle.judged_lines.specs.LogLines.{lines_of}
-use Rattle.judged_lines.specs.SentLines.{sent}
+use Rattle.log_lines.specs.JudgedLines.{judged_lines, numbers_of}
+use Rattle.log_lines.specs.LogLines.{lines_of}
+use Rattle.log_lines.specs.SentLines.{sent}
 use Rattle.rule_set.specs.NamedTrees.{NamedTree, rule_at}
 use Rattle.scenario.specs.declared.values.Scenario.{Scenario}
 use Rattle.settling.specs.Sightings.{audit_numbers, sighted}

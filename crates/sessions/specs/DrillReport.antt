@@ -4,8 +4,8 @@ use Rattle.audit_rows.specs.declared.row.Row.{Row}
 use Rattle.audit_traces.specs.declared.total.Total.{Total}
 use Rattle.auditor.specs.AuditRows.{AreAuditRows}
 use Rattle.auditor.specs.AuditTotals.{AreTotals}
-use Rattle.judged_lines.specs.JudgedLines.{judged_lines}
-use Rattle.judged_lines.specs.LogLines.{lines_of}
+use Rattle.log_lines.specs.JudgedLines.{judged_lines}
+use Rattle.log_lines.specs.LogLines.{lines_of}
 use Rattle.scenario.specs.declared.values.Scenario.{Scenario}
 use Rattle.sessions.specs.AuditReport.{sightings_of, total_rows}
 use Rattle.sessions.specs.OutcomeRows.{count_rows}

@@ -2,9 +2,9 @@
 use Rattle.std.specs.Prelude.{ℕ, flat_map, List}
 use Rattle.audit_report.specs.CsvRows.{row_of}
 use Rattle.audit_report.specs.ReportRows.{count_fields}
-use Rattle.judged_lines.specs.JudgedLines.{count_of}
-use Rattle.judged_lines.specs.LineOutcomes.{all_outcomes}
-use Rattle.judged_lines.specs.declared.judged.Judged.{Judged}
+use Rattle.log_lines.specs.JudgedLines.{count_of}
+use Rattle.log_lines.specs.LineOutcomes.{all_outcomes}
+use Rattle.log_lines.specs.declared.judged.Judged.{Judged}
 
 abbrev pub count_rows : List Judged → List ℕ
 count_rows lines = flat_map (λ outcome. row_of (count_fields outcome (count_of outcome lines))) all_outcomes

@@ -4,9 +4,9 @@ use Rattle.std.specs.Prelude.{ℕ, ◌≡◌, ◌+◌, ◌*◌, nat_lt, flat_map
 use Rattle.std.specs.List.{range_with_len}
 use Rattle.audit_report.specs.CsvRows.{row_of}
 use Rattle.audit_report.specs.ReportRows.{Fields, no_plan_fields, plan_fields}
-use Rattle.judged_lines.specs.JudgedLines.{judged_lines, numbers_of}
-use Rattle.judged_lines.specs.LogLines.{lines_of}
-use Rattle.judged_lines.specs.SentLines.{sent}
+use Rattle.log_lines.specs.JudgedLines.{judged_lines, numbers_of}
+use Rattle.log_lines.specs.LogLines.{lines_of}
+use Rattle.log_lines.specs.SentLines.{sent}
 use Rattle.lattice.specs.Grids.{Grid, choices_of, plans_of, positions_of}
 use Rattle.lattice.specs.OwnMotion.{ordered_course, ordered_speed}
 use Rattle.lattice.specs.PlanNumbers.{number_of}

@@ -2,10 +2,10 @@
 use Rattle.std.specs.Prelude.{ℕ, flat_map, List, [], ◌++◌}
 use Rattle.audit_report.specs.CsvRows.{row_of}
 use Rattle.audit_report.specs.ReportRows.{Fields, point_fields}
-use Rattle.judged_lines.specs.JudgedLines.{judged_lines}
-use Rattle.judged_lines.specs.LogLines.{lines_of}
-use Rattle.judged_lines.specs.declared.judged.Judged.{Judged}
-use Rattle.judged_lines.specs.declared.judged.Judged.TheVariants as judged
+use Rattle.log_lines.specs.JudgedLines.{judged_lines}
+use Rattle.log_lines.specs.LogLines.{lines_of}
+use Rattle.log_lines.specs.declared.judged.Judged.{Judged}
+use Rattle.log_lines.specs.declared.judged.Judged.TheVariants as judged
 use Rattle.tracks.specs.declared.accepted.Accepted.{Accepted}
 use Rattle.scenario.specs.declared.values.Scenario.{Scenario}
 use Rattle.sessions.specs.OutcomeRows.{count_rows}

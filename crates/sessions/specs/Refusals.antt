@@ -1,7 +1,7 @@
 -- The refusals that are met in a log before its end, each at its place.
 use Rattle.std.specs.Prelude.{ℕ, ◌≡◌, ◌<◌, ◌≤◌, ◌-◌, ◌⊎◌, IsTrue, false, List, length, take, Err}
-use Rattle.growing_log.specs.GrowingLog.{ended_lines}
-use Rattle.judged_lines.specs.JudgedLines.{is_crowded}
+use Rattle.log_lines.specs.GrowingLog.{ended_lines}
+use Rattle.log_lines.specs.JudgedLines.{is_crowded}
 use Rattle.scenario.specs.declared.values.Scenario.{Scenario}
 use Rattle.settling.specs.SettledTicks.{HaveManySettled}
 use Rattle.command_line.specs.declared.mode.Mode.{Mode}

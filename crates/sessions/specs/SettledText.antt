@@ -1,8 +1,8 @@
 -- What a front of a log already decides of the report.
 use Rattle.std.specs.Prelude.{ℕ, ◌≡◌, List, []}
 use Rattle.audit_rows.specs.declared.row.Row.{Row}
-use Rattle.growing_log.specs.GrowingLog.{ended_lines}
-use Rattle.judged_lines.specs.JudgedLines.{judged_lines}
+use Rattle.log_lines.specs.GrowingLog.{ended_lines}
+use Rattle.log_lines.specs.JudgedLines.{judged_lines}
 use Rattle.scenario.specs.declared.values.Scenario.{Scenario}
 use Rattle.settling.specs.DecidedRows.{AreDecided}
 use Rattle.command_line.specs.declared.mode.Mode.{Mode}

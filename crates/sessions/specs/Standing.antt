@@ -1,13 +1,13 @@
 -- What a session stands for.
 use Rattle.std.specs.Prelude.{ℕ, ◌≡◌, length, List, [], IsSome, IsTrue}
 use Rattle.audit_rows.specs.declared.row.Row.{Row}
-use Rattle.growing_log.specs.GrowingLog.{ended_lines}
-use Rattle.judged_lines.specs.JudgedLines.{judged_lines}
+use Rattle.log_lines.specs.GrowingLog.{ended_lines}
+use Rattle.log_lines.specs.JudgedLines.{judged_lines}
 use Rattle.scenario.specs.ScenarioValues.{IsInRange}
 use Rattle.scenario.specs.declared.values.Scenario.{Scenario}
 use Rattle.settling.specs.DecidedRows.{AreDecided}
 use Rattle.settling.specs.Standing.{StandsFor as AuditStandsFor}
-use Rattle.streamed_lines.specs.Standing.{StandsFor as LinesStandFor, kept_of}
+use Rattle.log_lines.specs.Standing.{LinesStandFor, kept_of}
 use Rattle.tracks.specs.declared.keeping.Keeping.{Keeping}
 use Rattle.tracks.specs.declared.keeping.Keeping.TheVariants.{Latest, Tracks}
 use Rattle.command_line.specs.declared.mode.Mode.{Mode}

@@ -1,7 +1,7 @@
 //! The end of the report of `audit`.
 ghost use Rattle.std.specs.Prelude.{◌≡◌, ◌++◌, ℕ, List, IfErr, IfOk, OnOk, Ok, false};
 ghost use Rattle.audit_rows.specs.declared.row.Row.{Row};
-ghost use Rattle.judged_lines.specs.Standing.{keeping_of};
+ghost use Rattle.log_lines.specs.Standing.{keeping_of};
 ghost use Rattle.scenario.specs.ScenarioValues.{IsInRange};
 ghost use Rattle.sessions.specs.AuditReport.{IsAuditReport, stretch_rows};
 ghost use Rattle.sessions.specs.Endings.{IsAnswerTo};
@@ -16,7 +16,7 @@ use crate::stretches::write_stretches;
 use crate::totals::write_totals;
 use crate::vessels::write_vessels;
 use audit_report::ReportText;
-use judged_lines::Judge;
+use log_lines::Judge;
 use scenario::Scenario;
 use settling::SettledAudit;
 use std::alloc::Global;

@@ -1,6 +1,6 @@
 //! The end of the report of `drill`.
 ghost use Rattle.std.specs.Prelude.{◌≡◌, [], ℕ, List, IfErr, IfOk, OnOk, Ok, false};
-ghost use Rattle.judged_lines.specs.Standing.{keeping_of};
+ghost use Rattle.log_lines.specs.Standing.{keeping_of};
 ghost use Rattle.scenario.specs.ScenarioValues.{IsInRange};
 ghost use Rattle.sessions.specs.DrillReport.{IsDrillReport};
 ghost use Rattle.sessions.specs.Endings.{IsAnswerTo};
@@ -13,7 +13,7 @@ use crate::outcome_rows::{all_outcomes, write_counts};
 use crate::session_fault::SessionFault;
 use crate::totals::write_totals;
 use audit_report::ReportText;
-use judged_lines::Judge;
+use log_lines::Judge;
 use scenario::Scenario;
 use settling::SettledAudit;
 use std::alloc::Global;

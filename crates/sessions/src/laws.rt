@@ -6,7 +6,7 @@ ghost use Rattle.sessions.specs.Refusals.{IsMet};
 ghost use Rattle.sessions.specs.SettledText.{IsSettledText};
 ghost use Rattle.command_line.specs.declared.mode.Mode.{Mode};
 
-use growing_log::laws::ended_lines_stay;
+use log_lines::laws::ended_lines_stay;
 use settling::laws::{
     decided_rows_are_a_front, decided_rows_begin_the_report, many_settled_stay,
     one_list_of_decided_rows,

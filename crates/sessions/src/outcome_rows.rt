@@ -3,14 +3,14 @@ ghost use Rattle.std.specs.Prelude.{◌≡◌, ◌++◌, List, ℕ, OnOk, flat_m
 ghost use Rattle.audit_report.specs.CsvRows.{row_of};
 ghost use Rattle.audit_report.specs.ReportRows.{count_fields};
 ghost use Rattle.audit_report.specs.ReportTexts.{HasText};
-ghost use Rattle.judged_lines.specs.LineOutcomes.{all_outcomes, outcome_index};
+ghost use Rattle.log_lines.specs.LineOutcomes.{all_outcomes, outcome_index};
 
 use audit_report::{ReportRow, ReportText};
-use judged_lines::LineOutcome;
+use log_lines::LineOutcome;
 use outside::Memory;
 
 /// All outcomes, in the order of the report.
-#[tactic(auto, unfolding(judged_lines::specs::LineOutcomes::all_outcomes))]
+#[tactic(auto, unfolding(log_lines::specs::LineOutcomes::all_outcomes))]
 pub(crate) fn all_outcomes() -> &'static [LineOutcome]
     ensures { result.now ≡ all_outcomes }
 {

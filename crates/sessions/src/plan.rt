@@ -2,9 +2,9 @@
 ghost use Rattle.std.specs.Prelude.{◌≡◌, ◌++◌, ◌<◌, ◌≤◌, ℕ, List, All, IfErr, IfOk, IfSome, IsSome, OnOk, Ok, true};
 ghost use Rattle.std.specs.Option.{option_copied};
 ghost use Rattle.audit_report.specs.ReportTexts.{HasText};
-ghost use Rattle.judged_lines.specs.JudgedLines.{numbers_of};
-ghost use Rattle.judged_lines.specs.LogLines.{lines_of};
-ghost use Rattle.judged_lines.specs.Standing.{StandsFor as JudgeStandsFor, keeping_of};
+ghost use Rattle.log_lines.specs.JudgedLines.{numbers_of};
+ghost use Rattle.log_lines.specs.LogLines.{lines_of};
+ghost use Rattle.log_lines.specs.Standing.{StandsFor as JudgeStandsFor, keeping_of};
 ghost use Rattle.lattice.specs.Grids.{choices_of};
 ghost use Rattle.lattice.specs.PlanNumbers.{IsPlan};
 ghost use Rattle.scenario.specs.ScenarioValues.{IsInRange};
@@ -22,10 +22,10 @@ ghost use Rattle.command_line.specs.declared.mode.Mode.TheVariants as mode;
 use crate::ending::Ending;
 use crate::outcome_rows::{all_outcomes, write_counts};
 use crate::session_fault::SessionFault;
-use crate::vessels::write_vessel;
+use crate::vessels::write_vessel_of;
 use audit_report::{ReportRow, ReportText};
-use judged_lines::Judge;
 use lattice::{Lattice, Plan};
+use log_lines::Judge;
 use outside::Memory;
 use own_ship::{Near, PrepareFault, Ready, prepare};
 use planner::Search;
@@ -41,7 +41,7 @@ fn write_near(text: &mut ReportText, book: &Book, near: &[Near]) -> Result<(), M
         → HasText text.new (front ++ near_rows numbers messages near.now)) }
 {
     for vessel in near {
-        write_vessel(text, book, vessel.mmsi)?;
+        write_vessel_of(text, book, vessel.mmsi)?;
     }
     Ok(())
 }

@@ -2,18 +2,17 @@
 ghost use Rattle.std.specs.Prelude.{◌≡◌, ◌++◌, ℕ, List, IfOk, OnOk};
 ghost use Rattle.std.specs.Option.{option_copied, option_to_list};
 ghost use Rattle.audit_report.specs.ReportTexts.{HasText};
-ghost use Rattle.growing_log.specs.GrowingLog.{ended_lines};
-ghost use Rattle.judged_lines.specs.JudgedLines.{judged_lines};
+ghost use Rattle.log_lines.specs.GrowingLog.{ended_lines};
+ghost use Rattle.log_lines.specs.JudgedLines.{judged_lines};
 ghost use Rattle.scenario.specs.declared.values.Scenario.{Scenario};
 ghost use Rattle.sessions.specs.Inner.AtEnd.{AreOfLog};
 ghost use Rattle.sessions.specs.PointsReport.{point_rows, points_report, rows_of_line};
 
 use crate::outcome_rows::{all_outcomes, write_counts};
 use audit_report::{ReportRow, ReportText};
-use judged_lines::Judged;
+use log_lines::{EndedLines, Judged};
 use outside::Memory;
 use std::alloc::Global;
-use streamed_lines::EndedLines;
 
 /// Writes the rows of a line: that of its accepted report, if it has one.
 #[inline(always)]

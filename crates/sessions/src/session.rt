@@ -7,7 +7,7 @@ ghost use Rattle.sessions.specs.Feeding.{Refuses, TookPiece, UnlessMemory};
 ghost use Rattle.sessions.specs.Modes.{needs_own, reports};
 ghost use Rattle.sessions.specs.Refusals.{IsStopped};
 ghost use Rattle.sessions.specs.Standing.{IsInUse, StandsFor, mode_of, session_scenario, taken_of};
-ghost use Rattle.streamed_lines.specs.Pieces.{IsPiece};
+ghost use Rattle.log_lines.specs.Pieces.{IsPiece};
 
 use crate::audit::end_audit;
 use crate::drill::end_drill;
@@ -18,13 +18,12 @@ use crate::session_fault::SessionFault;
 use crate::work::Work;
 use audit_report::ReportText;
 use command_line::Mode;
-use growing_log::laws::{a_part_goes_on, ended_lines_stay};
-use judged_lines::first_line_feed;
+use log_lines::laws::{a_part_goes_on, ended_lines_stay};
+use log_lines::{StreamedLines, first_line_feed};
 use outside::Memory;
 use scenario::Scenario;
 use settling::laws::many_settled_stay;
 use std::alloc::Global;
-use streamed_lines::StreamedLines;
 
 /// How many bytes stand up to the first line feed, with it, or in all where there is none.
 fn piece_length(bytes: &[u8]) -> usize

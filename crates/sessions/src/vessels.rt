@@ -1,18 +1,18 @@
 //! The rows of the vessels that are held.
-ghost use Rattle.std.specs.Prelude.{◌≡◌, ◌<◌, ◌++◌, ℕ, List, OnOk, length, true};
+ghost use Rattle.std.specs.Prelude.{◌≡◌, ◌++◌, ℕ, List, OnOk, true};
 ghost use Rattle.std.specs.Option.{option_copied};
 ghost use Rattle.audit_report.specs.CsvRows.{row_of};
 ghost use Rattle.audit_report.specs.ReportTexts.{HasText};
 ghost use Rattle.tracks.specs.AcceptedReports.{JudgingNumbers};
-ghost use Rattle.tracks.specs.Standing.{StandsFor as BookStandsFor};
-ghost use Rattle.tracks.specs.VesselsHeld.{Sent, is_held, legs_of, statics_of};
+ghost use Rattle.tracks.specs.Standing.{IsHeldVessel, StandsFor as BookStandsFor};
+ghost use Rattle.tracks.specs.VesselsHeld.{Sent, is_held};
 ghost use Rattle.tracks.specs.declared.keeping.Keeping.TheVariants.{Tracks};
 ghost use Rattle.sessions.specs.AuditReport.{held_fields, ship_type_of, vessel_rows};
 
 use ais_messages::{ShipData, Text20};
 use audit_report::{ReportRow, ReportText};
 use outside::Memory;
-use tracks::Book;
+use tracks::{Book, HeldVessel, Statics};
 
 /// A vessel's type, 0 where she told none.
 fn kind_of(ship: Option<ShipData>) -> u8
@@ -24,50 +24,40 @@ fn kind_of(ship: Option<ShipData>) -> u8
     }
 }
 
-/// How many legs join the reports of a vessel.
-fn count_legs(book: &Book, mmsi: u32) -> u64
-    requires { book.now.keeping ≡ Tracks }
-    ensures { (numbers : JudgingNumbers) (messages : List Sent) → BookStandsFor book.now numbers messages → is_held numbers messages mmsi ≡ true
-        → result ≡ length (legs_of numbers messages mmsi) }
-{
-    match book.legs(mmsi) {
-        Some(legs) => legs.len() as u64,
-        None => 0,
-    }
-}
-
 /// The name that a vessel told.
-fn name_told(book: &Book, mmsi: u32) -> Option<&Text20>
-    ensures { (numbers : JudgingNumbers) (messages : List Sent) → BookStandsFor book.now numbers messages → is_held numbers messages mmsi ≡ true
-        → option_copied result ≡ (statics_of messages mmsi).name }
+fn name_told(statics: &Statics) -> Option<&Text20>
+    ensures { option_copied result ≡ statics.now.name }
 {
-    book.statics(mmsi)?.name.as_ref()
+    statics.name.as_ref()
 }
 
-/// The type and size that a vessel told.
-fn ship_told(book: &Book, mmsi: u32) -> Option<ShipData>
-    ensures { (numbers : JudgingNumbers) (messages : List Sent) → BookStandsFor book.now numbers messages → is_held numbers messages mmsi ≡ true
-        → result ≡ (statics_of messages mmsi).ship }
+/// Writes the row of a vessel that is held, of whom all accepted reports are kept.
+fn write_vessel(text: &mut ReportText, vessel: &HeldVessel<'_>) -> Result<(), Memory>
+    ensures { OnOk result ((numbers : JudgingNumbers) (messages : List Sent) (front : List ℕ) → IsHeldVessel Tracks numbers messages vessel.now
+        → HasText text.old front → HasText text.new (front ++ row_of (held_fields numbers messages vessel.now.mmsi))) }
 {
-    book.statics(mmsi)?.ship
+    let statics = vessel.statics;
+    text.write(&ReportRow::Vessel {
+        mmsi: vessel.mmsi,
+        name: name_told(statics),
+        kind: kind_of(statics.ship),
+        length: statics.length(),
+        reports: vessel.points.len() as u64,
+        legs: vessel.legs.len() as u64,
+    })
 }
 
-/// Writes the row of a vessel that is held.
-pub(crate) fn write_vessel(text: &mut ReportText, book: &Book, mmsi: u32) -> Result<(), Memory>
+/// Writes the row of the vessel of this identity, who is held.
+pub(crate) fn write_vessel_of(text: &mut ReportText, book: &Book, mmsi: u32) -> Result<(), Memory>
     requires { book.now.keeping ≡ Tracks }
     ensures { OnOk result ((numbers : JudgingNumbers) (messages : List Sent) (front : List ℕ) → BookStandsFor book.now numbers messages
         → is_held numbers messages mmsi ≡ true → HasText text.old front
         → HasText text.new (front ++ row_of (held_fields numbers messages mmsi))) }
 {
-    let ship = ship_told(book, mmsi);
-    text.write(&ReportRow::Vessel {
-        mmsi,
-        name: name_told(book, mmsi),
-        kind: kind_of(ship),
-        length: book.length(mmsi),
-        reports: book.points(mmsi).len() as u64,
-        legs: count_legs(book, mmsi),
-    })
+    match book.find(mmsi) {
+        Some(vessel) => write_vessel(text, &vessel),
+        None => Ok(()),
+    }
 }
 
 /// Writes the rows of all vessels that are held, in the order of their MMSIs.
@@ -77,7 +67,7 @@ pub(crate) fn write_vessels(text: &mut ReportText, book: &Book) -> Result<(), Me
         → HasText text.old front → HasText text.new (front ++ vessel_rows numbers messages)) }
 {
     for k in 0..book.vessels() {
-        write_vessel(text, book, book.vessel(k))?;
+        write_vessel(text, &book.held(k))?;
     }
     Ok(())
 }

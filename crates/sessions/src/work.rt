@@ -1,7 +1,7 @@
 //! What a session does on each line that is judged.
 ghost use Rattle.std.specs.Prelude.{◌≡◌, ◌≢◌, ◌++◌, ◌∷◌, [], ℕ, List, IfErr, IfOk, IsTrue, OnOk, Err};
 ghost use Rattle.audit_report.specs.ReportTexts.{HasText};
-ghost use Rattle.judged_lines.specs.Standing.{StandsFor as JudgeStandsFor, keeping_of};
+ghost use Rattle.log_lines.specs.Standing.{StandsFor as JudgeStandsFor, keeping_of};
 ghost use Rattle.scenario.specs.ScenarioValues.{IsInRange};
 ghost use Rattle.sessions.specs.Inner.Working.{GoesOn, IsReadyFor, Works};
 ghost use Rattle.sessions.specs.Modes.{reports};
@@ -14,7 +14,7 @@ use crate::session_fault::SessionFault;
 use crate::stretches::write_stretches;
 use audit_report::ReportText;
 use command_line::Mode;
-use judged_lines::{Judge, Judged};
+use log_lines::{Judge, Judged};
 use outside::Memory;
 use scenario::Scenario;
 use settling::SettledAudit;

@@ -10,9 +10,9 @@ use Rattle.audit_traces.specs.Audited.{Begins, AuditNumbers, Sighting}
 use Rattle.auditor.specs.AuditRows.{AreAuditRowsBelow}
 use Rattle.auditor.specs.Standing.{HaveMoreThan, IsSound, StandsFor as AuditStandsFor, given_of, last_tick_of, settled_by}
 use Rattle.auditor.proofs.ForCallers.{more_stay}
-use Rattle.judged_lines.specs.JudgedLines.{numbers_of}
-use Rattle.judged_lines.specs.LineTimes.{clock_of, greatest}
-use Rattle.judged_lines.specs.SentLines.{sent}
+use Rattle.log_lines.specs.JudgedLines.{numbers_of}
+use Rattle.log_lines.specs.LineTimes.{clock_of, greatest}
+use Rattle.log_lines.specs.SentLines.{sent}
 use Rattle.meetings.specs.declared.pair.Pair.{Pair}
 use Rattle.scenario.specs.Ticks.{time_of_tick}
 use Rattle.scenario.specs.declared.values.Scenario.{Scenario}

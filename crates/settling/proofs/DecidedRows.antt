@@ -8,8 +8,8 @@ use Rattle.audit_rows.specs.declared.row.Row.{Row}
 use Rattle.audit_traces.specs.Audited.{Sighting}
 use Rattle.auditor.specs.AuditRows.{AreAuditRows, AreAuditRowsBelow, IsAuditRow}
 use Rattle.auditor.specs.Standing.{audit_reach, settled_by}
-use Rattle.judged_lines.specs.JudgedLines.{numbers_of}
-use Rattle.judged_lines.specs.SentLines.{sent}
+use Rattle.log_lines.specs.JudgedLines.{numbers_of}
+use Rattle.log_lines.specs.SentLines.{sent}
 use Rattle.scenario.specs.declared.values.Scenario.{Scenario}
 use Rattle.scenario.specs.Ticks.{time_of_tick}
 use Rattle.tracks.specs.SeenVessels.{seen_of}

@@ -26,12 +26,12 @@ use Rattle.tracks.specs.declared.accepted.Accepted.{Accepted}
 use Rattle.tracks.proofs.Ascending.{with_number-among}
 use Rattle.tracks.proofs.Holding.{held_among, held_of-ascends, held_of-more, held_of-same, is_held-stays, no_points}
 use Rattle.tracks.proofs.Settled.{past_stays}
-use Rattle.judged_lines.specs.EachLine.{each_after, each_line, ok_value}
-use Rattle.judged_lines.specs.JudgedLines.{numbers_of}
-use Rattle.judged_lines.specs.LineTimes.{clock_of, is_in_window, is_late, time_of}
-use Rattle.judged_lines.specs.SentLines.{heard, heard_in, heard_of, heard_unless, sent, sent_decoded, sent_heard, sent_joined, sent_of, untimely}
-use Rattle.judged_lines.specs.declared.outcome.LineOutcome.{LineOutcome}
-use Rattle.judged_lines.specs.declared.outcome.LineOutcome.TheVariants as outcome
+use Rattle.log_lines.specs.EachLine.{each_after, each_line, ok_value}
+use Rattle.log_lines.specs.JudgedLines.{numbers_of}
+use Rattle.log_lines.specs.LineTimes.{clock_of, is_in_window, is_late, time_of}
+use Rattle.log_lines.specs.SentLines.{heard, heard_in, heard_of, heard_unless, sent, sent_decoded, sent_heard, sent_joined, sent_of, untimely}
+use Rattle.log_lines.specs.declared.outcome.LineOutcome.{LineOutcome}
+use Rattle.log_lines.specs.declared.outcome.LineOutcome.TheVariants as outcome
 use Rattle.settling.specs.SettledTicks.{IsSettled}
 use Rattle.settling.proofs.SettledTicks.{settled_ticks_stay}
 

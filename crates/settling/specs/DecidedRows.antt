@@ -5,7 +5,7 @@ use Rattle.audit_rows.specs.Order.{InOrder, last_step_of}
 use Rattle.audit_rows.specs.declared.row.Row.{Row}
 use Rattle.auditor.specs.AuditRows.{IsAuditRow}
 use Rattle.auditor.specs.Standing.{audit_reach}
-use Rattle.judged_lines.specs.SentLines.{sent}
+use Rattle.log_lines.specs.SentLines.{sent}
 use Rattle.scenario.specs.declared.values.Scenario.{Scenario}
 use Rattle.settling.specs.SettledTicks.{IsSettled}
 use Rattle.settling.specs.Sightings.{audit_numbers, sighted}

@@ -1,6 +1,6 @@
 pub use Rattle.auditor.specs.AuditRows
-pub use Rattle.judged_lines.specs.LineTimes
-pub use Rattle.judged_lines.specs.SentLines
+pub use Rattle.log_lines.specs.LineTimes
+pub use Rattle.log_lines.specs.SentLines
 pub mod Sightings
 pub mod SettledTicks
 pub mod DecidedRows

@@ -2,8 +2,8 @@
 use Rattle.std.specs.Prelude.{ℕ, ◌+◌, ◌<◌, ◌≤◌, List, IsSomeAnd}
 use Rattle.auditor.specs.Standing.{HaveMoreThan}
 use Rattle.auditor.specs.declared.all_traces.TheConstants.{MOST_TRACES}
-use Rattle.judged_lines.specs.LineTimes.{clock_of}
-use Rattle.judged_lines.specs.SentLines.{sent}
+use Rattle.log_lines.specs.LineTimes.{clock_of}
+use Rattle.log_lines.specs.SentLines.{sent}
 use Rattle.scenario.specs.declared.values.Scenario.{Scenario}
 use Rattle.scenario.specs.Ticks.{time_of_tick}
 use Rattle.settling.specs.Sightings.{audit_numbers, seen_first}

@@ -2,7 +2,7 @@
 use Rattle.std.specs.Prelude.{ℕ, ◌+◌, map, List}
 use Rattle.std.specs.List.{range_with_len}
 use Rattle.audit_traces.specs.Audited.{AuditNumbers, Sighting}
-use Rattle.judged_lines.specs.JudgedLines.{numbers_of}
+use Rattle.log_lines.specs.JudgedLines.{numbers_of}
 use Rattle.scenario.specs.declared.values.Scenario.{Scenario}
 use Rattle.scenario.specs.Ticks.{time_of_tick}
 use Rattle.tracks.specs.SeenVessels.{seen_of}

@@ -1,8 +1,8 @@
 -- What an audit of settled ticks stands for: the lines of a log, and the rows that it has given.
 use Rattle.std.specs.Prelude.{ℕ, ◌<◌, ◌↔◌, ◌++◌, List}
 use Rattle.audit_rows.specs.declared.row.Row.{Row}
-use Rattle.judged_lines.specs.Standing.{StandsFor as JudgeStandsFor}
-use Rattle.judged_lines.specs.declared.judge.Judge.{Judge}
+use Rattle.log_lines.specs.Standing.{StandsFor as JudgeStandsFor}
+use Rattle.log_lines.specs.declared.judge.Judge.{Judge}
 use Rattle.scenario.specs.declared.values.Scenario.{Scenario}
 use Rattle.settling.specs.SettledTicks.{IsSettled}
 use Rattle.settling.specs.Inner.AuditedTicks.{IsAudited}

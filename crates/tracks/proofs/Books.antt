@@ -7,13 +7,14 @@ use Rattle.std.proofs.lemmas.List.Edits.{length-insert}
 use Rattle.std.proofs.lemmas.List.Elements.{All-append, All-cons, All-drop, All-set, All-take}
 use Rattle.tracks.specs.Standing.{BookValue, VesselValue}
 use Rattle.tracks.specs.VesselsHeld.{with_number}
+use Rattle.tracks.specs.declared.book.TheConstants.{MOST_VESSELS}
 use Rattle.tracks.specs.Inner.Keeping.{IsBook, IsKept}
 use Rattle.tracks.proofs.Ascending.{with_number-ascends}
 
 All-insert : {A : Type 0} (P : A → Type 0) (xs : List A) (at : ℕ) (x : A) → P x → All P xs → All P (insert xs at x)
 All-insert P xs at x one all = All-append P (take at xs) (x ∷ drop at xs) (All-take P at xs all) (All-cons P x (drop at xs) one (All-drop P at xs all))
 
-is_book_with : (old new : BookValue) (at m : ℕ) (vessel : VesselValue) → IsBook old → at ≤ length old.held → length old.held < 4096
+is_book_with : (old new : BookValue) (at m : ℕ) (vessel : VesselValue) → IsBook old → at ≤ length old.held → length old.held < MOST_VESSELS
     → with_number m old.held ≡ insert old.held at m → IsKept old.keeping old.numbers.gap vessel → new.keeping ≡ old.keeping → new.numbers ≡ old.numbers → new.held ≡ insert old.held at m
     → new.vessels ≡ insert old.vessels at vessel → IsBook new
 is_book_with old new at m vessel h within room more kept keeping numbers held vessels =
@@ -32,7 +33,7 @@ is_book_same old new h keeping numbers held vessels =
     let same : old ≡ new = λ i. record { keeping = sym keeping i; numbers = sym numbers i; held = sym held i; vessels = sym vessels i } in
     subst IsBook same h
 
-pub is_book_after : {T E : Type 0} (r : Result T E) (old new : BookValue) (at m : ℕ) (vessel : VesselValue) → IsBook old → at ≤ length old.held → length old.held < 4096
+pub is_book_after : {T E : Type 0} (r : Result T E) (old new : BookValue) (at m : ℕ) (vessel : VesselValue) → IsBook old → at ≤ length old.held → length old.held < MOST_VESSELS
     → with_number m old.held ≡ insert old.held at m → IsKept old.keeping old.numbers.gap vessel → new.keeping ≡ old.keeping → new.numbers ≡ old.numbers
     → OnOk r (new.held ≡ insert old.held at m) → OnOk r (new.vessels ≡ insert old.vessels at vessel)
     → OnErr r (new.held ≡ old.held) → OnErr r (new.vessels ≡ old.vessels) → IsBook new

@@ -75,7 +75,7 @@ entry_after keeping numbers sent one points same =
     ap (λ (latest : Option Accepted). entry_at numbers latest (reported_in one))
     (ap (last_or None) same ∙ kept_points-last keeping (accepted_of numbers sent (sender_of one.message)))
 
-held_at : (book : BookValue) (numbers : JudgingNumbers) (sent : List Sent) (at m : ℕ) → StandsFor book numbers sent → slice_get book.held at ≡ Some m → is_held numbers sent m ≡ true
+pub held_at : (book : BookValue) (numbers : JudgingNumbers) (sent : List Sent) (at m : ℕ) → StandsFor book numbers sent → slice_get book.held at ≡ Some m → is_held numbers sent m ≡ true
 unfolding held_of
 held_at book numbers sent at m h e = among_passes (is_held numbers sent) m _ (among_at _ at m (ap (λ (ms : List ℕ). slice_get ms at) (sym h.holds) ∙ e))
 
@@ -243,9 +243,14 @@ pub found_vessel : (book : BookValue) (numbers : JudgingNumbers) (sent : List Se
 found_vessel book numbers sent at m vessel h e is =
     rw (held_at book numbers sent at m h e) (ap (λ (v : VesselValue). Some v) (vessel_at book numbers sent at m vessel h e is))
 
+-- a vessel that is not in the book
+pub is_unheld : (book : BookValue) (numbers : JudgingNumbers) (sent : List Sent) (m : ℕ) → StandsFor book numbers sent → ¬ Contains book.held m
+    → is_held numbers sent m ≡ false
+is_unheld book numbers sent m h not = not_held book numbers sent m h (λ among. not (Contains_from_among m book.held among))
+
 pub no_vessel : (book : BookValue) (numbers : JudgingNumbers) (sent : List Sent) (m : ℕ) → StandsFor book numbers sent → ¬ Contains book.held m
     → None ≡ vessel_held book.keeping numbers sent m
-no_vessel book numbers sent m h not = rw (not_held book numbers sent m h (λ among. not (Contains_from_among m book.held among))) refl
+no_vessel book numbers sent m h not = rw (is_unheld book numbers sent m h not) refl
 
 pub no_points_held : (keeping : Keeping) (numbers : JudgingNumbers) (sent : List Sent) (m : ℕ) → None ≡ vessel_held keeping numbers sent m
     → [] ≡ kept_points keeping (accepted_of numbers sent m)

@@ -1,5 +1,5 @@
 -- What a book of vessels stands for.
-use Rattle.std.specs.Prelude.{ℕ, ◌≡◌, ◌==◌, ◌≤◌, List, [], ◌∷◌, map, Option, Some, None, if◌then◌else◌}
+use Rattle.std.specs.Prelude.{ℕ, ◌≡◌, ◌==◌, ◌≤◌, true, List, [], ◌∷◌, map, Option, Some, None, if◌then◌else◌}
 use Rattle.std.specs.List.{last_or}
 use Rattle.std.specs.Option.{option_to_list}
 use Rattle.fixed_geometry.specs.Sizes.{IsWithin}
@@ -8,6 +8,7 @@ use Rattle.motion.specs.declared.leg.Leg.{Leg}
 use Rattle.tracks.specs.AcceptedReports.{JudgingNumbers}
 use Rattle.tracks.specs.VesselsHeld.{Sent, accepted_of, held_of, is_held, legs_of, statics_of}
 use Rattle.tracks.specs.declared.accepted.Accepted.{Accepted}
+use Rattle.tracks.specs.declared.held_vessel.HeldVessel.{HeldVessel}
 use Rattle.tracks.specs.declared.keeping.Keeping.{Keeping}
 use Rattle.tracks.specs.declared.keeping.Keeping.TheVariants.{Latest, Tracks}
 use Rattle.tracks.specs.declared.statics.Statics.{Statics}
@@ -60,6 +61,13 @@ pub record StandsFor (book : BookValue) (numbers : JudgingNumbers) (sent : List 
   pub by : book.numbers ≡ numbers
   pub holds : book.held ≡ held_of numbers sent
   pub vessels : book.vessels ≡ map (vessel_of book.keeping numbers sent) (held_of numbers sent)
+
+-- She is held, and stands for what is kept of what the messages tell of her.
+pub record IsHeldVessel (keeping : Keeping) (numbers : JudgingNumbers) (sent : List Sent) (vessel : HeldVessel) : Type 0 where
+  pub held : is_held numbers sent vessel.mmsi ≡ true
+  pub points : vessel.points.now ≡ kept_points keeping (accepted_of numbers sent vessel.mmsi)
+  pub legs : vessel.legs.now ≡ kept_legs keeping (legs_of numbers sent vessel.mmsi)
+  pub statics : vessel.statics.now ≡ statics_of sent vessel.mmsi
 
 -- the numbers that a scenario may have
 pub record IsNumbers (numbers : JudgingNumbers) : Type 0 where

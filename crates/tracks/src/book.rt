@@ -1,5 +1,5 @@
 //! The book of vessels.
-ghost use Rattle.std.specs.Prelude.{ℕ, true, ◌≡◌, ◌+◌, ◌-◌, ◌*◌, ◌^◌, ◌<◌, ◌≤◌, ◌++◌, ◌∷◌, [], ◌↔◌, All, Contains, Err, IfOk, IfSome, IsOk, List, None, OnErr, OnOk, Some, length, map, slice_get, slice_index, vec_capacity, vec_len, if◌then◌else◌};
+ghost use Rattle.std.specs.Prelude.{ℕ, true, ◌≡◌, ◌+◌, ◌-◌, ◌*◌, ◌^◌, ◌<◌, ◌≤◌, ◌++◌, ◌∷◌, [], ◌↔◌, All, Contains, Err, IfOk, IfSome, IsOk, IsSome, IsTrue, List, None, OnErr, OnOk, Some, length, map, slice_get, slice_index, vec_capacity, vec_len, if◌then◌else◌};
 ghost use Rattle.std.specs.List.{insert, last_or};
 ghost use Rattle.std.specs.List.Sorted.{IsStrictlyIncreasing};
 ghost use Rattle.std.specs.Option.{option_copied, option_to_list};
@@ -13,7 +13,7 @@ ghost use Rattle.tracks.specs.AcceptedReports.{JudgingNumbers};
 ghost use Rattle.tracks.specs.Inner.Keeping.{IsKept, makes_held};
 ghost use Rattle.tracks.specs.Lengths.{length_of};
 ghost use Rattle.tracks.specs.SeenVessels.{seen_in, seen_of, seen_vessel};
-ghost use Rattle.tracks.specs.Standing.{IsAccepted, IsNumbers, StandsFor, kept_legs, kept_points, legs_in, vessel_held};
+ghost use Rattle.tracks.specs.Standing.{IsAccepted, IsHeldVessel, IsNumbers, StandsFor, kept_legs, kept_points, legs_in, vessel_held, vessel_of};
 ghost use Rattle.tracks.specs.VesselsHeld.{Sent, accepted_of, entry_at, entry_of, held_of, is_held, legs_of, reported_in, sender_of, statics_of, with_number};
 ghost use Rattle.tracks.specs.declared.accepted.Accepted.{Accepted};
 ghost use Rattle.tracks.specs.declared.entry.BookFault.TheVariants.{TooManyVessels};
@@ -23,6 +23,7 @@ use crate::accepted::Accepted;
 use crate::entry::{BookFault, Entry};
 use crate::given::GivenNumbers;
 use crate::guesses::Guesses;
+use crate::held_vessel::HeldVessel;
 use crate::judging::judge;
 use crate::keeping::Keeping;
 use crate::parts::{position_report, sender, static_report};
@@ -354,6 +355,8 @@ impl Book {
     /// The vessel that is held at this index.
     fn vessel_at(&self, at: usize) -> &Vessel
         requires { at < length self.now.held }
+        ensures value { (numbers : JudgingNumbers) (sent : List Sent) (mmsi : ℕ) → StandsFor self.now numbers sent
+            → slice_get self.now.held at ≡ Some mmsi → result.now ≡ vessel_of self.now.keeping numbers sent mmsi }
         ensures legs { result.now.legs ≡ legs_in self.now (slice_index self.now.held at) }
         ensures kept { IsKept self.now.keeping self.now.numbers.gap result.now }
     {
@@ -471,5 +474,37 @@ impl Book {
             → slice_get (held_of numbers sent) k ≡ Some result }
     {
         self.held[k]
+    }
+
+    /// The `k`-th vessel that is held, in ascending order of the identities from 0, with all that is kept of her.
+    pub fn held(&self, k: usize) -> HeldVessel<'_>
+        requires { k < length self.now.held }
+        ensures mmsi { slice_get self.now.held k ≡ Some result.mmsi }
+        ensures listed { (numbers : JudgingNumbers) (sent : List Sent) → StandsFor self.now numbers sent
+            → slice_get (held_of numbers sent) k ≡ Some result.mmsi }
+        ensures kept { (numbers : JudgingNumbers) (sent : List Sent) → StandsFor self.now numbers sent
+            → IsHeldVessel self.now.keeping numbers sent result }
+    {
+        let vessel = self.vessel_at(k);
+        HeldVessel {
+            mmsi: self.held[k],
+            points: vessel.points(),
+            legs: vessel.legs(),
+            statics: vessel.statics(),
+        }
+    }
+
+    /// The vessel of this identity with all that is kept of her, or `None` where she is not held.
+    pub fn find(&self, mmsi: u32) -> Option<HeldVessel<'_>>
+        ensures held { (numbers : JudgingNumbers) (sent : List Sent) → StandsFor self.now numbers sent
+            → IsTrue (is_held numbers sent mmsi) ↔ IsSome result }
+        ensures mmsi { IfSome result (λ vessel. vessel.mmsi ≡ mmsi) }
+        ensures kept { IfSome result (λ vessel. (numbers : JudgingNumbers) (sent : List Sent) → StandsFor self.now numbers sent
+            → IsHeldVessel self.now.keeping numbers sent vessel) }
+    {
+        match index_of(&self.held, mmsi) {
+            Ok(at) => Some(self.held(at)),
+            Err(_) => None,
+        }
     }
 }

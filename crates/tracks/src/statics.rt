@@ -24,3 +24,12 @@ pub struct Statics {
     /// Her type and size, if she told them.
     pub ship: Option<ShipData>,
 }
+
+impl Statics {
+    /// Her length in metres, from bow to stern, 0 where she told none.
+    pub fn length(&self) -> u32
+        ensures { result ≡ length_of self.now.ship }
+    {
+        length_of(self.ship)
+    }
+}

@@ -11,7 +11,7 @@ use motion::TickState;
 use std::alloc::Global;
 use std::process::Abort;
 use std::test::Fail;
-use tracks::{Book, BookFault, Entry, Keeping, ReportCause, laws};
+use tracks::{Book, BookFault, Entry, Keeping, ReportCause, laws, reported_direction};
 
 /// A report of a vessel from a latitude on the meridian of Greenwich, in 1/10000 minute.
 fn report(mmsi: u32, latitude: i32) -> PositionReport
@@ -205,6 +205,57 @@ fn a_dropped_position_leaves_its_static_part(rt: HostRuntime) -> Result<(), Fail
     is(&rt, ship.bow, 90);
     is_true(&rt, book.statics(OTHER).is_none());
     Ok(())
+}
+
+#[test]
+fn all_that_is_kept_of_a_vessel(rt: HostRuntime) -> Result<(), Fail> {
+    let mut book = book(rt.alloc(), 500)?;
+    for (mmsi, north, time) in [(OTHER, 0, 1000), (OWN, 0, 1000), (OWN, 10, 1100)] {
+        let message = Message::Position(report(mmsi, north));
+        is_true(&rt, book.take(&message, time).is_ok());
+    }
+    let told = Message::Static(hull(OWN, 90));
+    is_true(&rt, book.take(&told, 1100).is_ok());
+    is(&rt, book.vessels(), 2);
+    if book.vessels() != 2 {
+        return Err("two vessels".into());
+    }
+    let own = book.held(0);
+    is(
+        &rt,
+        (own.mmsi, own.points.len(), own.legs.len()),
+        (OWN, 2, 1),
+    );
+    is(&rt, own.statics.length(), 180);
+    let other = book.held(1);
+    is(
+        &rt,
+        (other.mmsi, other.points.len(), other.legs.len()),
+        (OTHER, 1, 0),
+    );
+    is(&rt, other.statics.length(), 0);
+    let found = book.find(OTHER).ok_or("the vessel is held")?;
+    is(&rt, (found.mmsi, found.points), (OTHER, other.points));
+    is_true(&rt, book.find(200000000).is_none());
+    Ok(())
+}
+
+// The heading comes before the course, and is in whole degrees.
+#[test]
+fn directions_by_heading_or_course(rt: HostRuntime) {
+    for (heading, cog, direction) in [
+        (Some(271), Some(905), Some(2710)),
+        (Some(0), None, Some(0)),
+        (None, Some(905), Some(905)),
+        (None, None, None),
+    ] {
+        let told = PositionReport {
+            heading,
+            cog,
+            ..report(OWN, 0)
+        };
+        is(&rt, reported_direction(&told), direction);
+    }
 }
 
 /// The message of a line that has a sentence.

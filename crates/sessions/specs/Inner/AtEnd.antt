@@ -2,15 +2,15 @@
 use Rattle.std.specs.Prelude.{ℕ, ◌≡◌, List, ◌++◌}
 use Rattle.std.specs.Option.{option_to_list}
 use Rattle.audit_rows.specs.declared.row.Row.{Row}
-use Rattle.growing_log.specs.GrowingLog.{ended_lines}
-use Rattle.judged_lines.specs.JudgedLines.{judged_lines}
-use Rattle.judged_lines.specs.LogLines.{lines_of}
-use Rattle.judged_lines.specs.Standing.{StandsFor as JudgeStandsFor}
-use Rattle.judged_lines.specs.declared.judge.Judge.{Judge}
+use Rattle.log_lines.specs.GrowingLog.{ended_lines}
+use Rattle.log_lines.specs.JudgedLines.{judged_lines}
+use Rattle.log_lines.specs.LogLines.{lines_of}
+use Rattle.log_lines.specs.Standing.{StandsFor as JudgeStandsFor}
+use Rattle.log_lines.specs.declared.judge.Judge.{Judge}
 use Rattle.scenario.specs.declared.values.Scenario.{Scenario}
 use Rattle.settling.specs.Standing.{StandsFor as AuditStandsFor}
 use Rattle.settling.specs.declared.settled_audit.SettledAudit.{SettledAudit}
-use Rattle.streamed_lines.specs.declared.streamed_lines.EndedLines.{EndedLines}
+use Rattle.log_lines.specs.declared.streamed.EndedLines.{EndedLines}
 
 -- All lines of the log were judged.
 pub record AreOfLog (ended : EndedLines) (scenario : Scenario) (log : List ℕ) : Type 0 where

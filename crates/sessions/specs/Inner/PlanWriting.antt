@@ -2,7 +2,7 @@
 use Rattle.std.specs.Prelude.{ℕ, ◌≡◌, ◌≤◌, ◌++◌, Bool, List, length, Option, Some, Ok, Err, IfSome, is_none}
 use Rattle.audit_report.specs.ReportTexts.{HasText}
 use Rattle.audit_report.specs.declared.report_text.ReportText.{ReportText}
-use Rattle.judged_lines.specs.JudgedLines.{numbers_of}
+use Rattle.log_lines.specs.JudgedLines.{numbers_of}
 use Rattle.own_ship.specs.PlanSituations.{greatest_targets, own_readiness, situation_of, targets_near, vessels_near}
 use Rattle.own_ship.specs.Preparing.{HasManyTargets}
 use Rattle.own_ship.specs.declared.preparation.PrepareFault.{PrepareFault}

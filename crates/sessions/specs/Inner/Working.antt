@@ -2,10 +2,10 @@
 use Rattle.std.specs.Prelude.{ℕ, ◌≡◌, List, [], ◌∷◌, ◌++◌}
 use Rattle.audit_report.specs.ReportTexts.{HasText}
 use Rattle.audit_report.specs.declared.report_text.ReportText.{ReportText}
-use Rattle.judged_lines.specs.JudgedLines.{judged_lines}
-use Rattle.judged_lines.specs.Standing.{StandsFor as JudgeStandsFor}
-use Rattle.judged_lines.specs.declared.judge.Judge.{Judge}
-use Rattle.judged_lines.specs.declared.judged.Judged.{Judged}
+use Rattle.log_lines.specs.JudgedLines.{judged_lines}
+use Rattle.log_lines.specs.Standing.{StandsFor as JudgeStandsFor}
+use Rattle.log_lines.specs.declared.judge.Judge.{Judge}
+use Rattle.log_lines.specs.declared.judged.Judged.{Judged}
 use Rattle.scenario.specs.declared.values.Scenario.{Scenario}
 use Rattle.sessions.specs.Standing.{IsDone}
 use Rattle.sessions.specs.declared.work.Work.{Work}

@@ -3,9 +3,9 @@ use Rattle.std.specs.Prelude.{ℕ, ◌≡◌, ◌<◌, ◌-◌, Bool, false, nat
 use Rattle.audit_rows.specs.declared.row.Row.{Row}
 use Rattle.auditor.specs.AuditRows.{AreAuditRowsBelow}
 use Rattle.auditor.specs.Standing.{HaveMoreThan, IsSound, StandsFor as AuditStandsFor, given_of, last_tick_of, settled_by}
-use Rattle.judged_lines.specs.SentLines.{sent}
-use Rattle.judged_lines.specs.Standing.{StandsFor as JudgeStandsFor}
-use Rattle.judged_lines.specs.declared.judge.Judge.{Judge}
+use Rattle.log_lines.specs.SentLines.{sent}
+use Rattle.log_lines.specs.Standing.{StandsFor as JudgeStandsFor}
+use Rattle.log_lines.specs.declared.judge.Judge.{Judge}
 use Rattle.scenario.specs.declared.values.Scenario.{Scenario}
 use Rattle.settling.specs.SettledTicks.{IsSettled, greatest_traces}
 use Rattle.settling.specs.Sightings.{audit_numbers, seen_first}

@@ -1,6 +1,6 @@
 use Rattle.std.proofs.Common.{◌++◌}
-use Rattle.growing_log.specs.GrowingLog.{ended_lines}
-use Rattle.judged_lines.specs.LogLines.{without_carriage_return}
+use Rattle.log_lines.specs.GrowingLog.{ended_lines}
+use Rattle.log_lines.specs.LogLines.{without_carriage_return}
 use Rattle.colregs_program.proofs.InertReports.{of_mode}
 use Rattle.colregs_program.proofs.OneLine.{is_among}
 use Rattle.colregs_program.proofs.laws.inert_lines.Goals as goal

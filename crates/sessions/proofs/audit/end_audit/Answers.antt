@@ -3,9 +3,9 @@ use Rattle.outside.proofs.ForCallers.{err_cause}
 use Rattle.auditor.specs.AuditRows.{AreAuditRows}
 use Rattle.auditor.specs.AuditTotals.{AreTotals}
 use Rattle.auditor.specs.Standing.{HaveMoreThan}
-use Rattle.judged_lines.specs.JudgedLines.{judged_lines, numbers_of}
-use Rattle.judged_lines.specs.LogLines.{lines_of}
-use Rattle.judged_lines.specs.SentLines.{sent}
+use Rattle.log_lines.specs.JudgedLines.{judged_lines, numbers_of}
+use Rattle.log_lines.specs.LogLines.{lines_of}
+use Rattle.log_lines.specs.SentLines.{sent}
 use Rattle.settling.specs.SettledTicks.{greatest_traces}
 use Rattle.settling.specs.Sightings.{audit_numbers, sighted}
 use Rattle.sessions.specs.AuditReport.{rows_behind, sightings_of}

@@ -4,9 +4,9 @@ use Rattle.audit_traces.specs.declared.total.Total.{Total}
 use Rattle.auditor.specs.AuditRows.{AreAuditRows}
 use Rattle.auditor.specs.AuditTotals.{AreTotals}
 use Rattle.auditor.specs.Standing.{HaveMoreThan}
-use Rattle.judged_lines.specs.JudgedLines.{judged_lines}
-use Rattle.judged_lines.specs.LogLines.{lines_of}
-use Rattle.judged_lines.specs.SentLines.{sent}
+use Rattle.log_lines.specs.JudgedLines.{judged_lines}
+use Rattle.log_lines.specs.LogLines.{lines_of}
+use Rattle.log_lines.specs.SentLines.{sent}
 use Rattle.settling.specs.SettledTicks.{greatest_traces}
 use Rattle.settling.specs.Sightings.{audit_numbers, sighted}
 use Rattle.sessions.specs.AuditReport.{sightings_of, total_rows}

@@ -1,4 +1,4 @@
-use Rattle.growing_log.specs.GrowingLog.{ended_lines}
+use Rattle.log_lines.specs.GrowingLog.{ended_lines}
 use Rattle.sessions.proofs.SettledTexts.{one_decided}
 use Rattle.sessions.proofs.laws.one_settled_text.Goals as goal
 

@@ -1,6 +1,6 @@
 use Rattle.std.proofs.Common.{ℕ, List, ◌++◌, flat_map, slice_index, take}
 use Rattle.audit_report.specs.CsvRows.{row_of}
-use Rattle.judged_lines.specs.LineOutcomes.{outcome_index}
+use Rattle.log_lines.specs.LineOutcomes.{outcome_index}
 use Rattle.audit_report.specs.ReportRows.{count_fields}
 use Rattle.audit_report.specs.ReportTexts.{HasText}
 use Rattle.sessions.proofs.outcome_rows.write_counts.Given as goal

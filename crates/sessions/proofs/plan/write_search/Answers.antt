@@ -2,7 +2,7 @@ use Rattle.std.proofs.Common.{◌≡◌, ◌∙◌, ap, sym, subst, Err, true}
 use Rattle.std.specs.Option.{option_copied}
 use Rattle.std.specs.List.{All}
 use Rattle.outside.proofs.ForCallers.{err_cause}
-use Rattle.judged_lines.specs.JudgedLines.{numbers_of}
+use Rattle.log_lines.specs.JudgedLines.{numbers_of}
 use Rattle.own_ship.specs.Preparing.{IsPrepared}
 use Rattle.own_ship.specs.declared.near.Near.{Near}
 use Rattle.tracks.specs.VesselsHeld.{is_held}

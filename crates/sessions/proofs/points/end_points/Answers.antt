@@ -1,7 +1,7 @@
 use Rattle.std.proofs.Common.{[]}
-use Rattle.judged_lines.specs.JudgedLines.{judged_lines}
-use Rattle.judged_lines.specs.LogLines.{lines_of}
-use Rattle.growing_log.specs.GrowingLog.{ended_lines}
+use Rattle.log_lines.specs.JudgedLines.{judged_lines}
+use Rattle.log_lines.specs.LogLines.{lines_of}
+use Rattle.log_lines.specs.GrowingLog.{ended_lines}
 use Rattle.sessions.specs.PointsReport.{points_report}
 use Rattle.sessions.proofs.OutcomeRows.{count_rows-from_counts}
 use Rattle.sessions.proofs.TakingLines.{points_whole}

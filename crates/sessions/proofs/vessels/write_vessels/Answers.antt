@@ -2,17 +2,19 @@ use Rattle.std.proofs.Common.{ℕ, List, ◌++◌, flat_map, subst, arith}
 use Rattle.std.proofs.lemmas.List.{take_all}
 use Rattle.audit_report.specs.CsvRows.{row_of}
 use Rattle.audit_report.specs.ReportTexts.{HasText}
+use Rattle.tracks.specs.Standing.{IsHeldVessel}
 use Rattle.tracks.specs.VesselsHeld.{held_of}
+use Rattle.tracks.specs.declared.keeping.Keeping.{Keeping}
 use Rattle.sessions.specs.AuditReport.{held_fields}
-use Rattle.sessions.proofs.VesselRows.{held_at, one_vessel_on}
+use Rattle.sessions.proofs.VesselRows.{one_vessel_on}
 use Rattle.sessions.proofs.vessels.write_vessels.Goals as goal
 
 pub loop-k-preserved : goal.loop-k-preserved
 loop-k-preserved c = λ numbers messages front stands has.
-    let held = held_of numbers messages in
-    let at = c.vessel.ensures numbers messages stands in
-    subst (HasText c.write_vessel.new.text) (one_vessel_on numbers messages front c.loop-k.k c.vessel.result at)
-    (c.in_ok-write_vessel.ensures numbers messages _ stands (held_at numbers messages c.loop-k.k c.vessel.result at) (c.loop-k.invariant numbers messages front stands has))
+    let vessel = c.held.result in
+    let kept = subst (λ (k : Keeping). IsHeldVessel k numbers messages vessel) c.requires (c.held.ensures.kept numbers messages stands) in
+    subst (HasText c.write_vessel.new.text) (one_vessel_on numbers messages front c.loop-k.k vessel.mmsi (c.held.ensures.listed numbers messages stands))
+    (c.in_ok-write_vessel.ensures numbers messages _ kept (c.loop-k.invariant numbers messages front stands has))
 
 pub returns : goal.returns
 returns c = λ numbers messages front stands has.

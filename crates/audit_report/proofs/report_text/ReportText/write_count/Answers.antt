@@ -1,5 +1,5 @@
 use Rattle.std.proofs.Common.{rules, ◌≡◌, ℕ, List, ◌++◌, OnOk, refl, subst}
-use Rattle.judged_lines.specs.LineOutcomes.{outcome_name}
+use Rattle.log_lines.specs.LineOutcomes.{outcome_name}
 use Rattle.audit_report.specs.CsvRows.{row_of}
 use Rattle.audit_report.specs.ReportTexts.{HasText}
 use Rattle.audit_report.proofs.RowFields.{seven}

@@ -3,9 +3,9 @@ use Rattle.std.specs.Prelude.{IsNone}
 use Rattle.std.specs.Option.{option_to_list}
 use Rattle.audit_report.specs.ReportTexts.{HasText}
 use Rattle.audit_report.specs.declared.report_text.ReportText.{ReportText}
-use Rattle.growing_log.specs.GrowingLog.{ended_lines}
-use Rattle.judged_lines.specs.JudgedLines.{judged_lines}
-use Rattle.judged_lines.specs.declared.judged.Judged.{Judged}
+use Rattle.log_lines.specs.GrowingLog.{ended_lines}
+use Rattle.log_lines.specs.JudgedLines.{judged_lines}
+use Rattle.log_lines.specs.declared.judged.Judged.{Judged}
 use Rattle.std.specs.Prelude.{Option}
 use Rattle.std.proofs.lemmas.Result.{on_ok_weaker}
 use Rattle.sessions.proofs.Feeding.{few_enough, refused_by, refuses_bytes, refuses_pairs, refuses_vessels, takes_line, takes_part, too_many, vessels_refused, works_on}

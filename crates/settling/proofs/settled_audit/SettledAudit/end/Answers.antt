@@ -5,7 +5,7 @@ use Rattle.auditor.specs.AuditTotals.{AreTotals}
 use Rattle.auditor.specs.Standing.{HaveMoreThan, StandsFor as AuditStandsFor}
 use Rattle.auditor.specs.declared.fault.AuditFault.{AuditFault}
 use Rattle.auditor.specs.declared.fault.AuditFault.TheVariants as audit_fault
-use Rattle.judged_lines.specs.SentLines.{sent}
+use Rattle.log_lines.specs.SentLines.{sent}
 use Rattle.settling.specs.SettledTicks.{greatest_traces}
 use Rattle.settling.specs.Sightings.{audit_numbers, seen_first, sighted}
 use Rattle.settling.proofs.AuditedTicks.{audited_with_more, same_fault}

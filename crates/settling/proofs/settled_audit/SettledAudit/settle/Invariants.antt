@@ -1,6 +1,6 @@
 use Rattle.std.proofs.Common.{ℕ, ◌+◌, ◌-◌, ◌++◌, List}
 use Rattle.audit_rows.specs.declared.row.Row.{Row}
-use Rattle.judged_lines.specs.Standing.{StandsFor as JudgeStandsFor}
+use Rattle.log_lines.specs.Standing.{StandsFor as JudgeStandsFor}
 use Rattle.settling.specs.Inner.AuditedTicks.{IsSettling}
 use Rattle.settling.specs.Standing.{StandsFor}
 use Rattle.settling.proofs.settled_audit.SettledAudit.settle.Given as goal

@@ -1,8 +1,8 @@
 use Rattle.std.proofs.Common.{◌≡◌, Err, refl, sym, ap, ◌∙◌}
 use Rattle.auditor.specs.declared.fault.AuditFault.{AuditFault}
 use Rattle.auditor.specs.declared.fault.AuditFault.TheVariants as audit_fault
-use Rattle.judged_lines.specs.JudgedLines.{numbers_of}
-use Rattle.judged_lines.specs.SentLines.{sent}
+use Rattle.log_lines.specs.JudgedLines.{numbers_of}
+use Rattle.log_lines.specs.SentLines.{sent}
 use Rattle.settling.specs.Sightings.{audit_numbers, seen_first}
 use Rattle.tracks.specs.SeenVessels.{seen_in, seen_of}
 use Rattle.settling.proofs.AuditedTicks.{audited_on, many_now, same_fault}

@@ -6,6 +6,7 @@ use Rattle.tracks.specs.VesselsHeld.{Sent, with_number}
 use Rattle.tracks.specs.Inner.Keeping.{makes_held, untold, vessel_after}
 use Rattle.tracks.proofs.Books.{is_book_after}
 use Rattle.tracks.proofs.Stands.{stands_as}
+use Rattle.tracks.specs.declared.book.TheConstants.{MOST_VESSELS}
 use Rattle.tracks.proofs.book.Book.hold.Goals as goal
 
 pub invariant_of-self : goal.invariant_of-self
@@ -13,7 +14,7 @@ invariant_of-self c =
     let old : BookValue = record { keeping = c.self.inside.keeping; numbers = c.self.inside.numbers; held = c.self.inside.held.items; vessels = c.self.inside.vessels.items } in
     is_book_after c.put.result old _ c.args.at c.args.mmsi c.take.new.self c.self.invariant
     (subst (λ (b : BookValue). c.args.at ≤ length b.held) (sym c.self.view_is) c.requires.place)
-    (subst (λ (b : BookValue). length b.held < 4096) (sym c.self.view_is) c.requires.room)
+    (subst (λ (b : BookValue). length b.held < MOST_VESSELS) (sym c.self.view_is) c.requires.room)
     (subst (λ (b : BookValue). with_number c.args.mmsi b.held ≡ insert b.held c.args.at c.args.mmsi) (sym c.self.view_is) c.requires.more)
     c.take.ensures.kept refl refl c.put.ensures.held c.put.ensures.vessels c.put.ensures.held_same c.put.ensures.vessels_same
 

@@ -1,5 +1,0 @@
-use Rattle.growing_log.proofs.Parts.{lines_ended_or_open}
-use Rattle.growing_log.proofs.laws.lines_are_ended_or_open.Goals as goal
-
-pub returns : goal.returns
-returns c = lines_ended_or_open

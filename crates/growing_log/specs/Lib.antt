@@ -1,3 +1,0 @@
-pub mod GrowingLog
-pub mod Standing
-pub use Rattle.judged_lines.specs.LogLines

@@ -1,6 +1,0 @@
-use Rattle.std.proofs.Common.{refl}
-use Rattle.judged_lines.proofs.Timing.{KeepsTimes-none}
-use Rattle.judged_lines.proofs.line_times.LineTimes.new.Goals as goal
-
-pub returns : goal.returns
-returns c = KeepsTimes-none _ _ refl refl c.reach_behind.ensures refl refl

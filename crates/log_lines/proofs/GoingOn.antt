@@ -1,0 +1,230 @@
+-- The judge, behind one line more.
+use Rattle.std.proofs.Common.{◌≡◌, ℕ, ◌+◌, ◌-◌, ◌^◌, ◌<◌, ◌≤◌, Bool, true, false, nat_lt, min, List, [], ◌∷◌, ◌++◌, append-nil, length, slice_index, slice_set, Option, None, unwrap_or, Result, Ok, Err, refl, ap, sym, subst, ◌∙◌, arith}
+use Rattle.std.proofs.lemmas.Bool.Decides.{nat_tests}
+use Rattle.aivdm.specs.FragmentJoining.{Taken, joined_of}
+use Rattle.aivdm.specs.OpenMessages.{StandsFor as JoinerStandsFor}
+use Rattle.aivdm.specs.ReadingOf.{dropped, reading_of}
+use Rattle.aivdm.specs.Sentences.{LineContent, SentenceFields}
+use Rattle.aivdm.specs.declared.joiner.Joined.{Joined}
+use Rattle.aivdm.specs.declared.sentence.LineCause.{LineCause}
+use Rattle.aivdm.specs.declared.sentence.LineCause.TheVariants as line_cause
+use Rattle.ais_messages.specs.declared.message.Decoded.{Decoded}
+use Rattle.scenario.specs.declared.values.Scenario.{Scenario}
+use Rattle.tracks.specs.AcceptedReports.{JudgingNumbers}
+use Rattle.tracks.specs.Standing.{StandsFor as BookStandsFor}
+use Rattle.tracks.specs.VesselsHeld.{Sent, held_of}
+use Rattle.log_lines.specs.JudgedLines.{greatest_held, held_behind, judged_line, judged_lines, numbers_of, outcome_of}
+use Rattle.log_lines.specs.LineOutcomes.{outcome_index}
+use Rattle.log_lines.specs.LineTimes.{clock_of, stamp_of, time_of}
+use Rattle.log_lines.specs.SentLines.{heard, heard_of, heard_in, heard_unless, sent, sent_decoded, sent_heard, sent_joined, sent_of, untimely}
+use Rattle.log_lines.specs.Standing.{AreCounts, StandsFor}
+use Rattle.log_lines.specs.StaticReports.{told_of}
+use Rattle.log_lines.specs.Inner.JudgeState.{Enters, GoesOn, heard_by, held_with}
+use Rattle.log_lines.specs.Inner.Times.{KeepsTimes, nearest_of, times_behind, untimely_by}
+use Rattle.log_lines.specs.declared.judge.Judge.{Judge}
+use Rattle.log_lines.specs.declared.judged.Judged.{Judged}
+use Rattle.log_lines.specs.declared.judged.Judged.TheVariants as judged
+use Rattle.log_lines.specs.declared.line_times.LineTimes.{LineTimes}
+use Rattle.log_lines.specs.declared.outcome.LineOutcome.{LineOutcome}
+use Rattle.log_lines.specs.declared.outcome.LineOutcome.TheVariants as outcome
+use Rattle.log_lines.proofs.Counting.{AreCounts-push}
+use Rattle.log_lines.proofs.OneOutcome.{each_after-length}
+use Rattle.log_lines.proofs.Pushing.{calm-push, heard-push, judged-push, sent-push, told-push}
+use Rattle.log_lines.proofs.Timing.{KeepsTimes-push, time_is}
+
+-- what is not above the greatest number of vessels
+pub few_unless : (n : ℕ) → (greatest_held < n → ⊥) → n ≤ greatest_held
+few_unless n calm = decide (nat_lt greatest_held n) refl
+  where
+    decide : (test : Bool) → nat_lt greatest_held n ≡ test → n ≤ greatest_held
+    decide true is = absurd (calm (grind (arith, nat_tests, is)))
+    decide false is = grind (arith, nat_tests, is)
+
+-- ---- a line without a message
+
+pub Enters-none : (numbers : JudgingNumbers) (judge : Judge) (came : LineOutcome) (before : List Sent) → judge.told ≡ None → BookStandsFor judge.book numbers before
+    → length (held_of numbers before) ≤ greatest_held → Enters numbers judge (judged.Without came) before (Err came)
+Enters-none numbers judge came before untold stands few =
+    let same : before ++ [] ≡ before = append-nil before in
+    record {
+      is = refl;
+      told = untold;
+      book = subst (BookStandsFor judge.book numbers) (sym same) stands;
+      few = subst (λ (l : List Sent). length (held_of numbers l) ≤ greatest_held) (sym same) few;
+    }
+
+-- ---- what a sentence that is in time comes to
+
+abbrev after : List Taken → Taken → List Taken
+after taken next = taken ++ next ∷ []
+
+sends : (taken : List Taken) (next : Taken) (joined_now : Joined) (to : Result Sent LineOutcome) → joined_now ≡ joined_of taken next → sent_joined next.time joined_now ≡ to
+    → to ≡ sent_heard taken (Ok next)
+sends taken next joined_now to joins is = sym is ∙ ap (sent_joined next.time) joins
+
+pub GoesOn-message : (numbers : JudgingNumbers) (judge : Judge) (came : Judged) (taken : List Taken) (messages : List Sent) (next : Taken) (joined_now : Joined) (decoded : Decoded)
+    → joined_now ≡ joined_of taken next → sent_joined next.time joined_now ≡ sent_decoded next.time decoded
+    → JoinerStandsFor judge.joiner (after taken next) → Enters numbers judge came messages (sent_decoded next.time decoded)
+    → GoesOn numbers judge came taken messages (Ok next)
+GoesOn-message numbers judge came taken messages next joined_now decoded joins is stands enters = record {
+  joiner = stands;
+  enters = subst (Enters numbers judge came messages) (sends taken next joined_now (sent_decoded next.time decoded) joins is) enters;
+}
+
+pub crowded_message : (numbers : JudgingNumbers) (taken : List Taken) (messages : List Sent) (next : Taken) (joined_now : Joined) (decoded : Decoded)
+    → joined_now ≡ joined_of taken next → sent_joined next.time joined_now ≡ sent_decoded next.time decoded
+    → greatest_held < held_with numbers messages (sent_decoded next.time decoded) → greatest_held < held_with numbers messages (sent_heard taken (Ok next))
+crowded_message numbers taken messages next joined_now decoded joins is more =
+    subst (λ (r : Result Sent LineOutcome). greatest_held < held_with numbers messages r) (sends taken next joined_now (sent_decoded next.time decoded) joins is) more
+
+pub GoesOn-silent : (numbers : JudgingNumbers) (judge : Judge) (came : LineOutcome) (taken : List Taken) (messages : List Sent) (next : Taken) (joined_now : Joined)
+    → joined_now ≡ joined_of taken next → sent_joined next.time joined_now ≡ Err came → judge.told ≡ None
+    → JoinerStandsFor judge.joiner (after taken next) → BookStandsFor judge.book numbers messages → length (held_of numbers messages) ≤ greatest_held
+    → GoesOn numbers judge (judged.Without came) taken messages (Ok next)
+GoesOn-silent numbers judge came taken messages next joined_now joins is untold stands book few = record {
+  joiner = stands;
+  enters = subst (Enters numbers judge (judged.Without came) messages) (sends taken next joined_now (Err came) joins is) (Enters-none numbers judge came messages untold book few);
+}
+
+-- a line on which nothing is heard
+pub GoesOn-unheard : (numbers : JudgingNumbers) (judge : Judge) (came : LineOutcome) (taken : List Taken) (messages : List Sent) → judge.told ≡ None
+    → JoinerStandsFor judge.joiner taken → BookStandsFor judge.book numbers messages → length (held_of numbers messages) ≤ greatest_held
+    → GoesOn numbers judge (judged.Without came) taken messages (Err came)
+GoesOn-unheard numbers judge came taken messages untold stands book few = record {
+  joiner = subst (JoinerStandsFor judge.joiner) (sym (append-nil taken)) stands;
+  enters = Enters-none numbers judge came messages untold book few;
+}
+
+-- ---- the whole line
+
+untimely_is : (times : LineTimes) (scenario : Scenario) (before : List (List ℕ)) (time : ℕ) → KeepsTimes times scenario before
+    → untimely_by times time ≡ untimely scenario (clock_of scenario before) time
+untimely_is times scenario before time keeps = rw (keeps.window, keeps.log, keeps.behind, keeps.clock) refl
+
+heard_same : (times : LineTimes) (scenario : Scenario) (before : List (List ℕ)) (time : ℕ) (body : Result SentenceFields LineCause) → KeepsTimes times scenario before
+    → heard_by times time body ≡ heard_in scenario (clock_of scenario before) time body
+heard_same times scenario before time (Ok sentence) keeps = ap (λ o. heard_unless o time sentence) (untimely_is times scenario before time keeps)
+heard_same times scenario before time (Err cause) keeps = refl
+
+heard_is : (times : LineTimes) (scenario : Scenario) (before : List (List ℕ)) (line : List ℕ) (time : ℕ) (body : Result SentenceFields LineCause) → KeepsTimes times scenario before
+    → time ≡ unwrap_or (nearest_of (stamp_of line) times.nearest) times.window.start → body ≡ (reading_of line).body
+    → heard_by times time body ≡ heard_of scenario before line
+unfolding heard_of
+heard_is times scenario before line time body keeps timed same =
+    heard_same times scenario before time body keeps
+    ∙ ap (λ t. heard_in scenario (clock_of scenario before) t body) (timed ∙ time_is times scenario before line keeps)
+    ∙ ap (heard_in scenario (clock_of scenario before) (time_of scenario (before ++ line ∷ []))) same
+
+-- what the judge made of a line
+pub record Judges (old noted : Judge) (came : Judged) (line : List ℕ) : Type 0 where
+  pub time : ℕ
+  pub body : Result SentenceFields LineCause
+  pub timed : time ≡ unwrap_or (nearest_of (stamp_of line) old.times.nearest) old.times.window.start
+  pub said : body ≡ (reading_of line).body
+  pub on : (numbers : JudgingNumbers) (taken : List Taken) (messages : List Sent) → JoinerStandsFor old.joiner taken → BookStandsFor old.book numbers messages
+      → length (held_of numbers messages) ≤ greatest_held → GoesOn numbers noted came taken messages (heard_by old.times time body)
+
+-- so the joiner and the book go on
+goes_on : (old noted : Judge) (came : Judged) (line : List ℕ) (scenario : Scenario) (before : List (List ℕ)) → StandsFor old scenario before → Judges old noted came line
+    → GoesOn (numbers_of scenario) noted came (heard scenario before) (sent scenario before) (heard_of scenario before line)
+goes_on old noted came line scenario before stands judges =
+    let on = judges.on (numbers_of scenario) (heard scenario before) (sent scenario before) stands.joiner stands.book stands.few in
+    let here = heard_is old.times scenario before line judges.time judges.body stands.times judges.timed judges.said in
+    subst (GoesOn (numbers_of scenario) noted came (heard scenario before) (sent scenario before)) here on
+
+pub judged_is : (old noted : Judge) (came : Judged) (line : List ℕ) (scenario : Scenario) (before : List (List ℕ)) → StandsFor old scenario before → Judges old noted came line
+    → came ≡ judged_line scenario before line
+unfolding judged_line sent_of
+judged_is old noted came line scenario before stands judges = (goes_on old noted came line scenario before stands judges).enters.is
+
+judged-length : (scenario : Scenario) (lines : List (List ℕ)) → length (judged_lines scenario lines) ≡ length lines
+unfolding judged_lines
+judged-length scenario lines = each_after-length (judged_line scenario) [] lines
+
+held_same : (scenario : Scenario) (before : List (List ℕ)) (line : List ℕ)
+    → held_with (numbers_of scenario) (sent scenario before) (sent_of scenario before line) ≡ held_behind scenario before line
+unfolding held_behind
+held_same scenario before line = ap (λ (l : List Sent). length (held_of (numbers_of scenario) l)) (sym (sent-push scenario before line))
+
+-- the judge with one line more counted
+abbrev counted : List ℕ → Judged → List ℕ
+counted counts came = slice_set counts (outcome_index (outcome_of came)) (min (slice_index counts (outcome_index (outcome_of came)) + 1) (2 ^ 64 - 1))
+
+pub stands_on : (old noted new : Judge) (came : Judged) (line : List ℕ) (scenario : Scenario) (before : List (List ℕ)) → length before + 1 < 2 ^ 64
+    → StandsFor old scenario before → Judges old noted came line
+    → new ≡ record { times = times_behind old.times (stamp_of line); joiner = noted.joiner; book = noted.book; told = noted.told; counts = counted old.counts came }
+    → StandsFor new scenario (before ++ line ∷ [])
+unfolding sent_of held_behind told_of
+stands_on old noted new came line scenario before few stands judges is =
+    let on = goes_on old noted came line scenario before stands judges in
+    let came_is = judged_is old noted came line scenario before stands judges in
+    let lines = before ++ line ∷ [] in
+    let counts = AreCounts-push old.counts (judged_lines scenario before) came (omega (arith, few, judged-length scenario before)) stands.counts in
+    let judged_more : judged_lines scenario before ++ came ∷ [] ≡ judged_lines scenario lines =
+    ap (λ (j : Judged). judged_lines scenario before ++ j ∷ []) came_is ∙ sym (judged-push scenario before line) in
+    let held : held_behind scenario before line ≤ greatest_held = subst (λ n. n ≤ greatest_held) (held_same scenario before line) on.enters.few in
+    subst (λ (judge : Judge). StandsFor judge scenario lines) (sym is) (record {
+      times = KeepsTimes-push old.times scenario before line stands.times;
+      joiner = subst (JoinerStandsFor noted.joiner) (sym (heard-push scenario before line)) on.joiner;
+      book = subst (BookStandsFor noted.book (numbers_of scenario)) (sym (sent-push scenario before line)) on.enters.book;
+      few = held;
+      calm = calm-push scenario before line stands.calm held;
+      told = on.enters.told ∙ sym (told-push scenario before line);
+      counts = subst (AreCounts (counted old.counts came)) judged_more counts;
+    })
+
+-- ---- a line that is longer than a line may be
+
+long_is_dropped : (line : List ℕ) → 1024 < length line → reading_of line ≡ dropped line_cause.Long
+unfolding reading_of
+long_is_dropped line long = grind (arith, nat_tests)
+
+pub long_has_no_stamp : (line : List ℕ) → 1024 < length line → None ≡ stamp_of line
+long_has_no_stamp line long = sym (ap (λ (content : LineContent). content.stamp) (long_is_dropped line long))
+
+-- The judge does not look at it.
+pub judges_long : (old : Judge) (line : List ℕ) → 1024 < length line → Judges old (record old { told = None }) (judged.Without outcome.Long) line
+judges_long old line long = record {
+  time = unwrap_or (nearest_of (stamp_of line) old.times.nearest) old.times.window.start;
+  body = Err line_cause.Long;
+  timed = refl;
+  said = sym (ap (λ (content : LineContent). content.body) (long_is_dropped line long));
+  on = λ numbers taken messages joiner book few. GoesOn-unheard numbers (record old { told = None }) outcome.Long taken messages refl joiner book few;
+}
+
+-- ---- a line that makes more vessels held
+
+pub crowded_by : (old : Judge) (line : List ℕ) (scenario : Scenario) (before : List (List ℕ)) (time : ℕ) (body : Result SentenceFields LineCause) → StandsFor old scenario before
+    → time ≡ unwrap_or (nearest_of (stamp_of line) old.times.nearest) old.times.window.start → body ≡ (reading_of line).body
+    → ((numbers : JudgingNumbers) (taken : List Taken) (messages : List Sent) → JoinerStandsFor old.joiner taken → BookStandsFor old.book numbers messages
+    → greatest_held < held_with numbers messages (sent_heard taken (heard_by old.times time body)))
+    → greatest_held < held_behind scenario before line
+unfolding sent_of
+crowded_by old line scenario before time body stands timed said more =
+    let here = heard_is old.times scenario before line time body stands.times timed said in
+    subst (λ n. greatest_held < n) (held_same scenario before line)
+    (subst (λ (h : Result Taken LineOutcome). greatest_held < held_with (numbers_of scenario) (sent scenario before) (sent_heard (heard scenario before) h)) here
+    (more (numbers_of scenario) (heard scenario before) (sent scenario before) stands.joiner stands.book))
+
+-- the record that counting makes, in the words of the lemma above
+pub new_is : (old noted new : Judge) (came : Judged) (line : List ℕ) (times : LineTimes) (stamp : Option ℕ) (outcome : LineOutcome)
+    → noted ≡ record old { joiner = noted.joiner; book = noted.book; told = noted.told } → times ≡ times_behind noted.times stamp → stamp ≡ stamp_of line → outcome ≡ outcome_of came
+    → new ≡ record {
+      times = times;
+      joiner = noted.joiner;
+      book = noted.book;
+      told = noted.told;
+      counts = slice_set noted.counts (outcome_index outcome) (min (slice_index noted.counts (outcome_index outcome) + 1) (2 ^ 64 - 1));
+    }
+    → new ≡ record { times = times_behind old.times (stamp_of line); joiner = noted.joiner; book = noted.book; told = noted.told; counts = counted old.counts came }
+new_is old noted new came line times stamp outcome same passed stamped told is =
+    let kept : noted.times ≡ old.times = ap (λ (j : Judge). j.times) same in
+    let counts : noted.counts ≡ old.counts = ap (λ (j : Judge). j.counts) same in
+    let timed : times ≡ times_behind old.times (stamp_of line) = passed ∙ (λ i. times_behind (kept i) (stamped i)) in
+    is ∙ (λ i. record {
+      times = timed i;
+      joiner = noted.joiner;
+      book = noted.book;
+      told = noted.told;
+      counts = slice_set (counts i) (outcome_index (told i)) (min (slice_index (counts i) (outcome_index (told i)) + 1) (2 ^ 64 - 1));
+    })

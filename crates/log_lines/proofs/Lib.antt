@@ -1,0 +1,9 @@
+pub mod ForCallers
+mod Counting
+mod GoingOn
+mod OneOutcome
+mod Parts
+mod Positions
+mod Pushing
+mod Streaming
+mod Timing

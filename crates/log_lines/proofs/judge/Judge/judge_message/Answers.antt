@@ -1,0 +1,17 @@
+use Rattle.std.proofs.Common.{ap, sym, ◌∙◌, Err}
+use Rattle.log_lines.specs.JudgedLines.{judged_entry}
+use Rattle.log_lines.proofs.GoingOn.{few_unless}
+use Rattle.log_lines.proofs.judge.Judge.judge_message.Goals as goal
+
+pub returns-in_err-entry-clause-crowded : goal.returns-in_err-entry-clause-crowded
+returns-in_err-entry-clause-crowded c = λ told numbers before stands.
+    let said = rw told at c.from_residual.ensures in
+    (c.in_err-entry.ensures.too_many numbers before stands).0 (ap Err (sym said.1))
+
+pub returns-clause-judged : goal.returns-clause-judged
+returns-clause-judged c = λ numbers before stands. record {
+  is = c.judged.ensures ∙ ap (judged_entry _) (c.in_ok-entry.ensures.entry numbers before stands);
+  told = c.static_told-self.ensures;
+  book = c.in_ok-entry.ensures.stands numbers before stands;
+  few = few_unless _ (λ more. cc ((c.in_ok-entry.ensures.too_many numbers before stands).1 more));
+}

@@ -1,0 +1,6 @@
+use Rattle.std.proofs.Common.{refl}
+use Rattle.log_lines.proofs.Timing.{KeepsTimes-none}
+use Rattle.log_lines.proofs.line_times.LineTimes.new.Goals as goal
+
+pub returns : goal.returns
+returns c = KeepsTimes-none _ _ refl refl c.reach_behind.ensures refl refl

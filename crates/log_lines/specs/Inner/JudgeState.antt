@@ -1,0 +1,44 @@
+-- What is kept of the lines of a log, behind one line more.
+use Rattle.std.specs.Prelude.{ℕ, ◌≡◌, ◌≤◌, length, List, [], ◌∷◌, ◌++◌, Result, Ok, Err}
+use Rattle.aivdm.specs.FragmentJoining.{Taken}
+use Rattle.aivdm.specs.OpenMessages.{StandsFor as JoinerStandsFor}
+use Rattle.aivdm.specs.Sentences.{SentenceFields}
+use Rattle.aivdm.specs.declared.sentence.LineCause.{LineCause}
+use Rattle.tracks.specs.AcceptedReports.{JudgingNumbers}
+use Rattle.tracks.specs.Standing.{StandsFor as BookStandsFor}
+use Rattle.tracks.specs.VesselsHeld.{Sent, held_of}
+use Rattle.log_lines.specs.JudgedLines.{greatest_held, judged_sent}
+use Rattle.log_lines.specs.LineOutcomes.{line_outcome}
+use Rattle.log_lines.specs.SentLines.{heard_unless, sent_heard}
+use Rattle.log_lines.specs.StaticReports.{told_sent}
+use Rattle.log_lines.specs.Inner.Times.{untimely_by}
+use Rattle.log_lines.specs.declared.judged.Judged.{Judged}
+use Rattle.log_lines.specs.declared.judge.Judge.{Judge}
+use Rattle.log_lines.specs.declared.line_times.LineTimes.{LineTimes}
+use Rattle.log_lines.specs.declared.outcome.LineOutcome.{LineOutcome}
+
+-- the sentence that is heard on a line of this time, or what the line comes to without one
+abbrev pub heard_by : LineTimes → ℕ → Result SentenceFields LineCause → Result Taken LineOutcome
+heard_by times time (Ok sentence) = heard_unless (untimely_by times time) time sentence
+heard_by times time (Err cause) = Err (line_outcome cause)
+
+-- the list of the value, if it is one
+abbrev pub listed : {A : Type 0} → Result A LineOutcome → List A
+listed (Ok value) = value ∷ []
+listed (Err came) = []
+
+-- how many vessels are held with a message more, if there is one
+abbrev pub held_with : JudgingNumbers → List Sent → Result Sent LineOutcome → ℕ
+held_with numbers before next = length (held_of numbers (before ++ listed next))
+
+-- Behind a message, or a line without one, the book stands for the longer list, the static report is kept, and the line came to this.
+pub record Enters (numbers : JudgingNumbers) (judge : Judge) (came : Judged) (before : List Sent) (next : Result Sent LineOutcome) : Type 0 where
+  pub is : came ≡ judged_sent numbers before next
+  pub told : judge.told ≡ told_sent next
+  pub book : BookStandsFor judge.book numbers (before ++ listed next)
+  pub few : held_with numbers before next ≤ greatest_held
+
+-- Behind a line on which this was heard, joiner and book stand for the longer lists, and the line came to this.
+pub record GoesOn (numbers : JudgingNumbers) (judge : Judge) (came : Judged) (taken : List Taken) (messages : List Sent) (heard : Result Taken LineOutcome) : Type 0 where
+  pub joiner : JoinerStandsFor judge.joiner (taken ++ listed heard)
+  pub enters : Enters numbers judge came messages (sent_heard taken heard)

@@ -1,0 +1,66 @@
+-- What the lines of a log come to.
+use Rattle.std.specs.Prelude.{ℕ, ◌==◌, ◌∷◌, [], ◌++◌, Bool, count_by, nat_lt, List, length, Option, Some, None, Result, Ok, Err}
+use Rattle.std.specs.List.{list_any}
+use Rattle.ais_messages.specs.declared.message.PositionReport.{PositionReport}
+use Rattle.fixed_geometry.specs.declared.point.Point.{Point}
+use Rattle.scenario.specs.declared.values.Scenario.{Scenario}
+use Rattle.tracks.specs.AcceptedReports.{JudgingNumbers}
+use Rattle.tracks.specs.VesselsHeld.{Sent, entry_of, held_of, report_in}
+use Rattle.tracks.specs.declared.entry.Entry.{Entry}
+use Rattle.tracks.specs.declared.entry.Entry.TheVariants as entry
+use Rattle.tracks.specs.declared.book.TheConstants.{MOST_VESSELS}
+use Rattle.log_lines.specs.EachLine.{each_line}
+use Rattle.log_lines.specs.LineOutcomes.{outcome_index, report_outcome}
+use Rattle.log_lines.specs.SentLines.{sent, sent_of}
+use Rattle.log_lines.specs.declared.judged.Judged.{Judged}
+use Rattle.log_lines.specs.declared.judged.Judged.TheVariants as judged
+use Rattle.log_lines.specs.declared.outcome.LineOutcome.{LineOutcome}
+use Rattle.log_lines.specs.declared.outcome.LineOutcome.TheVariants as outcome
+
+abbrev pub outcome_of : Judged → LineOutcome
+outcome_of (judged.Accepted report) = outcome.Point
+outcome_of (judged.Without came) = came
+
+-- the numbers by which a scenario judges reports
+abbrev pub numbers_of : Scenario → JudgingNumbers
+numbers_of scenario = record { reference = scenario.reference; gap = scenario.log.gap; max_speed = scenario.log.max_speed }
+
+-- The report of a message that has a point. No message without a position report has one.
+abbrev pub accepted_at : ℕ → Point → Option PositionReport → Judged
+accepted_at time point (Some report) = judged.Accepted (record { time = time; point = point; report = report })
+accepted_at time point None = judged.Without outcome.Static
+
+-- what a message comes to, from its entry in the book of vessels
+abbrev pub judged_entry : Sent → Entry → Judged
+judged_entry one (entry.Point point) = accepted_at one.time point (report_in one.message)
+judged_entry one entry.Static = judged.Without outcome.Static
+judged_entry one (entry.Dropped cause) = judged.Without (report_outcome cause)
+
+-- what a message comes to, after the messages before it; or what came of a line without one
+abbrev pub judged_sent : JudgingNumbers → List Sent → Result Sent LineOutcome → Judged
+judged_sent numbers before (Ok one) = judged_entry one (entry_of numbers before one)
+judged_sent numbers before (Err came) = judged.Without came
+
+-- what a line comes to, after the lines before it
+unfoldable pub judged_line : Scenario → List (List ℕ) → List ℕ → Judged
+judged_line scenario before line = judged_sent (numbers_of scenario) (sent scenario before) (sent_of scenario before line)
+
+-- what lines come to
+unfoldable pub judged_lines : Scenario → List (List ℕ) → List Judged
+judged_lines scenario lines = each_line (judged_line scenario) lines
+
+-- how many lines came to an outcome
+abbrev pub count_of : LineOutcome → List Judged → ℕ
+count_of outcome lines = count_by (λ line. outcome_index (outcome_of line) == outcome_index outcome) lines
+
+-- how many vessels are held behind a line, after the lines before it
+unfoldable pub held_behind : Scenario → List (List ℕ) → List ℕ → ℕ
+held_behind scenario before line = length (held_of (numbers_of scenario) (sent scenario (before ++ line ∷ [])))
+
+-- the greatest number of vessels that are held
+abbrev pub greatest_held : ℕ
+greatest_held = MOST_VESSELS
+
+-- Some line makes more vessels held.
+unfoldable pub is_crowded : Scenario → List (List ℕ) → Bool
+is_crowded scenario lines = list_any (λ held. nat_lt greatest_held held) (each_line (held_behind scenario) lines)

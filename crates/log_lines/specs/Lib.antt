@@ -1,0 +1,11 @@
+pub mod LogLines
+pub mod GrowingLog
+pub mod Pieces
+pub mod LineOutcomes
+pub mod JudgedLines
+pub mod EachLine
+pub mod LineTimes
+pub mod SentLines
+pub mod StaticReports
+pub mod Standing
+pub mod Inner

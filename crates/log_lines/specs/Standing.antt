@@ -1,0 +1,61 @@
+-- What a judge stands for: the lines of a log that it was given, and what each of them came to. What an open line and streamed lines
+-- stand for: the bytes of a log so far.
+use Rattle.std.specs.Prelude.{ℕ, ◌≡◌, ◌≤◌, ◌<◌, ◌==◌, Bool, false, count_by, length, slice_index, take, unwrap_or, List, Option, None}
+use Rattle.std.specs.List.{last_or}
+use Rattle.aivdm.specs.OpenMessages.{StandsFor as JoinerStandsFor}
+use Rattle.scenario.specs.declared.values.Scenario.{Scenario}
+use Rattle.tracks.specs.Standing.{StandsFor as BookStandsFor}
+use Rattle.tracks.specs.VesselsHeld.{held_of}
+use Rattle.log_lines.specs.EachLine.{each_line}
+use Rattle.log_lines.specs.GrowingLog.{ended_lines, open_part}
+use Rattle.log_lines.specs.JudgedLines.{greatest_held, is_crowded, judged_lines, numbers_of, outcome_of}
+use Rattle.log_lines.specs.LineOutcomes.{outcome_index}
+use Rattle.log_lines.specs.SentLines.{heard, sent}
+use Rattle.log_lines.specs.StaticReports.{told_of}
+use Rattle.log_lines.specs.Inner.Times.{KeepsTimes}
+use Rattle.log_lines.specs.declared.judged.Judged.{Judged}
+use Rattle.log_lines.specs.declared.judge.Judge.{Judge}
+use Rattle.log_lines.specs.declared.open_line.OpenLine.{OpenLine}
+use Rattle.log_lines.specs.declared.streamed.StreamedLines.{StreamedLines}
+use Rattle.log_lines.specs.declared.told_static.ToldStatic.{ToldStatic}
+use Rattle.tracks.specs.declared.keeping.Keeping.{Keeping}
+
+-- how much of each vessel its book keeps
+abbrev pub keeping_of : Judge → Keeping
+keeping_of judge = judge.book.keeping
+
+-- whether a line came to the outcome at this index
+abbrev pub is_at_place : ℕ → Judged → Bool
+is_at_place place line = outcome_index (outcome_of line) == place
+
+-- At each index stands how many lines came to the outcome there.
+pub record AreCounts (counts : List ℕ) (lines : List Judged) : Type 0 where
+  pub many : length counts ≡ 21
+  pub each : (place : ℕ) → place < 21 → slice_index counts place ≡ count_by (is_at_place place) lines
+
+-- what the last of the lines tells of a vessel's static data
+abbrev pub last_told : Scenario → List (List ℕ) → Option ToldStatic
+last_told scenario lines = unwrap_or (last_or None (each_line (told_of scenario) lines)) None
+
+-- The judge stands for these lines, which make no more vessels held than it can hold.
+pub record StandsFor (judge : Judge) (scenario : Scenario) (lines : List (List ℕ)) : Type 0 where
+  pub times : KeepsTimes judge.times scenario lines
+  pub joiner : JoinerStandsFor judge.joiner (heard scenario lines)
+  pub book : BookStandsFor judge.book (numbers_of scenario) (sent scenario lines)
+  pub few : length (held_of (numbers_of scenario) (sent scenario lines)) ≤ greatest_held
+  pub calm : is_crowded scenario lines ≡ false
+  pub told : judge.told ≡ last_told scenario lines
+  pub counts : AreCounts judge.counts (judged_lines scenario lines)
+
+-- An open line stands for a log: of the part behind the last line feed its first bytes are kept, two more than a line may have.
+abbrev pub OpenLineStandsFor : OpenLine → List ℕ → Type 0
+OpenLineStandsFor line log = line.bytes.items ≡ take 1026 (open_part log)
+
+-- how much streamed lines keep of each vessel
+abbrev pub kept_of : StreamedLines → Keeping
+kept_of lines = keeping_of lines.judge
+
+-- Streamed lines stand for the bytes of a log so far: its ended lines were judged, and the open one is kept.
+pub record LinesStandFor (lines : StreamedLines) (scenario : Scenario) (log : List ℕ) : Type 0 where
+  pub judge : StandsFor lines.judge scenario (ended_lines log)
+  pub line : OpenLineStandsFor lines.line log

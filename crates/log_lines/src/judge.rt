@@ -1,0 +1,325 @@
+//! Judging a log's lines one after the other.
+ghost use Rattle.std.specs.Prelude.{◌≡◌, ◌≤◌, ◌<◌, ◌+◌, ◌^◌, ◌++◌, ◌∷◌, [], ◌↔◌, List, ℕ, IfOk, IfSome, None, OnOk, Ok, Err, length, slice_index};
+ghost use Rattle.std.specs.Option.{option_to_list};
+ghost use Rattle.aivdm.specs.FragmentJoining.{Taken};
+ghost use Rattle.aivdm.specs.OpenMessages.{StandsFor as JoinerStandsFor};
+ghost use Rattle.aivdm.specs.Sentences.{IfSentence, IsSentence, body_seen, fields_seen};
+ghost use Rattle.ais_messages.specs.MessageFields.{decoded_of, IfMessage, IsMessage, IsReport};
+ghost use Rattle.ais_messages.specs.declared.message.Message.TheVariants.{Position};
+ghost use Rattle.ais_messages.specs.declared.message.Decoded.TheVariants as decoded;
+ghost use Rattle.aivdm.specs.PayloadBits.{bits_of};
+ghost use Rattle.scenario.specs.ScenarioValues.{IsInRange};
+ghost use Rattle.scenario.specs.declared.values.Scenario.{Scenario};
+ghost use Rattle.tracks.specs.AcceptedReports.{JudgingNumbers};
+ghost use Rattle.tracks.specs.Standing.{StandsFor as BookStandsFor};
+ghost use Rattle.tracks.specs.VesselsHeld.{Sent, entry_of, held_of};
+ghost use Rattle.tracks.specs.declared.entry.BookFault.TheVariants.{TooManyVessels};
+ghost use Rattle.log_lines.specs.JudgedLines.{greatest_held, held_behind, judged_entry, judged_line, judged_lines, numbers_of};
+ghost use Rattle.log_lines.specs.LineTimes.{clock_of};
+ghost use Rattle.log_lines.specs.SentLines.{sent, sent_decoded, sent_heard};
+ghost use Rattle.log_lines.specs.StaticReports.{static_reports, told_of};
+
+use crate::judged::Judged;
+use crate::line_times::LineTimes;
+use crate::outcome::LineOutcome;
+use crate::told_static::{ToldStatic, static_told};
+use ais_messages::{Decoded, Message, PositionReport, decode, position};
+use aivdm::{Body, Joined, Joiner, Sentence, SentenceRoom, read_line};
+use scenario::Scenario;
+use std::alloc::Global;
+use tracks::{Accepted, Book, BookFault, Entry, Keeping};
+
+/// What a message comes to, from its entry in the book.
+fn judged(message: &Message, time: u64, entry: Entry) -> Judged
+    ensures { result ≡ judged_entry (record { message = message.now; time = time }) entry }
+{
+    match entry {
+        Entry::Point(point) => match message {
+            Message::Position(report) | Message::Both(report, _) => Judged::Accepted(Accepted {
+                time,
+                point,
+                report: *report,
+            }),
+            Message::Static(_) => Judged::Without(LineOutcome::Static),
+        },
+        Entry::Static => Judged::Without(LineOutcome::Static),
+        Entry::Dropped(cause) => Judged::Without(cause.into()),
+    }
+}
+
+/// What a position report that is a message by itself comes to, from its entry in the book.
+#[inline(always)]
+fn judged_report(report: &PositionReport, time: u64, entry: Entry) -> Judged
+    ensures { result ≡ judged_entry (record { message = Position report.now; time = time }) entry }
+{
+    match entry {
+        Entry::Point(point) => Judged::Accepted(Accepted {
+            time,
+            point,
+            report: *report,
+        }),
+        Entry::Static => Judged::Without(LineOutcome::Static),
+        Entry::Dropped(cause) => Judged::Without(cause.into()),
+    }
+}
+
+/// The position report that a sentence consists of, if it is one alone.
+#[inline(always)]
+fn report_of(room: &mut SentenceRoom, sentence: &Sentence<'_>) -> Option<PositionReport>
+    requires { IsSentence (fields_seen sentence.now) }
+    ensures report { IfSome result (λ report. (sentence.now.total ≡ 1)
+        × (decoded_of (bits_of sentence.now.payload.now sentence.now.fill) ≡ decoded.Message (Position report))) }
+    ensures ranges { IfSome result IsReport }
+{
+    if sentence.total != 1 {
+        return None;
+    }
+    position(&room.bits_of(sentence))
+}
+
+/// What is kept of the lines of a log so far: it stands for the list of them.
+#[derive(Drop)]
+pub struct Judge {
+    times: LineTimes,
+    joiner: Joiner,
+    book: Book,
+    /// What the last line tells of a vessel's static data.
+    told: Option<ToldStatic>,
+    /// How many lines came to each outcome, by its index.
+    counts: [u64; 21],
+}
+
+impl Judge {
+    ghost use Rattle.std.specs.Prelude.{◌-◌, min, slice_set};
+    ghost use Rattle.log_lines.specs.LineOutcomes.{outcome_index};
+    ghost use Rattle.log_lines.specs.Standing.{AreCounts, StandsFor, keeping_of};
+    ghost use Rattle.log_lines.specs.Inner.JudgeState.{Enters, GoesOn, heard_by, held_with};
+
+    /// A judge by the numbers of a scenario, to whom no line came yet, and whose book keeps so much of each vessel. This takes no
+    /// memory.
+    pub fn new(alloc: Global, keeping: Keeping, scenario: &Scenario) -> Judge
+        requires { IsInRange scenario.now }
+        ensures keeping { keeping_of result ≡ keeping }
+        ensures stands { StandsFor result scenario.now [] }
+    {
+        Judge {
+            times: LineTimes::new(scenario),
+            joiner: Joiner::new(alloc),
+            book: Book::with_keeping(
+                alloc,
+                keeping,
+                scenario.reference,
+                scenario.log.gap,
+                scenario.log.max_speed,
+            ),
+            told: None,
+            counts: [0; 21],
+        }
+    }
+
+    /// How many lines came to each outcome, by its index in the order of the report.
+    pub fn counts(&self) -> &[u64; 21]
+        ensures { (scenario : Scenario) (lines : List (List ℕ)) → StandsFor self.now scenario lines
+            → AreCounts result.now (judged_lines scenario lines) }
+    {
+        &self.counts
+    }
+
+    /// The book of vessels, as the lines so far tell of them.
+    pub fn book(&self) -> &Book
+        ensures keeping { result.now.keeping ≡ keeping_of self.now }
+        ensures stands { (scenario : Scenario) (lines : List (List ℕ)) → StandsFor self.now scenario lines
+            → BookStandsFor result.now (numbers_of scenario) (sent scenario lines) }
+    {
+        &self.book
+    }
+
+    /// What the last line tells of a vessel's static data, if it completes a message with a static report.
+    pub fn told(&self) -> Option<ToldStatic>
+        ensures line { (scenario : Scenario) (before : List (List ℕ)) (line : List ℕ) → StandsFor self.now scenario (before ++ line ∷ [])
+            → result ≡ told_of scenario before line }
+        ensures reports { (scenario : Scenario) (before : List (List ℕ)) (line : List ℕ) → StandsFor self.now scenario (before ++ line ∷ [])
+            → static_reports scenario (before ++ line ∷ []) ≡ static_reports scenario before ++ option_to_list result }
+    {
+        self.told
+    }
+
+    /// The clock behind the lines so far.
+    pub fn clock(&self) -> Option<u64>
+        ensures { (scenario : Scenario) (lines : List (List ℕ)) → StandsFor self.now scenario lines
+            → result ≡ clock_of scenario lines }
+    {
+        self.times.clock()
+    }
+
+    /// Counts one line more, as far as a count goes.
+    fn count(&mut self, outcome: LineOutcome)
+        ensures { self.new ≡ record self.old {
+          counts = slice_set self.old.counts (outcome_index outcome)
+              (min (slice_index self.old.counts (outcome_index outcome) + 1) (2 ^ 64 - 1));
+        } }
+    {
+        let place = outcome.place();
+        self.counts[place] = self.counts[place].saturating_add(1);
+    }
+
+    /// Judges a message, and keeps what it tells.
+    fn judge_message(&mut self, message: &Message, time: u64) -> Result<Judged, BookFault>
+        requires message { IsMessage message.now }
+        requires untold { self.old.told ≡ None }
+        ensures judged { IfOk result (λ judged. (numbers : JudgingNumbers) (before : List Sent) → BookStandsFor self.old.book numbers before
+            → Enters numbers self.new judged before (Ok (record { message = message.now; time = time }))) }
+        ensures crowded { result ≡ Err TooManyVessels → (numbers : JudgingNumbers) (before : List Sent) → BookStandsFor self.old.book numbers before
+            → greatest_held < held_with numbers before (Ok (record { message = message.now; time = time })) }
+        ensures same { self.new ≡ record self.old { book = self.new.book; told = self.new.told } }
+        ensures keeping { keeping_of self.new ≡ keeping_of self.old }
+    {
+        let entry = self.book.take(message, time)?;
+        self.told = static_told(message, time);
+        Ok(judged(message, time, entry))
+    }
+
+    /// Judges what the bits of a message are read as.
+    fn judge_decoded(&mut self, decoded: &Decoded, time: u64) -> Result<Judged, BookFault>
+        requires message { IfMessage decoded.now IsMessage }
+        requires untold { self.old.told ≡ None }
+        ensures judged { IfOk result (λ judged. (numbers : JudgingNumbers) (before : List Sent) → BookStandsFor self.old.book numbers before
+            → length (held_of numbers before) ≤ greatest_held
+            → Enters numbers self.new judged before (sent_decoded time decoded.now)) }
+        ensures crowded { result ≡ Err TooManyVessels → (numbers : JudgingNumbers) (before : List Sent) → BookStandsFor self.old.book numbers before
+            → greatest_held < held_with numbers before (sent_decoded time decoded.now) }
+        ensures same { self.new ≡ record self.old { book = self.new.book; told = self.new.told } }
+        ensures keeping { keeping_of self.new ≡ keeping_of self.old }
+    {
+        match decoded {
+            Decoded::Message(message) => self.judge_message(message, time),
+            Decoded::Dropped(cause) => Ok(Judged::Without((*cause).into())),
+        }
+    }
+
+    /// Judges a position report that is a message by itself.
+    #[inline(always)]
+    fn judge_report(&mut self, report: &PositionReport, time: u64) -> Result<Judged, BookFault>
+        requires report { IsReport report.now }
+        requires untold { self.old.told ≡ None }
+        ensures judged { IfOk result (λ judged. (numbers : JudgingNumbers) (before : List Sent) → BookStandsFor self.old.book numbers before
+            → Enters numbers self.new judged before (Ok (record { message = Position report.now; time = time }))) }
+        ensures crowded { result ≡ Err TooManyVessels → (numbers : JudgingNumbers) (before : List Sent) → BookStandsFor self.old.book numbers before
+            → greatest_held < held_with numbers before (Ok (record { message = Position report.now; time = time })) }
+        ensures same { self.new ≡ record self.old { book = self.new.book; told = self.new.told } }
+        ensures keeping { keeping_of self.new ≡ keeping_of self.old }
+    {
+        let entry = self.book.take_report(report, time)?;
+        Ok(judged_report(report, time, entry))
+    }
+
+    /// Judges a sentence that is in time. Most are position reports by themselves, and are read in place.
+    #[inline(always)]
+    fn judge_sentence(
+        &mut self,
+        room: &mut SentenceRoom,
+        sentence: &Sentence<'_>,
+        time: u64,
+    ) -> Result<Judged, BookFault>
+        requires sentence { IsSentence (fields_seen sentence.now) }
+        requires untold { self.old.told ≡ None }
+        ensures judged { IfOk result (λ judged. (numbers : JudgingNumbers) (taken : List Taken) (messages : List Sent) → JoinerStandsFor self.old.joiner taken
+            → BookStandsFor self.old.book numbers messages → length (held_of numbers messages) ≤ greatest_held
+            → GoesOn numbers self.new judged taken messages (Ok (record { sentence = fields_seen sentence.now; time = time }))) }
+        ensures crowded { result ≡ Err TooManyVessels → (numbers : JudgingNumbers) (taken : List Taken) (messages : List Sent)
+            → JoinerStandsFor self.old.joiner taken → BookStandsFor self.old.book numbers messages
+            → greatest_held < held_with numbers messages (sent_heard taken (Ok (record { sentence = fields_seen sentence.now; time = time }))) }
+        ensures same { self.new ≡ record self.old { joiner = self.new.joiner; book = self.new.book; told = self.new.told } }
+        ensures keeping { keeping_of self.new ≡ keeping_of self.old }
+    {
+        match report_of(room, sentence) {
+            Some(report) => self.judge_report(&report, time),
+            None => self.judge_part(sentence, time),
+        }
+    }
+
+    /// Judges a sentence that is in time, by way of the joiner.
+    #[inline(never)]
+    fn judge_part(&mut self, sentence: &Sentence<'_>, time: u64) -> Result<Judged, BookFault>
+        requires sentence { IsSentence (fields_seen sentence.now) }
+        requires untold { self.old.told ≡ None }
+        ensures judged { IfOk result (λ judged. (numbers : JudgingNumbers) (taken : List Taken) (messages : List Sent) → JoinerStandsFor self.old.joiner taken
+            → BookStandsFor self.old.book numbers messages → length (held_of numbers messages) ≤ greatest_held
+            → GoesOn numbers self.new judged taken messages (Ok (record { sentence = fields_seen sentence.now; time = time }))) }
+        ensures crowded { result ≡ Err TooManyVessels → (numbers : JudgingNumbers) (taken : List Taken) (messages : List Sent)
+            → JoinerStandsFor self.old.joiner taken → BookStandsFor self.old.book numbers messages
+            → greatest_held < held_with numbers messages (sent_heard taken (Ok (record { sentence = fields_seen sentence.now; time = time }))) }
+        ensures same { self.new ≡ record self.old { joiner = self.new.joiner; book = self.new.book; told = self.new.told } }
+        ensures keeping { keeping_of self.new ≡ keeping_of self.old }
+    {
+        match self.joiner.take(sentence, time)? {
+            Joined::Message(bits) => self.judge_decoded(&decode(&bits), time),
+            Joined::Waiting => Ok(Judged::Without(LineOutcome::Part)),
+            Joined::Orphan => Ok(Judged::Without(LineOutcome::Orphan)),
+        }
+    }
+
+    /// Judges what a line says.
+    #[inline(always)]
+    fn judge_body(
+        &mut self,
+        room: &mut SentenceRoom,
+        body: &Body<'_>,
+        time: u64,
+    ) -> Result<Judged, BookFault>
+        requires sentence { IfSentence body.now (λ s. IsSentence (fields_seen s)) }
+        requires untold { self.old.told ≡ None }
+        ensures judged { IfOk result (λ judged. (numbers : JudgingNumbers) (taken : List Taken) (messages : List Sent) → JoinerStandsFor self.old.joiner taken
+            → BookStandsFor self.old.book numbers messages → length (held_of numbers messages) ≤ greatest_held
+            → GoesOn numbers self.new judged taken messages (heard_by self.old.times time (body_seen body.now))) }
+        ensures crowded { result ≡ Err TooManyVessels → (numbers : JudgingNumbers) (taken : List Taken) (messages : List Sent)
+            → JoinerStandsFor self.old.joiner taken → BookStandsFor self.old.book numbers messages
+            → greatest_held < held_with numbers messages (sent_heard taken (heard_by self.old.times time (body_seen body.now))) }
+        ensures same { self.new ≡ record self.old { joiner = self.new.joiner; book = self.new.book; told = self.new.told } }
+        ensures keeping { keeping_of self.new ≡ keeping_of self.old }
+    {
+        match body {
+            Body::Dropped(cause) => Ok(Judged::Without((*cause).into())),
+            Body::Sentence(sentence) => match self.times.untimely(time) {
+                Some(outcome) => Ok(Judged::Without(outcome)),
+                None => self.judge_sentence(room, sentence, time),
+            },
+        }
+    }
+
+    /// Takes the next line, and gives what it comes to. Where it makes a 4097th vessel held, or memory runs out, the judge may
+    /// only be dropped.
+    #[inline(always)]
+    pub fn take(&mut self, room: &mut SentenceRoom, line: &[u8]) -> Result<Judged, BookFault>
+        ensures judged { IfOk result (λ judged. (scenario : Scenario) (before : List (List ℕ)) → StandsFor self.old scenario before
+            → judged ≡ judged_line scenario before line.now) }
+        ensures stands { OnOk result ((scenario : Scenario) (before : List (List ℕ)) → length before + 1 < 2 ^ 64
+            → StandsFor self.old scenario before → StandsFor self.new scenario (before ++ line.now ∷ [])) }
+        ensures keeping { keeping_of self.new ≡ keeping_of self.old }
+        ensures crowded { result ≡ Err TooManyVessels → (scenario : Scenario) (before : List (List ℕ)) → StandsFor self.old scenario before
+            → greatest_held < held_behind scenario before line.now }
+    {
+        let reading = read_line(line);
+        let time = self.times.time(reading.stamp);
+        self.told = None;
+        let judged = self.judge_body(room, &reading.body, time)?;
+        self.times.pass(reading.stamp);
+        self.count(judged.outcome());
+        Ok(judged)
+    }
+
+    /// Takes the next line, of which it is only known that it is longer than a line may be, and gives what it comes to: such a line
+    /// is read no further, and has no stamp.
+    pub fn take_long(&mut self) -> Judged
+        ensures judged { (scenario : Scenario) (before : List (List ℕ)) (line : List ℕ) → 1024 < length line
+            → StandsFor self.old scenario before → result ≡ judged_line scenario before line }
+        ensures stands { (scenario : Scenario) (before : List (List ℕ)) (line : List ℕ) → 1024 < length line → length before + 1 < 2 ^ 64
+            → StandsFor self.old scenario before → StandsFor self.new scenario (before ++ line ∷ []) }
+        ensures keeping { keeping_of self.new ≡ keeping_of self.old }
+    {
+        self.told = None;
+        self.times.pass(None);
+        self.count(LineOutcome::Long);
+        Judged::Without(LineOutcome::Long)
+    }
+}

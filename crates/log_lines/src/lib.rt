@@ -1,0 +1,28 @@
+//! The lines of a log, and what each of them comes to.
+//!
+//! A log is cut into lines, and each line comes to exactly one outcome: it is dropped for a cause, it is a part of a message, or its
+//! message is judged by the messages before it. The judge takes the lines one after the other and keeps what was heard: the times,
+//! the open messages, and the book of vessels.
+//!
+//! A log comes in pieces, and a line in any number of them. `StreamedLines` gives the judge each line as its line feed comes, and the
+//! open one at the log's end. `OpenLine` keeps what stands behind the last line feed, and of a line that is too long no more than tells
+//! so: its room is the same whatever the log holds.
+#![tactic(auto)]
+
+mod judge;
+mod judged;
+pub mod laws;
+mod line_feeds;
+mod line_times;
+mod open_line;
+mod outcome;
+mod streamed;
+mod told_static;
+
+pub use judge::Judge;
+pub use judged::Judged;
+pub use line_feeds::{first_line_feed, strip_carriage_return};
+pub use open_line::OpenLine;
+pub use outcome::LineOutcome;
+pub use streamed::{EndedLines, StreamedLines};
+pub use told_static::ToldStatic;

@@ -1,0 +1,68 @@
+//! What stands behind the last line feed of a log.
+ghost use Rattle.std.specs.Prelude.{◌≡◌, ◌==◌, ◌++◌, ◌∷◌, ◌<◌, [], ℕ, List, MatchOption, OnOk, false, length};
+ghost use Rattle.std.specs.List.{All};
+ghost use Rattle.std.specs.Option.{option_copied};
+ghost use Rattle.log_lines.specs.LogLines.{is_line_feed, without_carriage_return};
+ghost use Rattle.log_lines.specs.GrowingLog.{open_part};
+ghost use Rattle.log_lines.specs.Standing.{OpenLineStandsFor};
+
+use crate::line_feeds::strip_carriage_return;
+use outside::Memory;
+use std::alloc::Global;
+
+/// How many bytes of an open line are kept: two more than a line may have, one of which may be a carriage return.
+const KEPT: usize = 1026;
+
+/// The line that no line feed has ended yet.
+#[derive(Drop)]
+pub struct OpenLine {
+    bytes: Vec<u8>,
+}
+
+impl OpenLine {
+    /// The open line of no bytes. This takes no memory.
+    pub fn new(alloc: Global) -> OpenLine
+        ensures { OpenLineStandsFor result [] }
+    {
+        OpenLine {
+            bytes: Vec::new(alloc),
+        }
+    }
+
+    /// Whether it has no byte.
+    pub fn is_empty(&self) -> bool
+        ensures { (log : List ℕ) → OpenLineStandsFor self.now log → result ≡ (length (open_part log) == 0) }
+    {
+        self.bytes.is_empty()
+    }
+
+    /// Goes on with bytes among which there is no line feed.
+    pub fn extend(&mut self, part: &[u8]) -> Result<(), Memory>
+        requires { All (λ byte. is_line_feed byte ≡ false) part.now }
+        ensures { OnOk result ((log : List ℕ) → OpenLineStandsFor self.old log → OpenLineStandsFor self.new (log ++ part.now)) }
+    {
+        let room = KEPT.saturating_sub(self.bytes.len());
+        let count = part.len().min(room);
+        self.bytes.extend_from_slice(&part[..count])?;
+        Ok(())
+    }
+
+    /// The open line, without a carriage return at its end. `None` where it has more than 1024 bytes, though not each longer line
+    /// is told so.
+    pub fn line(&self) -> Option<&[u8]>
+        ensures { (log : List ℕ) → OpenLineStandsFor self.now log → MatchOption (option_copied result)
+            (1024 < length (without_carriage_return (open_part log))) (λ line. line ≡ without_carriage_return (open_part log)) }
+    {
+        if self.bytes.len() >= KEPT {
+            return None;
+        }
+        Some(strip_carriage_return(self.bytes.as_slice()))
+    }
+
+    /// Ends it by a line feed: a new one begins.
+    pub fn end(&mut self)
+        ensures { (log : List ℕ) → OpenLineStandsFor self.old log → OpenLineStandsFor self.new (log ++ 10 ∷ []) }
+    {
+        self.bytes.clear();
+    }
+}
