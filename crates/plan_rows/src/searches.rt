@@ -2,7 +2,7 @@
 ghost use Rattle.std.specs.Prelude.{◌≤◌, ◌<◌, IfSome};
 ghost use Rattle.lattice.specs.Grids.{choices_of};
 ghost use Rattle.lattice.specs.PlanNumbers.{IsPlan};
-ghost use Rattle.planner.specs.Situations.{IsSituation};
+ghost use Rattle.situations.specs.Situations.{IsSituation};
 
 use crate::checked::checked;
 use ais_messages::PositionReport;

@@ -15,20 +15,20 @@ use Rattle.meetings.specs.Standing as meetings
 use Rattle.meetings.specs.Traces.{step_at}
 use Rattle.mtl_monitor.specs.Traces.{Trace}
 use Rattle.mtl_monitor.specs.declared.program.Program.{Program}
-use Rattle.planner.specs.FailingPlans.{BreaksARule, EntersDomain, FailsBy, FailsTowards, Some_}
+use Rattle.situations.specs.FailingPlans.{BreaksARule, EntersDomain, FailsBy, FailsTowards, Some_}
 use Rattle.planner.specs.Inner.Levels.{StandsAt, StaysOut, lasts}
-use Rattle.planner.specs.Inner.Paths.{EntersAlong, HasReached, start_of}
+use Rattle.situations.specs.Paths.{EntersAlong, HasReached, start_of}
 use Rattle.planner.specs.Inner.Watching.{Stands, StandsFor}
-use Rattle.planner.specs.Prefixes.{PrefixFails, reached, steps_told}
-use Rattle.planner.specs.Situations.{now_of, own_at, target_at, terms_of}
+use Rattle.situations.specs.Prefixes.{PrefixFails, reached, steps_told}
+use Rattle.situations.specs.Situations.{now_of, own_at, target_at, terms_of}
 use Rattle.planner.specs.declared.basis.SearchBasis.{SearchBasis}
-use Rattle.planner.specs.declared.situation.Situation.{Situation}
-use Rattle.planner.specs.declared.situation.Target.{Target}
+use Rattle.situations.specs.declared.situation.Situation.{Situation}
+use Rattle.situations.specs.declared.situation.Target.{Target}
 use Rattle.planner.specs.declared.watched.Watched.{Watched}
-use Rattle.planner.proofs.Blocks.{shared}
-use Rattle.planner.proofs.CommonLegs.{in_force, same_contact, same_reached, same_steps, when_less, when_not_less}
-use Rattle.planner.proofs.FlatList.{none_some}
-use Rattle.planner.proofs.Lifting.{begins_too, enters_too, fails_too, rows_too, some_weaker}
+use Rattle.situations.proofs.Blocks.{shared}
+use Rattle.situations.proofs.CommonLegs.{in_force, same_contact, same_reached, same_steps, when_less, when_not_less}
+use Rattle.situations.proofs.FlatList.{none_some}
+use Rattle.situations.proofs.Lifting.{begins_too, enters_too, fails_too, rows_too, some_weaker}
 
 -- ---- how long a leg lasts
 

@@ -10,7 +10,6 @@ use Rattle.meetings.specs.Traces.{IsContactAt, step_at, steps_from}
 use Rattle.meetings.proofs.ForCallers.{rows_then, steps_from-last, steps_from-length}
 use Rattle.meetings.specs.Ranks.{all_power_driven}
 use Rattle.mtl_formulas.proofs.ReachLaw.{equal-AgreeAt, value_of-same}
-use Rattle.mtl_formulas.proofs.Values.{value_of-past}
 use Rattle.mtl_formulas.specs.FormulaMeasures.{reach_of}
 use Rattle.mtl_formulas.specs.FormulaTree.{FormulaTree}
 use Rattle.mtl_formulas.specs.declared.atom.Atom.{Atom}
@@ -20,14 +19,14 @@ use Rattle.mtl_monitor.specs.Following as monitor
 use Rattle.mtl_monitor.specs.Traces.{Trace, value_in}
 use Rattle.mtl_monitor.specs.declared.program.Program.{Program}
 use Rattle.rule_set.specs.NamedTrees.{NamedTree}
-use Rattle.planner.specs.FailingPlans.{AreTraceRows, BeginsAt, BreaksARule, NewlyBreaks}
+use Rattle.situations.specs.FailingPlans.{AreTraceRows, BeginsAt, BreaksARule, NewlyBreaks}
 use Rattle.planner.specs.Inner.Breaking.{IsNewlyBrokenAt, formulas_of}
 use Rattle.planner.specs.Inner.Watching.{HasBegun, HasNotBegun, IsCutAtNow, IsUnbroken, Stands, StandsFor}
-use Rattle.planner.specs.Situations.{now_of, own_at, target_at, terms_of}
-use Rattle.planner.specs.declared.situation.Situation.{Situation}
-use Rattle.planner.specs.declared.situation.Target.{Target}
+use Rattle.situations.specs.Situations.{now_of, own_at, target_at, terms_of}
+use Rattle.situations.specs.declared.situation.Situation.{Situation}
+use Rattle.situations.specs.declared.situation.Target.{Target}
 use Rattle.planner.specs.declared.watched.Watched.{Watched}
-use Rattle.planner.proofs.Lifting.{earlier_rows, one_start, one_trace, trace_length}
+use Rattle.situations.proofs.Lifting.{earlier_rows, no_within, one_start, one_trace, trace_length}
 
 -- ---- formulas of the rules
 
@@ -54,13 +53,6 @@ within_greatest (f ∷ formulas) zero lt = omega arith
 within_greatest (f ∷ formulas) (suc k) lt = let h = within_greatest formulas k (omega arith) in omega arith
 
 -- ---- values
-
--- Where a value is No, there is a row.
-pub no_within : (rows : Trace) (f : FormulaTree) (i : ℕ) → value_in rows f i ≡ No → i < length rows
-no_within rows f i is_no = elim (cases_lt i (length rows)) [
-  | inl lt ↦ lt
-  | inr past ↦ (let is_open : value_in rows f i ≡ Open = value_of-past (λ (row : Atom → Verdict). row) rows f i past in cc)
-]
 
 taken : (rows : Trace) (n k : ℕ) → k < n → slice_get (take n rows) k ≡ slice_get rows k
 taken [] zero k lt = absurd (omega arith)

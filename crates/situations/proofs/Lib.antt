@@ -1,0 +1,13 @@
+pub mod SecondBySecond
+pub mod CommonLegs
+pub mod OwnStates
+pub mod Lifting
+pub mod Blocks
+pub mod FlatList
+pub mod Safe
+pub mod TickLists
+pub mod Moving
+pub mod Tracking
+pub mod Nearness
+pub mod Vessels
+pub mod Situated
