@@ -146,7 +146,7 @@ fn is_target(situation: &Situation, target: &Target, now: usize, positions: usiz
 {
     target.past.as_slice().len() == situation.own_past.as_slice().len()
         && target.ahead.as_slice().len() == positions + 1
-        && target.radius < 2_147_483_648
+        && target.domain.radius < 2_147_483_648
         && is_target_tracked(situation, target, now, now + positions)
 }
 

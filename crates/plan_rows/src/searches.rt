@@ -11,7 +11,7 @@ use fixed_geometry::Point;
 use lattice::{Lattice, Plan};
 use motion::TickState;
 use outside::Memory;
-use planner::{Ahead, Past, Search, Situation, Target, Targets, least_plan, predicted};
+use planner::{Ahead, Domain, Past, Search, Situation, Target, Targets, least_plan, predicted};
 use predictions::Change;
 use rand_core::utils::NextWord;
 use rand_pcg::Pcg32;
@@ -100,7 +100,7 @@ fn head_on(alloc: Global, lattice: Lattice) -> Result<Situation, Memory> {
         mmsi: 477_553_000,
         past: Past::new(past),
         ahead: Ahead::new(ahead),
-        radius: 3_000_000,
+        domain: Domain { radius: 3_000_000 },
     };
     towards(alloc, 1, lattice, target)
 }
@@ -252,7 +252,9 @@ fn random_situation(alloc: Global, source: &mut Pcg32) -> Result<Situation, Memo
         mmsi: 477_553_000,
         past: Past::new(past),
         ahead: Ahead::new(ahead),
-        radius: u64::from(below(source, 4_000_000)),
+        domain: Domain {
+            radius: u64::from(below(source, 4_000_000)),
+        },
     };
     towards(alloc, now, lattice, target)
 }

@@ -4,7 +4,6 @@ use Rattle.std.proofs.lemmas.Bool.{cases_lt}
 use Rattle.std.proofs.lemmas.List.{get_or_append_left, get_or-take}
 use Rattle.std.proofs.Math.Nat.{mul-le-mul_right}
 use Rattle.std.specs.Prelude.{Option, IsSomeAnd, slice_get, slice_index}
-use Rattle.closest_approach.specs.Separation.{IsSeparated}
 use Rattle.encounters.specs.declared.pair_step.PairStep.{PairStep}
 use Rattle.lattice.specs.Grids.{Grid, choices_of, positions_of}
 use Rattle.lattice.specs.OwnMotion.{choice_in_force}
@@ -15,7 +14,7 @@ use Rattle.meetings.specs.Standing as meetings
 use Rattle.meetings.specs.Traces.{step_at}
 use Rattle.mtl_monitor.specs.Traces.{Trace}
 use Rattle.mtl_monitor.specs.declared.program.Program.{Program}
-use Rattle.situations.specs.FailingPlans.{BreaksARule, EntersDomain, FailsBy, FailsTowards, Some_}
+use Rattle.situations.specs.FailingPlans.{BreaksARule, EntersAt, EntersDomain, FailsBy, FailsTowards, Some_}
 use Rattle.planner.specs.Inner.Levels.{StandsAt, StaysOut, lasts}
 use Rattle.situations.specs.Paths.{EntersAlong, HasReached, start_of}
 use Rattle.planner.specs.Inner.Watching.{Stands, StandsFor}
@@ -142,7 +141,7 @@ module _ (s : Situation) (W : List ℕ) (from steps : ℕ) (from_now : now_of s 
         | inr after ↦ (let there : e.step ≡ from + (e.step - from) = omega arith in inr (record {
           ahead = e.step - from;
           within = omega arith;
-          enters = subst (λ (i : ℕ). IsSomeAnd (step_at (own_at s W) (target_at s T) i) (λ pair. ¬ IsSeparated pair.step T.radius)) there e.enters;
+          enters = subst (λ (i : ℕ). EntersAt s W T i) there e.enters;
         }))
       ]
 

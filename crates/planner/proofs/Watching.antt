@@ -213,8 +213,10 @@ module _ (s : Situation) (X : List ℕ) (T : Target) (cut : Trace) (is_cut : IsC
               let the_cut : take (now_of s - start) others ≡ cut = is_cut.some X at start others from_now begins others_are in
               record {
                 position = h.at.position;
-                broken = subst (λ (r : Trace). value_in r (monitor.formula_at (formulas_of s) h.rule) h.at.position ≡ No) same h.at.broken;
-                not_before = subst (λ (r : Trace). value_in r (monitor.formula_at (formulas_of s) h.rule) h.at.position ≢ No) (sym the_cut) h.not_before;
+                here = record {
+                  broken = subst (λ (r : Trace). value_in r (monitor.formula_at (formulas_of s) h.rule) h.at.position ≡ No) same h.at.broken;
+                  not_before = subst (λ (r : Trace). value_in r (monitor.formula_at (formulas_of s) h.rule) h.at.position ≢ No) (sym the_cut) h.not_before;
+                };
               };
         }),
       )
@@ -231,14 +233,14 @@ module _ (s : Situation) (X : List ℕ) (T : Target) (cut : Trace) (is_cut : IsC
       let same : breaks.start ≡ start = one_start s X T at at breaks.start start breaks.begins begins in
       let broken = breaks.breaks rows (subst (λ (i : ℕ). AreTraceRows s X at T i rows) (sym same) are) in
       let the_cut : take (now_of s - breaks.start) rows ≡ cut = ap (λ (i : ℕ). take (now_of s - i) rows) same ∙ is_cut.some X at start rows from_now begins are in
-      let not_before : value_in cut f broken.position ≢ No = subst (λ (r : Trace). value_in r f broken.position ≢ No) the_cut broken.not_before in
+      let not_before : value_in cut f broken.position ≢ No = subst (λ (r : Trace). value_in r f broken.position ≢ No) the_cut broken.here.not_before in
       let told : IsNewlyBrokenAt (formulas_of s) cut rows (broken.position + 1 + reach_of f) = record {
         rule = k;
         known = omega arith;
-        at = record { position = broken.position; decided = refl; broken = broken.broken };
+        at = record { position = broken.position; decided = refl; broken = broken.here.broken };
         not_before = not_before;
       } in
-      let there = no_within rows f broken.position broken.broken in
+      let there = no_within rows f broken.position broken.here.broken in
       let far = within_greatest (formulas_of s) k (omega arith) in
       let the_start_cut : take (now_of s - start) rows ≡ cut = is_cut.some X at start rows from_now begins are in (
         broken.position + 1 + reach_of f,
@@ -251,7 +253,7 @@ module _ (s : Situation) (X : List ℕ) (T : Target) (cut : Trace) (is_cut : IsC
                   let short = length-take (now_of s - start) rows in
                   let front : value_in (take (now_of s - start) rows) f broken.position ≡ value_in rows f broken.position =
                   told_by_front rows (now_of s - start) f broken.position (omega arith) in
-                  not_before (subst (λ (r : Trace). value_in r f broken.position ≡ No) the_start_cut (front ∙ broken.broken)))
+                  not_before (subst (λ (r : Trace). value_in r f broken.position ≡ No) the_start_cut (front ∙ broken.here.broken)))
             ])
           ],
           omega arith,

@@ -1,6 +1,7 @@
 pub mod SecondBySecond
 pub mod CommonLegs
 pub mod OwnStates
+pub mod Entries
 pub mod Lifting
 pub mod Blocks
 pub mod FlatList

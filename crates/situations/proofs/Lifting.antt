@@ -3,7 +3,6 @@ use Rattle.std.proofs.Common.{◌≡◌, ◌≢◌, ◌∙◌, ℕ, zero, suc, �
 use Rattle.std.proofs.lemmas.Bool.{cases_lt}
 use Rattle.std.proofs.lemmas.List.{take-append-drop}
 use Rattle.std.specs.Prelude.{Option, slice_get, IsSomeAnd}
-use Rattle.closest_approach.specs.Separation.{IsSeparated}
 use Rattle.encounters.specs.declared.pair_step.PairStep.{PairStep}
 use Rattle.lattice.specs.OwnMotion.{choice_in_force}
 use Rattle.meetings.specs.Atoms.{AreAtomRows}
@@ -16,6 +15,7 @@ use Rattle.mtl_formulas.specs.declared.verdict.Verdict.{Verdict}
 use Rattle.mtl_formulas.specs.declared.verdict.Verdict.TheVariants.{No, Open}
 use Rattle.mtl_monitor.specs.Traces.{Trace, value_in}
 use Rattle.rule_set.specs.NamedTrees.{NamedTree}
+use Rattle.situations.specs.Domains.{Enters}
 use Rattle.situations.specs.FailingPlans.{AreTraceRows, BeginsAt, BreaksARule, EntersDomain, FailsBy, FailsTowards, IsNewlyBroken, NewlyBreaks, Some_}
 use Rattle.situations.specs.Situations.{now_of, own_at, target_at, terms_of}
 use Rattle.situations.specs.declared.situation.Situation.{Situation}
@@ -111,13 +111,15 @@ module _ (s : Situation) (X Y : List ℕ) (n : ℕ) (same : (step : ℕ) → ste
       broken_too f start rows lt h =
           let front = take (at - start) rows in
           let whole : front ++ drop (at - start) rows ≡ rows = take-append-drop (at - start) rows in
-          let is_no = stays_no front (drop (at - start) rows) f h.position h.broken in
+          let is_no = stays_no front (drop (at - start) rows) f h.position h.here.broken in
           let fewer : now_of s - start ≤ at - start = omega arith in
           let cut : take (now_of s - start) front ≡ take (now_of s - start) rows = cut_of (now_of s - start) (at - start) rows fewer in
           record {
             position = h.position;
-            broken = subst (λ (r : Trace). value_in r f h.position ≡ No) whole is_no;
-            not_before = subst (λ (r : Trace). value_in r f h.position ≢ No) cut h.not_before;
+            here = record {
+              broken = subst (λ (r : Trace). value_in r f h.position ≡ No) whole is_no;
+              not_before = subst (λ (r : Trace). value_in r f h.position ≢ No) cut h.here.not_before;
+            };
           }
         where
           cut_of : (i j : ℕ) (r : Trace) → i ≤ j → take i (take j r) ≡ take i r
@@ -146,7 +148,7 @@ module _ (s : Situation) (X Y : List ℕ) (n : ℕ) (same : (step : ℕ) → ste
           step = h.step;
           from_now = h.from_now;
           planned = omega arith;
-          enters = subst (λ (o : Option PairStep). IsSomeAnd o (λ pair. ¬ IsSeparated pair.step T.radius)) (same_step s X Y n same T h.step (omega arith)) h.enters;
+          enters = subst (λ (o : Option PairStep). IsSomeAnd o (Enters s T)) (same_step s X Y n same T h.step (omega arith)) h.enters;
         }
 
     pub fails_towards_too : (later : ℕ) → at ≤ later → now_of s ≤ at → FailsTowards s X at T → FailsTowards s Y later T

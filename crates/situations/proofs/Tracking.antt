@@ -9,6 +9,7 @@ use Rattle.encounters.specs.Directions.{HasDirection}
 use Rattle.meetings.specs.Traces.{IsPlaced, IsShortMove}
 use Rattle.motion.specs.TickStates.{IsTickState}
 use Rattle.motion.specs.declared.leg.TickState.{TickState}
+use Rattle.situations.specs.Domains.{IsDomain}
 use Rattle.situations.specs.Situations.{IsTracked, sighting}
 use Rattle.situations.specs.declared.situation.Target.{Target}
 use Rattle.situations.specs.Inner.Facts.{IsKnownBelow, IsTargetOver, IsTrack, known_at, predicted_at, told_at}
@@ -102,7 +103,7 @@ one_predicted_more track is k here known value state moves =
 
 pub target_over : (track : KnownTrack) → IsTrack track → (positions : ℕ) (target : Target) → target.past ≡ map (known_at track) (range_with_len 0 (track.window.ticks + 1))
     → IsKnownBelow (track.window.ticks + 1) (sighting target.past) → target.ahead ≡ map (predicted_at track) (range_with_len 0 (positions + 1))
-    → IsKnownBelow (positions + 1) (slice_get target.ahead) → target.radius < 2 ^ 31 → IsTargetOver track.window.ticks positions target
+    → IsKnownBelow (positions + 1) (slice_get target.ahead) → IsDomain target.domain → IsTargetOver track.window.ticks positions target
 target_over track is positions target past past-known ahead ahead-known domain =
     let ticks = track.window.ticks in
     let none : ticks + 0 ≡ ticks = omega arith in

@@ -1,12 +1,12 @@
 -- When a plan of own ship fails. The planned trace of own ship and a target begins as any trace does, and ends with the last
 -- planned tick; what it may not do is told by its values, and by the steps from now on.
 use Rattle.std.specs.Prelude.{ℕ, ◌≡◌, ◌≢◌, ◌-◌, ◌<◌, ◌≤◌, ◌⊎◌, List, take, slice_get, IsSomeAnd}
-use Rattle.closest_approach.specs.Separation.{IsSeparated}
 use Rattle.meetings.specs.Atoms.{AreAtomRows}
 use Rattle.meetings.specs.Traces.{BeginsTrace, step_at, steps_from}
 use Rattle.mtl_formulas.specs.FormulaTree.{FormulaTree}
 use Rattle.mtl_formulas.specs.declared.verdict.Verdict.TheVariants.{No}
 use Rattle.mtl_monitor.specs.Traces.{Trace, value_in}
+use Rattle.situations.specs.Domains.{Enters}
 use Rattle.situations.specs.Situations.{end_of, now_of, own_at, target_at, terms_of}
 use Rattle.situations.specs.declared.situation.Situation.{Situation}
 use Rattle.situations.specs.declared.situation.Target.{Target}
@@ -15,12 +15,20 @@ use Rattle.situations.specs.declared.situation.Target.{Target}
 abbrev pub Some_ : {X : Type 0} → (X → Type 0) → List X → Type 0
 Some_ P xs = (k : ℕ) × IsSomeAnd (slice_get xs k) P
 
--- Over a trace some position has the value No, and has it not over the trace cut off behind so many positions, where all that lies
+-- Over a trace a position has the value No, and has it not over the trace cut off behind so many positions, where all that lies
 -- beyond is Open.
-pub record IsNewlyBroken (cut : ℕ) (rows : Trace) (formula : FormulaTree) : Type 0 where
-  pub position : ℕ
+pub record IsNewlyBrokenHere (cut : ℕ) (rows : Trace) (formula : FormulaTree) (position : ℕ) : Type 0 where
   pub broken : value_in rows formula position ≡ No
   pub not_before : value_in (take cut rows) formula position ≢ No
+
+-- It is so at some position.
+pub record IsNewlyBroken (cut : ℕ) (rows : Trace) (formula : FormulaTree) : Type 0 where
+  pub position : ℕ
+  pub here : IsNewlyBrokenHere cut rows formula position
+
+-- In the step from a tick to the next own ship enters the target's domain.
+abbrev pub EntersAt : Situation → List ℕ → Target → ℕ → Type 0
+EntersAt situation plan target step = IsSomeAnd (step_at (own_at situation plan) (target_at situation target) step) (Enters situation target)
 
 module _ (situation : Situation) (plan : List ℕ) (last : ℕ) (target : Target) where
   -- The trace up to a last tick begins at this one.
@@ -38,12 +46,20 @@ module _ (situation : Situation) (plan : List ℕ) (last : ℕ) (target : Target
     pub begins : BeginsAt start
     pub breaks : (rows : Trace) → AreTraceRows start rows → IsNewlyBroken (now_of situation - start) rows formula
 
-  -- In some step from now on the target is nearer than the radius of her domain at some instant.
+  -- In some step from now on she enters the target's domain.
   pub record EntersDomain : Type 0 where
     pub step : ℕ
     pub from_now : now_of situation ≤ step
     pub planned : step < last
-    pub enters : IsSomeAnd (step_at (own_at situation plan) (target_at situation target) step) (λ pair. ¬ IsSeparated pair.step target.radius)
+    pub enters : EntersAt situation plan target step
+
+  -- It is newly broken at the position of a step.
+  pub record BreaksAt (formula : FormulaTree) (step : ℕ) : Type 0 where
+    pub start : ℕ
+    pub begins : BeginsAt start
+    pub from : start ≤ step
+    pub before : step < last
+    pub breaks : (rows : Trace) → AreTraceRows start rows → IsNewlyBrokenHere (now_of situation - start) rows formula (step - start)
 
   -- Some rule is newly broken.
   abbrev pub BreaksARule : Type 0

@@ -14,6 +14,7 @@ pub use Rattle.rule_set.specs.NamedTrees
 pub use Rattle.scenario.specs.Ticks
 pub mod Prediction
 pub mod Situations
+pub mod Domains
 pub mod Paths
 pub mod FailingPlans
 pub mod Safety

@@ -1,14 +1,13 @@
 -- Own ship's path in a leg.
-use Rattle.std.specs.Prelude.{ℕ, ◌≡◌, ◌+◌, ◌<◌, ◌^◌, List, length, get_or, unwrap_or, IsSomeAnd}
-use Rattle.closest_approach.specs.Separation.{IsSeparated}
+use Rattle.std.specs.Prelude.{ℕ, ◌≡◌, ◌+◌, ◌<◌, ◌^◌, List, length, get_or, unwrap_or}
 use Rattle.encounters.specs.Directions.{HasDirection}
 use Rattle.fixed_geometry.specs.Sizes.{IsBelow}
 use Rattle.lattice.specs.UnderWays.{IsReached}
 use Rattle.lattice.specs.declared.under_way.UnderWay.{UnderWay}
-use Rattle.meetings.specs.Traces.{step_at}
 use Rattle.motion.specs.Displacement.{displacement}
 use Rattle.motion.specs.declared.leg.TickState.{TickState}
-use Rattle.situations.specs.Situations.{own_at, planned_state, target_at}
+use Rattle.situations.specs.FailingPlans.{EntersAt}
+use Rattle.situations.specs.Situations.{planned_state}
 use Rattle.situations.specs.declared.situation.Situation.{Situation}
 use Rattle.situations.specs.declared.situation.Target.{Target}
 
@@ -38,4 +37,4 @@ pub record IsTrack (path : List TickState) : Type 0 where
 pub record EntersAlong (situation : Situation) (plan : List ℕ) (target : Target) (from steps : ℕ) : Type 0 where
   pub ahead : ℕ
   pub within : ahead < steps
-  pub enters : IsSomeAnd (step_at (own_at situation plan) (target_at situation target) (from + ahead)) (λ pair. ¬ IsSeparated pair.step target.radius)
+  pub enters : EntersAt situation plan target (from + ahead)

@@ -46,7 +46,7 @@ target_of numbers messages window own vessel = record {
   mmsi = vessel.mmsi;
   past = past_of numbers messages window (changes_for own.predict vessel.mmsi) vessel;
   ahead = ahead_of window (positions_of own.lattice) (changes_for own.predict vessel.mmsi) vessel;
-  radius = metre * (own.base + own.lengths * length_of (statics_of messages vessel.mmsi).ship);
+  domain = record { radius = metre * (own.base + own.lengths * length_of (statics_of messages vessel.mmsi).ship) };
 }
 
 module _ (numbers : JudgingNumbers) (messages : List Sent) (scenario : Scenario) (own : OwnPart) where

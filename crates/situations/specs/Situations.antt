@@ -8,6 +8,7 @@ use Rattle.meetings.specs.Terms.{Terms}
 use Rattle.meetings.specs.Traces.{IsPlaced, IsShortMove}
 use Rattle.motion.specs.TickStates.{IsTickState}
 use Rattle.motion.specs.declared.leg.TickState.{TickState}
+use Rattle.situations.specs.Domains.{IsDomain}
 use Rattle.situations.specs.declared.situation.Situation.{Situation}
 use Rattle.situations.specs.declared.situation.Target.{Target}
 
@@ -56,7 +57,7 @@ pub record IsTarget (situation : Situation) (target : Target) : Type 0 where
   pub until_now : length target.past ≡ length situation.own_past
   pub from_now : length target.ahead ≡ positions_of situation.lattice + 1
   pub tracked : IsTracked (end_of situation) (target_at situation target)
-  pub domain : target.radius < 2 ^ 31
+  pub domain : IsDomain target.domain
 
 -- what is asked of a situation
 pub record IsSituation (situation : Situation) : Type 0 where

@@ -1,6 +1,5 @@
 //! The plans one after the other, each over its whole trace: the plain program.
 ghost use Rattle.std.specs.Prelude.{ℕ, ◌≡◌, ◌≢◌, ◌+◌, ◌-◌, ◌≤◌, ◌<◌, ◌↔◌, length, map, take, IfOk, IsSomeAnd, IsTrue, MatchOption};
-ghost use Rattle.closest_approach.specs.Separation.{IsSeparated};
 ghost use Rattle.lattice.specs.Grids.{choices_of};
 ghost use Rattle.lattice.specs.PlanNumbers.{IsPlan};
 ghost use Rattle.meetings.specs.Answers.{answer_of};
@@ -10,12 +9,11 @@ ghost use Rattle.mtl_formulas.specs.FormulaTree.{tree_of};
 ghost use Rattle.mtl_formulas.specs.declared.verdict.Verdict.TheVariants.{No};
 ghost use Rattle.mtl_monitor.specs.Traces.{value_in};
 ghost use Rattle.rule_set.specs.NamedTrees.{NamedTree};
-ghost use Rattle.situations.specs.FailingPlans.{AreTraceRows, BeginsAt, BreaksARule, EntersDomain, Fails, FailsTowards, IsNewlyBroken, Some_};
+ghost use Rattle.situations.specs.FailingPlans.{AreTraceRows, BeginsAt, BreaksARule, EntersAt, EntersDomain, Fails, FailsTowards, IsNewlyBroken, IsNewlyBrokenHere, Some_};
 ghost use Rattle.situations.specs.LeastPlans.{AllFail, IsLeastPlan};
 ghost use Rattle.situations.specs.Situations.{end_of, now_of, own_at, target_at, IsSituation, IsTarget};
 
 use crate::situation::{Situation, Target};
-use closest_approach::separated;
 use lattice::Plan;
 use meetings::{AtomRow, Follower};
 use mtl_formulas::{Formula, Verdict, value};
@@ -42,8 +40,7 @@ fn is_broken(formula: &Formula, rows: &[AtomRow], position: usize) -> bool
 fn is_newly_broken_at(formula: &Formula, rows: &[AtomRow], cut: usize, position: usize) -> bool
     requires valid { IsValid (tree_of formula.now) }
     requires cut { cut ≤ length rows.now }
-    ensures { IsTrue result ↔ ((value_in (map answer_of rows.now) (tree_of formula.now) position ≡ No)
-        × (value_in (take cut (map answer_of rows.now)) (tree_of formula.now) position ≢ No)) }
+    ensures { IsTrue result ↔ IsNewlyBrokenHere cut (map answer_of rows.now) (tree_of formula.now) position }
 {
     let broken = is_broken(formula, rows, position);
     let already = is_broken(formula, &rows[..cut], position);
@@ -138,10 +135,10 @@ impl Situation {
         requires plan { IsPlan (choices_of self.now.lattice) self.now.lattice.legs plan.now }
         requires target { IsTarget self.now target.now }
         requires planned { k < end_of self.now }
-        ensures { IsTrue result ↔ IsSomeAnd (step_at (own_at self.now plan.now) (target_at self.now target.now) k) (λ pair. ¬ IsSeparated pair.step target.now.radius) }
+        ensures { IsTrue result ↔ EntersAt self.now plan.now target.now k }
     {
         match self.step_at(plan, target, k) {
-            Some(pair) => !separated(&pair.step, target.radius),
+            Some(pair) => self.enters(target, &pair),
             None => false,
         }
     }

@@ -2,6 +2,7 @@
 //! the least numbered plan that does not, found plan by plan. It is made of a scenario and a book of vessels where own ship is ready.
 #![tactic(auto)]
 
+mod domain;
 mod flat;
 pub mod laws;
 mod lists;
@@ -15,6 +16,7 @@ mod targets;
 mod ticks;
 mod track;
 
+pub use domain::Domain;
 pub use flat::least_plan;
 pub use lists::{Ahead, Past, Targets};
 pub use near::Near;

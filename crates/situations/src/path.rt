@@ -1,15 +1,14 @@
 //! Own ship's path in a leg, and a target's beside it.
-ghost use Rattle.std.specs.Prelude.{ℕ, ◌≡◌, ◌+◌, ◌-◌, ◌<◌, ◌≤◌, ◌↔◌, IfSome, IsSomeAnd, IsTrue, List, length};
-ghost use Rattle.closest_approach.specs.Separation.{IsSeparated};
+ghost use Rattle.std.specs.Prelude.{ℕ, ◌≡◌, ◌+◌, ◌-◌, ◌<◌, ◌≤◌, ◌↔◌, IfSome, IsTrue, List, length};
 ghost use Rattle.encounters.specs.Directions.{HaveDirections};
 ghost use Rattle.lattice.specs.Grids.{choices_of, positions_of};
 ghost use Rattle.lattice.specs.PlanNumbers.{IsPlan};
 ghost use Rattle.meetings.specs.Traces.{IsContactAt, step_at};
+ghost use Rattle.situations.specs.FailingPlans.{EntersAt};
 ghost use Rattle.situations.specs.Paths.{EntersAlong, HasReached, IsPath, IsTrack};
 ghost use Rattle.situations.specs.Situations.{now_of, own_at, target_at, IsSituation, IsTarget};
 
 use crate::situation::{Situation, Target};
-use closest_approach::separated;
 use encounters::PairStep;
 use lattice::{Plan, UnderWay};
 use meetings::{contact, step_between};
@@ -100,10 +99,10 @@ impl Situation {
         requires planned { first + length path.now ≤ positions_of self.now.lattice + 1 }
         requires step { j + 1 < length path.now }
         ensures { (plan : List ℕ) → IsPath self.now plan first path.now
-            → (IsTrue result ↔ IsSomeAnd (step_at (own_at self.now plan) (target_at self.now target.now) (now_of self.now + first + j)) (λ pair. ¬ IsSeparated pair.step target.now.radius)) }
+            → (IsTrue result ↔ EntersAt self.now plan target.now (now_of self.now + first + j)) }
     {
         match self.step_on(path, target, first, j) {
-            Some(pair) => !separated(&pair.step, target.radius),
+            Some(pair) => self.enters(target, &pair),
             None => false,
         }
     }

@@ -1,4 +1,5 @@
 //! The situation in which a plan is sought.
+use crate::domain::Domain;
 use crate::lists::{Ahead, Past, Targets};
 use encounters::{Act, Detect};
 use lattice::Lattice;
@@ -14,8 +15,8 @@ pub struct Target {
     pub past: Past,
     /// How she is predicted at the ticks from now on, up to the last planned one.
     pub ahead: Ahead,
-    /// The radius of her domain, in tenths of a millimetre, below 2^31.
-    pub radius: u64,
+    /// The water round her that own ship is to stay out of.
+    pub domain: Domain,
 }
 
 /// What is known at now, and the plans among which one is sought.

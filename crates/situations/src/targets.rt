@@ -3,6 +3,7 @@ ghost use Rattle.std.specs.Prelude.{ℕ, ◌≡◌, ◌≤◌, ◌<◌, ◌+◌,
 ghost use Rattle.std.specs.Option.{option_copied};
 ghost use Rattle.lattice.specs.Grids.{positions_of};
 ghost use Rattle.situations.specs.Prediction.{AreChanges};
+ghost use Rattle.situations.specs.Domains.{IsDomain};
 ghost use Rattle.situations.specs.Situations.{sighting};
 ghost use Rattle.scenario.specs.Ticks.{window_end};
 ghost use Rattle.tracks.specs.AcceptedReports.{JudgingNumbers};
@@ -16,6 +17,7 @@ ghost use Rattle.situations.specs.Inner.Facts.{legs_known, IsKnownBelow, IsNear,
 use crate::near::Near;
 use crate::track::{KnownTrack, changes_for};
 use outside::Memory;
+use crate::domain::Domain;
 use crate::lists::Past;
 use crate::situation::Target;
 use predictions::Change;
@@ -64,16 +66,18 @@ impl Setting<'_> {
         self.track(vessel, &[]).past(alloc)
     }
 
-    /// The radius of a vessel's domain, in tenths of a millimetre.
-    fn radius(&self, vessel: &Near) -> u64
+    /// A vessel's domain.
+    fn domain(&self, vessel: &Near) -> Domain
         requires setting { IsSetting self.now }
         requires near { IsNear (window_end self.now.window) self.now.book.now vessel.now }
         ensures value { (numbers : JudgingNumbers) (messages : List Sent) → StandsFor self.now.book.now numbers messages
-            → result ≡ metre * (self.now.own.now.base + self.now.own.now.lengths * length_of (statics_of messages vessel.now.mmsi).ship) }
-        ensures domain { result < 2 ^ 31 }
+            → result.radius ≡ metre * (self.now.own.now.base + self.now.own.now.lengths * length_of (statics_of messages vessel.now.mmsi).ship) }
+        ensures domain { IsDomain result }
     {
         let length = u64::from(self.book.length(vessel.mmsi));
-        10_000 * (u64::from(self.own.base) + u64::from(self.own.lengths) * length)
+        Domain {
+            radius: 10_000 * (u64::from(self.own.base) + u64::from(self.own.lengths) * length),
+        }
     }
 
     /// A vessel as a target.
@@ -90,7 +94,7 @@ impl Setting<'_> {
             mmsi: vessel.mmsi,
             past: track.past(alloc)?,
             ahead: track.ahead(alloc, self.own.lattice.positions())?,
-            radius: self.radius(vessel),
+            domain: self.domain(vessel),
         })
     }
 

@@ -9,6 +9,7 @@ use Rattle.motion.specs.TickStates.{IsTickState, state_at}
 use Rattle.motion.specs.declared.leg.Leg.{Leg}
 use Rattle.motion.specs.declared.leg.TickState.{TickState}
 use Rattle.situations.specs.Prediction.{AreChanges, predicted_state}
+use Rattle.situations.specs.Domains.{IsDomain}
 use Rattle.situations.specs.Situations.{IsTracked, sighting}
 use Rattle.situations.specs.declared.situation.Target.{Target}
 use Rattle.scenario.specs.ScenarioValues.{IsOwnPart, IsWindow}
@@ -79,7 +80,7 @@ pub record IsTargetOver (ticks positions : ℕ) (target : Target) : Type 0 where
   pub until_now : length target.past ≡ ticks + 1
   pub from_now : length target.ahead ≡ positions + 1
   pub tracked : IsTracked (ticks + positions) (told_at ticks target)
-  pub domain : target.radius < 2 ^ 31
+  pub domain : IsDomain target.domain
 
 -- What is prepared of: a window and own ship's part of a scenario, and a book that keeps the tracks of what it stands for.
 pub record IsSetting (setting : Setting) : Type 0 where

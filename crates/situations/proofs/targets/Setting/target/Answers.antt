@@ -28,12 +28,12 @@ returns-clause-value c = λ numbers messages stands.
     let past = c.in_ok-past.ensures.value ∙ past_is numbers messages c.args.self.now.window (changes_for own.predict vessel.mmsi) vessel c.track-track.result made.window made.latest predicted (made.legs numbers messages stands) in
     let ahead = c.in_ok-ahead.ensures.value ∙ ap (λ (n : ℕ). map (predicted_at c.track-track.result) (range_with_len 0 (n + 1))) c.positions.ensures.value
     ∙ ahead_is numbers messages c.args.self.now.window (changes_for own.predict vessel.mmsi) vessel c.track-track.result made.window made.latest predicted (positions_of own.lattice) in
-    let radius = c.radius.ensures.value numbers messages stands in
-    λ i. record { mmsi = vessel.mmsi; past = past i; ahead = ahead i; radius = radius i }
+    let radius = c.domain.ensures.value numbers messages stands in
+    λ i. record { mmsi = vessel.mmsi; past = past i; ahead = ahead i; domain = record { radius = radius i } }
 
 pub returns-clause-over : goal.returns-clause-over
 returns-clause-over c =
-    let target : Target = record { mmsi = c.args.vessel.now.mmsi; past = c.in_ok-past.field-0; ahead = c.in_ok-ahead.field-0; radius = c.radius.result } in
+    let target : Target = record { mmsi = c.args.vessel.now.mmsi; past = c.in_ok-past.field-0; ahead = c.in_ok-ahead.field-0; domain = c.domain.result } in
     subst₂ (λ (w : Window) (n : ℕ). IsTargetOver w.ticks n target) c.track-track.ensures.window c.positions.ensures.value
     (target_over c.track-track.result c.track-track.ensures.track c.positions.result target c.in_ok-past.ensures.value c.in_ok-past.ensures.known
-    c.in_ok-ahead.ensures.value c.in_ok-ahead.ensures.known c.radius.ensures.domain)
+    c.in_ok-ahead.ensures.value c.in_ok-ahead.ensures.known c.domain.ensures.domain)

@@ -1,6 +1,6 @@
 use Rattle.std.proofs.Common.{refl}
 use Rattle.situations.proofs.Vessels.{held}
-use Rattle.situations.proofs.targets.Setting.radius.Goals as goal
+use Rattle.situations.proofs.targets.Setting.domain.Goals as goal
 
 pub returns-clause-value : goal.returns-clause-value
 returns-clause-value c = λ numbers messages stands.
