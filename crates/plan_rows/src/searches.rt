@@ -87,7 +87,7 @@ fn towards(alloc: Global, now: u32, lattice: Lattice, target: Target) -> Result<
 }
 
 /// Two vessels that meet head-on at 18 knots each, 18.52 metres aside of each other. Now is tick 1.
-fn head_on(alloc: Global, lattice: Lattice) -> Result<Situation, Memory> {
+pub(crate) fn head_on(alloc: Global, lattice: Lattice) -> Result<Situation, Memory> {
     let mut past = Vec::new(alloc);
     let mut ahead = Vec::new(alloc);
     for k in 0..2_u32 {

@@ -1,22 +1,14 @@
 -- Blocks of plans that fail, and the walk over them.
-use Rattle.std.proofs.Common.{◌≡◌, ◌∙◌, ℕ, zero, suc, ◌+◌, ◌-◌, ◌*◌, ◌^◌, ◌<◌, ◌≤◌, ◌⊎◌, List, [], ◌∷◌, ◌++◌, length, take, drop, ap, sym, subst, inl, inr, arith, refl, length-append}
+use Rattle.std.proofs.Common.{◌≡◌, ℕ, suc, ◌+◌, ◌*◌, ◌^◌, ◌<◌, ◌≤◌, List, ◌++◌, sym, subst, inl, inr, arith}
 use Rattle.std.proofs.lemmas.Bool.{cases_lt}
-use Rattle.std.proofs.lemmas.List.{get_or_append_left, get_or-take, take-append-drop}
-use Rattle.std.proofs.Math.Seq.{take-append_seam}
-use Rattle.std.proofs.lemmas.Int.Digits.{number_after_append, number_after_lt}
-use Rattle.std.proofs.Math.Nat.{pow-suc, pow-succ', pow-zero, mul-le-mul_left, mul-le-mul_right, one-le-pow, pow-le-pow_right}
-use Rattle.std.proofs.lemmas.Nat.{pow-add}
-use Rattle.std.specs.Int.Digits.{AllBelowBase, number_from_digits, number_from_digits_after}
-use Rattle.std.specs.Prelude.{slice_index, ◌↔◌}
-use Rattle.lattice.specs.Grids.{Grid, choices_of, plans_of, positions_of}
-use Rattle.lattice.specs.OwnMotion.{choice_in_force}
-use Rattle.lattice.specs.PlanNumbers.{number_of, plan_of, IsPlan}
-use Rattle.lattice.proofs.Digits.{below_plan_of, inverse, length-plan_of, number_plan_of, plan_after}
+use Rattle.std.proofs.Math.Nat.{pow-suc, mul-le-mul_left, one-le-pow}
+use Rattle.lattice.specs.Grids.{choices_of}
+use Rattle.lattice.specs.PlanNumbers.{number_of, plan_of}
+use Rattle.lattice.proofs.Digits.{below_plan_of, inverse, length-plan_of}
 use Rattle.situations.specs.FailingPlans.{Fails, FailsBy}
 use Rattle.planner.specs.Inner.Walk.{AllFailFrom, IsFirst}
-use Rattle.situations.specs.LeastPlans.{AllFail, AllFailBelow, IsLeastPlan, numbered}
-use Rattle.situations.specs.Prefixes.{AreOneBlock, IsInBlock, PrefixFails, reached, steps_told}
-use Rattle.situations.specs.Situations.{end_of, now_of}
+use Rattle.situations.specs.LeastPlans.{AllFail, AllFailBelow, IsLeastPlan}
+use Rattle.situations.specs.Prefixes.{PrefixFails, reached}
 use Rattle.situations.specs.declared.situation.Situation.{Situation}
 use Rattle.situations.proofs.Blocks.{plan_in_block, prefix_lasts, same_front}
 

@@ -11,7 +11,6 @@ use Rattle.lattice.specs.PlanNumbers.{plan_of}
 use Rattle.lattice.specs.declared.under_way.UnderWay.{UnderWay}
 use Rattle.lattice.proofs.Digits.{length-plan_of}
 use Rattle.meetings.specs.Standing as meetings
-use Rattle.meetings.specs.Traces.{step_at}
 use Rattle.mtl_monitor.specs.Traces.{Trace}
 use Rattle.mtl_monitor.specs.declared.program.Program.{Program}
 use Rattle.situations.specs.FailingPlans.{BreaksARule, EntersAt, EntersDomain, FailsBy, FailsTowards, Some_}
@@ -19,7 +18,7 @@ use Rattle.planner.specs.Inner.Levels.{StandsAt, StaysOut, lasts}
 use Rattle.situations.specs.Paths.{EntersAlong, HasReached, start_of}
 use Rattle.planner.specs.Inner.Watching.{Stands, StandsFor}
 use Rattle.situations.specs.Prefixes.{PrefixFails, reached, steps_told}
-use Rattle.situations.specs.Situations.{now_of, own_at, target_at, terms_of}
+use Rattle.situations.specs.Situations.{now_of, terms_of}
 use Rattle.planner.specs.declared.basis.SearchBasis.{SearchBasis}
 use Rattle.situations.specs.declared.situation.Situation.{Situation}
 use Rattle.situations.specs.declared.situation.Target.{Target}

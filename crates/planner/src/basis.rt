@@ -9,12 +9,12 @@ ghost use Rattle.planner.specs.Inner.Watching.{IsEarly, IsReady, StandsFor};
 ghost use Rattle.rule_set.specs.NamedTrees.{NamedTree};
 
 use crate::already::Already;
-use situations::{Situation, Target};
 use crate::watched::Watched;
 use lattice::{Plan, UnderWay};
 use mtl_monitor::Program;
 use outside::Memory;
 use rule_set::RuleSet;
+use situations::{Situation, Target};
 use std::alloc::Global;
 
 /// A situation, its rules as one program, and what is broken at now towards each target.

@@ -17,13 +17,13 @@ ghost use Rattle.planner.specs.declared.watched.Watched.{Watched};
 
 use crate::already::Already;
 use crate::basis::SearchBasis;
-use situations::{Situation, Target};
 use crate::watched::Watched;
 use fixed_geometry::Point;
 use lattice::{Plan, UnderWay};
 use motion::TickState;
 use mtl_monitor::{Program, TraceState};
 use outside::Memory;
+use situations::{Situation, Target};
 use std::alloc::Global;
 
 /// Own ship's path in the last leg of the prefix, and what is kept of each target after it.

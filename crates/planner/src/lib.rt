@@ -10,4 +10,6 @@ mod search;
 mod watched;
 
 pub use search::Search;
-pub use situations::{Ahead, Domain, Past, Situation, Target, Targets, laws, least_plan, predicted};
+pub use situations::{
+    Ahead, Domain, Past, Situation, Target, Targets, laws, least_plan, predicted,
+};

@@ -7,10 +7,10 @@ ghost use Rattle.situations.specs.Situations.{IsSituation};
 use crate::basis::{SearchBasis, program_of, watched_at_now};
 use crate::explore::explore;
 use crate::level::Level;
-use situations::Situation;
 use lattice::Plan;
 use mtl_monitor::TraceState;
 use outside::Memory;
+use situations::Situation;
 use std::alloc::Global;
 
 /// The search for the least numbered plan that does not fail. It holds all places that it needs.

@@ -53,6 +53,13 @@ none_so_far P n before here i lt = elim (cases_lt i n) [
   | inr last ↦ (let e : n ≡ i = omega arith in λ h. here (subst P (sym e) h))
 ]
 
+-- from a number on
+pub none_from : (P : ℕ → Type 0) (from n : ℕ) → ((i : ℕ) → from ≤ i → i < n → ¬ P i) → (¬ P n) → (i : ℕ) → from ≤ i → i < n + 1 → ¬ P i
+none_from P from n before here i low lt = elim (cases_lt i n) [
+  | inl earlier ↦ before i low earlier
+  | inr last ↦ (let e : n ≡ i = omega arith in λ h. here (subst P (sym e) h))
+]
+
 pub none_so_far_of : {X : Type 0} (P : X → Type 0) (xs : List X) (n : ℕ) (x : X) → n < length xs → x ≡ get_or xs n x → ((i : ℕ) (d : X) → i < n → ¬ P (get_or xs i d)) → (¬ P x)
     → (i : ℕ) (d : X) → i < n + 1 → ¬ P (get_or xs i d)
 none_so_far_of {X} P xs n x inside is before here i d lt = elim (cases_lt i n) [

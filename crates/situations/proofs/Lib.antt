@@ -1,3 +1,4 @@
+pub mod ForCallers
 pub mod SecondBySecond
 pub mod CommonLegs
 pub mod OwnStates
@@ -5,6 +6,9 @@ pub mod Entries
 pub mod Lifting
 pub mod Blocks
 pub mod FlatList
+pub mod FirstBroken
+pub mod FirstReasons
+pub mod Agreeing
 pub mod Safe
 pub mod TickLists
 pub mod Moving

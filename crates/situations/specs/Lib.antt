@@ -17,6 +17,7 @@ pub mod Situations
 pub mod Domains
 pub mod Paths
 pub mod FailingPlans
+pub mod Reasons
 pub mod Safety
 pub mod LeastPlans
 pub mod Prefixes

@@ -1,6 +1,6 @@
 -- What is predicted of another vessel: from her latest accepted report on she goes on as it says, until a change that is
 -- predicted of her. Times are seconds since the Unix epoch; now and the changes' times are counted from there.
-use Rattle.std.specs.Prelude.{ℕ, zero, suc, ◌+◌, ◌-◌, ◌*◌, ◌<◌, ◌≤◌, List, All, AllPairs, Option, Some, None, nat_le, pos, ◌+ℤ◌}
+use Rattle.std.specs.Prelude.{ℕ, zero, suc, ◌+◌, ◌-◌, ◌<◌, ◌≤◌, List, All, AllPairs, Option, Some, None, nat_le, pos, ◌+ℤ◌}
 use Rattle.std.specs.List.{filter, last_or}
 use Rattle.ais_messages.specs.declared.message.PositionReport.{PositionReport}
 use Rattle.fixed_geometry.specs.Velocity.{velocity_of}

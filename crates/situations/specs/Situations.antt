@@ -1,5 +1,5 @@
 -- The states of own ship and of a target at each tick: before now as they were seen, from now on as planned and as predicted.
-use Rattle.std.specs.Prelude.{ℕ, ◌≡◌, ◌+◌, ◌-◌, ◌*◌, ◌^◌, ◌<◌, ◌≤◌, List, length, All, AllPairs, Option, Some, None, IfSome, IsSome, slice_get, unwrap_or, nat_lt, if◌then◌else◌}
+use Rattle.std.specs.Prelude.{ℕ, ◌≡◌, ◌+◌, ◌-◌, ◌*◌, ◌<◌, ◌≤◌, List, length, All, AllPairs, Option, Some, None, IfSome, IsSome, slice_get, unwrap_or, nat_lt, if◌then◌else◌}
 use Rattle.encounters.specs.Directions.{HasDirection}
 use Rattle.encounters.specs.Risk.{IsDetect}
 use Rattle.lattice.specs.Grids.{choices_of, positions_of}

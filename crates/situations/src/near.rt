@@ -9,10 +9,10 @@ ghost use Rattle.tracks.specs.declared.keeping.Keeping.TheVariants.{Tracks};
 ghost use Rattle.situations.specs.NearVessels.{is_within, near_by, near_of, point_now};
 ghost use Rattle.situations.specs.Inner.Facts.{IsFresh, IsNear};
 
+use crate::prediction::predicted;
 use crate::readiness::is_fresh;
 use fixed_geometry::{Point, within};
 use outside::Memory;
-use crate::prediction::predicted;
 use std::alloc::Global;
 use tracks::{Accepted, Book};
 

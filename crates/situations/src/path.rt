@@ -70,13 +70,7 @@ impl Situation {
     }
 
     /// Whether both are in contact there.
-    pub fn is_contact_on(
-        &self,
-        path: &[TickState],
-        target: &Target,
-        first: u32,
-        j: usize,
-    ) -> bool
+    pub fn is_contact_on(&self, path: &[TickState], target: &Target, first: u32, j: usize) -> bool
         requires situation { IsSituation self.now }
         requires target { IsTarget self.now target.now }
         requires track { IsTrack path.now }

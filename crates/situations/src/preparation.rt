@@ -15,14 +15,14 @@ ghost use Rattle.situations.specs.Inner.Facts.{HasMany, IsFresh, IsNear, IsReady
 ghost use Rattle.situations.specs.declared.preparation.PrepareFault.{PrepareFault};
 ghost use Rattle.situations.specs.declared.readiness.Unready.{Unready};
 
+use crate::lists::Targets;
 use crate::near::{Circle, Near, point_now};
 use crate::readiness::{Ready, Unready, readiness};
+use crate::situation::Situation;
 use crate::targets::{Setting, count_others};
 use lattice::Lattice;
 use motion::TickState;
 use outside::Memory;
-use crate::lists::Targets;
-use crate::situation::Situation;
 use scenario::{Scenario, Window};
 use std::alloc::Global;
 use tracks::Book;

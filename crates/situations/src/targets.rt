@@ -14,12 +14,12 @@ ghost use Rattle.situations.specs.NearVessels.{others_of};
 ghost use Rattle.situations.specs.PlanSituations.{metre, past_of, target_of};
 ghost use Rattle.situations.specs.Inner.Facts.{legs_known, IsKnownBelow, IsNear, IsSetting, IsTargetOver, IsTrack};
 
-use crate::near::Near;
-use crate::track::{KnownTrack, changes_for};
-use outside::Memory;
 use crate::domain::Domain;
 use crate::lists::Past;
+use crate::near::Near;
 use crate::situation::Target;
+use crate::track::{KnownTrack, changes_for};
+use outside::Memory;
 use predictions::Change;
 use scenario::{OwnPart, Window};
 use std::alloc::Global;

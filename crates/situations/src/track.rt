@@ -11,10 +11,10 @@ ghost use Rattle.predictions.specs.declared.predictions.Predict.{Predict as Pred
 ghost use Rattle.situations.specs.KnownStates.{changes_for};
 ghost use Rattle.situations.specs.Inner.Facts.{known_at, predicted_at, IsKnownBelow, IsTrack};
 
-use motion::{Legs, TickState};
-use outside::Memory;
 use crate::lists::{Ahead, Past};
 use crate::prediction::predicted;
+use motion::{Legs, TickState};
+use outside::Memory;
 use predictions::{Change, Predict};
 use scenario::Window;
 use std::alloc::Global;

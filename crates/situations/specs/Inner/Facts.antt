@@ -1,5 +1,5 @@
 -- What holds of what is known of a vessel.
-use Rattle.std.specs.Prelude.{ℕ, ◌≡◌, ◌+◌, ◌-◌, ◌*◌, ◌^◌, ◌≤◌, ◌<◌, List, [], length, Option, Some, None, Ok, IfSome, nat_lt, slice_get, if◌then◌else◌}
+use Rattle.std.specs.Prelude.{ℕ, ◌≡◌, ◌+◌, ◌-◌, ◌*◌, ◌≤◌, ◌<◌, List, [], length, Option, Some, None, Ok, IfSome, nat_lt, slice_get, if◌then◌else◌}
 use Rattle.std.specs.Option.{option_copied}
 use Rattle.fixed_geometry.specs.Sizes.{IsWithin}
 use Rattle.meetings.specs.Traces.{IsShortMove}

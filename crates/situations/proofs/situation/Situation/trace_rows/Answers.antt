@@ -18,7 +18,9 @@ loop-k-preserved c =
     let b = target_at s c.args.target.now in
     let k = c.loop-k.k in
     let steps = steps_from a b c.args.start (k - c.args.start) in
-    let few = c.end-k-end.ensures.few in
+    let few = c.requires.until in
+    let past = c.requires.situation.short_past in
+    let positions = c.requires.situation.few_positions in
     let lt = c.loop-k-test.true in
     let le = c.loop-k.auto.k in
     let count = steps_from-length a b c.args.start (k - c.args.start) in
@@ -36,7 +38,7 @@ loop-k-preserved c =
 
 pub returns-clause-count : goal.returns-clause-count
 returns-clause-count c =
-    let end = c.end-k-end.ensures.value in
+    let end = c.requires.until in
     let start = c.requires.start in
     let le = c.loop-k-test.false in
     let ge = c.loop-k.auto.k-end in
