@@ -17,7 +17,7 @@ use Rattle.log_lines.specs.SentLines.{sent}
 use Rattle.log_lines.specs.declared.judged.Judged.{Judged}
 use Rattle.log_lines.specs.declared.judged.Judged.TheVariants as judged
 use Rattle.log_lines.specs.declared.outcome.LineOutcome.{LineOutcome}
-use Rattle.own_ship.specs.PlanSituations.{own_readiness, situation_of, vessels_near}
+use Rattle.situations.specs.PlanSituations.{own_readiness, situation_of, vessels_near}
 use Rattle.scenario.specs.declared.values.Scenario.{Scenario}
 use Rattle.sessions.specs.AuditReport.{IsAuditReport, rows_behind, sightings_of, stretch_rows, total_rows, vessel_rows}
 use Rattle.sessions.specs.DrillReport.{IsDrillReport, drill_text}

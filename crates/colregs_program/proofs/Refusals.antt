@@ -11,7 +11,7 @@ use Rattle.sessions.specs.Endings.{Came}
 use Rattle.sessions.specs.Modes.{reads_log, reports}
 use Rattle.sessions.specs.Refusals.{IsMet}
 use Rattle.sessions.specs.declared.session_fault.SessionFault.TheVariants as why
-use Rattle.own_ship.specs.declared.readiness.Unready.{Unready}
+use Rattle.situations.specs.declared.readiness.Unready.{Unready}
 use Rattle.colregs_program.specs.Answers.{EndsWith, HoldsUnder, IsDue, IsOfDrill, IsScenario, MetIn, Runs, StopsWith, WritesNothing, WritesPart}
 use Rattle.colregs_program.specs.LogAnswers.{GainsFront, GainsReport, GainsSettled, IsAnswered, IsStoppedBy, LeavesSettled, Reports, answer_of, finished}
 use Rattle.command_line.specs.Requests.{AskFor, AskForNothing}

@@ -1,8 +1,8 @@
 -- What a run writes to standard error: a line that names the fault.
 use Rattle.std.specs.Prelude.{ℕ, codes, Bool, true, false, List, [], ◌∷◌, ◌++◌}
 use Rattle.std.specs.Fmt.{decimal}
-use Rattle.own_ship.specs.declared.readiness.Unready.{Unready}
-use Rattle.own_ship.specs.declared.readiness.Unready.TheVariants as unready
+use Rattle.situations.specs.declared.readiness.Unready.{Unready}
+use Rattle.situations.specs.declared.readiness.Unready.TheVariants as unready
 use Rattle.scenario_keys.specs.ScenarioTexts.{fault_text}
 use Rattle.colregs_program.specs.declared.status.Which.{Which}
 use Rattle.colregs_program.specs.declared.status.Which.TheVariants as which

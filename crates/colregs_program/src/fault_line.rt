@@ -4,7 +4,7 @@ ghost use Rattle.scenario_keys.specs.declared.key.Key.{Key};
 ghost use Rattle.colregs_program.specs.FaultLines.{fault_line, is_made};
 
 use crate::status::{Status, Which};
-use own_ship::Unready;
+use situations::Unready;
 use scenario::{Cause, Key, ScenarioFault};
 use std::alloc::{AllocError, Global};
 

@@ -17,7 +17,7 @@ mod streaming;
 mod telling;
 
 pub use command_line::Mode;
-pub use own_ship::Unready;
+pub use situations::Unready;
 pub use program::run;
 pub use scenario::{Cause, Key, LogNumbers, Scenario, Window};
 pub use sessions::{Ending, Session, SessionFault};

@@ -17,7 +17,7 @@ ghost use Rattle.colregs_program.specs.AskedScenarios.{log_of};
 ghost use Rattle.colregs_program.specs.FaultLines.{fault_line};
 ghost use Rattle.colregs_program.specs.LogAnswers.{GainsFront, GainsReport, IsAnswered, IsFinished, LeavesSettled};
 ghost use Rattle.colregs_program.specs.Told.{Gains};
-ghost use Rattle.own_ship.specs.declared.readiness.Unready.{Unready};
+ghost use Rattle.situations.specs.declared.readiness.Unready.{Unready};
 ghost use Rattle.colregs_program.specs.declared.status.Status.{Status};
 ghost use Rattle.colregs_program.specs.declared.status.Which.TheVariants as which;
 

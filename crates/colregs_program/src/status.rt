@@ -3,7 +3,7 @@ ghost use Rattle.std.specs.Prelude.{◌≡◌};
 ghost use Rattle.colregs_program.specs.FaultLines.{exit_status_of};
 
 use command_line::WordsFault;
-use own_ship::Unready;
+use situations::Unready;
 use scenario::{Cause, Key};
 
 /// What is limited.

@@ -5,7 +5,7 @@ ghost use Rattle.colregs_program.specs.Inner.Streaming.{stream_status};
 use crate::status::{Status, Which};
 use crate::streaming::StreamFault;
 use auditor::MOST_TRACES;
-use own_ship::MOST_TARGETS;
+use situations::MOST_TARGETS;
 use sessions::SessionFault;
 use tracks::MOST_VESSELS;
 

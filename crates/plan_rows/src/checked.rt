@@ -7,7 +7,7 @@ ghost use Rattle.lattice.specs.Grids.{positions_of};
 ghost use Rattle.meetings.specs.Traces.{IsPlaced, IsShortMove};
 ghost use Rattle.motion.specs.Displacement.{displacement};
 ghost use Rattle.motion.specs.TickStates.{IsTickState};
-ghost use Rattle.planner.specs.Situations.{end_of, known_at, now_of, sighting, target_at, IsSituation, IsTarget, IsTracked};
+ghost use Rattle.situations.specs.Situations.{end_of, known_at, now_of, sighting, target_at, IsSituation, IsTarget, IsTracked};
 
 use encounters::Detect;
 use fixed_geometry::Point;
@@ -146,7 +146,7 @@ fn is_target(situation: &Situation, target: &Target, now: usize, positions: usiz
 {
     target.past.as_slice().len() == situation.own_past.as_slice().len()
         && target.ahead.as_slice().len() == positions + 1
-        && target.radius < 2_147_483_648
+        && target.domain.radius < 2_147_483_648
         && is_target_tracked(situation, target, now, now + positions)
 }
 

@@ -4,4 +4,6 @@
 #[cfg(test)]
 mod checked;
 #[cfg(test)]
+mod reasons;
+#[cfg(test)]
 mod searches;

@@ -2,7 +2,7 @@
 ghost use Rattle.std.specs.Prelude.{◌≤◌, ◌<◌, IfSome};
 ghost use Rattle.lattice.specs.Grids.{choices_of};
 ghost use Rattle.lattice.specs.PlanNumbers.{IsPlan};
-ghost use Rattle.planner.specs.Situations.{IsSituation};
+ghost use Rattle.situations.specs.Situations.{IsSituation};
 
 use crate::checked::checked;
 use ais_messages::PositionReport;
@@ -11,7 +11,7 @@ use fixed_geometry::Point;
 use lattice::{Lattice, Plan};
 use motion::TickState;
 use outside::Memory;
-use planner::{Ahead, Past, Search, Situation, Target, Targets, least_plan, predicted};
+use planner::{Ahead, Domain, Past, Search, Situation, Target, Targets, least_plan, predicted};
 use predictions::Change;
 use rand_core::utils::NextWord;
 use rand_pcg::Pcg32;
@@ -87,7 +87,7 @@ fn towards(alloc: Global, now: u32, lattice: Lattice, target: Target) -> Result<
 }
 
 /// Two vessels that meet head-on at 18 knots each, 18.52 metres aside of each other. Now is tick 1.
-fn head_on(alloc: Global, lattice: Lattice) -> Result<Situation, Memory> {
+pub(crate) fn head_on(alloc: Global, lattice: Lattice) -> Result<Situation, Memory> {
     let mut past = Vec::new(alloc);
     let mut ahead = Vec::new(alloc);
     for k in 0..2_u32 {
@@ -100,7 +100,7 @@ fn head_on(alloc: Global, lattice: Lattice) -> Result<Situation, Memory> {
         mmsi: 477_553_000,
         past: Past::new(past),
         ahead: Ahead::new(ahead),
-        radius: 3_000_000,
+        domain: Domain { radius: 3_000_000 },
     };
     towards(alloc, 1, lattice, target)
 }
@@ -252,7 +252,9 @@ fn random_situation(alloc: Global, source: &mut Pcg32) -> Result<Situation, Memo
         mmsi: 477_553_000,
         past: Past::new(past),
         ahead: Ahead::new(ahead),
-        radius: u64::from(below(source, 4_000_000)),
+        domain: Domain {
+            radius: u64::from(below(source, 4_000_000)),
+        },
     };
     towards(alloc, now, lattice, target)
 }

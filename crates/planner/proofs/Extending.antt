@@ -4,7 +4,6 @@ use Rattle.std.proofs.lemmas.Bool.{cases_lt}
 use Rattle.std.proofs.lemmas.List.{get_or_append_left, get_or-take}
 use Rattle.std.proofs.Math.Nat.{mul-le-mul_right}
 use Rattle.std.specs.Prelude.{Option, IsSomeAnd, slice_get, slice_index}
-use Rattle.closest_approach.specs.Separation.{IsSeparated}
 use Rattle.encounters.specs.declared.pair_step.PairStep.{PairStep}
 use Rattle.lattice.specs.Grids.{Grid, choices_of, positions_of}
 use Rattle.lattice.specs.OwnMotion.{choice_in_force}
@@ -12,23 +11,22 @@ use Rattle.lattice.specs.PlanNumbers.{plan_of}
 use Rattle.lattice.specs.declared.under_way.UnderWay.{UnderWay}
 use Rattle.lattice.proofs.Digits.{length-plan_of}
 use Rattle.meetings.specs.Standing as meetings
-use Rattle.meetings.specs.Traces.{step_at}
 use Rattle.mtl_monitor.specs.Traces.{Trace}
 use Rattle.mtl_monitor.specs.declared.program.Program.{Program}
-use Rattle.planner.specs.FailingPlans.{BreaksARule, EntersDomain, FailsBy, FailsTowards, Some_}
+use Rattle.situations.specs.FailingPlans.{BreaksARule, EntersAt, EntersDomain, FailsBy, FailsTowards, Some_}
 use Rattle.planner.specs.Inner.Levels.{StandsAt, StaysOut, lasts}
-use Rattle.planner.specs.Inner.Paths.{EntersAlong, HasReached, start_of}
+use Rattle.situations.specs.Paths.{EntersAlong, HasReached, start_of}
 use Rattle.planner.specs.Inner.Watching.{Stands, StandsFor}
-use Rattle.planner.specs.Prefixes.{PrefixFails, reached, steps_told}
-use Rattle.planner.specs.Situations.{now_of, own_at, target_at, terms_of}
+use Rattle.situations.specs.Prefixes.{PrefixFails, reached, steps_told}
+use Rattle.situations.specs.Situations.{now_of, terms_of}
 use Rattle.planner.specs.declared.basis.SearchBasis.{SearchBasis}
-use Rattle.planner.specs.declared.situation.Situation.{Situation}
-use Rattle.planner.specs.declared.situation.Target.{Target}
+use Rattle.situations.specs.declared.situation.Situation.{Situation}
+use Rattle.situations.specs.declared.situation.Target.{Target}
 use Rattle.planner.specs.declared.watched.Watched.{Watched}
-use Rattle.planner.proofs.Blocks.{shared}
-use Rattle.planner.proofs.CommonLegs.{in_force, same_contact, same_reached, same_steps, when_less, when_not_less}
-use Rattle.planner.proofs.FlatList.{none_some}
-use Rattle.planner.proofs.Lifting.{begins_too, enters_too, fails_too, rows_too, some_weaker}
+use Rattle.situations.proofs.Blocks.{shared}
+use Rattle.situations.proofs.CommonLegs.{in_force, same_contact, same_reached, same_steps, when_less, when_not_less}
+use Rattle.situations.proofs.FlatList.{none_some}
+use Rattle.situations.proofs.Lifting.{begins_too, enters_too, fails_too, rows_too, some_weaker}
 
 -- ---- how long a leg lasts
 
@@ -142,7 +140,7 @@ module _ (s : Situation) (W : List ℕ) (from steps : ℕ) (from_now : now_of s 
         | inr after ↦ (let there : e.step ≡ from + (e.step - from) = omega arith in inr (record {
           ahead = e.step - from;
           within = omega arith;
-          enters = subst (λ (i : ℕ). IsSomeAnd (step_at (own_at s W) (target_at s T) i) (λ pair. ¬ IsSeparated pair.step T.radius)) there e.enters;
+          enters = subst (λ (i : ℕ). EntersAt s W T i) there e.enters;
         }))
       ]
 

@@ -1,14 +1,8 @@
-pub mod SecondBySecond
-pub mod CommonLegs
-pub mod OwnStates
-pub mod Lifting
 pub mod Watching
 pub mod TellingNow
 pub mod Blocks
-pub mod FlatList
 pub mod Extending
 pub mod Places
 pub mod Walking
 pub mod AtNow
-pub mod Safe
 pub mod Grown

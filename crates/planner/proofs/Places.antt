@@ -9,7 +9,7 @@ use Rattle.planner.specs.Inner.Levels.{IsBasis, IsToldAtNow, StandsAt}
 use Rattle.planner.specs.Inner.Watching.{IsCutAtNow, Stands}
 use Rattle.planner.specs.declared.already.Already.{Already}
 use Rattle.planner.specs.declared.basis.SearchBasis.{SearchBasis}
-use Rattle.planner.specs.declared.situation.Target.{Target}
+use Rattle.situations.specs.declared.situation.Target.{Target}
 use Rattle.planner.specs.declared.watched.Watched.{Watched}
 
 -- ---- lists of which one element after the other is replaced

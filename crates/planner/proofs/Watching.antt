@@ -10,24 +10,23 @@ use Rattle.meetings.specs.Traces.{IsContactAt, step_at, steps_from}
 use Rattle.meetings.proofs.ForCallers.{rows_then, steps_from-last, steps_from-length}
 use Rattle.meetings.specs.Ranks.{all_power_driven}
 use Rattle.mtl_formulas.proofs.ReachLaw.{equal-AgreeAt, value_of-same}
-use Rattle.mtl_formulas.proofs.Values.{value_of-past}
 use Rattle.mtl_formulas.specs.FormulaMeasures.{reach_of}
 use Rattle.mtl_formulas.specs.FormulaTree.{FormulaTree}
 use Rattle.mtl_formulas.specs.declared.atom.Atom.{Atom}
 use Rattle.mtl_formulas.specs.declared.verdict.Verdict.{Verdict}
-use Rattle.mtl_formulas.specs.declared.verdict.Verdict.TheVariants.{No, Open}
+use Rattle.mtl_formulas.specs.declared.verdict.Verdict.TheVariants.{No}
 use Rattle.mtl_monitor.specs.Following as monitor
 use Rattle.mtl_monitor.specs.Traces.{Trace, value_in}
 use Rattle.mtl_monitor.specs.declared.program.Program.{Program}
 use Rattle.rule_set.specs.NamedTrees.{NamedTree}
-use Rattle.planner.specs.FailingPlans.{AreTraceRows, BeginsAt, BreaksARule, NewlyBreaks}
+use Rattle.situations.specs.FailingPlans.{AreTraceRows, BeginsAt, BreaksARule, NewlyBreaks}
 use Rattle.planner.specs.Inner.Breaking.{IsNewlyBrokenAt, formulas_of}
 use Rattle.planner.specs.Inner.Watching.{HasBegun, HasNotBegun, IsCutAtNow, IsUnbroken, Stands, StandsFor}
-use Rattle.planner.specs.Situations.{now_of, own_at, target_at, terms_of}
-use Rattle.planner.specs.declared.situation.Situation.{Situation}
-use Rattle.planner.specs.declared.situation.Target.{Target}
+use Rattle.situations.specs.Situations.{now_of, own_at, target_at, terms_of}
+use Rattle.situations.specs.declared.situation.Situation.{Situation}
+use Rattle.situations.specs.declared.situation.Target.{Target}
 use Rattle.planner.specs.declared.watched.Watched.{Watched}
-use Rattle.planner.proofs.Lifting.{earlier_rows, one_start, one_trace, trace_length}
+use Rattle.situations.proofs.Lifting.{earlier_rows, no_within, one_start, one_trace, trace_length}
 
 -- ---- formulas of the rules
 
@@ -54,13 +53,6 @@ within_greatest (f ∷ formulas) zero lt = omega arith
 within_greatest (f ∷ formulas) (suc k) lt = let h = within_greatest formulas k (omega arith) in omega arith
 
 -- ---- values
-
--- Where a value is No, there is a row.
-pub no_within : (rows : Trace) (f : FormulaTree) (i : ℕ) → value_in rows f i ≡ No → i < length rows
-no_within rows f i is_no = elim (cases_lt i (length rows)) [
-  | inl lt ↦ lt
-  | inr past ↦ (let is_open : value_in rows f i ≡ Open = value_of-past (λ (row : Atom → Verdict). row) rows f i past in cc)
-]
 
 taken : (rows : Trace) (n k : ℕ) → k < n → slice_get (take n rows) k ≡ slice_get rows k
 taken [] zero k lt = absurd (omega arith)
@@ -221,8 +213,10 @@ module _ (s : Situation) (X : List ℕ) (T : Target) (cut : Trace) (is_cut : IsC
               let the_cut : take (now_of s - start) others ≡ cut = is_cut.some X at start others from_now begins others_are in
               record {
                 position = h.at.position;
-                broken = subst (λ (r : Trace). value_in r (monitor.formula_at (formulas_of s) h.rule) h.at.position ≡ No) same h.at.broken;
-                not_before = subst (λ (r : Trace). value_in r (monitor.formula_at (formulas_of s) h.rule) h.at.position ≢ No) (sym the_cut) h.not_before;
+                here = record {
+                  broken = subst (λ (r : Trace). value_in r (monitor.formula_at (formulas_of s) h.rule) h.at.position ≡ No) same h.at.broken;
+                  not_before = subst (λ (r : Trace). value_in r (monitor.formula_at (formulas_of s) h.rule) h.at.position ≢ No) (sym the_cut) h.not_before;
+                };
               };
         }),
       )
@@ -239,14 +233,14 @@ module _ (s : Situation) (X : List ℕ) (T : Target) (cut : Trace) (is_cut : IsC
       let same : breaks.start ≡ start = one_start s X T at at breaks.start start breaks.begins begins in
       let broken = breaks.breaks rows (subst (λ (i : ℕ). AreTraceRows s X at T i rows) (sym same) are) in
       let the_cut : take (now_of s - breaks.start) rows ≡ cut = ap (λ (i : ℕ). take (now_of s - i) rows) same ∙ is_cut.some X at start rows from_now begins are in
-      let not_before : value_in cut f broken.position ≢ No = subst (λ (r : Trace). value_in r f broken.position ≢ No) the_cut broken.not_before in
+      let not_before : value_in cut f broken.position ≢ No = subst (λ (r : Trace). value_in r f broken.position ≢ No) the_cut broken.here.not_before in
       let told : IsNewlyBrokenAt (formulas_of s) cut rows (broken.position + 1 + reach_of f) = record {
         rule = k;
         known = omega arith;
-        at = record { position = broken.position; decided = refl; broken = broken.broken };
+        at = record { position = broken.position; decided = refl; broken = broken.here.broken };
         not_before = not_before;
       } in
-      let there = no_within rows f broken.position broken.broken in
+      let there = no_within rows f broken.position broken.here.broken in
       let far = within_greatest (formulas_of s) k (omega arith) in
       let the_start_cut : take (now_of s - start) rows ≡ cut = is_cut.some X at start rows from_now begins are in (
         broken.position + 1 + reach_of f,
@@ -259,7 +253,7 @@ module _ (s : Situation) (X : List ℕ) (T : Target) (cut : Trace) (is_cut : IsC
                   let short = length-take (now_of s - start) rows in
                   let front : value_in (take (now_of s - start) rows) f broken.position ≡ value_in rows f broken.position =
                   told_by_front rows (now_of s - start) f broken.position (omega arith) in
-                  not_before (subst (λ (r : Trace). value_in r f broken.position ≡ No) the_start_cut (front ∙ broken.broken)))
+                  not_before (subst (λ (r : Trace). value_in r f broken.position ≡ No) the_start_cut (front ∙ broken.here.broken)))
             ])
           ],
           omega arith,

@@ -1,7 +1,5 @@
 -- Definitions that no public clause cites.
-pub mod Runs
 pub mod Breaking
 pub mod Watching
-pub mod Paths
 pub mod Levels
 pub mod Walk

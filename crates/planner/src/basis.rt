@@ -4,17 +4,17 @@ ghost use Rattle.lattice.specs.Grids.{choices_of, positions_of};
 ghost use Rattle.lattice.specs.PlanNumbers.{plan_of, IsPlan};
 ghost use Rattle.mtl_monitor.specs.Following.{count_of, IsProgramOf};
 ghost use Rattle.planner.specs.Inner.Breaking.{formulas_of};
-ghost use Rattle.planner.specs.Situations.{now_of, IsSituation, IsTarget};
+ghost use Rattle.situations.specs.Situations.{now_of, IsSituation, IsTarget};
 ghost use Rattle.planner.specs.Inner.Watching.{IsEarly, IsReady, StandsFor};
 ghost use Rattle.rule_set.specs.NamedTrees.{NamedTree};
 
 use crate::already::Already;
-use crate::situation::{Situation, Target};
 use crate::watched::Watched;
 use lattice::{Plan, UnderWay};
 use mtl_monitor::Program;
 use outside::Memory;
 use rule_set::RuleSet;
+use situations::{Situation, Target};
 use std::alloc::Global;
 
 /// A situation, its rules as one program, and what is broken at now towards each target.
@@ -73,7 +73,7 @@ pub(crate) fn watched_at_now(
 
 impl SearchBasis {
     ghost use Rattle.planner.specs.Inner.Levels.{lasts, IsBasis};
-    ghost use Rattle.planner.specs.Inner.Paths.{HasReached};
+    ghost use Rattle.situations.specs.Paths.{HasReached};
 
     /// The first of the plans that begin with the legs of this number: so many legs.
     pub(crate) fn first_plan(&self, legs: u8, number: u32) -> Plan

@@ -4,7 +4,7 @@ ghost use Rattle.lattice.specs.Grids.{choices_of};
 ghost use Rattle.lattice.specs.PlanNumbers.{plan_of};
 ghost use Rattle.planner.specs.Inner.Levels.{AreEarly, ArePlaces, HasTargets, IsBasis, StandsAt, StaysOut};
 ghost use Rattle.planner.specs.Inner.Walk.{AllFailFrom, IsFirst};
-ghost use Rattle.planner.specs.Prefixes.{reached, PrefixFails};
+ghost use Rattle.situations.specs.Prefixes.{reached, PrefixFails};
 
 use crate::basis::SearchBasis;
 use crate::level::{Extended, Level};

@@ -4,26 +4,26 @@ ghost use Rattle.lattice.specs.Grids.{choices_of, positions_of};
 ghost use Rattle.lattice.specs.PlanNumbers.{plan_of, IsPlan};
 ghost use Rattle.mtl_monitor.specs.Following.{count_of, Fits, HasRoom, IsProgramOf};
 ghost use Rattle.mtl_monitor.specs.Traces.{Trace};
-ghost use Rattle.planner.specs.FailingPlans.{BreaksARule, FailsBy, Some_};
+ghost use Rattle.situations.specs.FailingPlans.{BreaksARule, FailsBy, Some_};
 ghost use Rattle.planner.specs.Inner.Breaking.{formulas_of, Tells};
 ghost use Rattle.planner.specs.Inner.Levels.{lasts, AreEarly, HasPlaces, HasTargets, IsBasis, StandsAt, StaysOut};
-ghost use Rattle.planner.specs.Inner.Paths.{EntersAlong, HasReached, IsPath, IsTrack};
+ghost use Rattle.situations.specs.Paths.{EntersAlong, HasReached, IsPath, IsTrack};
 ghost use Rattle.planner.specs.Inner.Watching.{IsCutAtNow, IsEarly, IsReady, Stands};
-ghost use Rattle.planner.specs.Prefixes.{reached, PrefixFails};
-ghost use Rattle.planner.specs.Situations.{end_of, now_of, IsSituation, IsTarget};
+ghost use Rattle.situations.specs.Prefixes.{reached, PrefixFails};
+ghost use Rattle.situations.specs.Situations.{end_of, now_of, IsSituation, IsTarget};
 ghost use Rattle.planner.specs.declared.level.Extended.TheVariants as Extended;
-ghost use Rattle.planner.specs.declared.situation.Target.{Target};
+ghost use Rattle.situations.specs.declared.situation.Target.{Target};
 ghost use Rattle.planner.specs.declared.watched.Watched.{Watched};
 
 use crate::already::Already;
 use crate::basis::SearchBasis;
-use crate::situation::{Situation, Target};
 use crate::watched::Watched;
 use fixed_geometry::Point;
 use lattice::{Plan, UnderWay};
 use motion::TickState;
 use mtl_monitor::{Program, TraceState};
 use outside::Memory;
+use situations::{Situation, Target};
 use std::alloc::Global;
 
 /// Own ship's path in the last leg of the prefix, and what is kept of each target after it.

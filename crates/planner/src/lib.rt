@@ -1,23 +1,15 @@
-//! The planner: what is predicted of other vessels, and the least numbered plan of own ship that newly breaks no rule and enters no
-//! domain.
+//! The planner: the search for the least numbered plan of own ship that newly breaks no rule and enters no domain. What a plan, its situation and
+//! the predictions in it are stands in `situations`, and is handed on here.
 #![tactic(auto)]
 
 mod already;
 mod basis;
 mod explore;
-mod flat;
-pub mod laws;
 mod level;
-mod lists;
-mod path;
-mod prediction;
 mod search;
-mod situation;
-mod ticks;
 mod watched;
 
-pub use flat::least_plan;
-pub use lists::{Ahead, Past, Targets};
-pub use prediction::predicted;
 pub use search::Search;
-pub use situation::{Situation, Target};
+pub use situations::{
+    Ahead, Domain, Past, Situation, Target, Targets, laws, least_plan, predicted,
+};

@@ -1,16 +1,16 @@
 //! The search over all plans.
 ghost use Rattle.std.specs.Prelude.{◌≡◌, IfOk, MatchOption};
 ghost use Rattle.planner.specs.Inner.Levels.{IsPrepared};
-ghost use Rattle.planner.specs.LeastPlans.{AllFail, IsLeastPlan};
-ghost use Rattle.planner.specs.Situations.{IsSituation};
+ghost use Rattle.situations.specs.LeastPlans.{AllFail, IsLeastPlan};
+ghost use Rattle.situations.specs.Situations.{IsSituation};
 
 use crate::basis::{SearchBasis, program_of, watched_at_now};
 use crate::explore::explore;
 use crate::level::Level;
-use crate::situation::Situation;
 use lattice::Plan;
 use mtl_monitor::TraceState;
 use outside::Memory;
+use situations::Situation;
 use std::alloc::Global;
 
 /// The search for the least numbered plan that does not fail. It holds all places that it needs.

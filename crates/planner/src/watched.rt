@@ -7,12 +7,12 @@ ghost use Rattle.meetings.specs.Traces.{IsContactAt, step_at};
 ghost use Rattle.mtl_formulas.specs.FormulaTree.{FormulaTree};
 ghost use Rattle.mtl_monitor.specs.Following.{count_of, fed_of, past_of, AreOfOneProgram, Fits, Follows, HasRoom, IsProgramOf};
 ghost use Rattle.mtl_monitor.specs.Traces.{Trace};
-ghost use Rattle.planner.specs.FailingPlans.{BreaksARule};
+ghost use Rattle.situations.specs.FailingPlans.{BreaksARule};
 ghost use Rattle.planner.specs.Inner.Breaking.{formulas_of, Tells};
 ghost use Rattle.planner.specs.Inner.Watching.{IsCopyOf, IsCutAtNow, IsReady, Stands, StandsFor};
-ghost use Rattle.planner.specs.Situations.{now_of, own_at, target_at};
-ghost use Rattle.planner.specs.declared.situation.Situation.{Situation};
-ghost use Rattle.planner.specs.declared.situation.Target.{Target};
+ghost use Rattle.situations.specs.Situations.{now_of, own_at, target_at};
+ghost use Rattle.situations.specs.declared.situation.Situation.{Situation};
+ghost use Rattle.situations.specs.declared.situation.Target.{Target};
 
 use crate::already::Already;
 use encounters::{Act, Detect, PairStep};

@@ -1,6 +1,6 @@
 -- What a log comes to at its end.
 use Rattle.std.proofs.Common.{ℕ, ◌≡◌, inl, inr, true, false, IsTrue, List, Option, None, Some, Ok, Err, refl, sym, subst, ◌∙◌}
-use Rattle.own_ship.specs.declared.readiness.Unready.{Unready}
+use Rattle.situations.specs.declared.readiness.Unready.{Unready}
 use Rattle.scenario.specs.declared.values.Scenario.{Scenario}
 use Rattle.log_lines.specs.JudgedLines.{is_crowded}
 use Rattle.log_lines.specs.LogLines.{lines_of}

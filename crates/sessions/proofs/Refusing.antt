@@ -14,7 +14,7 @@ use Rattle.settling.specs.SettledTicks.{HaveManySettled}
 use Rattle.log_lines.specs.Pieces.{IsPiece}
 use Rattle.command_line.specs.declared.mode.Mode.{Mode}
 use Rattle.command_line.specs.declared.mode.Mode.TheVariants as mode
-use Rattle.own_ship.specs.declared.readiness.Unready.{Unready}
+use Rattle.situations.specs.declared.readiness.Unready.{Unready}
 use Rattle.sessions.specs.Endings.{Came, First, MeetsTargetLimit, HasNoManoeuvre, IsAnswerTo, Unless, unready_of}
 use Rattle.sessions.specs.Refusals.{HasManySettled, IsMet, IsLogRefused, IsRefusedAt, IsStopped, IsUnrefused}
 use Rattle.sessions.specs.SettledText.{IsDecidedText, IsSettledText}

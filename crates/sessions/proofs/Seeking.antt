@@ -6,16 +6,16 @@ use Rattle.audit_report.specs.declared.report_text.ReportText.{ReportText}
 use Rattle.log_lines.specs.JudgedLines.{is_crowded, numbers_of}
 use Rattle.log_lines.specs.LogLines.{lines_of}
 use Rattle.lattice.specs.Grids.{Grid}
-use Rattle.own_ship.specs.PlanSituations.{greatest_targets, own_readiness, situation_of, targets_near, vessels_near}
-use Rattle.own_ship.specs.Preparing.{HasManyTargets as HaveManyTargets, IsPrepared}
-use Rattle.own_ship.specs.declared.near.Near.{Near}
-use Rattle.own_ship.specs.declared.preparation.PrepareFault.{PrepareFault}
-use Rattle.own_ship.specs.declared.preparation.PrepareFault.TheVariants as prepare
-use Rattle.own_ship.specs.declared.preparation.Prepared.{Prepared}
-use Rattle.own_ship.specs.declared.readiness.Ready.{Ready}
-use Rattle.own_ship.specs.declared.readiness.Unready.{Unready}
-use Rattle.planner.specs.LeastPlans.{AllFail}
-use Rattle.planner.specs.declared.situation.Situation.{Situation}
+use Rattle.situations.specs.PlanSituations.{greatest_targets, own_readiness, situation_of, targets_near, vessels_near}
+use Rattle.situations.specs.Preparing.{HasManyTargets as HaveManyTargets, IsPrepared}
+use Rattle.situations.specs.declared.near.Near.{Near}
+use Rattle.situations.specs.declared.preparation.PrepareFault.{PrepareFault}
+use Rattle.situations.specs.declared.preparation.PrepareFault.TheVariants as prepare
+use Rattle.situations.specs.declared.preparation.Prepared.{Prepared}
+use Rattle.situations.specs.declared.readiness.Ready.{Ready}
+use Rattle.situations.specs.declared.readiness.Unready.{Unready}
+use Rattle.situations.specs.LeastPlans.{AllFail}
+use Rattle.situations.specs.declared.situation.Situation.{Situation}
 use Rattle.scenario.specs.declared.own_part.OwnPart.{OwnPart}
 use Rattle.scenario.specs.declared.values.Scenario.{Scenario}
 use Rattle.tracks.specs.VesselsHeld.{Sent}

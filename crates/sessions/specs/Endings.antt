@@ -3,10 +3,10 @@ use Rattle.std.specs.Prelude.{ℕ, ◌≡◌, ◌<◌, ◌⊎◌, IsTrue, Bool, 
 use Rattle.auditor.specs.Standing.{HaveMoreThan}
 use Rattle.log_lines.specs.JudgedLines.{is_crowded, numbers_of}
 use Rattle.log_lines.specs.LogLines.{lines_of}
-use Rattle.own_ship.specs.PlanSituations.{greatest_targets, own_readiness, targets_near}
-use Rattle.own_ship.specs.declared.readiness.Ready.{Ready}
-use Rattle.own_ship.specs.declared.readiness.Unready.{Unready}
-use Rattle.planner.specs.LeastPlans.{AllFail}
+use Rattle.situations.specs.PlanSituations.{greatest_targets, own_readiness, targets_near}
+use Rattle.situations.specs.declared.readiness.Ready.{Ready}
+use Rattle.situations.specs.declared.readiness.Unready.{Unready}
+use Rattle.situations.specs.LeastPlans.{AllFail}
 use Rattle.scenario.specs.declared.own_part.OwnPart.{OwnPart}
 use Rattle.scenario.specs.declared.values.Scenario.{Scenario}
 use Rattle.sessions.specs.AuditReport.{IsAuditReport, sightings_of}

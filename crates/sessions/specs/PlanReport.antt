@@ -10,11 +10,11 @@ use Rattle.log_lines.specs.SentLines.{sent}
 use Rattle.lattice.specs.Grids.{Grid, choices_of, plans_of, positions_of}
 use Rattle.lattice.specs.OwnMotion.{ordered_course, ordered_speed}
 use Rattle.lattice.specs.PlanNumbers.{number_of}
-use Rattle.own_ship.specs.PlanSituations.{own_readiness, situation_of, vessels_near}
-use Rattle.own_ship.specs.declared.near.Near.{Near}
-use Rattle.own_ship.specs.declared.readiness.Ready.{Ready}
-use Rattle.planner.specs.LeastPlans.{AllFail, IsLeastPlan}
-use Rattle.planner.specs.declared.situation.Situation.{Situation}
+use Rattle.situations.specs.PlanSituations.{own_readiness, situation_of, vessels_near}
+use Rattle.situations.specs.declared.near.Near.{Near}
+use Rattle.situations.specs.declared.readiness.Ready.{Ready}
+use Rattle.situations.specs.LeastPlans.{AllFail, IsLeastPlan}
+use Rattle.situations.specs.declared.situation.Situation.{Situation}
 use Rattle.scenario.specs.declared.own_part.OwnPart.{OwnPart}
 use Rattle.scenario.specs.declared.values.Scenario.{Scenario}
 use Rattle.tracks.specs.AcceptedReports.{JudgingNumbers}

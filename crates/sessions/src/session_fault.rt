@@ -1,7 +1,7 @@
 //! Why a session gives no report.
 use auditor::AuditFault;
 use outside::Memory;
-use own_ship::{PrepareFault, Unready};
+use situations::{PrepareFault, Unready};
 use tracks::BookFault;
 
 /// Why a session gives no report.

@@ -10,7 +10,7 @@ use Rattle.outside.specs.declared.whole.ReadFault.TheVariants as read
 use Rattle.command_line.specs.declared.mode.Mode.{Mode}
 use Rattle.command_line.specs.declared.request.Request.{Request}
 use Rattle.log_lines.specs.JudgedLines.{greatest_held}
-use Rattle.own_ship.specs.PlanSituations.{greatest_targets}
+use Rattle.situations.specs.PlanSituations.{greatest_targets}
 use Rattle.scenario.specs.declared.values.Scenario.{Scenario}
 use Rattle.settling.specs.SettledTicks.{greatest_traces}
 use Rattle.sessions.specs.Endings.{IsAnswerTo}

@@ -3,15 +3,15 @@ use Rattle.std.specs.Prelude.{ℕ, ◌≡◌, ◌+◌, ◌-◌, ◌*◌, ◌<◌
 use Rattle.lattice.specs.Grids.{positions_of}
 use Rattle.mtl_monitor.specs.Following as monitor
 use Rattle.mtl_monitor.specs.Traces.{Trace}
-use Rattle.planner.specs.FailingPlans.{EntersDomain, Some_}
+use Rattle.situations.specs.FailingPlans.{EntersDomain, Some_}
 use Rattle.planner.specs.Inner.Breaking.{Tells, formulas_of}
 use Rattle.planner.specs.Inner.Watching.{IsCutAtNow, IsEarly, IsReady, Stands}
-use Rattle.planner.specs.Situations.{IsSituation, now_of}
+use Rattle.situations.specs.Situations.{IsSituation, now_of}
 use Rattle.planner.specs.declared.already.Already.{Already}
 use Rattle.planner.specs.declared.basis.SearchBasis.{SearchBasis}
 use Rattle.planner.specs.declared.level.Level.{Level}
-use Rattle.planner.specs.declared.situation.Situation.{Situation}
-use Rattle.planner.specs.declared.situation.Target.{Target}
+use Rattle.situations.specs.declared.situation.Situation.{Situation}
+use Rattle.situations.specs.declared.situation.Target.{Target}
 use Rattle.planner.specs.declared.watched.Watched.{Watched}
 
 -- What is told of a target at now is told of the rows of her trace that is cut there.

@@ -5,11 +5,11 @@ use Rattle.meetings.specs.Traces.{IsContactAt, steps_from}
 use Rattle.mtl_monitor.specs.Following as monitor
 use Rattle.mtl_monitor.specs.Traces.{Trace}
 use Rattle.mtl_monitor.specs.declared.program.Program.{Program}
-use Rattle.planner.specs.FailingPlans.{AreTraceRows, BeginsAt}
+use Rattle.situations.specs.FailingPlans.{AreTraceRows, BeginsAt}
 use Rattle.planner.specs.Inner.Breaking.{IsNewlyBrokenAt, formulas_of}
-use Rattle.planner.specs.Situations.{now_of, own_at, target_at, terms_of}
-use Rattle.planner.specs.declared.situation.Situation.{Situation}
-use Rattle.planner.specs.declared.situation.Target.{Target}
+use Rattle.situations.specs.Situations.{now_of, own_at, target_at, terms_of}
+use Rattle.situations.specs.declared.situation.Situation.{Situation}
+use Rattle.situations.specs.declared.situation.Target.{Target}
 use Rattle.planner.specs.declared.watched.Watched.{Watched}
 
 -- It goes on by this program, and has the places that it takes.

@@ -2,8 +2,8 @@
 use Rattle.std.specs.Prelude.{ℕ, List, Err}
 use Rattle.auditor.specs.declared.fault.AuditFault.{AuditFault}
 use Rattle.auditor.specs.declared.fault.AuditFault.TheVariants as audit
-use Rattle.own_ship.specs.declared.preparation.PrepareFault.{PrepareFault}
-use Rattle.own_ship.specs.declared.preparation.PrepareFault.TheVariants as prepare
+use Rattle.situations.specs.declared.preparation.PrepareFault.{PrepareFault}
+use Rattle.situations.specs.declared.preparation.PrepareFault.TheVariants as prepare
 use Rattle.tracks.specs.declared.entry.BookFault.{BookFault}
 use Rattle.tracks.specs.declared.entry.BookFault.TheVariants as book
 use Rattle.scenario.specs.declared.values.Scenario.{Scenario}

@@ -3,11 +3,11 @@ use Rattle.std.specs.Prelude.{ℕ, ◌≡◌, ◌≤◌, ◌++◌, Bool, List, l
 use Rattle.audit_report.specs.ReportTexts.{HasText}
 use Rattle.audit_report.specs.declared.report_text.ReportText.{ReportText}
 use Rattle.log_lines.specs.JudgedLines.{numbers_of}
-use Rattle.own_ship.specs.PlanSituations.{greatest_targets, own_readiness, situation_of, targets_near, vessels_near}
-use Rattle.own_ship.specs.Preparing.{HasManyTargets}
-use Rattle.own_ship.specs.declared.preparation.PrepareFault.{PrepareFault}
-use Rattle.own_ship.specs.declared.preparation.PrepareFault.TheVariants as prepare
-use Rattle.own_ship.specs.declared.readiness.Ready.{Ready}
+use Rattle.situations.specs.PlanSituations.{greatest_targets, own_readiness, situation_of, targets_near, vessels_near}
+use Rattle.situations.specs.Preparing.{HasManyTargets}
+use Rattle.situations.specs.declared.preparation.PrepareFault.{PrepareFault}
+use Rattle.situations.specs.declared.preparation.PrepareFault.TheVariants as prepare
+use Rattle.situations.specs.declared.readiness.Ready.{Ready}
 use Rattle.scenario.specs.declared.own_part.OwnPart.{OwnPart}
 use Rattle.scenario.specs.declared.values.Scenario.{Scenario}
 use Rattle.tracks.specs.VesselsHeld.{Sent}

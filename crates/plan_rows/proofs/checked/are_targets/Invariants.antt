@@ -1,6 +1,6 @@
 use Rattle.std.proofs.Common.{ℕ, ◌<◌, get_or}
-use Rattle.planner.specs.Situations.{IsTarget}
-use Rattle.planner.specs.declared.situation.Target.{Target}
+use Rattle.situations.specs.Situations.{IsTarget}
+use Rattle.situations.specs.declared.situation.Target.{Target}
 use Rattle.plan_rows.proofs.checked.are_targets.Given as goal
 
 abbrev pub invariant-loop-target : goal.invariant-loop-target

@@ -2,9 +2,9 @@ use Rattle.std.proofs.Common.{◌≡◌, ℕ, ◌+◌, ◌*◌, ◌^◌, ◌<◌
 use Rattle.lattice.specs.Grids.{choices_of}
 use Rattle.lattice.specs.PlanNumbers.{plan_of}
 use Rattle.planner.specs.Inner.Levels.{ArePlaces, StandsAt, StaysOut}
-use Rattle.planner.specs.Inner.Paths.{HasReached}
+use Rattle.situations.specs.Paths.{HasReached}
 use Rattle.planner.specs.Inner.Walk.{AllFailFrom}
-use Rattle.planner.specs.Prefixes.{PrefixFails, reached}
+use Rattle.situations.specs.Prefixes.{PrefixFails, reached}
 use Rattle.planner.specs.declared.level.Level.{Level}
 use Rattle.planner.proofs.Blocks.{all_tried, block_fails, found, next_room, none_before, none_fail, not_found, prefix_room}
 use Rattle.planner.proofs.Walking.{first_alone, join_places, next_number, number_before, split_places}

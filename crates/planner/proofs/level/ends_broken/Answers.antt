@@ -1,7 +1,7 @@
 use Rattle.std.proofs.Common.{◌≡◌, ◌<◌, length, get_or, refl, arith}
 use Rattle.std.proofs.lemmas.List.{get_or_default}
-use Rattle.planner.specs.FailingPlans.{BreaksARule}
-use Rattle.planner.proofs.FlatList.{none_some, none_so_far_of, some_here}
+use Rattle.situations.specs.FailingPlans.{BreaksARule}
+use Rattle.situations.proofs.FlatList.{none_some, none_so_far_of, some_here}
 use Rattle.planner.proofs.Places.{an_element, rules_few, stands_here, told_here}
 use Rattle.planner.proofs.level.ends_broken.Goals as goal
 

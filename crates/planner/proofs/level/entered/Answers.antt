@@ -1,8 +1,8 @@
 use Rattle.std.proofs.Common.{◌+◌, ◌-◌, ◌<◌, List, length, get_or, ap, subst, ◌∙◌, arith}
-use Rattle.planner.specs.Inner.Paths.{EntersAlong}
-use Rattle.planner.specs.Situations.{now_of}
-use Rattle.planner.specs.declared.situation.Target.{Target}
-use Rattle.planner.proofs.FlatList.{none_some, none_so_far_of}
+use Rattle.situations.specs.Paths.{EntersAlong}
+use Rattle.situations.specs.Situations.{now_of}
+use Rattle.situations.specs.declared.situation.Target.{Target}
+use Rattle.situations.proofs.FlatList.{none_some, none_so_far_of}
 use Rattle.planner.proofs.level.entered.Goals as goal
 
 pub loop-index-preserved : goal.loop-index-preserved

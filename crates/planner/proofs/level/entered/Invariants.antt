@@ -1,7 +1,7 @@
 use Rattle.std.proofs.Common.{ℕ, ◌+◌, ◌-◌, ◌<◌, List, length, get_or}
-use Rattle.planner.specs.Inner.Paths.{EntersAlong, IsPath}
-use Rattle.planner.specs.Situations.{now_of}
-use Rattle.planner.specs.declared.situation.Target.{Target}
+use Rattle.situations.specs.Paths.{EntersAlong, IsPath}
+use Rattle.situations.specs.Situations.{now_of}
+use Rattle.situations.specs.declared.situation.Target.{Target}
 use Rattle.planner.proofs.level.entered.Given as goal
 
 abbrev pub invariant-loop-index : goal.invariant-loop-index

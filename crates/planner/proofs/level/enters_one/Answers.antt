@@ -1,8 +1,8 @@
 use Rattle.std.proofs.Common.{◌+◌, ◌-◌, ◌<◌, List, length, get_or, ap, subst, ◌∙◌}
-use Rattle.planner.specs.Inner.Paths.{EntersAlong}
-use Rattle.planner.specs.Situations.{now_of}
-use Rattle.planner.specs.declared.situation.Target.{Target}
-use Rattle.planner.proofs.FlatList.{some_here}
+use Rattle.situations.specs.Paths.{EntersAlong}
+use Rattle.situations.specs.Situations.{now_of}
+use Rattle.situations.specs.declared.situation.Target.{Target}
+use Rattle.situations.proofs.FlatList.{some_here}
 use Rattle.planner.proofs.level.enters_one.Goals as goal
 
 pub returns-then-index-targets : goal.returns-then-index-targets

@@ -1,7 +1,7 @@
 use Rattle.std.proofs.Common.{◌≡◌, ℕ, ◌+◌, ◌-◌, length, subst, ◌∙◌, arith}
 use Rattle.planner.specs.Inner.Watching.{Stands}
-use Rattle.planner.specs.Situations.{now_of}
-use Rattle.planner.proofs.Lifting.{breaks_later}
+use Rattle.situations.specs.Situations.{now_of}
+use Rattle.situations.proofs.Lifting.{breaks_later}
 use Rattle.planner.proofs.level.follow.Goals as goal
 
 pub returns-then-take_planned-clause-breaks : goal.returns-then-take_planned-clause-breaks

@@ -1,9 +1,9 @@
 use Rattle.std.proofs.Common.{ℕ, ◌+◌, List}
 use Rattle.mtl_monitor.specs.Traces.{Trace}
 use Rattle.planner.specs.Inner.Breaking.{Tells, formulas_of}
-use Rattle.planner.specs.Inner.Paths.{IsPath}
+use Rattle.situations.specs.Paths.{IsPath}
 use Rattle.planner.specs.Inner.Watching.{IsCutAtNow, IsEarly, IsReady, Stands}
-use Rattle.planner.specs.Situations.{now_of}
+use Rattle.situations.specs.Situations.{now_of}
 use Rattle.planner.proofs.level.follow.Given as goal
 
 abbrev pub invariant-loop-j : goal.invariant-loop-j

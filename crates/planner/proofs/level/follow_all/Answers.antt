@@ -2,14 +2,14 @@ use Rattle.std.proofs.Common.{◌≡◌, ℕ, ◌+◌, ◌-◌, ◌<◌, List, l
 use Rattle.std.proofs.lemmas.List.{get_or_default, length-set}
 use Rattle.std.proofs.lemmas.List.Elements.{All-set}
 use Rattle.mtl_monitor.specs.Traces.{Trace}
-use Rattle.planner.specs.FailingPlans.{BreaksARule}
+use Rattle.situations.specs.FailingPlans.{BreaksARule}
 use Rattle.planner.specs.Inner.Breaking.{Tells, formulas_of}
 use Rattle.planner.specs.Inner.Watching.{IsCutAtNow, IsEarly, IsReady, Stands}
-use Rattle.planner.specs.Situations.{now_of}
+use Rattle.situations.specs.Situations.{now_of}
 use Rattle.planner.specs.declared.already.Already.{Already}
-use Rattle.planner.specs.declared.situation.Target.{Target}
+use Rattle.situations.specs.declared.situation.Target.{Target}
 use Rattle.planner.specs.declared.watched.Watched.{Watched}
-use Rattle.planner.proofs.FlatList.{some_here}
+use Rattle.situations.proofs.FlatList.{some_here}
 use Rattle.planner.proofs.Places.{done_set, rules_few, stands_here, told_here}
 use Rattle.planner.proofs.level.follow_all.Goals as goal
 

@@ -3,11 +3,11 @@ use Rattle.std.specs.List.{All}
 use Rattle.mtl_monitor.specs.Traces.{Trace}
 use Rattle.planner.specs.Inner.Breaking.{Tells, formulas_of}
 use Rattle.planner.specs.Inner.Levels.{StandsAt}
-use Rattle.planner.specs.Inner.Paths.{IsPath}
+use Rattle.situations.specs.Paths.{IsPath}
 use Rattle.planner.specs.Inner.Watching.{IsCutAtNow, IsEarly, IsReady, Stands}
-use Rattle.planner.specs.Situations.{now_of}
+use Rattle.situations.specs.Situations.{now_of}
 use Rattle.planner.specs.declared.already.Already.{Already}
-use Rattle.planner.specs.declared.situation.Target.{Target}
+use Rattle.situations.specs.declared.situation.Target.{Target}
 use Rattle.planner.specs.declared.watched.Watched.{Watched}
 use Rattle.planner.proofs.level.follow_all.Given as goal
 

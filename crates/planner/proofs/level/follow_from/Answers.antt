@@ -1,5 +1,5 @@
 use Rattle.std.proofs.Common.{◌+◌, arith}
-use Rattle.planner.specs.Situations.{now_of}
+use Rattle.situations.specs.Situations.{now_of}
 use Rattle.planner.proofs.level.follow_from.Goals as goal
 
 pub copy_from-requires : goal.copy_from-requires

@@ -1,7 +1,7 @@
 use Rattle.std.proofs.Common.{ℕ, ◌+◌, ◌-◌, length, sym, subst, arith}
-use Rattle.planner.specs.FailingPlans.{FailsBy}
+use Rattle.situations.specs.FailingPlans.{FailsBy}
 use Rattle.planner.specs.Inner.Levels.{StandsAt, StaysOut}
-use Rattle.planner.specs.Situations.{now_of}
+use Rattle.situations.specs.Situations.{now_of}
 use Rattle.planner.proofs.Extending.{along_fails, breaks_fails, none_fails, still_out}
 use Rattle.planner.proofs.level.follow_leg.Goals as goal
 use Rattle.planner.proofs.level.follow_leg.Goals.{else-is_last-via-then-is_last+else-ends_broken-2, else-is_last-via-else-is_last}

@@ -3,9 +3,9 @@ use Rattle.std.specs.List.{All}
 use Rattle.mtl_monitor.specs.Following.{Fits, HasRoom}
 use Rattle.planner.specs.Inner.Levels.{IsToldAtNow}
 use Rattle.planner.specs.Inner.Watching.{IsEarly, IsReady, StandsFor}
-use Rattle.planner.specs.Situations.{now_of}
+use Rattle.situations.specs.Situations.{now_of}
 use Rattle.planner.specs.declared.already.Already.{Already}
-use Rattle.planner.specs.declared.situation.Target.{Target}
+use Rattle.situations.specs.declared.situation.Target.{Target}
 use Rattle.planner.specs.declared.watched.Watched.{Watched}
 use Rattle.planner.proofs.search.prepared.Given as goal
 

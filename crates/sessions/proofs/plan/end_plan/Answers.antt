@@ -3,7 +3,7 @@ use Rattle.outside.proofs.ForCallers.{err_cause}
 use Rattle.log_lines.specs.JudgedLines.{judged_lines, numbers_of}
 use Rattle.log_lines.specs.LogLines.{lines_of}
 use Rattle.log_lines.specs.SentLines.{sent}
-use Rattle.own_ship.specs.PlanSituations.{vessels_near}
+use Rattle.situations.specs.PlanSituations.{vessels_near}
 use Rattle.sessions.specs.PlanReport.{manoeuvre_rows, near_rows, plan_text}
 use Rattle.sessions.proofs.OutcomeRows.{count_rows-from_counts}
 use Rattle.sessions.proofs.PlanText.{three_parts}

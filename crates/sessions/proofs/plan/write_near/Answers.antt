@@ -2,7 +2,7 @@ use Rattle.std.proofs.Common.{ℕ, ◌∙◌, List, ◌++◌, ap, subst, append_
 use Rattle.std.proofs.lemmas.List.{take_all}
 use Rattle.audit_report.specs.CsvRows.{row_of}
 use Rattle.audit_report.specs.ReportTexts.{HasText}
-use Rattle.own_ship.specs.declared.near.Near.{Near}
+use Rattle.situations.specs.declared.near.Near.{Near}
 use Rattle.sessions.specs.AuditReport.{held_fields}
 use Rattle.sessions.specs.PlanReport.{near_rows}
 use Rattle.sessions.proofs.VesselRows.{rows_push}

@@ -3,10 +3,10 @@ use Rattle.std.specs.Option.{option_copied}
 use Rattle.std.specs.List.{All}
 use Rattle.outside.proofs.ForCallers.{err_cause}
 use Rattle.log_lines.specs.JudgedLines.{numbers_of}
-use Rattle.own_ship.specs.Preparing.{IsPrepared}
-use Rattle.own_ship.specs.declared.near.Near.{Near}
+use Rattle.situations.specs.Preparing.{IsPrepared}
+use Rattle.situations.specs.declared.near.Near.{Near}
 use Rattle.tracks.specs.VesselsHeld.{is_held}
-use Rattle.planner.specs.declared.situation.Situation.{Situation}
+use Rattle.situations.specs.declared.situation.Situation.{Situation}
 use Rattle.sessions.specs.PlanReport.{IsManoeuvre}
 use Rattle.sessions.proofs.Seeking.{none_is, own_of, search_cause, sought}
 use Rattle.sessions.proofs.plan.write_search.Goals as goal

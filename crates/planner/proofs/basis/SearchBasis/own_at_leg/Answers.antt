@@ -1,5 +1,5 @@
 use Rattle.std.proofs.Common.{ℕ, subst}
-use Rattle.planner.specs.Inner.Paths.{HasReached}
+use Rattle.situations.specs.Paths.{HasReached}
 use Rattle.planner.proofs.Extending.{reached_prefix}
 use Rattle.planner.proofs.basis.SearchBasis.own_at_leg.Goals as goal
 

@@ -1,11 +1,11 @@
 use Rattle.std.proofs.Common.{ℕ, ◌+◌, List, length, sym, ap, subst, ◌∙◌}
 use Rattle.lattice.specs.Grids.{choices_of}
 use Rattle.lattice.specs.PlanNumbers.{plan_of}
-use Rattle.planner.specs.FailingPlans.{FailsBy}
+use Rattle.situations.specs.FailingPlans.{FailsBy}
 use Rattle.planner.specs.Inner.Levels.{AreEarly, StandsAt, StaysOut}
-use Rattle.planner.specs.Inner.Paths.{HasReached}
-use Rattle.planner.specs.Prefixes.{reached}
-use Rattle.planner.specs.Situations.{now_of}
+use Rattle.situations.specs.Paths.{HasReached}
+use Rattle.situations.specs.Prefixes.{reached}
+use Rattle.situations.specs.Situations.{now_of}
 use Rattle.planner.specs.declared.watched.Watched.{Watched}
 use Rattle.planner.proofs.Extending.{begins_there, ends_there, from_prefix, level_front, level_prefix, out_front, out_prefix, reached_front, to_front, to_prefix}
 use Rattle.planner.proofs.Places.{written}

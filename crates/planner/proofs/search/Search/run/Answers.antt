@@ -3,7 +3,7 @@ use Rattle.lattice.specs.Grids.{choices_of}
 use Rattle.lattice.proofs.Digits.{plan_none}
 use Rattle.planner.specs.Inner.Levels.{StandsAt}
 use Rattle.planner.specs.Inner.Walk.{IsFirst}
-use Rattle.planner.specs.Prefixes.{reached}
+use Rattle.situations.specs.Prefixes.{reached}
 use Rattle.planner.proofs.Blocks.{first_is_least}
 use Rattle.planner.proofs.Extending.{reached_none}
 use Rattle.planner.proofs.search.Search.run.Goals as goal

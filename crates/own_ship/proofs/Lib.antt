@@ -1,6 +1,0 @@
-pub mod Lists
-pub mod Moving
-pub mod Tracking
-pub mod Nearness
-pub mod Vessels
-pub mod Situated

@@ -1,2 +1,0 @@
--- Definitions that proofs need and no public clause cites.
-pub mod Facts

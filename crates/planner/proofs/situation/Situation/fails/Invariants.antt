@@ -1,8 +1,0 @@
-use Rattle.std.proofs.Common.{ℕ, ◌<◌, get_or}
-use Rattle.planner.specs.FailingPlans.{FailsTowards}
-use Rattle.planner.specs.Situations.{end_of}
-use Rattle.planner.specs.declared.situation.Target.{Target}
-use Rattle.planner.proofs.situation.Situation.fails.Given as goal
-
-abbrev pub invariant-loop-target : goal.invariant-loop-target
-invariant-loop-target l = (i : ℕ) (d : Target) → i < l.target-index → ¬ FailsTowards l.self l.plan (end_of l.self) (get_or l.self.targets i d)

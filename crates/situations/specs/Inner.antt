@@ -1,0 +1,4 @@
+-- Definitions that no public clause cites.
+pub mod Runs
+pub mod FirstBroken
+pub mod Facts

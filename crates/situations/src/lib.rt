@@ -1,0 +1,28 @@
+//! The situation of a plan: what is known of own ship and of her targets at now, and what is predicted; when a plan of hers fails in it; and
+//! the least numbered plan that does not, found plan by plan. It is made of a scenario and a book of vessels where own ship is ready.
+#![tactic(auto)]
+
+mod domain;
+mod flat;
+pub mod laws;
+mod lists;
+mod near;
+mod path;
+mod prediction;
+mod preparation;
+mod readiness;
+mod reasons;
+mod situation;
+mod targets;
+mod ticks;
+mod track;
+
+pub use domain::Domain;
+pub use flat::least_plan;
+pub use lists::{Ahead, Past, Targets};
+pub use near::Near;
+pub use prediction::predicted;
+pub use preparation::{MOST_TARGETS, PrepareFault, Prepared, prepare};
+pub use readiness::{Ready, Unready};
+pub use reasons::{BrokenRule, DomainEntry};
+pub use situation::{Situation, Target};
