@@ -1,5 +1,5 @@
 -- When a run gives which answer.
-use Rattle.std.specs.Prelude.{ℕ, ◌≡◌, ◌≤◌, ◌<◌, ◌⊎◌, ◌^◌, Bool, true, false, IsTrue, List, length, Option, Some, None, IfSome}
+use Rattle.std.specs.Prelude.{ℕ, ◌≡◌, ◌≤◌, ◌<◌, ◌⊎◌, ◌^◌, Bool, true, false, ◌||◌, not, IsTrue, List, length, Option, Some, None, IfSome}
 use Rattle.std.specs.Io.KnownBytes.{IsAtEnd}
 use Rattle.outside.specs.Shelves.{Files, IsMissing, content_of}
 use Rattle.command_line.specs.Requests.{AskFor, AskForNothing}
@@ -12,6 +12,7 @@ use Rattle.scenario_keys.specs.declared.key.Key.{Key}
 use Rattle.scenario_keys.specs.declared.cause.Cause.{Cause}
 use Rattle.scenario.specs.declared.values.Scenario.{Scenario}
 use Rattle.colregs_program.specs.LogAnswers.{GainsPart, IsAnswered, IsStoppedBy, GainsSettled, LeavesPart}
+use Rattle.colregs_program.specs.Stages.{is_at_end, is_before_log, is_in_log, stage_of}
 use Rattle.colregs_program.specs.AskedScenarios.{log_of, with_options}
 use Rattle.sessions.specs.Modes.{needs_own, reads_log, reports}
 use Rattle.colregs_program.specs.declared.status.Status.{Status}
@@ -35,13 +36,13 @@ abbrev pub HoldsUnder : Option Files → List ℕ → (List ℕ → Type 0) → 
 HoldsUnder None name P = Unit {0}
 HoldsUnder (Some held) name P = (text : List ℕ) × (content_of name held ≡ Some text) × P text
 
--- The mode refuses the bytes at a key, for a cause.
+-- The mode refuses the bytes at a key, for a cause: as a scenario, or, where there is no report on a log, as one that is migrated.
+abbrev pub IsRefusedFor : Bool → Mode → List ℕ → Key → Cause → Type 0
+IsRefusedFor true mode text key cause = IsRefused (needs_own mode) text key cause
+IsRefusedFor false mode text key cause = IsNotMigrated text key cause
+
 abbrev pub IsRefusedBy : Mode → List ℕ → Key → Cause → Type 0
-IsRefusedBy mode.Points text key cause = IsRefused (needs_own mode.Points) text key cause
-IsRefusedBy mode.Audit text key cause = IsRefused (needs_own mode.Audit) text key cause
-IsRefusedBy mode.Plan text key cause = IsRefused (needs_own mode.Plan) text key cause
-IsRefusedBy mode.Drill text key cause = IsRefused (needs_own mode.Drill) text key cause
-IsRefusedBy mode.Migrate text key cause = IsNotMigrated text key cause
+IsRefusedBy mode = IsRefusedFor (reports mode) mode
 
 -- The bytes are those of a scenario, with own ship where the mode needs her, and with the options in place its values are these.
 pub record IsScenario (request : Request) (text : List ℕ) (scenario : Scenario) : Type 0 where
@@ -120,81 +121,28 @@ IsDue words files log (status.Limit which.Scenario most) =
     (most ≡ greatest_scenario) × Requested words (λ request. LiesUnder files request.name (λ text. greatest_scenario < length text))
 IsDue words files log (status.Scenario key cause) =
     Requested words (λ request. LiesUnder files request.name (λ text. (length text ≤ greatest_scenario) × IsRefusedBy request.mode text key cause))
-IsDue words files log (status.Limit which.Log most) = MeetsAnswer words files log (status.Limit which.Log most)
-IsDue words files log (status.Limit which.Vessels most) = MeetsAnswer words files log (status.Limit which.Vessels most)
-IsDue words files log (status.Limit which.Pairs most) = MeetsAnswer words files log (status.Limit which.Pairs most)
-IsDue words files log (status.OwnUnready why) = MeetsAnswer words files log (status.OwnUnready why)
-IsDue words files log (status.Limit which.Targets most) = MeetsAnswer words files log (status.Limit which.Targets most)
-IsDue words files log status.NoManoeuvre = MeetsAnswer words files log status.NoManoeuvre
 IsDue words files log status.Done = MeetsAnswer words files log status.Done ⊎ MayMigrate words files
 IsDue words files log status.ReadFault = ⊥
 IsDue words files log status.WriteFault = ⊥
 IsDue words files log status.Memory = ⊥
+IsDue words files log met = MeetsAnswer words files log met
+
+-- ---- how far a run has come
 
 -- Nothing of the log is asked for before these answers.
 abbrev pub IsBeforeLog : Status → Bool
-IsBeforeLog status.Usage = true
-IsBeforeLog status.ShelfFault = true
-IsBeforeLog (status.Limit which.Scenario most) = true
-IsBeforeLog (status.Scenario key cause) = true
-IsBeforeLog (status.Limit which.Log most) = false
-IsBeforeLog (status.Limit which.Vessels most) = false
-IsBeforeLog (status.Limit which.Pairs most) = false
-IsBeforeLog (status.Limit which.Targets most) = false
-IsBeforeLog (status.OwnUnready why) = false
-IsBeforeLog status.NoManoeuvre = false
-IsBeforeLog status.Done = false
-IsBeforeLog status.ReadFault = false
-IsBeforeLog status.WriteFault = false
-IsBeforeLog status.Memory = false
+IsBeforeLog answer = is_before_log (stage_of answer)
 
 -- Nothing is written before these answers.
 abbrev pub WritesNothing : Status → Bool
-WritesNothing status.Usage = true
-WritesNothing status.ShelfFault = true
-WritesNothing (status.Limit which.Scenario most) = true
-WritesNothing (status.Scenario key cause) = true
-WritesNothing (status.OwnUnready why) = true
-WritesNothing (status.Limit which.Targets most) = true
-WritesNothing (status.Limit which.Log most) = false
-WritesNothing (status.Limit which.Vessels most) = false
-WritesNothing (status.Limit which.Pairs most) = false
-WritesNothing status.NoManoeuvre = false
-WritesNothing status.Done = false
-WritesNothing status.ReadFault = false
-WritesNothing status.WriteFault = false
-WritesNothing status.Memory = false
-
--- A drill gives these answers alone: its forty vessels meet no limit but that of its log.
-abbrev pub IsOfDrill : Status → Bool
-IsOfDrill status.Done = true
-IsOfDrill status.Usage = true
-IsOfDrill (status.Scenario key cause) = true
-IsOfDrill status.ShelfFault = true
-IsOfDrill status.WriteFault = true
-IsOfDrill (status.Limit which.Scenario most) = true
-IsOfDrill (status.Limit which.Log most) = true
-IsOfDrill status.Memory = true
-IsOfDrill (status.Limit which.Vessels most) = false
-IsOfDrill (status.Limit which.Pairs most) = false
-IsOfDrill (status.Limit which.Targets most) = false
-IsOfDrill (status.OwnUnready why) = false
-IsOfDrill status.NoManoeuvre = false
-IsOfDrill status.ReadFault = false
+WritesNothing answer = is_before_log (stage_of answer) || is_at_end (stage_of answer)
 
 -- A migration gives these answers alone.
 abbrev pub IsOfMigration : Status → Bool
-IsOfMigration status.Done = true
-IsOfMigration status.Usage = true
-IsOfMigration (status.Scenario key cause) = true
-IsOfMigration status.ShelfFault = true
-IsOfMigration status.WriteFault = true
-IsOfMigration (status.Limit which.Scenario most) = true
-IsOfMigration status.Memory = true
-IsOfMigration (status.Limit which.Log most) = false
-IsOfMigration (status.Limit which.Vessels most) = false
-IsOfMigration (status.Limit which.Pairs most) = false
-IsOfMigration (status.Limit which.Targets most) = false
-IsOfMigration (status.OwnUnready why) = false
 IsOfMigration status.NoManoeuvre = false
-IsOfMigration status.ReadFault = false
+IsOfMigration answer = not (is_in_log (stage_of answer) || is_at_end (stage_of answer))
+
+-- A drill gives these answers alone: its forty vessels meet no limit but that of its log.
+abbrev pub IsOfDrill : Status → Bool
+IsOfDrill (status.Limit which.Log most) = true
+IsOfDrill answer = IsOfMigration answer

@@ -55,11 +55,4 @@ exit_status_of (status.OwnUnready why) = 9
 abbrev pub is_made : Status → Bool
 is_made (status.Limit which most) = true
 is_made (status.Scenario key cause) = true
-is_made status.Done = false
-is_made status.NoManoeuvre = false
-is_made status.Usage = false
-is_made status.ShelfFault = false
-is_made status.ReadFault = false
-is_made status.WriteFault = false
-is_made status.Memory = false
-is_made (status.OwnUnready why) = false
+is_made _ = false

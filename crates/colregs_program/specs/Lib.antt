@@ -1,4 +1,5 @@
 pub mod AskedScenarios
+pub mod Stages
 pub mod LogAnswers
 pub mod Answers
 pub mod InertLines

@@ -12,6 +12,7 @@ use Rattle.sessions.specs.SettledText.{IsSettledText}
 use Rattle.sessions.specs.declared.session_fault.SessionFault.{SessionFault}
 use Rattle.sessions.specs.declared.session_fault.SessionFault.TheVariants as fault
 use Rattle.settling.specs.SettledTicks.{greatest_traces}
+use Rattle.colregs_program.specs.Stages.{is_at_finish, stage_of}
 use Rattle.colregs_program.specs.declared.status.Status.{Status}
 use Rattle.colregs_program.specs.declared.status.Status.TheVariants as status
 use Rattle.colregs_program.specs.declared.status.Which.TheVariants as which
@@ -33,16 +34,7 @@ answer_of scenario (Err fault.Memory) = status.Memory
 
 -- The run is finished: its report is written.
 abbrev pub IsFinished : Status → Bool
-IsFinished status.Done = true
-IsFinished status.NoManoeuvre = true
-IsFinished status.Usage = false
-IsFinished (status.Scenario key cause) = false
-IsFinished status.ShelfFault = false
-IsFinished status.ReadFault = false
-IsFinished status.WriteFault = false
-IsFinished (status.Limit which most) = false
-IsFinished status.Memory = false
-IsFinished (status.OwnUnready why) = false
+IsFinished answer = is_at_finish (stage_of answer)
 
 -- The answer to a log.
 pub record IsAnswered (mode : Mode) (scenario : Scenario) (log : List ℕ) (answer : Status) : Type 0 where

@@ -7,17 +7,19 @@ use Rattle.std.proofs.Math.Seq.{take-append-add}
 use Rattle.std.specs.List.{All, list_any}
 use Rattle.log_lines.specs.GrowingLog.{ended_lines}
 use Rattle.log_lines.specs.EachLine.{each_after}
-use Rattle.log_lines.specs.JudgedLines.{greatest_held, held_behind, is_crowded}
+use Rattle.log_lines.specs.JudgedLines.{greatest_held, held_behind, is_crowded, numbers_of}
 use Rattle.log_lines.specs.LogLines.{is_line_feed}
 use Rattle.scenario.specs.declared.values.Scenario.{Scenario}
 use Rattle.settling.specs.SettledTicks.{HaveManySettled}
 use Rattle.log_lines.specs.Pieces.{IsPiece}
 use Rattle.command_line.specs.declared.mode.Mode.{Mode}
-use Rattle.command_line.specs.declared.mode.Mode.TheVariants as mode
+use Rattle.situations.specs.PlanSituations.{greatest_targets, targets_near}
 use Rattle.situations.specs.declared.readiness.Unready.{Unready}
-use Rattle.sessions.specs.Endings.{Came, First, MeetsTargetLimit, HasNoManoeuvre, IsAnswerTo, Unless, unready_of}
+use Rattle.sessions.specs.Endings.{Came, First, MeetsTargetLimit, HasNoManoeuvre, IsAnswerTo, OfOwn, Unless, lack_by, unready_of}
+use Rattle.sessions.specs.Modes.{Look, OfOwnShip, OfTicks, each_line, each_tick, early_by, early_look, look_of, manner_of, nothing, own_ship}
+use Rattle.sessions.specs.PlanReport.{log_messages}
 use Rattle.sessions.specs.Refusals.{HasManySettled, IsMet, IsLogRefused, IsRefusedAt, IsStopped, IsUnrefused}
-use Rattle.sessions.specs.SettledText.{IsDecidedText, IsSettledText}
+use Rattle.sessions.specs.SettledText.{IsDecidedBy, IsDecidedText, IsSettledText}
 use Rattle.sessions.specs.declared.session_fault.SessionFault.{SessionFault}
 use Rattle.sessions.specs.declared.session_fault.SessionFault.TheVariants as fault
 use Rattle.sessions.proofs.Meeting.{first_once, one_answer_to}
@@ -54,12 +56,11 @@ ManyStay = (scenario : Scenario) (lines more : List (List ℕ)) → HaveManySett
 abbrev pub PartsGoOn : Type 0
 PartsGoOn = (log part : List ℕ) → All (λ byte. is_line_feed byte ≡ false) part → ended_lines (log ++ part) ≡ ended_lines log
 
-many_on : ManyStay → (m : Mode) (scenario : Scenario) (lines more : List (List ℕ)) → HasManySettled m scenario lines → HasManySettled m scenario (lines ++ more)
-many_on stay mode.Points scenario lines more many = many
-many_on stay mode.Audit scenario lines more many = stay scenario lines more many
-many_on stay mode.Plan scenario lines more many = many
-many_on stay mode.Drill scenario lines more many = many
-many_on stay mode.Migrate scenario lines more many = many
+many_on : ManyStay → (look : Look) (scenario : Scenario) (lines more : List (List ℕ)) → OfTicks look (HaveManySettled scenario lines) → OfTicks look (HaveManySettled scenario (lines ++ more))
+many_on stay each_line scenario lines more many = many
+many_on stay each_tick scenario lines more many = stay scenario lines more many
+many_on stay own_ship scenario lines more many = many
+many_on stay nothing scenario lines more many = many
 
 -- ---- what is not refused
 
@@ -92,7 +93,7 @@ module _ (stay : EndedStay) (settle : ManyStay) (m : Mode) (scenario : Scenario)
       record {
         short = (let short = un.short in omega (arith, long));
         calm = calm_before scenario (ended_lines front) lines.0 (ap (is_crowded scenario) (sym lines.1) ∙ un.calm);
-        few = λ many. un.few (subst (HasManySettled m scenario) (sym lines.1) (many_on settle m scenario (ended_lines front) lines.0 many));
+        few = λ many. un.few (subst (HasManySettled m scenario) (sym lines.1) (many_on settle (early_look m) scenario (ended_lines front) lines.0 many));
       }
 
   pub first_unrefused : (log : List ℕ) (place : ℕ) → IsUnrefused m scenario log → IsUnrefused m scenario (take place log)
@@ -293,18 +294,29 @@ targets_needed m scenario log few (inr (calm, inr (traces, own))) = behind (unre
     behind None (inr (not, inl (none, same))) = cc same
     behind None (inr (not, inr (some, same))) = cc same
 
+-- Where own ship is looked at, nothing is settled.
+nothing_by : (look : Look) (early : Bool) (scenario : Scenario) (lines : List (List ℕ)) (log text : List ℕ) → IsDecidedBy (early_by look early) scenario lines text
+    → (lack_by look scenario log ≡ None → ⊥) → text ≡ []
+nothing_by each_line early scenario lines log text settled own = absurd (own refl)
+nothing_by each_tick early scenario lines log text settled own = absurd (own refl)
+nothing_by own_ship early scenario lines log text settled own = settled
+nothing_by nothing early scenario lines log text settled own = absurd (own refl)
+
+nothing_towards : (look : Look) (early : Bool) (scenario : Scenario) (lines : List (List ℕ)) (text : List ℕ) (P : Type 0) → IsDecidedBy (early_by look early) scenario lines text
+    → ((OfOwnShip look P → ⊥) → ⊥) → text ≡ []
+nothing_towards each_line early scenario lines text P settled own = absurd (own (λ x. x))
+nothing_towards each_tick early scenario lines text P settled own = absurd (own (λ x. x))
+nothing_towards own_ship early scenario lines text P settled own = settled
+nothing_towards nothing early scenario lines text P settled own = absurd (own (λ x. x))
+
 -- Where own ship cannot be planned for, nothing is settled.
 pub nothing_with_own : (m : Mode) (scenario : Scenario) (log text : List ℕ) (lack : Unready) → IsSettledText m scenario log text → IsAnswerTo m scenario log (Err (fault.Own lack))
     → text ≡ []
-nothing_with_own mode.Points scenario log text lack settled answer = absurd (own_needed mode.Points scenario log lack refl answer)
-nothing_with_own mode.Audit scenario log text lack settled answer = absurd (own_needed mode.Audit scenario log lack refl answer)
-nothing_with_own mode.Plan scenario log text lack settled answer = settled
-nothing_with_own mode.Drill scenario log text lack settled answer = settled
-nothing_with_own mode.Migrate scenario log text lack settled answer = settled
+nothing_with_own m scenario log text lack settled answer =
+    nothing_by (look_of m) (manner_of m).early scenario (ended_lines log) log text settled (λ none. own_needed m scenario log lack none answer)
 
 pub nothing_with_targets : (m : Mode) (scenario : Scenario) (log text : List ℕ) → IsSettledText m scenario log text → IsAnswerTo m scenario log (Err fault.Targets) → text ≡ []
-nothing_with_targets mode.Points scenario log text settled answer = absurd (targets_needed mode.Points scenario log (λ x. x) answer)
-nothing_with_targets mode.Audit scenario log text settled answer = absurd (targets_needed mode.Audit scenario log (λ x. x) answer)
-nothing_with_targets mode.Plan scenario log text settled answer = settled
-nothing_with_targets mode.Drill scenario log text settled answer = settled
-nothing_with_targets mode.Migrate scenario log text settled answer = settled
+nothing_with_targets m scenario log text settled answer =
+    nothing_towards (look_of m) (manner_of m).early scenario (ended_lines log) text
+    (OfOwn scenario log (λ own ready. greatest_targets < length (targets_near (numbers_of scenario) (log_messages scenario log) scenario own ready))) settled
+    (λ few. targets_needed m scenario log few answer)

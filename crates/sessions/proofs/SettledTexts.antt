@@ -17,9 +17,10 @@ use Rattle.command_line.specs.declared.mode.Mode.{Mode}
 use Rattle.command_line.specs.declared.mode.Mode.TheVariants as mode
 use Rattle.sessions.specs.AuditReport.{rows_behind, sightings_of, stretch_fields, stretch_rows}
 use Rattle.sessions.specs.Endings.{IsEnding}
+use Rattle.sessions.specs.Modes.{Look, each_line, each_tick, early_look, nothing, own_ship}
 use Rattle.sessions.specs.OutcomeRows.{count_rows}
 use Rattle.sessions.specs.PointsReport.{point_rows, points_report, rows_of_line}
-use Rattle.sessions.specs.SettledText.{IsDecidedText, IsSettledText}
+use Rattle.sessions.specs.SettledText.{IsDecidedBy, IsDecidedText, IsSettledText}
 
 -- The text begins with the other.
 abbrev pub Begins : List ℕ → List ℕ → Type 0
@@ -27,14 +28,17 @@ Begins text longer = (rest : List ℕ) × (longer ≡ text ++ rest)
 
 -- ---- one text
 
+one_by : ((scenario : Scenario) (lines : List (List ℕ)) (rows others : List Row) → AreDecided scenario lines rows → AreDecided scenario lines others → rows ≡ others)
+    → (look : Look) (scenario : Scenario) (lines : List (List ℕ)) (text other : List ℕ) → IsDecidedBy look scenario lines text → IsDecidedBy look scenario lines other → text ≡ other
+one_by one each_line scenario lines text other a b = a ∙ sym b
+one_by one each_tick scenario lines text other (rows, are, is) (others, are', is') =
+    is ∙ ap (stretch_rows scenario.rules) (one scenario lines rows others are are') ∙ sym is'
+one_by one own_ship scenario lines text other a b = a ∙ sym b
+one_by one nothing scenario lines text other a b = a ∙ sym b
+
 pub one_decided : ((scenario : Scenario) (lines : List (List ℕ)) (rows others : List Row) → AreDecided scenario lines rows → AreDecided scenario lines others → rows ≡ others)
     → (m : Mode) (scenario : Scenario) (lines : List (List ℕ)) (text other : List ℕ) → IsDecidedText m scenario lines text → IsDecidedText m scenario lines other → text ≡ other
-one_decided one mode.Points scenario lines text other a b = a ∙ sym b
-one_decided one mode.Audit scenario lines text other (rows, are, is) (others, are', is') =
-    is ∙ ap (stretch_rows scenario.rules) (one scenario lines rows others are are') ∙ sym is'
-one_decided one mode.Plan scenario lines text other a b = a ∙ sym b
-one_decided one mode.Drill scenario lines text other a b = a ∙ sym b
-one_decided one mode.Migrate scenario lines text other a b = a ∙ sym b
+one_decided one m = one_by one (early_look m)
 
 -- ---- the rows of lines
 
@@ -74,15 +78,18 @@ module _ (fronts : (scenario : Scenario) (lines more : List (List ℕ)) (rows la
     → (rest : List Row) × (later ≡ rows ++ rest))
     (begin : (scenario : Scenario) (lines more : List (List ℕ)) (rows all : List Row) → AreDecided scenario lines rows
     → AreAuditRows (audit_numbers scenario) (sighted scenario (sent scenario (lines ++ more))) all → (rest : List Row) × (all ≡ rows ++ rest)) where
-  decided_on : (m : Mode) (scenario : Scenario) (lines more : List (List ℕ)) (text later : List ℕ) → IsDecidedText m scenario lines text
-      → IsDecidedText m scenario (lines ++ more) later → Begins text later
-  decided_on mode.Points scenario lines more text later a b = begins_is text _ later (is_begins text _ _ a (points_begin scenario lines more)) b
-  decided_on mode.Audit scenario lines more text later (rows, are, is) (others, are', is') =
+  decided_by : (look : Look) (scenario : Scenario) (lines more : List (List ℕ)) (text later : List ℕ) → IsDecidedBy look scenario lines text
+      → IsDecidedBy look scenario (lines ++ more) later → Begins text later
+  decided_by each_line scenario lines more text later a b = begins_is text _ later (is_begins text _ _ a (points_begin scenario lines more)) b
+  decided_by each_tick scenario lines more text later (rows, are, is) (others, are', is') =
       let rest = fronts scenario lines more rows others are are' in
       begins_is text _ later (is_begins text _ _ is (stretches_begin scenario rows others rest.0 rest.1)) is'
-  decided_on mode.Plan scenario lines more text later a b = empty_begins text later a
-  decided_on mode.Drill scenario lines more text later a b = empty_begins text later a
-  decided_on mode.Migrate scenario lines more text later a b = empty_begins text later a
+  decided_by own_ship scenario lines more text later a b = empty_begins text later a
+  decided_by nothing scenario lines more text later a b = empty_begins text later a
+
+  decided_on : (m : Mode) (scenario : Scenario) (lines more : List (List ℕ)) (text later : List ℕ) → IsDecidedText m scenario lines text
+      → IsDecidedText m scenario (lines ++ more) later → Begins text later
+  decided_on m = decided_by (early_look m)
 
   pub settled_on : (stay : (log more : List ℕ) → (lines : List (List ℕ)) × (ended_lines (log ++ more) ≡ ended_lines log ++ lines))
       → (m : Mode) (scenario : Scenario) (front more text later : List ℕ) → IsSettledText m scenario front text → IsSettledText m scenario (front ++ more) later

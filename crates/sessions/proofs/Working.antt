@@ -17,11 +17,11 @@ use Rattle.settling.specs.Standing.{StandsFor as AuditStandsFor}
 use Rattle.settling.specs.declared.settled_audit.SettledAudit.{SettledAudit}
 use Rattle.settling.proofs.ForCallers.{few_settled, none_decided}
 use Rattle.command_line.specs.declared.mode.Mode.{Mode}
-use Rattle.command_line.specs.declared.mode.Mode.TheVariants as mode
+use Rattle.sessions.specs.Modes.{Look, each_line, each_tick, early_look, nothing, own_ship}
 use Rattle.sessions.specs.AuditReport.{stretch_fields, stretch_rows}
 use Rattle.sessions.specs.PointsReport.{point_rows, rows_of_line}
 use Rattle.sessions.specs.Refusals.{HasManySettled}
-use Rattle.sessions.specs.SettledText.{IsDecidedText, IsSettledText}
+use Rattle.sessions.specs.SettledText.{IsDecidedBy, IsDecidedText, IsSettledText}
 use Rattle.sessions.specs.Standing.{IsDone, mode_by}
 use Rattle.sessions.specs.Inner.Working.{GoesOn}
 use Rattle.sessions.specs.declared.work.Work.{Work}
@@ -41,15 +41,14 @@ nothing_ended : ended_lines [] ≡ []
 unfolding ended_lines
 nothing_ended = refl
 
-nothing_decided : (m : Mode) (scenario : Scenario) → IsDecidedText m scenario [] []
-nothing_decided mode.Points scenario = no_points scenario
-nothing_decided mode.Audit scenario = ([], none_decided scenario, refl)
-nothing_decided mode.Plan scenario = refl
-nothing_decided mode.Drill scenario = refl
-nothing_decided mode.Migrate scenario = refl
+nothing_decided : (look : Look) (scenario : Scenario) → IsDecidedBy look scenario [] []
+nothing_decided each_line scenario = no_points scenario
+nothing_decided each_tick scenario = ([], none_decided scenario, refl)
+nothing_decided own_ship scenario = refl
+nothing_decided nothing scenario = refl
 
 pub nothing_settled : (m : Mode) (scenario : Scenario) → IsSettledText m scenario [] []
-nothing_settled m scenario = subst (λ (lines : List (List ℕ)). IsDecidedText m scenario lines []) (sym nothing_ended) (nothing_decided m scenario)
+nothing_settled m scenario = subst (λ (lines : List (List ℕ)). IsDecidedText m scenario lines []) (sym nothing_ended) (nothing_decided (early_look m) scenario)
 
 pub points_begun : (scenario : Scenario) → IsDone work.Points scenario [] []
 points_begun scenario = no_points scenario

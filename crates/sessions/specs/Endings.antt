@@ -11,6 +11,7 @@ use Rattle.scenario.specs.declared.own_part.OwnPart.{OwnPart}
 use Rattle.scenario.specs.declared.values.Scenario.{Scenario}
 use Rattle.sessions.specs.AuditReport.{IsAuditReport, sightings_of}
 use Rattle.sessions.specs.DrillReport.{IsDrillReport}
+use Rattle.sessions.specs.Modes.{Look, OfOwnShip, OfTicks, look_of, own_ship}
 use Rattle.sessions.specs.PlanReport.{IsOwn, IsPlanReport, log_messages, situation_on}
 use Rattle.sessions.specs.PointsReport.{points_report}
 use Rattle.command_line.specs.declared.mode.Mode.{Mode}
@@ -32,11 +33,7 @@ IsEnding mode.Migrate scenario log text = ⊥
 
 -- More traces begin at the ticks of the window.
 abbrev pub HasManyTraces : Mode → Scenario → List ℕ → Type 0
-HasManyTraces mode.Points scenario log = ⊥
-HasManyTraces mode.Audit scenario log = HaveMoreThan greatest_traces (audit_numbers scenario) (sightings_of scenario log)
-HasManyTraces mode.Plan scenario log = ⊥
-HasManyTraces mode.Drill scenario log = HaveMoreThan greatest_traces (audit_numbers scenario) (sightings_of scenario log)
-HasManyTraces mode.Migrate scenario log = ⊥
+HasManyTraces mode scenario log = OfTicks (look_of mode) (HaveMoreThan greatest_traces (audit_numbers scenario) (sightings_of scenario log))
 
 -- what own ship lacks
 abbrev pub lack_of : Result Ready Unready → Option Unready
@@ -48,12 +45,12 @@ lack_where scenario log None = None
 lack_where scenario log (Some own) = lack_of (own_readiness (numbers_of scenario) (log_messages scenario log) scenario own)
 
 -- why own ship cannot be planned for, where she is to be
+abbrev pub lack_by : Look → Scenario → List ℕ → Option Unready
+lack_by own_ship scenario log = lack_where scenario log scenario.own
+lack_by _ scenario log = None
+
 abbrev pub unready_of : Mode → Scenario → List ℕ → Option Unready
-unready_of mode.Points scenario log = None
-unready_of mode.Audit scenario log = None
-unready_of mode.Plan scenario log = lack_where scenario log scenario.own
-unready_of mode.Drill scenario log = None
-unready_of mode.Migrate scenario log = None
+unready_of mode = lack_by (look_of mode)
 
 -- P holds of own ship, who is ready.
 abbrev pub OfOwn : Scenario → List ℕ → (OwnPart → Ready → Type 0) → Type 0
@@ -61,20 +58,12 @@ OfOwn scenario log P = (own : OwnPart) × (ready : Ready) × IsOwn scenario log 
 
 -- More vessels are her targets than are planned for.
 abbrev pub MeetsTargetLimit : Mode → Scenario → List ℕ → Type 0
-MeetsTargetLimit mode.Points scenario log = ⊥
-MeetsTargetLimit mode.Audit scenario log = ⊥
-MeetsTargetLimit mode.Plan scenario log = OfOwn scenario log (λ own ready.
-    greatest_targets < length (targets_near (numbers_of scenario) (log_messages scenario log) scenario own ready))
-MeetsTargetLimit mode.Drill scenario log = ⊥
-MeetsTargetLimit mode.Migrate scenario log = ⊥
+MeetsTargetLimit mode scenario log = OfOwnShip (look_of mode) (OfOwn scenario log (λ own ready.
+    greatest_targets < length (targets_near (numbers_of scenario) (log_messages scenario log) scenario own ready)))
 
 -- Every plan of hers fails.
 abbrev pub HasNoManoeuvre : Mode → Scenario → List ℕ → Type 0
-HasNoManoeuvre mode.Points scenario log = ⊥
-HasNoManoeuvre mode.Audit scenario log = ⊥
-HasNoManoeuvre mode.Plan scenario log = OfOwn scenario log (λ own ready. AllFail (situation_on scenario log own ready))
-HasNoManoeuvre mode.Drill scenario log = ⊥
-HasNoManoeuvre mode.Migrate scenario log = ⊥
+HasNoManoeuvre mode scenario log = OfOwnShip (look_of mode) (OfOwn scenario log (λ own ready. AllFail (situation_on scenario log own ready)))
 
 -- ---- what a log comes to
 

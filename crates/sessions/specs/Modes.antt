@@ -1,28 +1,76 @@
--- What each mode needs.
-use Rattle.std.specs.Prelude.{Bool, true, false}
+-- What each mode looks at, and in which log: one row a mode. What is asked of a mode elsewhere follows from its row.
+use Rattle.std.specs.Prelude.{Bool, true, false, if◌then◌else◌}
 use Rattle.command_line.specs.declared.mode.Mode.{Mode}
 use Rattle.command_line.specs.declared.mode.Mode.TheVariants as mode
 
--- Own ship is needed where she is planned for.
+-- what is looked at: each line of a log by itself, the vessels at each tick of the window, own ship at now, or no log
+pub data Look : Type 0 where
+  each_line : Look
+  each_tick : Look
+  own_ship : Look
+  nothing : Look
+
+-- the log: the one that is given, one that is made, or none
+pub data LogKind : Type 0 where
+  given : LogKind
+  made : LogKind
+  no_log : LogKind
+
+-- and whether rows leave before the log's end
+pub record Manner : Type 0 where
+  pub look : Look
+  pub log : LogKind
+  pub early : Bool
+
+-- A drill audits the log that it makes, at its end alone. A migration looks at the scenario alone.
+abbrev pub manner_of : Mode → Manner
+manner_of mode.Points = record { look = each_line; log = given; early = true }
+manner_of mode.Audit = record { look = each_tick; log = given; early = true }
+manner_of mode.Plan = record { look = own_ship; log = given; early = false }
+manner_of mode.Drill = record { look = each_tick; log = made; early = false }
+manner_of mode.Migrate = record { look = nothing; log = no_log; early = false }
+
+abbrev pub look_of : Mode → Look
+look_of mode = (manner_of mode).look
+
+-- what is looked at before the log's end: own ship is planned for at its end alone
+abbrev pub early_by : Look → Bool → Look
+early_by own_ship early = nothing
+early_by look early = if early then look else nothing
+
+abbrev pub early_look : Mode → Look
+early_look mode = early_by (manner_of mode).look (manner_of mode).early
+
+abbrev pub is_own : Look → Bool
+is_own own_ship = true
+is_own _ = false
+
+abbrev pub is_given : LogKind → Bool
+is_given given = true
+is_given _ = false
+
+abbrev pub is_log : LogKind → Bool
+is_log no_log = false
+is_log _ = true
+
+-- Own ship is needed where she is looked at.
 abbrev pub needs_own : Mode → Bool
-needs_own mode.Points = false
-needs_own mode.Audit = false
-needs_own mode.Plan = true
-needs_own mode.Drill = false
-needs_own mode.Migrate = false
+needs_own mode = is_own (look_of mode)
 
--- A migration looks at the scenario alone; each other mode reports on a log.
+-- There is a report on a log where there is a log.
 abbrev pub reports : Mode → Bool
-reports mode.Points = true
-reports mode.Audit = true
-reports mode.Plan = true
-reports mode.Drill = true
-reports mode.Migrate = false
+reports mode = is_log (manner_of mode).log
 
--- A drill makes its own log; the others that report on a log read the one that is given.
+-- The log is read where it is given.
 abbrev pub reads_log : Mode → Bool
-reads_log mode.Points = true
-reads_log mode.Audit = true
-reads_log mode.Plan = true
-reads_log mode.Drill = false
-reads_log mode.Migrate = false
+reads_log mode = is_given (manner_of mode).log
+
+-- ---- what is said of one look alone
+
+abbrev pub OfTicks : Look → Type 0 → Type 0
+OfTicks each_tick P = P
+OfTicks _ P = ⊥
+
+abbrev pub OfOwnShip : Look → Type 0 → Type 0
+OfOwnShip own_ship P = P
+OfOwnShip _ P = ⊥

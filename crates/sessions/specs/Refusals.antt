@@ -5,19 +5,15 @@ use Rattle.log_lines.specs.JudgedLines.{is_crowded}
 use Rattle.scenario.specs.declared.values.Scenario.{Scenario}
 use Rattle.settling.specs.SettledTicks.{HaveManySettled}
 use Rattle.command_line.specs.declared.mode.Mode.{Mode}
-use Rattle.command_line.specs.declared.mode.Mode.TheVariants as mode
 use Rattle.sessions.specs.Endings.{Came, First, IsAnswerTo}
+use Rattle.sessions.specs.Modes.{OfTicks, early_look}
 use Rattle.sessions.specs.SettledText.{IsSettledText}
 use Rattle.sessions.specs.declared.session_fault.SessionFault.{SessionFault}
 use Rattle.sessions.specs.declared.session_fault.SessionFault.TheVariants as fault
 
--- More traces begin at ticks that the lines settle. A drill is audited at its end alone.
+-- More traces begin at ticks that the lines settle, where ticks are looked at before the end.
 abbrev pub HasManySettled : Mode → Scenario → List (List ℕ) → Type 0
-HasManySettled mode.Points scenario lines = ⊥
-HasManySettled mode.Audit scenario lines = HaveManySettled scenario lines
-HasManySettled mode.Plan scenario lines = ⊥
-HasManySettled mode.Drill scenario lines = ⊥
-HasManySettled mode.Migrate scenario lines = ⊥
+HasManySettled mode scenario lines = OfTicks (early_look mode) (HaveManySettled scenario lines)
 
 -- A front of a log is refused, whatever follows: it has more bytes than the scenario allows; or else the lines that a line feed has ended
 -- make more vessels held; or else more traces begin at ticks that they settle.

@@ -6,18 +6,19 @@ use Rattle.log_lines.specs.JudgedLines.{judged_lines}
 use Rattle.scenario.specs.declared.values.Scenario.{Scenario}
 use Rattle.settling.specs.DecidedRows.{AreDecided}
 use Rattle.command_line.specs.declared.mode.Mode.{Mode}
-use Rattle.command_line.specs.declared.mode.Mode.TheVariants as mode
 use Rattle.sessions.specs.AuditReport.{stretch_rows}
+use Rattle.sessions.specs.Modes.{Look, each_line, each_tick, early_look}
 use Rattle.sessions.specs.PointsReport.{point_rows}
 
--- The text that lines decide, whatever follows them: of `points` the rows of their accepted reports, of `audit` those of the stretches that no
--- later line can change, and nothing of the other modes.
+-- The text that lines decide, whatever follows them: of lines by themselves the rows of their accepted reports, of ticks those of the stretches that
+-- no later line can change, and nothing where nothing leaves before the end.
+abbrev pub IsDecidedBy : Look → Scenario → List (List ℕ) → List ℕ → Type 0
+IsDecidedBy each_line scenario lines text = text ≡ point_rows (judged_lines scenario lines)
+IsDecidedBy each_tick scenario lines text = (rows : List Row) × AreDecided scenario lines rows × (text ≡ stretch_rows scenario.rules rows)
+IsDecidedBy _ scenario lines text = text ≡ []
+
 abbrev pub IsDecidedText : Mode → Scenario → List (List ℕ) → List ℕ → Type 0
-IsDecidedText mode.Points scenario lines text = text ≡ point_rows (judged_lines scenario lines)
-IsDecidedText mode.Audit scenario lines text = (rows : List Row) × AreDecided scenario lines rows × (text ≡ stretch_rows scenario.rules rows)
-IsDecidedText mode.Plan scenario lines text = text ≡ []
-IsDecidedText mode.Drill scenario lines text = text ≡ []
-IsDecidedText mode.Migrate scenario lines text = text ≡ []
+IsDecidedText mode = IsDecidedBy (early_look mode)
 
 -- The settled bytes of a front: what its lines decide that a line feed has ended.
 abbrev pub IsSettledText : Mode → Scenario → List ℕ → List ℕ → Type 0
