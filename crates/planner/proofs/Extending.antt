@@ -16,16 +16,16 @@ use Rattle.meetings.specs.Traces.{step_at}
 use Rattle.mtl_monitor.specs.Traces.{Trace}
 use Rattle.mtl_monitor.specs.declared.program.Program.{Program}
 use Rattle.planner.specs.FailingPlans.{BreaksARule, EntersDomain, FailsBy, FailsTowards, Some_}
-use Rattle.planner.specs.Inner.Levels.{StandsAt, StaysOut, lasts}
+use Rattle.planner.specs.Inner.Levels.{AreEarly, StandsAt, StaysOut, lasts}
 use Rattle.planner.specs.Inner.Paths.{EntersAlong, HasReached, start_of}
 use Rattle.planner.specs.Inner.Watching.{Stands, StandsFor}
 use Rattle.planner.specs.Prefixes.{PrefixFails, reached, steps_told}
-use Rattle.planner.specs.Situations.{now_of, own_at, target_at, terms_of}
+use Rattle.planner.specs.Situations.{end_of, now_of, own_at, target_at, terms_of}
 use Rattle.planner.specs.declared.basis.SearchBasis.{SearchBasis}
 use Rattle.planner.specs.declared.situation.Situation.{Situation}
 use Rattle.planner.specs.declared.situation.Target.{Target}
 use Rattle.planner.specs.declared.watched.Watched.{Watched}
-use Rattle.planner.proofs.Blocks.{shared}
+use Rattle.planner.proofs.Blocks.{reached_end, shared}
 use Rattle.planner.proofs.CommonLegs.{in_force, same_contact, same_reached, same_steps, when_less, when_not_less}
 use Rattle.planner.proofs.FlatList.{none_some}
 use Rattle.planner.proofs.Lifting.{begins_too, enters_too, fails_too, rows_too, some_weaker}
@@ -116,10 +116,10 @@ module _ (s : Situation) (X Y : List ℕ) (n : ℕ) (same : (step : ℕ) → ste
         h.unbroken start rows (begins_too s Y X n back at told T at start (omega arith) begins) (rows_too s Y X n back at told T start rows (omega arith) are) passed after le told_there;
   }
 
-pub level_too : (basis : SearchBasis) (X Y : List ℕ) (n : ℕ) → ((step : ℕ) → step < n → choice_in_force basis.situation.lattice X step ≡ choice_in_force basis.situation.lattice Y step)
-    → (at : ℕ) → at ≤ now_of basis.situation + n → (watched : List Watched) → StandsAt basis X at watched → StandsAt basis Y at watched
-level_too basis X Y n same at told watched h = λ k t a w cut lt is_cut tells.
-    stands_too basis.situation X Y n same at told basis.program (get_or basis.situation.targets k t) cut (get_or watched k w) (h k t a w cut lt is_cut tells)
+pub level_too : (s : Situation) (basis : SearchBasis) (X Y : List ℕ) (n : ℕ) → ((step : ℕ) → step < n → choice_in_force s.lattice X step ≡ choice_in_force s.lattice Y step)
+    → (at : ℕ) → at ≤ now_of s + n → (watched : List Watched) → StandsAt s basis X at watched → StandsAt s basis Y at watched
+level_too s basis X Y n same at told watched h = λ k t a w cut lt is_cut tells.
+    stands_too s X Y n same at told basis.program (get_or s.targets k t) cut (get_or watched k w) (h k t a w cut lt is_cut tells)
 
 -- ---- whether the longer prefix fails
 
@@ -167,69 +167,69 @@ module _ (s : Situation) (W : List ℕ) (at : ℕ) where
 
 -- ---- from a prefix to the plan that is followed, and back to the longer prefix
 
-module _ (basis : SearchBasis) (leg number : ℕ) (W : List ℕ) (some : 1 ≤ basis.situation.lattice.legs)
-    (begins : take (leg + 1) W ≡ plan_of (choices_of basis.situation.lattice) (leg + 1) number) where
-  same_front : (step : ℕ) → step < steps_told basis.situation.lattice leg → choice_in_force basis.situation.lattice (plan_of (choices_of basis.situation.lattice) leg (number / choices_of basis.situation.lattice)) step
-      ≡ choice_in_force basis.situation.lattice W step
-  same_front = shared basis.situation.lattice (plan_of (choices_of basis.situation.lattice) leg (number / choices_of basis.situation.lattice)) W leg some
-      (shares_front (choices_of basis.situation.lattice) leg number W begins)
+module _ (s : Situation) (leg number : ℕ) (W : List ℕ) (some : 1 ≤ s.lattice.legs)
+    (begins : take (leg + 1) W ≡ plan_of (choices_of s.lattice) (leg + 1) number) where
+  same_front : (step : ℕ) → step < steps_told s.lattice leg → choice_in_force s.lattice (plan_of (choices_of s.lattice) leg (number / choices_of s.lattice)) step
+      ≡ choice_in_force s.lattice W step
+  same_front = shared s.lattice (plan_of (choices_of s.lattice) leg (number / choices_of s.lattice)) W leg some
+      (shares_front (choices_of s.lattice) leg number W begins)
 
-  same_prefix : (step : ℕ) → step < steps_told basis.situation.lattice (leg + 1) → choice_in_force basis.situation.lattice (plan_of (choices_of basis.situation.lattice) (leg + 1) number) step
-      ≡ choice_in_force basis.situation.lattice W step
-  same_prefix = shared basis.situation.lattice (plan_of (choices_of basis.situation.lattice) (leg + 1) number) W (leg + 1) some
-      (shares_prefix (choices_of basis.situation.lattice) leg number W begins)
+  same_prefix : (step : ℕ) → step < steps_told s.lattice (leg + 1) → choice_in_force s.lattice (plan_of (choices_of s.lattice) (leg + 1) number) step
+      ≡ choice_in_force s.lattice W step
+  same_prefix = shared s.lattice (plan_of (choices_of s.lattice) (leg + 1) number) W (leg + 1) some
+      (shares_prefix (choices_of s.lattice) leg number W begins)
 
-  within : (legs : ℕ) → reached basis.situation legs ≤ now_of basis.situation + steps_told basis.situation.lattice legs
+  within : (legs : ℕ) → reached s legs ≤ now_of s + steps_told s.lattice legs
   within legs = omega arith
 
-  from_now : (legs : ℕ) → now_of basis.situation ≤ reached basis.situation legs
+  from_now : (legs : ℕ) → now_of s ≤ reached s legs
   from_now legs = omega arith
 
   same_tick : (at : ℕ) → at ≤ at
   same_tick at = omega arith
 
-  pub level_front : (watched : List Watched) → StandsAt basis (plan_of (choices_of basis.situation.lattice) leg (number / choices_of basis.situation.lattice)) (reached basis.situation leg) watched
-      → StandsAt basis W (reached basis.situation leg) watched
-  level_front watched h = level_too basis (plan_of (choices_of basis.situation.lattice) leg (number / choices_of basis.situation.lattice)) W (steps_told basis.situation.lattice leg) same_front
-      (reached basis.situation leg) (within leg) watched h
+  pub level_front : (basis : SearchBasis) (watched : List Watched) → StandsAt s basis (plan_of (choices_of s.lattice) leg (number / choices_of s.lattice)) (reached s leg) watched
+      → StandsAt s basis W (reached s leg) watched
+  level_front basis watched h = level_too s basis (plan_of (choices_of s.lattice) leg (number / choices_of s.lattice)) W (steps_told s.lattice leg) same_front
+      (reached s leg) (within leg) watched h
 
-  pub level_prefix : (watched : List Watched) → StandsAt basis W (reached basis.situation (leg + 1)) watched
-      → StandsAt basis (plan_of (choices_of basis.situation.lattice) (leg + 1) number) (reached basis.situation (leg + 1)) watched
-  level_prefix watched h = level_too basis W (plan_of (choices_of basis.situation.lattice) (leg + 1) number) (steps_told basis.situation.lattice (leg + 1)) (λ step lt. sym (same_prefix step lt))
-      (reached basis.situation (leg + 1)) (within (leg + 1)) watched h
+  pub level_prefix : (basis : SearchBasis) (watched : List Watched) → StandsAt s basis W (reached s (leg + 1)) watched
+      → StandsAt s basis (plan_of (choices_of s.lattice) (leg + 1) number) (reached s (leg + 1)) watched
+  level_prefix basis watched h = level_too s basis W (plan_of (choices_of s.lattice) (leg + 1) number) (steps_told s.lattice (leg + 1)) (λ step lt. sym (same_prefix step lt))
+      (reached s (leg + 1)) (within (leg + 1)) watched h
 
-  pub out_front : StaysOut basis.situation (plan_of (choices_of basis.situation.lattice) leg (number / choices_of basis.situation.lattice)) (reached basis.situation leg)
-      → StaysOut basis.situation W (reached basis.situation leg)
-  out_front outside h = outside (some_weaker (EntersDomain basis.situation W (reached basis.situation leg))
-      (EntersDomain basis.situation (plan_of (choices_of basis.situation.lattice) leg (number / choices_of basis.situation.lattice)) (reached basis.situation leg)) basis.situation.targets
-      (λ T. enters_too basis.situation W (plan_of (choices_of basis.situation.lattice) leg (number / choices_of basis.situation.lattice)) (steps_told basis.situation.lattice leg) (λ step lt. sym (same_front step lt))
-      (reached basis.situation leg) (within leg) T (reached basis.situation leg) (same_tick (reached basis.situation leg))) h)
+  pub out_front : StaysOut s (plan_of (choices_of s.lattice) leg (number / choices_of s.lattice)) (reached s leg)
+      → StaysOut s W (reached s leg)
+  out_front outside h = outside (some_weaker (EntersDomain s W (reached s leg))
+      (EntersDomain s (plan_of (choices_of s.lattice) leg (number / choices_of s.lattice)) (reached s leg)) s.targets
+      (λ T. enters_too s W (plan_of (choices_of s.lattice) leg (number / choices_of s.lattice)) (steps_told s.lattice leg) (λ step lt. sym (same_front step lt))
+      (reached s leg) (within leg) T (reached s leg) (same_tick (reached s leg))) h)
 
-  pub out_prefix : StaysOut basis.situation W (reached basis.situation (leg + 1))
-      → StaysOut basis.situation (plan_of (choices_of basis.situation.lattice) (leg + 1) number) (reached basis.situation (leg + 1))
-  out_prefix outside h = outside (some_weaker (EntersDomain basis.situation (plan_of (choices_of basis.situation.lattice) (leg + 1) number) (reached basis.situation (leg + 1)))
-      (EntersDomain basis.situation W (reached basis.situation (leg + 1))) basis.situation.targets
-      (λ T. enters_too basis.situation (plan_of (choices_of basis.situation.lattice) (leg + 1) number) W (steps_told basis.situation.lattice (leg + 1)) same_prefix
-      (reached basis.situation (leg + 1)) (within (leg + 1)) T (reached basis.situation (leg + 1)) (same_tick (reached basis.situation (leg + 1)))) h)
+  pub out_prefix : StaysOut s W (reached s (leg + 1))
+      → StaysOut s (plan_of (choices_of s.lattice) (leg + 1) number) (reached s (leg + 1))
+  out_prefix outside h = outside (some_weaker (EntersDomain s (plan_of (choices_of s.lattice) (leg + 1) number) (reached s (leg + 1)))
+      (EntersDomain s W (reached s (leg + 1))) s.targets
+      (λ T. enters_too s (plan_of (choices_of s.lattice) (leg + 1) number) W (steps_told s.lattice (leg + 1)) same_prefix
+      (reached s (leg + 1)) (within (leg + 1)) T (reached s (leg + 1)) (same_tick (reached s (leg + 1)))) h)
 
-  pub to_front : FailsBy basis.situation (reached basis.situation leg) W → PrefixFails basis.situation (plan_of (choices_of basis.situation.lattice) leg (number / choices_of basis.situation.lattice))
-  to_front h = subst (λ (n : ℕ). FailsBy basis.situation (reached basis.situation n) (plan_of (choices_of basis.situation.lattice) leg (number / choices_of basis.situation.lattice)))
-      (sym (length-plan_of (choices_of basis.situation.lattice) leg (number / choices_of basis.situation.lattice)))
-      (fails_too basis.situation W (plan_of (choices_of basis.situation.lattice) leg (number / choices_of basis.situation.lattice)) (steps_told basis.situation.lattice leg) (λ step lt. sym (same_front step lt))
-      (reached basis.situation leg) (within leg) (reached basis.situation leg) (same_tick (reached basis.situation leg)) (from_now leg) h)
+  pub to_front : FailsBy s (reached s leg) W → PrefixFails s (plan_of (choices_of s.lattice) leg (number / choices_of s.lattice))
+  to_front h = subst (λ (n : ℕ). FailsBy s (reached s n) (plan_of (choices_of s.lattice) leg (number / choices_of s.lattice)))
+      (sym (length-plan_of (choices_of s.lattice) leg (number / choices_of s.lattice)))
+      (fails_too s W (plan_of (choices_of s.lattice) leg (number / choices_of s.lattice)) (steps_told s.lattice leg) (λ step lt. sym (same_front step lt))
+      (reached s leg) (within leg) (reached s leg) (same_tick (reached s leg)) (from_now leg) h)
 
-  long : length (plan_of (choices_of basis.situation.lattice) (leg + 1) number) ≡ leg + 1
-  long = length-plan_of (choices_of basis.situation.lattice) (leg + 1) number
+  long : length (plan_of (choices_of s.lattice) (leg + 1) number) ≡ leg + 1
+  long = length-plan_of (choices_of s.lattice) (leg + 1) number
 
-  pub to_prefix : FailsBy basis.situation (reached basis.situation (leg + 1)) W → PrefixFails basis.situation (plan_of (choices_of basis.situation.lattice) (leg + 1) number)
-  to_prefix h = subst (λ (n : ℕ). FailsBy basis.situation (reached basis.situation n) (plan_of (choices_of basis.situation.lattice) (leg + 1) number)) (sym long)
-      (fails_too basis.situation W (plan_of (choices_of basis.situation.lattice) (leg + 1) number) (steps_told basis.situation.lattice (leg + 1)) (λ step lt. sym (same_prefix step lt))
-      (reached basis.situation (leg + 1)) (within (leg + 1)) (reached basis.situation (leg + 1)) (same_tick (reached basis.situation (leg + 1))) (from_now (leg + 1)) h)
+  pub to_prefix : FailsBy s (reached s (leg + 1)) W → PrefixFails s (plan_of (choices_of s.lattice) (leg + 1) number)
+  to_prefix h = subst (λ (n : ℕ). FailsBy s (reached s n) (plan_of (choices_of s.lattice) (leg + 1) number)) (sym long)
+      (fails_too s W (plan_of (choices_of s.lattice) (leg + 1) number) (steps_told s.lattice (leg + 1)) (λ step lt. sym (same_prefix step lt))
+      (reached s (leg + 1)) (within (leg + 1)) (reached s (leg + 1)) (same_tick (reached s (leg + 1))) (from_now (leg + 1)) h)
 
-  pub from_prefix : PrefixFails basis.situation (plan_of (choices_of basis.situation.lattice) (leg + 1) number) → FailsBy basis.situation (reached basis.situation (leg + 1)) W
-  from_prefix h = fails_too basis.situation (plan_of (choices_of basis.situation.lattice) (leg + 1) number) W (steps_told basis.situation.lattice (leg + 1)) same_prefix
-      (reached basis.situation (leg + 1)) (within (leg + 1)) (reached basis.situation (leg + 1)) (same_tick (reached basis.situation (leg + 1))) (from_now (leg + 1))
-      (subst (λ (n : ℕ). FailsBy basis.situation (reached basis.situation n) (plan_of (choices_of basis.situation.lattice) (leg + 1) number)) long h)
+  pub from_prefix : PrefixFails s (plan_of (choices_of s.lattice) (leg + 1) number) → FailsBy s (reached s (leg + 1)) W
+  from_prefix h = fails_too s (plan_of (choices_of s.lattice) (leg + 1) number) W (steps_told s.lattice (leg + 1)) same_prefix
+      (reached s (leg + 1)) (within (leg + 1)) (reached s (leg + 1)) (same_tick (reached s (leg + 1))) (from_now (leg + 1))
+      (subst (λ (n : ℕ). FailsBy s (reached s n) (plan_of (choices_of s.lattice) (leg + 1) number)) long h)
 
 pub ends_there : (s : Situation) (leg first length_of : ℕ) → leg < s.lattice.legs → first ≡ leg * s.lattice.leg_ticks → length_of ≡ lasts s leg + 1
     → now_of s + first + (length_of - 1) ≡ reached s (leg + 1)
@@ -239,6 +239,23 @@ ends_there s leg first length_of lt e f =
 
 pub begins_there : (s : Situation) (leg first : ℕ) → leg < s.lattice.legs → first ≡ leg * s.lattice.leg_ticks → now_of s + first ≡ reached s leg
 begins_there s leg first lt e = ap (λ (k : ℕ). now_of s + k) (e ∙ sym (leg_begins s.lattice leg lt))
+
+-- What was fed up to the end of some legs was fed up to the plan's end.
+pub early_to_end : (s : Situation) (legs : ℕ) (watched : List Watched) → AreEarly (reached s legs) watched → AreEarly (end_of s) watched
+early_to_end s legs watched h = λ k d lt.
+    let early = h k d lt in
+    let fed = early.fed in
+    let since = early.since in
+    record { fed = omega (arith, within); since = omega (arith, within) }
+  where
+    within : reached s legs ≤ end_of s
+    within = elim (cases_lt legs s.lattice.legs) [
+      | inl more ↦ (let told = leg_begins s.lattice legs more in
+          let le : legs ≤ s.lattice.legs = omega arith in
+          let few = mul-le-mul_right s.lattice.leg_ticks le in
+          omega arith)
+      | inr all ↦ (let e = reached_end s legs all in omega arith)
+    ]
 
 -- Nothing was entered before now.
 pub out_at_now : (s : Situation) (X : List ℕ) → 1 ≤ s.lattice.legs → StaysOut s X (reached s 0)

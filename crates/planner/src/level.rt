@@ -17,6 +17,7 @@ ghost use Rattle.planner.specs.declared.watched.Watched.{Watched};
 
 use crate::already::Already;
 use crate::basis::SearchBasis;
+use crate::legs::{first_plan, is_last, leg_begins};
 use crate::situation::{Situation, Target};
 use crate::watched::Watched;
 use fixed_geometry::Point;
@@ -190,33 +191,34 @@ fn enters(situation: &Situation, path: &[TickState], first: u32, latest: &mut us
 /// Follows a path towards all targets, from what is kept of them after other legs. Tells whether some row decides a position as
 /// newly broken: nothing is then kept of the targets behind that one.
 fn follow_all(
+    situation: &Situation,
     basis: &SearchBasis,
     path: &[TickState],
     first: u32,
     from: &[Watched],
     watched: &mut [Watched],
 ) -> bool
-    requires basis { IsBasis basis.now }
-    requires from { HasTargets basis.now from.now }
-    requires early { AreEarly (now_of basis.now.situation + first) from.now }
-    requires targets { HasTargets basis.now watched.old }
+    requires basis { IsBasis situation.now basis.now }
+    requires from { HasTargets situation.now basis.now from.now }
+    requires early { AreEarly (now_of situation.now + first) from.now }
+    requires targets { HasTargets situation.now basis.now watched.old }
     requires track { IsTrack path.now }
-    requires planned { first + length path.now ≤ positions_of basis.now.situation.lattice + 1 }
+    requires planned { first + length path.now ≤ positions_of situation.now.lattice + 1 }
     requires some { 1 ≤ length path.now }
-    ensures targets { HasTargets basis.now watched.new }
-    ensures early { result ≡ false → AreEarly (now_of basis.now.situation + first + (length path.now - 1)) watched.new }
-    ensures stands { result ≡ false → (plan : List ℕ) → IsPath basis.now.situation plan first path.now
-        → StandsAt basis.now plan (now_of basis.now.situation + first) from.now
-        → StandsAt basis.now plan (now_of basis.now.situation + first + (length path.now - 1)) watched.new }
-    ensures breaks { result ≡ true → (plan : List ℕ) → IsPath basis.now.situation plan first path.now
-        → StandsAt basis.now plan (now_of basis.now.situation + first) from.now
-        → Some_ (BreaksARule basis.now.situation plan (now_of basis.now.situation + first + (length path.now - 1))) basis.now.situation.targets }
+    ensures targets { HasTargets situation.now basis.now watched.new }
+    ensures early { result ≡ false → AreEarly (now_of situation.now + first + (length path.now - 1)) watched.new }
+    ensures stands { result ≡ false → (plan : List ℕ) → IsPath situation.now plan first path.now
+        → StandsAt situation.now basis.now plan (now_of situation.now + first) from.now
+        → StandsAt situation.now basis.now plan (now_of situation.now + first + (length path.now - 1)) watched.new }
+    ensures breaks { result ≡ true → (plan : List ℕ) → IsPath situation.now plan first path.now
+        → StandsAt situation.now basis.now plan (now_of situation.now + first) from.now
+        → Some_ (BreaksARule situation.now plan (now_of situation.now + first + (length path.now - 1))) situation.now.targets }
 {
     for k in 0..watched.len() {
         if follow_from(
-            &basis.situation,
+            situation,
             &basis.program,
-            &basis.situation.targets.as_slice()[k],
+            &situation.targets.as_slice()[k],
             &basis.already[k],
             path,
             first,
@@ -230,16 +232,21 @@ fn follow_all(
 }
 
 /// Whether some position is newly broken towards some target if the traces end here.
-fn ends_broken(basis: &SearchBasis, watched: &[Watched], ending: &mut TraceState) -> bool
-    requires basis { IsBasis basis.now }
-    requires targets { HasTargets basis.now watched.now }
-    requires early { AreEarly (end_of basis.now.situation) watched.now }
+fn ends_broken(
+    situation: &Situation,
+    basis: &SearchBasis,
+    watched: &[Watched],
+    ending: &mut TraceState,
+) -> bool
+    requires basis { IsBasis situation.now basis.now }
+    requires targets { HasTargets situation.now basis.now watched.now }
+    requires early { AreEarly (end_of situation.now) watched.now }
     requires fits { Fits basis.now.program ending.old }
     requires room { HasRoom basis.now.program ending.old }
     ensures fits { Fits basis.now.program ending.new }
     ensures room { HasRoom basis.now.program ending.new }
-    ensures breaks { (plan : List ℕ) (at : ℕ) → now_of basis.now.situation ≤ at → StandsAt basis.now plan at watched.now
-        → (IsTrue result ↔ Some_ (BreaksARule basis.now.situation plan at) basis.now.situation.targets) }
+    ensures breaks { (plan : List ℕ) (at : ℕ) → now_of situation.now ≤ at → StandsAt situation.now basis.now plan at watched.now
+        → (IsTrue result ↔ Some_ (BreaksARule situation.now plan at) situation.now.targets) }
 {
     for k in 0..watched.len() {
         if watched[k].ends_newly_broken(&basis.program, &basis.already[k], ending) {
@@ -264,6 +271,7 @@ pub(crate) enum Extended {
 /// rules. Where the traces end before the leg is looked at once, for the first leg there that enters no domain: `ended` says whether
 /// it was.
 fn follow_leg(
+    situation: &Situation,
     basis: &SearchBasis,
     plan: &Plan,
     first: u32,
@@ -276,46 +284,46 @@ fn follow_leg(
     entered: &mut usize,
     ended: &mut bool,
 ) -> Extended
-    requires basis { IsBasis basis.now }
-    requires plan { IsPlan (choices_of basis.now.situation.lattice) basis.now.situation.lattice.legs plan.now }
-    requires planned { first + length path.old ≤ positions_of basis.now.situation.lattice + 1 }
+    requires basis { IsBasis situation.now basis.now }
+    requires plan { IsPlan (choices_of situation.now.lattice) situation.now.lattice.legs plan.now }
+    requires planned { first + length path.old ≤ positions_of situation.now.lattice + 1 }
     requires some { 1 ≤ length path.old }
-    requires own { HasReached basis.now.situation plan.now first own }
-    requires from { HasTargets basis.now from.now }
-    requires early { AreEarly (now_of basis.now.situation + first) from.now }
-    requires targets { HasTargets basis.now watched.old }
+    requires own { HasReached situation.now plan.now first own }
+    requires from { HasTargets situation.now basis.now from.now }
+    requires early { AreEarly (now_of situation.now + first) from.now }
+    requires targets { HasTargets situation.now basis.now watched.old }
     requires fits { Fits basis.now.program ending.old }
     requires room { HasRoom basis.now.program ending.old }
-    ensures targets { HasTargets basis.now watched.new }
+    ensures targets { HasTargets situation.now basis.now watched.new }
     ensures fits { Fits basis.now.program ending.new }
     ensures room { HasRoom basis.now.program ending.new }
-    ensures early { result ≡ Extended.Passes → AreEarly (now_of basis.now.situation + first + (length path.old - 1)) watched.new }
-    ensures stands { result ≡ Extended.Passes → StandsAt basis.now plan.now (now_of basis.now.situation + first) from.now
-        → StandsAt basis.now plan.now (now_of basis.now.situation + first + (length path.old - 1)) watched.new }
-    ensures outside { result ≡ Extended.Passes → StaysOut basis.now.situation plan.now (now_of basis.now.situation + first)
-        → StaysOut basis.now.situation plan.now (now_of basis.now.situation + first + (length path.old - 1)) }
-    ensures passes { result ≡ Extended.Passes → is_last ≡ true → StandsAt basis.now plan.now (now_of basis.now.situation + first) from.now
-        → StaysOut basis.now.situation plan.now (now_of basis.now.situation + first)
-        → ¬ FailsBy basis.now.situation (now_of basis.now.situation + first + (length path.old - 1)) plan.now }
-    ensures fails { result ≡ Extended.Fails → StandsAt basis.now plan.now (now_of basis.now.situation + first) from.now
-        → FailsBy basis.now.situation (now_of basis.now.situation + first + (length path.old - 1)) plan.now }
-    ensures failed_before { result ≡ Extended.FailedBefore → StandsAt basis.now plan.now (now_of basis.now.situation + first) from.now
-        → FailsBy basis.now.situation (now_of basis.now.situation + first) plan.now }
+    ensures early { result ≡ Extended.Passes → AreEarly (now_of situation.now + first + (length path.old - 1)) watched.new }
+    ensures stands { result ≡ Extended.Passes → StandsAt situation.now basis.now plan.now (now_of situation.now + first) from.now
+        → StandsAt situation.now basis.now plan.now (now_of situation.now + first + (length path.old - 1)) watched.new }
+    ensures outside { result ≡ Extended.Passes → StaysOut situation.now plan.now (now_of situation.now + first)
+        → StaysOut situation.now plan.now (now_of situation.now + first + (length path.old - 1)) }
+    ensures passes { result ≡ Extended.Passes → is_last ≡ true → StandsAt situation.now basis.now plan.now (now_of situation.now + first) from.now
+        → StaysOut situation.now plan.now (now_of situation.now + first)
+        → ¬ FailsBy situation.now (now_of situation.now + first + (length path.old - 1)) plan.now }
+    ensures fails { result ≡ Extended.Fails → StandsAt situation.now basis.now plan.now (now_of situation.now + first) from.now
+        → FailsBy situation.now (now_of situation.now + first + (length path.old - 1)) plan.now }
+    ensures failed_before { result ≡ Extended.FailedBefore → StandsAt situation.now basis.now plan.now (now_of situation.now + first) from.now
+        → FailsBy situation.now (now_of situation.now + first) plan.now }
 {
-    basis.situation.fill_path(plan, first, own, path);
-    if enters(&basis.situation, path, first, entered) {
+    situation.fill_path(plan, first, own, path);
+    if enters(situation, path, first, entered) {
         return Extended::Fails;
     }
     if !*ended {
-        if ends_broken(basis, from, ending) {
+        if ends_broken(situation, basis, from, ending) {
             return Extended::FailedBefore;
         }
         *ended = true;
     }
-    if follow_all(basis, path, first, from, watched) {
+    if follow_all(situation, basis, path, first, from, watched) {
         return Extended::Fails;
     }
-    if is_last && ends_broken(basis, watched, ending) {
+    if is_last && ends_broken(situation, basis, watched, ending) {
         return Extended::Fails;
     }
     Extended::Passes
@@ -328,7 +336,9 @@ impl Level {
         program: &Program,
         watched: Vec<Watched>,
     ) -> Result<Level, Memory>
-        ensures { IfOk result (λ level. level.watched.items ≡ watched.items) }
+        ensures watched { IfOk result (λ level. level.watched.items ≡ watched.items) }
+        ensures fits { IfOk result (λ level. Fits program.now level.ending) }
+        ensures room { IfOk result (λ level. HasRoom program.now level.ending) }
     {
         Ok(Level {
             path: Vec::new(alloc),
@@ -339,16 +349,21 @@ impl Level {
     }
 
     /// The places for a leg that lasts so many ticks.
-    pub(crate) fn new(alloc: Global, basis: &SearchBasis, ticks: u32) -> Result<Level, Memory>
-        requires { IsBasis basis.now }
+    pub(crate) fn new(
+        alloc: Global,
+        situation: &Situation,
+        basis: &SearchBasis,
+        ticks: u32,
+    ) -> Result<Level, Memory>
+        requires { IsBasis situation.now basis.now }
         ensures path { IfOk result (λ level. length level.path.items ≡ ticks + 1) }
-        ensures targets { IfOk result (λ level. HasTargets basis.now level.watched.items) }
+        ensures targets { IfOk result (λ level. HasTargets situation.now basis.now level.watched.items) }
         ensures fits { IfOk result (λ level. Fits basis.now.program level.ending) }
         ensures room { IfOk result (λ level. HasRoom basis.now.program level.ending) }
     {
         let mut watched = Vec::new(alloc);
-        for _target in basis.situation.targets.as_slice() {
-            watched.push(basis.unwatched(alloc)?)?;
+        for _target in situation.targets.as_slice() {
+            watched.push(basis.unwatched(alloc, situation)?)?;
         }
         Ok(Level {
             path: path_of(alloc, ticks as usize + 1)?,
@@ -358,10 +373,29 @@ impl Level {
         })
     }
 
+    /// Whether some position is newly broken towards some target if the traces end after the legs of this level. What is kept of the
+    /// targets stays as it is.
+    pub(crate) fn ends_broken(&mut self, situation: &Situation, basis: &SearchBasis) -> bool
+        requires basis { IsBasis situation.now basis.now }
+        requires targets { HasTargets situation.now basis.now self.old.watched.items }
+        requires early { AreEarly (end_of situation.now) self.old.watched.items }
+        requires fits { Fits basis.now.program self.old.ending }
+        requires room { HasRoom basis.now.program self.old.ending }
+        ensures path { self.new.path ≡ self.old.path }
+        ensures watched { self.new.watched ≡ self.old.watched }
+        ensures fits { Fits basis.now.program self.new.ending }
+        ensures room { HasRoom basis.now.program self.new.ending }
+        ensures breaks { (plan : List ℕ) (at : ℕ) → now_of situation.now ≤ at → StandsAt situation.now basis.now plan at self.old.watched.items
+            → (IsTrue result ↔ Some_ (BreaksARule situation.now plan at) situation.now.targets) }
+    {
+        ends_broken(situation, basis, &self.watched, &mut self.ending)
+    }
+
     /// Becomes the state after one more leg, where own ship is at `own` after those before. The number is that of the longer prefix. `ended` says whether it was looked at already where
     /// the traces end before the leg.
     pub(crate) fn extend(
         &mut self,
+        situation: &Situation,
         basis: &SearchBasis,
         from: &Level,
         own: UnderWay,
@@ -369,37 +403,38 @@ impl Level {
         number: u32,
         ended: &mut bool,
     ) -> Extended
-        requires basis { IsBasis basis.now }
-        requires leg { leg < basis.now.situation.lattice.legs }
-        requires number { number < choices_of basis.now.situation.lattice ^ (leg + 1) }
-        requires places { HasPlaces basis.now leg self.old }
-        requires own { HasReached basis.now.situation (plan_of (choices_of basis.now.situation.lattice) leg (number / choices_of basis.now.situation.lattice))
-            (leg * basis.now.situation.lattice.leg_ticks) own }
-        requires from { HasTargets basis.now from.now.watched.items }
-        requires early { AreEarly (reached basis.now.situation leg) from.now.watched.items }
-        requires stands { StandsAt basis.now (plan_of (choices_of basis.now.situation.lattice) leg (number / choices_of basis.now.situation.lattice))
-            (reached basis.now.situation leg) from.now.watched.items }
-        requires outside { StaysOut basis.now.situation (plan_of (choices_of basis.now.situation.lattice) leg (number / choices_of basis.now.situation.lattice))
-            (reached basis.now.situation leg) }
-        ensures places { HasPlaces basis.now leg self.new }
-        ensures early { result ≡ Extended.Passes → AreEarly (reached basis.now.situation (leg + 1)) self.new.watched.items }
-        ensures stands { result ≡ Extended.Passes → StandsAt basis.now (plan_of (choices_of basis.now.situation.lattice) (leg + 1) number)
-            (reached basis.now.situation (leg + 1)) self.new.watched.items }
-        ensures outside { result ≡ Extended.Passes → StaysOut basis.now.situation (plan_of (choices_of basis.now.situation.lattice) (leg + 1) number)
-            (reached basis.now.situation (leg + 1)) }
-        ensures passes { result ≡ Extended.Passes → leg + 1 ≡ basis.now.situation.lattice.legs
-            → ¬ PrefixFails basis.now.situation (plan_of (choices_of basis.now.situation.lattice) (leg + 1) number) }
-        ensures fails { result ≡ Extended.Fails → PrefixFails basis.now.situation (plan_of (choices_of basis.now.situation.lattice) (leg + 1) number) }
+        requires basis { IsBasis situation.now basis.now }
+        requires leg { leg < situation.now.lattice.legs }
+        requires number { number < choices_of situation.now.lattice ^ (leg + 1) }
+        requires places { HasPlaces situation.now basis.now leg self.old }
+        requires own { HasReached situation.now (plan_of (choices_of situation.now.lattice) leg (number / choices_of situation.now.lattice))
+            (leg * situation.now.lattice.leg_ticks) own }
+        requires from { HasTargets situation.now basis.now from.now.watched.items }
+        requires early { AreEarly (reached situation.now leg) from.now.watched.items }
+        requires stands { StandsAt situation.now basis.now (plan_of (choices_of situation.now.lattice) leg (number / choices_of situation.now.lattice))
+            (reached situation.now leg) from.now.watched.items }
+        requires outside { StaysOut situation.now (plan_of (choices_of situation.now.lattice) leg (number / choices_of situation.now.lattice))
+            (reached situation.now leg) }
+        ensures places { HasPlaces situation.now basis.now leg self.new }
+        ensures early { result ≡ Extended.Passes → AreEarly (reached situation.now (leg + 1)) self.new.watched.items }
+        ensures stands { result ≡ Extended.Passes → StandsAt situation.now basis.now (plan_of (choices_of situation.now.lattice) (leg + 1) number)
+            (reached situation.now (leg + 1)) self.new.watched.items }
+        ensures outside { result ≡ Extended.Passes → StaysOut situation.now (plan_of (choices_of situation.now.lattice) (leg + 1) number)
+            (reached situation.now (leg + 1)) }
+        ensures passes { result ≡ Extended.Passes → leg + 1 ≡ situation.now.lattice.legs
+            → ¬ PrefixFails situation.now (plan_of (choices_of situation.now.lattice) (leg + 1) number) }
+        ensures fails { result ≡ Extended.Fails → PrefixFails situation.now (plan_of (choices_of situation.now.lattice) (leg + 1) number) }
         ensures failed_before { result ≡ Extended.FailedBefore
-            → PrefixFails basis.now.situation (plan_of (choices_of basis.now.situation.lattice) leg (number / choices_of basis.now.situation.lattice)) }
+            → PrefixFails situation.now (plan_of (choices_of situation.now.lattice) leg (number / choices_of situation.now.lattice)) }
     {
-        let plan = basis.first_plan(leg + 1, number);
+        let plan = first_plan(situation, leg + 1, number);
         follow_leg(
+            situation,
             basis,
             &plan,
-            basis.leg_begins(leg),
+            leg_begins(situation, leg),
             own,
-            basis.is_last(leg),
+            is_last(situation, leg),
             &from.watched,
             &mut self.path,
             &mut self.watched,

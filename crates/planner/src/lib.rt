@@ -7,6 +7,7 @@ mod basis;
 mod explore;
 mod flat;
 pub mod laws;
+mod legs;
 mod level;
 mod lists;
 mod path;

@@ -20,12 +20,12 @@ pub record IsToldAtNow (situation : Situation) (target : Target) (already : Alre
   pub is_cut : IsCutAtNow situation target cut
   pub tells : Tells (formulas_of situation) cut already
 
-pub record IsBasis (basis : SearchBasis) : Type 0 where
-  pub is_situation : IsSituation basis.situation
-  pub of_rules : monitor.IsProgramOf basis.program (formulas_of basis.situation)
+pub record IsBasis (situation : Situation) (basis : SearchBasis) : Type 0 where
+  pub is_situation : IsSituation situation
+  pub of_rules : monitor.IsProgramOf basis.program (formulas_of situation)
   pub few : monitor.count_of basis.program ≤ 17
-  pub count : length basis.already.items ≡ length basis.situation.targets
-  pub each : (k : ℕ) (t : Target) (a : Already) → k < length basis.situation.targets → IsToldAtNow basis.situation (get_or basis.situation.targets k t) (get_or basis.already.items k a)
+  pub count : length basis.already.items ≡ length situation.targets
+  pub each : (k : ℕ) (t : Target) (a : Already) → k < length situation.targets → IsToldAtNow situation (get_or situation.targets k t) (get_or basis.already.items k a)
 
 -- how many ticks a leg lasts, the last one with the tail
 abbrev pub lasts : Situation → ℕ → ℕ
@@ -33,8 +33,8 @@ lasts situation leg =
     if nat_lt (leg + 1) situation.lattice.legs then situation.lattice.leg_ticks else positions_of situation.lattice - leg * situation.lattice.leg_ticks
 
 -- There is a place for each target.
-pub record HasTargets (basis : SearchBasis) (watched : List Watched) : Type 0 where
-  pub count : length watched ≡ length basis.situation.targets
+pub record HasTargets (situation : Situation) (basis : SearchBasis) (watched : List Watched) : Type 0 where
+  pub count : length watched ≡ length situation.targets
   pub ready : All (IsReady basis.program) watched
 
 -- None was fed more rows than this.
@@ -42,31 +42,33 @@ abbrev pub AreEarly : ℕ → List Watched → Type 0
 AreEarly at watched = All (IsEarly at) watched
 
 -- A level has the places for a leg.
-pub record HasPlaces (basis : SearchBasis) (leg : ℕ) (level : Level) : Type 0 where
-  pub path : length level.path.items ≡ lasts basis.situation leg + 1
-  pub targets : HasTargets basis level.watched.items
+pub record HasPlaces (situation : Situation) (basis : SearchBasis) (leg : ℕ) (level : Level) : Type 0 where
+  pub path : length level.path.items ≡ lasts situation leg + 1
+  pub targets : HasTargets situation basis level.watched.items
   pub fits : monitor.Fits basis.program level.ending
   pub room : monitor.HasRoom basis.program level.ending
 
 -- What is kept stands for the steps of a plan up to a tick.
-abbrev pub StandsAt : SearchBasis → List ℕ → ℕ → List Watched → Type 0
-StandsAt basis plan at watched = (k : ℕ) (t : Target) (a : Already) (w : Watched) (cut : Trace) → k < length basis.situation.targets
-    → IsCutAtNow basis.situation (get_or basis.situation.targets k t) cut
-    → Tells (formulas_of basis.situation) cut (get_or basis.already.items k a)
-    → Stands basis.program basis.situation plan (get_or basis.situation.targets k t) cut at (get_or watched k w)
+abbrev pub StandsAt : Situation → SearchBasis → List ℕ → ℕ → List Watched → Type 0
+StandsAt situation basis plan at watched = (k : ℕ) (t : Target) (a : Already) (w : Watched) (cut : Trace) → k < length situation.targets
+    → IsCutAtNow situation (get_or situation.targets k t) cut
+    → Tells (formulas_of situation) cut (get_or basis.already.items k a)
+    → Stands basis.program situation plan (get_or situation.targets k t) cut at (get_or watched k w)
 
 -- Up to a tick own ship enters no domain.
 abbrev pub StaysOut : Situation → List ℕ → ℕ → Type 0
 StaysOut situation plan at = ¬ Some_ (EntersDomain situation plan at) situation.targets
 
 -- All of a search: a level at now, and one for each leg.
-pub record ArePlaces (basis : SearchBasis) (leg : ℕ) (below : List Level) : Type 0 where
-  pub count : leg + length below ≡ basis.situation.lattice.legs
-  pub each : (i : ℕ) (l : Level) → i < length below → HasPlaces basis (leg + i) (get_or below i l)
+pub record ArePlaces (situation : Situation) (basis : SearchBasis) (leg : ℕ) (below : List Level) : Type 0 where
+  pub count : leg + length below ≡ situation.lattice.legs
+  pub each : (i : ℕ) (l : Level) → i < length below → HasPlaces situation basis (leg + i) (get_or below i l)
 
 -- What stands at now.
-pub record IsPrepared (basis : SearchBasis) (start : Level) : Type 0 where
-  pub is_basis : IsBasis basis
-  pub targets : HasTargets basis start.watched.items
-  pub early : AreEarly (now_of basis.situation) start.watched.items
-  pub stands : StandsAt basis [] (now_of basis.situation) start.watched.items
+pub record IsPrepared (situation : Situation) (basis : SearchBasis) (start : Level) : Type 0 where
+  pub is_basis : IsBasis situation basis
+  pub targets : HasTargets situation basis start.watched.items
+  pub early : AreEarly (now_of situation) start.watched.items
+  pub stands : StandsAt situation basis [] (now_of situation) start.watched.items
+  pub fits : monitor.Fits basis.program start.ending
+  pub room : monitor.HasRoom basis.program start.ending

@@ -18,7 +18,7 @@ follow_from-requires-clause-rules c =
     let count = c.requires.targets.count in
     let long = c.loop-k.invariant.count in
     let lt = c.loop-k-test.true in
-    rules_few c.args.basis.now c.requires.basis c.loop-k.k c.index.result.now c.index.ensures (omega arith) c.index-as_slice-k.result
+    rules_few c.args.situation.now c.args.basis.now c.requires.basis c.loop-k.k c.index.result.now c.index.ensures (omega arith) c.index-as_slice-k.result
 
 pub follow_from-requires-clause-from : goal.follow_from-requires-clause-from
 follow_from-requires-clause-from c =
@@ -34,7 +34,7 @@ follow_from-requires-clause-early c =
     let long = c.loop-k.invariant.count in
     let of_from = c.requires.from.count in
     let lt = c.loop-k-test.true in
-    subst (IsEarly (now_of c.args.basis.now.situation + c.args.first)) (sym c.index-from-k.is) (c.requires.early c.loop-k.k c.index-from-k.result (omega arith))
+    subst (IsEarly (now_of c.args.situation.now + c.args.first)) (sym c.index-from-k.is) (c.requires.early c.loop-k.k c.index-from-k.result (omega arith))
 
 pub returns-then-follow_from-clause-targets : goal.returns-then-follow_from-clause-targets
 returns-then-follow_from-clause-targets c =
@@ -46,7 +46,7 @@ returns-then-follow_from-clause-targets c =
 
 pub returns-then-follow_from-clause-breaks : goal.returns-then-follow_from-clause-breaks
 returns-then-follow_from-clause-breaks c = λ e plan is stands.
-    let s = c.args.basis.now.situation in
+    let s = c.args.situation.now in
     let k = c.loop-k.k in
     let count = c.requires.targets.count in
     let long = c.loop-k.invariant.count in
@@ -58,14 +58,14 @@ returns-then-follow_from-clause-breaks c = λ e plan is stands.
     let W = c.index-from-k.result in
     let is_target : T ≡ get_or s.targets k T = c.index-as_slice-k.is ∙ ap (λ (xs : List Target). get_or xs k T) c.as_slice.ensures in
     let is_watched : W ≡ get_or c.args.from.now k W = c.index-from-k.is in
-    let told = told_here c.args.basis.now c.requires.basis k T A is_target c.index.ensures inside in
-    let was = stands_here c.args.basis.now plan _ c.args.from.now k T A W is_target c.index.ensures is_watched inside stands told.cut told.is_cut told.tells in
+    let told = told_here c.args.situation.now c.args.basis.now c.requires.basis k T A is_target c.index.ensures inside in
+    let was = stands_here c.args.situation.now c.args.basis.now plan _ c.args.from.now k T A W is_target c.index.ensures is_watched inside stands told.cut told.is_cut told.tells in
     let P = BreaksARule s plan (now_of s + c.args.first + (length c.args.path.now - 1)) in
     some_here P s.targets k T inside (subst P is_target (c.follow_from.ensures.breaks c.if-follow_from.true plan told.cut is told.is_cut told.tells was))
 
 pub loop-k-preserved : goal.loop-k-preserved
 loop-k-preserved c =
-    let s = c.args.basis.now.situation in
+    let s = c.args.situation.now in
     let k = c.loop-k.k in
     let count = c.requires.targets.count in
     let long = c.loop-k.invariant.count in
@@ -95,7 +95,7 @@ loop-k-preserved c =
           let tells' = subst (λ (x : Already). Tells (formulas_of s) cut x) same_already tells in
           subst (λ (x : Target). Stands c.args.basis.now.program s plan x cut (now_of s + c.args.first + (length c.args.path.now - 1)) next) (sym same_target)
           (c.follow_from.ensures.stands c.if-follow_from.false plan cut is is_cut' tells'
-          (stands_here c.args.basis.now plan _ c.args.from.now k T A W is_target c.index.ensures is_watched inside stands cut is_cut' tells')))
+          (stands_here c.args.situation.now c.args.basis.now plan _ c.args.from.now k T A W is_target c.index.ensures is_watched inside stands cut is_cut' tells')))
           j w below t a cut is_cut tells;
     }
 

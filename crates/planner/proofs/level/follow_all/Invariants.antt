@@ -15,9 +15,9 @@ abbrev pub invariant-loop-k : goal.invariant-loop-k
 invariant-loop-k l = record {
   count : length l.watched ≡ length l.fn.watched;
   ready : All (IsReady l.basis.program) l.watched;
-  early : (j : ℕ) (w : Watched) → j < l.k → IsEarly (now_of l.basis.situation + l.first + (length l.path - 1)) (get_or l.watched j w);
-  stands : (plan : List ℕ) → IsPath l.basis.situation plan l.first l.path → StandsAt l.basis plan (now_of l.basis.situation + l.first) l.from
-      → (j : ℕ) (t : Target) (a : Already) (w : Watched) (cut : Trace) → j < l.k → IsCutAtNow l.basis.situation (get_or l.basis.situation.targets j t) cut
-      → Tells (formulas_of l.basis.situation) cut (get_or l.basis.already.items j a)
-      → Stands l.basis.program l.basis.situation plan (get_or l.basis.situation.targets j t) cut (now_of l.basis.situation + l.first + (length l.path - 1)) (get_or l.watched j w);
+  early : (j : ℕ) (w : Watched) → j < l.k → IsEarly (now_of l.situation + l.first + (length l.path - 1)) (get_or l.watched j w);
+  stands : (plan : List ℕ) → IsPath l.situation plan l.first l.path → StandsAt l.situation l.basis plan (now_of l.situation + l.first) l.from
+      → (j : ℕ) (t : Target) (a : Already) (w : Watched) (cut : Trace) → j < l.k → IsCutAtNow l.situation (get_or l.situation.targets j t) cut
+      → Tells (formulas_of l.situation) cut (get_or l.basis.already.items j a)
+      → Stands l.basis.program l.situation plan (get_or l.situation.targets j t) cut (now_of l.situation + l.first + (length l.path - 1)) (get_or l.watched j w);
 }

@@ -11,14 +11,14 @@ use Rattle.planner.proofs.search.Search.run.Goals as goal
 pub explore-requires-clause-stands : goal.explore-requires-clause-stands
 explore-requires-clause-stands c =
     let basis = c.args.self.now.basis in
-    let s = basis.situation in
+    let s = c.args.self.now.situation in
     let some = c.requires.prepared.is_basis.is_situation.some_leg in
-    subst (λ (plan : List ℕ). StandsAt basis plan (reached s 0) c.args.self.now.start.watched.items) (sym (plan_none (choices_of s.lattice) 0))
-    (subst (λ (at : ℕ). StandsAt basis [] at c.args.self.now.start.watched.items) (sym (reached_none s some)) c.requires.prepared.stands)
+    subst (λ (plan : List ℕ). StandsAt s basis plan (reached s 0) c.args.self.now.start.watched.items) (sym (plan_none (choices_of s.lattice) 0))
+    (subst (λ (at : ℕ). StandsAt s basis [] at c.args.self.now.start.watched.items) (sym (reached_none s some)) c.requires.prepared.stands)
 
 pub returns-clause-answer : goal.returns-clause-answer
 returns-clause-answer c =
-    let s = c.args.self.now.basis.situation in
+    let s = c.args.self.now.situation in
     let some = c.requires.prepared.is_basis.is_situation.some_leg in
     let choice = c.requires.prepared.is_basis.is_situation.some_choice in
     let count = c.requires.places.count in
