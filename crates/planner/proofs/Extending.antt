@@ -16,12 +16,14 @@ use Rattle.meetings.specs.Traces.{step_at}
 use Rattle.mtl_monitor.specs.Traces.{Trace}
 use Rattle.mtl_monitor.specs.declared.program.Program.{Program}
 use Rattle.planner.specs.FailingPlans.{BreaksARule, EntersDomain, FailsBy, FailsTowards, Some_}
-use Rattle.planner.specs.Inner.Levels.{AreEarly, StandsAt, StaysOut, lasts}
+use Rattle.planner.specs.Inner.Legs.{IsPlannedLeg, lasts, legs_before, legs_through}
+use Rattle.planner.specs.Inner.Levels.{AreEarly, StandsAt, StaysOut}
 use Rattle.planner.specs.Inner.Paths.{EntersAlong, HasReached, start_of}
 use Rattle.planner.specs.Inner.Watching.{Stands, StandsFor}
 use Rattle.planner.specs.Prefixes.{PrefixFails, reached, steps_told}
 use Rattle.planner.specs.Situations.{end_of, now_of, own_at, target_at, terms_of}
 use Rattle.planner.specs.declared.basis.SearchBasis.{SearchBasis}
+use Rattle.planner.specs.declared.legs.PlannedLeg.{PlannedLeg}
 use Rattle.planner.specs.declared.situation.Situation.{Situation}
 use Rattle.planner.specs.declared.situation.Target.{Target}
 use Rattle.planner.specs.declared.watched.Watched.{Watched}
@@ -165,19 +167,17 @@ module _ (s : Situation) (W : List ℕ) (at : ℕ) where
       one (Some T) f (inl e) = outside (f (EntersDomain s W at) e)
       one (Some T) f (inr b) = breaks (f (BreaksARule s W at) b)
 
--- ---- from a prefix to the plan that is followed, and back to the longer prefix
+-- ---- from the legs before a leg to the plan that is followed, and back to the legs up to it
 
-module _ (s : Situation) (leg number : ℕ) (W : List ℕ) (some : 1 ≤ s.lattice.legs)
-    (begins : take (leg + 1) W ≡ plan_of (choices_of s.lattice) (leg + 1) number) where
-  same_front : (step : ℕ) → step < steps_told s.lattice leg → choice_in_force s.lattice (plan_of (choices_of s.lattice) leg (number / choices_of s.lattice)) step
-      ≡ choice_in_force s.lattice W step
-  same_front = shared s.lattice (plan_of (choices_of s.lattice) leg (number / choices_of s.lattice)) W leg some
-      (shares_front (choices_of s.lattice) leg number W begins)
+module _ (s : Situation) (leg : PlannedLeg) (is : IsPlannedLeg s leg) where
+  some : 1 ≤ s.lattice.legs
+  some = let inside = is.inside in omega arith
 
-  same_prefix : (step : ℕ) → step < steps_told s.lattice (leg + 1) → choice_in_force s.lattice (plan_of (choices_of s.lattice) (leg + 1) number) step
-      ≡ choice_in_force s.lattice W step
-  same_prefix = shared s.lattice (plan_of (choices_of s.lattice) (leg + 1) number) W (leg + 1) some
-      (shares_prefix (choices_of s.lattice) leg number W begins)
+  same_before : (step : ℕ) → step < steps_told s.lattice leg.index → choice_in_force s.lattice (legs_before s leg) step ≡ choice_in_force s.lattice leg.plan step
+  same_before = shared s.lattice (legs_before s leg) leg.plan leg.index some (shares_front (choices_of s.lattice) leg.index leg.number leg.plan is.shares)
+
+  same_through : (step : ℕ) → step < steps_told s.lattice (leg.index + 1) → choice_in_force s.lattice (legs_through s leg) step ≡ choice_in_force s.lattice leg.plan step
+  same_through = shared s.lattice (legs_through s leg) leg.plan (leg.index + 1) some (shares_prefix (choices_of s.lattice) leg.index leg.number leg.plan is.shares)
 
   within : (legs : ℕ) → reached s legs ≤ now_of s + steps_told s.lattice legs
   within legs = omega arith
@@ -188,57 +188,63 @@ module _ (s : Situation) (leg number : ℕ) (W : List ℕ) (some : 1 ≤ s.latti
   same_tick : (at : ℕ) → at ≤ at
   same_tick at = omega arith
 
-  pub level_front : (basis : SearchBasis) (watched : List Watched) → StandsAt s basis (plan_of (choices_of s.lattice) leg (number / choices_of s.lattice)) (reached s leg) watched
-      → StandsAt s basis W (reached s leg) watched
-  level_front basis watched h = level_too s basis (plan_of (choices_of s.lattice) leg (number / choices_of s.lattice)) W (steps_told s.lattice leg) same_front
-      (reached s leg) (within leg) watched h
+  pub level_before : (basis : SearchBasis) (watched : List Watched) → StandsAt s basis (legs_before s leg) (reached s leg.index) watched → StandsAt s basis leg.plan (reached s leg.index) watched
+  level_before basis watched h = level_too s basis (legs_before s leg) leg.plan (steps_told s.lattice leg.index) same_before (reached s leg.index) (within leg.index) watched h
 
-  pub level_prefix : (basis : SearchBasis) (watched : List Watched) → StandsAt s basis W (reached s (leg + 1)) watched
-      → StandsAt s basis (plan_of (choices_of s.lattice) (leg + 1) number) (reached s (leg + 1)) watched
-  level_prefix basis watched h = level_too s basis W (plan_of (choices_of s.lattice) (leg + 1) number) (steps_told s.lattice (leg + 1)) (λ step lt. sym (same_prefix step lt))
-      (reached s (leg + 1)) (within (leg + 1)) watched h
+  pub level_through : (basis : SearchBasis) (watched : List Watched) → StandsAt s basis leg.plan (reached s (leg.index + 1)) watched
+      → StandsAt s basis (legs_through s leg) (reached s (leg.index + 1)) watched
+  level_through basis watched h = level_too s basis leg.plan (legs_through s leg) (steps_told s.lattice (leg.index + 1)) (λ step lt. sym (same_through step lt))
+      (reached s (leg.index + 1)) (within (leg.index + 1)) watched h
 
-  pub out_front : StaysOut s (plan_of (choices_of s.lattice) leg (number / choices_of s.lattice)) (reached s leg)
-      → StaysOut s W (reached s leg)
-  out_front outside h = outside (some_weaker (EntersDomain s W (reached s leg))
-      (EntersDomain s (plan_of (choices_of s.lattice) leg (number / choices_of s.lattice)) (reached s leg)) s.targets
-      (λ T. enters_too s W (plan_of (choices_of s.lattice) leg (number / choices_of s.lattice)) (steps_told s.lattice leg) (λ step lt. sym (same_front step lt))
-      (reached s leg) (within leg) T (reached s leg) (same_tick (reached s leg))) h)
+  pub out_before : StaysOut s (legs_before s leg) (reached s leg.index) → StaysOut s leg.plan (reached s leg.index)
+  out_before outside h = outside (some_weaker (EntersDomain s leg.plan (reached s leg.index)) (EntersDomain s (legs_before s leg) (reached s leg.index)) s.targets
+      (λ T. enters_too s leg.plan (legs_before s leg) (steps_told s.lattice leg.index) (λ step lt. sym (same_before step lt))
+      (reached s leg.index) (within leg.index) T (reached s leg.index) (same_tick (reached s leg.index))) h)
 
-  pub out_prefix : StaysOut s W (reached s (leg + 1))
-      → StaysOut s (plan_of (choices_of s.lattice) (leg + 1) number) (reached s (leg + 1))
-  out_prefix outside h = outside (some_weaker (EntersDomain s (plan_of (choices_of s.lattice) (leg + 1) number) (reached s (leg + 1)))
-      (EntersDomain s W (reached s (leg + 1))) s.targets
-      (λ T. enters_too s (plan_of (choices_of s.lattice) (leg + 1) number) W (steps_told s.lattice (leg + 1)) same_prefix
-      (reached s (leg + 1)) (within (leg + 1)) T (reached s (leg + 1)) (same_tick (reached s (leg + 1)))) h)
+  pub out_through : StaysOut s leg.plan (reached s (leg.index + 1)) → StaysOut s (legs_through s leg) (reached s (leg.index + 1))
+  out_through outside h = outside (some_weaker (EntersDomain s (legs_through s leg) (reached s (leg.index + 1))) (EntersDomain s leg.plan (reached s (leg.index + 1))) s.targets
+      (λ T. enters_too s (legs_through s leg) leg.plan (steps_told s.lattice (leg.index + 1)) same_through
+      (reached s (leg.index + 1)) (within (leg.index + 1)) T (reached s (leg.index + 1)) (same_tick (reached s (leg.index + 1)))) h)
 
-  pub to_front : FailsBy s (reached s leg) W → PrefixFails s (plan_of (choices_of s.lattice) leg (number / choices_of s.lattice))
-  to_front h = subst (λ (n : ℕ). FailsBy s (reached s n) (plan_of (choices_of s.lattice) leg (number / choices_of s.lattice)))
-      (sym (length-plan_of (choices_of s.lattice) leg (number / choices_of s.lattice)))
-      (fails_too s W (plan_of (choices_of s.lattice) leg (number / choices_of s.lattice)) (steps_told s.lattice leg) (λ step lt. sym (same_front step lt))
-      (reached s leg) (within leg) (reached s leg) (same_tick (reached s leg)) (from_now leg) h)
+  pub to_before : FailsBy s (reached s leg.index) leg.plan → PrefixFails s (legs_before s leg)
+  to_before h = subst (λ (n : ℕ). FailsBy s (reached s n) (legs_before s leg)) (sym (length-plan_of (choices_of s.lattice) leg.index (leg.number / choices_of s.lattice)))
+      (fails_too s leg.plan (legs_before s leg) (steps_told s.lattice leg.index) (λ step lt. sym (same_before step lt))
+      (reached s leg.index) (within leg.index) (reached s leg.index) (same_tick (reached s leg.index)) (from_now leg.index) h)
 
-  long : length (plan_of (choices_of s.lattice) (leg + 1) number) ≡ leg + 1
-  long = length-plan_of (choices_of s.lattice) (leg + 1) number
+  long : length (legs_through s leg) ≡ leg.index + 1
+  long = length-plan_of (choices_of s.lattice) (leg.index + 1) leg.number
 
-  pub to_prefix : FailsBy s (reached s (leg + 1)) W → PrefixFails s (plan_of (choices_of s.lattice) (leg + 1) number)
-  to_prefix h = subst (λ (n : ℕ). FailsBy s (reached s n) (plan_of (choices_of s.lattice) (leg + 1) number)) (sym long)
-      (fails_too s W (plan_of (choices_of s.lattice) (leg + 1) number) (steps_told s.lattice (leg + 1)) (λ step lt. sym (same_prefix step lt))
-      (reached s (leg + 1)) (within (leg + 1)) (reached s (leg + 1)) (same_tick (reached s (leg + 1))) (from_now (leg + 1)) h)
+  pub to_through : FailsBy s (reached s (leg.index + 1)) leg.plan → PrefixFails s (legs_through s leg)
+  to_through h = subst (λ (n : ℕ). FailsBy s (reached s n) (legs_through s leg)) (sym long)
+      (fails_too s leg.plan (legs_through s leg) (steps_told s.lattice (leg.index + 1)) (λ step lt. sym (same_through step lt))
+      (reached s (leg.index + 1)) (within (leg.index + 1)) (reached s (leg.index + 1)) (same_tick (reached s (leg.index + 1))) (from_now (leg.index + 1)) h)
 
-  pub from_prefix : PrefixFails s (plan_of (choices_of s.lattice) (leg + 1) number) → FailsBy s (reached s (leg + 1)) W
-  from_prefix h = fails_too s (plan_of (choices_of s.lattice) (leg + 1) number) W (steps_told s.lattice (leg + 1)) same_prefix
-      (reached s (leg + 1)) (within (leg + 1)) (reached s (leg + 1)) (same_tick (reached s (leg + 1))) (from_now (leg + 1))
-      (subst (λ (n : ℕ). FailsBy s (reached s n) (plan_of (choices_of s.lattice) (leg + 1) number)) long h)
+  pub from_through : PrefixFails s (legs_through s leg) → FailsBy s (reached s (leg.index + 1)) leg.plan
+  from_through h = fails_too s (legs_through s leg) leg.plan (steps_told s.lattice (leg.index + 1)) same_through
+      (reached s (leg.index + 1)) (within (leg.index + 1)) (reached s (leg.index + 1)) (same_tick (reached s (leg.index + 1))) (from_now (leg.index + 1))
+      (subst (λ (n : ℕ). FailsBy s (reached s n) (legs_through s leg)) long h)
 
-pub ends_there : (s : Situation) (leg first length_of : ℕ) → leg < s.lattice.legs → first ≡ leg * s.lattice.leg_ticks → length_of ≡ lasts s leg + 1
-    → now_of s + first + (length_of - 1) ≡ reached s (leg + 1)
-ends_there s leg first length_of lt e f =
-    let ends = leg_ends s leg lt in
-    omega arith
+-- ---- ticks
 
-pub begins_there : (s : Situation) (leg first : ℕ) → leg < s.lattice.legs → first ≡ leg * s.lattice.leg_ticks → now_of s + first ≡ reached s leg
-begins_there s leg first lt e = ap (λ (k : ℕ). now_of s + k) (e ∙ sym (leg_begins s.lattice leg lt))
+pub reached_within : (s : Situation) (legs : ℕ) → reached s legs ≤ end_of s
+reached_within s legs = elim (cases_lt legs s.lattice.legs) [
+  | inl more ↦ (let told = leg_begins s.lattice legs more in
+      let le : legs ≤ s.lattice.legs = omega arith in
+      let few = mul-le-mul_right s.lattice.leg_ticks le in
+      omega arith)
+  | inr all ↦ (let e = reached_end s legs all in omega arith)
+]
+
+-- Where a path has the states of a leg's ticks and one more, it ends with the leg, and within the plan.
+pub ends_there : (s : Situation) (leg : PlannedLeg) → IsPlannedLeg s leg → (count : ℕ) → count ≡ lasts s leg.index + 1
+    → (leg.begins + count ≡ steps_told s.lattice (leg.index + 1) + 1) × (leg.begins + count ≤ positions_of s.lattice + 1)
+ends_there s leg is count e =
+    let from = is.from in
+    let begins = leg_begins s.lattice leg.index is.inside in
+    let ends = leg_ends s leg.index is.inside in
+    let until : leg.begins + count ≡ steps_told s.lattice (leg.index + 1) + 1 = omega arith in
+    let le = reached_within s (leg.index + 1) in
+    (until, omega arith)
 
 -- What was fed up to the end of some legs was fed up to the plan's end.
 pub early_to_end : (s : Situation) (legs : ℕ) (watched : List Watched) → AreEarly (reached s legs) watched → AreEarly (end_of s) watched
@@ -246,16 +252,8 @@ early_to_end s legs watched h = λ k d lt.
     let early = h k d lt in
     let fed = early.fed in
     let since = early.since in
-    record { fed = omega (arith, within); since = omega (arith, within) }
-  where
-    within : reached s legs ≤ end_of s
-    within = elim (cases_lt legs s.lattice.legs) [
-      | inl more ↦ (let told = leg_begins s.lattice legs more in
-          let le : legs ≤ s.lattice.legs = omega arith in
-          let few = mul-le-mul_right s.lattice.leg_ticks le in
-          omega arith)
-      | inr all ↦ (let e = reached_end s legs all in omega arith)
-    ]
+    let le = reached_within s legs in
+    record { fed = omega arith; since = omega arith }
 
 -- Nothing was entered before now.
 pub out_at_now : (s : Situation) (X : List ℕ) → 1 ≤ s.lattice.legs → StaysOut s X (reached s 0)

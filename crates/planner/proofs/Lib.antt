@@ -3,6 +3,7 @@ pub mod CommonLegs
 pub mod OwnStates
 pub mod Lifting
 pub mod Watching
+pub mod Following
 pub mod TellingNow
 pub mod Blocks
 pub mod FlatList

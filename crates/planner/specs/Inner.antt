@@ -3,5 +3,6 @@ pub mod Runs
 pub mod Breaking
 pub mod Watching
 pub mod Paths
+pub mod Legs
 pub mod Levels
 pub mod Walk

@@ -2,12 +2,12 @@
 ghost use Rattle.std.specs.Prelude.{ℕ, ◌≡◌, ◌<◌, ◌≤◌, ◌+◌, ◌*◌, ◌^◌, length, MatchOption};
 ghost use Rattle.lattice.specs.Grids.{choices_of};
 ghost use Rattle.lattice.specs.PlanNumbers.{plan_of};
-ghost use Rattle.planner.specs.Inner.Levels.{AreEarly, ArePlaces, HasTargets, IsBasis, StandsAt, StaysOut};
+ghost use Rattle.planner.specs.Inner.Levels.{ArePlaces, IsAfter, IsBasis};
 ghost use Rattle.planner.specs.Inner.Walk.{AllFailFrom, IsFirst};
-ghost use Rattle.planner.specs.Prefixes.{reached, PrefixFails};
+ghost use Rattle.planner.specs.Prefixes.{PrefixFails};
 
 use crate::basis::SearchBasis;
-use crate::legs::own_at_leg;
+use crate::legs::{PlannedLeg, own_at_leg};
 use crate::level::{Extended, Level};
 use crate::situation::Situation;
 
@@ -24,10 +24,7 @@ pub(crate) fn explore(
     requires basis { IsBasis situation.now basis.now }
     requires places { ArePlaces situation.now basis.now leg below.old }
     requires number { number < choices_of situation.now.lattice ^ leg }
-    requires from { HasTargets situation.now basis.now from.now.watched.items }
-    requires early { AreEarly (reached situation.now leg) from.now.watched.items }
-    requires stands { StandsAt situation.now basis.now (plan_of (choices_of situation.now.lattice) leg number) (reached situation.now leg) from.now.watched.items }
-    requires outside { StaysOut situation.now (plan_of (choices_of situation.now.lattice) leg number) (reached situation.now leg) }
+    requires from { IsAfter situation.now basis.now leg number from.now }
     requires passes { length below.old ≡ 0 → ¬ PrefixFails situation.now (plan_of (choices_of situation.now.lattice) leg number) }
     ensures places { ArePlaces situation.now basis.now leg below.new }
     ensures answer { let first = number * choices_of situation.now.lattice ^ length below.old in let end = (number + 1) * choices_of situation.now.lattice ^ length below.old in
@@ -41,7 +38,8 @@ pub(crate) fn explore(
     let mut ended = false;
     for choice in 0..choices {
         let extended = number * choices + choice;
-        match to.extend(situation, basis, from, own, leg, extended, &mut ended) {
+        let next = PlannedLeg::new(situation, leg, extended, own);
+        match to.extend(situation, basis, from, &next, &mut ended) {
             Extended::Passes => {
                 if let Some(found) = explore(situation, basis, to, rest, leg + 1, extended) {
                     return Some(found);

@@ -1,16 +1,33 @@
 //! The legs of a situation's plans: when each begins and how long it lasts, and where own ship is then.
-ghost use Rattle.std.specs.Prelude.{◌≡◌, ◌+◌, ◌*◌, ◌^◌, ◌<◌, ◌≤◌, ◌↔◌, IsTrue, take};
+ghost use Rattle.std.specs.Prelude.{◌≡◌, ◌+◌, ◌*◌, ◌/◌, ◌^◌, ◌<◌, ◌≤◌, ◌↔◌, IsTrue, take};
 ghost use Rattle.lattice.specs.Grids.{choices_of};
 ghost use Rattle.lattice.specs.PlanNumbers.{plan_of, IsPlan};
-ghost use Rattle.planner.specs.Inner.Levels.{lasts};
+ghost use Rattle.planner.specs.Inner.Legs.{lasts, IsPlannedLeg};
 ghost use Rattle.planner.specs.Inner.Paths.{HasReached};
 ghost use Rattle.planner.specs.Situations.{IsSituation};
 
 use crate::situation::Situation;
 use lattice::{Plan, UnderWay};
 
+/// One leg of a plan, as it is followed.
+#[derive(Drop)]
+pub(crate) struct PlannedLeg {
+    /// The first leg has index 0.
+    pub(crate) index: u8,
+    /// The number of the prefix that ends with it.
+    pub(crate) number: u32,
+    /// The first of the plans that begin with that prefix.
+    pub(crate) plan: Plan,
+    /// The tick at which it begins, counted from now.
+    pub(crate) begins: u32,
+    /// Where own ship is then, and how she heads and moves.
+    pub(crate) own: UnderWay,
+    /// Whether no leg follows it.
+    pub(crate) is_last: bool,
+}
+
 /// The first of the plans that begin with the legs of this number: so many legs.
-pub(crate) fn first_plan(situation: &Situation, legs: u8, number: u32) -> Plan
+fn first_plan(situation: &Situation, legs: u8, number: u32) -> Plan
     requires legs { legs ≤ situation.now.lattice.legs }
     requires number { number < choices_of situation.now.lattice ^ legs }
     ensures plan { IsPlan (choices_of situation.now.lattice) situation.now.lattice.legs result }
@@ -22,7 +39,7 @@ pub(crate) fn first_plan(situation: &Situation, legs: u8, number: u32) -> Plan
 }
 
 /// How many ticks after now a leg begins.
-pub(crate) fn leg_begins(situation: &Situation, leg: u8) -> u32
+fn leg_begins(situation: &Situation, leg: u8) -> u32
     requires { leg < situation.now.lattice.legs }
     ensures { result ≡ leg * situation.now.lattice.leg_ticks }
 {
@@ -41,7 +58,7 @@ pub(crate) fn own_at_leg(situation: &Situation, leg: u8, number: u32) -> UnderWa
 }
 
 /// Whether no leg follows it.
-pub(crate) fn is_last(situation: &Situation, leg: u8) -> bool
+fn is_last(situation: &Situation, leg: u8) -> bool
     requires { leg < situation.now.lattice.legs }
     ensures { IsTrue result ↔ (leg + 1 ≡ situation.now.lattice.legs) }
 {
@@ -60,5 +77,28 @@ pub(crate) fn leg_lasts(situation: &Situation, leg: u8) -> u32
         situation.lattice.leg_ticks()
     } else {
         situation.lattice.positions() - leg_begins(situation, leg)
+    }
+}
+
+impl PlannedLeg {
+    /// The last leg of the prefix that has this number. `own` is where own ship is after the legs before it.
+    pub(crate) fn new(situation: &Situation, index: u8, number: u32, own: UnderWay) -> PlannedLeg
+        requires situation { IsSituation situation.now }
+        requires index { index < situation.now.lattice.legs }
+        requires number { number < choices_of situation.now.lattice ^ (index + 1) }
+        requires own { HasReached situation.now (plan_of (choices_of situation.now.lattice) index (number / choices_of situation.now.lattice))
+            (index * situation.now.lattice.leg_ticks) own }
+        ensures leg { IsPlannedLeg situation.now result }
+        ensures index { result.index ≡ index }
+        ensures number { result.number ≡ number }
+    {
+        PlannedLeg {
+            index,
+            number,
+            plan: first_plan(situation, index + 1, number),
+            begins: leg_begins(situation, index),
+            own,
+            is_last: is_last(situation, index),
+        }
     }
 }

@@ -15,6 +15,7 @@ mod prediction;
 mod search;
 mod situation;
 mod ticks;
+mod towards;
 mod watched;
 
 pub use flat::least_plan;

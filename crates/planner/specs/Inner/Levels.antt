@@ -1,14 +1,18 @@
 -- What is kept for the search, and after a prefix of legs.
-use Rattle.std.specs.Prelude.{ℕ, ◌≡◌, ◌+◌, ◌-◌, ◌*◌, ◌<◌, ◌≤◌, List, [], length, get_or, All, nat_lt, if◌then◌else◌}
-use Rattle.lattice.specs.Grids.{positions_of}
+use Rattle.std.specs.Prelude.{ℕ, ◌≡◌, ◌+◌, ◌<◌, ◌≤◌, Bool, true, false, List, [], length, get_or, All}
+use Rattle.lattice.specs.Grids.{choices_of}
+use Rattle.lattice.specs.PlanNumbers.{plan_of}
 use Rattle.mtl_monitor.specs.Following as monitor
 use Rattle.mtl_monitor.specs.Traces.{Trace}
-use Rattle.planner.specs.FailingPlans.{EntersDomain, Some_}
+use Rattle.planner.specs.FailingPlans.{BreaksARule, EntersDomain, Some_}
 use Rattle.planner.specs.Inner.Breaking.{Tells, formulas_of}
+use Rattle.planner.specs.Inner.Legs.{IsPathIn, lasts}
 use Rattle.planner.specs.Inner.Watching.{IsCutAtNow, IsEarly, IsReady, Stands}
+use Rattle.planner.specs.Prefixes.{reached}
 use Rattle.planner.specs.Situations.{IsSituation, now_of}
 use Rattle.planner.specs.declared.already.Already.{Already}
 use Rattle.planner.specs.declared.basis.SearchBasis.{SearchBasis}
+use Rattle.planner.specs.declared.legs.PlannedLeg.{PlannedLeg}
 use Rattle.planner.specs.declared.level.Level.{Level}
 use Rattle.planner.specs.declared.situation.Situation.{Situation}
 use Rattle.planner.specs.declared.situation.Target.{Target}
@@ -27,11 +31,6 @@ pub record IsBasis (situation : Situation) (basis : SearchBasis) : Type 0 where
   pub count : length basis.already.items ≡ length situation.targets
   pub each : (k : ℕ) (t : Target) (a : Already) → k < length situation.targets → IsToldAtNow situation (get_or situation.targets k t) (get_or basis.already.items k a)
 
--- how many ticks a leg lasts, the last one with the tail
-abbrev pub lasts : Situation → ℕ → ℕ
-lasts situation leg =
-    if nat_lt (leg + 1) situation.lattice.legs then situation.lattice.leg_ticks else positions_of situation.lattice - leg * situation.lattice.leg_ticks
-
 -- There is a place for each target.
 pub record HasTargets (situation : Situation) (basis : SearchBasis) (watched : List Watched) : Type 0 where
   pub count : length watched ≡ length situation.targets
@@ -48,6 +47,11 @@ pub record HasPlaces (situation : Situation) (basis : SearchBasis) (leg : ℕ) (
   pub fits : monitor.Fits basis.program level.ending
   pub room : monitor.HasRoom basis.program level.ending
 
+-- It has them, and own ship's path in the leg.
+pub record IsOnLeg (situation : Situation) (basis : SearchBasis) (leg : PlannedLeg) (level : Level) : Type 0 where
+  pub places : HasPlaces situation basis leg.index level
+  pub path : IsPathIn situation leg level.path.items
+
 -- What is kept stands for the steps of a plan up to a tick.
 abbrev pub StandsAt : Situation → SearchBasis → List ℕ → ℕ → List Watched → Type 0
 StandsAt situation basis plan at watched = (k : ℕ) (t : Target) (a : Already) (w : Watched) (cut : Trace) → k < length situation.targets
@@ -55,9 +59,21 @@ StandsAt situation basis plan at watched = (k : ℕ) (t : Target) (a : Already) 
     → Tells (formulas_of situation) cut (get_or basis.already.items k a)
     → Stands basis.program situation plan (get_or situation.targets k t) cut at (get_or watched k w)
 
+-- All targets were followed from a tick to another under a plan, and whether a rule is newly broken was told.
+pub record AreFollowed (situation : Situation) (basis : SearchBasis) (plan : List ℕ) (from to : ℕ) (old new : List Watched) (told : Bool) : Type 0 where
+  pub stands : told ≡ false → StandsAt situation basis plan from old → StandsAt situation basis plan to new
+  pub breaks : told ≡ true → StandsAt situation basis plan from old → Some_ (BreaksARule situation plan to) situation.targets
+
 -- Up to a tick own ship enters no domain.
 abbrev pub StaysOut : Situation → List ℕ → ℕ → Type 0
 StaysOut situation plan at = ¬ Some_ (EntersDomain situation plan at) situation.targets
+
+-- What a level keeps stands for the steps of so many legs of this number, in which she enters no domain.
+pub record IsAfter (situation : Situation) (basis : SearchBasis) (legs number : ℕ) (level : Level) : Type 0 where
+  pub targets : HasTargets situation basis level.watched.items
+  pub early : AreEarly (reached situation legs) level.watched.items
+  pub stands : StandsAt situation basis (plan_of (choices_of situation.lattice) legs number) (reached situation legs) level.watched.items
+  pub outside : StaysOut situation (plan_of (choices_of situation.lattice) legs number) (reached situation legs)
 
 -- All of a search: a level at now, and one for each leg.
 pub record ArePlaces (situation : Situation) (basis : SearchBasis) (leg : ℕ) (below : List Level) : Type 0 where

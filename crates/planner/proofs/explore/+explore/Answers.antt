@@ -1,10 +1,10 @@
 use Rattle.std.proofs.Common.{◌≡◌, ℕ, ◌+◌, ◌*◌, ◌^◌, ◌<◌, ◌≤◌, List, length, sym, ap, subst, ◌∙◌, arith, rules}
 use Rattle.lattice.specs.Grids.{choices_of}
 use Rattle.lattice.specs.PlanNumbers.{plan_of}
-use Rattle.planner.specs.Inner.Levels.{ArePlaces, StandsAt, StaysOut}
+use Rattle.planner.specs.Inner.Levels.{ArePlaces}
 use Rattle.planner.specs.Inner.Paths.{HasReached}
 use Rattle.planner.specs.Inner.Walk.{AllFailFrom}
-use Rattle.planner.specs.Prefixes.{PrefixFails, reached}
+use Rattle.planner.specs.Prefixes.{PrefixFails}
 use Rattle.planner.specs.declared.level.Level.{Level}
 use Rattle.planner.proofs.Blocks.{all_tried, block_fails, found, none_before, none_fail, not_found, small_place}
 use Rattle.planner.proofs.Walking.{first_alone, join_places, next_number, number_before, split_places}
@@ -55,35 +55,30 @@ overflow_add-extended t c =
     let fits : c.args.number * c.choices-choices.result + c.loop-choice.choice < 2 ^ 32 = omega arith in
     search rules
 
-pub extend-requires-clause-number : goal.extend-requires-clause-number
-extend-requires-clause-number t c =
+pub new-next-requires-clause-number : goal.new-next-requires-clause-number
+new-next-requires-clause-number t c =
     let C = choices_of c.args.situation.now.lattice in
     let lt : c.loop-choice.choice < C = subst (λ (n : ℕ). c.loop-choice.choice < n) c.choices-choices.ensures.value c.loop-choice-test.true in
     subst (λ (n : ℕ). c.args.number * n + c.loop-choice.choice < C ^ (c.args.leg + 1)) (sym c.choices-choices.ensures.value) (next_number C c.args.leg c.args.number c.loop-choice.choice c.requires.number lt)
 
-pub extend-requires-clause-own : goal.extend-requires-clause-own
-extend-requires-clause-own t c =
+pub new-next-requires-clause-own : goal.new-next-requires-clause-own
+new-next-requires-clause-own t c =
     let s = c.args.situation.now in
     let C = choices_of s.lattice in
     let lt : c.loop-choice.choice < C = subst (λ (n : ℕ). c.loop-choice.choice < n) c.choices-choices.ensures.value c.loop-choice-test.true in
     let before = number_before C c.args.number c.loop-choice.choice (c.args.number * c.choices-choices.result + c.loop-choice.choice) lt (ap (λ (n : ℕ). c.args.number * n + c.loop-choice.choice) c.choices-choices.ensures.value) in
     subst (λ (n : ℕ). HasReached s (plan_of C c.args.leg n) (c.args.leg * s.lattice.leg_ticks) c.own_at_leg-own.result) (sym before) c.own_at_leg-own.ensures
 
-pub extend-requires-clause-stands : goal.extend-requires-clause-stands
-extend-requires-clause-stands t c =
-    let s = c.args.situation.now in
-    let C = choices_of s.lattice in
-    let lt : c.loop-choice.choice < C = subst (λ (n : ℕ). c.loop-choice.choice < n) c.choices-choices.ensures.value c.loop-choice-test.true in
-    let before = number_before C c.args.number c.loop-choice.choice (c.args.number * c.choices-choices.result + c.loop-choice.choice) lt (ap (λ (n : ℕ). c.args.number * n + c.loop-choice.choice) c.choices-choices.ensures.value) in
-    subst (λ (n : ℕ). StandsAt c.args.situation.now c.args.basis.now (plan_of C c.args.leg n) (reached s c.args.leg) c.args.from.now.watched.items) (sym before) c.requires.stands
+pub extend-requires-clause-places : goal.extend-requires-clause-places
+extend-requires-clause-places t c = rw c.new-next.ensures.index c.loop-choice.invariant.place
 
-pub extend-requires-clause-outside : goal.extend-requires-clause-outside
-extend-requires-clause-outside t c =
+pub extend-requires-clause-from : goal.extend-requires-clause-from
+extend-requires-clause-from t c =
     let s = c.args.situation.now in
     let C = choices_of s.lattice in
     let lt : c.loop-choice.choice < C = subst (λ (n : ℕ). c.loop-choice.choice < n) c.choices-choices.ensures.value c.loop-choice-test.true in
     let before = number_before C c.args.number c.loop-choice.choice (c.args.number * c.choices-choices.result + c.loop-choice.choice) lt (ap (λ (n : ℕ). c.args.number * n + c.loop-choice.choice) c.choices-choices.ensures.value) in
-    subst (λ (n : ℕ). StaysOut s (plan_of C c.args.leg n) (reached s c.args.leg)) (sym before) c.requires.outside
+    rw (c.new-next.ensures.index, c.new-next.ensures.number, before) c.requires.from
 
 pub explore-requires : goal.explore-requires
 explore-requires t c =
@@ -92,34 +87,15 @@ explore-requires t c =
     let lt : c.loop-choice.choice < C = subst (λ (n : ℕ). c.loop-choice.choice < n) c.choices-choices.ensures.value c.loop-choice-test.true in
     let ext = c.args.number * c.choices-choices.result + c.loop-choice.choice in
     let is : ext ≡ c.args.number * C + c.loop-choice.choice = ap (λ (n : ℕ). c.args.number * n + c.loop-choice.choice) c.choices-choices.ensures.value in
-    let number : ext < C ^ (c.args.leg + 1) = subst (λ (n : ℕ). n < C ^ (c.args.leg + 1)) (sym is) (next_number C c.args.leg c.args.number c.loop-choice.choice c.requires.number lt) in (
+    let number : ext < C ^ (c.args.leg + 1) = subst (λ (n : ℕ). n < C ^ (c.args.leg + 1)) (sym is) (next_number C c.args.leg c.args.number c.loop-choice.choice c.requires.number lt) in
+    let after = rw (c.new-next.ensures.index, c.new-next.ensures.number) at (c.extend.ensures.after c.in-Passes.is) in
+    let passes = rw (c.new-next.ensures.index, c.new-next.ensures.number) at (c.extend.ensures.passes c.in-Passes.is) in (
       search rules,
-      (
-        c.requires.basis,
-        (
-          c.loop-choice.invariant.places,
-          (
-            number,
-            (
-              c.extend.ensures.places.targets,
-              (
-                c.extend.ensures.early c.in-Passes.is,
-                (
-                  c.extend.ensures.stands c.in-Passes.is,
-                  (
-                    c.extend.ensures.outside c.in-Passes.is,
-                    λ none. let count = c.loop-choice.invariant.places.count in c.extend.ensures.passes c.in-Passes.is (omega arith),
-                  ),
-                ),
-              ),
-            ),
-          ),
-        ),
-      ),
+      (c.requires.basis, (c.loop-choice.invariant.places, (number, (after, λ none. let count = c.loop-choice.invariant.places.count in passes (omega arith))))),
     )
 
 pub returns-in-Some-explore-clause-places : goal.returns-in-Some-explore-clause-places
-returns-in-Some-explore-clause-places t c = join_places c.args.situation.now c.args.basis.now c.args.leg c.extend.new.self c.explore.new.below c.extend.ensures.places c.in-Some-explore.ensures.places
+returns-in-Some-explore-clause-places t c = join_places c.args.situation.now c.args.basis.now c.args.leg c.extend.new.self c.explore.new.below (rw c.new-next.ensures.index at c.extend.ensures.places) c.in-Some-explore.ensures.places
 
 pub returns-in-Some-explore-clause-answer : goal.returns-in-Some-explore-clause-answer
 returns-in-Some-explore-clause-answer t c =
@@ -143,7 +119,7 @@ loop-choice-preserved t c =
     let whole = c.requires.places.count in
     elim c.match-extend.branch [
       | in-Passes+in_default-explore w ↦ record {
-        place = c.extend.ensures.places;
+        place = rw c.new-next.ensures.index at c.extend.ensures.places;
         places = subst (ArePlaces c.args.situation.now c.args.basis.now (c.args.leg + 1)) (sym w.rest-is) w.in_default-explore.ensures.places;
         left = let after = w.in_default-explore.ensures.places.count in let before = c.loop-choice.invariant.places.count in omega (arith, ap length w.rest-is);
         fail = let after = w.in_default-explore.ensures.places.count in
@@ -153,12 +129,12 @@ loop-choice-preserved t c =
             (not_found s some c.args.number c.loop-choice.choice left (length c.args.below.now) ext long is so_far w.in_default-explore.ensures.answer);
       }
       | in-Fails w ↦ record {
-        place = c.extend.ensures.places;
+        place = rw c.new-next.ensures.index at c.extend.ensures.places;
         places = subst (ArePlaces c.args.situation.now c.args.basis.now (c.args.leg + 1)) (sym w.rest-is) c.loop-choice.invariant.places;
         left = omega (arith, ap length w.rest-is);
         fail = subst (λ (xs : List Level). AllFailFrom s (c.args.number * C ^ length c.args.below.now) ((c.args.number * C + (c.loop-choice.choice + 1)) * C ^ length xs)) (sym w.rest-is)
             (not_found s some c.args.number c.loop-choice.choice left (length c.args.below.now) ext long is so_far
-            (block_fails s some (c.args.leg + 1) left ext (omega arith) (omega arith) (c.extend.ensures.fails w.in-Fails.is)));
+            (block_fails s some (c.args.leg + 1) left ext (omega arith) (omega arith) (rw (c.new-next.ensures.index, c.new-next.ensures.number) at (c.extend.ensures.fails w.in-Fails.is))));
       }
     ]
 
@@ -175,7 +151,7 @@ pub returns-clause-places : goal.returns-clause-places
 returns-clause-places t c = join_places c.args.situation.now c.args.basis.now c.args.leg c.loop-choice.to c.loop-choice.rest c.loop-choice.invariant.place c.loop-choice.invariant.places
 
 pub returns-in-FailedBefore-clause-places : goal.returns-in-FailedBefore-clause-places
-returns-in-FailedBefore-clause-places t c = join_places c.args.situation.now c.args.basis.now c.args.leg c.extend.new.self c.loop-choice.rest c.extend.ensures.places c.loop-choice.invariant.places
+returns-in-FailedBefore-clause-places t c = join_places c.args.situation.now c.args.basis.now c.args.leg c.extend.new.self c.loop-choice.rest (rw c.new-next.ensures.index at c.extend.ensures.places) c.loop-choice.invariant.places
 
 pub returns-in-FailedBefore-clause-answer : goal.returns-in-FailedBefore-clause-answer
 returns-in-FailedBefore-clause-answer t c =
@@ -185,4 +161,4 @@ returns-in-FailedBefore-clause-answer t c =
     let lt : c.loop-choice.choice < C = subst (λ (n : ℕ). c.loop-choice.choice < n) c.choices-choices.ensures.value c.loop-choice-test.true in
     let before = number_before C c.args.number c.loop-choice.choice (c.args.number * c.choices-choices.result + c.loop-choice.choice) lt (ap (λ (n : ℕ). c.args.number * n + c.loop-choice.choice) c.choices-choices.ensures.value) in
     block_fails s c.requires.basis.is_situation.some_leg c.args.leg (length c.args.below.now) c.args.number (omega arith) (omega arith)
-    (subst (λ (n : ℕ). PrefixFails s (plan_of C c.args.leg n)) before (c.extend.ensures.failed_before c.in-FailedBefore.is))
+    (subst (λ (n : ℕ). PrefixFails s (plan_of C c.args.leg n)) before (rw (c.new-next.ensures.index, c.new-next.ensures.number) at (c.extend.ensures.failed_before c.in-FailedBefore.is)))
