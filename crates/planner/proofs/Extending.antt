@@ -14,16 +14,18 @@ use Rattle.meetings.specs.Standing as meetings
 use Rattle.mtl_monitor.specs.Traces.{Trace}
 use Rattle.mtl_monitor.specs.declared.program.Program.{Program}
 use Rattle.situations.specs.FailingPlans.{BreaksARule, EntersAt, EntersDomain, FailsBy, FailsTowards, Some_}
-use Rattle.planner.specs.Inner.Levels.{StandsAt, StaysOut, lasts}
+use Rattle.planner.specs.Inner.Legs.{IsPlannedLeg, lasts, legs_before, legs_through}
+use Rattle.planner.specs.Inner.Levels.{AreEarly, StandsAt, StaysOut}
 use Rattle.situations.specs.Paths.{EntersAlong, HasReached, start_of}
 use Rattle.planner.specs.Inner.Watching.{Stands, StandsFor}
 use Rattle.situations.specs.Prefixes.{PrefixFails, reached, steps_told}
-use Rattle.situations.specs.Situations.{now_of, terms_of}
+use Rattle.situations.specs.Situations.{end_of, now_of, terms_of}
 use Rattle.planner.specs.declared.basis.SearchBasis.{SearchBasis}
+use Rattle.planner.specs.declared.legs.PlannedLeg.{PlannedLeg}
 use Rattle.situations.specs.declared.situation.Situation.{Situation}
 use Rattle.situations.specs.declared.situation.Target.{Target}
 use Rattle.planner.specs.declared.watched.Watched.{Watched}
-use Rattle.situations.proofs.Blocks.{shared}
+use Rattle.situations.proofs.Blocks.{reached_end, shared}
 use Rattle.situations.proofs.CommonLegs.{in_force, same_contact, same_reached, same_steps, when_less, when_not_less}
 use Rattle.situations.proofs.FlatList.{none_some}
 use Rattle.situations.proofs.Lifting.{begins_too, enters_too, fails_too, rows_too, some_weaker}
@@ -114,10 +116,10 @@ module _ (s : Situation) (X Y : List ℕ) (n : ℕ) (same : (step : ℕ) → ste
         h.unbroken start rows (begins_too s Y X n back at told T at start (omega arith) begins) (rows_too s Y X n back at told T start rows (omega arith) are) passed after le told_there;
   }
 
-pub level_too : (basis : SearchBasis) (X Y : List ℕ) (n : ℕ) → ((step : ℕ) → step < n → choice_in_force basis.situation.lattice X step ≡ choice_in_force basis.situation.lattice Y step)
-    → (at : ℕ) → at ≤ now_of basis.situation + n → (watched : List Watched) → StandsAt basis X at watched → StandsAt basis Y at watched
-level_too basis X Y n same at told watched h = λ k t a w cut lt is_cut tells.
-    stands_too basis.situation X Y n same at told basis.program (get_or basis.situation.targets k t) cut (get_or watched k w) (h k t a w cut lt is_cut tells)
+pub level_too : (s : Situation) (basis : SearchBasis) (X Y : List ℕ) (n : ℕ) → ((step : ℕ) → step < n → choice_in_force s.lattice X step ≡ choice_in_force s.lattice Y step)
+    → (at : ℕ) → at ≤ now_of s + n → (watched : List Watched) → StandsAt s basis X at watched → StandsAt s basis Y at watched
+level_too s basis X Y n same at told watched h = λ k t a w cut lt is_cut tells.
+    stands_too s X Y n same at told basis.program (get_or s.targets k t) cut (get_or watched k w) (h k t a w cut lt is_cut tells)
 
 -- ---- whether the longer prefix fails
 
@@ -163,80 +165,93 @@ module _ (s : Situation) (W : List ℕ) (at : ℕ) where
       one (Some T) f (inl e) = outside (f (EntersDomain s W at) e)
       one (Some T) f (inr b) = breaks (f (BreaksARule s W at) b)
 
--- ---- from a prefix to the plan that is followed, and back to the longer prefix
+-- ---- from the legs before a leg to the plan that is followed, and back to the legs up to it
 
-module _ (basis : SearchBasis) (leg number : ℕ) (W : List ℕ) (some : 1 ≤ basis.situation.lattice.legs)
-    (begins : take (leg + 1) W ≡ plan_of (choices_of basis.situation.lattice) (leg + 1) number) where
-  same_front : (step : ℕ) → step < steps_told basis.situation.lattice leg → choice_in_force basis.situation.lattice (plan_of (choices_of basis.situation.lattice) leg (number / choices_of basis.situation.lattice)) step
-      ≡ choice_in_force basis.situation.lattice W step
-  same_front = shared basis.situation.lattice (plan_of (choices_of basis.situation.lattice) leg (number / choices_of basis.situation.lattice)) W leg some
-      (shares_front (choices_of basis.situation.lattice) leg number W begins)
+module _ (s : Situation) (leg : PlannedLeg) (is : IsPlannedLeg s leg) where
+  some : 1 ≤ s.lattice.legs
+  some = let inside = is.inside in omega arith
 
-  same_prefix : (step : ℕ) → step < steps_told basis.situation.lattice (leg + 1) → choice_in_force basis.situation.lattice (plan_of (choices_of basis.situation.lattice) (leg + 1) number) step
-      ≡ choice_in_force basis.situation.lattice W step
-  same_prefix = shared basis.situation.lattice (plan_of (choices_of basis.situation.lattice) (leg + 1) number) W (leg + 1) some
-      (shares_prefix (choices_of basis.situation.lattice) leg number W begins)
+  same_before : (step : ℕ) → step < steps_told s.lattice leg.index → choice_in_force s.lattice (legs_before s leg) step ≡ choice_in_force s.lattice leg.plan step
+  same_before = shared s.lattice (legs_before s leg) leg.plan leg.index some (shares_front (choices_of s.lattice) leg.index leg.number leg.plan is.shares)
 
-  within : (legs : ℕ) → reached basis.situation legs ≤ now_of basis.situation + steps_told basis.situation.lattice legs
+  same_through : (step : ℕ) → step < steps_told s.lattice (leg.index + 1) → choice_in_force s.lattice (legs_through s leg) step ≡ choice_in_force s.lattice leg.plan step
+  same_through = shared s.lattice (legs_through s leg) leg.plan (leg.index + 1) some (shares_prefix (choices_of s.lattice) leg.index leg.number leg.plan is.shares)
+
+  within : (legs : ℕ) → reached s legs ≤ now_of s + steps_told s.lattice legs
   within legs = omega arith
 
-  from_now : (legs : ℕ) → now_of basis.situation ≤ reached basis.situation legs
+  from_now : (legs : ℕ) → now_of s ≤ reached s legs
   from_now legs = omega arith
 
   same_tick : (at : ℕ) → at ≤ at
   same_tick at = omega arith
 
-  pub level_front : (watched : List Watched) → StandsAt basis (plan_of (choices_of basis.situation.lattice) leg (number / choices_of basis.situation.lattice)) (reached basis.situation leg) watched
-      → StandsAt basis W (reached basis.situation leg) watched
-  level_front watched h = level_too basis (plan_of (choices_of basis.situation.lattice) leg (number / choices_of basis.situation.lattice)) W (steps_told basis.situation.lattice leg) same_front
-      (reached basis.situation leg) (within leg) watched h
+  pub level_before : (basis : SearchBasis) (watched : List Watched) → StandsAt s basis (legs_before s leg) (reached s leg.index) watched → StandsAt s basis leg.plan (reached s leg.index) watched
+  level_before basis watched h = level_too s basis (legs_before s leg) leg.plan (steps_told s.lattice leg.index) same_before (reached s leg.index) (within leg.index) watched h
 
-  pub level_prefix : (watched : List Watched) → StandsAt basis W (reached basis.situation (leg + 1)) watched
-      → StandsAt basis (plan_of (choices_of basis.situation.lattice) (leg + 1) number) (reached basis.situation (leg + 1)) watched
-  level_prefix watched h = level_too basis W (plan_of (choices_of basis.situation.lattice) (leg + 1) number) (steps_told basis.situation.lattice (leg + 1)) (λ step lt. sym (same_prefix step lt))
-      (reached basis.situation (leg + 1)) (within (leg + 1)) watched h
+  pub level_through : (basis : SearchBasis) (watched : List Watched) → StandsAt s basis leg.plan (reached s (leg.index + 1)) watched
+      → StandsAt s basis (legs_through s leg) (reached s (leg.index + 1)) watched
+  level_through basis watched h = level_too s basis leg.plan (legs_through s leg) (steps_told s.lattice (leg.index + 1)) (λ step lt. sym (same_through step lt))
+      (reached s (leg.index + 1)) (within (leg.index + 1)) watched h
 
-  pub out_front : StaysOut basis.situation (plan_of (choices_of basis.situation.lattice) leg (number / choices_of basis.situation.lattice)) (reached basis.situation leg)
-      → StaysOut basis.situation W (reached basis.situation leg)
-  out_front outside h = outside (some_weaker (EntersDomain basis.situation W (reached basis.situation leg))
-      (EntersDomain basis.situation (plan_of (choices_of basis.situation.lattice) leg (number / choices_of basis.situation.lattice)) (reached basis.situation leg)) basis.situation.targets
-      (λ T. enters_too basis.situation W (plan_of (choices_of basis.situation.lattice) leg (number / choices_of basis.situation.lattice)) (steps_told basis.situation.lattice leg) (λ step lt. sym (same_front step lt))
-      (reached basis.situation leg) (within leg) T (reached basis.situation leg) (same_tick (reached basis.situation leg))) h)
+  pub out_before : StaysOut s (legs_before s leg) (reached s leg.index) → StaysOut s leg.plan (reached s leg.index)
+  out_before outside h = outside (some_weaker (EntersDomain s leg.plan (reached s leg.index)) (EntersDomain s (legs_before s leg) (reached s leg.index)) s.targets
+      (λ T. enters_too s leg.plan (legs_before s leg) (steps_told s.lattice leg.index) (λ step lt. sym (same_before step lt))
+      (reached s leg.index) (within leg.index) T (reached s leg.index) (same_tick (reached s leg.index))) h)
 
-  pub out_prefix : StaysOut basis.situation W (reached basis.situation (leg + 1))
-      → StaysOut basis.situation (plan_of (choices_of basis.situation.lattice) (leg + 1) number) (reached basis.situation (leg + 1))
-  out_prefix outside h = outside (some_weaker (EntersDomain basis.situation (plan_of (choices_of basis.situation.lattice) (leg + 1) number) (reached basis.situation (leg + 1)))
-      (EntersDomain basis.situation W (reached basis.situation (leg + 1))) basis.situation.targets
-      (λ T. enters_too basis.situation (plan_of (choices_of basis.situation.lattice) (leg + 1) number) W (steps_told basis.situation.lattice (leg + 1)) same_prefix
-      (reached basis.situation (leg + 1)) (within (leg + 1)) T (reached basis.situation (leg + 1)) (same_tick (reached basis.situation (leg + 1)))) h)
+  pub out_through : StaysOut s leg.plan (reached s (leg.index + 1)) → StaysOut s (legs_through s leg) (reached s (leg.index + 1))
+  out_through outside h = outside (some_weaker (EntersDomain s (legs_through s leg) (reached s (leg.index + 1))) (EntersDomain s leg.plan (reached s (leg.index + 1))) s.targets
+      (λ T. enters_too s (legs_through s leg) leg.plan (steps_told s.lattice (leg.index + 1)) same_through
+      (reached s (leg.index + 1)) (within (leg.index + 1)) T (reached s (leg.index + 1)) (same_tick (reached s (leg.index + 1)))) h)
 
-  pub to_front : FailsBy basis.situation (reached basis.situation leg) W → PrefixFails basis.situation (plan_of (choices_of basis.situation.lattice) leg (number / choices_of basis.situation.lattice))
-  to_front h = subst (λ (n : ℕ). FailsBy basis.situation (reached basis.situation n) (plan_of (choices_of basis.situation.lattice) leg (number / choices_of basis.situation.lattice)))
-      (sym (length-plan_of (choices_of basis.situation.lattice) leg (number / choices_of basis.situation.lattice)))
-      (fails_too basis.situation W (plan_of (choices_of basis.situation.lattice) leg (number / choices_of basis.situation.lattice)) (steps_told basis.situation.lattice leg) (λ step lt. sym (same_front step lt))
-      (reached basis.situation leg) (within leg) (reached basis.situation leg) (same_tick (reached basis.situation leg)) (from_now leg) h)
+  pub to_before : FailsBy s (reached s leg.index) leg.plan → PrefixFails s (legs_before s leg)
+  to_before h = subst (λ (n : ℕ). FailsBy s (reached s n) (legs_before s leg)) (sym (length-plan_of (choices_of s.lattice) leg.index (leg.number / choices_of s.lattice)))
+      (fails_too s leg.plan (legs_before s leg) (steps_told s.lattice leg.index) (λ step lt. sym (same_before step lt))
+      (reached s leg.index) (within leg.index) (reached s leg.index) (same_tick (reached s leg.index)) (from_now leg.index) h)
 
-  long : length (plan_of (choices_of basis.situation.lattice) (leg + 1) number) ≡ leg + 1
-  long = length-plan_of (choices_of basis.situation.lattice) (leg + 1) number
+  long : length (legs_through s leg) ≡ leg.index + 1
+  long = length-plan_of (choices_of s.lattice) (leg.index + 1) leg.number
 
-  pub to_prefix : FailsBy basis.situation (reached basis.situation (leg + 1)) W → PrefixFails basis.situation (plan_of (choices_of basis.situation.lattice) (leg + 1) number)
-  to_prefix h = subst (λ (n : ℕ). FailsBy basis.situation (reached basis.situation n) (plan_of (choices_of basis.situation.lattice) (leg + 1) number)) (sym long)
-      (fails_too basis.situation W (plan_of (choices_of basis.situation.lattice) (leg + 1) number) (steps_told basis.situation.lattice (leg + 1)) (λ step lt. sym (same_prefix step lt))
-      (reached basis.situation (leg + 1)) (within (leg + 1)) (reached basis.situation (leg + 1)) (same_tick (reached basis.situation (leg + 1))) (from_now (leg + 1)) h)
+  pub to_through : FailsBy s (reached s (leg.index + 1)) leg.plan → PrefixFails s (legs_through s leg)
+  to_through h = subst (λ (n : ℕ). FailsBy s (reached s n) (legs_through s leg)) (sym long)
+      (fails_too s leg.plan (legs_through s leg) (steps_told s.lattice (leg.index + 1)) (λ step lt. sym (same_through step lt))
+      (reached s (leg.index + 1)) (within (leg.index + 1)) (reached s (leg.index + 1)) (same_tick (reached s (leg.index + 1))) (from_now (leg.index + 1)) h)
 
-  pub from_prefix : PrefixFails basis.situation (plan_of (choices_of basis.situation.lattice) (leg + 1) number) → FailsBy basis.situation (reached basis.situation (leg + 1)) W
-  from_prefix h = fails_too basis.situation (plan_of (choices_of basis.situation.lattice) (leg + 1) number) W (steps_told basis.situation.lattice (leg + 1)) same_prefix
-      (reached basis.situation (leg + 1)) (within (leg + 1)) (reached basis.situation (leg + 1)) (same_tick (reached basis.situation (leg + 1))) (from_now (leg + 1))
-      (subst (λ (n : ℕ). FailsBy basis.situation (reached basis.situation n) (plan_of (choices_of basis.situation.lattice) (leg + 1) number)) long h)
+  pub from_through : PrefixFails s (legs_through s leg) → FailsBy s (reached s (leg.index + 1)) leg.plan
+  from_through h = fails_too s (legs_through s leg) leg.plan (steps_told s.lattice (leg.index + 1)) same_through
+      (reached s (leg.index + 1)) (within (leg.index + 1)) (reached s (leg.index + 1)) (same_tick (reached s (leg.index + 1))) (from_now (leg.index + 1))
+      (subst (λ (n : ℕ). FailsBy s (reached s n) (legs_through s leg)) long h)
 
-pub ends_there : (s : Situation) (leg first length_of : ℕ) → leg < s.lattice.legs → first ≡ leg * s.lattice.leg_ticks → length_of ≡ lasts s leg + 1
-    → now_of s + first + (length_of - 1) ≡ reached s (leg + 1)
-ends_there s leg first length_of lt e f =
-    let ends = leg_ends s leg lt in
-    omega arith
+-- ---- ticks
 
-pub begins_there : (s : Situation) (leg first : ℕ) → leg < s.lattice.legs → first ≡ leg * s.lattice.leg_ticks → now_of s + first ≡ reached s leg
-begins_there s leg first lt e = ap (λ (k : ℕ). now_of s + k) (e ∙ sym (leg_begins s.lattice leg lt))
+pub reached_within : (s : Situation) (legs : ℕ) → reached s legs ≤ end_of s
+reached_within s legs = elim (cases_lt legs s.lattice.legs) [
+  | inl more ↦ (let told = leg_begins s.lattice legs more in
+      let le : legs ≤ s.lattice.legs = omega arith in
+      let few = mul-le-mul_right s.lattice.leg_ticks le in
+      omega arith)
+  | inr all ↦ (let e = reached_end s legs all in omega arith)
+]
+
+-- Where a path has the states of a leg's ticks and one more, it ends with the leg, and within the plan.
+pub ends_there : (s : Situation) (leg : PlannedLeg) → IsPlannedLeg s leg → (count : ℕ) → count ≡ lasts s leg.index + 1
+    → (leg.begins + count ≡ steps_told s.lattice (leg.index + 1) + 1) × (leg.begins + count ≤ positions_of s.lattice + 1)
+ends_there s leg is count e =
+    let from = is.from in
+    let begins = leg_begins s.lattice leg.index is.inside in
+    let ends = leg_ends s leg.index is.inside in
+    let until : leg.begins + count ≡ steps_told s.lattice (leg.index + 1) + 1 = omega arith in
+    let le = reached_within s (leg.index + 1) in
+    (until, omega arith)
+
+-- What was fed up to the end of some legs was fed up to the plan's end.
+pub early_to_end : (s : Situation) (legs : ℕ) (watched : List Watched) → AreEarly (reached s legs) watched → AreEarly (end_of s) watched
+early_to_end s legs watched h = λ k d lt.
+    let early = h k d lt in
+    let fed = early.fed in
+    let since = early.since in
+    let le = reached_within s legs in
+    record { fed = omega arith; since = omega arith }
 
 -- Nothing was entered before now.
 pub out_at_now : (s : Situation) (X : List ℕ) → 1 ≤ s.lattice.legs → StaysOut s X (reached s 0)

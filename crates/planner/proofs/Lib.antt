@@ -1,4 +1,5 @@
 pub mod Watching
+pub mod Following
 pub mod TellingNow
 pub mod Blocks
 pub mod Extending

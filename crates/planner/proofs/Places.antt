@@ -9,6 +9,7 @@ use Rattle.planner.specs.Inner.Levels.{IsBasis, IsToldAtNow, StandsAt}
 use Rattle.planner.specs.Inner.Watching.{IsCutAtNow, Stands}
 use Rattle.planner.specs.declared.already.Already.{Already}
 use Rattle.planner.specs.declared.basis.SearchBasis.{SearchBasis}
+use Rattle.situations.specs.declared.situation.Situation.{Situation}
 use Rattle.situations.specs.declared.situation.Target.{Target}
 use Rattle.planner.specs.declared.watched.Watched.{Watched}
 
@@ -38,8 +39,8 @@ pub an_element : {X : Type 0} (xs : List X) (k : ℕ) → k < length xs → X
 an_element [] k lt = absurd (omega arith)
 an_element (x ∷ xs) k lt = x
 
-pub rules_few : (basis : SearchBasis) → IsBasis basis → (k : ℕ) (A : Already) → A ≡ get_or basis.already.items k A → k < length basis.situation.targets → (T : Target) → A.rules ≤ 17
-rules_few basis is k A is_already lt T =
+pub rules_few : (s : Situation) (basis : SearchBasis) → IsBasis s basis → (k : ℕ) (A : Already) → A ≡ get_or basis.already.items k A → k < length s.targets → (T : Target) → A.rules ≤ 17
+rules_few s basis is k A is_already lt T =
     let told = is.each k T A lt in
     let width = told.tells.width in
     let few = is.few in
@@ -47,16 +48,16 @@ rules_few basis is k A is_already lt T =
     let here : (get_or basis.already.items k A).rules ≤ 17 = omega arith in
     subst (λ (a : Already). a.rules ≤ 17) (sym is_already) here
 
-pub told_here : (basis : SearchBasis) → IsBasis basis → (k : ℕ) (T : Target) (A : Already) → T ≡ get_or basis.situation.targets k T → A ≡ get_or basis.already.items k A → k < length basis.situation.targets
-    → IsToldAtNow basis.situation T A
-told_here basis is k T A is_target is_already lt =
-    subst (λ (t : Target). IsToldAtNow basis.situation t A) (sym is_target)
-    (subst (λ (a : Already). IsToldAtNow basis.situation (get_or basis.situation.targets k T) a) (sym is_already) (is.each k T A lt))
+pub told_here : (s : Situation) (basis : SearchBasis) → IsBasis s basis → (k : ℕ) (T : Target) (A : Already) → T ≡ get_or s.targets k T → A ≡ get_or basis.already.items k A → k < length s.targets
+    → IsToldAtNow s T A
+told_here s basis is k T A is_target is_already lt =
+    subst (λ (t : Target). IsToldAtNow s t A) (sym is_target)
+    (subst (λ (a : Already). IsToldAtNow s (get_or s.targets k T) a) (sym is_already) (is.each k T A lt))
 
-pub stands_here : (basis : SearchBasis) (plan : List ℕ) (at : ℕ) (watched : List Watched) (k : ℕ) (T : Target) (A : Already) (W : Watched)
-    → T ≡ get_or basis.situation.targets k T → A ≡ get_or basis.already.items k A → W ≡ get_or watched k W → k < length basis.situation.targets
-    → StandsAt basis plan at watched → (cut : Trace) → IsCutAtNow basis.situation T cut → Tells (formulas_of basis.situation) cut A → Stands basis.program basis.situation plan T cut at W
-stands_here basis plan at watched k T A W is_target is_already is_watched lt stands cut is_cut tells =
-    subst (λ (t : Target). Stands basis.program basis.situation plan t cut at W) (sym is_target)
-    (subst (λ (w : Watched). Stands basis.program basis.situation plan (get_or basis.situation.targets k T) cut at w) (sym is_watched)
-    (stands k T A W cut lt (subst (λ (t : Target). IsCutAtNow basis.situation t cut) is_target is_cut) (subst (λ (a : Already). Tells (formulas_of basis.situation) cut a) is_already tells)))
+pub stands_here : (s : Situation) (basis : SearchBasis) (plan : List ℕ) (at : ℕ) (watched : List Watched) (k : ℕ) (T : Target) (A : Already) (W : Watched)
+    → T ≡ get_or s.targets k T → A ≡ get_or basis.already.items k A → W ≡ get_or watched k W → k < length s.targets
+    → StandsAt s basis plan at watched → (cut : Trace) → IsCutAtNow s T cut → Tells (formulas_of s) cut A → Stands basis.program s plan T cut at W
+stands_here s basis plan at watched k T A W is_target is_already is_watched lt stands cut is_cut tells =
+    subst (λ (t : Target). Stands basis.program s plan t cut at W) (sym is_target)
+    (subst (λ (w : Watched). Stands basis.program s plan (get_or s.targets k T) cut at w) (sym is_watched)
+    (stands k T A W cut lt (subst (λ (t : Target). IsCutAtNow s t cut) is_target is_cut) (subst (λ (a : Already). Tells (formulas_of s) cut a) is_already tells)))

@@ -18,26 +18,26 @@ use Rattle.planner.proofs.Blocks.{none_fail}
 
 -- ---- places
 
-pub split_places : (basis : SearchBasis) (leg : ℕ) (below : List Level) (to : Level) (rest : List Level) → below ≡ to ∷ rest → ArePlaces basis leg below → HasPlaces basis leg to × ArePlaces basis (leg + 1) rest
-split_places basis leg below to rest e h =
-    let g = subst (ArePlaces basis leg) e h in
+pub split_places : (s : Situation) (basis : SearchBasis) (leg : ℕ) (below : List Level) (to : Level) (rest : List Level) → below ≡ to ∷ rest → ArePlaces s basis leg below → HasPlaces s basis leg to × ArePlaces s basis (leg + 1) rest
+split_places s basis leg below to rest e h =
+    let g = subst (ArePlaces s basis leg) e h in
     let count = g.count in
     let first : leg + 0 ≡ leg = omega arith in (
-      subst (λ (n : ℕ). HasPlaces basis n to) first (g.each 0 to (omega arith)),
+      subst (λ (n : ℕ). HasPlaces s basis n to) first (g.each 0 to (omega arith)),
       record {
         count = omega arith;
-        each = λ i l lt. let next : leg + suc i ≡ (leg + 1) + i = omega arith in subst (λ (n : ℕ). HasPlaces basis n (get_or rest i l)) next (g.each (suc i) l (omega arith));
+        each = λ i l lt. let next : leg + suc i ≡ (leg + 1) + i = omega arith in subst (λ (n : ℕ). HasPlaces s basis n (get_or rest i l)) next (g.each (suc i) l (omega arith));
       },
     )
 
-pub join_places : (basis : SearchBasis) (leg : ℕ) (to : Level) (rest : List Level) → HasPlaces basis leg to → ArePlaces basis (leg + 1) rest → ArePlaces basis leg (to ∷ rest)
-join_places basis leg to rest place h =
+pub join_places : (s : Situation) (basis : SearchBasis) (leg : ℕ) (to : Level) (rest : List Level) → HasPlaces s basis leg to → ArePlaces s basis (leg + 1) rest → ArePlaces s basis leg (to ∷ rest)
+join_places s basis leg to rest place h =
     let count = h.count in
     record { count = omega arith; each = each }
   where
-    each : (i : ℕ) (l : Level) → i < length (to ∷ rest) → HasPlaces basis (leg + i) (get_or (to ∷ rest) i l)
-    each zero l lt = let first : leg ≡ leg + 0 = omega arith in subst (λ (n : ℕ). HasPlaces basis n to) first place
-    each (suc i) l lt = let next : (leg + 1) + i ≡ leg + suc i = omega arith in subst (λ (n : ℕ). HasPlaces basis n (get_or rest i l)) next (h.each i l (omega arith))
+    each : (i : ℕ) (l : Level) → i < length (to ∷ rest) → HasPlaces s basis (leg + i) (get_or (to ∷ rest) i l)
+    each zero l lt = let first : leg ≡ leg + 0 = omega arith in subst (λ (n : ℕ). HasPlaces s basis n to) first place
+    each (suc i) l lt = let next : (leg + 1) + i ≡ leg + suc i = omega arith in subst (λ (n : ℕ). HasPlaces s basis n (get_or rest i l)) next (h.each i l (omega arith))
 
 -- ---- numbers
 

@@ -261,6 +261,12 @@ module _ (s : Situation) (X : List ℕ) (T : Target) (cut : Trace) (is_cut : IsC
         ),
       )
 
+-- Where no trace begins, no rule is broken.
+pub none_begun : (program : Program) (s : Situation) (X : List ℕ) (T : Target) (at : ℕ) (w : Watched) → HasNotBegun program s X T at w → ¬ BreaksARule s X at T
+none_begun program s X T at w waits (k, h) =
+    let breaks = (rule_known s.rules (NewlyBreaks s X at T) k h).1 in
+    waits.apart breaks.start breaks.begins.before_end breaks.begins.contact
+
 -- ---- a planned step
 
 module _ (program : Program) (s : Situation) (X : List ℕ) (T : Target) (cut : Trace) (at : ℕ) (w next : Watched) (was : Stands program s X T cut at w)

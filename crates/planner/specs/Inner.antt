@@ -1,5 +1,6 @@
 -- Definitions that no public clause cites.
 pub mod Breaking
 pub mod Watching
+pub mod Legs
 pub mod Levels
 pub mod Walk

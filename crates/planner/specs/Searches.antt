@@ -5,9 +5,9 @@ use Rattle.situations.specs.declared.situation.Situation.{Situation}
 
 -- the situation that it was made of
 abbrev pub searched_situation : Search → Situation
-searched_situation search = search.basis.situation
+searched_situation search = search.situation
 
 -- It has all its places, and stands at now.
 pub record IsSound (search : Search) : Type 0 where
-  pub prepared : IsPrepared search.basis search.start
-  pub places : ArePlaces search.basis 0 search.below.items
+  pub prepared : IsPrepared search.situation search.basis search.start
+  pub places : ArePlaces search.situation search.basis 0 search.below.items

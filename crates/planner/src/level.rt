@@ -1,25 +1,23 @@
 //! What is kept after a prefix of the legs of a plan.
 ghost use Rattle.std.specs.Prelude.{ℕ, ◌≡◌, ◌+◌, ◌-◌, ◌*◌, ◌/◌, ◌<◌, ◌≤◌, ◌^◌, ◌↔◌, IfOk, IsSome, IsTrue, List, false, true, length, get_or, All};
-ghost use Rattle.lattice.specs.Grids.{choices_of, positions_of};
-ghost use Rattle.lattice.specs.PlanNumbers.{plan_of, IsPlan};
-ghost use Rattle.mtl_monitor.specs.Following.{count_of, Fits, HasRoom, IsProgramOf};
-ghost use Rattle.mtl_monitor.specs.Traces.{Trace};
+ghost use Rattle.lattice.specs.Grids.{choices_of};
+ghost use Rattle.mtl_monitor.specs.Following.{Fits, HasRoom};
 ghost use Rattle.situations.specs.FailingPlans.{BreaksARule, FailsBy, Some_};
-ghost use Rattle.planner.specs.Inner.Breaking.{formulas_of, Tells};
-ghost use Rattle.planner.specs.Inner.Levels.{lasts, AreEarly, HasPlaces, HasTargets, IsBasis, StandsAt, StaysOut};
-ghost use Rattle.situations.specs.Paths.{EntersAlong, HasReached, IsPath, IsTrack};
-ghost use Rattle.planner.specs.Inner.Watching.{IsCutAtNow, IsEarly, IsReady, Stands};
+ghost use Rattle.planner.specs.Inner.Legs.{lasts, legs_before, legs_through, IsPathIn, IsPlannedLeg};
+ghost use Rattle.planner.specs.Inner.Levels.{AreEarly, AreFollowed, HasPlaces, HasTargets, IsAfter, IsBasis, IsOnLeg, StandsAt, StaysOut};
+ghost use Rattle.situations.specs.Paths.{EntersAlong};
 ghost use Rattle.situations.specs.Prefixes.{reached, PrefixFails};
-ghost use Rattle.situations.specs.Situations.{end_of, now_of, IsSituation, IsTarget};
+ghost use Rattle.situations.specs.Situations.{end_of, now_of, IsSituation};
 ghost use Rattle.planner.specs.declared.level.Extended.TheVariants as Extended;
+ghost use Rattle.planner.specs.declared.basis.SearchBasis.{SearchBasis};
+ghost use Rattle.planner.specs.declared.legs.PlannedLeg.{PlannedLeg};
 ghost use Rattle.situations.specs.declared.situation.Target.{Target};
-ghost use Rattle.planner.specs.declared.watched.Watched.{Watched};
 
-use crate::already::Already;
 use crate::basis::SearchBasis;
+use crate::legs::PlannedLeg;
+use crate::towards::Towards;
 use crate::watched::Watched;
 use fixed_geometry::Point;
-use lattice::{Plan, UnderWay};
 use motion::TickState;
 use mtl_monitor::{Program, TraceState};
 use outside::Memory;
@@ -55,130 +53,45 @@ fn path_of(alloc: Global, ticks: usize) -> Result<Vec<TickState>, Memory>
     Ok(path)
 }
 
-/// Follows a path towards a target. Tells whether some row decides a position as newly broken.
-fn follow(
-    situation: &Situation,
-    program: &Program,
-    target: &Target,
-    already: &Already,
-    path: &[TickState],
-    first: u32,
-    watched: &mut Watched,
-) -> bool
+/// The first target whose domain own ship enters in a leg, by its index.
+fn entered(situation: &Situation, leg: &PlannedLeg, path: &[TickState]) -> Option<usize>
     requires situation { IsSituation situation.now }
-    requires target { IsTarget situation.now target.now }
-    requires track { IsTrack path.now }
-    requires planned { first + length path.now ≤ positions_of situation.now.lattice + 1 }
-    requires some { 1 ≤ length path.now }
-    requires rules { already.now.rules ≤ 17 }
-    requires program { count_of program.now ≤ 17 }
-    requires ready { IsReady program.now watched.old }
-    requires early { IsEarly (now_of situation.now + first) watched.old }
-    ensures ready { IsReady program.now watched.new }
-    ensures early { result ≡ false → IsEarly (now_of situation.now + first + (length path.now - 1)) watched.new }
-    ensures stands { result ≡ false → (plan : List ℕ) (cut : Trace) → IsPath situation.now plan first path.now
-        → IsCutAtNow situation.now target.now cut → Tells (formulas_of situation.now) cut already.now
-        → Stands program.now situation.now plan target.now cut (now_of situation.now + first) watched.old
-        → Stands program.now situation.now plan target.now cut (now_of situation.now + first + (length path.now - 1)) watched.new }
-    ensures breaks { result ≡ true → (plan : List ℕ) (cut : Trace) → IsPath situation.now plan first path.now
-        → IsCutAtNow situation.now target.now cut → Tells (formulas_of situation.now) cut already.now
-        → Stands program.now situation.now plan target.now cut (now_of situation.now + first) watched.old
-        → BreaksARule situation.now plan (now_of situation.now + first + (length path.now - 1)) target.now }
-{
-    for j in 0..path.len() - 1 {
-        let in_contact = situation.is_contact_on(path, target, first, j);
-        let seen = situation.step_on(path, target, first, j);
-        if watched.take_planned(program, already, in_contact, seen.as_ref()) {
-            return true;
-        }
-    }
-    false
-}
-
-/// The same from what is kept of the target after other legs, which is taken over first.
-fn follow_from(
-    situation: &Situation,
-    program: &Program,
-    target: &Target,
-    already: &Already,
-    path: &[TickState],
-    first: u32,
-    from: &Watched,
-    watched: &mut Watched,
-) -> bool
-    requires situation { IsSituation situation.now }
-    requires target { IsTarget situation.now target.now }
-    requires track { IsTrack path.now }
-    requires planned { first + length path.now ≤ positions_of situation.now.lattice + 1 }
-    requires some { 1 ≤ length path.now }
-    requires rules { already.now.rules ≤ 17 }
-    requires program { count_of program.now ≤ 17 }
-    requires from { IsReady program.now from.now }
-    requires early { IsEarly (now_of situation.now + first) from.now }
-    requires ready { IsReady program.now watched.old }
-    ensures ready { IsReady program.now watched.new }
-    ensures early { result ≡ false → IsEarly (now_of situation.now + first + (length path.now - 1)) watched.new }
-    ensures stands { result ≡ false → (plan : List ℕ) (cut : Trace) → IsPath situation.now plan first path.now
-        → IsCutAtNow situation.now target.now cut → Tells (formulas_of situation.now) cut already.now
-        → Stands program.now situation.now plan target.now cut (now_of situation.now + first) from.now
-        → Stands program.now situation.now plan target.now cut (now_of situation.now + first + (length path.now - 1)) watched.new }
-    ensures breaks { result ≡ true → (plan : List ℕ) (cut : Trace) → IsPath situation.now plan first path.now
-        → IsCutAtNow situation.now target.now cut → Tells (formulas_of situation.now) cut already.now
-        → Stands program.now situation.now plan target.now cut (now_of situation.now + first) from.now
-        → BreaksARule situation.now plan (now_of situation.now + first + (length path.now - 1)) target.now }
-{
-    watched.copy_from(from);
-    follow(situation, program, target, already, path, first, watched)
-}
-
-/// The first target whose domain own ship enters on a path, by its index.
-fn entered(situation: &Situation, path: &[TickState], first: u32) -> Option<usize>
-    requires situation { IsSituation situation.now }
-    requires track { IsTrack path.now }
-    requires planned { first + length path.now ≤ positions_of situation.now.lattice + 1 }
-    requires some { 1 ≤ length path.now }
-    ensures { (plan : List ℕ) → IsPath situation.now plan first path.now
-        → (IsSome result ↔ Some_ (λ (target : Target). EntersAlong situation.now plan target (now_of situation.now + first) (length path.now - 1)) situation.now.targets) }
+    requires path { IsPathIn situation.now leg.now path.now }
+    ensures { IsSome result ↔ Some_ (λ (target : Target). EntersAlong situation.now leg.now.plan target (now_of situation.now + leg.now.begins) (length path.now - 1)) situation.now.targets }
 {
     let targets = situation.targets.as_slice();
     for index in 0..targets.len() {
-        if situation.enters_along(path, &targets[index], first) {
+        if situation.enters_along(path, &targets[index], leg.begins) {
             return Some(index);
         }
     }
     None
 }
 
-/// Whether own ship enters the domain of the target with this index on a path, if there is one.
-fn enters_one(situation: &Situation, path: &[TickState], first: u32, index: usize) -> bool
+/// Whether own ship enters the domain of the target with this index in a leg, if there is one.
+fn enters_one(situation: &Situation, leg: &PlannedLeg, path: &[TickState], index: usize) -> bool
     requires situation { IsSituation situation.now }
-    requires track { IsTrack path.now }
-    requires planned { first + length path.now ≤ positions_of situation.now.lattice + 1 }
-    requires some { 1 ≤ length path.now }
-    ensures { IsTrue result → (plan : List ℕ) → IsPath situation.now plan first path.now
-        → Some_ (λ (target : Target). EntersAlong situation.now plan target (now_of situation.now + first) (length path.now - 1)) situation.now.targets }
+    requires path { IsPathIn situation.now leg.now path.now }
+    ensures { IsTrue result → Some_ (λ (target : Target). EntersAlong situation.now leg.now.plan target (now_of situation.now + leg.now.begins) (length path.now - 1)) situation.now.targets }
 {
     let targets = situation.targets.as_slice();
     if index < targets.len() {
-        return situation.enters_along(path, &targets[index], first);
+        return situation.enters_along(path, &targets[index], leg.begins);
     }
     false
 }
 
-/// Whether own ship enters some target's domain on a path. The target whose domain was entered last is asked first: plans that
+/// Whether own ship enters some target's domain in a leg. The target whose domain was entered last is asked first: plans that
 /// begin alike mostly fail for the same one.
-fn enters(situation: &Situation, path: &[TickState], first: u32, latest: &mut usize) -> bool
+fn enters(situation: &Situation, leg: &PlannedLeg, path: &[TickState], latest: &mut usize) -> bool
     requires situation { IsSituation situation.now }
-    requires track { IsTrack path.now }
-    requires planned { first + length path.now ≤ positions_of situation.now.lattice + 1 }
-    requires some { 1 ≤ length path.now }
-    ensures { (plan : List ℕ) → IsPath situation.now plan first path.now
-        → (IsTrue result ↔ Some_ (λ (target : Target). EntersAlong situation.now plan target (now_of situation.now + first) (length path.now - 1)) situation.now.targets) }
+    requires path { IsPathIn situation.now leg.now path.now }
+    ensures { IsTrue result ↔ Some_ (λ (target : Target). EntersAlong situation.now leg.now.plan target (now_of situation.now + leg.now.begins) (length path.now - 1)) situation.now.targets }
 {
-    if enters_one(situation, path, first, *latest) {
+    if enters_one(situation, leg, path, *latest) {
         return true;
     }
-    match entered(situation, path, first) {
+    match entered(situation, leg, path) {
         Some(index) => {
             *latest = index;
             true
@@ -187,42 +100,34 @@ fn enters(situation: &Situation, path: &[TickState], first: u32, latest: &mut us
     }
 }
 
-/// Follows a path towards all targets, from what is kept of them after other legs. Tells whether some row decides a position as
-/// newly broken: nothing is then kept of the targets behind that one.
+/// Follows own ship's path in a leg towards all targets, from what is kept of them before it. Tells whether some row decides a position
+/// as newly broken: nothing is then kept of the targets behind that one.
 fn follow_all(
+    situation: &Situation,
     basis: &SearchBasis,
+    leg: &PlannedLeg,
     path: &[TickState],
-    first: u32,
     from: &[Watched],
     watched: &mut [Watched],
 ) -> bool
-    requires basis { IsBasis basis.now }
-    requires from { HasTargets basis.now from.now }
-    requires early { AreEarly (now_of basis.now.situation + first) from.now }
-    requires targets { HasTargets basis.now watched.old }
-    requires track { IsTrack path.now }
-    requires planned { first + length path.now ≤ positions_of basis.now.situation.lattice + 1 }
-    requires some { 1 ≤ length path.now }
-    ensures targets { HasTargets basis.now watched.new }
-    ensures early { result ≡ false → AreEarly (now_of basis.now.situation + first + (length path.now - 1)) watched.new }
-    ensures stands { result ≡ false → (plan : List ℕ) → IsPath basis.now.situation plan first path.now
-        → StandsAt basis.now plan (now_of basis.now.situation + first) from.now
-        → StandsAt basis.now plan (now_of basis.now.situation + first + (length path.now - 1)) watched.new }
-    ensures breaks { result ≡ true → (plan : List ℕ) → IsPath basis.now.situation plan first path.now
-        → StandsAt basis.now plan (now_of basis.now.situation + first) from.now
-        → Some_ (BreaksARule basis.now.situation plan (now_of basis.now.situation + first + (length path.now - 1))) basis.now.situation.targets }
+    requires basis { IsBasis situation.now basis.now }
+    requires leg { IsPlannedLeg situation.now leg.now }
+    requires path { IsPathIn situation.now leg.now path.now }
+    requires from { HasTargets situation.now basis.now from.now }
+    requires early { AreEarly (reached situation.now leg.now.index) from.now }
+    requires targets { HasTargets situation.now basis.now watched.old }
+    ensures targets { HasTargets situation.now basis.now watched.new }
+    ensures early { result ≡ false → AreEarly (reached situation.now (leg.now.index + 1)) watched.new }
+    ensures followed { AreFollowed situation.now basis.now leg.now.plan (reached situation.now leg.now.index) (reached situation.now (leg.now.index + 1)) from.now watched.new result }
 {
     for k in 0..watched.len() {
-        if follow_from(
-            &basis.situation,
-            &basis.program,
-            &basis.situation.targets.as_slice()[k],
-            &basis.already[k],
-            path,
-            first,
-            &from[k],
-            &mut watched[k],
-        ) {
+        let towards = Towards {
+            situation,
+            program: &basis.program,
+            target: &situation.targets.as_slice()[k],
+            already: &basis.already[k],
+        };
+        if towards.follow_from(leg, path, &from[k], &mut watched[k]) {
             return true;
         }
     }
@@ -230,19 +135,30 @@ fn follow_all(
 }
 
 /// Whether some position is newly broken towards some target if the traces end here.
-fn ends_broken(basis: &SearchBasis, watched: &[Watched], ending: &mut TraceState) -> bool
-    requires basis { IsBasis basis.now }
-    requires targets { HasTargets basis.now watched.now }
-    requires early { AreEarly (end_of basis.now.situation) watched.now }
+fn ends_broken(
+    situation: &Situation,
+    basis: &SearchBasis,
+    watched: &[Watched],
+    ending: &mut TraceState,
+) -> bool
+    requires basis { IsBasis situation.now basis.now }
+    requires targets { HasTargets situation.now basis.now watched.now }
+    requires early { AreEarly (end_of situation.now) watched.now }
     requires fits { Fits basis.now.program ending.old }
     requires room { HasRoom basis.now.program ending.old }
     ensures fits { Fits basis.now.program ending.new }
     ensures room { HasRoom basis.now.program ending.new }
-    ensures breaks { (plan : List ℕ) (at : ℕ) → now_of basis.now.situation ≤ at → StandsAt basis.now plan at watched.now
-        → (IsTrue result ↔ Some_ (BreaksARule basis.now.situation plan at) basis.now.situation.targets) }
+    ensures breaks { (plan : List ℕ) (at : ℕ) → now_of situation.now ≤ at → StandsAt situation.now basis.now plan at watched.now
+        → (IsTrue result ↔ Some_ (BreaksARule situation.now plan at) situation.now.targets) }
 {
     for k in 0..watched.len() {
-        if watched[k].ends_newly_broken(&basis.program, &basis.already[k], ending) {
+        let towards = Towards {
+            situation,
+            program: &basis.program,
+            target: &situation.targets.as_slice()[k],
+            already: &basis.already[k],
+        };
+        if watched[k].ends_newly_broken(&towards, ending) {
             return true;
         }
     }
@@ -260,67 +176,6 @@ pub(crate) enum Extended {
     FailedBefore,
 }
 
-/// Follows a plan in one leg, from what is kept after the legs before it, and from where own ship is then. Her path and the domains are tested before the
-/// rules. Where the traces end before the leg is looked at once, for the first leg there that enters no domain: `ended` says whether
-/// it was.
-fn follow_leg(
-    basis: &SearchBasis,
-    plan: &Plan,
-    first: u32,
-    own: UnderWay,
-    is_last: bool,
-    from: &[Watched],
-    path: &mut [TickState],
-    watched: &mut [Watched],
-    ending: &mut TraceState,
-    entered: &mut usize,
-    ended: &mut bool,
-) -> Extended
-    requires basis { IsBasis basis.now }
-    requires plan { IsPlan (choices_of basis.now.situation.lattice) basis.now.situation.lattice.legs plan.now }
-    requires planned { first + length path.old ≤ positions_of basis.now.situation.lattice + 1 }
-    requires some { 1 ≤ length path.old }
-    requires own { HasReached basis.now.situation plan.now first own }
-    requires from { HasTargets basis.now from.now }
-    requires early { AreEarly (now_of basis.now.situation + first) from.now }
-    requires targets { HasTargets basis.now watched.old }
-    requires fits { Fits basis.now.program ending.old }
-    requires room { HasRoom basis.now.program ending.old }
-    ensures targets { HasTargets basis.now watched.new }
-    ensures fits { Fits basis.now.program ending.new }
-    ensures room { HasRoom basis.now.program ending.new }
-    ensures early { result ≡ Extended.Passes → AreEarly (now_of basis.now.situation + first + (length path.old - 1)) watched.new }
-    ensures stands { result ≡ Extended.Passes → StandsAt basis.now plan.now (now_of basis.now.situation + first) from.now
-        → StandsAt basis.now plan.now (now_of basis.now.situation + first + (length path.old - 1)) watched.new }
-    ensures outside { result ≡ Extended.Passes → StaysOut basis.now.situation plan.now (now_of basis.now.situation + first)
-        → StaysOut basis.now.situation plan.now (now_of basis.now.situation + first + (length path.old - 1)) }
-    ensures passes { result ≡ Extended.Passes → is_last ≡ true → StandsAt basis.now plan.now (now_of basis.now.situation + first) from.now
-        → StaysOut basis.now.situation plan.now (now_of basis.now.situation + first)
-        → ¬ FailsBy basis.now.situation (now_of basis.now.situation + first + (length path.old - 1)) plan.now }
-    ensures fails { result ≡ Extended.Fails → StandsAt basis.now plan.now (now_of basis.now.situation + first) from.now
-        → FailsBy basis.now.situation (now_of basis.now.situation + first + (length path.old - 1)) plan.now }
-    ensures failed_before { result ≡ Extended.FailedBefore → StandsAt basis.now plan.now (now_of basis.now.situation + first) from.now
-        → FailsBy basis.now.situation (now_of basis.now.situation + first) plan.now }
-{
-    basis.situation.fill_path(plan, first, own, path);
-    if enters(&basis.situation, path, first, entered) {
-        return Extended::Fails;
-    }
-    if !*ended {
-        if ends_broken(basis, from, ending) {
-            return Extended::FailedBefore;
-        }
-        *ended = true;
-    }
-    if follow_all(basis, path, first, from, watched) {
-        return Extended::Fails;
-    }
-    if is_last && ends_broken(basis, watched, ending) {
-        return Extended::Fails;
-    }
-    Extended::Passes
-}
-
 impl Level {
     /// The state at now, before any leg.
     pub(crate) fn at_now(
@@ -328,7 +183,9 @@ impl Level {
         program: &Program,
         watched: Vec<Watched>,
     ) -> Result<Level, Memory>
-        ensures { IfOk result (λ level. level.watched.items ≡ watched.items) }
+        ensures watched { IfOk result (λ level. level.watched.items ≡ watched.items) }
+        ensures fits { IfOk result (λ level. Fits program.now level.ending) }
+        ensures room { IfOk result (λ level. HasRoom program.now level.ending) }
     {
         Ok(Level {
             path: Vec::new(alloc),
@@ -339,16 +196,21 @@ impl Level {
     }
 
     /// The places for a leg that lasts so many ticks.
-    pub(crate) fn new(alloc: Global, basis: &SearchBasis, ticks: u32) -> Result<Level, Memory>
-        requires { IsBasis basis.now }
+    pub(crate) fn new(
+        alloc: Global,
+        situation: &Situation,
+        basis: &SearchBasis,
+        ticks: u32,
+    ) -> Result<Level, Memory>
+        requires { IsBasis situation.now basis.now }
         ensures path { IfOk result (λ level. length level.path.items ≡ ticks + 1) }
-        ensures targets { IfOk result (λ level. HasTargets basis.now level.watched.items) }
+        ensures targets { IfOk result (λ level. HasTargets situation.now basis.now level.watched.items) }
         ensures fits { IfOk result (λ level. Fits basis.now.program level.ending) }
         ensures room { IfOk result (λ level. HasRoom basis.now.program level.ending) }
     {
         let mut watched = Vec::new(alloc);
-        for _target in basis.situation.targets.as_slice() {
-            watched.push(basis.unwatched(alloc)?)?;
+        for _target in situation.targets.as_slice() {
+            watched.push(basis.unwatched(alloc, situation)?)?;
         }
         Ok(Level {
             path: path_of(alloc, ticks as usize + 1)?,
@@ -358,54 +220,156 @@ impl Level {
         })
     }
 
-    /// Becomes the state after one more leg, where own ship is at `own` after those before. The number is that of the longer prefix. `ended` says whether it was looked at already where
-    /// the traces end before the leg.
-    pub(crate) fn extend(
+    /// Whether some position is newly broken towards some target if the traces end after the legs of this level. What is kept of the
+    /// targets stays as it is.
+    pub(crate) fn ends_broken(&mut self, situation: &Situation, basis: &SearchBasis) -> bool
+        requires basis { IsBasis situation.now basis.now }
+        requires targets { HasTargets situation.now basis.now self.old.watched.items }
+        requires early { AreEarly (end_of situation.now) self.old.watched.items }
+        requires fits { Fits basis.now.program self.old.ending }
+        requires room { HasRoom basis.now.program self.old.ending }
+        ensures path { self.new.path ≡ self.old.path }
+        ensures watched { self.new.watched ≡ self.old.watched }
+        ensures fits { Fits basis.now.program self.new.ending }
+        ensures room { HasRoom basis.now.program self.new.ending }
+        ensures breaks { (plan : List ℕ) (at : ℕ) → now_of situation.now ≤ at → StandsAt situation.now basis.now plan at self.old.watched.items
+            → (IsTrue result ↔ Some_ (BreaksARule situation.now plan at) situation.now.targets) }
+    {
+        ends_broken(situation, basis, &self.watched, &mut self.ending)
+    }
+
+    /// Fills in own ship's path in a leg.
+    fn fill_path(&mut self, situation: &Situation, leg: &PlannedLeg)
+        requires situation { IsSituation situation.now }
+        requires leg { IsPlannedLeg situation.now leg.now }
+        requires places { length self.old.path.items ≡ lasts situation.now leg.now.index + 1 }
+        ensures { (basis : SearchBasis) → HasPlaces situation.now basis leg.now.index self.old → IsOnLeg situation.now basis leg.now self.new }
+    {
+        situation.fill_path(&leg.plan, leg.begins, leg.own, &mut self.path);
+    }
+
+    /// Whether own ship enters some target's domain in the leg whose path is filled in.
+    fn enters(&mut self, situation: &Situation, leg: &PlannedLeg) -> bool
+        requires situation { IsSituation situation.now }
+        requires leg { IsPlannedLeg situation.now leg.now }
+        requires path { IsPathIn situation.now leg.now self.old.path.items }
+        ensures on { (basis : SearchBasis) → IsOnLeg situation.now basis leg.now self.old → IsOnLeg situation.now basis leg.now self.new }
+        ensures fails { result ≡ true → FailsBy situation.now (reached situation.now (leg.now.index + 1)) leg.now.plan }
+        ensures outside { result ≡ false → StaysOut situation.now leg.now.plan (reached situation.now leg.now.index)
+            → StaysOut situation.now leg.now.plan (reached situation.now (leg.now.index + 1)) }
+    {
+        enters(situation, leg, &self.path, &mut self.entered)
+    }
+
+    /// Whether some position is newly broken towards some target if the traces end before the leg. This is looked at once: `ended` says
+    /// whether it was.
+    fn ends_broken_before(
         &mut self,
+        situation: &Situation,
         basis: &SearchBasis,
         from: &Level,
-        own: UnderWay,
-        leg: u8,
-        number: u32,
+        ended: &mut bool,
+    ) -> bool
+        requires basis { IsBasis situation.now basis.now }
+        requires from { HasTargets situation.now basis.now from.now.watched.items }
+        requires early { AreEarly (end_of situation.now) from.now.watched.items }
+        requires fits { Fits basis.now.program self.old.ending }
+        requires room { HasRoom basis.now.program self.old.ending }
+        ensures on { (leg : PlannedLeg) → IsOnLeg situation.now basis.now leg self.old → IsOnLeg situation.now basis.now leg self.new }
+        ensures breaks { result ≡ true → (plan : List ℕ) (at : ℕ) → now_of situation.now ≤ at → StandsAt situation.now basis.now plan at from.now.watched.items
+            → Some_ (BreaksARule situation.now plan at) situation.now.targets }
+    {
+        if *ended {
+            return false;
+        }
+        *ended = true;
+        ends_broken(situation, basis, &from.watched, &mut self.ending)
+    }
+
+    /// Follows the path in the leg towards all targets, from what is kept of them before it.
+    fn follow_leg(
+        &mut self,
+        situation: &Situation,
+        basis: &SearchBasis,
+        from: &Level,
+        leg: &PlannedLeg,
+    ) -> bool
+        requires basis { IsBasis situation.now basis.now }
+        requires leg { IsPlannedLeg situation.now leg.now }
+        requires on { IsOnLeg situation.now basis.now leg.now self.old }
+        requires from { HasTargets situation.now basis.now from.now.watched.items }
+        requires early { AreEarly (reached situation.now leg.now.index) from.now.watched.items }
+        ensures on { IsOnLeg situation.now basis.now leg.now self.new }
+        ensures early { result ≡ false → AreEarly (reached situation.now (leg.now.index + 1)) self.new.watched.items }
+        ensures followed { AreFollowed situation.now basis.now leg.now.plan (reached situation.now leg.now.index) (reached situation.now (leg.now.index + 1))
+            from.now.watched.items self.new.watched.items result }
+    {
+        follow_all(
+            situation,
+            basis,
+            leg,
+            &self.path,
+            &from.watched,
+            &mut self.watched,
+        )
+    }
+
+    /// Whether no leg follows, and some position is newly broken towards some target where the traces end.
+    fn ends_broken_at_last(
+        &mut self,
+        situation: &Situation,
+        basis: &SearchBasis,
+        leg: &PlannedLeg,
+    ) -> bool
+        requires basis { IsBasis situation.now basis.now }
+        requires on { IsOnLeg situation.now basis.now leg.now self.old }
+        requires early { AreEarly (end_of situation.now) self.old.watched.items }
+        ensures on { IsOnLeg situation.now basis.now leg.now self.new }
+        ensures watched { self.new.watched ≡ self.old.watched }
+        ensures breaks { result ≡ true → (plan : List ℕ) (at : ℕ) → now_of situation.now ≤ at → StandsAt situation.now basis.now plan at self.old.watched.items
+            → Some_ (BreaksARule situation.now plan at) situation.now.targets }
+        ensures passes { result ≡ false → leg.now.is_last ≡ true → (plan : List ℕ) (at : ℕ) → now_of situation.now ≤ at
+            → StandsAt situation.now basis.now plan at self.old.watched.items → ¬ Some_ (BreaksARule situation.now plan at) situation.now.targets }
+    {
+        if leg.is_last {
+            return self.ends_broken(situation, basis);
+        }
+        false
+    }
+
+    /// Becomes the state after one more leg. Own ship's path and the domains are tested before the rules. Where the traces end before the leg is
+    /// looked at once, for the first leg there that enters no domain: `ended` says whether it was.
+    pub(crate) fn extend(
+        &mut self,
+        situation: &Situation,
+        basis: &SearchBasis,
+        from: &Level,
+        leg: &PlannedLeg,
         ended: &mut bool,
     ) -> Extended
-        requires basis { IsBasis basis.now }
-        requires leg { leg < basis.now.situation.lattice.legs }
-        requires number { number < choices_of basis.now.situation.lattice ^ (leg + 1) }
-        requires places { HasPlaces basis.now leg self.old }
-        requires own { HasReached basis.now.situation (plan_of (choices_of basis.now.situation.lattice) leg (number / choices_of basis.now.situation.lattice))
-            (leg * basis.now.situation.lattice.leg_ticks) own }
-        requires from { HasTargets basis.now from.now.watched.items }
-        requires early { AreEarly (reached basis.now.situation leg) from.now.watched.items }
-        requires stands { StandsAt basis.now (plan_of (choices_of basis.now.situation.lattice) leg (number / choices_of basis.now.situation.lattice))
-            (reached basis.now.situation leg) from.now.watched.items }
-        requires outside { StaysOut basis.now.situation (plan_of (choices_of basis.now.situation.lattice) leg (number / choices_of basis.now.situation.lattice))
-            (reached basis.now.situation leg) }
-        ensures places { HasPlaces basis.now leg self.new }
-        ensures early { result ≡ Extended.Passes → AreEarly (reached basis.now.situation (leg + 1)) self.new.watched.items }
-        ensures stands { result ≡ Extended.Passes → StandsAt basis.now (plan_of (choices_of basis.now.situation.lattice) (leg + 1) number)
-            (reached basis.now.situation (leg + 1)) self.new.watched.items }
-        ensures outside { result ≡ Extended.Passes → StaysOut basis.now.situation (plan_of (choices_of basis.now.situation.lattice) (leg + 1) number)
-            (reached basis.now.situation (leg + 1)) }
-        ensures passes { result ≡ Extended.Passes → leg + 1 ≡ basis.now.situation.lattice.legs
-            → ¬ PrefixFails basis.now.situation (plan_of (choices_of basis.now.situation.lattice) (leg + 1) number) }
-        ensures fails { result ≡ Extended.Fails → PrefixFails basis.now.situation (plan_of (choices_of basis.now.situation.lattice) (leg + 1) number) }
-        ensures failed_before { result ≡ Extended.FailedBefore
-            → PrefixFails basis.now.situation (plan_of (choices_of basis.now.situation.lattice) leg (number / choices_of basis.now.situation.lattice)) }
+        requires basis { IsBasis situation.now basis.now }
+        requires leg { IsPlannedLeg situation.now leg.now }
+        requires places { HasPlaces situation.now basis.now leg.now.index self.old }
+        requires from { IsAfter situation.now basis.now leg.now.index (leg.now.number / choices_of situation.now.lattice) from.now }
+        ensures places { HasPlaces situation.now basis.now leg.now.index self.new }
+        ensures after { result ≡ Extended.Passes → IsAfter situation.now basis.now (leg.now.index + 1) leg.now.number self.new }
+        ensures passes { result ≡ Extended.Passes → leg.now.index + 1 ≡ situation.now.lattice.legs → ¬ PrefixFails situation.now (legs_through situation.now leg.now) }
+        ensures fails { result ≡ Extended.Fails → PrefixFails situation.now (legs_through situation.now leg.now) }
+        ensures failed_before { result ≡ Extended.FailedBefore → PrefixFails situation.now (legs_before situation.now leg.now) }
     {
-        let plan = basis.first_plan(leg + 1, number);
-        follow_leg(
-            basis,
-            &plan,
-            basis.leg_begins(leg),
-            own,
-            basis.is_last(leg),
-            &from.watched,
-            &mut self.path,
-            &mut self.watched,
-            &mut self.ending,
-            &mut self.entered,
-            ended,
-        )
+        self.fill_path(situation, leg);
+        if self.enters(situation, leg) {
+            return Extended::Fails;
+        }
+        if self.ends_broken_before(situation, basis, from, ended) {
+            return Extended::FailedBefore;
+        }
+        if self.follow_leg(situation, basis, from, leg) {
+            return Extended::Fails;
+        }
+        if self.ends_broken_at_last(situation, basis, leg) {
+            return Extended::Fails;
+        }
+        Extended::Passes
     }
 }

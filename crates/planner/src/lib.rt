@@ -5,8 +5,10 @@
 mod already;
 mod basis;
 mod explore;
+mod legs;
 mod level;
 mod search;
+mod towards;
 mod watched;
 
 pub use search::Search;

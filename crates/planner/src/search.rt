@@ -4,45 +4,42 @@ ghost use Rattle.planner.specs.Inner.Levels.{IsPrepared};
 ghost use Rattle.situations.specs.LeastPlans.{AllFail, IsLeastPlan};
 ghost use Rattle.situations.specs.Situations.{IsSituation};
 
-use crate::basis::{SearchBasis, program_of, watched_at_now};
+use crate::basis::{SearchBasis, watched_at_now};
 use crate::explore::explore;
+use crate::legs::leg_lasts;
 use crate::level::Level;
 use lattice::Plan;
 use mtl_monitor::TraceState;
 use outside::Memory;
+use rule_program::program_of;
 use situations::Situation;
 use std::alloc::Global;
 
 /// The search for the least numbered plan that does not fail. It holds all places that it needs.
 #[derive(Drop)]
 pub struct Search {
+    situation: Situation,
     basis: SearchBasis,
     start: Level,
     below: Vec<Level>,
 }
 
-/// What is kept at now, and the situation with what is broken there.
-fn prepared(alloc: Global, situation: Situation) -> Result<(SearchBasis, Level), Memory>
-    requires { IsSituation situation }
-    ensures prepared { IfOk result (λ pair. IsPrepared pair.0 pair.1) }
-    ensures situation { IfOk result (λ pair. pair.0.situation ≡ situation) }
+/// The rules as one program and what is broken at now, and what is kept there.
+fn prepared(alloc: Global, situation: &Situation) -> Result<(SearchBasis, Level), Memory>
+    requires { IsSituation situation.now }
+    ensures { IfOk result (λ pair. IsPrepared situation.now pair.0 pair.1) }
 {
     let program = program_of(alloc, &situation.rules)?;
     let mut ending = TraceState::new(alloc, &program)?;
     let mut already = Vec::new(alloc);
     let mut watched = Vec::new(alloc);
     for target in situation.targets.as_slice() {
-        let here = watched_at_now(alloc, &situation, &program, target)?;
+        let here = watched_at_now(alloc, situation, &program, target)?;
         already.push(here.already(alloc, &program, &mut ending)?)?;
         watched.push(here)?;
     }
     let start = Level::at_now(alloc, &program, watched)?;
-    let basis = SearchBasis {
-        situation,
-        program,
-        already,
-    };
-    Ok((basis, start))
+    Ok((SearchBasis { program, already }, start))
 }
 
 impl Search {
@@ -54,12 +51,14 @@ impl Search {
         ensures sound { IfOk result IsSound }
         ensures situation { IfOk result (λ search. searched_situation search ≡ situation) }
     {
-        let (basis, start) = prepared(alloc, situation)?;
+        let (basis, start) = prepared(alloc, &situation)?;
         let mut below = Vec::new(alloc);
-        for leg in 0..basis.situation.lattice.legs() {
-            below.push(Level::new(alloc, &basis, basis.leg_lasts(leg))?)?;
+        for leg in 0..situation.lattice.legs() {
+            let ticks = leg_lasts(&situation, leg);
+            below.push(Level::new(alloc, &situation, &basis, ticks)?)?;
         }
         Ok(Search {
+            situation,
             basis,
             start,
             below,
@@ -74,15 +73,21 @@ impl Search {
         ensures situation { searched_situation self.new ≡ searched_situation self.old }
         ensures answer { MatchOption result (AllFail (searched_situation self.old)) (IsLeastPlan (searched_situation self.old)) }
     {
-        let choices = self.basis.situation.lattice.choices();
-        let number = explore(&self.basis, &self.start, &mut self.below, 0, 0, choices)?;
-        Some(self.basis.situation.lattice.plan(number))
+        let number = explore(
+            &self.situation,
+            &self.basis,
+            &self.start,
+            &mut self.below,
+            0,
+            0,
+        )?;
+        Some(self.situation.lattice.plan(number))
     }
 
     /// The situation that the search was made of.
     pub fn situation(&self) -> &Situation
         ensures { result.now ≡ searched_situation self.now }
     {
-        &self.basis.situation
+        &self.situation
     }
 }

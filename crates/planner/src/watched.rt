@@ -3,18 +3,18 @@ ghost use Rattle.std.specs.Prelude.{ℕ, ◌≡◌, ◌+◌, ◌<◌, ◌≤◌,
 ghost use Rattle.std.specs.Option.{option_copied};
 ghost use Rattle.encounters.specs.Directions.{HaveDirections};
 ghost use Rattle.encounters.specs.Risk.{IsDetect};
-ghost use Rattle.meetings.specs.Traces.{IsContactAt, step_at};
 ghost use Rattle.mtl_formulas.specs.FormulaTree.{FormulaTree};
 ghost use Rattle.mtl_monitor.specs.Following.{count_of, fed_of, past_of, AreOfOneProgram, Fits, Follows, HasRoom, IsProgramOf};
 ghost use Rattle.mtl_monitor.specs.Traces.{Trace};
 ghost use Rattle.situations.specs.FailingPlans.{BreaksARule};
 ghost use Rattle.planner.specs.Inner.Breaking.{formulas_of, Tells};
-ghost use Rattle.planner.specs.Inner.Watching.{IsCopyOf, IsCutAtNow, IsReady, Stands, StandsFor};
-ghost use Rattle.situations.specs.Situations.{now_of, own_at, target_at};
+ghost use Rattle.planner.specs.Inner.Watching.{IsCopyOf, IsCut, IsFollowed, IsReady, IsStepAt, IsTowards, Stands, StandsFor};
+ghost use Rattle.situations.specs.Situations.{now_of};
 ghost use Rattle.situations.specs.declared.situation.Situation.{Situation};
 ghost use Rattle.situations.specs.declared.situation.Target.{Target};
 
 use crate::already::Already;
+use crate::towards::Towards;
 use encounters::{Act, Detect, PairStep};
 use meetings::Follower;
 use mtl_monitor::{Program, TraceState};
@@ -83,9 +83,7 @@ impl Watched {
         ensures fed { self.new.begun ≡ true → fed_of self.new.values ≡ fed_of self.old.values + 1 }
         ensures unfed { self.new.begun ≡ false → fed_of self.new.values ≡ fed_of self.old.values }
         ensures stands { (situation : Situation) (plan : List ℕ) (target : Target) (at : ℕ) → StandsFor program.now situation plan target at self.old
-            → (IsTrue in_contact ↔ IsContactAt (own_at situation plan) (target_at situation target) situation.detect.watch at)
-            → option_copied seen.entry ≡ step_at (own_at situation plan) (target_at situation target) at
-            → StandsFor program.now situation plan target (at + 1) self.new }
+            → IsStepAt situation plan target at in_contact (option_copied seen.entry) → StandsFor program.now situation plan target (at + 1) self.new }
     {
         self.begun = has_begun(self.begun, in_contact);
         if self.begun {
@@ -97,77 +95,59 @@ impl Watched {
     /// Takes a step from now on, and tells whether it decides some position as newly broken.
     pub(crate) fn take_planned(
         &mut self,
-        program: &Program,
-        already: &Already,
+        towards: &Towards<'_>,
         in_contact: bool,
         seen: Option<&PairStep>,
     ) -> bool
-        requires ready { IsReady program.now self.old }
+        requires towards { IsTowards towards.now }
+        requires ready { IsReady towards.now.program.now self.old }
         requires few { fed_of self.old.values < 2 ^ 30 }
         requires since { self.old.since_now < 2 ^ 30 }
-        requires rules { already.now.rules ≤ 17 }
-        requires program { count_of program.now ≤ 17 }
         requires heads { IfSome (option_copied seen) HaveDirections }
-        ensures ready { IsReady program.now self.new }
+        ensures ready { IsReady towards.now.program.now self.new }
         ensures since { self.new.since_now ≤ self.old.since_now + 1 }
         ensures fed { fed_of self.new.values ≤ fed_of self.old.values + 1 }
-        ensures stands { result ≡ false → (situation : Situation) (plan : List ℕ) (target : Target) (cut : Trace) (at : ℕ) → now_of situation ≤ at
-            → Stands program.now situation plan target cut at self.old
-            → IsCutAtNow situation target cut → Tells (formulas_of situation) cut already.now
-            → (IsTrue in_contact ↔ IsContactAt (own_at situation plan) (target_at situation target) situation.detect.watch at)
-            → option_copied seen.entry ≡ step_at (own_at situation plan) (target_at situation target) at
-            → Stands program.now situation plan target cut (at + 1) self.new }
-        ensures breaks { result ≡ true → (situation : Situation) (plan : List ℕ) (target : Target) (cut : Trace) (at : ℕ) → now_of situation ≤ at
-            → Stands program.now situation plan target cut at self.old
-            → IsCutAtNow situation target cut → Tells (formulas_of situation) cut already.now
-            → (IsTrue in_contact ↔ IsContactAt (own_at situation plan) (target_at situation target) situation.detect.watch at)
-            → option_copied seen.entry ≡ step_at (own_at situation plan) (target_at situation target) at
-            → BreaksARule situation plan (at + 1) target }
+        ensures followed { (plan : List ℕ) (at : ℕ) → now_of towards.now.situation.now ≤ at
+            → IsStepAt towards.now.situation.now plan towards.now.target.now at in_contact (option_copied seen.entry)
+            → IsFollowed towards.now plan at (at + 1) self.old self.new result }
     {
-        self.take(program, in_contact, seen);
+        self.take(towards.program, in_contact, seen);
         if !self.begun {
             return false;
         }
         let index = self.since_now;
         self.since_now = index + 1;
-        already.is_newly_broken(program, &self.values, index)
+        towards
+            .already
+            .is_newly_broken(towards.program, &self.values, index)
     }
 
     /// Whether some position is newly broken if the trace ends here. `ending` is another state of the program, whose places
     /// serve here.
-    pub(crate) fn ends_newly_broken(
-        &self,
-        program: &Program,
-        already: &Already,
-        ending: &mut TraceState,
-    ) -> bool
-        requires ready { IsReady program.now self.now }
+    pub(crate) fn ends_newly_broken(&self, towards: &Towards<'_>, ending: &mut TraceState) -> bool
+        requires towards { IsTowards towards.now }
+        requires ready { IsReady towards.now.program.now self.now }
         requires few { fed_of self.now.values < 2 ^ 30 }
         requires since { self.now.since_now < 2 ^ 30 }
-        requires rules { already.now.rules ≤ 17 }
-        requires program { count_of program.now ≤ 17 }
-        requires fits { Fits program.now ending.old }
-        requires room { HasRoom program.now ending.old }
-        ensures fits { Fits program.now ending.new }
-        ensures room { HasRoom program.now ending.new }
-        ensures passes { result ≡ false → (situation : Situation) (plan : List ℕ) (target : Target) (cut : Trace) (at : ℕ)
-            → IsProgramOf program.now (formulas_of situation)
-            → now_of situation ≤ at → Stands program.now situation plan target cut at self.now
-            → IsCutAtNow situation target cut → Tells (formulas_of situation) cut already.now
-            → ¬ BreaksARule situation plan at target }
-        ensures breaks { result ≡ true → (situation : Situation) (plan : List ℕ) (target : Target) (cut : Trace) (at : ℕ)
-            → IsProgramOf program.now (formulas_of situation)
-            → now_of situation ≤ at → Stands program.now situation plan target cut at self.now
-            → IsCutAtNow situation target cut → Tells (formulas_of situation) cut already.now
-            → BreaksARule situation plan at target }
+        requires fits { Fits towards.now.program.now ending.old }
+        requires room { HasRoom towards.now.program.now ending.old }
+        ensures fits { Fits towards.now.program.now ending.new }
+        ensures room { HasRoom towards.now.program.now ending.new }
+        ensures breaks { (plan : List ℕ) (cut : Trace) (at : ℕ) → now_of towards.now.situation.now ≤ at → IsCut towards.now cut
+            → Stands towards.now.program.now towards.now.situation.now plan towards.now.target.now cut at self.now
+            → (IsTrue result ↔ BreaksARule towards.now.situation.now plan at towards.now.target.now) }
     {
         if !self.begun {
             return false;
         }
         ending.copy_from(&self.values);
-        for past in 0..program.reach() {
-            ending.pass_end(program);
-            if already.is_newly_broken(program, ending, self.since_now + past) {
+        for past in 0..towards.program.reach() {
+            ending.pass_end(towards.program);
+            let index = self.since_now + past;
+            if towards
+                .already
+                .is_newly_broken(towards.program, ending, index)
+            {
                 return true;
             }
         }

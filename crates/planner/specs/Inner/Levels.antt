@@ -1,14 +1,18 @@
 -- What is kept for the search, and after a prefix of legs.
-use Rattle.std.specs.Prelude.{ℕ, ◌≡◌, ◌+◌, ◌-◌, ◌*◌, ◌<◌, ◌≤◌, List, [], length, get_or, All, nat_lt, if◌then◌else◌}
-use Rattle.lattice.specs.Grids.{positions_of}
+use Rattle.std.specs.Prelude.{ℕ, ◌≡◌, ◌+◌, ◌<◌, ◌≤◌, Bool, true, false, List, [], length, get_or, All}
+use Rattle.lattice.specs.Grids.{choices_of}
+use Rattle.lattice.specs.PlanNumbers.{plan_of}
 use Rattle.mtl_monitor.specs.Following as monitor
 use Rattle.mtl_monitor.specs.Traces.{Trace}
-use Rattle.situations.specs.FailingPlans.{EntersDomain, Some_}
+use Rattle.situations.specs.FailingPlans.{BreaksARule, EntersDomain, Some_}
 use Rattle.planner.specs.Inner.Breaking.{Tells, formulas_of}
+use Rattle.planner.specs.Inner.Legs.{IsPathIn, lasts}
 use Rattle.planner.specs.Inner.Watching.{IsCutAtNow, IsEarly, IsReady, Stands}
+use Rattle.situations.specs.Prefixes.{reached}
 use Rattle.situations.specs.Situations.{IsSituation, now_of}
 use Rattle.planner.specs.declared.already.Already.{Already}
 use Rattle.planner.specs.declared.basis.SearchBasis.{SearchBasis}
+use Rattle.planner.specs.declared.legs.PlannedLeg.{PlannedLeg}
 use Rattle.planner.specs.declared.level.Level.{Level}
 use Rattle.situations.specs.declared.situation.Situation.{Situation}
 use Rattle.situations.specs.declared.situation.Target.{Target}
@@ -20,21 +24,16 @@ pub record IsToldAtNow (situation : Situation) (target : Target) (already : Alre
   pub is_cut : IsCutAtNow situation target cut
   pub tells : Tells (formulas_of situation) cut already
 
-pub record IsBasis (basis : SearchBasis) : Type 0 where
-  pub is_situation : IsSituation basis.situation
-  pub of_rules : monitor.IsProgramOf basis.program (formulas_of basis.situation)
+pub record IsBasis (situation : Situation) (basis : SearchBasis) : Type 0 where
+  pub is_situation : IsSituation situation
+  pub of_rules : monitor.IsProgramOf basis.program (formulas_of situation)
   pub few : monitor.count_of basis.program ≤ 17
-  pub count : length basis.already.items ≡ length basis.situation.targets
-  pub each : (k : ℕ) (t : Target) (a : Already) → k < length basis.situation.targets → IsToldAtNow basis.situation (get_or basis.situation.targets k t) (get_or basis.already.items k a)
-
--- how many ticks a leg lasts, the last one with the tail
-abbrev pub lasts : Situation → ℕ → ℕ
-lasts situation leg =
-    if nat_lt (leg + 1) situation.lattice.legs then situation.lattice.leg_ticks else positions_of situation.lattice - leg * situation.lattice.leg_ticks
+  pub count : length basis.already.items ≡ length situation.targets
+  pub each : (k : ℕ) (t : Target) (a : Already) → k < length situation.targets → IsToldAtNow situation (get_or situation.targets k t) (get_or basis.already.items k a)
 
 -- There is a place for each target.
-pub record HasTargets (basis : SearchBasis) (watched : List Watched) : Type 0 where
-  pub count : length watched ≡ length basis.situation.targets
+pub record HasTargets (situation : Situation) (basis : SearchBasis) (watched : List Watched) : Type 0 where
+  pub count : length watched ≡ length situation.targets
   pub ready : All (IsReady basis.program) watched
 
 -- None was fed more rows than this.
@@ -42,31 +41,50 @@ abbrev pub AreEarly : ℕ → List Watched → Type 0
 AreEarly at watched = All (IsEarly at) watched
 
 -- A level has the places for a leg.
-pub record HasPlaces (basis : SearchBasis) (leg : ℕ) (level : Level) : Type 0 where
-  pub path : length level.path.items ≡ lasts basis.situation leg + 1
-  pub targets : HasTargets basis level.watched.items
+pub record HasPlaces (situation : Situation) (basis : SearchBasis) (leg : ℕ) (level : Level) : Type 0 where
+  pub path : length level.path.items ≡ lasts situation leg + 1
+  pub targets : HasTargets situation basis level.watched.items
   pub fits : monitor.Fits basis.program level.ending
   pub room : monitor.HasRoom basis.program level.ending
 
+-- It has them, and own ship's path in the leg.
+pub record IsOnLeg (situation : Situation) (basis : SearchBasis) (leg : PlannedLeg) (level : Level) : Type 0 where
+  pub places : HasPlaces situation basis leg.index level
+  pub path : IsPathIn situation leg level.path.items
+
 -- What is kept stands for the steps of a plan up to a tick.
-abbrev pub StandsAt : SearchBasis → List ℕ → ℕ → List Watched → Type 0
-StandsAt basis plan at watched = (k : ℕ) (t : Target) (a : Already) (w : Watched) (cut : Trace) → k < length basis.situation.targets
-    → IsCutAtNow basis.situation (get_or basis.situation.targets k t) cut
-    → Tells (formulas_of basis.situation) cut (get_or basis.already.items k a)
-    → Stands basis.program basis.situation plan (get_or basis.situation.targets k t) cut at (get_or watched k w)
+abbrev pub StandsAt : Situation → SearchBasis → List ℕ → ℕ → List Watched → Type 0
+StandsAt situation basis plan at watched = (k : ℕ) (t : Target) (a : Already) (w : Watched) (cut : Trace) → k < length situation.targets
+    → IsCutAtNow situation (get_or situation.targets k t) cut
+    → Tells (formulas_of situation) cut (get_or basis.already.items k a)
+    → Stands basis.program situation plan (get_or situation.targets k t) cut at (get_or watched k w)
+
+-- All targets were followed from a tick to another under a plan, and whether a rule is newly broken was told.
+pub record AreFollowed (situation : Situation) (basis : SearchBasis) (plan : List ℕ) (from to : ℕ) (old new : List Watched) (told : Bool) : Type 0 where
+  pub stands : told ≡ false → StandsAt situation basis plan from old → StandsAt situation basis plan to new
+  pub breaks : told ≡ true → StandsAt situation basis plan from old → Some_ (BreaksARule situation plan to) situation.targets
 
 -- Up to a tick own ship enters no domain.
 abbrev pub StaysOut : Situation → List ℕ → ℕ → Type 0
 StaysOut situation plan at = ¬ Some_ (EntersDomain situation plan at) situation.targets
 
+-- What a level keeps stands for the steps of so many legs of this number, in which she enters no domain.
+pub record IsAfter (situation : Situation) (basis : SearchBasis) (legs number : ℕ) (level : Level) : Type 0 where
+  pub targets : HasTargets situation basis level.watched.items
+  pub early : AreEarly (reached situation legs) level.watched.items
+  pub stands : StandsAt situation basis (plan_of (choices_of situation.lattice) legs number) (reached situation legs) level.watched.items
+  pub outside : StaysOut situation (plan_of (choices_of situation.lattice) legs number) (reached situation legs)
+
 -- All of a search: a level at now, and one for each leg.
-pub record ArePlaces (basis : SearchBasis) (leg : ℕ) (below : List Level) : Type 0 where
-  pub count : leg + length below ≡ basis.situation.lattice.legs
-  pub each : (i : ℕ) (l : Level) → i < length below → HasPlaces basis (leg + i) (get_or below i l)
+pub record ArePlaces (situation : Situation) (basis : SearchBasis) (leg : ℕ) (below : List Level) : Type 0 where
+  pub count : leg + length below ≡ situation.lattice.legs
+  pub each : (i : ℕ) (l : Level) → i < length below → HasPlaces situation basis (leg + i) (get_or below i l)
 
 -- What stands at now.
-pub record IsPrepared (basis : SearchBasis) (start : Level) : Type 0 where
-  pub is_basis : IsBasis basis
-  pub targets : HasTargets basis start.watched.items
-  pub early : AreEarly (now_of basis.situation) start.watched.items
-  pub stands : StandsAt basis [] (now_of basis.situation) start.watched.items
+pub record IsPrepared (situation : Situation) (basis : SearchBasis) (start : Level) : Type 0 where
+  pub is_basis : IsBasis situation basis
+  pub targets : HasTargets situation basis start.watched.items
+  pub early : AreEarly (now_of situation) start.watched.items
+  pub stands : StandsAt situation basis [] (now_of situation) start.watched.items
+  pub fits : monitor.Fits basis.program start.ending
+  pub room : monitor.HasRoom basis.program start.ending

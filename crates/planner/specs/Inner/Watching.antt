@@ -1,15 +1,17 @@
 -- What is kept of a target stands for the steps so far.
-use Rattle.std.specs.Prelude.{ℕ, ◌≡◌, ◌+◌, ◌-◌, ◌<◌, ◌≤◌, List, [], length, take, true, false}
+use Rattle.std.specs.Prelude.{ℕ, ◌≡◌, ◌+◌, ◌-◌, ◌<◌, ◌≤◌, ◌↔◌, Bool, IsTrue, List, [], length, take, true, false, Option}
+use Rattle.encounters.specs.declared.pair_step.PairStep.{PairStep}
 use Rattle.meetings.specs.Standing as meetings
-use Rattle.meetings.specs.Traces.{IsContactAt, steps_from}
+use Rattle.meetings.specs.Traces.{IsContactAt, step_at, steps_from}
 use Rattle.mtl_monitor.specs.Following as monitor
 use Rattle.mtl_monitor.specs.Traces.{Trace}
 use Rattle.mtl_monitor.specs.declared.program.Program.{Program}
-use Rattle.situations.specs.FailingPlans.{AreTraceRows, BeginsAt}
-use Rattle.planner.specs.Inner.Breaking.{IsNewlyBrokenAt, formulas_of}
-use Rattle.situations.specs.Situations.{now_of, own_at, target_at, terms_of}
+use Rattle.situations.specs.FailingPlans.{AreTraceRows, BeginsAt, BreaksARule}
+use Rattle.planner.specs.Inner.Breaking.{IsNewlyBrokenAt, Tells, formulas_of}
+use Rattle.situations.specs.Situations.{now_of, own_at, target_at, terms_of, IsSituation, IsTarget}
 use Rattle.situations.specs.declared.situation.Situation.{Situation}
 use Rattle.situations.specs.declared.situation.Target.{Target}
+use Rattle.planner.specs.declared.towards.Towards.{Towards}
 use Rattle.planner.specs.declared.watched.Watched.{Watched}
 
 -- It goes on by this program, and has the places that it takes.
@@ -67,3 +69,28 @@ pub record IsCopyOf (copy other : Watched) : Type 0 where
       → Stands program situation plan target cut at other → Stands program situation plan target cut at copy
   pub fed : monitor.fed_of copy.values ≡ monitor.fed_of other.values
   pub since : copy.since_now ≡ other.since_now
+
+-- A situation and a target of it, the program of its rules, and what tells of so many rules what is broken at now.
+pub record IsTowards (towards : Towards) : Type 0 where
+  pub is_situation : IsSituation towards.situation.now
+  pub is_target : IsTarget towards.situation.now towards.target.now
+  pub of_rules : monitor.IsProgramOf towards.program.now (formulas_of towards.situation.now)
+  pub few : monitor.count_of towards.program.now ≤ 17
+  pub rules : towards.already.now.rules ≤ 17
+
+-- Her trace that is cut at now has these rows, and what is broken in it is told.
+pub record IsCut (towards : Towards) (cut : Trace) : Type 0 where
+  pub is_cut : IsCutAtNow towards.situation.now towards.target.now cut
+  pub tells : Tells (formulas_of towards.situation.now) cut towards.already.now
+
+-- Under a plan both are in contact at a tick, or are not, and this is their step from it on.
+pub record IsStepAt (situation : Situation) (plan : List ℕ) (target : Target) (at : ℕ) (in_contact : Bool) (seen : Option PairStep) : Type 0 where
+  pub contact : IsTrue in_contact ↔ IsContactAt (own_at situation plan) (target_at situation target) situation.detect.watch at
+  pub step : seen ≡ step_at (own_at situation plan) (target_at situation target) at
+
+-- She was followed from a tick to another under a plan. Where nothing was told as newly broken, what is kept stands there again; else a rule is broken by then.
+pub record IsFollowed (towards : Towards) (plan : List ℕ) (from to : ℕ) (old new : Watched) (told : Bool) : Type 0 where
+  pub stands : told ≡ false → (cut : Trace) → IsCut towards cut → Stands towards.program.now towards.situation.now plan towards.target.now cut from old
+      → Stands towards.program.now towards.situation.now plan towards.target.now cut to new
+  pub breaks : told ≡ true → (cut : Trace) → IsCut towards cut → Stands towards.program.now towards.situation.now plan towards.target.now cut from old
+      → BreaksARule towards.situation.now plan to towards.target.now

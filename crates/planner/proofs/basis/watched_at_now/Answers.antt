@@ -24,11 +24,13 @@ loop-k-preserved c =
       ready = c.take.ensures.ready;
       fed = fed_step c.take.new.self.begun _ _ k c.take.ensures.fed c.take.ensures.unfed fed;
       since = c.take.ensures.since ∙ was.since;
-      stands = c.take.ensures.stands s [] T k was.stands (
-        λ t. same_contact s c.plan-plan.result [] 0 (λ step h. absurd (omega arith)) T s.detect.watch k within (c.are_in_contact-in_contact.ensures.0 t),
-        λ h. c.are_in_contact-in_contact.ensures.1 (same_contact s [] c.plan-plan.result 0 (λ step h. absurd (omega arith)) T s.detect.watch k within h),
-      )
-          (c.as_ref.ensures.value ∙ (c.step_at.ensures.value ∙ same_step s c.plan-plan.result [] 0 (λ step h. absurd (omega arith)) T k within));
+      stands = c.take.ensures.stands s [] T k was.stands (record {
+        contact = (
+          λ t. same_contact s c.plan-plan.result [] 0 (λ step h. absurd (omega arith)) T s.detect.watch k within (c.are_in_contact-in_contact.ensures.0 t),
+          λ h. c.are_in_contact-in_contact.ensures.1 (same_contact s [] c.plan-plan.result 0 (λ step h. absurd (omega arith)) T s.detect.watch k within h),
+        );
+        step = c.as_ref.ensures.value ∙ (c.step_at.ensures.value ∙ same_step s c.plan-plan.result [] 0 (λ step h. absurd (omega arith)) T k within);
+      });
     }
 
 pub returns-clause-stands : goal.returns-clause-stands

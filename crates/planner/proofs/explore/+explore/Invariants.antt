@@ -9,9 +9,9 @@ decreases-explore l = length l.below.now
 
 abbrev pub invariant-loop-choice : goal.invariant-loop-choice
 invariant-loop-choice l = record {
-  place : HasPlaces l.basis l.leg l.to;
-  places : ArePlaces l.basis (l.leg + 1) l.rest;
+  place : HasPlaces l.situation l.basis l.leg l.to;
+  places : ArePlaces l.situation l.basis (l.leg + 1) l.rest;
   left : length l.fn.below ≡ length l.rest + 1;
-  fail : AllFailFrom l.basis.situation (l.number * choices_of l.basis.situation.lattice ^ length l.fn.below)
-      ((l.number * choices_of l.basis.situation.lattice + l.choice) * choices_of l.basis.situation.lattice ^ length l.rest);
+  fail : AllFailFrom l.situation (l.number * choices_of l.situation.lattice ^ length l.fn.below)
+      ((l.number * choices_of l.situation.lattice + l.choice) * choices_of l.situation.lattice ^ length l.rest);
 }

@@ -10,6 +10,6 @@ abbrev pub invariant-loop-k : goal.invariant-loop-k
 invariant-loop-k l = record {
   fits : Fits l.basis.program l.ending;
   room : HasRoom l.basis.program l.ending;
-  passes : (plan : List ℕ) (at : ℕ) → now_of l.basis.situation ≤ at → StandsAt l.basis plan at l.watched
-      → (j : ℕ) (t : Target) → j < l.k → ¬ BreaksARule l.basis.situation plan at (get_or l.basis.situation.targets j t);
+  passes : (plan : List ℕ) (at : ℕ) → now_of l.situation ≤ at → StandsAt l.situation l.basis plan at l.watched
+      → (j : ℕ) (t : Target) → j < l.k → ¬ BreaksARule l.situation plan at (get_or l.situation.targets j t);
 }

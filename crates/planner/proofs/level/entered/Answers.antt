@@ -1,21 +1,35 @@
-use Rattle.std.proofs.Common.{◌+◌, ◌-◌, ◌<◌, List, length, get_or, ap, subst, ◌∙◌, arith}
+use Rattle.std.proofs.Common.{◌+◌, ◌-◌, ◌<◌, List, length, get_or, refl, ap, subst, ◌∙◌, arith}
 use Rattle.situations.specs.Paths.{EntersAlong}
 use Rattle.situations.specs.Situations.{now_of}
 use Rattle.situations.specs.declared.situation.Target.{Target}
-use Rattle.situations.proofs.FlatList.{none_some, none_so_far_of}
+use Rattle.situations.proofs.FlatList.{none_some, none_so_far_of, some_here}
 use Rattle.planner.proofs.level.entered.Goals as goal
 
 pub loop-index-preserved : goal.loop-index-preserved
-loop-index-preserved c = λ plan is.
-    none_so_far_of (λ (T : Target). EntersAlong c.args.situation.now plan T (now_of c.args.situation.now + c.args.first) (length c.args.path.now - 1)) c.args.situation.now.targets c.loop-index.index c.index-targets-index.result
+loop-index-preserved c =
+    let s = c.args.situation.now in
+    none_so_far_of (λ (T : Target). EntersAlong s c.args.leg.now.plan T (now_of s + c.args.leg.now.begins) (length c.args.path.now - 1)) s.targets c.loop-index.index c.index-targets-index.result
     (subst (λ (xs : List Target). c.loop-index.index < length xs) c.as_slice-targets.ensures c.loop-index-test.true)
     (c.index-targets-index.is ∙ ap (λ (xs : List Target). get_or xs c.loop-index.index c.index-targets-index.result) c.as_slice-targets.ensures)
-    (c.loop-index.invariant plan is)
-    (λ h. let t = (c.enters_along.ensures plan is).1 h in let f = c.if-enters_along.false in cc)
+    c.loop-index.invariant
+    (λ h. let t = (c.enters_along.ensures c.args.leg.now.plan c.requires.path.states).1 h in let f = c.if-enters_along.false in cc)
+
+pub returns-then-enters_along : goal.returns-then-enters_along
+returns-then-enters_along c =
+    let s = c.args.situation.now in
+    let T = c.index-targets-index.result in
+    let Enters : Target → Type 0 = λ target. EntersAlong s c.args.leg.now.plan target (now_of s + c.args.leg.now.begins) (length c.args.path.now - 1) in (
+      λ t. some_here Enters s.targets c.loop-index.index T
+          (subst (λ (xs : List Target). c.loop-index.index < length xs) c.as_slice-targets.ensures c.loop-index-test.true)
+          (subst Enters (c.index-targets-index.is ∙ ap (λ (xs : List Target). get_or xs c.loop-index.index T) c.as_slice-targets.ensures)
+          ((c.enters_along.ensures c.args.leg.now.plan c.requires.path.states).0 c.if-enters_along.true)),
+      λ h. refl,
+    )
 
 pub returns : goal.returns
-returns c = λ plan is. (
-  λ t. cc,
-  λ h. absurd (none_some (λ (T : Target). EntersAlong c.args.situation.now plan T (now_of c.args.situation.now + c.args.first) (length c.args.path.now - 1)) c.args.situation.now.targets
-      (λ k d lt. c.loop-index.invariant plan is k d (omega (arith, ap length c.as_slice-targets.ensures))) h),
-)
+returns c =
+    let s = c.args.situation.now in (
+      λ t. cc,
+      λ h. absurd (none_some (λ (T : Target). EntersAlong s c.args.leg.now.plan T (now_of s + c.args.leg.now.begins) (length c.args.path.now - 1)) s.targets
+          (λ k d lt. c.loop-index.invariant k d (omega (arith, ap length c.as_slice-targets.ensures))) h),
+    )

@@ -1,9 +1,9 @@
-use Rattle.std.proofs.Common.{ℕ, ◌+◌, ◌-◌, ◌<◌, List, length, get_or}
-use Rattle.situations.specs.Paths.{EntersAlong, IsPath}
+use Rattle.std.proofs.Common.{ℕ, ◌+◌, ◌-◌, ◌<◌, length, get_or}
+use Rattle.situations.specs.Paths.{EntersAlong}
 use Rattle.situations.specs.Situations.{now_of}
 use Rattle.situations.specs.declared.situation.Target.{Target}
 use Rattle.planner.proofs.level.entered.Given as goal
 
 abbrev pub invariant-loop-index : goal.invariant-loop-index
-invariant-loop-index l = (plan : List ℕ) → IsPath l.situation plan l.first l.path → (i : ℕ) (d : Target) → i < l.index
-    → ¬ EntersAlong l.situation plan (get_or l.situation.targets i d) (now_of l.situation + l.first) (length l.path - 1)
+invariant-loop-index l = (i : ℕ) (d : Target) → i < l.index
+    → ¬ EntersAlong l.situation l.leg.plan (get_or l.situation.targets i d) (now_of l.situation + l.leg.begins) (length l.path - 1)

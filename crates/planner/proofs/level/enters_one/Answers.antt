@@ -6,9 +6,10 @@ use Rattle.situations.proofs.FlatList.{some_here}
 use Rattle.planner.proofs.level.enters_one.Goals as goal
 
 pub returns-then-index-targets : goal.returns-then-index-targets
-returns-then-index-targets c = λ t plan is.
+returns-then-index-targets c = λ t.
+    let s = c.args.situation.now in
     let T = c.index-targets-index.result in
-    let Enters : Target → Type 0 = λ target. EntersAlong c.args.situation.now plan target (now_of c.args.situation.now + c.args.first) (length c.args.path.now - 1) in
-    some_here Enters c.args.situation.now.targets c.args.index T
+    let Enters : Target → Type 0 = λ target. EntersAlong s c.args.leg.now.plan target (now_of s + c.args.leg.now.begins) (length c.args.path.now - 1) in
+    some_here Enters s.targets c.args.index T
     (subst (λ (xs : List Target). c.args.index < length xs) c.as_slice-targets.ensures c.if-index-targets.true)
-    (subst Enters (c.index-targets-index.is ∙ ap (λ (xs : List Target). get_or xs c.args.index T) c.as_slice-targets.ensures) ((c.enters_along.ensures plan is).0 t))
+    (subst Enters (c.index-targets-index.is ∙ ap (λ (xs : List Target). get_or xs c.args.index T) c.as_slice-targets.ensures) ((c.enters_along.ensures c.args.leg.now.plan c.requires.path.states).0 t))

@@ -1,11 +1,10 @@
-use Rattle.std.proofs.Common.{◌≡◌, ℕ, ◌+◌, ◌-◌, ◌<◌, List, length, get_or}
+use Rattle.std.proofs.Common.{◌≡◌, ℕ, ◌+◌, ◌<◌, length, get_or}
 use Rattle.std.specs.List.{All}
 use Rattle.mtl_monitor.specs.Traces.{Trace}
 use Rattle.planner.specs.Inner.Breaking.{Tells, formulas_of}
 use Rattle.planner.specs.Inner.Levels.{StandsAt}
-use Rattle.situations.specs.Paths.{IsPath}
 use Rattle.planner.specs.Inner.Watching.{IsCutAtNow, IsEarly, IsReady, Stands}
-use Rattle.situations.specs.Situations.{now_of}
+use Rattle.situations.specs.Prefixes.{reached}
 use Rattle.planner.specs.declared.already.Already.{Already}
 use Rattle.situations.specs.declared.situation.Target.{Target}
 use Rattle.planner.specs.declared.watched.Watched.{Watched}
@@ -15,9 +14,9 @@ abbrev pub invariant-loop-k : goal.invariant-loop-k
 invariant-loop-k l = record {
   count : length l.watched ≡ length l.fn.watched;
   ready : All (IsReady l.basis.program) l.watched;
-  early : (j : ℕ) (w : Watched) → j < l.k → IsEarly (now_of l.basis.situation + l.first + (length l.path - 1)) (get_or l.watched j w);
-  stands : (plan : List ℕ) → IsPath l.basis.situation plan l.first l.path → StandsAt l.basis plan (now_of l.basis.situation + l.first) l.from
-      → (j : ℕ) (t : Target) (a : Already) (w : Watched) (cut : Trace) → j < l.k → IsCutAtNow l.basis.situation (get_or l.basis.situation.targets j t) cut
-      → Tells (formulas_of l.basis.situation) cut (get_or l.basis.already.items j a)
-      → Stands l.basis.program l.basis.situation plan (get_or l.basis.situation.targets j t) cut (now_of l.basis.situation + l.first + (length l.path - 1)) (get_or l.watched j w);
+  early : (j : ℕ) (w : Watched) → j < l.k → IsEarly (reached l.situation (l.leg.index + 1)) (get_or l.watched j w);
+  stands : StandsAt l.situation l.basis l.leg.plan (reached l.situation l.leg.index) l.from
+      → (j : ℕ) (t : Target) (a : Already) (w : Watched) (cut : Trace) → j < l.k → IsCutAtNow l.situation (get_or l.situation.targets j t) cut
+      → Tells (formulas_of l.situation) cut (get_or l.basis.already.items j a)
+      → Stands l.basis.program l.situation l.leg.plan (get_or l.situation.targets j t) cut (reached l.situation (l.leg.index + 1)) (get_or l.watched j w);
 }

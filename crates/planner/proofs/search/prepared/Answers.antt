@@ -13,7 +13,7 @@ use Rattle.planner.proofs.search.prepared.Goals as goal
 
 pub loop-target-preserved : goal.loop-target-preserved
 loop-target-preserved c =
-    let s = c.args.situation in
+    let s = c.args.situation.now in
     let program = c.in_ok-program.program in
     let k = c.loop-target.target-index in
     let T = c.target-item.result in
@@ -46,16 +46,16 @@ loop-target-preserved c =
       since = subst (All (λ (w : Watched). w.since_now ≡ 0)) (sym pushed_too) (All-push (λ (w : Watched). w.since_now ≡ 0) c.loop-target.watched.items here was.since c.in_ok-here.ensures.since);
     }
 
-pub returns-clause-prepared : goal.returns-clause-prepared
-returns-clause-prepared c =
-    let s = c.args.situation in
+pub returns : goal.returns
+returns c =
+    let s = c.args.situation.now in
     let program = c.in_ok-program.program in
     let was = c.loop-target.invariant in
     let told_count = was.told_count in
     let count = was.count in
     let over = c.loop-target-test.false in
     let end = c.loop-target.auto.target-index-end in
-    let kept = c.in_ok-start.ensures in
+    let kept = c.in_ok-start.ensures.watched in
     let all : c.loop-target.target-index ≡ length s.targets = omega (arith, ap length c.as_slice-target-items.ensures) in
     record {
       is_basis = record {
@@ -74,4 +74,6 @@ returns-clause-prepared c =
           let at : get_or c.in_ok-start.start.watched.items k w ≡ get_or c.loop-target.watched.items k w = ap (λ (xs : List Watched). get_or xs k w) kept in
           subst (λ (x : Watched). Stands program s [] (get_or s.targets k t) cut (now_of s) x) (sym at)
           (stands_at_now program s (get_or s.targets k t) (get_or c.loop-target.watched.items k w) cut (was.stands k w (omega arith) t) (was.since k w (omega arith)) is_cut);
+      fits = c.in_ok-start.ensures.fits;
+      room = c.in_ok-start.ensures.room;
     }

@@ -16,8 +16,8 @@ invariant-loop-target l = record {
   fits : Fits l.program l.ending;
   room : HasRoom l.program l.ending;
   ready : All (IsReady l.program) l.watched.items;
-  early : All (IsEarly (now_of l.fn.situation)) l.watched.items;
-  told : (k : ℕ) (a : Already) → k < length l.already.items → (t : Target) → IsToldAtNow l.fn.situation (get_or l.fn.situation.targets k t) (get_or l.already.items k a);
-  stands : (k : ℕ) (w : Watched) → k < length l.watched.items → (t : Target) → StandsFor l.program l.fn.situation [] (get_or l.fn.situation.targets k t) (now_of l.fn.situation) (get_or l.watched.items k w);
+  early : All (IsEarly (now_of l.situation)) l.watched.items;
+  told : (k : ℕ) (a : Already) → k < length l.already.items → (t : Target) → IsToldAtNow l.situation (get_or l.situation.targets k t) (get_or l.already.items k a);
+  stands : (k : ℕ) (w : Watched) → k < length l.watched.items → (t : Target) → StandsFor l.program l.situation [] (get_or l.situation.targets k t) (now_of l.situation) (get_or l.watched.items k w);
   since : All (λ (w : Watched). w.since_now ≡ 0) l.watched.items;
 }

@@ -1,102 +1,94 @@
-use Rattle.std.proofs.Common.{ℕ, ◌+◌, List, length, sym, ap, subst, ◌∙◌}
-use Rattle.lattice.specs.Grids.{choices_of}
-use Rattle.lattice.specs.PlanNumbers.{plan_of}
-use Rattle.situations.specs.FailingPlans.{FailsBy}
-use Rattle.planner.specs.Inner.Levels.{AreEarly, StandsAt, StaysOut}
-use Rattle.situations.specs.Paths.{HasReached}
+use Rattle.std.proofs.Common.{◌+◌, arith}
 use Rattle.situations.specs.Prefixes.{reached}
-use Rattle.situations.specs.Situations.{now_of}
-use Rattle.planner.specs.declared.watched.Watched.{Watched}
-use Rattle.planner.proofs.Extending.{begins_there, ends_there, from_prefix, level_front, level_prefix, out_front, out_prefix, reached_front, to_front, to_prefix}
-use Rattle.planner.proofs.Places.{written}
+use Rattle.planner.proofs.Extending.{breaks_fails, early_to_end, from_through, level_before, level_through, none_fails, out_before, out_through, to_before, to_through}
 use Rattle.planner.proofs.level.Level.extend.Goals as goal
 
-pub follow_leg-requires-clause-own : goal.follow_leg-requires-clause-own
-follow_leg-requires-clause-own c =
-    let s = c.args.basis.now.situation in
-    let W = c.first_plan-plan.result in
-    subst (λ (n : ℕ). HasReached s W n c.args.own) (sym c.leg_begins.ensures)
-    (reached_front s c.args.leg c.args.number W c.args.own c.requires.leg c.first_plan-plan.ensures.begins c.requires.own)
+pub fill_path-requires-clause-places : goal.fill_path-requires-clause-places
+fill_path-requires-clause-places c = c.requires.places.path
 
-pub returns-clause-early : goal.returns-clause-early
-returns-clause-early c = λ e.
-    let s = c.args.basis.now.situation in
-    let end = ends_there s c.args.leg c.leg_begins.result (length c.deref_mut.result.now) c.requires.leg c.leg_begins.ensures (ap length c.deref_mut.ensures.value ∙ c.requires.places.path) in
-    let new = c.follow_leg.new.watched in
-    let of_new = c.follow_leg.ensures.targets.count in
-    let of_old = c.requires.places.targets.count in
-    subst (λ (xs : List Watched). AreEarly (reached s (c.args.leg + 1)) xs)
-    (sym (written new c.args.self.now.watched.items c.args.self.now.watched.len (of_new ∙ sym of_old) c.args.self.now.watched.ok.0))
-    (subst (λ (n : ℕ). AreEarly n new) end (c.follow_leg.ensures.early e))
+pub enters-requires-clause-path : goal.enters-requires-clause-path
+enters-requires-clause-path c = (c.fill_path.ensures c.args.basis.now c.requires.places).path
 
-pub returns-clause-stands : goal.returns-clause-stands
-returns-clause-stands c = λ e.
+pub returns-then-enters-clause-places : goal.returns-then-enters-clause-places
+returns-then-enters-clause-places c = (c.enters.ensures.on c.args.basis.now (c.fill_path.ensures c.args.basis.now c.requires.places)).places
+
+pub returns-then-enters-clause-fails : goal.returns-then-enters-clause-fails
+returns-then-enters-clause-fails c = λ e. to_through c.args.situation.now c.args.leg.now c.requires.leg (c.enters.ensures.fails c.if-enters.true)
+
+pub ends_broken_before-requires : goal.ends_broken_before-requires
+ends_broken_before-requires c =
+    let on = c.enters.ensures.on c.args.basis.now (c.fill_path.ensures c.args.basis.now c.requires.places) in
+    let from = c.requires.from in
+    record {
+      basis = c.requires.basis;
+      from = from.targets;
+      early = early_to_end c.args.situation.now c.args.leg.now.index c.args.from.now.watched.items from.early;
+      fits = on.places.fits;
+      room = on.places.room;
+    }
+
+pub returns-then-ends_broken_before-clause-places : goal.returns-then-ends_broken_before-clause-places
+returns-then-ends_broken_before-clause-places c =
+    (c.ends_broken_before.ensures.on c.args.leg.now (c.enters.ensures.on c.args.basis.now (c.fill_path.ensures c.args.basis.now c.requires.places))).places
+
+pub returns-then-ends_broken_before-clause-failed_before : goal.returns-then-ends_broken_before-clause-failed_before
+returns-then-ends_broken_before-clause-failed_before c = λ e.
+    let s = c.args.situation.now in
+    let leg = c.args.leg.now in
+    let before = level_before s leg c.requires.leg c.args.basis.now c.args.from.now.watched.items c.requires.from.stands in
+    to_before s leg c.requires.leg (breaks_fails s leg.plan (reached s leg.index) (c.ends_broken_before.ensures.breaks c.if-ends_broken_before.true leg.plan (reached s leg.index) (omega arith) before))
+
+pub follow_leg-requires-clause-on : goal.follow_leg-requires-clause-on
+follow_leg-requires-clause-on c = c.ends_broken_before.ensures.on c.args.leg.now (c.enters.ensures.on c.args.basis.now (c.fill_path.ensures c.args.basis.now c.requires.places))
+
+pub returns-then-follow_leg-clause-places : goal.returns-then-follow_leg-clause-places
+returns-then-follow_leg-clause-places c = c.follow_leg.ensures.on.places
+
+pub returns-then-follow_leg-clause-fails : goal.returns-then-follow_leg-clause-fails
+returns-then-follow_leg-clause-fails c = λ e.
+    let s = c.args.situation.now in
+    let leg = c.args.leg.now in
+    let before = level_before s leg c.requires.leg c.args.basis.now c.args.from.now.watched.items c.requires.from.stands in
+    to_through s leg c.requires.leg (breaks_fails s leg.plan (reached s (leg.index + 1)) (c.follow_leg.ensures.followed.breaks c.if-follow_leg.true before))
+
+pub ends_broken_at_last-requires-clause-early : goal.ends_broken_at_last-requires-clause-early
+ends_broken_at_last-requires-clause-early c = early_to_end c.args.situation.now (c.args.leg.now.index + 1) c.follow_leg.new.self.watched.items (c.follow_leg.ensures.early c.if-follow_leg.false)
+
+pub returns-then-ends_broken_at_last-clause-places : goal.returns-then-ends_broken_at_last-clause-places
+returns-then-ends_broken_at_last-clause-places c = c.ends_broken_at_last.ensures.on.places
+
+pub returns-then-ends_broken_at_last-clause-fails : goal.returns-then-ends_broken_at_last-clause-fails
+returns-then-ends_broken_at_last-clause-fails c = λ e.
+    let s = c.args.situation.now in
+    let leg = c.args.leg.now in
+    let before = level_before s leg c.requires.leg c.args.basis.now c.args.from.now.watched.items c.requires.from.stands in
+    to_through s leg c.requires.leg (breaks_fails s leg.plan (reached s (leg.index + 1)) (c.ends_broken_at_last.ensures.breaks c.if-ends_broken_at_last.true leg.plan (reached s (leg.index + 1)) (omega arith)
+    (c.follow_leg.ensures.followed.stands c.if-follow_leg.false before)))
+
+pub returns-clause-places : goal.returns-clause-places
+returns-clause-places c = c.ends_broken_at_last.ensures.on.places
+
+pub returns-clause-after : goal.returns-clause-after
+returns-clause-after c = λ e.
+    let s = c.args.situation.now in
     let basis = c.args.basis.now in
-    let s = basis.situation in
-    let W = c.first_plan-plan.result in
-    let some = c.requires.basis.is_situation.some_leg in
-    let at = begins_there s c.args.leg c.leg_begins.result c.requires.leg c.leg_begins.ensures in
-    let end = ends_there s c.args.leg c.leg_begins.result (length c.deref_mut.result.now) c.requires.leg c.leg_begins.ensures (ap length c.deref_mut.ensures.value ∙ c.requires.places.path) in
-    let front = level_front basis c.args.leg c.args.number W some c.first_plan-plan.ensures.begins c.args.from.now.watched.items c.requires.stands in
-    let from : StandsAt basis W (now_of s + c.leg_begins.result) c.deref.result.now =
-    subst (λ (n : ℕ). StandsAt basis W n c.deref.result.now) (sym at) (subst (λ (xs : List Watched). StandsAt basis W (reached s c.args.leg) xs) (sym c.deref.ensures.value) front) in
-    let new = c.follow_leg.new.watched in
-    let of_new = c.follow_leg.ensures.targets.count in
-    let of_old = c.requires.places.targets.count in
-    subst (λ (xs : List Watched). StandsAt basis (plan_of (choices_of s.lattice) (c.args.leg + 1) c.args.number) (reached s (c.args.leg + 1)) xs)
-    (sym (written new c.args.self.now.watched.items c.args.self.now.watched.len (of_new ∙ sym of_old) c.args.self.now.watched.ok.0))
-    (level_prefix basis c.args.leg c.args.number W some c.first_plan-plan.ensures.begins new
-    (subst (λ (n : ℕ). StandsAt basis W n new) end (c.follow_leg.ensures.stands e from)))
-
-pub returns-clause-outside : goal.returns-clause-outside
-returns-clause-outside c = λ e.
-    let basis = c.args.basis.now in
-    let s = basis.situation in
-    let W = c.first_plan-plan.result in
-    let some = c.requires.basis.is_situation.some_leg in
-    let at = begins_there s c.args.leg c.leg_begins.result c.requires.leg c.leg_begins.ensures in
-    let end = ends_there s c.args.leg c.leg_begins.result (length c.deref_mut.result.now) c.requires.leg c.leg_begins.ensures (ap length c.deref_mut.ensures.value ∙ c.requires.places.path) in
-    let outside : StaysOut s W (now_of s + c.leg_begins.result) =
-    subst (λ (n : ℕ). StaysOut s W n) (sym at) (out_front basis c.args.leg c.args.number W some c.first_plan-plan.ensures.begins c.requires.outside) in
-    out_prefix basis c.args.leg c.args.number W some c.first_plan-plan.ensures.begins (subst (λ (n : ℕ). StaysOut s W n) end (c.follow_leg.ensures.outside e outside))
+    let leg = c.args.leg.now in
+    let from = c.requires.from in
+    let before = level_before s leg c.requires.leg basis c.args.from.now.watched.items from.stands in
+    let stands = level_through s leg c.requires.leg basis c.follow_leg.new.self.watched.items (c.follow_leg.ensures.followed.stands c.if-follow_leg.false before) in
+    record {
+      targets = c.ends_broken_at_last.ensures.on.places.targets;
+      early = rw c.ends_broken_at_last.ensures.watched (c.follow_leg.ensures.early c.if-follow_leg.false);
+      stands = rw c.ends_broken_at_last.ensures.watched stands;
+      outside = out_through s leg c.requires.leg (c.enters.ensures.outside c.if-enters.false (out_before s leg c.requires.leg from.outside));
+    }
 
 pub returns-clause-passes : goal.returns-clause-passes
-returns-clause-passes c = λ e last f.
-    let basis = c.args.basis.now in
-    let s = basis.situation in
-    let W = c.first_plan-plan.result in
-    let some = c.requires.basis.is_situation.some_leg in
-    let at = begins_there s c.args.leg c.leg_begins.result c.requires.leg c.leg_begins.ensures in
-    let end = ends_there s c.args.leg c.leg_begins.result (length c.deref_mut.result.now) c.requires.leg c.leg_begins.ensures (ap length c.deref_mut.ensures.value ∙ c.requires.places.path) in
-    let front = level_front basis c.args.leg c.args.number W some c.first_plan-plan.ensures.begins c.args.from.now.watched.items c.requires.stands in
-    let from : StandsAt basis W (now_of s + c.leg_begins.result) c.deref.result.now =
-    subst (λ (n : ℕ). StandsAt basis W n c.deref.result.now) (sym at) (subst (λ (xs : List Watched). StandsAt basis W (reached s c.args.leg) xs) (sym c.deref.ensures.value) front) in
-    let outside : StaysOut s W (now_of s + c.leg_begins.result) =
-    subst (λ (n : ℕ). StaysOut s W n) (sym at) (out_front basis c.args.leg c.args.number W some c.first_plan-plan.ensures.begins c.requires.outside) in
-    c.follow_leg.ensures.passes e (c.is_last.ensures.1 last) from outside
-    (subst (λ (n : ℕ). FailsBy s n W) (sym end) (from_prefix basis c.args.leg c.args.number W some c.first_plan-plan.ensures.begins f))
-
-pub returns-clause-fails : goal.returns-clause-fails
-returns-clause-fails c = λ e.
-    let basis = c.args.basis.now in
-    let s = basis.situation in
-    let W = c.first_plan-plan.result in
-    let some = c.requires.basis.is_situation.some_leg in
-    let at = begins_there s c.args.leg c.leg_begins.result c.requires.leg c.leg_begins.ensures in
-    let end = ends_there s c.args.leg c.leg_begins.result (length c.deref_mut.result.now) c.requires.leg c.leg_begins.ensures (ap length c.deref_mut.ensures.value ∙ c.requires.places.path) in
-    let front = level_front basis c.args.leg c.args.number W some c.first_plan-plan.ensures.begins c.args.from.now.watched.items c.requires.stands in
-    let from : StandsAt basis W (now_of s + c.leg_begins.result) c.deref.result.now =
-    subst (λ (n : ℕ). StandsAt basis W n c.deref.result.now) (sym at) (subst (λ (xs : List Watched). StandsAt basis W (reached s c.args.leg) xs) (sym c.deref.ensures.value) front) in
-    to_prefix basis c.args.leg c.args.number W some c.first_plan-plan.ensures.begins (subst (λ (n : ℕ). FailsBy s n W) end (c.follow_leg.ensures.fails e from))
-
-pub returns-clause-failed_before : goal.returns-clause-failed_before
-returns-clause-failed_before c = λ e.
-    let basis = c.args.basis.now in
-    let s = basis.situation in
-    let W = c.first_plan-plan.result in
-    let some = c.requires.basis.is_situation.some_leg in
-    let at = begins_there s c.args.leg c.leg_begins.result c.requires.leg c.leg_begins.ensures in
-    let front = level_front basis c.args.leg c.args.number W some c.first_plan-plan.ensures.begins c.args.from.now.watched.items c.requires.stands in
-    let from : StandsAt basis W (now_of s + c.leg_begins.result) c.deref.result.now =
-    subst (λ (n : ℕ). StandsAt basis W n c.deref.result.now) (sym at) (subst (λ (xs : List Watched). StandsAt basis W (reached s c.args.leg) xs) (sym c.deref.ensures.value) front) in
-    to_front basis c.args.leg c.args.number W some c.first_plan-plan.ensures.begins (subst (λ (n : ℕ). FailsBy s n W) at (c.follow_leg.ensures.failed_before e from))
+returns-clause-passes c = λ e last fails.
+    let s = c.args.situation.now in
+    let leg = c.args.leg.now in
+    let from = c.requires.from in
+    let before = level_before s leg c.requires.leg c.args.basis.now c.args.from.now.watched.items from.stands in
+    none_fails s leg.plan (reached s (leg.index + 1)) (c.enters.ensures.outside c.if-enters.false (out_before s leg c.requires.leg from.outside))
+    (c.ends_broken_at_last.ensures.passes c.if-ends_broken_at_last.false (c.requires.leg.last.1 last) leg.plan (reached s (leg.index + 1)) (omega arith) (c.follow_leg.ensures.followed.stands c.if-follow_leg.false before))
+    (from_through s leg c.requires.leg fails)

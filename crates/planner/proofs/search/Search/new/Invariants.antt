@@ -6,5 +6,5 @@ use Rattle.planner.proofs.search.Search.new.Given as goal
 abbrev pub invariant-loop-leg : goal.invariant-loop-leg
 invariant-loop-leg l = record {
   count : length l.below.items ≡ l.leg;
-  each : (i : ℕ) (x : Level) → i < length l.below.items → HasPlaces l.basis i (get_or l.below.items i x);
+  each : (i : ℕ) (x : Level) → i < length l.below.items → HasPlaces l.situation l.basis i (get_or l.below.items i x);
 }

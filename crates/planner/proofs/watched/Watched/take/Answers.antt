@@ -10,15 +10,15 @@ use Rattle.planner.proofs.Watching.{with_row, without_row}
 use Rattle.planner.proofs.watched.Watched.take.Goals as goal
 
 pub returns-then-self-clause-stands : goal.returns-then-self-clause-stands
-returns-then-self-clause-stands c = λ s X T at stands contact seen.
-    with_row c.args.program.now s X T at c.args.self.now _ c.args.in_contact stands contact c.requires.few (sym c.has_begun-self.ensures ∙ c.if-self.true) c.if-self.true
+returns-then-self-clause-stands c = λ s X T at stands is.
+    with_row c.args.program.now s X T at c.args.self.now _ c.args.in_contact stands is.contact c.requires.few (sym c.has_begun-self.ensures ∙ c.if-self.true) c.if-self.true
     (λ steps rows short follows values. record {
       row = answer_of c.step-row.result;
-      is_row = subst (λ (o : Option PairStep). IsAtomRow (terms_of s) (steps ++ o ∷ []) (length steps) (answer_of c.step-row.result)) seen (c.step-row.ensures.row (terms_of s) steps short follows);
-      follows = subst (λ (o : Option PairStep). Follows c.step-row.new.self (terms_of s) (steps ++ o ∷ [])) seen (c.step-row.ensures.follows (terms_of s) steps short follows);
+      is_row = subst (λ (o : Option PairStep). IsAtomRow (terms_of s) (steps ++ o ∷ []) (length steps) (answer_of c.step-row.result)) is.step (c.step-row.ensures.row (terms_of s) steps short follows);
+      follows = subst (λ (o : Option PairStep). Follows c.step-row.new.self (terms_of s) (steps ++ o ∷ [])) is.step (c.step-row.ensures.follows (terms_of s) steps short follows);
       values = c.feed.ensures.follows (formulas_of s) rows values;
     })
 
 pub returns-else-self-clause-stands : goal.returns-else-self-clause-stands
-returns-else-self-clause-stands c = λ s X T at stands contact seen.
-    without_row c.args.program.now s X T at c.args.self.now _ c.args.in_contact stands contact (sym c.has_begun-self.ensures ∙ c.if-self.false) c.if-self.false refl refl
+returns-else-self-clause-stands c = λ s X T at stands is.
+    without_row c.args.program.now s X T at c.args.self.now _ c.args.in_contact stands is.contact (sym c.has_begun-self.ensures ∙ c.if-self.false) c.if-self.false refl refl

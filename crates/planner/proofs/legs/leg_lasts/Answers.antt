@@ -1,5 +1,5 @@
 use Rattle.std.proofs.Common.{◌+◌, ◌<◌, ◌^◌, arith, rules}
-use Rattle.planner.proofs.basis.SearchBasis.leg_lasts.Goals as goal
+use Rattle.planner.proofs.legs.leg_lasts.Goals as goal
 
 pub overflow_add-leg : goal.overflow_add-leg
 overflow_add-leg c =

@@ -1,0 +1,41 @@
+use Rattle.std.proofs.Common.{◌≡◌, ℕ, ◌+◌, ◌-◌, length, sym, subst, arith}
+use Rattle.situations.specs.FailingPlans.{FailsBy}
+use Rattle.planner.specs.Inner.Legs.{IsPathIn}
+use Rattle.planner.specs.Inner.Levels.{StaysOut}
+use Rattle.situations.specs.Prefixes.{reached}
+use Rattle.situations.specs.Situations.{now_of}
+use Rattle.planner.proofs.Extending.{along_fails, still_out}
+use Rattle.planner.proofs.level.Level.enters.Goals as goal
+
+pub enters-requires-clause-path : goal.enters-requires-clause-path
+enters-requires-clause-path c = subst (IsPathIn c.args.situation.now c.args.leg.now) (sym c.deref.ensures.value) c.requires.path
+
+pub returns-clause-on : goal.returns-clause-on
+returns-clause-on c = λ basis on. record {
+  places = record { path = on.places.path; targets = on.places.targets; fits = on.places.fits; room = on.places.room };
+  path = on.path;
+}
+
+pub returns-clause-fails : goal.returns-clause-fails
+returns-clause-fails c = λ e.
+    let s = c.args.situation.now in
+    let W = c.args.leg.now.plan in
+    let path = subst (IsPathIn s c.args.leg.now) (sym c.deref.ensures.value) c.requires.path in
+    let some = path.some in
+    let until = path.until in
+    let end : now_of s + c.args.leg.now.begins + (length c.deref.result.now - 1) ≡ reached s (c.args.leg.now.index + 1) = omega arith in
+    subst (λ (n : ℕ). FailsBy s n W) end (along_fails s W (now_of s + c.args.leg.now.begins) (length c.deref.result.now - 1) (omega arith) (c.enters.ensures.0 e))
+
+pub returns-clause-outside : goal.returns-clause-outside
+returns-clause-outside c = λ e outside.
+    let s = c.args.situation.now in
+    let W = c.args.leg.now.plan in
+    let path = subst (IsPathIn s c.args.leg.now) (sym c.deref.ensures.value) c.requires.path in
+    let some = path.some in
+    let until = path.until in
+    let from = c.requires.leg.from in
+    let start : reached s c.args.leg.now.index ≡ now_of s + c.args.leg.now.begins = omega arith in
+    let end : now_of s + c.args.leg.now.begins + (length c.deref.result.now - 1) ≡ reached s (c.args.leg.now.index + 1) = omega arith in
+    subst (λ (n : ℕ). StaysOut s W n) end
+    (still_out s W (now_of s + c.args.leg.now.begins) (length c.deref.result.now - 1) (omega arith) (subst (λ (n : ℕ). StaysOut s W n) start outside)
+    (λ along. let t = c.enters.ensures.1 along in cc))

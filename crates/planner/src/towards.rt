@@ -1,0 +1,70 @@
+//! Following own ship's path in a leg towards a target.
+ghost use Rattle.std.specs.Prelude.{◌≡◌, ◌+◌, false};
+ghost use Rattle.planner.specs.Inner.Legs.{IsPathIn, IsPlannedLeg};
+ghost use Rattle.planner.specs.Inner.Watching.{IsEarly, IsFollowed, IsReady, IsTowards};
+ghost use Rattle.situations.specs.Prefixes.{reached};
+
+use crate::already::Already;
+use crate::legs::PlannedLeg;
+use situations::{Situation, Target};
+use crate::watched::Watched;
+use motion::TickState;
+use mtl_monitor::Program;
+
+/// A target of a situation, the rules as one program, and what is broken at now towards her.
+#[derive(Clone, Copy)]
+pub(crate) struct Towards<'a> {
+    pub(crate) situation: &'a Situation,
+    pub(crate) program: &'a Program,
+    pub(crate) target: &'a Target,
+    pub(crate) already: &'a Already,
+}
+
+impl Towards<'_> {
+    /// Follows own ship's path in a leg. Tells whether some row decides a position as newly broken.
+    fn follow(&self, leg: &PlannedLeg, path: &[TickState], watched: &mut Watched) -> bool
+        requires towards { IsTowards self.now }
+        requires leg { IsPlannedLeg self.now.situation.now leg.now }
+        requires path { IsPathIn self.now.situation.now leg.now path.now }
+        requires ready { IsReady self.now.program.now watched.old }
+        requires early { IsEarly (reached self.now.situation.now leg.now.index) watched.old }
+        ensures ready { IsReady self.now.program.now watched.new }
+        ensures early { result ≡ false → IsEarly (reached self.now.situation.now (leg.now.index + 1)) watched.new }
+        ensures followed { IsFollowed self.now leg.now.plan (reached self.now.situation.now leg.now.index)
+            (reached self.now.situation.now (leg.now.index + 1)) watched.old watched.new result }
+    {
+        for j in 0..path.len() - 1 {
+            let in_contact = self
+                .situation
+                .is_contact_on(path, self.target, leg.begins, j);
+            let seen = self.situation.step_on(path, self.target, leg.begins, j);
+            if watched.take_planned(self, in_contact, seen.as_ref()) {
+                return true;
+            }
+        }
+        false
+    }
+
+    /// The same from what is kept of the target after other legs, which is taken over first.
+    pub(crate) fn follow_from(
+        &self,
+        leg: &PlannedLeg,
+        path: &[TickState],
+        from: &Watched,
+        watched: &mut Watched,
+    ) -> bool
+        requires towards { IsTowards self.now }
+        requires leg { IsPlannedLeg self.now.situation.now leg.now }
+        requires path { IsPathIn self.now.situation.now leg.now path.now }
+        requires from { IsReady self.now.program.now from.now }
+        requires early { IsEarly (reached self.now.situation.now leg.now.index) from.now }
+        requires ready { IsReady self.now.program.now watched.old }
+        ensures ready { IsReady self.now.program.now watched.new }
+        ensures early { result ≡ false → IsEarly (reached self.now.situation.now (leg.now.index + 1)) watched.new }
+        ensures followed { IsFollowed self.now leg.now.plan (reached self.now.situation.now leg.now.index)
+            (reached self.now.situation.now (leg.now.index + 1)) from.now watched.new result }
+    {
+        watched.copy_from(from);
+        self.follow(leg, path, watched)
+    }
+}
