@@ -4,8 +4,8 @@ ghost use Rattle.scenario_keys.specs.declared.key.Key.{Key};
 ghost use Rattle.colregs_program.specs.FaultLines.{fault_line, is_made};
 
 use crate::status::{Status, Which};
-use situations::Unready;
 use scenario::{Cause, Key, ScenarioFault};
+use situations::Unready;
 use std::alloc::{AllocError, Global};
 
 /// A line for standard error, or nothing.

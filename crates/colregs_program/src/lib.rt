@@ -17,8 +17,8 @@ mod streaming;
 mod telling;
 
 pub use command_line::Mode;
-pub use situations::Unready;
 pub use program::run;
 pub use scenario::{Cause, Key, LogNumbers, Scenario, Window};
 pub use sessions::{Ending, Session, SessionFault};
+pub use situations::Unready;
 pub use status::{Status, Which};

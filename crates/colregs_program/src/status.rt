@@ -3,8 +3,8 @@ ghost use Rattle.std.specs.Prelude.{◌≡◌};
 ghost use Rattle.colregs_program.specs.FaultLines.{exit_status_of};
 
 use command_line::WordsFault;
-use situations::Unready;
 use scenario::{Cause, Key};
+use situations::Unready;
 
 /// What is limited.
 #[derive(Clone, Copy, Debug, PartialEq, Eq)]

@@ -27,9 +27,9 @@ use audit_report::{ReportRow, ReportText};
 use lattice::{Lattice, Plan};
 use log_lines::Judge;
 use outside::Memory;
-use situations::{Near, PrepareFault, Ready, prepare};
 use planner::Search;
 use scenario::Scenario;
+use situations::{Near, PrepareFault, Ready, prepare};
 use std::alloc::Global;
 use tracks::Book;
 
