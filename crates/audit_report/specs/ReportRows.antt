@@ -6,7 +6,7 @@ use Rattle.fixed_geometry.specs.declared.point.Point.{Point}
 use Rattle.sectors.specs.declared.class.Class.{Class}
 use Rattle.sectors.specs.declared.class.Class.TheVariants as class
 use Rattle.meetings.specs.declared.pair.Pair.{Pair}
-use Rattle.audit_traces.specs.declared.total.Total.{Total}
+use Rattle.auditor.specs.declared.total.Total.{Total}
 use Rattle.log_lines.specs.LineOutcomes.{outcome_name}
 use Rattle.log_lines.specs.declared.outcome.LineOutcome.{LineOutcome}
 use Rattle.audit_report.specs.CsvRows.{optional_decimal, row_of}

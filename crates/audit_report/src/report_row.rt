@@ -1,6 +1,6 @@
 //! One row of a report.
 use ais_messages::Text20;
-use audit_traces::Total;
+use auditor::Total;
 use fixed_geometry::Point;
 use log_lines::LineOutcome;
 use meetings::Pair;

@@ -6,7 +6,7 @@ ghost use Rattle.audit_report.specs.ReportRows.{kind_name, optional_name, report
 use crate::digits::{digits, optional_digits, short_digits, signed_digits};
 use crate::report_row::ReportRow;
 use ais_messages::Text20;
-use audit_traces::Total;
+use auditor::Total;
 use csv::{Writer, WriterBuilder};
 use fixed_geometry::Point;
 use itoa::Buffer;

@@ -2,21 +2,21 @@
 use Rattle.std.proofs.Common.{◌≡◌, ℕ, ◌+◌, List, [], ◌∷◌, ◌++◌, length, sym, subst, arith}
 use Rattle.std.specs.List.{Contains}
 use Rattle.mtl_formulas.specs.FormulaTree.{FormulaTree}
-use Rattle.meetings.specs.Atoms.{AreAtomRows}
 use Rattle.audit_rows.specs.Tracks.{EndAt, Track}
-use Rattle.audit_traces.specs.Audited.{AuditNumbers, terms_of}
-use Rattle.audit_traces.specs.TraceKeeping.{AreRuleMarksWhole, AreRuleTracks, AreTracks, Known, formulas_of}
+use Rattle.traces.specs.Audited.{AuditNumbers}
+use Rattle.traces.specs.Known.{Known}
+use Rattle.auditor.specs.TraceKeeping.{AreRuleMarksWhole, AreRuleTracks, AreTracks, formulas_of}
 use Rattle.auditor.specs.Inner.AuditKeeping.{AreTracksOfAll}
 use Rattle.auditor.specs.Inner.TracesKept.{IsAtStep}
-use Rattle.auditor.proofs.Members.{in_head, in_tail}
+use Rattle.traces.proofs.ForCallers.{in_head, in_tail}
 
 -- The trace has so many steps and rows that its next ones would be at this step.
 pub record EndsAt (end : ℕ) (known : Known) : Type 0 where
   pub steps : end ≡ known.start + length known.steps
   pub rows : end ≡ known.start + length known.trace
 
-pub last_step : (numbers : AuditNumbers) (end : ℕ) (known : Known) → IsAtStep end known → AreAtomRows (terms_of numbers) known.steps known.trace → EndsAt end known
-last_step numbers end known at rows = let count = rows.count in let is = at.0 in record { steps = is; rows = omega arith }
+pub last_step : (end : ℕ) (known : Known) → IsAtStep end known → length known.trace ≡ length known.steps → EndsAt end known
+last_step end known at count = let is = at.0 in record { steps = is; rows = omega arith }
 
 end_append : (end : ℕ) (xs ys : List Track) → EndAt end xs → EndAt end ys → EndAt end (xs ++ ys)
 end_append end [] ys h k = k

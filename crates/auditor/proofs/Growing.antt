@@ -1,34 +1,20 @@
--- As traces begin.
-use Rattle.std.proofs.Common.{◌≡◌, ℕ, suc, ◌+◌, ◌⊎◌, ◌↔◌, inl, inr, List, [], ◌∷◌, ◌++◌, length, map, append_assoc, append-nil, take, take_all, drop, refl, sym, ap, ap₂, subst, ◌∙◌, arith}
-use Rattle.std.specs.List.{AllByRecursion, AllZip, Contains}
-use Rattle.std.proofs.lemmas.List.{drop_all, map-append}
-use Rattle.std.proofs.lemmas.List.Elements.{Contains-append_left, Contains-append_right, Contains-append_cases}
+-- The tracks of traces that begin.
+use Rattle.std.proofs.Common.{◌≡◌, ℕ, ◌+◌, inl, inr, List, [], ◌∷◌, ◌++◌, length, map, append_assoc, append-nil, take, take_all, drop, refl, sym, ap, subst, ◌∙◌, arith}
+use Rattle.std.specs.List.{AllByRecursion, Contains}
+use Rattle.std.proofs.lemmas.List.{drop_all}
 use Rattle.mtl_formulas.specs.FormulaTree.{FormulaTree}
 use Rattle.mtl_monitor.specs.Traces.{Trace}
 use Rattle.rule_set.specs.NamedTrees.{NamedTree}
 use Rattle.meetings.specs.declared.pair.Pair.{Pair}
 use Rattle.audit_rows.specs.Tracks.{Track}
 use Rattle.audit_rows.specs.declared.mark.Mark.{Mark}
-use Rattle.audit_traces.specs.Audited.{AuditNumbers, Sighting}
-use Rattle.auditor.specs.Inner.AuditKeeping.{AreAllTracks, AreTracksOfAll, pairs_of}
-use Rattle.auditor.specs.Inner.TracesKept.{IsFollowed}
-use Rattle.audit_traces.specs.Tallies.{IsUnknown, begun_rules, begun_tracks, pair_of}
-use Rattle.audit_traces.specs.TraceKeeping.{AreRuleMarksSoFar, AreRuleTracks, AreTracks, AreTracksSoFar, Known, opened}
-use Rattle.auditor.proofs.Different.{in_map}
-use Rattle.auditor.proofs.Members.{in_cons, in_head, in_none, in_tail}
+use Rattle.traces.specs.Audited.{AuditNumbers}
+use Rattle.traces.specs.Known.{Known, opened, pairs_of}
+use Rattle.auditor.specs.Inner.AuditKeeping.{AreAllTracks, AreTracksOfAll}
+use Rattle.auditor.specs.Tallies.{IsUnknown, begun_rules, begun_tracks, pair_of}
+use Rattle.auditor.specs.TraceKeeping.{AreRuleMarksSoFar, AreRuleTracks, AreTracks, AreTracksSoFar}
+use Rattle.traces.proofs.ForCallers.{in_cons, in_head, in_map, in_tail}
 use Rattle.auditor.proofs.TracksOf.{found_rule, found_trace}
-
-pub zip_push : {X Y : Type 0} (R : X → Y → Type 0) (xs : List X) (ys : List Y) (x : X) (y : Y) → AllZip R xs ys → R x y → AllZip R (xs ++ x ∷ []) (ys ++ y ∷ [])
-zip_push R [] [] x y z r = (r, tt)
-zip_push R [] (w ∷ ws) x y z r = absurd z
-zip_push R (v ∷ vs) [] x y z r = absurd z
-zip_push R (v ∷ vs) (w ∷ ws) x y z r = (z.0, zip_push R vs ws x y z.1 r)
-
-pub zip_length : {X Y : Type 0} (R : X → Y → Type 0) (xs : List X) (ys : List Y) → AllZip R xs ys → length xs ≡ length ys
-zip_length R [] [] z = refl
-zip_length R [] (w ∷ ws) z = absurd z
-zip_length R (v ∷ vs) [] z = absurd z
-zip_length R (v ∷ vs) (w ∷ ws) z = ap suc (zip_length R vs ws z.1)
 
 -- ---- the tracks of a further trace
 
@@ -69,31 +55,6 @@ unknown numbers knowns tracks pair all new =
     let f = found_trace AreRuleMarksSoFar numbers knowns tracks track all i in
     let own = own_pair numbers f.known f.mine track f.tracks f.held in
     new (subst (λ (p : Pair). Contains (pairs_of knowns) p) (sym own ∙ e) (in_map (λ (k : Known). k.pair) knowns f.known f.among)))
-
--- ---- the pairs of further traces
-
-pub pairs_push : (knowns : List Known) (pair : Pair) (start : ℕ) → pairs_of (knowns ++ opened pair start ∷ []) ≡ pairs_of knowns ++ pair ∷ []
-pairs_push knowns pair start = map-append (λ (k : Known). k.pair) knowns (opened pair start ∷ [])
-
-pub pair_pushed : (knowns : List Known) (pair : Pair) (start : ℕ) (other : Pair) → Contains (pairs_of (knowns ++ opened pair start ∷ [])) other ↔ (Contains (pairs_of knowns) other ⊎ (pair ≡ other))
-pair_pushed knowns pair start other = (
-  λ i. elim (Contains-append_cases (pairs_of knowns) (pair ∷ []) other (subst (λ (ps : List Pair). Contains ps other) (pairs_push knowns pair start) i)) [
-    | inl there ↦ inl there
-    | inr last ↦ elim (in_cons pair [] other last) [ inl same ↦ inr same | inr none ↦ in_none other none ]
-  ],
-  λ h. subst (λ (ps : List Pair). Contains ps other) (sym (pairs_push knowns pair start)) (elim h [
-    | inl there ↦ Contains-append_left (pairs_of knowns) (pair ∷ []) other there
-    | inr same ↦ Contains-append_right (pairs_of knowns) (pair ∷ []) other (subst (λ (p : Pair). Contains (pair ∷ []) p) same (in_head pair []))
-  ]),
-)
-
--- ---- steps leave the pairs
-
-pub pairs_followed : (before seen : Sighting) (knowns after : List Known) → AllZip (IsFollowed before seen) knowns after → pairs_of after ≡ pairs_of knowns
-pairs_followed before seen [] [] z = refl
-pairs_followed before seen [] (k ∷ ks) z = absurd z
-pairs_followed before seen (k ∷ ks) [] z = absurd z
-pairs_followed before seen (k ∷ ks) (l ∷ ls) z = ap₂ (λ (p : Pair) (ps : List Pair). p ∷ ps) z.0.pair (pairs_followed before seen ks ls z.1)
 
 -- what a slice of all elements leaves when it is written
 pub whole_written : {X : Type 0} (n : ℕ) (xs ys : List X) → n ≡ length ys → length xs ≡ length ys → take n (xs ++ drop (length xs) ys) ≡ xs

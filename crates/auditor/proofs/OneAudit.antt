@@ -12,15 +12,13 @@ use Rattle.audit_rows.specs.Rows.{IsRow, IsRowOf}
 use Rattle.audit_rows.specs.Tracks.{Track}
 use Rattle.audit_rows.specs.declared.row.Row.{Row}
 use Rattle.audit_rows.proofs.ForCallers.{one_list}
-use Rattle.audit_traces.specs.Audited.{AuditNumbers, Sighting, terms_of, trace_steps}
-use Rattle.audit_traces.specs.AuditTracks.{IsTraceOf}
-use Rattle.audit_traces.specs.RuleCounts.{told}
-use Rattle.audit_traces.specs.declared.total.Total.{Total}
+use Rattle.traces.specs.Audited.{AuditNumbers, Sighting, terms_of, trace_steps}
+use Rattle.auditor.specs.AuditTracks.{IsTraceOf}
+use Rattle.auditor.specs.RuleCounts.{told}
+use Rattle.auditor.specs.declared.total.Total.{Total}
 use Rattle.auditor.specs.AuditRows.{AreAuditRows, IsAuditRow}
 use Rattle.auditor.specs.AuditTotals.{AreTotals, AreTraces, IsTotal, Traced, positions_with}
-use Rattle.auditor.proofs.Different.{different_from_map, from_map, same_sum}
-use Rattle.auditor.proofs.Members.{in_cons, in_head, in_none, in_tail}
-use Rattle.auditor.proofs.Ticks.{one_beginning}
+use Rattle.traces.proofs.ForCallers.{different_from_map, from_map, in_cons, in_head, in_none, in_tail, one_beginning, same_sum}
 
 module _ (numbers : AuditNumbers) (ticks : List Sighting) where
   -- ---- rows

@@ -9,12 +9,13 @@ use Rattle.audit_rows.specs.Tracks.{AreSettled, Track, next_step}
 use Rattle.audit_rows.specs.declared.mark.Mark.{Mark}
 use Rattle.audit_rows.specs.declared.row.Row.{Row}
 use Rattle.audit_rows.proofs.ForCallers.{in_rows, row_in, row_stays, row_was, row_within}
-use Rattle.auditor.proofs.Members.{in_cons, in_none}
-use Rattle.audit_traces.specs.Audited.{AuditNumbers, Sighting}
+use Rattle.traces.proofs.ForCallers.{in_cons, in_none}
+use Rattle.traces.specs.Audited.{AuditNumbers, Sighting}
+use Rattle.traces.specs.Known.{AreKnown, Known}
 use Rattle.auditor.specs.AuditRows.{AreAuditRows, AreAuditRowsBelow, IsAuditRow}
-use Rattle.audit_traces.specs.AuditTracks.{IsTrack}
-use Rattle.auditor.specs.Inner.AuditKeeping.{AreKnown, AreTracksOfAll}
-use Rattle.audit_traces.specs.TraceKeeping.{AreRuleMarksSoFar, AreRuleMarksWhole, Known}
+use Rattle.auditor.specs.AuditTracks.{IsTrack}
+use Rattle.auditor.specs.Inner.AuditKeeping.{AreTracksOfAll}
+use Rattle.auditor.specs.TraceKeeping.{AreRuleMarksSoFar, AreRuleMarksWhole}
 use Rattle.auditor.proofs.SameMarks.{go_on}
 use Rattle.auditor.proofs.TracksOf.{GoesOn, HaveRows, becomes, comes}
 

@@ -15,10 +15,10 @@ use Rattle.meetings.specs.SinceBeginning.{kind_of}
 use Rattle.audit_rows.specs.Stretches.{mark_at}
 use Rattle.audit_rows.specs.declared.mark.Mark.{Mark}
 use Rattle.audit_rows.specs.declared.mark.Mark.TheVariants.{Nothing, Broken, Undecided, Engaged}
-use Rattle.audit_traces.specs.AuditTracks.{IsKind, IsLeastSeparation, IsMeetingMark}
-use Rattle.audit_traces.specs.ValueMarks.{mark_of}
-use Rattle.audit_traces.specs.Audited.{AuditNumbers}
-use Rattle.audit_traces.specs.TraceKeeping.{AreMeetingMarksSoFar, AreRuleMarksSoFar, AreRuleMarksWhole}
+use Rattle.auditor.specs.AuditTracks.{IsKind, IsLeastSeparation, IsMeetingMark}
+use Rattle.auditor.specs.ValueMarks.{mark_of}
+use Rattle.traces.specs.Audited.{AuditNumbers}
+use Rattle.auditor.specs.TraceKeeping.{AreMeetingMarksSoFar, AreRuleMarksSoFar, AreRuleMarksWhole}
 
 -- ---- meetings
 

@@ -16,18 +16,19 @@ use Rattle.audit_rows.specs.declared.mark.Mark.{Mark}
 use Rattle.audit_rows.specs.declared.row.Row.{Row}
 use Rattle.audit_rows.specs.declared.topic.Topic.{Topic}
 use Rattle.audit_rows.specs.declared.topic.Topic.TheVariants as topic
-use Rattle.audit_traces.specs.Audited.{AuditNumbers, Sighting, terms_of}
+use Rattle.traces.specs.Audited.{AuditNumbers, Sighting, terms_of}
+use Rattle.traces.specs.Known.{AreKnown, Known, pairs_of}
 use Rattle.auditor.specs.AuditTotals.{AreTotals, AreTraces, IsTotal, Traced, is_value, positions_with}
-use Rattle.audit_traces.specs.AuditTracks.{IsTraceOf}
-use Rattle.auditor.specs.Inner.AuditKeeping.{AreKnown, AreTracksOfAll, pairs_of}
+use Rattle.auditor.specs.AuditTracks.{IsTraceOf}
+use Rattle.auditor.specs.Inner.AuditKeeping.{AreTracksOfAll}
 use Rattle.auditor.specs.Inner.TracesKept.{AreEnded}
-use Rattle.audit_traces.specs.RuleCounts.{told}
+use Rattle.auditor.specs.RuleCounts.{told}
 use Rattle.audit_rows.specs.MarkCounts.{is_broken, is_nothing, is_undecided}
-use Rattle.audit_traces.specs.Tallies.{Tallies, counted, is_of_rule, marks_in}
-use Rattle.audit_traces.specs.TraceKeeping.{AreRuleMarksWhole, AreRuleTracks, AreTracks, Known}
-use Rattle.audit_traces.specs.ValueMarks.{mark_of}
-use Rattle.audit_traces.specs.declared.total.Total.{Total}
-use Rattle.auditor.proofs.Different.{from_map}
+use Rattle.auditor.specs.Tallies.{Tallies, counted, is_of_rule, marks_in}
+use Rattle.auditor.specs.TraceKeeping.{AreRuleMarksWhole, AreRuleTracks, AreTracks}
+use Rattle.auditor.specs.ValueMarks.{mark_of}
+use Rattle.auditor.specs.declared.total.Total.{Total}
+use Rattle.traces.proofs.ForCallers.{from_map}
 use Rattle.auditor.proofs.TracksOf.{HaveRows}
 
 -- ---- the traces

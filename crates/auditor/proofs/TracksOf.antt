@@ -15,14 +15,13 @@ use Rattle.audit_rows.specs.Tracks.{Track}
 use Rattle.audit_rows.specs.declared.mark.Mark.{Mark}
 use Rattle.audit_rows.specs.declared.topic.Topic.{Topic}
 use Rattle.audit_rows.specs.declared.topic.Topic.TheVariants.{Meeting, Verdict}
-use Rattle.auditor.proofs.Members.{in_cons, in_head, in_none, in_tail}
-use Rattle.audit_traces.specs.Audited.{Begins, AuditNumbers, Sighting, terms_of, trace_steps}
-use Rattle.audit_traces.specs.AuditTracks.{AreMarksOf, AreMeetingMarks, AreRuleMarks, IsTrack}
-use Rattle.auditor.specs.Inner.AuditKeeping.{AreKnown, AreTracksOfAll, IsKnown}
-use Rattle.audit_traces.specs.TraceKeeping.{AreMeetingMarksSoFar, AreRuleMarksWhole, AreRuleTracks, AreTracks, IsMeetingTrack, IsRuleTrack, Known}
-use Rattle.auditor.proofs.Different.{from_map}
+use Rattle.traces.proofs.ForCallers.{from_map, in_cons, in_head, in_none, in_tail, one_beginning}
+use Rattle.traces.specs.Audited.{Begins, AuditNumbers, Sighting, terms_of, trace_steps}
+use Rattle.traces.specs.Known.{AreKnown, IsKnown, Known}
+use Rattle.auditor.specs.AuditTracks.{AreMarksOf, AreMeetingMarks, AreRuleMarks, IsTrack}
+use Rattle.auditor.specs.Inner.AuditKeeping.{AreTracksOfAll}
+use Rattle.auditor.specs.TraceKeeping.{AreMeetingMarksSoFar, AreRuleMarksWhole, AreRuleTracks, AreTracks, IsMeetingTrack, IsRuleTrack}
 use Rattle.auditor.proofs.SameMarks.{same_meeting_marks, same_rule_marks}
-use Rattle.auditor.proofs.Ticks.{one_beginning}
 
 track_of : Topic → ℕ → List Mark → Track
 track_of topic first marks = record { topic = topic; first = first; marks = marks }
@@ -126,6 +125,9 @@ module _ (AreMarks : FormulaTree → Trace → List Mark → Type 0) (numbers : 
 -- what is kept of each trace is its answers to the atoms
 abbrev pub HaveRows : AuditNumbers → List Known → Type 0
 HaveRows numbers knowns = (known : Known) → Contains knowns known → AreAtomRows (terms_of numbers) known.steps known.trace
+
+pub have_rows : (numbers : AuditNumbers) (ticks : List Sighting) (knowns : List Known) → AreKnown numbers ticks knowns → HaveRows numbers knowns
+have_rows numbers ticks knowns are known i = (are.each known i).rows
 
 module _ (Rest : List Mark → Type 0) (AreMarks : FormulaTree → Trace → List Mark → Type 0) (none : Rest [])
     (go_on : (tree : FormulaTree) (trace : Trace) (marks : List Mark) → AreMarks tree trace marks → GoesOn Rest tree trace marks)

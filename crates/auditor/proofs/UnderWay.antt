@@ -1,25 +1,33 @@
 -- As one trace after the other takes its step, or ends.
-use Rattle.std.proofs.Common.{◌≡◌, ℕ, suc, ◌+◌, ◌<◌, ◌≤◌, List, [], ◌∷◌, ◌++◌, length, length-append, get_or, set, drop, map, append_assoc, append-nil, refl, sym, ap, subst, ◌∙◌, arith}
-use Rattle.std.specs.List.{AllZip, Contains}
+use Rattle.std.proofs.Common.{◌≡◌, ◌≢◌, ℕ, suc, ◌+◌, ◌<◌, ◌≤◌, ◌^◌, List, [], ◌∷◌, ◌++◌, length, length-append, get_or, set, drop, map, append_assoc, append-nil, refl, sym, ap, subst, ◌∙◌, arith}
+use Rattle.std.specs.Prelude.{Option}
+use Rattle.std.specs.List.{AllPairs, AllZip, Contains}
 use Rattle.std.proofs.lemmas.List.{drop_more, drop_all, length-map}
 use Rattle.std.proofs.Common.{drop-set-lt}
+use Rattle.encounters.specs.declared.pair_step.PairStep.{PairStep}
 use Rattle.mtl_formulas.specs.FormulaTree.{FormulaTree}
 use Rattle.mtl_monitor.specs.Traces.{Trace}
 use Rattle.mtl_monitor.specs.Following.{IsProgramOf, count_of}
 use Rattle.mtl_monitor.specs.declared.program.Program.{Program}
+use Rattle.meetings.specs.Answers.{answer_of}
+use Rattle.meetings.specs.declared.pair.Pair.{Pair}
 use Rattle.rule_set.specs.NamedTrees.{NamedTree}
 use Rattle.audit_rows.specs.Tracks.{Track}
 use Rattle.audit_rows.specs.declared.mark.Mark.{Mark}
 use Rattle.audit_rows.specs.declared.row.Row.{Row}
-use Rattle.audit_traces.specs.Audited.{AuditNumbers, Sighting, step_of}
+use Rattle.traces.specs.Audited.{AuditNumbers, Sighting, last_sighting, step_of}
+use Rattle.traces.specs.Known.{AreOpened, IsFollowed, IsNextRow, Known, opened, pairs_of, watched}
+use Rattle.traces.specs.Standing.{StandsFor as TracesStandFor, latest_sighting, traces_of}
+use Rattle.traces.specs.declared.all_traces.AllTraces.{AllTraces}
+use Rattle.traces.specs.declared.followed_trace.NextRow.{NextRow}
+use Rattle.traces.proofs.ForCallers.{different_pairs, in_head, in_tail, known_count, zip_at, zip_length, zip_push, zip_set}
 use Rattle.auditor.specs.Inner.AuditKeeping.{AreAllTracks, AreTracksOfAll}
-use Rattle.auditor.specs.Inner.TracesKept.{AreFinished, AreStepped, IsAtStep, IsFollowed}
-use Rattle.audit_traces.specs.Tallies.{Keeps}
-use Rattle.audit_traces.specs.TraceKeeping.{AreRuleMarksSoFar, AreRuleMarksWhole, AreRuleTracks, AreTracks, AreTracksSoFar, HasTracksOf, Known, StandsFor, Steps, formulas_of, watched}
-use Rattle.audit_traces.specs.declared.marks.Marks.{Marks}
-use Rattle.audit_traces.specs.declared.trace.AuditTrace.{AuditTrace}
-use Rattle.auditor.proofs.Growing.{tracks_push, zip_length, zip_push}
-use Rattle.auditor.proofs.Members.{in_head, in_tail}
+use Rattle.auditor.specs.Inner.TracesKept.{AreFinished, AreStepped, Holds, IsAtStep}
+use Rattle.auditor.specs.Tallies.{Keeps}
+use Rattle.auditor.specs.TraceKeeping.{AreRuleMarksSoFar, AreRuleMarksWhole, AreRuleTracks, AreTracks, AreTracksSoFar, HasTracksOf, StandsFor, Steps, formulas_of}
+use Rattle.auditor.specs.declared.marks.Marks.{Marks}
+use Rattle.auditor.specs.declared.trace.AuditTrace.{AuditTrace}
+use Rattle.auditor.proofs.Growing.{tracks_push}
 
 -- ---- how many tracks a trace has
 
@@ -37,34 +45,21 @@ tracks_length AreMarks numbers known (meeting ∷ rules) h = let e = rules_lengt
 pub program_length : (program : Program) (numbers : AuditNumbers) → IsProgramOf program (formulas_of numbers) → count_of program ≡ length numbers.rules
 program_length program numbers is = is.of.count ∙ length-map numbers.rules (λ (r : NamedTree). r.tree)
 
--- ---- lists of traces and what they stand for
-
-module _ {X Y : Type 0} (R : X → Y → Type 0) where
-  pub zip_at : (xs : List X) (ys : List Y) (y : Y) (zs : List Y) (d : X) → AllZip R xs (ys ++ y ∷ zs) → R (get_or xs (length ys) d) y
-  zip_at [] [] y zs d z = absurd z
-  zip_at [] (w ∷ ws) y zs d z = absurd z
-  zip_at (x ∷ xs) [] y zs d z = z.0
-  zip_at (x ∷ xs) (w ∷ ws) y zs d z = zip_at xs ws y zs d z.1
-
-  pub zip_set : (xs : List X) (ys : List Y) (y : Y) (zs : List Y) (x' : X) (y' : Y) → AllZip R xs (ys ++ y ∷ zs) → R x' y' → AllZip R (set xs (length ys) x') (ys ++ y' ∷ zs)
-  zip_set [] [] y zs x' y' z r = absurd z
-  zip_set [] (w ∷ ws) y zs x' y' z r = absurd z
-  zip_set (x ∷ xs) [] y zs x' y' z r = (r, z.1)
-  zip_set (x ∷ xs) (w ∷ ws) y zs x' y' z r = (z.0, zip_set xs ws y zs x' y' z.1 r)
-
 -- ---- steps
 
-module _ (program : Program) (numbers : AuditNumbers) (before seen : Sighting) (step : ℕ) (knowns : List Known) (bound : ℕ) (given : List Row) where
+module _ (program : Program) (numbers : AuditNumbers) (ticks : List Sighting) (seen : Sighting) (step : ℕ) (knowns : List Known) (bound : ℕ) (given : List Row) where
   -- The first traces have taken their step, and the others have not.
-  pub record IsUnderWay (traces : List AuditTrace) (marks : Marks) (first index : ℕ) : Type 0 where
+  pub record IsUnderWay (kept : AllTraces) (values : List AuditTrace) (marks : Marks) (first index : ℕ) : Type 0 where
     pub front : List Known
     pub rest : List Known
     pub done : List Known
     pub parted : knowns ≡ front ++ rest
     pub count : length done ≡ index
-    pub followed : AllZip (IsFollowed before seen) front done
+    pub followed : AllZip (IsFollowed numbers (last_sighting ticks) seen) front done
     pub at : (known : Known) → Contains rest known → IsAtStep step known
-    pub stand : AllZip (StandsFor program numbers) traces (done ++ rest)
+    pub short : (known : Known) → Contains rest known → length known.steps < 2 ^ 31
+    pub traces : TracesStandFor kept numbers ticks (done ++ rest)
+    pub stand : AllZip (StandsFor program numbers) values (done ++ rest)
     pub mine : List Track
     pub others : List Track
     pub done_tracks : AreAllTracks numbers done mine
@@ -72,9 +67,9 @@ module _ (program : Program) (numbers : AuditNumbers) (before seen : Sighting) (
     pub first_is : first ≡ length mine
     pub keeps : Keeps marks (length numbers.rules) (mine ++ others) bound given
 
-  pub under_way_none : (traces : List AuditTrace) (marks : Marks) (tracks : List Track) → AllZip (StandsFor program numbers) traces knowns
-      → ((known : Known) → Contains knowns known → IsAtStep step known) → AreAllTracks numbers knowns tracks → Keeps marks (length numbers.rules) tracks bound given → IsUnderWay traces marks 0 0
-  under_way_none traces marks tracks z at all keeps = record {
+  pub under_way_none : (kept : AllTraces) (values : List AuditTrace) (marks : Marks) → TracesStandFor kept numbers ticks knowns → Holds program values marks numbers knowns bound given
+      → ((known : Known) → Contains knowns known → IsAtStep step known) → ((known : Known) → Contains knowns known → length known.steps < 2 ^ 31) → IsUnderWay kept values marks 0 0
+  under_way_none kept values marks traces h at short = record {
     front = [];
     rest = knowns;
     done = [];
@@ -82,35 +77,61 @@ module _ (program : Program) (numbers : AuditNumbers) (before seen : Sighting) (
     count = refl;
     followed = tt;
     at = at;
-    stand = z;
+    short = short;
+    traces = traces;
+    stand = h.stand;
     mine = [];
-    others = tracks;
+    others = h.tracks;
     done_tracks = refl;
-    rest_tracks = all;
+    rest_tracks = h.are_tracks;
     first_is = refl;
-    keeps = keeps;
+    keeps = h.keeps;
   }
 
-  -- what the step of a trace comes to
-  abbrev pub StepsIt : AuditTrace → AuditTrace → Marks → Marks → ℕ → Type 0
-  StepsIt trace after marks marks' first =
-      (numbers : AuditNumbers) (known : Known) (front mine back : List Track) (bound : ℕ) (given : List Row) → StandsFor program numbers trace known → IsAtStep step known → AreTracksSoFar numbers known mine
-      → first ≡ length front → Keeps marks (length numbers.rules) (front ++ mine ++ back) bound given → Steps program numbers after known (step_of known.pair before seen) marks' front back bound given
+  -- what the next row of a trace is, and what the trace then stands for
+  abbrev pub GivesRow : AllTraces → AllTraces → ℕ → NextRow → Type 0
+  GivesRow kept kept' index next =
+      (front : List Known) (known : Known) (back : List Known) → TracesStandFor kept numbers ticks (front ++ known ∷ back) → index ≡ length front → length known.steps < 2 ^ 31
+      → IsNextRow numbers known (step_of known.pair (last_sighting ticks) seen) next
+      × TracesStandFor kept' numbers ticks (front ++ watched known (step_of known.pair (last_sighting ticks) seen) (answer_of next.row) ∷ back)
 
-  module _ (traces : List AuditTrace) (marks marks' : Marks) (first index tracks : ℕ) (d after : AuditTrace) (is : IsProgramOf program (formulas_of numbers)) (many : tracks ≡ count_of program + 1)
-      (within : index < length traces) (it : StepsIt (get_or traces index d) after marks marks' first) where
-    by_rest : (front rest done : List Known) (mine others : List Track) → knowns ≡ front ++ rest → length done ≡ index → AllZip (IsFollowed before seen) front done
-        → ((known : Known) → Contains rest known → IsAtStep step known) → AllZip (StandsFor program numbers) traces (done ++ rest) → AreAllTracks numbers done mine → AreAllTracks numbers rest others
-        → first ≡ length mine → Keeps marks (length numbers.rules) (mine ++ others) bound given → IsUnderWay (set traces index after) marks' (first + tracks) (index + 1)
-    by_rest front [] done mine others parted count followed at stand all all_rest is_first keeps =
-        let many_traces = zip_length (StandsFor program numbers) traces (done ++ []) stand in
+  -- as the call says it, by the vessels seen at the latest tick
+  pub gives_row : (kept kept' : AllTraces) (index : ℕ) (next : NextRow)
+      → ((numbers : AuditNumbers) (ticks : List Sighting) (front : List Known) (known : Known) (back : List Known) → TracesStandFor kept numbers ticks (front ++ known ∷ back) → index ≡ length front
+      → length known.steps < 2 ^ 31 → IsNextRow numbers known (step_of known.pair (latest_sighting kept) seen) next)
+      → ((numbers : AuditNumbers) (ticks : List Sighting) (front : List Known) (known : Known) (back : List Known) → TracesStandFor kept numbers ticks (front ++ known ∷ back) → index ≡ length front
+      → length known.steps < 2 ^ 31 → TracesStandFor kept' numbers ticks (front ++ watched known (step_of known.pair (latest_sighting kept) seen) (answer_of next.row) ∷ back))
+      → GivesRow kept kept' index next
+  gives_row kept kept' index next row stands front known back h e short = (
+    subst (λ (s : Sighting). IsNextRow numbers known (step_of known.pair s seen) next) h.latest (row numbers ticks front known back h e short),
+    subst (λ (s : Sighting). TracesStandFor kept' numbers ticks (front ++ watched known (step_of known.pair s seen) (answer_of next.row) ∷ back)) h.latest (stands numbers ticks front known back h e short),
+  )
+
+  -- what the step of a trace comes to
+  abbrev pub StepsIt : AuditTrace → AuditTrace → NextRow → Marks → Marks → ℕ → Type 0
+  StepsIt trace after next marks marks' first =
+      (numbers : AuditNumbers) (known : Known) (seen : Option PairStep) (front mine back : List Track) (bound : ℕ) (given : List Row) → StandsFor program numbers trace known
+      → step ≡ known.start + length known.steps → IsNextRow numbers known seen next → AreTracksSoFar numbers known mine → first ≡ length front
+      → Keeps marks (length numbers.rules) (front ++ mine ++ back) bound given → Steps program numbers after known seen (answer_of next.row) marks' front back bound given
+
+  module _ (kept kept' : AllTraces) (values : List AuditTrace) (marks marks' : Marks) (first index tracks : ℕ) (d after : AuditTrace) (next : NextRow)
+      (is : IsProgramOf program (formulas_of numbers)) (many : tracks ≡ count_of program + 1) (within : index < length values)
+      (gives : GivesRow kept kept' index next) (it : StepsIt (get_or values index d) after next marks marks' first) where
+    by_rest : (front rest done : List Known) (mine others : List Track) → knowns ≡ front ++ rest → length done ≡ index → AllZip (IsFollowed numbers (last_sighting ticks) seen) front done
+        → ((known : Known) → Contains rest known → IsAtStep step known) → ((known : Known) → Contains rest known → length known.steps < 2 ^ 31)
+        → TracesStandFor kept numbers ticks (done ++ rest) → AllZip (StandsFor program numbers) values (done ++ rest) → AreAllTracks numbers done mine → AreAllTracks numbers rest others
+        → first ≡ length mine → Keeps marks (length numbers.rules) (mine ++ others) bound given → IsUnderWay kept' (set values index after) marks' (first + tracks) (index + 1)
+    by_rest front [] done mine others parted count followed at short traces stand all all_rest is_first keeps =
+        let many_traces = zip_length (StandsFor program numbers) values (done ++ []) stand in
         absurd (omega (arith, length-append done []))
-    by_rest front (k ∷ ks) done mine others parted count followed at stand all (its, more, rest_all) is_first keeps =
-        let old : StandsFor program numbers (get_or traces index d) k = subst (λ (n : ℕ). StandsFor program numbers (get_or traces n d) k) count (zip_at (StandsFor program numbers) traces done k ks d stand) in
+    by_rest front (k ∷ ks) done mine others parted count followed at short traces stand all (its, more, rest_all) is_first keeps =
+        let step_seen : Option PairStep = step_of k.pair (last_sighting ticks) seen in
+        let old : StandsFor program numbers (get_or values index d) k = subst (λ (n : ℕ). StandsFor program numbers (get_or values n d) k) count (zip_at (StandsFor program numbers) values done k ks d stand) in
         let before_keeps : Keeps marks (length numbers.rules) (mine ++ its ++ more) bound given =
         subst (λ (ts : List Track). Keeps marks (length numbers.rules) ts bound given) (ap (λ (ts : List Track). mine ++ ts) rest_all.0.whole ∙ sym (append_assoc mine its more)) keeps in
-        let s = it numbers k mine its more bound given old (at k (in_head k ks)) rest_all.1 is_first before_keeps in
-        let after_known : Known = watched k (step_of k.pair before seen) s.answers in
+        let row = gives done k ks traces (sym count) (short k (in_head k ks)) in
+        let s = it numbers k step_seen mine its more bound given old (at k (in_head k ks)).0 row.0 rest_all.1 is_first before_keeps in
+        let after_known : Known = watched k step_seen (answer_of next.row) in
         let length_mine : length s.mine ≡ length numbers.rules + 1 = tracks_length AreRuleMarksSoFar numbers after_known s.mine s.tracks in
         let of_program : count_of program ≡ length numbers.rules = program_length program numbers is in
         record {
@@ -119,11 +140,13 @@ module _ (program : Program) (numbers : AuditNumbers) (before seen : Sighting) (
           done = done ++ after_known ∷ [];
           parted = parted ∙ sym (append_assoc front (k ∷ []) ks);
           count = omega (arith, length-append done (after_known ∷ []));
-          followed = zip_push (IsFollowed before seen) front done k after_known followed (record { pair = refl; start = refl; steps = refl });
+          followed = zip_push (IsFollowed numbers (last_sighting ticks) seen) front done k after_known followed (record { answers = answer_of next.row; is = refl; row = row.0.row });
           at = λ known i. at known (in_tail k ks known i);
-          stand = subst (λ (ys : List Known). AllZip (StandsFor program numbers) (set traces index after) ys) (sym (append_assoc done (after_known ∷ []) ks))
-              (subst (λ (n : ℕ). AllZip (StandsFor program numbers) (set traces n after) (done ++ after_known ∷ ks)) count
-              (zip_set (StandsFor program numbers) traces done k ks after after_known stand s.stands));
+          short = λ known i. short known (in_tail k ks known i);
+          traces = subst (λ (ys : List Known). TracesStandFor kept' numbers ticks ys) (sym (append_assoc done (after_known ∷ []) ks)) row.1;
+          stand = subst (λ (ys : List Known). AllZip (StandsFor program numbers) (set values index after) ys) (sym (append_assoc done (after_known ∷ []) ks))
+              (subst (λ (n : ℕ). AllZip (StandsFor program numbers) (set values n after) (done ++ after_known ∷ ks)) count
+              (zip_set (StandsFor program numbers) values done k ks after after_known stand s.stands));
           mine = mine ++ s.mine;
           others = more;
           done_tracks = tracks_push AreRuleMarksSoFar numbers done after_known mine s.mine all s.tracks;
@@ -132,27 +155,92 @@ module _ (program : Program) (numbers : AuditNumbers) (before seen : Sighting) (
           keeps = s.keeps;
         }
 
-    pub under_way_more : IsUnderWay traces marks first index → IsUnderWay (set traces index after) marks' (first + tracks) (index + 1)
-    under_way_more u = by_rest u.front u.rest u.done u.mine u.others u.parted u.count u.followed u.at u.stand u.done_tracks u.rest_tracks u.first_is u.keeps
+    pub under_way_more : IsUnderWay kept values marks first index → IsUnderWay kept' (set values index after) marks' (first + tracks) (index + 1)
+    under_way_more u = by_rest u.front u.rest u.done u.mine u.others u.parted u.count u.followed u.at u.short u.traces u.stand u.done_tracks u.rest_tracks u.first_is u.keeps
 
   -- all have taken it
-  all_by_rest : (traces : List AuditTrace) (marks : Marks) (index : ℕ) (front rest done : List Known) (mine others : List Track) → knowns ≡ front ++ rest → length done ≡ index → AllZip (IsFollowed before seen) front done
-      → AllZip (StandsFor program numbers) traces (done ++ rest) → AreAllTracks numbers done mine → AreAllTracks numbers rest others
-      → Keeps marks (length numbers.rules) (mine ++ others) bound given → length traces ≤ index → AreStepped program numbers before seen traces knowns marks bound given
-  all_by_rest traces marks index front (k ∷ ks) done mine others parted count followed stand all all_rest keeps past =
-      let many_traces = zip_length (StandsFor program numbers) traces (done ++ k ∷ ks) stand in
+  all_by_rest : (kept : AllTraces) (values : List AuditTrace) (marks : Marks) (index : ℕ) (front rest done : List Known) (mine others : List Track) → knowns ≡ front ++ rest → length done ≡ index
+      → AllZip (IsFollowed numbers (last_sighting ticks) seen) front done → TracesStandFor kept numbers ticks (done ++ rest)
+      → AllZip (StandsFor program numbers) values (done ++ rest) → AreAllTracks numbers done mine → AreAllTracks numbers rest others
+      → Keeps marks (length numbers.rules) (mine ++ others) bound given → length values ≤ index → AreStepped program numbers ticks seen kept values knowns marks bound given
+  all_by_rest kept values marks index front (k ∷ ks) done mine others parted count followed traces stand all all_rest keeps past =
+      let many_traces = zip_length (StandsFor program numbers) values (done ++ k ∷ ks) stand in
       absurd (omega (arith, length-append done (k ∷ ks)))
-  all_by_rest traces marks index front [] done mine others parted count followed stand all all_rest keeps past = record {
+  all_by_rest kept values marks index front [] done mine others parted count followed traces stand all all_rest keeps past = record {
     after = done;
-    followed = subst (λ (xs : List Known). AllZip (IsFollowed before seen) xs done) (sym (parted ∙ append-nil front)) followed;
-    stand = subst (λ (ys : List Known). AllZip (StandsFor program numbers) traces ys) (append-nil done) stand;
-    tracks = mine;
-    are_tracks = all;
-    keeps = subst (λ (ts : List Track). Keeps marks (length numbers.rules) ts bound given) (ap (λ (ts : List Track). mine ++ ts) all_rest ∙ append-nil mine) keeps;
+    followed = subst (λ (xs : List Known). AllZip (IsFollowed numbers (last_sighting ticks) seen) xs done) (sym (parted ∙ append-nil front)) followed;
+    stands = subst (λ (ys : List Known). TracesStandFor kept numbers ticks ys) (append-nil done) traces;
+    holds = record {
+      stand = subst (λ (ys : List Known). AllZip (StandsFor program numbers) values ys) (append-nil done) stand;
+      tracks = mine;
+      are_tracks = all;
+      keeps = subst (λ (ts : List Track). Keeps marks (length numbers.rules) ts bound given) (ap (λ (ts : List Track). mine ++ ts) all_rest ∙ append-nil mine) keeps;
+    };
   }
 
-  pub under_way_all : (traces : List AuditTrace) (marks : Marks) (first index : ℕ) → IsUnderWay traces marks first index → length traces ≤ index → AreStepped program numbers before seen traces knowns marks bound given
-  under_way_all traces marks first index u past = all_by_rest traces marks index u.front u.rest u.done u.mine u.others u.parted u.count u.followed u.stand u.done_tracks u.rest_tracks u.keeps past
+  pub under_way_all : (kept : AllTraces) (values : List AuditTrace) (marks : Marks) (first index : ℕ) → IsUnderWay kept values marks first index → length values ≤ index
+      → AreStepped program numbers ticks seen kept values knowns marks bound given
+  under_way_all kept values marks first index u past = all_by_rest kept values marks index u.front u.rest u.done u.mine u.others u.parted u.count u.followed u.traces u.stand u.done_tracks u.rest_tracks u.keeps past
+
+-- ---- traces begin
+
+module _ (program : Program) (numbers : AuditNumbers) (knowns new : List Known) (start bound : ℕ) (given : List Row) where
+  -- The first of the new traces have begun, and the others have not.
+  pub record AreBeginning (values : List AuditTrace) (marks : Marks) : Type 0 where
+    pub done : List Known
+    pub rest : List Known
+    pub parted : new ≡ done ++ rest
+    pub opened : AreOpened start rest
+    pub held : Holds program values marks numbers (knowns ++ done) bound given
+
+  pub beginning_none : (values : List AuditTrace) (marks : Marks) → Holds program values marks numbers knowns bound given → AreOpened start new → AreBeginning values marks
+  beginning_none values marks h opened = record {
+    done = [];
+    rest = new;
+    parted = refl;
+    opened = opened;
+    held = subst (λ (ks : List Known). Holds program values marks numbers ks bound given) (sym (append-nil knowns)) h;
+  }
+
+  module _ (values : List AuditTrace) (marks : Marks) (kept : AllTraces) (ticks : List Sighting) (traces : TracesStandFor kept numbers ticks (knowns ++ new)) where
+    held_count : (done : List Known) → Holds program values marks numbers (knowns ++ done) bound given → length values ≡ length (knowns ++ done)
+    held_count done h = zip_length (StandsFor program numbers) values (knowns ++ done) h.stand
+
+    all_count : (done rest : List Known) → new ≡ done ++ rest → traces_of kept ≡ length (knowns ++ done) + length rest
+    all_count done rest e =
+        known_count kept numbers ticks (knowns ++ new) traces
+        ∙ (ap length (ap (λ (ks : List Known). knowns ++ ks) e ∙ sym (append_assoc knowns done rest)) ∙ length-append (knowns ++ done) rest)
+
+    pub beginning_all : traces_of kept ≤ length values → AreBeginning values marks → Holds program values marks numbers (knowns ++ new) bound given
+    beginning_all past b = by_rest b.done b.rest b.parted b.held
+      where
+        by_rest : (done rest : List Known) → new ≡ done ++ rest → Holds program values marks numbers (knowns ++ done) bound given → Holds program values marks numbers (knowns ++ new) bound given
+        by_rest done [] e h = subst (λ (ks : List Known). Holds program values marks numbers (knowns ++ ks) bound given) (sym (e ∙ append-nil done)) h
+        by_rest done (k ∷ ks) e h = absurd (let all = all_count done (k ∷ ks) e in let some = held_count done h in omega arith)
+
+    module _ (values' : List AuditTrace) (marks' : Marks) (once : AllPairs ◌≢◌ (pairs_of (knowns ++ new))) (index : ℕ) (pair : Pair) (at : length values ≡ index) (within : index < traces_of kept)
+        (is : (front : List Known) (known : Known) (back : List Known) → TracesStandFor kept numbers ticks (front ++ known ∷ back) → index ≡ length front → pair ≡ known.pair)
+        (it : (knowns : List Known) → Holds program values marks numbers knowns bound given → (Contains (pairs_of knowns) pair → ⊥)
+        → Holds program values' marks' numbers (knowns ++ opened pair start ∷ []) bound given) where
+      pub begin_more : AreBeginning values marks → AreBeginning values' marks'
+      begin_more b = by_rest b.done b.rest b.parted b.opened b.held
+        where
+          by_rest : (done rest : List Known) → new ≡ done ++ rest → AreOpened start rest → Holds program values marks numbers (knowns ++ done) bound given → AreBeginning values' marks'
+          by_rest done [] e all h = absurd (let count = all_count done [] e in let some = held_count done h in omega arith)
+          by_rest done (k ∷ ks) e all h =
+              let parted : knowns ++ new ≡ (knowns ++ done) ++ k ∷ ks = ap (λ (ks : List Known). knowns ++ ks) e ∙ sym (append_assoc knowns done (k ∷ ks)) in
+              let same : pair ≡ k.pair = is (knowns ++ done) k ks (subst (λ (ys : List Known). TracesStandFor kept numbers ticks ys) parted traces) (sym at ∙ held_count done h) in
+              let here : opened pair start ≡ k = ap (λ (p : Pair). opened p start) same ∙ sym all.0 in
+              let fresh : Contains (pairs_of (knowns ++ done)) pair → ⊥ =
+              λ i. different_pairs (knowns ++ done) k ks (subst (λ (ys : List Known). AllPairs ◌≢◌ (pairs_of ys)) parted once) (subst (λ (p : Pair). Contains (pairs_of (knowns ++ done)) p) same i) in
+              record {
+                done = done ++ k ∷ [];
+                rest = ks;
+                parted = e ∙ sym (append_assoc done (k ∷ []) ks);
+                opened = all.1;
+                held = subst (λ (ys : List Known). Holds program values' marks' numbers ys bound given) (append_assoc knowns done (k ∷ []))
+                    (subst (λ (m : Known). Holds program values' marks' numbers ((knowns ++ done) ++ m ∷ []) bound given) here (it (knowns ++ done) h fresh));
+              }
 
 -- ---- ends
 
@@ -170,19 +258,18 @@ module _ (program : Program) (numbers : AuditNumbers) (knowns : List Known) (bou
     pub first_is : first ≡ length mine
     pub keeps : Keeps marks (length numbers.rules) (mine ++ others) bound given
 
-  pub ending_none : (traces : List AuditTrace) (marks : Marks) (tracks : List Track) → AllZip (StandsFor program numbers) traces knowns
-      → AreAllTracks numbers knowns tracks → Keeps marks (length numbers.rules) tracks bound given → IsEnding traces marks 0 0
-  ending_none traces marks tracks z all keeps = record {
+  pub ending_none : (traces : List AuditTrace) (marks : Marks) → Holds program traces marks numbers knowns bound given → IsEnding traces marks 0 0
+  ending_none traces marks h = record {
     front = [];
     rest = knowns;
     parted = refl;
-    stand = z;
+    stand = h.stand;
     mine = [];
-    others = tracks;
+    others = h.tracks;
     done_tracks = refl;
-    rest_tracks = all;
+    rest_tracks = h.are_tracks;
     first_is = refl;
-    keeps = keeps;
+    keeps = h.keeps;
   }
 
   abbrev pub EndsIt : AuditTrace → Marks → Marks → ℕ → Type 0

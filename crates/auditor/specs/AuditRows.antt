@@ -5,8 +5,8 @@ use Rattle.audit_rows.specs.Order.{InOrder, last_step_of}
 use Rattle.audit_rows.specs.Rows.{IsRowOf}
 use Rattle.audit_rows.specs.Tracks.{Track}
 use Rattle.audit_rows.specs.declared.row.Row.{Row}
-use Rattle.audit_traces.specs.Audited.{AuditNumbers, Sighting}
-use Rattle.audit_traces.specs.AuditTracks.{IsTrack}
+use Rattle.traces.specs.Audited.{AuditNumbers, Sighting}
+use Rattle.auditor.specs.AuditTracks.{IsTrack}
 
 module _ (numbers : AuditNumbers) (ticks : List Sighting) where
   -- The row tells of a maximal stretch in what stands at the positions of some trace.

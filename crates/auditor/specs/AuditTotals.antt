@@ -8,10 +8,10 @@ use Rattle.mtl_monitor.specs.Traces.{Trace, value_in}
 use Rattle.rule_set.specs.NamedTrees.{rule_at}
 use Rattle.meetings.specs.declared.pair.Pair.{Pair}
 use Rattle.audit_rows.specs.declared.row.Row.{Row}
-use Rattle.audit_traces.specs.RuleCounts.{is_run_of, told}
-use Rattle.audit_traces.specs.Audited.{Begins, AuditNumbers, Sighting}
-use Rattle.audit_traces.specs.AuditTracks.{IsTraceOf}
-use Rattle.audit_traces.specs.declared.total.Total.{Total}
+use Rattle.auditor.specs.RuleCounts.{is_run_of, told}
+use Rattle.traces.specs.Audited.{Begins, AuditNumbers, Sighting}
+use Rattle.auditor.specs.AuditTracks.{IsTraceOf}
+use Rattle.auditor.specs.declared.total.Total.{Total}
 
 -- ---- the traces
 

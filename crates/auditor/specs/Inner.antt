@@ -1,2 +1,5 @@
+pub mod Counting
+pub mod TrackCounts
+pub mod RowAnswers
 pub mod AuditKeeping
 pub mod TracesKept

@@ -1,11 +1,13 @@
 -- What an audit stands for: its numbers, the vessels seen at the ticks that it was given, and the rows that it has given.
-use Rattle.std.specs.Prelude.{ℕ, ◌≡◌, ◌≢◌, ◌+◌, ◌-◌, ◌<◌, ◌≤◌, List, length, All, AllPairs}
-use Rattle.mtl_monitor.specs.Following.{greatest_reach}
-use Rattle.meetings.specs.declared.pair.Pair.{Pair}
+use Rattle.std.specs.Prelude.{ℕ, ◌≡◌, ◌+◌, ◌-◌, ◌≤◌, List, length, All}
+use Rattle.mtl_monitor.specs.Following.{IsProgramOf, count_of, greatest_reach}
 use Rattle.audit_rows.specs.declared.row.Row.{Row}
-use Rattle.audit_traces.specs.Audited.{AreAscending, ArePlaced, Begins, AuditNumbers, Sighting, last_sighting}
-use Rattle.auditor.specs.Inner.TracesKept.{AreReady, HoldsNow}
-use Rattle.audit_traces.specs.TraceKeeping.{formulas_of}
+use Rattle.traces.specs.Audited.{AuditNumbers, Sighting}
+use Rattle.traces.specs.Known.{AreKnown, Known}
+use Rattle.traces.specs.Standing as followed
+use Rattle.auditor.specs.Inner.TracesKept.{Holds, IsReady}
+use Rattle.auditor.specs.Tallies.{rules_of}
+use Rattle.auditor.specs.TraceKeeping.{formulas_of}
 use Rattle.auditor.specs.declared.audit.Audit.{Audit}
 
 -- how many positions ahead the farthest of the rules looks
@@ -21,38 +23,29 @@ settled_by numbers k = k - (audit_reach numbers + 1)
 
 -- how many ticks it was given, and how many the window has
 abbrev pub given_of : Audit → ℕ
-given_of audit = audit.given
+given_of audit = followed.given_of audit.traces
 
 abbrev pub last_tick_of : Audit → ℕ
-last_tick_of audit = audit.last_tick
+last_tick_of audit = followed.last_tick_of audit.traces
 
 -- the vessels seen at the latest tick
 abbrev pub latest_sighting : Audit → Sighting
-latest_sighting audit = audit.latest.items
+latest_sighting audit = followed.latest_sighting audit.traces
 
 -- ---- what each call finds and leaves, whatever it stands for
 
 pub record IsSound (audit : Audit) : Type 0 where
-  pub ready : AreReady audit.traces (audit.given - 1)
-  pub window : audit.last_tick ≤ 20000
-  pub given : audit.given ≤ audit.last_tick + 1
-  pub ascending : AreAscending audit.latest.items
-  pub placed : ArePlaced audit.latest.items
+  pub traces : followed.IsSound audit.traces
+  pub rules : count_of audit.program ≤ 17
+  pub totals : rules_of audit.marks ≡ count_of audit.program
+  pub many : length audit.values.items ≡ followed.traces_of audit.traces
+  pub ready : All (IsReady audit.program (given_of audit)) audit.values.items
 
 -- ---- what it stands for
 
 pub record StandsFor (audit : Audit) (numbers : AuditNumbers) (ticks : List Sighting) (given : List Row) : Type 0 where
-  pub last_tick : audit.last_tick ≡ numbers.last_tick
-  pub subjects : audit.subjects.items ≡ numbers.subjects
-  pub count : audit.given ≡ length ticks
-  pub latest : audit.latest.items ≡ last_sighting ticks
-  pub traces : HoldsNow audit.traces numbers ticks (settled_by numbers (length ticks - 1)) given
-
--- ---- the limit of traces
-
--- More traces begin at these ticks than this number.
-pub record HaveMoreThan (most : ℕ) (numbers : AuditNumbers) (ticks : List Sighting) : Type 0 where
-  pub pairs : List Pair
-  pub many : most < length pairs
-  pub once : AllPairs ◌≢◌ pairs
-  pub begin : All (λ pair. (start : ℕ) × Begins numbers ticks pair start) pairs
+  pub program : IsProgramOf audit.program (formulas_of numbers)
+  pub knowns : List Known
+  pub are_known : AreKnown numbers ticks knowns
+  pub traces : followed.StandsFor audit.traces numbers ticks knowns
+  pub holds : Holds audit.program audit.values.items audit.marks numbers knowns (settled_by numbers (length ticks - 1)) given

@@ -1,140 +1,42 @@
-//! All traces of a window, tick by tick.
-ghost use Rattle.std.specs.Prelude.{◌≡◌, ◌+◌, ◌-◌, ◌<◌, ◌≤◌, ◌++◌, ◌∷◌, [], ℕ, List, length, map, IfErr, IfOk, OnOk, Err};
+//! The audit of a window, tick by tick.
+ghost use Rattle.std.specs.Prelude.{◌≡◌, ◌+◌, ◌<◌, ◌≤◌, ◌++◌, ◌∷◌, [], ℕ, List, length, map, IfOk, OnOk, Err};
 ghost use Rattle.encounters.specs.Risk.{IsDetect};
 ghost use Rattle.mtl_monitor.specs.Following.{IsProgramOf, count_of};
 ghost use Rattle.rule_set.specs.NamedTrees.{NamedTree};
 ghost use Rattle.audit_rows.specs.declared.row.Row.{Row};
-ghost use Rattle.audit_traces.specs.Audited.{AreAscending, ArePlaced, MoveLittle, AuditNumbers, Sighting, last_sighting};
+ghost use Rattle.traces.specs.Audited.{AreAscending, ArePlaced, MoveLittle, AuditNumbers, Sighting};
+ghost use Rattle.traces.specs.Standing.{HaveMoreThan};
+ghost use Rattle.traces.specs.declared.all_traces.TheConstants.{MOST_TRACES};
+ghost use Rattle.traces.specs.declared.fault.TickFault.TheVariants.{TooManyPairs};
 ghost use Rattle.auditor.specs.AuditRows.{AreAuditRows, AreAuditRowsBelow};
 ghost use Rattle.auditor.specs.AuditTotals.{AreTotals};
-ghost use Rattle.auditor.specs.Inner.TracesKept.{AreReady, HoldsNow, HoldsOn, IsNextTick};
-ghost use Rattle.auditor.specs.Standing.{HaveMoreThan, IsSound, StandsFor, given_of, last_tick_of, latest_sighting, settled_by};
-ghost use Rattle.auditor.specs.declared.all_traces.TheConstants.{MOST_TRACES};
-ghost use Rattle.auditor.specs.declared.fault.AuditFault.TheVariants.{TooManyPairs};
+ghost use Rattle.auditor.specs.Standing.{IsSound, StandsFor, given_of, last_tick_of, latest_sighting, settled_by};
 
-use crate::all_traces::AllTraces;
-use crate::fault::AuditFault;
+use crate::each_trace::{begin_each, end_each, follow_each};
+use crate::marks::Marks;
+use crate::total::Total;
+use crate::trace::AuditTrace;
 use audit_rows::Row;
-use audit_traces::Total;
 use encounters::{Act, Detect};
 use motion::TickState;
 use mtl_monitor::Program;
 use outside::Memory;
+use rule_program::program_of;
 use rule_set::RuleSet;
 use scenario::Window;
 use std::alloc::Global;
-
-/// The formulas of all rules as one program.
-fn program_of(alloc: Global, rules: &RuleSet) -> Result<Program, Memory>
-    ensures few { IfOk result (λ program. count_of program ≤ 17) }
-    ensures formulas { IfOk result (λ program. IsProgramOf program (map (λ (rule : NamedTree). rule.tree) rules.now)) }
-{
-    let mut program = Program::new(alloc);
-    for rule in 0..rules.len() {
-        program = program.with(rules.formula(rule))?;
-    }
-    Ok(program)
-}
-
-/// Takes the step of each trace from the latest tick to this one, if there was one before.
-fn follow(
-    traces: &mut AllTraces,
-    latest: &[(u32, TickState)],
-    seen: &[(u32, TickState)],
-    given: u32,
-) -> Result<(), Memory>
-    requires latest_ascending { AreAscending latest.now }
-    requires latest_placed { ArePlaced latest.now }
-    requires ascending { AreAscending seen.now }
-    requires placed { ArePlaced seen.now }
-    requires moves { MoveLittle latest.now seen.now }
-    requires few { given ≤ 20000 }
-    requires ready { AreReady traces.old (given - 1) }
-    ensures ready { OnOk result (AreReady traces.new given) }
-    ensures holds { OnOk result ((numbers : AuditNumbers) (ticks : List Sighting) (bound : ℕ) (rows : List Row) → given ≡ length ticks
-        → latest.now ≡ last_sighting ticks → HoldsNow traces.old numbers ticks bound rows
-        → HoldsOn traces.new numbers ticks seen.now bound rows) }
-{
-    if given == 0 {
-        return Ok(());
-    }
-    traces.follow(latest, seen, given - 1)
-}
-
-/// Begins the traces of the pairs that are in contact for the first time, before the last tick.
-fn begin(
-    traces: &mut AllTraces,
-    subjects: &[u32],
-    seen: &[(u32, TickState)],
-    given: u32,
-    last_tick: u32,
-) -> Result<(), AuditFault>
-    requires ascending { AreAscending seen.now }
-    requires placed { ArePlaced seen.now }
-    requires few { last_tick ≤ 20000 }
-    requires ready { AreReady traces.old given }
-    ensures ready { OnOk result (AreReady traces.new given) }
-    ensures holds { OnOk result ((numbers : AuditNumbers) (ticks : List Sighting) (bound : ℕ) (rows : List Row)
-        → IsNextTick numbers ticks subjects.now last_tick given bound → HoldsOn traces.old numbers ticks seen.now bound rows
-        → HoldsNow traces.new numbers (ticks ++ seen.now ∷ []) bound rows) }
-    ensures many { result ≡ Err TooManyPairs → (numbers : AuditNumbers) (ticks : List Sighting) (bound : ℕ) (rows : List Row)
-        → IsNextTick numbers ticks subjects.now last_tick given bound → HoldsOn traces.old numbers ticks seen.now bound rows
-        → HaveMoreThan MOST_TRACES numbers (ticks ++ seen.now ∷ []) }
-{
-    if last_tick <= given {
-        return Ok(());
-    }
-    traces.begin_all(subjects, seen, given)
-}
-
-/// Takes both steps of a tick.
-fn take(
-    traces: &mut AllTraces,
-    subjects: &[u32],
-    latest: &[(u32, TickState)],
-    seen: &[(u32, TickState)],
-    given: u32,
-    last_tick: u32,
-) -> Result<(), AuditFault>
-    requires latest_ascending { AreAscending latest.now }
-    requires latest_placed { ArePlaced latest.now }
-    requires ascending { AreAscending seen.now }
-    requires placed { ArePlaced seen.now }
-    requires moves { MoveLittle latest.now seen.now }
-    requires few { given ≤ 20000 }
-    requires window { last_tick ≤ 20000 }
-    requires ready { AreReady traces.old (given - 1) }
-    ensures ready { OnOk result (AreReady traces.new given) }
-    ensures holds { OnOk result ((numbers : AuditNumbers) (ticks : List Sighting) (bound : ℕ) (rows : List Row)
-        → IsNextTick numbers ticks subjects.now last_tick given bound → latest.now ≡ last_sighting ticks
-        → HoldsNow traces.old numbers ticks bound rows → HoldsNow traces.new numbers (ticks ++ seen.now ∷ []) bound rows) }
-    ensures many { result ≡ Err TooManyPairs → (numbers : AuditNumbers) (ticks : List Sighting) (bound : ℕ) (rows : List Row)
-        → IsNextTick numbers ticks subjects.now last_tick given bound → latest.now ≡ last_sighting ticks
-        → HoldsNow traces.old numbers ticks bound rows → HaveMoreThan MOST_TRACES numbers (ticks ++ seen.now ∷ []) }
-{
-    follow(traces, latest, seen, given)?;
-    begin(traces, subjects, seen, given, last_tick)
-}
-
-/// Puts these vessels in the place of those seen before.
-fn replace(latest: &mut Vec<(u32, TickState)>, seen: &[(u32, TickState)]) -> Result<(), Memory>
-    ensures { OnOk result (latest.new.items ≡ seen.now) }
-{
-    latest.clear();
-    latest.extend_from_slice(seen)?;
-    Ok(())
-}
+use traces::{AllTraces, TickFault};
 
 /// The audit of a window. It stands for the vessels seen at the ticks that it was given, and for the rows that it has given.
 #[derive(Drop)]
 pub struct Audit {
-    last_tick: u32,
-    subjects: Vec<u32>,
+    alloc: Global,
+    /// The formulas of all rules.
+    program: Program,
     traces: AllTraces,
-    /// The vessels seen at the latest tick.
-    latest: Vec<(u32, TickState)>,
-    /// How many ticks were given.
-    given: u32,
+    /// The values of the formulas over each trace, in the order of the traces.
+    values: Vec<AuditTrace>,
+    marks: Marks,
 }
 
 /// What the end of the window brings: the rows that were not given before, and the total of each rule.
@@ -168,19 +70,20 @@ impl Audit {
         }) [] []) }
     {
         let program = program_of(alloc, rules)?;
+        let marks = Marks::new(alloc, program.formula_count())?;
         Ok(Audit {
-            last_tick: window.ticks,
-            subjects: subjects.to_vec(alloc)?,
-            traces: AllTraces::new(alloc, program, detect, act, window.tick)?,
-            latest: Vec::new(alloc),
-            given: 0,
+            alloc,
+            program,
+            traces: AllTraces::new(alloc, detect, act, subjects, window.tick, window.ticks)?,
+            values: Vec::new(alloc),
+            marks,
         })
     }
 
     /// Takes the next tick, of whose vessels these are seen, in the order of their MMSIs, and gives the further rows of the
     /// report: after call `k`, counted from 0, all rows whose last step is at most `k - R - 2` were given, where `R` is the greatest
     /// reach of a rule's formula. After an `Err` the audit may only be dropped.
-    pub fn step(&mut self, seen: &[(u32, TickState)]) -> Result<Vec<Row>, AuditFault>
+    pub fn step(&mut self, seen: &[(u32, TickState)]) -> Result<Vec<Row>, TickFault>
         requires sound { IsSound self.old }
         requires ascending { AreAscending seen.now }
         requires placed { ArePlaced seen.now }
@@ -200,21 +103,26 @@ impl Audit {
         ensures few { OnOk result ((numbers : AuditNumbers) (ticks : List Sighting) (given : List Row) → StandsFor self.old numbers ticks given
             → HaveMoreThan MOST_TRACES numbers (ticks ++ seen.now ∷ []) → ⊥) }
     {
-        take(
+        let given = self.traces.given();
+        follow_each(
             &mut self.traces,
-            &self.subjects,
-            &self.latest,
+            &mut self.values,
+            &self.program,
+            &mut self.marks,
             seen,
-            self.given,
-            self.last_tick,
+            given.saturating_sub(1),
         )?;
-        replace(&mut self.latest, seen)?;
-        let bound = self
-            .given
-            .saturating_sub(self.traces.reach())
-            .saturating_sub(1);
-        self.given += 1;
-        Ok(self.traces.rows_below(bound)?)
+        self.traces.tick(seen)?;
+        begin_each(
+            self.alloc,
+            &self.traces,
+            &mut self.values,
+            &self.program,
+            &mut self.marks,
+            given,
+        )?;
+        let bound = given.saturating_sub(self.program.reach()).saturating_sub(1);
+        Ok(self.marks.rows_below(bound)?)
     }
 
     /// Ends the audit, after the last tick of the window: the rows that were not given yet, and one total for each rule.
@@ -226,7 +134,15 @@ impl Audit {
         ensures totals { IfOk result (λ end. (numbers : AuditNumbers) (ticks : List Sighting) (given : List Row) → StandsFor self numbers ticks given
             → AreTotals numbers ticks (given ++ end.rows.items) end.totals.items) }
     {
-        let (rows, totals) = self.traces.end(self.last_tick)?;
+        let Audit {
+            program,
+            traces,
+            mut values,
+            mut marks,
+            ..
+        } = self;
+        end_each(&mut values, &program, &mut marks)?;
+        let (rows, totals) = marks.finish(traces.last_tick())?;
         Ok(AuditEnd { rows, totals })
     }
 }

@@ -1,8 +1,14 @@
-//! Laws of an audit's rows and totals, which stand over the definitions alone.
-ghost use Rattle.std.specs.Prelude.{◌≡◌, List};
+//! Laws of an audit's rows and totals, and of the rules' values over traces, which stand over the definitions alone.
+ghost use Rattle.std.specs.Prelude.{ℕ, ◌≡◌, List, Option};
+ghost use Rattle.encounters.specs.declared.pair_step.PairStep.{PairStep};
+ghost use Rattle.meetings.specs.Atoms.{AreAtomRows};
+ghost use Rattle.meetings.specs.Terms.{Terms};
+ghost use Rattle.mtl_monitor.specs.Traces.{Trace, value_in};
+ghost use Rattle.rule_set.specs.RuleTrees.{passes_safely};
+ghost use Rattle.rule_set.specs.declared.numbers.Safe.TheVariants.{One, PerKind};
 ghost use Rattle.audit_rows.specs.declared.row.Row.{Row};
-ghost use Rattle.audit_traces.specs.Audited.{AuditNumbers, Sighting};
-ghost use Rattle.audit_traces.specs.declared.total.Total.{Total};
+ghost use Rattle.traces.specs.Audited.{AuditNumbers, Sighting};
+ghost use Rattle.auditor.specs.declared.total.Total.{Total};
 ghost use Rattle.auditor.specs.AuditRows.{AreAuditRows};
 ghost use Rattle.auditor.specs.AuditTotals.{AreTotals};
 
@@ -16,4 +22,12 @@ pub fn one_list_of_rows()
 pub fn one_list_of_totals()
     ensures { (numbers : AuditNumbers) (ticks : List Sighting) (rows : List Row) (totals others : List Total) → AreTotals numbers ticks rows totals
         → AreTotals numbers ticks rows others → totals ≡ others }
+{}
+
+/// Passing at a safe distance (Rule 8(d)) with four equal distances, one per kind of encounter, is the same at every position
+/// as with that one distance.
+pub fn equal_distances_are_one()
+    ensures { (terms : Terms) (steps : List (Option PairStep)) (trace : Trace) (metres i : ℕ) →
+        AreAtomRows terms steps trace →
+        value_in trace (passes_safely (PerKind metres metres metres metres)) i ≡ value_in trace (passes_safely (One metres)) i }
 {}

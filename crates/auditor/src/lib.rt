@@ -5,14 +5,17 @@
 //! further tick can change it.
 #![tactic(auto)]
 
-mod all_traces;
 mod audit;
-mod fault;
-mod known_pairs;
+mod counting;
+mod each_trace;
 pub mod laws;
+mod marks;
+mod total;
+mod trace;
 
-pub use all_traces::MOST_TRACES;
 pub use audit::{Audit, AuditEnd};
 pub use audit_rows::Row;
-pub use audit_traces::Total;
-pub use fault::AuditFault;
+pub use marks::Marks;
+pub use total::Total;
+pub use trace::AuditTrace;
+pub use traces::{MOST_TRACES, TickFault as AuditFault};

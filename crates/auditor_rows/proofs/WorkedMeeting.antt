@@ -7,7 +7,7 @@ use Rattle.fixed_geometry.specs.Sizes.{IsBelow}
 use Rattle.motion.specs.Displacement.{displacement}
 use Rattle.motion.specs.declared.leg.TickState.{TickState}
 use Rattle.meetings.specs.Traces.{IsShortMove}
-use Rattle.audit_traces.specs.Audited.{MoveLittle, Sighting}
+use Rattle.traces.specs.Audited.{MoveLittle, Sighting}
 use Rattle.auditor_rows.specs.WorkedMeeting.{head_on_at}
 
 pub from_none : (seen : Sighting) → MoveLittle [] seen

@@ -1,6 +1,6 @@
 -- The worked head-on meeting: the two vessels at a tick.
 use Rattle.std.specs.Prelude.{ℕ, ◌*◌, [], ◌∷◌, Some, pos, neg_ℤ, ◌-ℤ◌}
-use Rattle.audit_traces.specs.Audited.{Sighting}
+use Rattle.traces.specs.Audited.{Sighting}
 
 abbrev pub head_on_at : ℕ → Sighting
 head_on_at k =

@@ -1,12 +1,11 @@
 //! Whole audits of a few vessels.
 ghost use Rattle.std.specs.Prelude.{ℤ, ◌≡◌, ◌+◌, ◌*◌, ◌<◌, ◌≤◌, ◌-ℤ◌, pos, [], IfOk, OnOk};
-ghost use Rattle.audit_traces.specs.Audited.{AreAscending, ArePlaced, MoveLittle};
+ghost use Rattle.traces.specs.Audited.{AreAscending, ArePlaced, MoveLittle};
 ghost use Rattle.auditor_rows.specs.WorkedMeeting.{head_on_at};
 ghost use Rattle.auditor.specs.Standing.{IsSound, given_of, last_tick_of, latest_sighting};
 
 use audit_rows::Row;
-use audit_traces::Total;
-use auditor::{Audit, AuditEnd, AuditFault};
+use auditor::{Audit, AuditEnd, AuditFault, Total};
 use encounters::{Act, Detect};
 use fixed_geometry::Point;
 use meetings::Pair;
@@ -17,7 +16,7 @@ use sectors::{Angles, Class};
 use std::alloc::Global;
 use std::test::Fail;
 
-const DETECT: Detect = Detect {
+pub(crate) const DETECT: Detect = Detect {
     watch: 50_000_000,
     risk: 5_000_000,
     clear: 10_000_000,
@@ -29,7 +28,7 @@ const DETECT: Detect = Detect {
     },
 };
 
-const ACT: Act = Act {
+pub(crate) const ACT: Act = Act {
     steady_turn: 50,
     apparent_turn: 200,
     steady_speed: 10,
@@ -47,9 +46,9 @@ const NUMBERS: RuleNumbers = RuleNumbers {
     te: 600,
 };
 
-const OWN: u32 = 369_190_000;
+pub(crate) const OWN: u32 = 369_190_000;
 
-const OTHER: u32 = 477_553_000;
+pub(crate) const OTHER: u32 = 477_553_000;
 
 /// An audit of so many ticks of 10 seconds, by the eleven rules.
 fn audit(alloc: Global, ticks: u32) -> Result<Audit, Fail>
@@ -85,7 +84,7 @@ fn other_north(k: u32) -> i64
 }
 
 /// Two vessels that meet head-on at 18 knots each, 18.52 metres aside of each other, at a tick.
-fn head_on(k: u32) -> [(u32, TickState); 2]
+pub(crate) fn head_on(k: u32) -> [(u32, TickState); 2]
     requires { k ≤ 40 }
     ensures { result ≡ head_on_at k }
 {

@@ -2,15 +2,15 @@
 ghost use Rattle.std.specs.Prelude.{◌≡◌, ◌≤◌, ◌^◌, length, IfOk};
 ghost use Rattle.encounters.specs.Directions.{HasDirection};
 ghost use Rattle.fixed_geometry.specs.Sizes.{IsBelow};
-ghost use Rattle.audit_traces.specs.Audited.{AreAscending, ArePlaced};
+ghost use Rattle.traces.specs.Audited.{AreAscending, ArePlaced};
 
-use audit_traces::{contacts, state_of};
 use fixed_geometry::Point;
 use meetings::{Pair, contact};
 use motion::TickState;
 use outside::Memory;
 use std::alloc::Global;
 use std::test::Fail;
+use traces::{contacts, state_of};
 
 fn vessel(mmsi: u32, x: i32, y: i32) -> (u32, TickState)
     ensures mmsi { result.0 ≡ mmsi }

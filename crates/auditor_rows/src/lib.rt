@@ -4,6 +4,10 @@
 #[cfg(test)]
 mod audits;
 #[cfg(test)]
+mod beginnings;
+#[cfg(test)]
+mod compared;
+#[cfg(test)]
 mod contacts;
 #[cfg(test)]
 mod marks;

@@ -1,6 +1,6 @@
 //! The marks of traces, their rows and their totals.
 use audit_rows::{Mark, Row};
-use audit_traces::{Marks, Total};
+use auditor::{Marks, Total};
 use meetings::Pair;
 use sectors::Class;
 use std::test::Fail;

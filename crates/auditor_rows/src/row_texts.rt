@@ -1,6 +1,6 @@
 //! Each kind of row as text, by the worked reports.
 use audit_report::{ReportRow, row_bytes};
-use audit_traces::Total;
+use auditor::Total;
 use fixed_geometry::Point;
 use log_lines::LineOutcome;
 use meetings::Pair;

@@ -4,16 +4,17 @@ ghost use Rattle.encounters.specs.Directions.{HasDirection, HaveDirections};
 ghost use Rattle.mtl_monitor.specs.Following.{count_of};
 
 use audit_rows::Row;
-use audit_traces::{AuditTrace, Marks, Total};
+use auditor::{AuditTrace, Marks, Total};
 use encounters::{Act, Detect, PairStep};
 use fixed_geometry::Point;
-use meetings::Pair;
+use meetings::{Follower, Pair};
 use motion::{Step, TickState};
 use mtl_formulas::parse;
 use mtl_monitor::Program;
 use sectors::{Angles, Class};
 use std::alloc::Global;
 use std::test::Fail;
+use traces::NextRow;
 
 const DETECT: Detect = Detect {
     watch: 50_000_000,
@@ -69,6 +70,16 @@ fn head_on(ahead: i64) -> Option<PairStep>
     })
 }
 
+/// What the next step brings.
+fn next(follower: &mut Follower, seen: Option<PairStep>) -> NextRow
+    requires { IfSome seen HaveDirections }
+{
+    let was = follower.state();
+    let row = follower.step(seen.as_ref());
+    let is = follower.state();
+    NextRow { seen, row, was, is }
+}
+
 /// Whether the vessels are engaged, and whether they are so within two steps, at a tick of 10 seconds.
 fn two_rules(alloc: Global) -> Result<Program, Fail>
     ensures { IfOk result (λ program. count_of program ≡ 2) }
@@ -84,12 +95,15 @@ fn an_engagement_that_ends_at_the_last_step(rt: HostRuntime) -> Result<(), Fail>
     let program = two_rules(alloc)?;
     let mut marks = Marks::new(alloc, 2)?;
     marks.begin(PAIR)?;
-    let mut trace = AuditTrace::new(alloc, &program, PAIR, 5, DETECT, ACT, 10)?;
-    assert_eq!(rt; trace.pair(), PAIR);
+    let mut trace = AuditTrace::new(alloc, &program, 5)?;
+    let mut follower = Follower::new(DETECT, ACT, 10);
     // They pass at the end of the first step, are 1111 metres past each other at the end of the second, and are clear in the third.
-    trace.step(&program, head_on(1_852_000).as_ref(), 5, &mut marks, 0)?;
-    trace.step(&program, head_on(-9_260_000).as_ref(), 6, &mut marks, 0)?;
-    trace.step(&program, head_on(-11_112_000).as_ref(), 7, &mut marks, 0)?;
+    let row = next(&mut follower, head_on(1_852_000));
+    trace.step(&program, &row, 5, &mut marks, 0)?;
+    let row = next(&mut follower, head_on(-9_260_000));
+    trace.step(&program, &row, 6, &mut marks, 0)?;
+    let row = next(&mut follower, head_on(-11_112_000));
+    trace.step(&program, &row, 7, &mut marks, 0)?;
     trace.end(&program, &mut marks, 0)?;
     let (rows, totals) = marks.finish(8)?;
     assert_eq!(rt;
@@ -148,7 +162,7 @@ fn a_trace_of_no_steps_has_no_rows(rt: HostRuntime) -> Result<(), Fail> {
     let program = two_rules(alloc)?;
     let mut marks = Marks::new(alloc, 2)?;
     marks.begin(PAIR)?;
-    let mut trace = AuditTrace::new(alloc, &program, PAIR, 5, DETECT, ACT, 10)?;
+    let mut trace = AuditTrace::new(alloc, &program, 5)?;
     trace.end(&program, &mut marks, 0)?;
     let (rows, _totals) = marks.finish(5)?;
     assert_eq!(rt; rows.len(), 0);

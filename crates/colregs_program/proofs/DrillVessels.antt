@@ -27,8 +27,8 @@ use Rattle.motion.specs.declared.leg.Leg.{Leg}
 use Rattle.motion.specs.declared.leg.TickState.{TickState}
 use Rattle.meetings.specs.Traces.{AreInContact}
 use Rattle.meetings.specs.declared.pair.Pair.{Pair}
-use Rattle.audit_traces.specs.Audited.{Begins, AuditNumbers, Sighting, seen_state_at, state_in}
-use Rattle.auditor.specs.Standing.{HaveMoreThan}
+use Rattle.traces.specs.Audited.{Begins, AuditNumbers, Sighting, seen_state_at, state_in}
+use Rattle.traces.specs.Standing.{HaveMoreThan}
 use Rattle.scenario.specs.Ticks.{time_of_tick}
 use Rattle.command_line.specs.declared.mode.Mode.{Mode}
 use Rattle.command_line.specs.declared.mode.Mode.TheVariants as mode

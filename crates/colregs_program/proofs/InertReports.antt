@@ -6,7 +6,7 @@ use Rattle.std.proofs.lemmas.List.Sums.{sum_by-append, sum_by-cons}
 use Rattle.aivdm.specs.declared.sentence.LineCause.{LineCause}
 use Rattle.auditor.specs.AuditRows.{AreAuditRows}
 use Rattle.auditor.specs.AuditTotals.{AreTotals}
-use Rattle.audit_traces.specs.Audited.{Sighting}
+use Rattle.traces.specs.Audited.{Sighting}
 use Rattle.command_line.specs.declared.mode.Mode.{Mode}
 use Rattle.command_line.specs.declared.mode.Mode.TheVariants as mode
 use Rattle.log_lines.specs.EachLine.{each_after}

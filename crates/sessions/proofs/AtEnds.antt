@@ -3,7 +3,7 @@ use Rattle.std.proofs.Common.{ℕ, ◌≡◌, ◌++◌, List, append_assoc, sym,
 use Rattle.std.proofs.lemmas.Grind.{flat_map-append}
 use Rattle.audit_report.specs.CsvRows.{row_of}
 use Rattle.audit_rows.specs.declared.row.Row.{Row}
-use Rattle.audit_traces.specs.declared.total.Total.{Total}
+use Rattle.auditor.specs.declared.total.Total.{Total}
 use Rattle.auditor.specs.AuditRows.{AreAuditRows}
 use Rattle.auditor.specs.AuditTotals.{AreTotals}
 use Rattle.log_lines.specs.LogLines.{lines_of}

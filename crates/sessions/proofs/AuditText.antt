@@ -1,16 +1,16 @@
 -- The whole report of an audit, and why there is none.
 use Rattle.std.proofs.Common.{ℕ, ◌≡◌, ◌++◌, false, refl, List, append_assoc, ap, ap₂, ◌∙◌}
 use Rattle.audit_rows.specs.declared.row.Row.{Row}
-use Rattle.audit_traces.specs.declared.total.Total.{Total}
-use Rattle.auditor.specs.Standing.{HaveMoreThan}
+use Rattle.auditor.specs.declared.total.Total.{Total}
+use Rattle.traces.specs.Standing.{HaveMoreThan}
 use Rattle.log_lines.specs.JudgedLines.{is_crowded, numbers_of}
 use Rattle.log_lines.specs.LogLines.{lines_of}
 use Rattle.scenario.specs.declared.values.Scenario.{Scenario}
 use Rattle.tracks.specs.VesselsHeld.{Sent}
 use Rattle.sessions.specs.AuditReport.{sightings_of, stretch_rows, total_rows, vessel_rows}
 use Rattle.settling.specs.SettledTicks.{greatest_traces}
-use Rattle.auditor.specs.declared.fault.AuditFault.{AuditFault}
-use Rattle.auditor.specs.declared.fault.AuditFault.TheVariants as audit
+use Rattle.traces.specs.declared.fault.TickFault.{TickFault as AuditFault}
+use Rattle.traces.specs.declared.fault.TickFault.TheVariants as audit
 use Rattle.sessions.specs.Inner.Faults.{EndCause, auditing_fault}
 use Rattle.sessions.proofs.Meeting.{too_many_drilled, too_many_traces}
 use Rattle.command_line.specs.declared.mode.Mode.TheVariants as mode

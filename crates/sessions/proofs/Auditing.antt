@@ -14,8 +14,8 @@ use Rattle.audit_report.specs.CsvRows.{row_of}
 use Rattle.audit_report.specs.ReportRows.{Fields}
 use Rattle.audit_report.specs.ReportTexts.{HasText}
 use Rattle.audit_report.specs.declared.report_text.ReportText.{ReportText}
-use Rattle.audit_traces.specs.AuditTracks.{AreMarksOf}
-use Rattle.audit_traces.specs.Audited.{AuditNumbers, Sighting}
+use Rattle.auditor.specs.AuditTracks.{AreMarksOf}
+use Rattle.traces.specs.Audited.{AuditNumbers, Sighting}
 use Rattle.auditor.specs.AuditRows.{AreAuditRows, IsAuditRow}
 use Rattle.log_lines.specs.SentLines.{sent}
 use Rattle.rule_set.specs.NamedTrees.{NamedTree}

@@ -1,7 +1,7 @@
 -- There is one report.
 use Rattle.std.proofs.Common.{ℕ, ◌≡◌, List, ◌++◌, sym, ap, ap₂, subst, subst₂, ◌∙◌}
 use Rattle.audit_rows.specs.declared.row.Row.{Row}
-use Rattle.audit_traces.specs.declared.total.Total.{Total}
+use Rattle.auditor.specs.declared.total.Total.{Total}
 use Rattle.auditor.specs.AuditTotals.{AreTotals}
 use Rattle.auditor.proofs.ForCallers.{one_list_of_rows, one_list_of_totals}
 use Rattle.scenario.specs.declared.values.Scenario.{Scenario}

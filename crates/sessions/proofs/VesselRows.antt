@@ -8,7 +8,7 @@ use Rattle.std.proofs.Math.ListN.{get_or}
 use Rattle.audit_report.specs.CsvRows.{row_of}
 use Rattle.ais_messages.specs.declared.message.ShipData.{ShipData}
 use Rattle.audit_report.specs.ReportRows.{total_fields, vessel_fields}
-use Rattle.audit_traces.specs.declared.total.Total.{Total}
+use Rattle.auditor.specs.declared.total.Total.{Total}
 use Rattle.rule_set.specs.NamedTrees.{NamedTree, rule_at}
 use Rattle.tracks.specs.AcceptedReports.{JudgingNumbers}
 use Rattle.tracks.specs.VesselsHeld.{Sent, held_of}

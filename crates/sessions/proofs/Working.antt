@@ -26,8 +26,8 @@ use Rattle.sessions.specs.Standing.{IsDone, mode_by}
 use Rattle.sessions.specs.Inner.Working.{GoesOn}
 use Rattle.sessions.specs.declared.work.Work.{Work}
 use Rattle.sessions.specs.declared.work.Work.TheVariants as work
-use Rattle.auditor.specs.declared.fault.AuditFault.{AuditFault}
-use Rattle.auditor.specs.declared.fault.AuditFault.TheVariants as audit_fault
+use Rattle.traces.specs.declared.fault.TickFault.{TickFault as AuditFault}
+use Rattle.traces.specs.declared.fault.TickFault.TheVariants as audit_fault
 use Rattle.sessions.specs.Inner.Faults.{auditing_fault}
 use Rattle.sessions.specs.declared.session_fault.SessionFault.TheVariants as why
 use Rattle.sessions.proofs.TakingLines.{rows_push}

@@ -6,8 +6,8 @@ use Rattle.audit_report.specs.CsvRows.{row_of}
 use Rattle.audit_report.specs.ReportRows.{Fields, meeting_fields, total_fields, verdict_fields, vessel_fields}
 use Rattle.audit_rows.specs.declared.row.Row.{Row}
 use Rattle.audit_rows.specs.declared.row.Row.TheVariants as row
-use Rattle.audit_traces.specs.Audited.{Sighting}
-use Rattle.audit_traces.specs.declared.total.Total.{Total}
+use Rattle.traces.specs.Audited.{Sighting}
+use Rattle.auditor.specs.declared.total.Total.{Total}
 use Rattle.auditor.specs.AuditRows.{AreAuditRows}
 use Rattle.auditor.specs.AuditTotals.{AreTotals}
 use Rattle.log_lines.specs.JudgedLines.{judged_lines, numbers_of}

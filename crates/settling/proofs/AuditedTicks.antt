@@ -1,14 +1,15 @@
 -- Ticks audited one after the other, as lines settle them.
 use Rattle.std.proofs.Common.{ℕ, zero, suc, ◌≡◌, ◌+◌, ◌-◌, ◌<◌, ◌≤◌, ◌⊎◌, inl, inr, List, [], ◌∷◌, ◌++◌, append_assoc, append-nil, length, take, drop, refl, sym, ap, ap₂, subst, ◌∙◌, arith}
-use Rattle.std.specs.Prelude.{Result, Err, IsErrAnd, ◌↔◌}
+use Rattle.std.specs.Prelude.{◌↔◌}
 use Rattle.std.specs.List.{Contains}
 use Rattle.std.specs.List.Sorted.{IsStrictlySortedBy}
 use Rattle.std.proofs.lemmas.List.{take-append-drop}
 use Rattle.std.proofs.lemmas.List.FromFn.{take-map-range_with_len}
 use Rattle.audit_rows.specs.declared.row.Row.{Row}
-use Rattle.audit_traces.specs.Audited.{Begins, AuditNumbers, Sighting}
+use Rattle.traces.specs.Audited.{Begins, AuditNumbers, Sighting}
 use Rattle.auditor.specs.AuditRows.{AreAuditRowsBelow}
-use Rattle.auditor.specs.Standing.{HaveMoreThan, IsSound, StandsFor as AuditStandsFor, given_of, last_tick_of, settled_by}
+use Rattle.traces.specs.Standing.{HaveMoreThan}
+use Rattle.auditor.specs.Standing.{IsSound, StandsFor as AuditStandsFor, given_of, last_tick_of, settled_by}
 use Rattle.auditor.proofs.ForCallers.{more_stay}
 use Rattle.log_lines.specs.JudgedLines.{numbers_of}
 use Rattle.log_lines.specs.LineTimes.{clock_of, greatest}
@@ -28,10 +29,6 @@ use Rattle.tracks.specs.SeenVessels.{seen_of}
 
 lt_or_le : (m n : ℕ) → (m < n) ⊎ (n ≤ m)
 lt_or_le m n = grind arith
-
--- the fault that a `?` hands on
-pub same_fault : {T E : Type 0} (r : Result T E) (x t : E) → IsErrAnd r (λ e. e ≡ x) → r ≡ Err t → t ≡ x
-same_fault {T} {E} r x t h e = subst (λ (s : Result T E). IsErrAnd s (λ z. z ≡ x)) e h
 
 -- ---- before the first tick
 
@@ -58,8 +55,8 @@ before_all audit scenario none sound stands = record {
   settled = λ i. ((λ h. absurd (none_settled scenario i h)), (λ lt. absurd (omega (arith, none))));
   audited = record {
     sound = sound;
-    next = stands.count ∙ sym none;
-    last = stands.last_tick;
+    next = stands.traces.count ∙ sym none;
+    last = stands.traces.last_tick;
     stands = rw none stands;
     rows = rw none (no_rows (audit_numbers scenario));
     few = rw none (none_begin (audit_numbers scenario));
@@ -93,7 +90,7 @@ module _ (scenario : Scenario) where
       let ticks = seen_first scenario (sent scenario lines) old.next in
       let grown : ticks ++ seen ∷ [] ≡ seen_first scenario (sent scenario lines) new.next =
       ap (λ (s : Sighting). ticks ++ s ∷ []) told ∙ first_push scenario (sent scenario lines) old.next ∙ ap (seen_first scenario (sent scenario lines)) (sym next) in
-      let were : length ticks ≡ new.next - 1 = (let a = up.stands.count in let b = up.next in omega (arith, a, b, next)) in
+      let were : length ticks ≡ new.next - 1 = (let a = up.stands.traces.count in let b = up.next in omega (arith, a, b, next)) in
       record {
         sound = sound;
         next = count ∙ ap (λ (n : ℕ). n + 1) up.next ∙ sym next;

@@ -5,7 +5,7 @@ use Rattle.std.specs.List.{Contains}
 use Rattle.std.proofs.lemmas.List.FromFn.{get_or-map-range_with_len, length-map-range_with_len}
 use Rattle.audit_rows.specs.Order.{InOrder, last_step_of, sort_key_of}
 use Rattle.audit_rows.specs.declared.row.Row.{Row}
-use Rattle.audit_traces.specs.Audited.{Sighting}
+use Rattle.traces.specs.Audited.{Sighting}
 use Rattle.auditor.specs.AuditRows.{AreAuditRows, AreAuditRowsBelow, IsAuditRow}
 use Rattle.auditor.specs.Standing.{audit_reach, settled_by}
 use Rattle.log_lines.specs.JudgedLines.{numbers_of}

@@ -8,26 +8,12 @@ use Rattle.std.specs.declared.cmp.Ordering.TheVariants.{Less, Equal, Greater}
 use Rattle.std.proofs.lemmas.Bool.Decides.{nat_tests}
 use Rattle.std.proofs.lemmas.Cmp.{nat_cmp_total}
 use Rattle.meetings.specs.declared.pair.Pair.{Pair}
+use Rattle.traces.proofs.ForCallers.{in_cons, in_head, in_none, in_tail}
 use Rattle.audit_rows.specs.Order.{InOrder, pair_cmp, place_cmp, sort_key_of, topic_cmp}
 use Rattle.audit_rows.specs.declared.sort_key.SortKey.{SortKey}
 use Rattle.audit_rows.specs.declared.row.Row.{Row}
 use Rattle.audit_rows.specs.declared.topic.Topic.{Topic}
 use Rattle.audit_rows.specs.declared.topic.Topic.TheVariants.{Meeting, Verdict}
-
--- ---- members
-
-in_cons : {X : Type 0} (y : X) (ys : List X) (x : X) → Contains (y ∷ ys) x → (y ≡ x) ⊎ Contains ys x
-in_cons y ys x (zero, lt, e) = inl e
-in_cons y ys x (suc k, lt, e) = inr (k, omega arith, e)
-
-in_head : {X : Type 0} (y : X) (ys : List X) → Contains (y ∷ ys) y
-in_head y ys = (0, omega arith, refl)
-
-in_tail : {X : Type 0} (y : X) (ys : List X) (x : X) → Contains ys x → Contains (y ∷ ys) x
-in_tail y ys x h = (suc h.0, (let lt = h.1 in omega arith), h.2)
-
-in_none : {X : Type 0} {G : Type 0} (x : X) → Contains [] x → G
-in_none x h = let lt = h.1 in absurd (omega arith)
 
 -- ---- the order of places
 

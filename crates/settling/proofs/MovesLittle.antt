@@ -11,7 +11,7 @@ use Rattle.fixed_geometry.specs.Sizes.{IsBelow}
 use Rattle.motion.specs.Displacement.{displacement}
 use Rattle.motion.specs.declared.leg.TickState.{TickState}
 use Rattle.meetings.specs.Traces.{IsShortMove}
-use Rattle.audit_traces.specs.Audited.{MoveLittle, Sighting, last_sighting, state_in}
+use Rattle.traces.specs.Audited.{MoveLittle, Sighting, last_sighting, state_in}
 use Rattle.log_lines.specs.JudgedLines.{numbers_of}
 use Rattle.scenario.specs.ScenarioValues.{IsInRange}
 use Rattle.scenario.specs.Ticks.{time_of_tick}

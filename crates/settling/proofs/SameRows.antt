@@ -32,9 +32,9 @@ use Rattle.audit_rows.specs.declared.row.Row.{Row}
 use Rattle.audit_rows.specs.declared.topic.Topic.{Topic}
 use Rattle.audit_rows.specs.declared.topic.Topic.TheVariants.{Meeting, Verdict as OfVerdict}
 use Rattle.audit_rows.proofs.ForCallers.{row_stays, row_was, row_within}
-use Rattle.audit_traces.specs.AuditTracks.{AreMarksOf, AreMeetingMarks, AreRuleMarks, IsLeastSeparation, IsMeetingMark, IsTraceOf}
-use Rattle.audit_traces.specs.Audited.{Begins, AuditNumbers, Sighting, seen_state_at, state_in, step_of, terms_of, trace_steps}
-use Rattle.audit_traces.specs.ValueMarks.{mark_of}
+use Rattle.auditor.specs.AuditTracks.{AreMarksOf, AreMeetingMarks, AreRuleMarks, IsLeastSeparation, IsMeetingMark, IsTraceOf}
+use Rattle.traces.specs.Audited.{Begins, AuditNumbers, Sighting, seen_state_at, state_in, step_of, terms_of, trace_steps}
+use Rattle.auditor.specs.ValueMarks.{mark_of}
 use Rattle.auditor.specs.AuditRows.{IsAuditRow}
 use Rattle.auditor.specs.Standing.{audit_reach}
 use Rattle.settling.proofs.MoreMarks.{go_on}

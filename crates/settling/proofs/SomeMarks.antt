@@ -18,7 +18,7 @@ use Rattle.encounters.specs.declared.pair_step.PairStep.{PairStep}
 use Rattle.encounters.proofs.Lasting.{some_state}
 use Rattle.audit_rows.specs.declared.mark.Mark.{Mark}
 use Rattle.audit_rows.specs.declared.mark.Mark.TheVariants.{Nothing, Engaged}
-use Rattle.audit_traces.specs.AuditTracks.{IsLeastSeparation, IsMeetingMark}
+use Rattle.auditor.specs.AuditTracks.{IsLeastSeparation, IsMeetingMark}
 
 -- ---- each step has a greatest distance by which it is separated
 

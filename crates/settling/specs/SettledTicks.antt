@@ -1,7 +1,7 @@
 -- Which ticks no later line of a log can change.
 use Rattle.std.specs.Prelude.{ℕ, ◌+◌, ◌<◌, ◌≤◌, List, IsSomeAnd}
-use Rattle.auditor.specs.Standing.{HaveMoreThan}
-use Rattle.auditor.specs.declared.all_traces.TheConstants.{MOST_TRACES}
+use Rattle.traces.specs.Standing.{HaveMoreThan}
+use Rattle.traces.specs.declared.all_traces.TheConstants.{MOST_TRACES}
 use Rattle.log_lines.specs.LineTimes.{clock_of}
 use Rattle.log_lines.specs.SentLines.{sent}
 use Rattle.scenario.specs.declared.values.Scenario.{Scenario}

@@ -1,7 +1,7 @@
 -- What a scenario's audit is given: its numbers, and the vessels that are seen at the ticks of the window.
 use Rattle.std.specs.Prelude.{ℕ, ◌+◌, map, List}
 use Rattle.std.specs.List.{range_with_len}
-use Rattle.audit_traces.specs.Audited.{AuditNumbers, Sighting}
+use Rattle.traces.specs.Audited.{AuditNumbers, Sighting}
 use Rattle.log_lines.specs.JudgedLines.{numbers_of}
 use Rattle.scenario.specs.declared.values.Scenario.{Scenario}
 use Rattle.scenario.specs.Ticks.{time_of_tick}

@@ -2,7 +2,7 @@
 ghost use Rattle.std.specs.Prelude.{ℕ, ◌≡◌, ◌+◌, ◌-◌, ◌<◌, ◌≤◌, ◌↔◌, ◌++◌, [], get_or, length, List};
 ghost use Rattle.audit_rows.specs.Order.{last_step_of};
 ghost use Rattle.audit_rows.specs.declared.row.Row.{Row};
-ghost use Rattle.audit_traces.specs.Audited.{AuditNumbers, Sighting};
+ghost use Rattle.traces.specs.Audited.{AuditNumbers, Sighting};
 ghost use Rattle.auditor.specs.AuditRows.{AreAuditRows, AreAuditRowsBelow, IsAuditRow};
 ghost use Rattle.auditor.specs.Standing.{audit_reach, settled_by};
 ghost use Rattle.log_lines.specs.JudgedLines.{numbers_of};

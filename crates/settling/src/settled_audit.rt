@@ -3,8 +3,8 @@ ghost use Rattle.std.specs.Prelude.{◌≡◌, ◌+◌, ◌≤◌, ◌++◌, [],
 ghost use Rattle.audit_rows.specs.declared.row.Row.{Row};
 ghost use Rattle.auditor.specs.AuditRows.{AreAuditRows};
 ghost use Rattle.auditor.specs.AuditTotals.{AreTotals};
-ghost use Rattle.auditor.specs.Standing.{HaveMoreThan};
-ghost use Rattle.auditor.specs.declared.fault.AuditFault.TheVariants.{TooManyPairs};
+ghost use Rattle.traces.specs.Standing.{HaveMoreThan};
+ghost use Rattle.traces.specs.declared.fault.TickFault.TheVariants.{TooManyPairs};
 ghost use Rattle.log_lines.specs.SentLines.{sent};
 ghost use Rattle.log_lines.specs.Standing.{StandsFor as JudgeStandsFor, keeping_of};
 ghost use Rattle.scenario.specs.ScenarioValues.{IsInRange};

@@ -1,7 +1,7 @@
 -- Faults of the layers below, as a session has them.
 use Rattle.std.specs.Prelude.{ℕ, List, Err}
-use Rattle.auditor.specs.declared.fault.AuditFault.{AuditFault}
-use Rattle.auditor.specs.declared.fault.AuditFault.TheVariants as audit
+use Rattle.traces.specs.declared.fault.TickFault.{TickFault as AuditFault}
+use Rattle.traces.specs.declared.fault.TickFault.TheVariants as audit
 use Rattle.situations.specs.declared.preparation.PrepareFault.{PrepareFault}
 use Rattle.situations.specs.declared.preparation.PrepareFault.TheVariants as prepare
 use Rattle.tracks.specs.declared.entry.BookFault.{BookFault}

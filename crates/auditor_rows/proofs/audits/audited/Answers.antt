@@ -1,5 +1,5 @@
 use Rattle.std.proofs.Common.{sym, subst, ◌∙◌}
-use Rattle.audit_traces.specs.Audited.{MoveLittle, Sighting}
+use Rattle.traces.specs.Audited.{MoveLittle, Sighting}
 use Rattle.auditor_rows.specs.WorkedMeeting.{head_on_at}
 use Rattle.auditor_rows.proofs.WorkedMeeting.{from_none}
 use Rattle.auditor_rows.proofs.audits.audited.Goals as goal

@@ -1,5 +1,5 @@
 use Rattle.std.proofs.Common.{◌≡◌}
-use Rattle.audit_traces.specs.Audited.{MoveLittle}
+use Rattle.traces.specs.Audited.{MoveLittle}
 use Rattle.auditor_rows.specs.WorkedMeeting.{head_on_at}
 use Rattle.auditor.specs.Standing.{IsSound, given_of, last_tick_of, latest_sighting}
 use Rattle.auditor_rows.proofs.audits.audited.Given as goal

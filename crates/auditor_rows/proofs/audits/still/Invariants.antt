@@ -1,7 +1,7 @@
 use Rattle.std.proofs.Common.{ℕ, ◌+◌, ◌<◌}
 use Rattle.std.specs.List.{All}
 use Rattle.motion.specs.declared.leg.TickState.{TickState}
-use Rattle.audit_traces.specs.Audited.{AreAscending, ArePlaced}
+use Rattle.traces.specs.Audited.{AreAscending, ArePlaced}
 use Rattle.auditor_rows.proofs.audits.still.Given as goal
 
 abbrev pub invariant-loop-k : goal.invariant-loop-k

@@ -5,7 +5,7 @@ use Rattle.std.specs.List.{All}
 use Rattle.encounters.specs.Directions.{HasDirection}
 use Rattle.fixed_geometry.specs.Sizes.{IsBelow}
 use Rattle.motion.specs.declared.leg.TickState.{TickState}
-use Rattle.audit_traces.specs.Audited.{Sighting, AreAscending, ArePlaced}
+use Rattle.traces.specs.Audited.{Sighting, AreAscending, ArePlaced}
 use Rattle.auditor_rows.proofs.contacts.fleet.Goals as goal
 
 last_or_earlier : (k n : ℕ) → k + 1 < n + 1 → (k + 1 ≡ n) ⊎ (k + 1 < n)

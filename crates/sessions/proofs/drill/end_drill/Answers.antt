@@ -1,9 +1,9 @@
 use Rattle.std.proofs.Common.{ℕ, List, ◌∙◌, ◌++◌, length, ap, ap₂, subst, Err, []}
 use Rattle.outside.proofs.ForCallers.{err_cause}
-use Rattle.audit_traces.specs.declared.total.Total.{Total}
+use Rattle.auditor.specs.declared.total.Total.{Total}
 use Rattle.auditor.specs.AuditRows.{AreAuditRows}
 use Rattle.auditor.specs.AuditTotals.{AreTotals}
-use Rattle.auditor.specs.Standing.{HaveMoreThan}
+use Rattle.traces.specs.Standing.{HaveMoreThan}
 use Rattle.log_lines.specs.JudgedLines.{judged_lines}
 use Rattle.log_lines.specs.LogLines.{lines_of}
 use Rattle.log_lines.specs.SentLines.{sent}

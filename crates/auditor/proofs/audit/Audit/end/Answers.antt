@@ -1,28 +1,43 @@
-use Rattle.std.proofs.Common.{◌≡◌, ◌+◌, ◌++◌, ◌-◌, length, arith}
+use Rattle.std.proofs.Common.{◌≡◌, ◌++◌, ◌-◌, List, length, sym, subst, arith}
+use Rattle.auditor.specs.Inner.TracesKept.{Holds}
 use Rattle.auditor.specs.Standing.{settled_by}
-use Rattle.auditor.proofs.NextTick.{are_at_step, rows_known}
+use Rattle.auditor.specs.declared.trace.AuditTrace.{AuditTrace}
+use Rattle.auditor.proofs.AtTheEnd.{all_end, last_step}
+use Rattle.auditor.proofs.NextTick.{at_step}
 use Rattle.auditor.proofs.RowsOf.{audit_rows}
 use Rattle.auditor.proofs.TotalsOf.{are_totals}
+use Rattle.auditor.proofs.TracksOf.{have_rows}
 use Rattle.auditor.proofs.audit.Audit.end.Goals as goal
 
 pub returns-clause-rows : goal.returns-clause-rows
 returns-clause-rows c = λ numbers ticks given s.
-    let traces = c.args.self.traces in
-    let count = s.count in
+    let count = s.traces.count in
     let all = c.requires.all in
-    let last : c.args.self.last_tick + 1 ≡ length ticks = omega arith in
-    let at = are_at_step numbers ticks s.traces.knowns c.args.self.last_tick s.traces.are_known last in
-    let e = c.in_ok-rows.ensures numbers s.traces.knowns (settled_by numbers (length ticks - 1)) given s.traces.holds at in
-    audit_rows numbers ticks s.traces.knowns s.traces.are_known (rows_known traces.program numbers traces.traces.items s.traces.knowns s.traces.holds.traces) e.tracks
-    (given ++ c.in_ok-rows.rows.items) e.are_tracks e.are_rows
+    let last_is = c.last_tick.ensures in
+    let last : c.last_tick.result ≡ length ticks - 1 = omega arith in
+    let rows = have_rows numbers ticks s.knowns s.are_known in
+    let held = subst (λ (vs : List AuditTrace). Holds c.args.self.program vs c.args.self.marks numbers s.knowns (settled_by numbers (length ticks - 1)) given) (sym c.deref_mut.ensures.value) s.holds in
+    let f = c.in_ok-end_each.ensures numbers s.knowns (settled_by numbers (length ticks - 1)) given s.program held in
+    let ends = all_end numbers c.last_tick.result s.knowns f.tracks
+    (λ known i. last_step c.last_tick.result known (at_step numbers ticks s.knowns c.last_tick.result s.are_known last known i) (rows known i).count) f.are_tracks in
+    audit_rows numbers ticks s.knowns s.are_known rows f.tracks (given ++ c.in_ok-rows.rows.items) f.are_tracks
+    (c.in_ok-rows.ensures.rows (length numbers.rules) (settled_by numbers (length ticks - 1)) f.tracks given f.keeps ends)
 
 pub returns-clause-totals : goal.returns-clause-totals
 returns-clause-totals c = λ numbers ticks given s.
-    let traces = c.args.self.traces in
-    let count = s.count in
+    let count = s.traces.count in
     let all = c.requires.all in
-    let last : c.args.self.last_tick + 1 ≡ length ticks = omega arith in
-    let at = are_at_step numbers ticks s.traces.knowns c.args.self.last_tick s.traces.are_known last in
-    let e = c.in_ok-rows.ensures numbers s.traces.knowns (settled_by numbers (length ticks - 1)) given s.traces.holds at in
-    are_totals numbers ticks s.traces.knowns (given ++ c.in_ok-rows.rows.items) c.in_ok-rows.totals.items s.traces.are_known
-    (rows_known traces.program numbers traces.traces.items s.traces.knowns s.traces.holds.traces) e
+    let last_is = c.last_tick.ensures in
+    let last : c.last_tick.result ≡ length ticks - 1 = omega arith in
+    let rows = have_rows numbers ticks s.knowns s.are_known in
+    let held = subst (λ (vs : List AuditTrace). Holds c.args.self.program vs c.args.self.marks numbers s.knowns (settled_by numbers (length ticks - 1)) given) (sym c.deref_mut.ensures.value) s.holds in
+    let f = c.in_ok-end_each.ensures numbers s.knowns (settled_by numbers (length ticks - 1)) given s.program held in
+    let ends = all_end numbers c.last_tick.result s.knowns f.tracks
+    (λ known i. last_step c.last_tick.result known (at_step numbers ticks s.knowns c.last_tick.result s.are_known last known i) (rows known i).count) f.are_tracks in
+    are_totals numbers ticks s.knowns (given ++ c.in_ok-rows.rows.items) c.in_ok-rows.totals.items s.are_known rows
+    (record {
+      tracks = f.tracks;
+      are_tracks = f.are_tracks;
+      are_rows = c.in_ok-rows.ensures.rows (length numbers.rules) (settled_by numbers (length ticks - 1)) f.tracks given f.keeps ends;
+      are_totals = c.in_ok-rows.ensures.totals (length numbers.rules) (settled_by numbers (length ticks - 1)) f.tracks given f.keeps ends;
+    })

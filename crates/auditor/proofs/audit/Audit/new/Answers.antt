@@ -1,10 +1,12 @@
-use Rattle.std.proofs.Common.{◌≡◌, ℕ, [], refl, subst, arith}
-use Rattle.audit_traces.specs.Audited.{AuditNumbers}
-use Rattle.auditor.specs.Inner.TracesKept.{Holds}
+use Rattle.std.proofs.Common.{◌≡◌, ℕ, [], List, length, refl, sym, subst, ◌∙◌, arith}
+use Rattle.std.specs.List.{AllZip}
+use Rattle.traces.specs.Audited.{AuditNumbers}
+use Rattle.traces.proofs.ForCallers.{begun_within, different_none, in_none}
 use Rattle.auditor.specs.Standing.{settled_by}
-use Rattle.auditor.proofs.Different.{different_none}
-use Rattle.auditor.proofs.Members.{in_none}
-use Rattle.auditor.proofs.Ticks.{begun_within}
+use Rattle.auditor.specs.Tallies.{Keeps}
+use Rattle.auditor.specs.TraceKeeping.{StandsFor}
+use Rattle.auditor.specs.declared.trace.AuditTrace.{AuditTrace}
+use Rattle.auditor.proofs.UnderWay.{program_length}
 use Rattle.auditor.proofs.audit.Audit.new.Goals as goal
 
 pub returns-clause-stands : goal.returns-clause-stands
@@ -18,18 +20,22 @@ returns-clause-stands c =
       rules = c.args.rules.now;
     } in
     let none : 0 ≡ settled_by numbers 0 = omega arith in
+    let formulas = c.in_ok-program.ensures.formulas in
+    let count = c.formula_count.ensures.count ∙ program_length c.in_ok-program.program numbers formulas in
     record {
-      last_tick = refl;
-      subjects = c.in_ok-to_vec.ensures.items_if_clones_equal (λ x y e. e);
-      count = refl;
-      latest = c.new-2.ensures.items;
-      traces = record {
-        knowns = [];
-        are_known = record {
-          each = λ known i. in_none known i;
-          all = λ pair start begins. (let within = begun_within [] [] numbers pair start begins in absurd (omega arith));
-          once = different_none;
-        };
-        holds = subst (λ (n : ℕ). Holds c.in_ok-new.field-0 numbers [] n []) none (c.in_ok-new.ensures.holds numbers c.in_ok-program.ensures.formulas refl refl refl);
+      program = formulas;
+      knowns = [];
+      are_known = record {
+        each = λ known i. in_none known i;
+        all = λ pair start begins. (let within = begun_within [] [] numbers pair start begins in absurd (omega arith));
+        once = different_none;
+      };
+      traces = c.in_ok-new.ensures.stands numbers refl refl refl refl refl;
+      holds = record {
+        stand = subst (λ (vs : List AuditTrace). AllZip (StandsFor c.in_ok-program.program numbers) vs []) (sym c.new-3.ensures.items) tt;
+        tracks = [];
+        are_tracks = refl;
+        keeps = subst (λ (b : ℕ). Keeps c.in_ok-marks.marks (length numbers.rules) [] b []) none
+            (subst (λ (n : ℕ). Keeps c.in_ok-marks.marks n [] 0 []) count c.in_ok-marks.ensures);
       };
     }

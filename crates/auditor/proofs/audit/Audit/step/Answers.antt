@@ -1,71 +1,112 @@
-use Rattle.std.proofs.Common.{◌≡◌, ℕ, ◌+◌, ◌-◌, ◌++◌, length, Err, sym, ap, subst, ◌∙◌, arith}
-use Rattle.audit_traces.specs.Audited.{AreAscending, ArePlaced, Sighting}
-use Rattle.auditor.specs.Inner.TracesKept.{AreReady}
+use Rattle.std.proofs.Common.{◌≡◌, ℕ, ◌+◌, ◌-◌, ◌≤◌, List, [], ◌∷◌, ◌++◌, length, Err, sym, ap, subst, ◌∙◌, arith}
+use Rattle.std.specs.Prelude.{All}
+use Rattle.outside.proofs.ForCallers.{same_fault}
+use Rattle.traces.specs.Known.{AreOpened, Known}
+use Rattle.traces.specs.declared.fault.TickFault.{TickFault}
+use Rattle.traces.specs.declared.fault.TickFault.TheVariants.{TooManyPairs}
+use Rattle.auditor.specs.Inner.TracesKept.{Holds, IsReady}
 use Rattle.auditor.specs.Standing.{settled_by}
-use Rattle.audit_traces.specs.TraceKeeping.{formulas_of}
-use Rattle.auditor.specs.declared.fault.AuditFault.{AuditFault}
-use Rattle.auditor.specs.declared.fault.AuditFault.TheVariants.{TooManyPairs}
-use Rattle.auditor.proofs.Results.{same_fault}
-use Rattle.auditor.proofs.Stepping.{all_settled, bound_of, counted, held, last_is, later_bound, next_tick, none_more, rows_given}
+use Rattle.auditor.specs.TraceKeeping.{formulas_of}
+use Rattle.auditor.specs.declared.trace.AuditTrace.{AuditTrace}
+use Rattle.auditor.proofs.Growing.{whole_written}
+use Rattle.auditor.proofs.Stepping.{all_settled, bound_of, kept_on, later_bound, rows_given}
 use Rattle.auditor.proofs.audit.Audit.step.Goals as goal
 
-pub returns-in_err-take-clause-many : goal.returns-in_err-take-clause-many
-returns-in_err-take-clause-many c = λ fault numbers ticks given s.
-    let same = same_fault c.from_residual.result c.in_err-take.field-0.0 TooManyPairs c.from_residual.ensures.1 fault in
-    let err : c.take.result ≡ Err TooManyPairs = c.in_err-take.was ∙ ap (λ (e : AuditFault). Err e) (sym same) in
-    c.take.ensures.many err numbers ticks (settled_by numbers (length ticks - 1)) given (next_tick numbers ticks c.args.self.now given c.deref.result.now c.deref.ensures.value s)
-    (c.deref-2.ensures.value ∙ s.latest) s.traces
+pub returns-in_err-tick-clause-many : goal.returns-in_err-tick-clause-many
+returns-in_err-tick-clause-many c = λ fault numbers ticks given s.
+    let e = c.given-given.ensures in
+    let count = s.traces.count in
+    let step_is : c.saturating_sub.result ≡ length ticks - 1 = (let less = c.saturating_sub.ensures in omega arith) in
+    let held = subst (λ (vs : List AuditTrace). Holds c.args.self.now.program vs c.args.self.now.marks numbers s.knowns (settled_by numbers (length ticks - 1)) given) (sym c.deref_mut.ensures.value) s.holds in
+    let st = c.in_ok-follow_each.ensures.stepped numbers ticks s.knowns (settled_by numbers (length ticks - 1)) given s.program s.are_known s.traces step_is held in
+    let same = same_fault c.from_residual-in_err-tick.result c.in_err-tick.field-0.0 TooManyPairs c.from_residual-in_err-tick.ensures.1 fault in
+    let err : c.tick.result ≡ Err TooManyPairs = c.in_err-tick.was ∙ ap (λ (f : TickFault). Err f) (sym same) in
+    c.tick.ensures.many err numbers ticks s.knowns st.after s.are_known st.followed st.stands
 
 pub returns-clause-sound : goal.returns-clause-sound
 returns-clause-sound c =
     let sound = c.requires.sound in
-    let given : ℕ = c.args.self.now.given in
-    let more = c.requires.more in
-    let same : given ≡ (given + 1) - 1 = omega arith in
+    let now : c.tick.new.self.given ≡ c.given-given.result + 1 = c.in_ok-tick.ensures.given ∙ ap (λ (n : ℕ). n + 1) (c.in_ok-follow_each.ensures.given ∙ sym c.given-given.ensures) in
     record {
-      ready = subst (λ (n : ℕ). AreReady c.rows_below.new.self n) same (c.rows_below.ensures.ready given c.in_ok-take.ensures.ready);
-      window = sound.window;
-      given = omega arith;
-      ascending = subst (λ (s : Sighting). AreAscending s) (sym c.in_ok-replace.ensures) c.requires.ascending;
-      placed = subst (λ (s : Sighting). ArePlaced s) (sym c.in_ok-replace.ensures) c.requires.placed;
+      traces = c.in_ok-tick.ensures.sound;
+      rules = sound.rules;
+      totals = c.rows_below.ensures.as_many ∙ (c.begin_each.ensures.as_many ∙ (c.follow_each.ensures.as_many ∙ sound.totals));
+      many = c.in_ok-begin_each.ensures.many;
+      ready = subst (λ (n : ℕ). All (IsReady c.args.self.now.program n) c.begin_each.new.values.items) (sym now) c.in_ok-begin_each.ensures.ready;
     }
 
 pub returns-clause-stands : goal.returns-clause-stands
 returns-clause-stands c = λ numbers ticks given s.
-    let seen : Sighting = c.args.seen.now in
-    let old : ℕ = settled_by numbers (length ticks - 1) in
-    let now = c.in_ok-take.ensures.holds numbers ticks old given (next_tick numbers ticks c.args.self.now given c.deref.result.now c.deref.ensures.value s)
-    (c.deref-2.ensures.value ∙ s.latest) s.traces in
-    let reach = c.reach.ensures (formulas_of numbers) now.holds.program in
-    let is = bound_of numbers ticks seen c.args.self.now.given c.reach.result c.saturating_sub.result c.saturating_sub-bound.result s.count reach c.saturating_sub.ensures c.saturating_sub-bound.ensures in
-    let next = c.in_ok-rows_below.ensures.holds numbers now.knowns old given now.holds (later_bound numbers ticks seen c.take.new.traces given now c.saturating_sub-bound.result is)
-    (all_settled numbers ticks seen c.take.new.traces given now c.saturating_sub-bound.result is) in
+    let e = c.given-given.ensures in
+    let count = s.traces.count in
+    let step_is : c.saturating_sub.result ≡ length ticks - 1 = (let less = c.saturating_sub.ensures in omega arith) in
+    let held = subst (λ (vs : List AuditTrace). Holds c.args.self.now.program vs c.args.self.now.marks numbers s.knowns (settled_by numbers (length ticks - 1)) given) (sym c.deref_mut.ensures.value) s.holds in
+    let st = c.in_ok-follow_each.ensures.stepped numbers ticks s.knowns (settled_by numbers (length ticks - 1)) given s.program s.are_known s.traces step_is held in
+    let b = c.in_ok-tick.ensures.stands numbers ticks s.knowns st.after s.are_known st.followed st.stands in
+    let as_many = c.follow_each.ensures.many in
+    let before = c.deref_mut.ensures.value in
+    let old : List AuditTrace = c.args.self.now.values.items in
+    let new : List AuditTrace = c.follow_each.new.values in
+    let all_old : c.args.self.now.values.len ≡ length old = omega (arith, c.args.self.now.values.ok.0) in
+    let all_new : length new ≡ length old = as_many ∙ ap (λ (vs : List AuditTrace). length vs) before in
+    let written = whole_written c.args.self.now.values.len new old all_old all_new in
+    let stepped = subst (λ (vs : List AuditTrace). Holds c.args.self.now.program vs c.follow_each.new.marks numbers st.after (settled_by numbers (length ticks - 1)) given) (sym written) st.holds in
+    let at : length ticks ≡ c.given-given.result = sym (e ∙ count) in
+    let early : settled_by numbers (length ticks - 1) ≤ c.given-given.result = omega arith in
+    let begun = c.in_ok-begin_each.ensures.holds numbers (ticks ++ c.args.seen.now ∷ []) st.after b.new (settled_by numbers (length ticks - 1)) given s.program b.stands b.are_known.once
+    (subst (λ (n : ℕ). AreOpened n b.new) at b.opened) stepped early in
+    let reach = c.reach.ensures.formulas (formulas_of numbers) s.program in
+    let is = bound_of numbers ticks c.args.seen.now c.given-given.result c.reach.result c.saturating_sub-2.result c.saturating_sub-bound.result (e ∙ count) reach c.saturating_sub-2.ensures c.saturating_sub-bound.ensures in
+    let knowns : List Known = st.after ++ b.new in
+    let le = later_bound numbers ticks c.args.seen.now knowns b.are_known c.saturating_sub-bound.result is in
+    let settled = all_settled numbers ticks c.args.seen.now knowns b.are_known c.saturating_sub-bound.result is begun.tracks begun.are_tracks in
     record {
-      last_tick = s.last_tick;
-      subjects = s.subjects;
-      count = ap (λ (n : ℕ). n + 1) s.count ∙ counted numbers ticks seen;
-      latest = c.in_ok-replace.ensures ∙ sym (last_is numbers ticks seen);
-      traces = record {
-        knowns = now.knowns;
-        are_known = now.are_known;
-        holds = held numbers ticks seen c.take.new.traces given now c.saturating_sub-bound.result is c.rows_below.new.self (given ++ c.in_ok-rows_below.field-0.items) next;
+      program = s.program;
+      knowns = knowns;
+      are_known = b.are_known;
+      traces = b.stands;
+      holds = record {
+        stand = begun.stand;
+        tracks = begun.tracks;
+        are_tracks = begun.are_tracks;
+        keeps = kept_on numbers ticks c.args.seen.now knowns b.are_known c.saturating_sub-bound.result is c.rows_below.new.self begun.tracks (given ++ c.in_ok-rows_below.field-0.items)
+            (c.in_ok-rows_below.ensures.keeps (length numbers.rules) (settled_by numbers (length ticks - 1)) begun.tracks given begun.keeps le settled);
       };
     }
 
 pub returns-clause-rows : goal.returns-clause-rows
 returns-clause-rows c = λ numbers ticks given s.
-    let seen : Sighting = c.args.seen.now in
-    let old : ℕ = settled_by numbers (length ticks - 1) in
-    let now = c.in_ok-take.ensures.holds numbers ticks old given (next_tick numbers ticks c.args.self.now given c.deref.result.now c.deref.ensures.value s)
-    (c.deref-2.ensures.value ∙ s.latest) s.traces in
-    let reach = c.reach.ensures (formulas_of numbers) now.holds.program in
-    let is = bound_of numbers ticks seen c.args.self.now.given c.reach.result c.saturating_sub.result c.saturating_sub-bound.result s.count reach c.saturating_sub.ensures c.saturating_sub-bound.ensures in
-    rows_given numbers ticks seen c.take.new.traces given now c.saturating_sub-bound.result is (given ++ c.in_ok-rows_below.field-0.items)
-    (c.in_ok-rows_below.ensures.rows numbers now.knowns old given now.holds (later_bound numbers ticks seen c.take.new.traces given now c.saturating_sub-bound.result is)
-    (all_settled numbers ticks seen c.take.new.traces given now c.saturating_sub-bound.result is))
+    let e = c.given-given.ensures in
+    let count = s.traces.count in
+    let step_is : c.saturating_sub.result ≡ length ticks - 1 = (let less = c.saturating_sub.ensures in omega arith) in
+    let held = subst (λ (vs : List AuditTrace). Holds c.args.self.now.program vs c.args.self.now.marks numbers s.knowns (settled_by numbers (length ticks - 1)) given) (sym c.deref_mut.ensures.value) s.holds in
+    let st = c.in_ok-follow_each.ensures.stepped numbers ticks s.knowns (settled_by numbers (length ticks - 1)) given s.program s.are_known s.traces step_is held in
+    let b = c.in_ok-tick.ensures.stands numbers ticks s.knowns st.after s.are_known st.followed st.stands in
+    let as_many = c.follow_each.ensures.many in
+    let before = c.deref_mut.ensures.value in
+    let old : List AuditTrace = c.args.self.now.values.items in
+    let new : List AuditTrace = c.follow_each.new.values in
+    let all_old : c.args.self.now.values.len ≡ length old = omega (arith, c.args.self.now.values.ok.0) in
+    let all_new : length new ≡ length old = as_many ∙ ap (λ (vs : List AuditTrace). length vs) before in
+    let written = whole_written c.args.self.now.values.len new old all_old all_new in
+    let stepped = subst (λ (vs : List AuditTrace). Holds c.args.self.now.program vs c.follow_each.new.marks numbers st.after (settled_by numbers (length ticks - 1)) given) (sym written) st.holds in
+    let at : length ticks ≡ c.given-given.result = sym (e ∙ count) in
+    let early : settled_by numbers (length ticks - 1) ≤ c.given-given.result = omega arith in
+    let begun = c.in_ok-begin_each.ensures.holds numbers (ticks ++ c.args.seen.now ∷ []) st.after b.new (settled_by numbers (length ticks - 1)) given s.program b.stands b.are_known.once
+    (subst (λ (n : ℕ). AreOpened n b.new) at b.opened) stepped early in
+    let reach = c.reach.ensures.formulas (formulas_of numbers) s.program in
+    let is = bound_of numbers ticks c.args.seen.now c.given-given.result c.reach.result c.saturating_sub-2.result c.saturating_sub-bound.result (e ∙ count) reach c.saturating_sub-2.ensures c.saturating_sub-bound.ensures in
+    let knowns : List Known = st.after ++ b.new in
+    let le = later_bound numbers ticks c.args.seen.now knowns b.are_known c.saturating_sub-bound.result is in
+    let settled = all_settled numbers ticks c.args.seen.now knowns b.are_known c.saturating_sub-bound.result is begun.tracks begun.are_tracks in
+    rows_given numbers ticks c.args.seen.now knowns b.are_known c.saturating_sub-bound.result is begun.tracks (given ++ c.in_ok-rows_below.field-0.items) begun.are_tracks
+    (c.in_ok-rows_below.ensures.rows (length numbers.rules) (settled_by numbers (length ticks - 1)) begun.tracks given begun.keeps le settled)
 
 pub returns-clause-few : goal.returns-clause-few
 returns-clause-few c = λ numbers ticks given s more.
-    let now = c.in_ok-take.ensures.holds numbers ticks (settled_by numbers (length ticks - 1)) given (next_tick numbers ticks c.args.self.now given c.deref.result.now c.deref.ensures.value s)
-    (c.deref-2.ensures.value ∙ s.latest) s.traces in
-    none_more numbers ticks c.args.seen.now c.take.new.traces given now c.args.self.now.given c.in_ok-take.ensures.ready more
+    let e = c.given-given.ensures in
+    let count = s.traces.count in
+    let step_is : c.saturating_sub.result ≡ length ticks - 1 = (let less = c.saturating_sub.ensures in omega arith) in
+    let held = subst (λ (vs : List AuditTrace). Holds c.args.self.now.program vs c.args.self.now.marks numbers s.knowns (settled_by numbers (length ticks - 1)) given) (sym c.deref_mut.ensures.value) s.holds in
+    let st = c.in_ok-follow_each.ensures.stepped numbers ticks s.knowns (settled_by numbers (length ticks - 1)) given s.program s.are_known s.traces step_is held in
+    c.in_ok-tick.ensures.few numbers ticks s.knowns st.after s.are_known st.followed st.stands more

@@ -1,7 +1,7 @@
 use Rattle.std.proofs.Common.{◌++◌, ◌≡◌, Err, ap, subst, sym, ◌∙◌}
 use Rattle.outside.proofs.ForCallers.{same_fault}
-use Rattle.auditor.specs.declared.fault.AuditFault.{AuditFault}
-use Rattle.auditor.specs.declared.fault.AuditFault.TheVariants as audit_fault
+use Rattle.traces.specs.declared.fault.TickFault.{TickFault as AuditFault}
+use Rattle.traces.specs.declared.fault.TickFault.TheVariants as audit_fault
 use Rattle.sessions.specs.Refusals.{HasManySettled}
 use Rattle.sessions.specs.Standing.{IsDone, mode_by}
 use Rattle.sessions.specs.declared.work.Work.{Work}

@@ -2,13 +2,15 @@ use Rattle.std.proofs.Common.{ℕ, ◌≡◌, ◌+◌, ◌++◌, List, Err, sym,
 use Rattle.audit_rows.specs.declared.row.Row.{Row}
 use Rattle.auditor.specs.AuditRows.{AreAuditRows}
 use Rattle.auditor.specs.AuditTotals.{AreTotals}
-use Rattle.auditor.specs.Standing.{HaveMoreThan, StandsFor as AuditStandsFor}
-use Rattle.auditor.specs.declared.fault.AuditFault.{AuditFault}
-use Rattle.auditor.specs.declared.fault.AuditFault.TheVariants as audit_fault
+use Rattle.traces.specs.Standing.{HaveMoreThan}
+use Rattle.auditor.specs.Standing.{StandsFor as AuditStandsFor}
+use Rattle.traces.specs.declared.fault.TickFault.{TickFault as AuditFault}
+use Rattle.traces.specs.declared.fault.TickFault.TheVariants as audit_fault
 use Rattle.log_lines.specs.SentLines.{sent}
 use Rattle.settling.specs.SettledTicks.{greatest_traces}
 use Rattle.settling.specs.Sightings.{audit_numbers, seen_first, sighted}
-use Rattle.settling.proofs.AuditedTicks.{audited_with_more, same_fault}
+use Rattle.outside.proofs.ForCallers.{same_fault}
+use Rattle.settling.proofs.AuditedTicks.{audited_with_more}
 use Rattle.settling.proofs.settled_audit.SettledAudit.end.Goals as goal
 
 pub finish-requires-clause-ready : goal.finish-requires-clause-ready

@@ -1,7 +1,8 @@
 use Rattle.std.proofs.Common.{◌≡◌, ◌+◌, ◌++◌, Err, sym, ap, ◌∙◌, arith}
-use Rattle.auditor.specs.declared.fault.AuditFault.{AuditFault}
-use Rattle.auditor.specs.declared.fault.AuditFault.TheVariants as audit_fault
-use Rattle.settling.proofs.AuditedTicks.{many_later, nothing_more, rows_on, same_fault}
+use Rattle.traces.specs.declared.fault.TickFault.{TickFault as AuditFault}
+use Rattle.traces.specs.declared.fault.TickFault.TheVariants as audit_fault
+use Rattle.outside.proofs.ForCallers.{same_fault}
+use Rattle.settling.proofs.AuditedTicks.{many_later, nothing_more, rows_on}
 use Rattle.settling.proofs.settled_audit.SettledAudit.finish.Goals as goal
 
 pub loop-self-init : goal.loop-self-init
@@ -35,7 +36,7 @@ pub returns-clause-all : goal.returns-clause-all
 returns-clause-all c =
     let ready = c.requires.ready in
     let up = c.loop-self.invariant ready.lines ready.given ready.judged ready.audited in
-    let few = up.sound.given in
+    let few = up.sound.traces.given in
     let next = up.next in
     let last = up.last in
     let past = c.loop-self-test.false in

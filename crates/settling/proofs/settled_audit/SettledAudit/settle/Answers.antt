@@ -1,7 +1,8 @@
 use Rattle.std.proofs.Common.{◌≡◌, ◌+◌, ◌++◌, Err, refl, sym, ap, ◌∙◌}
-use Rattle.auditor.specs.declared.fault.AuditFault.{AuditFault}
-use Rattle.auditor.specs.declared.fault.AuditFault.TheVariants as audit_fault
-use Rattle.settling.proofs.AuditedTicks.{few_settled, rows_on, same_fault, settled_below, settling_from, stands_then}
+use Rattle.traces.specs.declared.fault.TickFault.{TickFault as AuditFault}
+use Rattle.traces.specs.declared.fault.TickFault.TheVariants as audit_fault
+use Rattle.outside.proofs.ForCallers.{same_fault}
+use Rattle.settling.proofs.AuditedTicks.{few_settled, rows_on, settled_below, settling_from, stands_then}
 use Rattle.settling.proofs.DecidedRows.{rows_by_settled_ticks}
 use Rattle.settling.proofs.settled_audit.SettledAudit.settle.Goals as goal
 

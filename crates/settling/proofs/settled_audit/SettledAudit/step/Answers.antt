@@ -1,11 +1,12 @@
 use Rattle.std.proofs.Common.{◌≡◌, Err, refl, sym, ap, ◌∙◌}
-use Rattle.auditor.specs.declared.fault.AuditFault.{AuditFault}
-use Rattle.auditor.specs.declared.fault.AuditFault.TheVariants as audit_fault
+use Rattle.traces.specs.declared.fault.TickFault.{TickFault as AuditFault}
+use Rattle.traces.specs.declared.fault.TickFault.TheVariants as audit_fault
 use Rattle.log_lines.specs.JudgedLines.{numbers_of}
 use Rattle.log_lines.specs.SentLines.{sent}
 use Rattle.settling.specs.Sightings.{audit_numbers, seen_first}
 use Rattle.tracks.specs.SeenVessels.{seen_in, seen_of}
-use Rattle.settling.proofs.AuditedTicks.{audited_on, many_now, same_fault}
+use Rattle.outside.proofs.ForCallers.{same_fault}
+use Rattle.settling.proofs.AuditedTicks.{audited_on, many_now}
 use Rattle.settling.proofs.MovesLittle.{moves_on}
 use Rattle.settling.proofs.settled_audit.SettledAudit.step.Goals as goal
 
@@ -14,7 +15,7 @@ step-requires-clause-moves c =
     let scenario = c.args.scenario.now in
     let ready = c.requires.ready in
     moves_on c.book-book.result.now scenario (sent scenario ready.lines) c.args.self.now.next _ _ c.moves_little.ensures c.requires.in_range
-    (c.book-book.ensures.keeping ∙ c.requires.keeping) (c.book-book.ensures.stands scenario ready.lines ready.judged) ready.audited.stands.latest
+    (c.book-book.ensures.keeping ∙ c.requires.keeping) (c.book-book.ensures.stands scenario ready.lines ready.judged) ready.audited.stands.traces.latest
     (c.as_slice.ensures.value ∙ c.in_ok-look.ensures.kept ∙ ap (seen_in c.book-book.result.now) c.time.ensures)
 
 pub returns-in_err-rows-clause-many : goal.returns-in_err-rows-clause-many

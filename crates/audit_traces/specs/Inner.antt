@@ -1,4 +1,0 @@
-pub mod Counting
-pub mod TrackCounts
-pub mod RowAnswers
-pub mod Pairing

@@ -1,0 +1,165 @@
+-- A step at which no formula's value changes: the marks of the rules are those before.
+use Rattle.std.proofs.Common.{◌≡◌, ℕ, zero, suc, ◌+◌, ◌-◌, ◌<◌, List, [], ◌∷◌, ◌++◌, length, append_assoc, refl, sym, ap, subst, ◌∙◌, arith, length-append, Some}
+use Rattle.std.specs.Prelude.{Option}
+use Rattle.mtl_formulas.specs.FormulaTree.{FormulaTree}
+use Rattle.mtl_formulas.specs.FormulaMeasures.{reach_of}
+use Rattle.mtl_formulas.specs.declared.atom.Atom.{Atom}
+use Rattle.mtl_formulas.specs.declared.verdict.Verdict.{Verdict}
+use Rattle.mtl_formulas.specs.declared.verdict.Verdict.TheVariants.{No, Open, Yes}
+use Rattle.mtl_monitor.specs.Following.{Follows, GivesTheSame, IsFed, formula_at, greatest_reach, last_value}
+use Rattle.mtl_monitor.specs.Inner.Standing.{root_at, tree_at, late_at}
+use Rattle.mtl_monitor.specs.Traces.{Trace, value_in}
+use Rattle.mtl_monitor.specs.declared.program.Program.{Program}
+use Rattle.mtl_monitor.specs.declared.trace_state.TraceState.{TraceState}
+use Rattle.encounters.specs.declared.pair_step.PairStep.{PairStep}
+use Rattle.audit_rows.specs.Stretches.{MarksEngagement}
+use Rattle.audit_rows.specs.Tracks.{Repeats, Track, longer}
+use Rattle.audit_rows.specs.declared.mark.Mark.{Mark}
+use Rattle.audit_rows.specs.declared.row.Row.{Row}
+use Rattle.audit_rows.proofs.ForCallers.{repeated}
+use Rattle.traces.specs.Audited.{AuditNumbers}
+use Rattle.traces.specs.Known.{Known, watched}
+use Rattle.auditor.specs.AuditTracks.{IsMeetingMark}
+use Rattle.auditor.specs.ValueMarks.{mark_of}
+use Rattle.auditor.specs.Tallies.{Keeps}
+use Rattle.auditor.specs.TraceKeeping.{AreRuleMarksSoFar, AreRuleTracks, AreTracksSoFar, IsRuleTrack, StandsFor, Steps, formulas_of}
+use Rattle.auditor.specs.declared.marks.Marks.{Marks}
+use Rattle.auditor.specs.declared.trace.AuditTrace.{AuditTrace}
+use Rattle.auditor.proofs.TraceKeeping.{MarksMeeting, meeting_longer}
+use Rattle.auditor.proofs.TraceTracks.{fed_marks, one_brought}
+
+-- ---- values
+
+-- The last value of a formula is that at the position which the last row has decided.
+module _ (program : Program) (state : TraceState) (formulas : List FormulaTree) (rows : Trace) (follows : Follows program state formulas rows) where
+  last_is : (k : ℕ) → k < length formulas → reach_of (formula_at formulas k) < length rows → (more : Trace)
+      → last_value program state k ≡ value_in (rows ++ more) (formula_at formulas k) (length rows - 1 - reach_of (formula_at formulas k))
+  last_is k lt reach more =
+      let root = follows.of.each k lt in
+      let at = (root_at program.roots.items k).index in
+      let tree = formula_at formulas k in
+      let late : late_at program.nodes.items at ≡ reach_of tree = root.lateness ∙ root.late in
+      let gave = (follows.gives (omega arith) more).each at root.inside in
+      gave (omega arith) ∙ ap (λ (n : ℕ). value_in (rows ++ more) (tree_at follows.trees at) (length rows - 1 - n)) late
+      ∙ ap (λ (t : FormulaTree). value_in (rows ++ more) t (length rows - 1 - reach_of tree)) root.tree
+
+-- The formula's value at the position that the row decides is that at the position before.
+pub record Still (trace : Trace) (row : Atom → Verdict) (tree : FormulaTree) : Type 0 where
+  pub within : reach_of tree < length trace
+  pub value : Verdict
+  pub now : (more : Trace) → value ≡ value_in ((trace ++ row ∷ []) ++ more) tree (length trace - reach_of tree)
+  pub before : (more : Trace) → value ≡ value_in (trace ++ more) tree (length trace - 1 - reach_of tree)
+
+abbrev pub AllStill : Trace → (Atom → Verdict) → List FormulaTree → Type 0
+AllStill trace row [] = Unit {0}
+AllStill trace row (tree ∷ trees) = Still trace row tree × AllStill trace row trees
+
+reach_within : (formulas : List FormulaTree) (k n : ℕ) → k < length formulas → greatest_reach formulas < n → reach_of (formula_at formulas k) < n
+reach_within [] k n lt le = absurd (omega arith)
+reach_within (tree ∷ trees) zero n lt le = omega arith
+reach_within (tree ∷ trees) (suc k) n lt le = reach_within trees k n (omega arith) (omega arith)
+
+all_from : (trace : Trace) (row : Atom → Verdict) (trees : List FormulaTree) → ((k : ℕ) → k < length trees → Still trace row (formula_at trees k)) → AllStill trace row trees
+all_from trace row [] h = tt
+all_from trace row (tree ∷ trees) h = (h 0 (omega arith), all_from trace row trees (λ k lt. h (suc k) (omega arith)))
+
+module _ (program : Program) (old new : TraceState) (formulas : List FormulaTree) (trace : Trace) (row : Atom → Verdict)
+    (was : Follows program old formulas trace) (is : Follows program new formulas (trace ++ row ∷ [])) (same : GivesTheSame program old new) where
+  still_at : (k : ℕ) → k < length formulas → reach_of (formula_at formulas k) < length trace → Still trace row (formula_at formulas k)
+  still_at k lt reach =
+      let count = is.of.count in
+      let tree = formula_at formulas k in
+      let longer = length-append trace (row ∷ []) in
+      let at : length (trace ++ row ∷ []) - 1 - reach_of tree ≡ length trace - reach_of tree = omega arith in
+      record {
+        within = reach;
+        value = last_value program new k;
+        now = λ more. last_is program new formulas (trace ++ row ∷ []) is k lt (omega arith) more ∙ ap (value_in ((trace ++ row ∷ []) ++ more) tree) at;
+        before = λ more. same k (omega arith) ∙ last_is program old formulas trace was k lt reach more;
+      }
+
+  pub all_still : greatest_reach formulas < length trace → AllStill trace row formulas
+  all_still reach = all_from trace row formulas (λ k lt. still_at k lt (reach_within formulas k (length trace) lt reach))
+
+-- ---- tracks
+
+not_engaged : (value : Verdict) → ¬ MarksEngagement (mark_of value)
+not_engaged Yes h = h
+not_engaged No h = h
+not_engaged Open h = h
+
+repeats : (trace : Trace) (row : Atom → Verdict) (tree : FormulaTree) (track : Track) (s : Still trace row tree) → AreRuleMarksSoFar tree trace track.marks → Repeats track (mark_of s.value)
+repeats trace row tree track s h =
+    let count = h.count in
+    let within = s.within in
+    let at : length track.marks - 1 ≡ length trace - 1 - reach_of tree = omega arith in
+    record {
+      some = omega arith;
+      same = h.each (length track.marks - 1) (omega arith) [] ∙ ap mark_of (ap (value_in (trace ++ []) tree) at ∙ sym (s.before []));
+      quiet = not_engaged s.value;
+    }
+
+-- Marks that keep the tracks, with others before and after, keep them with their marks repeated.
+record Rest (known : Known) (seen : Option PairStep) (row : Atom → Verdict) (marks : Marks) (rules bound : ℕ) (given : List Row) (before after : List Track) (rule : ℕ)
+    (trees : List FormulaTree) : Type 0 where
+  later : List Track
+  tracks : AreRuleTracks AreRuleMarksSoFar (watched known seen row) rule trees later
+  keeps : Keeps marks rules (before ++ (later ++ after)) bound given
+
+module _ (known : Known) (seen : Option PairStep) (row : Atom → Verdict) (marks : Marks) (rules bound : ℕ) (given : List Row) (after : List Track) where
+  one_more : (rule : ℕ) (tree : FormulaTree) (track : Track) (s : Still known.trace row tree) → IsRuleTrack AreRuleMarksSoFar known rule tree track
+      → IsRuleTrack AreRuleMarksSoFar (watched known seen row) rule tree (longer track (mark_of s.value))
+  one_more rule tree track s h =
+      let within = s.within in
+      let last = length-append known.trace (row ∷ []) in
+      (one_brought AreRuleMarksSoFar AreRuleMarksSoFar known (watched known seen row) refl refl (λ answer tree. IsFed answer tree (known.trace ++ row ∷ []))
+      (λ tree marks answer so_far fed. fed_marks tree known.trace row marks answer so_far fed) rule tree track (Some (length known.trace - reach_of tree, s.value)) h
+      (omega arith, s.now)).1
+
+  all_rest : (before : List Track) (rule : ℕ) (trees : List FormulaTree) (tracks : List Track) → AllStill known.trace row trees
+      → AreRuleTracks AreRuleMarksSoFar known rule trees tracks → Keeps marks rules (before ++ (tracks ++ after)) bound given
+      → Rest known seen row marks rules bound given before after rule trees
+  all_rest before rule [] [] s h k = record { later = []; tracks = tt; keeps = k }
+  all_rest before rule [] (track ∷ tracks) s h k = absurd h
+  all_rest before rule (tree ∷ trees) [] s h k = absurd h
+  all_rest before rule (tree ∷ trees) (track ∷ tracks) s h k =
+      let now = longer track (mark_of s.0.value) in
+      let kept : Keeps marks rules (before ++ (now ∷ (tracks ++ after))) bound given =
+      record { queue = repeated marks.queue before (tracks ++ after) track (mark_of s.0.value) bound given (repeats known.trace row tree track s.0 h.0.marks) k.queue; totals = k.totals } in
+      let rest = all_rest (before ++ now ∷ []) (rule + 1) trees tracks s.1 h.1
+      (subst (λ (ts : List Track). Keeps marks rules ts bound given) (sym (append_assoc before (now ∷ []) (tracks ++ after))) kept) in
+      record {
+        later = now ∷ rest.later;
+        tracks = (one_more rule tree track s.0 h.0, rest.tracks);
+        keeps = subst (λ (ts : List Track). Keeps marks rules ts bound given) (append_assoc before (now ∷ []) (rest.later ++ after)) rest.keeps;
+      }
+
+-- ---- the step
+
+module _ (program : Program) (numbers : AuditNumbers) (trace : AuditTrace) (known : Known) (seen : Option PairStep) (row : Atom → Verdict) (mark : Mark)
+    (stands : StandsFor program numbers trace (watched known seen row))
+    (is_mark : IsMeetingMark numbers.detect (known.steps ++ seen ∷ []) (length known.steps) mark)
+    (old : TraceState) (was : Follows program old (formulas_of numbers) known.trace) (same : GivesTheSame program old trace.values)
+    (reach : greatest_reach (formulas_of numbers) < length known.trace) where
+  pub rested : (first : ℕ) (marks now : Marks) → MarksMeeting numbers known first mark marks now
+      → (before mine after : List Track) (bound : ℕ) (given : List Row) → AreTracksSoFar numbers known mine → first ≡ length before
+      → Keeps marks (length numbers.rules) (before ++ mine ++ after) bound given
+      → Steps program numbers trace known seen row now before after bound given
+  rested first marks now meets before [] after bound given tracks e keeps = absurd tracks
+  rested first marks now meets before (meeting ∷ mine) after bound given tracks e keeps =
+      let (of_meeting, of_rules) = tracks in
+      let rules = length numbers.rules in
+      let then = longer meeting mark in
+      let now_kept : Keeps now rules (before ++ then ∷ (mine ++ after)) bound given =
+      meets.keeps rules bound before (mine ++ after) meeting given e of_meeting
+      (subst (λ (ts : List Track). Keeps marks rules ts bound given) (append_assoc before (meeting ∷ mine) after) keeps) in
+      let rest = all_rest known seen row now rules bound given after (before ++ then ∷ []) 0 (formulas_of numbers) mine
+      (all_still program old trace.values (formulas_of numbers) known.trace row was stands.values same reach) of_rules
+      (subst (λ (ts : List Track). Keeps now rules ts bound given) (sym (append_assoc before (then ∷ []) (mine ++ after))) now_kept) in
+      record {
+        stands = stands;
+        mine = then ∷ rest.later;
+        tracks = (meeting_longer program numbers trace known seen row mark stands is_mark meeting of_meeting, rest.tracks);
+        keeps = subst (λ (ts : List Track). Keeps now rules ts bound given)
+            (append_assoc before (then ∷ []) (rest.later ++ after) ∙ sym (append_assoc before (then ∷ rest.later) after)) rest.keeps;
+      }

@@ -1,0 +1,216 @@
+//! The marks of one trace.
+ghost use Rattle.std.specs.Prelude.{◌≡◌, ◌<◌, ◌^◌, ◌∷◌, ◌++◌, [], ℕ, List, length, Option, true, OnOk};
+ghost use Rattle.std.specs.Option.{option_copied};
+ghost use Rattle.encounters.specs.Standing.{IsStateAfter};
+ghost use Rattle.encounters.specs.declared.detect.Detect.{Detect};
+ghost use Rattle.encounters.specs.declared.pair_step.PairStep.{PairStep};
+ghost use Rattle.audit_rows.specs.Tracks.{Repeats, Track, longer, next_step};
+ghost use Rattle.audit_rows.specs.declared.row.Row.{Row};
+ghost use Rattle.auditor.specs.AuditTracks.{IsMeetingMark};
+ghost use Rattle.auditor.specs.Tallies.{Keeps, rules_of};
+ghost use Rattle.auditor.specs.ValueMarks.{mark_of};
+
+use crate::marks::Marks;
+use audit_rows::Mark;
+use closest_approach::least;
+use encounters::{EngagementState, PairStep};
+use mtl_formulas::Verdict;
+use mtl_monitor::{Program, TraceState};
+use outside::Memory;
+use std::alloc::Global;
+use traces::NextRow;
+
+/// What the meeting's track has at a step: the kind of the engagement, and the least distance within the step.
+#[inline(always)]
+fn meeting_mark(state: &EngagementState, seen: Option<&PairStep>) -> Mark
+    ensures { (detect : Detect) (steps : List (Option PairStep)) → IsStateAfter detect (steps ++ option_copied seen.entry ∷ []) state.now
+        → IsMeetingMark detect (steps ++ option_copied seen.entry ∷ []) (length steps) result }
+{
+    match (state, seen) {
+        (EngagementState::Engaged { kind, .. }, Some(pair)) => Mark::Engaged {
+            kind: *kind,
+            least: least(&pair.step),
+        },
+        _ => Mark::Nothing,
+    }
+}
+
+/// What a rule's track has at a position where its formula has this value.
+fn mark_of(value: Verdict) -> Mark
+    ensures { result ≡ mark_of value }
+{
+    match value {
+        Verdict::Yes => Mark::Nothing,
+        Verdict::No => Mark::Broken,
+        Verdict::Open => Mark::Undecided,
+    }
+}
+
+/// Takes the next mark of the track at the index, which is for the step. Nothing is to be done for a mark that repeats the last.
+#[inline(always)]
+fn mark_or_repeat(
+    marks: &mut Marks,
+    index: usize,
+    step: u32,
+    mark: Mark,
+    repeats: bool,
+) -> Result<(), Memory>
+    ensures as_many { rules_of marks.new ≡ rules_of marks.old }
+    ensures keeps { OnOk result ((rules bound : ℕ) (before after : List Track) (track : Track) (given : List Row)
+        → Keeps marks.old rules (before ++ track ∷ after) bound given → index ≡ length before → step ≡ next_step track
+        → (repeats ≡ true → Repeats track mark) → Keeps marks.new rules (before ++ longer track mark ∷ after) bound given) }
+{
+    if repeats {
+        return Ok(());
+    }
+    marks.mark(index, step, mark)
+}
+
+/// One trace: its first step, and the values of the rules' formulas so far. It stands for what the steps so far answer to the atoms.
+#[derive(Drop)]
+pub struct AuditTrace {
+    start: u32,
+    values: TraceState,
+    ghost early: { start < 2 ^ 31 },
+}
+
+impl AuditTrace {
+    ghost use Rattle.std.specs.Prelude.{◌+◌, ◌≤◌, IfOk};
+    ghost use Rattle.encounters.specs.declared.engagement_state.EngagementState.TheVariants.{Apart};
+    ghost use Rattle.meetings.specs.Answers.{answer_of};
+    ghost use Rattle.meetings.specs.declared.pair.Pair.{Pair};
+    ghost use Rattle.mtl_formulas.specs.FormulaTree.{FormulaTree};
+    ghost use Rattle.mtl_monitor.specs.Following.{Fits, IsProgramOf, count_of, fed_of, greatest_reach};
+    ghost use Rattle.mtl_monitor.specs.declared.program.Program.{Program};
+    ghost use Rattle.traces.specs.Audited.{AuditNumbers};
+    ghost use Rattle.traces.specs.Known.{IsNextRow, Known, opened};
+    ghost use Rattle.auditor.specs.Inner.RowAnswers.{MarksRule, MarksRules};
+    ghost use Rattle.auditor.specs.TraceKeeping.{AreTracksSoFar, HasTracksOf, IsReady, StandsFor, Steps, formulas_of, steps_of};
+
+    /// The trace that begins at a step, of which there are none yet.
+    pub fn new(alloc: Global, program: &Program, start: u32) -> Result<AuditTrace, Memory>
+        requires early { start < 2 ^ 31 }
+        ensures ready { IfOk result (IsReady program.now) }
+        ensures steps { IfOk result (λ trace. steps_of trace ≡ 0) }
+        ensures stands { IfOk result (λ trace. (numbers : AuditNumbers) (pair : Pair) → IsProgramOf program.now (formulas_of numbers)
+            → StandsFor program.now numbers trace (opened pair start)) }
+    {
+        Ok(AuditTrace {
+            start,
+            values: TraceState::new(alloc, program)?,
+        })
+    }
+
+    /// Marks the position that the last row has decided for a rule, if there is one: the rule's track has this index.
+    fn mark_rule(
+        &self,
+        program: &Program,
+        marks: &mut Marks,
+        index: usize,
+        rule: usize,
+    ) -> Result<(), Memory>
+        requires fits { Fits program.now self.now.values }
+        requires few { fed_of self.now.values ≤ 2 ^ 31 }
+        requires formula { rule < count_of program.now }
+        ensures as_many { rules_of marks.new ≡ rules_of marks.old }
+        ensures marks { OnOk result (MarksRule program.now self.now index rule marks.old marks.new) }
+    {
+        match self.values.answer(program, rule) {
+            Some((position, value)) => marks.mark(index, self.start + position, mark_of(value)),
+            None => Ok(()),
+        }
+    }
+
+    /// Marks the positions that the last row has decided: the rules' tracks in the queue begin with that of rule 0 at this index.
+    fn mark_rules(&self, program: &Program, marks: &mut Marks, first: usize) -> Result<(), Memory>
+        requires fits { Fits program.now self.now.values }
+        requires few { fed_of self.now.values ≤ 2 ^ 31 }
+        requires room { first + count_of program.now < 2 ^ 64 }
+        ensures as_many { rules_of marks.new ≡ rules_of marks.old }
+        ensures marks { OnOk result (MarksRules program.now self.now first (count_of program.now) marks.old marks.new) }
+    {
+        for rule in 0..program.formula_count() {
+            self.mark_rule(program, marks, first + rule, rule)?;
+        }
+        Ok(())
+    }
+
+    /// Whether each formula has answered to a row before that of the step.
+    #[inline(always)]
+    fn has_answered(&self, program: &Program, step: u32) -> bool
+        ensures { result ≡ true → (formulas : List FormulaTree) → IsProgramOf program.now formulas → self.now.start + greatest_reach formulas < step }
+    {
+        program.reach() < step.saturating_sub(self.start)
+    }
+
+    /// Whether the trace has a step before this one, and the vessels were apart there and still are.
+    #[inline(always)]
+    fn stays_apart(&self, was: &EngagementState, is: &EngagementState, step: u32) -> bool
+        ensures was { result ≡ true → was.now ≡ Apart }
+        ensures is { result ≡ true → is.now ≡ Apart }
+        ensures later { result ≡ true → self.now.start < step }
+    {
+        match (was, is) {
+            (EngagementState::Apart, EngagementState::Apart) => self.start < step,
+            _ => false,
+        }
+    }
+
+    /// Takes the row of the next step: its tracks, of which the meeting's is the one at this index, get the marks that it decides.
+    /// Where no formula's value changes, its rules' marks are those before, so that nothing is to be done for them. Nor is it for the
+    /// meeting's where the vessels stay apart.
+    #[inline(always)]
+    pub fn step(
+        &mut self,
+        program: &Program,
+        next: &NextRow,
+        step: u32,
+        marks: &mut Marks,
+        first: usize,
+    ) -> Result<(), Memory>
+        requires ready { IsReady program.now self.old }
+        requires few { steps_of self.old < 2 ^ 31 }
+        requires totals { rules_of marks.old ≡ count_of program.now }
+        requires room { first + count_of program.now + 1 < 2 ^ 64 }
+        ensures ready { IsReady program.now self.new }
+        ensures steps { steps_of self.new ≡ steps_of self.old + 1 }
+        ensures as_many { rules_of marks.new ≡ rules_of marks.old }
+        ensures stands { OnOk result ((numbers : AuditNumbers) (known : Known) (seen : Option PairStep) (before mine after : List Track) (bound : ℕ) (given : List Row)
+            → StandsFor program.now numbers self.old known → step ≡ known.start + length known.steps → IsNextRow numbers known seen next.now
+            → AreTracksSoFar numbers known mine → first ≡ length before → Keeps marks.old (length numbers.rules) (before ++ mine ++ after) bound given
+            → Steps program.now numbers self.new known seen (answer_of next.now.row) marks.new before after bound given) }
+    {
+        let changes = self.values.feed(program, &next.row);
+        let apart = self.stays_apart(&next.was, &next.is, step);
+        mark_or_repeat(
+            marks,
+            first,
+            step,
+            meeting_mark(&next.is, next.seen.as_ref()),
+            apart,
+        )?;
+        if !changes && self.has_answered(program, step) {
+            return Ok(());
+        }
+        self.mark_rules(program, marks, first + 1)
+    }
+
+    /// Ends the trace: its tracks get the marks of all positions that are left.
+    pub fn end(&mut self, program: &Program, marks: &mut Marks, first: usize) -> Result<(), Memory>
+        requires ready { IsReady program.now self.old }
+        requires few { steps_of self.old ≤ 2 ^ 31 }
+        requires totals { rules_of marks.old ≡ count_of program.now }
+        requires room { first + count_of program.now + 1 < 2 ^ 64 }
+        ensures as_many { rules_of marks.new ≡ rules_of marks.old }
+        ensures ended { OnOk result ((numbers : AuditNumbers) (known : Known) (before mine after : List Track) (bound : ℕ) (given : List Row)
+            → StandsFor program.now numbers self.old known → AreTracksSoFar numbers known mine → first ≡ length before
+            → Keeps marks.old (length numbers.rules) (before ++ mine ++ after) bound given
+            → HasTracksOf numbers known marks.new before after bound given) }
+    {
+        for _ in 0..program.reach() {
+            self.values.pass_end(program);
+            self.mark_rules(program, marks, first + 1)?;
+        }
+        Ok(())
+    }
+}

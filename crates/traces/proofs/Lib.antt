@@ -1,0 +1,16 @@
+pub mod ForCallers
+mod Members
+mod Pairs
+mod Ticks
+mod Different
+mod Growing
+mod Taking
+mod Beginning
+mod NextTick
+mod MoreTicks
+mod SeenVessels
+mod SubjectPairs
+mod SightingFacts
+mod AddedPairs
+mod FoundPairs
+mod Reach

@@ -1,0 +1,64 @@
+-- What is known of the traces so far.
+use Rattle.std.specs.Prelude.{ℕ, ◌≡◌, ◌≢◌, List, [], ◌∷◌, ◌++◌, length, map, Option}
+use Rattle.std.specs.List.{AllByRecursion, AllPairs, Contains}
+use Rattle.mtl_formulas.specs.declared.atom.Atom.{Atom}
+use Rattle.mtl_formulas.specs.declared.verdict.Verdict.{Verdict}
+use Rattle.mtl_monitor.specs.Traces.{Trace}
+use Rattle.encounters.specs.Standing.{IsStateAfter}
+use Rattle.encounters.specs.declared.pair_step.PairStep.{PairStep}
+use Rattle.meetings.specs.Answers.{answer_of}
+use Rattle.meetings.specs.Atoms.{AreAtomRows, IsAtomRow}
+use Rattle.meetings.specs.declared.pair.Pair.{Pair}
+use Rattle.traces.specs.Audited.{Begins, AuditNumbers, Sighting, step_of, terms_of, trace_steps}
+use Rattle.traces.specs.declared.followed_trace.NextRow.{NextRow}
+
+-- a trace by its steps so far, and what they answer to the atoms
+pub record Known : Type 0 where
+  pub pair : Pair
+  pub start : ℕ
+  pub steps : List (Option PairStep)
+  pub trace : Trace
+
+abbrev pub pairs_of : List Known → List Pair
+pairs_of knowns = map (λ known. known.pair) knowns
+
+-- a trace of no steps yet
+abbrev pub opened : Pair → ℕ → Known
+opened pair start = record { pair = pair; start = start; steps = []; trace = [] }
+
+-- the same with its next step
+abbrev pub watched : Known → Option PairStep → (Atom → Verdict) → Known
+watched known seen answers = record { pair = known.pair; start = known.start; steps = known.steps ++ seen ∷ []; trace = known.trace ++ answers ∷ [] }
+
+-- ---- the traces of these ticks
+
+-- The trace is one of these ticks, with its steps so far and what they answer.
+pub record IsKnown (numbers : AuditNumbers) (ticks : List Sighting) (known : Known) : Type 0 where
+  pub begins : Begins numbers ticks known.pair known.start
+  pub steps : known.steps ≡ trace_steps numbers ticks known.pair known.start
+  pub rows : AreAtomRows (terms_of numbers) known.steps known.trace
+
+-- The list holds each trace that these ticks have begun, once.
+pub record AreKnown (numbers : AuditNumbers) (ticks : List Sighting) (knowns : List Known) : Type 0 where
+  pub each : (known : Known) → Contains knowns known → IsKnown numbers ticks known
+  pub all : (pair : Pair) (start : ℕ) → Begins numbers ticks pair start → Contains (pairs_of knowns) pair
+  pub once : AllPairs ◌≢◌ (pairs_of knowns)
+
+-- ---- their next steps
+
+-- The row is that of the next step of the trace, with the state of the engagement before the step and at it.
+pub record IsNextRow (numbers : AuditNumbers) (known : Known) (step : Option PairStep) (next : NextRow) : Type 0 where
+  pub seen : next.seen ≡ step
+  pub was : IsStateAfter numbers.detect known.steps next.was
+  pub is : IsStateAfter numbers.detect (known.steps ++ step ∷ []) next.is
+  pub row : IsAtomRow (terms_of numbers) (known.steps ++ step ∷ []) (length known.steps) (answer_of next.row)
+
+-- The trace is the same with its step from the one sighting to the next.
+pub record IsFollowed (numbers : AuditNumbers) (before seen : Sighting) (known after : Known) : Type 0 where
+  pub answers : Atom → Verdict
+  pub is : after ≡ watched known (step_of known.pair before seen) answers
+  pub row : IsAtomRow (terms_of numbers) (known.steps ++ step_of known.pair before seen ∷ []) (length known.steps) answers
+
+-- Each of the traces begins at this tick, and has no steps yet.
+abbrev pub AreOpened : ℕ → List Known → Type 0
+AreOpened start knowns = AllByRecursion (λ (known : Known). known ≡ opened known.pair start) knowns

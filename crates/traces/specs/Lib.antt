@@ -1,0 +1,10 @@
+pub use Rattle.meetings.specs.Atoms
+pub use Rattle.meetings.specs.Traces
+pub use Rattle.mtl_monitor.specs.Traces as MonitorTraces
+pub use Rattle.rule_set.specs.NamedTrees
+pub mod Audited
+pub mod Contacts
+pub mod FaultTexts
+pub mod Known
+pub mod Standing
+pub mod Inner

@@ -1,0 +1,62 @@
+-- What the traces of a window stand for: their numbers, the vessels seen at the ticks that were given, and what is known of each.
+use Rattle.std.specs.Prelude.{ℕ, ◌≡◌, ◌≢◌, ◌+◌, ◌<◌, ◌≤◌, List, ◌++◌, length, All, AllPairs}
+use Rattle.encounters.specs.Risk.{IsDetect}
+use Rattle.meetings.specs.declared.pair.Pair.{Pair}
+use Rattle.traces.specs.Audited.{AreAscending, ArePlaced, Begins, AuditNumbers, Sighting, last_sighting}
+use Rattle.traces.specs.Inner.TracesKept.{Holds}
+use Rattle.traces.specs.Known.{AreKnown, AreOpened, Known}
+use Rattle.traces.specs.declared.all_traces.AllTraces.{AllTraces}
+use Rattle.traces.specs.declared.all_traces.TheConstants.{MOST_TRACES}
+
+-- ---- what the traces are asked
+
+-- how many ticks were given, and how many the window has
+abbrev pub given_of : AllTraces → ℕ
+given_of kept = kept.given
+
+abbrev pub last_tick_of : AllTraces → ℕ
+last_tick_of kept = kept.last_tick
+
+-- the vessels seen at the latest tick
+abbrev pub latest_sighting : AllTraces → Sighting
+latest_sighting kept = kept.latest.items
+
+-- how many traces there are
+abbrev pub traces_of : AllTraces → ℕ
+traces_of kept = length kept.traces.items
+
+-- ---- what each call finds and leaves, whatever they stand for
+
+pub record IsSound (kept : AllTraces) : Type 0 where
+  pub detect : IsDetect kept.detect
+  pub window : kept.last_tick ≤ 20000
+  pub given : kept.given ≤ kept.last_tick + 1
+  pub ascending : AreAscending kept.latest.items
+  pub placed : ArePlaced kept.latest.items
+  pub few : length kept.traces.items ≤ MOST_TRACES
+
+-- ---- what they stand for
+
+-- Of these ticks, traces of which this is known.
+pub record StandsFor (kept : AllTraces) (numbers : AuditNumbers) (ticks : List Sighting) (knowns : List Known) : Type 0 where
+  pub last_tick : kept.last_tick ≡ numbers.last_tick
+  pub subjects : kept.subjects.items ≡ numbers.subjects
+  pub count : kept.given ≡ length ticks
+  pub latest : kept.latest.items ≡ last_sighting ticks
+  pub holds : Holds kept numbers knowns
+
+-- Behind the traces that there were stand those that have begun at the latest tick, and they are all traces of these ticks.
+pub record HaveBegun (kept : AllTraces) (numbers : AuditNumbers) (ticks : List Sighting) (start : ℕ) (before : List Known) : Type 0 where
+  pub new : List Known
+  pub opened : AreOpened start new
+  pub stands : StandsFor kept numbers ticks (before ++ new)
+  pub are_known : AreKnown numbers ticks (before ++ new)
+
+-- ---- the limit of traces
+
+-- More traces begin at these ticks than this number.
+pub record HaveMoreThan (most : ℕ) (numbers : AuditNumbers) (ticks : List Sighting) : Type 0 where
+  pub pairs : List Pair
+  pub many : most < length pairs
+  pub once : AllPairs ◌≢◌ pairs
+  pub begin : All (λ pair. (start : ℕ) × Begins numbers ticks pair start) pairs

@@ -1,0 +1,256 @@
+//! All traces of a window, tick by tick.
+ghost use Rattle.std.specs.Prelude.{ℕ, ◌≡◌, ◌+◌, ◌<◌, ◌≤◌, ◌++◌, ◌∷◌, ◌^◌, [], List, length, Err, IfOk, OnOk};
+ghost use Rattle.std.specs.List.{AllZip, Contains};
+ghost use Rattle.encounters.specs.Risk.{IsDetect};
+ghost use Rattle.meetings.specs.Answers.{answer_of};
+ghost use Rattle.meetings.specs.declared.pair.Pair.{Pair};
+ghost use Rattle.traces.specs.Audited.{AreAscending, ArePlaced, AuditNumbers, MoveLittle, Sighting, last_sighting, step_of};
+ghost use Rattle.traces.specs.Inner.TracesKept.{AreBegun, AreKnownOn, AreTooMany, HaveBegunNow, Holds, IsBeginning, IsNextTick, IsTaken, MayBegin, MayTake};
+ghost use Rattle.traces.specs.Known.{AreKnown, IsFollowed, IsNextRow, Known, opened, pairs_of, watched};
+ghost use Rattle.traces.specs.Standing.{HaveBegun, HaveMoreThan, IsSound, StandsFor, given_of, last_tick_of, latest_sighting, traces_of};
+ghost use Rattle.traces.specs.declared.fault.TickFault.TheVariants.{TooManyPairs};
+
+use crate::contact_pairs::contacts;
+use crate::fault::TickFault;
+use crate::followed_trace::{FollowedTrace, NextRow};
+use crate::known_pairs::{add, is_among, is_chosen};
+use encounters::{Act, Detect};
+use meetings::Pair;
+use motion::TickState;
+use outside::Memory;
+use std::alloc::Global;
+use std::collections::BTreeSet;
+
+/// So many traces are followed at most.
+pub const MOST_TRACES: usize = 4096;
+
+/// All traces of a window, of the pairs of which one vessel is a subject; where there are no subjects, of all pairs. They stand for
+/// the vessels seen at the ticks that were given, and for what is known of each trace. After an `Err` they may only be dropped.
+#[derive(Drop)]
+pub struct AllTraces {
+    alloc: Global,
+    detect: Detect,
+    act: Act,
+    tick: u32,
+    last_tick: u32,
+    subjects: Vec<u32>,
+    /// The vessels seen at the latest tick.
+    latest: Vec<(u32, TickState)>,
+    /// How many ticks were given.
+    given: u32,
+    traces: Vec<FollowedTrace>,
+    pairs: BTreeSet<Pair>,
+}
+
+impl AllTraces {
+    /// No traces yet, of a window whose last tick has this number. A tick lasts so many seconds.
+    pub fn new(
+        alloc: Global,
+        detect: Detect,
+        act: Act,
+        subjects: &[u32],
+        tick: u32,
+        last_tick: u32,
+    ) -> Result<AllTraces, Memory>
+        requires detect { IsDetect detect }
+        requires ticks { last_tick ≤ 20000 }
+        ensures sound { IfOk result (λ traces. IsSound traces) }
+        ensures none { IfOk result (λ traces. traces_of traces ≡ 0) }
+        ensures stands { IfOk result (λ traces. (numbers : AuditNumbers) → numbers.detect ≡ detect → numbers.act ≡ act → numbers.tick ≡ tick
+            → numbers.last_tick ≡ last_tick → numbers.subjects ≡ subjects.now → StandsFor traces numbers [] []) }
+    {
+        Ok(AllTraces {
+            alloc,
+            detect,
+            act,
+            tick,
+            last_tick,
+            subjects: subjects.to_vec(alloc)?,
+            latest: Vec::new(alloc),
+            given: 0,
+            traces: Vec::new(alloc),
+            pairs: BTreeSet::new(alloc),
+        })
+    }
+
+    /// How many traces there are: none is ever taken away, and those that begin come behind the others.
+    pub fn len(&self) -> usize
+        ensures { result ≡ traces_of self.now }
+    {
+        self.traces.len()
+    }
+
+    /// How many ticks were given.
+    pub fn given(&self) -> u32
+        ensures { result ≡ given_of self.now }
+    {
+        self.given
+    }
+
+    /// The number of the window's last tick.
+    pub fn last_tick(&self) -> u32
+        ensures { result ≡ last_tick_of self.now }
+    {
+        self.last_tick
+    }
+
+    /// The pair of the trace with this index.
+    pub fn pair(&self, index: usize) -> Pair
+        requires { index < traces_of self.now }
+        ensures { (numbers : AuditNumbers) (ticks : List Sighting) (front : List Known) (known : Known) (back : List Known)
+            → StandsFor self.now numbers ticks (front ++ known ∷ back) → index ≡ length front → result ≡ known.pair }
+    {
+        self.traces[index].pair
+    }
+
+    /// Takes the next step of the trace with this index, from the latest tick to the one at which these vessels are seen, and gives
+    /// its row. It is asked of each trace once before the tick is taken.
+    #[inline(always)]
+    pub fn next_row(&mut self, index: usize, seen: &[(u32, TickState)]) -> NextRow
+        requires sound { IsSound self.old }
+        requires within { index < traces_of self.old }
+        requires ascending { AreAscending seen.now }
+        requires placed { ArePlaced seen.now }
+        requires moves { MoveLittle (latest_sighting self.old) seen.now }
+        ensures sound { IsSound self.new }
+        ensures given { given_of self.new ≡ given_of self.old }
+        ensures last_tick { last_tick_of self.new ≡ last_tick_of self.old }
+        ensures latest { latest_sighting self.new ≡ latest_sighting self.old }
+        ensures as_many { traces_of self.new ≡ traces_of self.old }
+        ensures row { (numbers : AuditNumbers) (ticks : List Sighting) (front : List Known) (known : Known) (back : List Known)
+            → StandsFor self.old numbers ticks (front ++ known ∷ back) → index ≡ length front → length known.steps < 2 ^ 31
+            → IsNextRow numbers known (step_of known.pair (latest_sighting self.old) seen.now) result }
+        ensures stands { (numbers : AuditNumbers) (ticks : List Sighting) (front : List Known) (known : Known) (back : List Known)
+            → StandsFor self.old numbers ticks (front ++ known ∷ back) → index ≡ length front → length known.steps < 2 ^ 31
+            → StandsFor self.new numbers ticks (front ++ watched known (step_of known.pair (latest_sighting self.old) seen.now) (answer_of result.row) ∷ back) }
+    {
+        self.traces[index].next_row(&self.latest, seen)
+    }
+
+    /// Takes the next tick, of whose vessels these are seen, in the order of their MMSIs, where all traces have taken their step to it:
+    /// begins the traces of the audited pairs that are in contact for the first time, before the last tick.
+    pub fn tick(&mut self, seen: &[(u32, TickState)]) -> Result<(), TickFault>
+        requires sound { IsSound self.old }
+        requires ascending { AreAscending seen.now }
+        requires placed { ArePlaced seen.now }
+        requires more { given_of self.old ≤ last_tick_of self.old }
+        ensures sound { OnOk result (IsSound self.new) }
+        ensures given { OnOk result (given_of self.new ≡ given_of self.old + 1) }
+        ensures last_tick { OnOk result (last_tick_of self.new ≡ last_tick_of self.old) }
+        ensures latest { OnOk result (latest_sighting self.new ≡ seen.now) }
+        ensures more { OnOk result (traces_of self.old ≤ traces_of self.new) }
+        ensures stands { OnOk result ((numbers : AuditNumbers) (ticks : List Sighting) (knowns after : List Known) → AreKnown numbers ticks knowns
+            → AllZip (IsFollowed numbers (last_sighting ticks) seen.now) knowns after → StandsFor self.old numbers ticks after
+            → HaveBegun self.new numbers (ticks ++ seen.now ∷ []) (length ticks) after) }
+        // The limit is met exactly where the tick begins a 4097th trace; memory may run out before.
+        ensures many { result ≡ Err TooManyPairs → (numbers : AuditNumbers) (ticks : List Sighting) (knowns after : List Known) → AreKnown numbers ticks knowns
+            → AllZip (IsFollowed numbers (last_sighting ticks) seen.now) knowns after → StandsFor self.old numbers ticks after
+            → HaveMoreThan MOST_TRACES numbers (ticks ++ seen.now ∷ []) }
+        ensures few { OnOk result ((numbers : AuditNumbers) (ticks : List Sighting) (knowns after : List Known) → AreKnown numbers ticks knowns
+            → AllZip (IsFollowed numbers (last_sighting ticks) seen.now) knowns after → StandsFor self.old numbers ticks after
+            → HaveMoreThan MOST_TRACES numbers (ticks ++ seen.now ∷ []) → ⊥) }
+    {
+        self.begin(seen)?;
+        replace(&mut self.latest, seen)?;
+        self.given += 1;
+        Ok(())
+    }
+
+    /// Begins the traces of the pairs that are in contact for the first time, before the last tick.
+    fn begin(&mut self, seen: &[(u32, TickState)]) -> Result<(), TickFault>
+        requires sound { IsSound self.old }
+        requires ascending { AreAscending seen.now }
+        requires placed { ArePlaced seen.now }
+        ensures sound { OnOk result (IsSound self.new) }
+        ensures same { OnOk result (IsBeginning self.old self.new) }
+        ensures begun { OnOk result ((numbers : AuditNumbers) (ticks : List Sighting) (knowns : List Known) → IsNextTick self.old numbers ticks
+            → AreKnownOn numbers ticks seen.now knowns → Holds self.old numbers knowns → HaveBegunNow self.new numbers (ticks ++ seen.now ∷ []) (length ticks) knowns) }
+        ensures many { result ≡ Err TooManyPairs → (numbers : AuditNumbers) (ticks : List Sighting) (knowns : List Known) → IsNextTick self.old numbers ticks
+            → AreKnownOn numbers ticks seen.now knowns → Holds self.old numbers knowns → HaveMoreThan MOST_TRACES numbers (ticks ++ seen.now ∷ []) }
+    {
+        if self.last_tick <= self.given {
+            return Ok(());
+        }
+        self.begin_all(seen)
+    }
+
+    /// Begins the traces of the audited pairs that are in contact for the first time.
+    fn begin_all(&mut self, seen: &[(u32, TickState)]) -> Result<(), TickFault>
+        requires sound { IsSound self.old }
+        requires ascending { AreAscending seen.now }
+        requires placed { ArePlaced seen.now }
+        ensures sound { OnOk result (IsSound self.new) }
+        ensures same { OnOk result (IsBeginning self.old self.new) }
+        ensures begun { OnOk result ((numbers : AuditNumbers) (knowns : List Known) → Holds self.old numbers knowns → MayBegin self.old numbers knowns
+            → AreBegun self.new numbers seen.now self.old.given knowns) }
+        ensures many { result ≡ Err TooManyPairs → (numbers : AuditNumbers) (knowns : List Known) → Holds self.old numbers knowns → MayBegin self.old numbers knowns
+            → AreTooMany numbers seen.now (pairs_of knowns) self.old.given knowns }
+    {
+        let pairs = contacts(self.alloc, &self.subjects, seen, self.detect.watch)?;
+        for pair in pairs.as_slice() {
+            self.begin_both(*pair)?;
+        }
+        Ok(())
+    }
+
+    /// Begins both traces of two vessels in contact, if they are audited and have none.
+    fn begin_both(&mut self, pair: Pair) -> Result<(), TickFault>
+        requires sound { IsSound self.old }
+        ensures sound { OnOk result (IsSound self.new) }
+        ensures same { OnOk result (IsBeginning self.old self.new) }
+        ensures begun { OnOk result ((numbers : AuditNumbers) (seen : Sighting) (old : List Pair) (knowns : List Known) → Holds self.old numbers knowns
+            → MayTake self.old numbers seen old knowns pair → IsTaken self.new numbers seen old self.old.given knowns pair) }
+        ensures many { result ≡ Err TooManyPairs → (numbers : AuditNumbers) (seen : Sighting) (old : List Pair) (knowns : List Known) → Holds self.old numbers knowns
+            → MayTake self.old numbers seen old knowns pair → AreTooMany numbers seen old self.old.given knowns }
+    {
+        if !is_chosen(&self.subjects, pair) {
+            return Ok(());
+        }
+        if is_among(&self.pairs, pair) {
+            return Ok(());
+        }
+        self.begin_one(pair)?;
+        self.begin_one(Pair {
+            subject: pair.other,
+            other: pair.subject,
+        })
+    }
+
+    /// Begins the trace of a pair that has none, if there is room for one.
+    fn begin_one(&mut self, pair: Pair) -> Result<(), TickFault>
+        requires sound { IsSound self.old }
+        ensures sound { OnOk result (IsSound self.new) }
+        ensures same { OnOk result (IsBeginning self.old self.new) }
+        ensures begun { OnOk result ((numbers : AuditNumbers) (knowns : List Known) → Holds self.old numbers knowns
+            → Holds self.new numbers (knowns ++ opened pair self.old.given ∷ [])) }
+        ensures many { result ≡ Err TooManyPairs → traces_of self.old ≡ MOST_TRACES }
+    {
+        if self.traces.len() == MOST_TRACES {
+            return Err(TickFault::TooManyPairs);
+        }
+        self.push(pair)?;
+        Ok(())
+    }
+
+    /// Puts the trace of a pair that begins at this tick behind the others.
+    fn push(&mut self, pair: Pair) -> Result<(), Memory>
+        requires sound { IsSound self.old }
+        requires few { traces_of self.old < MOST_TRACES }
+        ensures sound { OnOk result (IsSound self.new) }
+        ensures same { OnOk result (IsBeginning self.old self.new) }
+        ensures begun { OnOk result ((numbers : AuditNumbers) (knowns : List Known) → Holds self.old numbers knowns
+            → Holds self.new numbers (knowns ++ opened pair self.old.given ∷ [])) }
+    {
+        self.traces.push(FollowedTrace::new(pair, self.given, self.detect, self.act, self.tick))?;
+        add(&mut self.pairs, pair)
+    }
+}
+
+/// Puts these vessels in the place of those seen before.
+fn replace(latest: &mut Vec<(u32, TickState)>, seen: &[(u32, TickState)]) -> Result<(), Memory>
+    ensures { OnOk result (latest.new.items ≡ seen.now) }
+{
+    latest.clear();
+    latest.extend_from_slice(seen)?;
+    Ok(())
+}
