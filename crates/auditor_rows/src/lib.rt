@@ -16,4 +16,4 @@ mod row_texts;
 #[cfg(test)]
 mod stretches;
 #[cfg(test)]
-mod traces;
+mod trace_marks;
