@@ -12,9 +12,11 @@ ghost use Rattle.tracks.specs.AcceptedReports.{JudgingNumbers};
 ghost use Rattle.tracks.specs.Standing.{StandsFor as BookStandsFor};
 ghost use Rattle.tracks.specs.VesselsHeld.{Sent, is_held};
 ghost use Rattle.tracks.specs.declared.keeping.Keeping.TheVariants.{Tracks};
+ghost use Rattle.situations.specs.Situations.{IsSituation};
 ghost use Rattle.situations.specs.declared.near.Near.{Near};
+ghost use Rattle.planner.specs.Searches.{searched_situation};
 ghost use Rattle.sessions.specs.Endings.{IsAnswerTo};
-ghost use Rattle.sessions.specs.PlanReport.{IsPlanReport, first_tick, last_tick, leg_rows, manoeuvre_rows, near_rows};
+ghost use Rattle.sessions.specs.PlanReport.{IsManoeuvre, IsPlanReport, first_tick, last_tick, leg_rows, manoeuvre_rows, near_rows};
 ghost use Rattle.sessions.specs.Inner.Faults.{EndCause};
 ghost use Rattle.sessions.specs.Inner.PlanWriting.{IsSought, SoughtCause};
 ghost use Rattle.command_line.specs.declared.mode.Mode.TheVariants as mode;
@@ -29,7 +31,7 @@ use log_lines::Judge;
 use outside::Memory;
 use planner::Search;
 use scenario::Scenario;
-use situations::{Near, PrepareFault, Ready, prepare};
+use situations::{Near, PrepareFault, Ready, Situation, prepare};
 use std::alloc::Global;
 use tracks::Book;
 
@@ -119,7 +121,40 @@ impl PlannedLegs<'_> {
     }
 }
 
-/// Seeks a plan of own ship, writes the rows of the vessels near her and of the plan, and tells whether there is none.
+/// Seeks a plan in a situation. The search keeps the situation.
+fn sought(alloc: Global, situation: Situation) -> Result<(Search, Option<Plan>), Memory>
+    requires { IsSituation situation }
+    ensures situation { IfOk result (λ found. searched_situation found.0 ≡ situation) }
+    ensures manoeuvre { IfOk result (λ found. IsManoeuvre situation found.1) }
+{
+    let mut search = Search::new(alloc, situation)?;
+    let plan = search.run();
+    Ok((search, plan))
+}
+
+/// Writes the rows of the vessels near own ship, and of a plan.
+fn write_sought(
+    text: &mut ReportText,
+    book: &Book,
+    near: &[Near],
+    legs: &PlannedLegs,
+    plan: Option<&Plan>,
+) -> Result<(), Memory>
+    requires keeping { book.now.keeping ≡ Tracks }
+    requires begin { legs.now.begin ≤ 20000 }
+    requires course { legs.now.ready.course < 3600 }
+    requires speed { legs.now.ready.speed ≤ 1022 }
+    requires plan { IfSome (option_copied plan) (IsPlan (choices_of legs.now.lattice.now) legs.now.lattice.now.legs) }
+    ensures { OnOk result ((numbers : JudgingNumbers) (messages : List Sent) (front : List ℕ) → BookStandsFor book.now numbers messages
+        → All (λ (vessel : Near). is_held numbers messages vessel.mmsi ≡ true) near.now → HasText text.old front
+        → HasText text.new ((front ++ near_rows numbers messages near.now)
+        ++ manoeuvre_rows legs.now.begin legs.now.lattice.now legs.now.ready (option_copied plan.entry))) }
+{
+    write_near(text, book, near)?;
+    legs.write(text, plan)
+}
+
+/// Prepares own ship's situation, seeks a plan in it and writes what was found; tells whether there is none.
 fn write_search(
     alloc: Global,
     scenario: Scenario,
@@ -136,16 +171,13 @@ fn write_search(
 {
     let begin = scenario.window.ticks;
     let prepared = prepare(alloc, scenario, book)?;
-    write_near(text, book, &prepared.near)?;
-    let ready = prepared.ready;
-    let mut search = Search::new(alloc, prepared.situation)?;
-    let plan = search.run();
+    let (search, plan) = sought(alloc, prepared.situation)?;
     let legs = PlannedLegs {
         begin,
         lattice: &search.situation().lattice,
-        ready,
+        ready: prepared.ready,
     };
-    legs.write(text, plan.as_ref())?;
+    write_sought(text, book, &prepared.near, &legs, plan.as_ref())?;
     Ok(plan.is_none())
 }
 

@@ -7,7 +7,6 @@ use Rattle.situations.specs.Preparing.{IsPrepared}
 use Rattle.situations.specs.declared.near.Near.{Near}
 use Rattle.tracks.specs.VesselsHeld.{is_held}
 use Rattle.situations.specs.declared.situation.Situation.{Situation}
-use Rattle.sessions.specs.PlanReport.{IsManoeuvre}
 use Rattle.sessions.proofs.Seeking.{none_is, own_of, search_cause, sought}
 use Rattle.sessions.proofs.plan.write_search.Goals as goal
 
@@ -17,8 +16,8 @@ returns-in_err-prepared-clause-cause c =
     (λ why is. c.in_err-prepared.ensures.unready why (ap Err is) (numbers_of c.args.scenario) messages stands)
     (λ is. c.in_err-prepared.ensures.many (ap Err is) (numbers_of c.args.scenario) messages stands))
 
-pub returns-in_err-write-clause-cause : goal.returns-in_err-write-clause-cause
-returns-in_err-write-clause-cause c = err_cause _ _ _ c.from_residual-in_err-write.ensures.1 (λ messages stands. tt)
+pub returns-in_err-write_sought-clause-cause : goal.returns-in_err-write_sought-clause-cause
+returns-in_err-write_sought-clause-cause c = err_cause _ _ _ c.from_residual-in_err-write_sought.ensures.1 (λ messages stands. tt)
 
 pub returns-clause-sought : goal.returns-clause-sought
 returns-clause-sought c = λ messages front stands has.
@@ -26,9 +25,9 @@ returns-clause-sought c = λ messages front stands has.
     let prepared = c.in_ok-prepared.prepared in
     let is = c.in_ok-prepared.ensures.prepared (numbers_of scenario) messages stands in
     let own = own_of scenario.own (λ own. IsPrepared (numbers_of scenario) messages scenario own prepared) c.requires.own is in
-    let situation = c.in_ok-search.ensures.situation in
-    let near = c.in_ok-write_near.ensures (numbers_of scenario) messages front stands (subst (All (λ (v : Near). is_held (numbers_of scenario) messages v.mmsi ≡ true)) (sym c.deref.ensures.value) own.holds.held) has in
-    sought scenario messages front c.write.new.text prepared c.situation.result.now.lattice c.run-plan.result (option_copied c.as_ref.result) c.is_none.result c.requires.own is
-    (subst (λ (s : Situation). IsManoeuvre s c.run-plan.result) situation c.run-plan.ensures.answer)
-    (ap (λ (s : Situation). s.lattice) (c.situation.ensures ∙ c.run-plan.ensures.situation ∙ situation)) c.as_ref.ensures.value (none_is c.run-plan.result c.is_none.result c.is_none.ensures)
-    (c.in_ok-write.ensures _ (rw c.deref.ensures.value at near))
+    let found = c.in_ok-sought in
+    let held = subst (All (λ (v : Near). is_held (numbers_of scenario) messages v.mmsi ≡ true)) (sym c.deref.ensures.value) own.holds.held in
+    sought scenario messages front c.write_sought.new.text prepared c.situation.result.now.lattice found.field-0.1 (option_copied c.as_ref.result) c.is_none.result c.requires.own is
+    found.ensures.manoeuvre
+    (ap (λ (s : Situation). s.lattice) (c.situation.ensures ∙ found.ensures.situation)) c.as_ref.ensures.value (none_is found.field-0.1 c.is_none.result c.is_none.ensures)
+    (rw c.deref.ensures.value at (c.in_ok-write_sought.ensures (numbers_of scenario) messages front stands held has))
