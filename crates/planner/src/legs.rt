@@ -6,8 +6,8 @@ ghost use Rattle.planner.specs.Inner.Legs.{lasts, IsPlannedLeg};
 ghost use Rattle.situations.specs.Paths.{HasReached};
 ghost use Rattle.situations.specs.Situations.{IsSituation};
 
-use situations::Situation;
 use lattice::{Plan, UnderWay};
+use situations::Situation;
 
 /// One leg of a plan, as it is followed.
 #[derive(Drop)]

@@ -6,10 +6,10 @@ ghost use Rattle.situations.specs.Prefixes.{reached};
 
 use crate::already::Already;
 use crate::legs::PlannedLeg;
-use situations::{Situation, Target};
 use crate::watched::Watched;
 use motion::TickState;
 use mtl_monitor::Program;
+use situations::{Situation, Target};
 
 /// A target of a situation, the rules as one program, and what is broken at now towards her.
 #[derive(Clone, Copy)]
