@@ -25,9 +25,9 @@ returns-clause-sought c = λ messages front stands has.
     let prepared = c.in_ok-prepared.prepared in
     let is = c.in_ok-prepared.ensures.prepared (numbers_of scenario) messages stands in
     let own = own_of scenario.own (λ own. IsPrepared (numbers_of scenario) messages scenario own prepared) c.requires.own is in
-    let found = c.in_ok-sought in
+    let found = c.in_ok-search in
     let held = subst (All (λ (v : Near). is_held (numbers_of scenario) messages v.mmsi ≡ true)) (sym c.deref.ensures.value) own.holds.held in
-    sought scenario messages front c.write_sought.new.text prepared c.situation.result.now.lattice found.field-0.1 (option_copied c.as_ref.result) c.is_none.result c.requires.own is
+    sought scenario messages front c.write_sought.new.text prepared c.situation.result.now.lattice found.plan (option_copied c.as_ref.result) c.is_none.result c.requires.own is
     found.ensures.manoeuvre
-    (ap (λ (s : Situation). s.lattice) (c.situation.ensures ∙ found.ensures.situation)) c.as_ref.ensures.value (none_is found.field-0.1 c.is_none.result c.is_none.ensures)
+    (ap (λ (s : Situation). s.lattice) (c.situation.ensures ∙ found.ensures.situation)) c.as_ref.ensures.value (none_is found.plan c.is_none.result c.is_none.ensures)
     (rw c.deref.ensures.value at (c.in_ok-write_sought.ensures (numbers_of scenario) messages front stands held has))

@@ -1,8 +1,7 @@
-use Rattle.std.proofs.Common.{List, ℕ, ◌++◌, ◌∙◌, length, subst, sym, ap}
+use Rattle.std.proofs.Common.{List, ℕ, ◌++◌, ◌∙◌, length, subst, ap}
 use Rattle.std.proofs.lemmas.Result.{on_ok_weaker}
 use Rattle.audit_report.specs.CsvRows.{row_of}
 use Rattle.audit_report.specs.ReportTexts.{HasText}
-use Rattle.tracks.specs.Lengths.{length_of}
 use Rattle.tracks.specs.declared.statics.Statics.{Statics}
 use Rattle.sessions.proofs.VesselRows.{vessel_is}
 use Rattle.sessions.proofs.vessels.write_vessel.Goals as goal
@@ -12,5 +11,5 @@ returns c = on_ok_weaker c.write.result (λ writes. λ numbers messages front is
     let ship = ap (λ (told : Statics). told.ship) is.statics in
     let name = c.name_told.ensures ∙ ap (λ (told : Statics). told.name) is.statics in
     let fields = vessel_is c.args.vessel.now.mmsi _ _ _ _ _ _ _ _ _ _ name ship c.kind_of.ensures c.length.ensures
-    (ap length is.points) (c.len-2.ensures ∙ ap length is.legs) in
+    (ap length is.points) (c.len.ensures ∙ ap length is.legs) in
     subst (λ (fs : List (List ℕ)). HasText c.write.new.self (front ++ row_of fs)) fields (writes front has)) c.write.ensures

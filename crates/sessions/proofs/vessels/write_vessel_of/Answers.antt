@@ -1,4 +1,4 @@
-use Rattle.std.proofs.Common.{ℕ, ◌++◌, subst}
+use Rattle.std.proofs.Common.{ℕ, ◌++◌, subst, sym, true≢false}
 use Rattle.std.proofs.lemmas.Result.{on_ok_weaker}
 use Rattle.audit_report.specs.CsvRows.{row_of}
 use Rattle.audit_report.specs.ReportTexts.{HasText}
@@ -15,4 +15,4 @@ returns-in-Some c = on_ok_weaker c.write_vessel.result (λ writes numbers messag
     (writes numbers messages front kept has)) c.write_vessel.ensures
 
 pub returns-in-None : goal.returns-in-None
-returns-in-None c = λ numbers messages front stands held has. absurd ((c.in-None.ensures.held numbers messages stands).0 held)
+returns-in-None c = λ numbers messages front stands held has. absurd (true≢false (sym ((c.in-None.ensures.held numbers messages stands).0 held)))
