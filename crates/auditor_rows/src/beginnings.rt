@@ -20,6 +20,10 @@ fn begun(alloc: Global, last_tick: u32) -> Result<AllTraces, Fail>
     ensures moves { IfOk result (λ traces. MoveLittle (latest_sighting traces) (head_on_at 1)) }
 {
     let mut traces = AllTraces::new(alloc, DETECT, ACT, &[], 10, last_tick)?;
+    // that none was given yet is no clause of `new`
+    if traces.given() > traces.last_tick() {
+        return Err("a tick was given".into());
+    }
     let seen = head_on(0);
     traces.tick(&seen)?;
     Ok(traces)

@@ -12,8 +12,8 @@ use Rattle.sessions.specs.Modes.{reads_log, reports}
 use Rattle.sessions.specs.Refusals.{IsMet}
 use Rattle.sessions.specs.declared.session_fault.SessionFault.TheVariants as why
 use Rattle.situations.specs.declared.readiness.Unready.{Unready}
-use Rattle.colregs_program.specs.Answers.{EndsWith, HoldsUnder, IsDue, IsOfDrill, IsScenario, MetIn, Runs, StopsWith, WritesNothing, WritesPart}
-use Rattle.colregs_program.specs.LogAnswers.{GainsFront, GainsReport, GainsSettled, IsAnswered, IsStoppedBy, LeavesSettled, Reports, answer_of, finished}
+use Rattle.colregs_program.specs.Answers.{EndsWith, HoldsUnder, IsDue, IsOfDrill, IsOfMigration, IsScenario, MetIn, Runs, StopsWith, WritesNothing, WritesPart}
+use Rattle.colregs_program.specs.LogAnswers.{GainsFront, GainsReport, GainsSettled, IsAnswered, IsFinished, IsStoppedBy, LeavesSettled, Reports, answer_of, finished}
 use Rattle.command_line.specs.Requests.{AskFor, AskForNothing}
 use Rattle.command_line.specs.declared.mode.Mode.{Mode}
 use Rattle.command_line.specs.declared.mode.Mode.TheVariants as mode
@@ -403,3 +403,24 @@ module _ (words : List (List ℕ)) (asked : Result Request WordsFault) (why : Wo
       usage_or_memory : (w : WordsFault) → w ≡ why → (why ≡ unasked.Usage) ⊎ (why ≡ unasked.Memory)
       usage_or_memory unasked.Usage is = inl (sym is)
       usage_or_memory unasked.Memory is = inr (sym is)
+
+-- ---- a run that has no scenario
+
+pub set_up_unfinished : (told : Status) (because : SetUpFault) (Made : Type 0) → IsTold told (set_up.answer_of because) Made → IsTrue (IsFinished told) → ⊥
+set_up_unfinished told because Made (inr memory) done = let no = subst (λ (s : Status). IsTrue (IsFinished s)) memory.0 done in cc no
+set_up_unfinished told fault.NotHad Made (inl same) done = let no = subst (λ (s : Status). IsTrue (IsFinished s)) same done in cc no
+set_up_unfinished told fault.TooLong Made (inl same) done = let no = subst (λ (s : Status). IsTrue (IsFinished s)) same done in cc no
+set_up_unfinished told (fault.Refused key cause) Made (inl same) done = let no = subst (λ (s : Status). IsTrue (IsFinished s)) same done in cc no
+set_up_unfinished told fault.Memory Made (inl same) done = let no = subst (λ (s : Status). IsTrue (IsFinished s)) same done in cc no
+
+pub set_up_migrates : (told : Status) (because : SetUpFault) (Made : Type 0) → IsTold told (set_up.answer_of because) Made → IsTrue (IsOfMigration told)
+set_up_migrates told because Made (inr memory) = subst (λ (s : Status). IsTrue (IsOfMigration s)) (sym memory.0) refl
+set_up_migrates told fault.NotHad Made (inl same) = subst (λ (s : Status). IsTrue (IsOfMigration s)) (sym same) refl
+set_up_migrates told fault.TooLong Made (inl same) = subst (λ (s : Status). IsTrue (IsOfMigration s)) (sym same) refl
+set_up_migrates told (fault.Refused key cause) Made (inl same) = subst (λ (s : Status). IsTrue (IsOfMigration s)) (sym same) refl
+set_up_migrates told fault.Memory Made (inl same) = subst (λ (s : Status). IsTrue (IsOfMigration s)) (sym same) refl
+
+-- what is not touched is kept
+pub keeps_same : (contents : Option (List ℕ)) → Keeps contents contents
+keeps_same None = tt
+keeps_same (Some bytes) = refl

@@ -4,7 +4,7 @@ use log_lines::{StreamedLines, ToldStatic};
 use scenario::read;
 use scenario_rows::SCENARIO;
 use std::test::Fail;
-use tracks::Keeping;
+use tracks::{BookFault, Keeping};
 
 #[test]
 fn a_line_is_judged_as_it_ends(rt: HostRuntime) -> Result<(), Fail> {
@@ -28,6 +28,14 @@ fn told(mmsi: u32, kind: Option<u8>) -> Option<ToldStatic> {
         time: 1700000100,
         kind,
     })
+}
+
+/// Takes bytes one at a time.
+fn take_all(lines: &mut StreamedLines, bytes: &[u8]) -> Result<(), BookFault> {
+    for byte in bytes {
+        lines.take(&[*byte])?;
+    }
+    Ok(())
 }
 
 // Messages 19, 24 A, 24 B and 1, off the air but for the last. The place of the first is far from the reference.
@@ -56,7 +64,7 @@ fn static_reports_are_told(rt: HostRuntime) -> Result<(), Fail> {
     ];
     let mut lines = StreamedLines::new(rt.alloc(), Keeping::Latest, &scenario);
     for (line, expected) in rows {
-        lines.take(line)?;
+        take_all(&mut lines, line)?;
         is(&rt, lines.judge().told(), expected);
     }
     Ok(())

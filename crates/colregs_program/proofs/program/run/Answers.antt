@@ -4,7 +4,7 @@ use Rattle.sessions.specs.Modes.{reads_log}
 use Rattle.colregs_program.specs.Answers.{HoldsUnder, IsRefusedBy, greatest_scenario}
 use Rattle.command_line.specs.declared.mode.Mode.{Mode}
 use Rattle.colregs_program.proofs.Due.{migration_due}
-use Rattle.colregs_program.proofs.Refusals.{bytes_told, calm_told, drill_status, drill_told, drills_too, log_decides, memory_failed, memory_front, met_is, migrates, no_migration, no_report, not_asked, not_set_up, nothing_told, own_told, pairs_told, put_told, read_told, reported_met, reported_so, runs, targets_told, unread_too, vessels_told}
+use Rattle.colregs_program.proofs.Refusals.{bytes_told, calm_told, drill_status, drill_told, drills_too, keeps_same, log_decides, memory_failed, memory_front, met_is, migrates, no_migration, no_report, not_asked, not_set_up, nothing_told, own_told, pairs_told, put_told, read_told, reported_met, reported_so, runs, set_up_migrates, set_up_unfinished, targets_told, unread_too, vessels_told}
 use Rattle.colregs_program.proofs.SettingUp.{options_in_range}
 use Rattle.colregs_program.specs.declared.status.Status.TheVariants as status
 use Rattle.colregs_program.proofs.program.run.Goals as goal
@@ -72,6 +72,19 @@ pub returns-in-Err-set_up-clause-due : goal.returns-in-Err-set_up-clause-due
 returns-in-Err-set_up-clause-due g c = λ due is shelf source sink.
     let told = rw c.into-in-Err-set_up.ensures at c.tell-in-Err-set_up.ensures.same in
     not_set_up _ _ _ c.in-Ok.request due _ _ _ c.in-Err-set_up.fault _ c.in-Ok.ensures.asked (sym c.reports.ensures ∙ c.if-not-reports.false) is c.in-Err-set_up.ensures.due shelf told
+
+pub returns-in-Err-set_up-clause-headline : goal.returns-in-Err-set_up-clause-headline
+returns-in-Err-set_up-clause-headline g c = λ done.
+    let told = rw c.into-in-Err-set_up.ensures at c.tell-in-Err-set_up.ensures.same in
+    absurd (set_up_unfinished _ c.in-Err-set_up.fault _ told done)
+
+pub returns-in-Err-set_up-clause-memory : goal.returns-in-Err-set_up-clause-memory
+returns-in-Err-set_up-clause-memory g c = λ is. inl (keeps_same _)
+
+pub returns-in-Err-set_up-clause-migration : goal.returns-in-Err-set_up-clause-migration
+returns-in-Err-set_up-clause-migration g c = λ request asked migrates.
+    let told = rw c.into-in-Err-set_up.ensures at c.tell-in-Err-set_up.ensures.same in
+    set_up_migrates _ c.in-Err-set_up.fault _ told
 
 pub returns-in-Err-set_up-clause-unfetched : goal.returns-in-Err-set_up-clause-unfetched
 returns-in-Err-set_up-clause-unfetched g c = λ nothing. absurd (asked_or_nothing c.args.words.now c.in-Ok.request c.in-Ok.ensures.asked nothing)
