@@ -166,13 +166,15 @@ def kind_of(row):
     return " ".join(fields[:1] + (fields[3:5] if fields[0] == "verdict" else fields[3:4] if fields[0] == "meeting" else []))
 
 
-def words(description, kept):
+def words(description, kept, *flags):
     parser = argparse.ArgumentParser(description=description, formatter_class=argparse.RawDescriptionHelpFormatter)
     parser.add_argument("program")
     parser.add_argument("other")
     parser.add_argument("--first", type=int, default=1)
     parser.add_argument("--count", type=int, default=300)
     parser.add_argument("--keep", default=kept)
+    for flag in flags:
+        parser.add_argument(flag, action="store_true")
     return parser.parse_args()
 
 

@@ -1,11 +1,11 @@
 #!/usr/bin/env python3
-"""Makes scenarios and logs, plans by two programs on each, and compares what they write: plans.py PROGRAM OTHER [--first SEED] [--count N]
+"""Makes scenarios and logs, plans by two programs on each, and compares what they write: plans.py PROGRAM OTHER [--first SEED] [--count N] [--shapes]
 
 Both programs take `plan SCENARIO` and a log on standard input. Each seed makes one scenario and one log. Own ship is about to meet other
 vessels: they cross from either side, come from ahead, are overtaken or overtake, run beside her or lie still; some alter before now, some
 are predicted to alter, and some are lost. The length of a vessel is told by a message 5, 19 or 24, or by none. The plans are from one to
 some thousands, of one to eight legs; own ship may be slow to turn; and in some seeds she is not ready, too many vessels are near, or the
-scenario is refused. Where the statuses or what the programs wrote differ, the seed is told and its files are kept in the folder `--keep`.
+scenario is refused. With --shapes domains are shapes of six vertices, and a few of these are refused; all else is as without. Where the statuses or what the programs wrote differ, the seed is told and its files are kept in the folder `--keep`.
 """
 import math
 import random
@@ -101,6 +101,30 @@ def lattice(draw, tick, targets):
     return lines
 
 
+def is_shape(vertices):
+    edges = [(b[0] - a[0], b[1] - a[1]) for a, b in zip(vertices, vertices[1:] + vertices[:1])]
+    return all(edge[1] * after[0] < edge[0] * after[1] and edge[0] * vertex[1] < edge[1] * vertex[0]
+               for vertex, edge, after in zip(vertices, edges, edges[1:] + edges[:1]))
+
+
+def shape(draw):
+    """Six vertices clockwise about a vessel, on an ellipse that reaches farther ahead of her than aft; a few are no shape, or no vertices."""
+    vertices = []
+    while not vertices or not is_shape(vertices):
+        long, wide, ahead = draw.choice([40, 150, 300, 600, 1150]), draw.choice([20, 80, 150, 300, 600]), draw.uniform(-0.2, 0.7)
+        vertices = [[round(long * (math.cos(at) + ahead)), round(wide * math.sin(at))] for at in sorted(draw.uniform(0, 2 * math.pi) for _ in range(6))]
+    if draw.random() < 0.04:
+        k = draw.randrange(6)
+        vertices = draw.choice([vertices[::-1], vertices[:5], vertices + [[1, 1]], vertices[:k] + [[2001, 0]] + vertices[k + 1:],
+                                vertices[:k] + [[0.5, 0]] + vertices[k + 1:], vertices[:k] + [[1, 2, 3]] + vertices[k + 1:], vertices[:k] + [7] + vertices[k + 1:]])
+    return vertices
+
+
+def shaped(seed):
+    text, sentences = make(seed)
+    return text.replace("[own]\n", "[own]\nshape = %s\n" % shape(random.Random("shape %d" % seed)), 1), sentences
+
+
 def changes(draw, fleet, tick):
     """What is predicted of vessels: of some in the log, or of one that is not."""
     ships = draw.sample(fleet, min(len(fleet), draw.choice([0, 0, 0, 1, 2])))
@@ -169,9 +193,9 @@ def choice(report):
 
 
 def main():
-    args = words(__doc__, "plans-kept")
+    args = words(__doc__, "plans-kept", "--shapes")
     same, statuses, choices = 0, {}, {}
-    for _, mine, theirs in compared(args, "plan", make):
+    for _, mine, theirs in compared(args, "plan", shaped if args.shapes else make):
         same += mine == theirs
         statuses[mine[0]] = statuses.get(mine[0], 0) + 1
         choices[choice(mine[1])] = choices.get(choice(mine[1]), 0) + 1

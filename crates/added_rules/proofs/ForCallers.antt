@@ -1,4 +1,5 @@
--- Lemmas for the crates above: tables have one first fault, and the rules of some tables are one list.
+-- Lemmas for the crates above: tables have one first fault or none, the rules of some tables are one list, and faultless tables have some.
+pub use Rattle.added_rules.proofs.Existing.{some_formula_fault, some_rules, some_weight_fault}
 use Rattle.std.proofs.Common.{◌≡◌, inl, inr, ℕ, List, [], ◌∷◌, ◌++◌, length, Option, Some, None, refl, ap, sym, ◌∙◌, arith}
 use Rattle.std.specs.Prelude.{codes}
 use Rattle.toml.specs.Data.{Data, as_str}

@@ -1,4 +1,5 @@
 pub mod ForCallers
 mod Added
+mod Existing
 mod Places
 mod Texts

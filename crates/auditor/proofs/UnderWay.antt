@@ -2,31 +2,34 @@
 use Rattle.std.proofs.Common.{◌≡◌, ◌≢◌, ℕ, suc, ◌+◌, ◌<◌, ◌≤◌, ◌^◌, List, [], ◌∷◌, ◌++◌, length, length-append, get_or, set, drop, map, append_assoc, append-nil, refl, sym, ap, subst, ◌∙◌, arith}
 use Rattle.std.specs.Prelude.{Option}
 use Rattle.std.specs.List.{AllPairs, AllZip, Contains}
+use Rattle.std.specs.Option.{option_copied}
 use Rattle.std.proofs.lemmas.List.{drop_more, drop_all, length-map}
 use Rattle.std.proofs.Common.{drop-set-lt}
+use Rattle.encounters.specs.Standing.{IsStateAfter}
 use Rattle.encounters.specs.declared.pair_step.PairStep.{PairStep}
 use Rattle.mtl_formulas.specs.FormulaTree.{FormulaTree}
 use Rattle.mtl_monitor.specs.Traces.{Trace}
 use Rattle.mtl_monitor.specs.Following.{IsProgramOf, count_of}
 use Rattle.mtl_monitor.specs.declared.program.Program.{Program}
 use Rattle.meetings.specs.Answers.{answer_of}
+use Rattle.meetings.specs.Atoms.{IsAtomRow}
 use Rattle.meetings.specs.declared.pair.Pair.{Pair}
 use Rattle.rule_set.specs.NamedTrees.{NamedTree}
 use Rattle.audit_rows.specs.Tracks.{Track}
 use Rattle.audit_rows.specs.declared.mark.Mark.{Mark}
 use Rattle.audit_rows.specs.declared.row.Row.{Row}
-use Rattle.traces.specs.Audited.{AuditNumbers, Sighting, last_sighting, step_of}
-use Rattle.traces.specs.Known.{AreOpened, IsFollowed, IsNextRow, Known, opened, pairs_of, watched}
+use Rattle.traces.specs.Audited.{AuditNumbers, Sighting, last_sighting, step_of, terms_of}
+use Rattle.traces.specs.Known.{AreOpened, IsFollowed, Known, opened, pairs_of, watched}
 use Rattle.traces.specs.Standing.{StandsFor as TracesStandFor, latest_sighting, traces_of}
 use Rattle.traces.specs.declared.all_traces.AllTraces.{AllTraces}
-use Rattle.traces.specs.declared.followed_trace.NextRow.{NextRow}
 use Rattle.traces.proofs.ForCallers.{different_pairs, in_head, in_tail, known_count, zip_at, zip_length, zip_push, zip_set}
 use Rattle.auditor.specs.Inner.AuditKeeping.{AreAllTracks, AreTracksOfAll}
 use Rattle.auditor.specs.Inner.TracesKept.{AreFinished, AreStepped, Holds, IsAtStep}
 use Rattle.auditor.specs.Tallies.{Keeps}
-use Rattle.auditor.specs.TraceKeeping.{AreRuleMarksSoFar, AreRuleMarksWhole, AreRuleTracks, AreTracks, AreTracksSoFar, HasTracksOf, StandsFor, Steps, formulas_of}
+use Rattle.auditor.specs.TraceKeeping.{AreRuleMarksSoFar, AreRuleMarksWhole, AreRuleTracks, AreTracks, AreTracksSoFar, HasTracksOf, IsNextRow, StandsFor, Steps, formulas_of}
 use Rattle.auditor.specs.declared.marks.Marks.{Marks}
 use Rattle.auditor.specs.declared.trace.AuditTrace.{AuditTrace}
+use Rattle.auditor.specs.declared.trace.NextRow.{NextRow}
 use Rattle.auditor.proofs.Growing.{tracks_push}
 
 -- ---- how many tracks a trace has
@@ -93,30 +96,51 @@ module _ (program : Program) (numbers : AuditNumbers) (ticks : List Sighting) (s
   GivesRow kept kept' index next =
       (front : List Known) (known : Known) (back : List Known) → TracesStandFor kept numbers ticks (front ++ known ∷ back) → index ≡ length front → length known.steps < 2 ^ 31
       → IsNextRow numbers known (step_of known.pair (last_sighting ticks) seen) next
-      × TracesStandFor kept' numbers ticks (front ++ watched known (step_of known.pair (last_sighting ticks) seen) (answer_of next.row) ∷ back)
+      × TracesStandFor kept' numbers ticks (front ++ watched known (step_of known.pair (last_sighting ticks) seen) (answer_of next.row.now) ∷ back)
 
-  -- as the call says it, by the vessels seen at the latest tick
-  pub gives_row : (kept kept' : AllTraces) (index : ℕ) (next : NextRow)
-      → ((numbers : AuditNumbers) (ticks : List Sighting) (front : List Known) (known : Known) (back : List Known) → TracesStandFor kept numbers ticks (front ++ known ∷ back) → index ≡ length front
-      → length known.steps < 2 ^ 31 → IsNextRow numbers known (step_of known.pair (latest_sighting kept) seen) next)
-      → ((numbers : AuditNumbers) (ticks : List Sighting) (front : List Known) (known : Known) (back : List Known) → TracesStandFor kept numbers ticks (front ++ known ∷ back) → index ≡ length front
-      → length known.steps < 2 ^ 31 → TracesStandFor kept' numbers ticks (front ++ watched known (step_of known.pair (latest_sighting kept) seen) (answer_of next.row) ∷ back))
+  -- what a call says of the trace at an index, whatever the traces stand for
+  abbrev pub Says : AllTraces → ℕ → (AuditNumbers → List Sighting → List Known → Known → List Known → Type 0) → Type 0
+  Says kept index Is =
+      (numbers : AuditNumbers) (ticks : List Sighting) (front : List Known) (known : Known) (back : List Known) → TracesStandFor kept numbers ticks (front ++ known ∷ back) → index ≡ length front
+      → Is numbers ticks front known back
+
+  -- as the calls say it, one after the other, by the vessels seen at the latest tick
+  pub gives_row : (kept middle kept' : AllTraces) (index : ℕ) (taken : Option PairStep) (next : NextRow) → option_copied next.seen ≡ taken
+      → Says kept index (λ numbers ticks front known back. IsStateAfter numbers.detect known.steps next.was.now)
+      → Says kept index (λ numbers ticks front known back. taken ≡ step_of known.pair (latest_sighting kept) seen)
+      → Says kept index (λ numbers ticks front known back. TracesStandFor middle numbers ticks (front ++ known ∷ back))
+      → Says middle index (λ numbers ticks front known back. length known.steps < 2 ^ 31
+      → IsAtomRow (terms_of numbers) (known.steps ++ option_copied next.seen ∷ []) (length known.steps) (answer_of next.row.now))
+      → Says middle index (λ numbers ticks front known back. length known.steps < 2 ^ 31
+      → TracesStandFor kept' numbers ticks (front ++ watched known (option_copied next.seen) (answer_of next.row.now) ∷ back))
+      → Says kept' index (λ numbers ticks front known back. IsStateAfter numbers.detect known.steps next.is.now)
       → GivesRow kept kept' index next
-  gives_row kept kept' index next row stands front known back h e short = (
-    subst (λ (s : Sighting). IsNextRow numbers known (step_of known.pair s seen) next) h.latest (row numbers ticks front known back h e short),
-    subst (λ (s : Sighting). TracesStandFor kept' numbers ticks (front ++ watched known (step_of known.pair s seen) (answer_of next.row) ∷ back)) h.latest (stands numbers ticks front known back h e short),
-  )
+  gives_row kept middle kept' index taken next same was is_step stands row took is front known back h e short =
+      let here : option_copied next.seen ≡ step_of known.pair (last_sighting ticks) seen =
+      same ∙ is_step numbers ticks front known back h e ∙ ap (λ (s : Sighting). step_of known.pair s seen) h.latest in
+      let now = stands numbers ticks front known back h e in
+      let after = took numbers ticks front known back now e short in (
+        record {
+          seen = here;
+          was = was numbers ticks front known back h e;
+          is = subst (λ (o : Option PairStep). IsStateAfter numbers.detect (known.steps ++ o ∷ []) next.is.now) here
+              (is numbers ticks front (watched known (option_copied next.seen) (answer_of next.row.now)) back after e);
+          row = subst (λ (o : Option PairStep). IsAtomRow (terms_of numbers) (known.steps ++ o ∷ []) (length known.steps) (answer_of next.row.now)) here
+              (row numbers ticks front known back now e short);
+        },
+        subst (λ (o : Option PairStep). TracesStandFor kept' numbers ticks (front ++ watched known o (answer_of next.row.now) ∷ back)) here after,
+      )
 
   -- what the step of a trace comes to
   abbrev pub StepsIt : AuditTrace → AuditTrace → NextRow → Marks → Marks → ℕ → Type 0
   StepsIt trace after next marks marks' first =
       (numbers : AuditNumbers) (known : Known) (seen : Option PairStep) (front mine back : List Track) (bound : ℕ) (given : List Row) → StandsFor program numbers trace known
       → step ≡ known.start + length known.steps → IsNextRow numbers known seen next → AreTracksSoFar numbers known mine → first ≡ length front
-      → Keeps marks (length numbers.rules) (front ++ mine ++ back) bound given → Steps program numbers after known seen (answer_of next.row) marks' front back bound given
+      → Keeps marks (length numbers.rules) (front ++ mine ++ back) bound given → Steps program numbers after known seen (answer_of next.row.now) marks' front back bound given
 
   module _ (kept kept' : AllTraces) (values : List AuditTrace) (marks marks' : Marks) (first index tracks : ℕ) (d after : AuditTrace) (next : NextRow)
       (is : IsProgramOf program (formulas_of numbers)) (many : tracks ≡ count_of program + 1) (within : index < length values)
-      (gives : GivesRow kept kept' index next) (it : StepsIt (get_or values index d) after next marks marks' first) where
+      (it : StepsIt (get_or values index d) after next marks marks' first) (gives : GivesRow kept kept' index next) where
     by_rest : (front rest done : List Known) (mine others : List Track) → knowns ≡ front ++ rest → length done ≡ index → AllZip (IsFollowed numbers (last_sighting ticks) seen) front done
         → ((known : Known) → Contains rest known → IsAtStep step known) → ((known : Known) → Contains rest known → length known.steps < 2 ^ 31)
         → TracesStandFor kept numbers ticks (done ++ rest) → AllZip (StandsFor program numbers) values (done ++ rest) → AreAllTracks numbers done mine → AreAllTracks numbers rest others
@@ -131,7 +155,7 @@ module _ (program : Program) (numbers : AuditNumbers) (ticks : List Sighting) (s
         subst (λ (ts : List Track). Keeps marks (length numbers.rules) ts bound given) (ap (λ (ts : List Track). mine ++ ts) rest_all.0.whole ∙ sym (append_assoc mine its more)) keeps in
         let row = gives done k ks traces (sym count) (short k (in_head k ks)) in
         let s = it numbers k step_seen mine its more bound given old (at k (in_head k ks)).0 row.0 rest_all.1 is_first before_keeps in
-        let after_known : Known = watched k step_seen (answer_of next.row) in
+        let after_known : Known = watched k step_seen (answer_of next.row.now) in
         let length_mine : length s.mine ≡ length numbers.rules + 1 = tracks_length AreRuleMarksSoFar numbers after_known s.mine s.tracks in
         let of_program : count_of program ≡ length numbers.rules = program_length program numbers is in
         record {
@@ -140,7 +164,7 @@ module _ (program : Program) (numbers : AuditNumbers) (ticks : List Sighting) (s
           done = done ++ after_known ∷ [];
           parted = parted ∙ sym (append_assoc front (k ∷ []) ks);
           count = omega (arith, length-append done (after_known ∷ []));
-          followed = zip_push (IsFollowed numbers (last_sighting ticks) seen) front done k after_known followed (record { answers = answer_of next.row; is = refl; row = row.0.row });
+          followed = zip_push (IsFollowed numbers (last_sighting ticks) seen) front done k after_known followed (record { answers = answer_of next.row.now; is = refl; row = row.0.row });
           at = λ known i. at known (in_tail k ks known i);
           short = λ known i. short known (in_tail k ks known i);
           traces = subst (λ (ys : List Known). TracesStandFor kept' numbers ticks ys) (sym (append_assoc done (after_known ∷ []) ks)) row.1;

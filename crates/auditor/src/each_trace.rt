@@ -15,7 +15,7 @@ ghost use Rattle.auditor.specs.TraceKeeping.{StandsFor, formulas_of};
 ghost use Rattle.traces.specs.declared.all_traces.TheConstants.{MOST_TRACES};
 
 use crate::marks::Marks;
-use crate::trace::AuditTrace;
+use crate::trace::{AuditTrace, NextRow};
 use meetings::Pair;
 use motion::TickState;
 use mtl_monitor::Program;
@@ -56,8 +56,18 @@ pub(crate) fn follow_each(
     let mut first = 0;
     let tracks = program.formula_count() + 1;
     for (index, trace) in values.iter_mut().enumerate() {
-        let next = traces.next_row(index, seen);
-        trace.step(program, &next, step, marks, first)?;
+        let was = traces.state(index);
+        let next_step = traces.next_step(index, seen);
+        let pair_step = next_step.as_ref();
+        let row = traces.take_step(index, pair_step);
+        let is = traces.state(index);
+        let next = NextRow {
+            seen: pair_step,
+            row: &row,
+            was: &was,
+            is: &is,
+        };
+        trace.step(program, next, step, marks, first)?;
         first += tracks;
     }
     Ok(())

@@ -17,5 +17,5 @@ pub use audit::{Audit, AuditEnd};
 pub use audit_rows::Row;
 pub use marks::Marks;
 pub use total::Total;
-pub use trace::AuditTrace;
+pub use trace::{AuditTrace, NextRow};
 pub use traces::{MOST_TRACES, TickFault as AuditFault};

@@ -14,11 +14,11 @@ use crate::marks::Marks;
 use audit_rows::Mark;
 use closest_approach::least;
 use encounters::{EngagementState, PairStep};
+use meetings::AtomRow;
 use mtl_formulas::Verdict;
 use mtl_monitor::{Program, TraceState};
 use outside::Memory;
 use std::alloc::Global;
-use traces::NextRow;
 
 /// What the meeting's track has at a step: the kind of the engagement, and the least distance within the step.
 #[inline(always)]
@@ -66,6 +66,19 @@ fn mark_or_repeat(
     marks.mark(index, step, mark)
 }
 
+/// What the next step of a trace brings.
+#[derive(Clone, Copy)]
+pub struct NextRow<'a> {
+    /// The step: `None` where either vessel is not seen at either tick.
+    pub seen: Option<&'a PairStep>,
+    /// What it answers to the atoms.
+    pub row: &'a AtomRow,
+    /// The state of the engagement before the step.
+    pub was: &'a EngagementState,
+    /// The state at it.
+    pub is: &'a EngagementState,
+}
+
 /// One trace: its first step, and the values of the rules' formulas so far. It stands for what the steps so far answer to the atoms.
 #[derive(Drop)]
 pub struct AuditTrace {
@@ -83,9 +96,9 @@ impl AuditTrace {
     ghost use Rattle.mtl_monitor.specs.Following.{Fits, IsProgramOf, count_of, fed_of, greatest_reach};
     ghost use Rattle.mtl_monitor.specs.declared.program.Program.{Program};
     ghost use Rattle.traces.specs.Audited.{AuditNumbers};
-    ghost use Rattle.traces.specs.Known.{IsNextRow, Known, opened};
+    ghost use Rattle.traces.specs.Known.{Known, opened};
     ghost use Rattle.auditor.specs.Inner.RowAnswers.{MarksRule, MarksRules};
-    ghost use Rattle.auditor.specs.TraceKeeping.{AreTracksSoFar, HasTracksOf, IsReady, StandsFor, Steps, formulas_of, steps_of};
+    ghost use Rattle.auditor.specs.TraceKeeping.{AreTracksSoFar, HasTracksOf, IsNextRow, IsReady, StandsFor, Steps, formulas_of, steps_of};
 
     /// The trace that begins at a step, of which there are none yet.
     pub fn new(alloc: Global, program: &Program, start: u32) -> Result<AuditTrace, Memory>
@@ -163,7 +176,7 @@ impl AuditTrace {
     pub fn step(
         &mut self,
         program: &Program,
-        next: &NextRow,
+        next: NextRow<'_>,
         step: u32,
         marks: &mut Marks,
         first: usize,
@@ -176,19 +189,14 @@ impl AuditTrace {
         ensures steps { steps_of self.new ≡ steps_of self.old + 1 }
         ensures as_many { rules_of marks.new ≡ rules_of marks.old }
         ensures stands { OnOk result ((numbers : AuditNumbers) (known : Known) (seen : Option PairStep) (before mine after : List Track) (bound : ℕ) (given : List Row)
-            → StandsFor program.now numbers self.old known → step ≡ known.start + length known.steps → IsNextRow numbers known seen next.now
+            → StandsFor program.now numbers self.old known → step ≡ known.start + length known.steps → IsNextRow numbers known seen next.entry
             → AreTracksSoFar numbers known mine → first ≡ length before → Keeps marks.old (length numbers.rules) (before ++ mine ++ after) bound given
-            → Steps program.now numbers self.new known seen (answer_of next.now.row) marks.new before after bound given) }
+            → Steps program.now numbers self.new known seen (answer_of next.entry.row.now) marks.new before after bound given) }
     {
-        let changes = self.values.feed(program, &next.row);
-        let apart = self.stays_apart(&next.was, &next.is, step);
-        mark_or_repeat(
-            marks,
-            first,
-            step,
-            meeting_mark(&next.is, next.seen.as_ref()),
-            apart,
-        )?;
+        let NextRow { seen, row, was, is } = next;
+        let changes = self.values.feed(program, row);
+        let apart = self.stays_apart(was, is, step);
+        mark_or_repeat(marks, first, step, meeting_mark(is, seen), apart)?;
         if !changes && self.has_answered(program, step) {
             return Ok(());
         }

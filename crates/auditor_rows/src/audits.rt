@@ -4,6 +4,7 @@ ghost use Rattle.traces.specs.Audited.{AreAscending, ArePlaced, MoveLittle};
 ghost use Rattle.auditor_rows.specs.WorkedMeeting.{head_on_at};
 ghost use Rattle.auditor.specs.Standing.{IsSound, given_of, last_tick_of, latest_sighting};
 
+use crate::compared::{is, is_true};
 use audit_rows::Row;
 use auditor::{Audit, AuditEnd, AuditFault, Total};
 use encounters::{Act, Detect};
@@ -167,7 +168,8 @@ fn meeting(subject: u32, other: u32, last: u32, least: u64) -> Row {
 #[test]
 fn head_on_where_nobody_alters(rt: HostRuntime) -> Result<(), Fail> {
     let (rows, end) = audited(rt.alloc(), 40)?;
-    assert_eq!(rt;
+    is(
+        &rt,
         rows.as_slice(),
         [
             (8, verdict(OWN, OTHER, 3, false, 0, 0)),
@@ -177,25 +179,26 @@ fn head_on_where_nobody_alters(rt: HostRuntime) -> Result<(), Fail> {
             (33, meeting(OWN, OTHER, 25, 185_200)),
             (33, meeting(OTHER, OWN, 25, 185_200)),
         ]
-        .as_slice()
+        .as_slice(),
     );
-    assert!(rt; end.rows.is_empty());
-    assert_eq!(rt; end.totals.len(), 11);
+    is_true(&rt, end.rows.is_empty());
+    is(&rt, end.totals.len(), 11);
     for (rule, total) in end.totals.iter().enumerate() {
         let no = match rule {
             1 => 8,
             3 => 2,
             _ => 0,
         };
-        assert_eq!(rt;
+        is(
+            &rt,
             *total,
             Total {
                 positions: 80,
                 yes: 80 - no,
                 no,
                 undecided: 0,
-                runs: no.min(2)
-            }
+                runs: no.min(2),
+            },
         );
     }
     Ok(())
@@ -204,8 +207,9 @@ fn head_on_where_nobody_alters(rt: HostRuntime) -> Result<(), Fail> {
 #[test]
 fn a_window_that_ends_early_leaves_open_what_is_not_decided(rt: HostRuntime) -> Result<(), Fail> {
     let (rows, end) = audited(rt.alloc(), 4)?;
-    assert!(rt; rows.is_empty());
-    assert_eq!(rt;
+    is_true(&rt, rows.is_empty());
+    is(
+        &rt,
         end.rows.as_slice(),
         [
             verdict(OWN, OTHER, 3, true, 0, 0),
@@ -213,7 +217,7 @@ fn a_window_that_ends_early_leaves_open_what_is_not_decided(rt: HostRuntime) -> 
             meeting(OWN, OTHER, 3, 29_632_578),
             meeting(OTHER, OWN, 3, 29_632_578),
         ]
-        .as_slice()
+        .as_slice(),
     );
     Ok(())
 }
@@ -249,8 +253,8 @@ fn first_tick(alloc: Global, vessels: u32) -> Result<Result<Vec<Row>, AuditFault
 
 #[test]
 fn sixty_five_vessels_are_too_many_pairs(rt: HostRuntime) -> Result<(), Fail> {
-    assert!(rt; first_tick(rt.alloc(), 64)?.is_ok());
+    is_true(&rt, first_tick(rt.alloc(), 64)?.is_ok());
     let many = first_tick(rt.alloc(), 65)?;
-    assert!(rt; matches!(many, Err(AuditFault::TooManyPairs)));
+    is_true(&rt, matches!(many, Err(AuditFault::TooManyPairs)));
     Ok(())
 }

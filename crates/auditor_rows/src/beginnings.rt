@@ -11,7 +11,7 @@ use meetings::Pair;
 use sectors::Class;
 use std::alloc::Global;
 use std::test::Fail;
-use traces::{AllTraces, NextRow};
+use traces::AllTraces;
 
 /// The traces of the meeting after its first tick, in a window of so many ticks.
 fn begun(alloc: Global, last_tick: u32) -> Result<AllTraces, Fail>
@@ -20,10 +20,6 @@ fn begun(alloc: Global, last_tick: u32) -> Result<AllTraces, Fail>
     ensures moves { IfOk result (λ traces. MoveLittle (latest_sighting traces) (head_on_at 1)) }
 {
     let mut traces = AllTraces::new(alloc, DETECT, ACT, &[], 10, last_tick)?;
-    // that none was given yet is no clause of `new`
-    if traces.given() > traces.last_tick() {
-        return Err("a tick was given".into());
-    }
     let seen = head_on(0);
     traces.tick(&seen)?;
     Ok(traces)
@@ -38,16 +34,27 @@ fn pair_at(traces: &AllTraces, index: usize) -> Option<Pair> {
     }
 }
 
-/// What the step to the second tick brings, where there is a trace of this index.
-fn first_row(traces: &mut AllTraces, index: usize) -> Option<NextRow>
+/// The state of the engagement of a trace, where there is one of this index.
+fn state_at(traces: &AllTraces, index: usize) -> Option<EngagementState> {
+    if index < traces.len() {
+        Some(traces.state(index))
+    } else {
+        None
+    }
+}
+
+/// Takes the step to the second tick, where there is a trace of this index, and tells whether both vessels are seen at it.
+fn take_first_step(traces: &mut AllTraces, index: usize) -> bool
     requires sound { IsSound traces.old }
     requires moves { MoveLittle (latest_sighting traces.old) (head_on_at 1) }
 {
     let seen = head_on(1);
     if index < traces.len() {
-        Some(traces.next_row(index, &seen))
+        let step = traces.next_step(index, &seen);
+        let _row = traces.take_step(index, step.as_ref());
+        step.is_some()
     } else {
-        None
+        false
     }
 }
 
@@ -83,19 +90,19 @@ fn no_trace_begins_at_the_last_tick(rt: HostRuntime) -> Result<(), Fail> {
 #[test]
 fn the_first_step_of_a_meeting_begins_an_engagement(rt: HostRuntime) -> Result<(), Fail> {
     let mut traces = begun(rt.alloc(), 4)?;
-    let Some(next) = first_row(&mut traces, 1) else {
-        return Err("there is no such trace".into());
-    };
-    is_true(&rt, next.seen.is_some());
-    is_true(&rt, matches!(&next.was, EngagementState::Apart));
+    is_true(
+        &rt,
+        matches!(&state_at(&traces, 1), Some(EngagementState::Apart)),
+    );
+    is_true(&rt, take_first_step(&mut traces, 1));
     is_true(
         &rt,
         matches!(
-            &next.is,
-            EngagementState::Engaged {
+            &state_at(&traces, 1),
+            Some(EngagementState::Engaged {
                 kind: Class::HeadOn,
                 ..
-            }
+            })
         ),
     );
     Ok(())

@@ -4,6 +4,7 @@ ghost use Rattle.encounters.specs.Directions.{HasDirection};
 ghost use Rattle.fixed_geometry.specs.Sizes.{IsBelow};
 ghost use Rattle.traces.specs.Audited.{AreAscending, ArePlaced};
 
+use crate::compared::{is, is_true};
 use fixed_geometry::Point;
 use meetings::{Pair, contact};
 use motion::TickState;
@@ -50,9 +51,9 @@ fn vessels_exactly_the_watch_distance_apart_are_in_contact(rt: HostRuntime) -> R
     let mut pairs = contacts(rt.alloc(), &[], &seen, 5000)?;
     pairs.sort_unstable();
     let expected = [(10, 30), (20, 30), (20, 40), (40, 50)];
-    assert_eq!(rt; pairs.len(), expected.len());
+    is(&rt, pairs.len(), expected.len());
     for (pair, expected) in pairs.iter().zip(&expected) {
-        assert_eq!(rt; (pair.subject, pair.other), *expected);
+        is(&rt, (pair.subject, pair.other), *expected);
     }
     Ok(())
 }
@@ -64,9 +65,9 @@ fn of_the_others_none_but_those_near_a_subject_are_found(rt: HostRuntime) -> Res
     let mut pairs = contacts(rt.alloc(), &[30, 50], &seen, 5000)?;
     pairs.sort_unstable();
     let expected = [(10, 30), (20, 30), (40, 50)];
-    assert_eq!(rt; pairs.len(), expected.len());
+    is(&rt, pairs.len(), expected.len());
     for (pair, expected) in pairs.iter().zip(&expected) {
-        assert_eq!(rt; (pair.subject, pair.other), *expected);
+        is(&rt, (pair.subject, pair.other), *expected);
     }
     Ok(())
 }
@@ -112,9 +113,9 @@ fn the_sweep_finds_what_all_against_all_finds(rt: HostRuntime) -> Result<(), Fai
     let mut found = contacts(rt.alloc(), &[], &seen, 2000000)?;
     found.sort_unstable();
     let expected = all_against_all(rt.alloc(), &seen, 2000000)?;
-    assert!(rt; expected.len() > 100);
-    assert!(rt; expected.len() < 500);
-    assert!(rt; found == expected);
+    is_true(&rt, expected.len() > 100);
+    is_true(&rt, expected.len() < 500);
+    is_true(&rt, found == expected);
     Ok(())
 }
 
@@ -122,7 +123,7 @@ fn the_sweep_finds_what_all_against_all_finds(rt: HostRuntime) -> Result<(), Fai
 fn a_vessel_that_is_not_seen_has_no_state(rt: HostRuntime) -> Result<(), Fail> {
     let seen = fleet(rt.alloc(), &[(1, 2), (3, 4), (5, 6)])?;
     let state = state_of(&seen, 20).ok_or("a state")?;
-    assert_eq!(rt; state.point, Point { x: 3, y: 4 });
+    is(&rt, state.point, Point { x: 3, y: 4 });
     for mmsi in [0, 9, 11, 25, 31] {
         assert!(rt; state_of(&seen, mmsi).is_none(), "at {mmsi}");
     }

@@ -1,4 +1,5 @@
 //! The marks of traces, their rows and their totals.
+use crate::compared::is;
 use audit_rows::{Mark, Row};
 use auditor::{Marks, Total};
 use meetings::Pair;
@@ -54,19 +55,21 @@ fn a_trace_gives_its_rows_as_they_are_decided_and_its_total(rt: HostRuntime) -> 
     marks.mark(1, 1, Mark::Broken)?;
     marks.mark(1, 2, Mark::Broken)?;
     let early = marks.rows_below(2)?;
-    assert_eq!(rt; early.as_slice(), [meeting(0, 1, 200)].as_slice());
+    is(&rt, early.as_slice(), [meeting(0, 1, 200)].as_slice());
     marks.mark(1, 3, Mark::Undecided)?;
     let (late, totals) = marks.finish(4)?;
-    assert_eq!(rt;
+    is(
+        &rt,
         late.as_slice(),
         [
             verdict(PAIR, 0, false, 1, 2),
             meeting(3, 3, 400),
             verdict(PAIR, 0, true, 3, 3),
         ]
-        .as_slice()
+        .as_slice(),
     );
-    assert_eq!(rt;
+    is(
+        &rt,
         totals.as_slice(),
         [Total {
             positions: 4,
@@ -75,7 +78,7 @@ fn a_trace_gives_its_rows_as_they_are_decided_and_its_total(rt: HostRuntime) -> 
             undecided: 1,
             runs: 1,
         }]
-        .as_slice()
+        .as_slice(),
     );
     Ok(())
 }
@@ -98,16 +101,18 @@ fn each_rule_has_one_total_over_the_traces_of_all_pairs(rt: HostRuntime) -> Resu
     marks.mark(5, 5, Mark::Undecided)?;
     marks.mark(5, 6, Mark::Undecided)?;
     let (rows, totals) = marks.finish(7)?;
-    assert_eq!(rt;
+    is(
+        &rt,
         rows.as_slice(),
         [
             verdict(PAIR, 0, false, 5, 5),
             verdict(REVERSE, 0, false, 5, 5),
             verdict(REVERSE, 1, true, 5, 6),
         ]
-        .as_slice()
+        .as_slice(),
     );
-    assert_eq!(rt;
+    is(
+        &rt,
         totals.as_slice(),
         [
             Total {
@@ -125,7 +130,7 @@ fn each_rule_has_one_total_over_the_traces_of_all_pairs(rt: HostRuntime) -> Resu
                 runs: 0,
             },
         ]
-        .as_slice()
+        .as_slice(),
     );
     Ok(())
 }

@@ -1,4 +1,5 @@
 //! Each kind of row as text, by the worked reports.
+use crate::compared::is;
 use audit_report::{ReportRow, row_bytes};
 use auditor::Total;
 use fixed_geometry::Point;
@@ -91,7 +92,7 @@ fn rows_of_the_worked_reports(rt: HostRuntime) -> Result<(), Fail> {
     ];
     for (row, text) in &rows {
         let bytes = row_bytes(rt.alloc(), row)?;
-        assert_eq!(rt; bytes.as_slice(), text.as_bytes());
+        is(&rt, bytes.as_slice(), text.as_bytes());
     }
     Ok(())
 }

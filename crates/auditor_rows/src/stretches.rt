@@ -1,4 +1,5 @@
 //! Rows of stretches of marks.
+use crate::compared::{is, is_true};
 use audit_rows::{Mark, MarkCounts, Row, RowQueue, Topic};
 use meetings::Pair;
 use sectors::Class;
@@ -65,7 +66,7 @@ fn undecided_to_the_end_of_a_track(rt: HostRuntime) -> Result<(), Fail> {
     )?;
     let rows = queue.finish(3)?;
     let all = [verdict(PAIR, 3, false, 0, 0), verdict(PAIR, 3, true, 1, 2)];
-    assert_eq!(rt; rows[..], all[..]);
+    is(&rt, &rows[..], &all[..]);
     Ok(())
 }
 
@@ -91,7 +92,7 @@ fn rows_that_end_together_in_their_order(rt: HostRuntime) -> Result<(), Fail> {
         verdict(THIRD, 0, false, 1, 1),
         verdict(BACK, 0, false, 1, 1),
     ];
-    assert_eq!(rt; rows[..], all[..]);
+    is(&rt, &rows[..], &all[..]);
     Ok(())
 }
 
@@ -109,7 +110,7 @@ fn kind_of_the_first_step_and_least_of_all(rt: HostRuntime) -> Result<(), Fail> 
         &[engaged(50), engaged(30), passing, Mark::Nothing],
     )?;
     let rows = queue.finish(4)?;
-    assert_eq!(rt; rows[..], [meeting(PAIR, 0, 2, 30)][..]);
+    is(&rt, &rows[..], &[meeting(PAIR, 0, 2, 30)][..]);
     Ok(())
 }
 
@@ -129,12 +130,12 @@ fn a_row_comes_at_its_bound(rt: HostRuntime) -> Result<(), Fail> {
         &[Mark::Broken, Mark::Undecided, Mark::Nothing, Mark::Nothing],
     )?;
     let early = queue.rows_below(1)?;
-    assert_eq!(rt; early[..], [verdict(PAIR, 0, false, 0, 0)][..]);
+    is(&rt, &early[..], &[verdict(PAIR, 0, false, 0, 0)][..]);
     let further = queue.rows_below(2)?;
     let both = [meeting(PAIR, 0, 1, 5), verdict(PAIR, 0, true, 1, 1)];
-    assert_eq!(rt; further[..], both[..]);
+    is(&rt, &further[..], &both[..]);
     let rest = queue.finish(4)?;
-    assert!(rt; rest.is_empty());
+    is_true(&rt, rest.is_empty());
     Ok(())
 }
 
@@ -161,7 +162,7 @@ fn counts_of_a_track(rt: HostRuntime) -> Result<(), Fail> {
         broken: 3,
         undecided: 2,
     };
-    assert_eq!(rt; queue.counts(index, 6), Some((topic, counts)));
-    assert_eq!(rt; queue.track_count(), 1);
+    is(&rt, queue.counts(index, 6), Some((topic, counts)));
+    is(&rt, queue.track_count(), 1);
     Ok(())
 }

@@ -1,20 +1,23 @@
 //! A worked trace.
-ghost use Rattle.std.specs.Prelude.{◌≡◌, ◌<◌, IfOk, IfSome};
+ghost use Rattle.std.specs.Prelude.{◌≡◌, ◌+◌, ◌<◌, ◌^◌, IfOk, IfSome};
 ghost use Rattle.encounters.specs.Directions.{HasDirection, HaveDirections};
 ghost use Rattle.mtl_monitor.specs.Following.{count_of};
+ghost use Rattle.auditor.specs.Tallies.{rules_of};
+ghost use Rattle.auditor.specs.TraceKeeping.{IsReady, steps_of};
 
+use crate::compared::is;
 use audit_rows::Row;
-use auditor::{AuditTrace, Marks, Total};
+use auditor::{AuditTrace, Marks, NextRow, Total};
 use encounters::{Act, Detect, PairStep};
 use fixed_geometry::Point;
 use meetings::{Follower, Pair};
 use motion::{Step, TickState};
 use mtl_formulas::parse;
 use mtl_monitor::Program;
+use outside::Memory;
 use sectors::{Angles, Class};
 use std::alloc::Global;
 use std::test::Fail;
-use traces::NextRow;
 
 const DETECT: Detect = Detect {
     watch: 50_000_000,
@@ -70,14 +73,34 @@ fn head_on(ahead: i64) -> Option<PairStep>
     })
 }
 
-/// What the next step brings.
-fn next(follower: &mut Follower, seen: Option<PairStep>) -> NextRow
-    requires { IfSome seen HaveDirections }
+/// Takes the next step.
+fn take(
+    trace: &mut AuditTrace,
+    follower: &mut Follower,
+    program: &Program,
+    seen: Option<PairStep>,
+    step: u32,
+    marks: &mut Marks,
+) -> Result<(), Memory>
+    requires seen { IfSome seen HaveDirections }
+    requires ready { IsReady program.now trace.old }
+    requires few { steps_of trace.old < 2 ^ 31 }
+    requires totals { rules_of marks.old ≡ count_of program.now }
+    requires room { count_of program.now < 2 ^ 31 }
+    ensures ready { IsReady program.now trace.new }
+    ensures steps { steps_of trace.new ≡ steps_of trace.old + 1 }
+    ensures as_many { rules_of marks.new ≡ rules_of marks.old }
 {
     let was = follower.state();
     let row = follower.step(seen.as_ref());
     let is = follower.state();
-    NextRow { seen, row, was, is }
+    let next = NextRow {
+        seen: seen.as_ref(),
+        row: &row,
+        was: &was,
+        is: &is,
+    };
+    trace.step(program, next, step, marks, 0)
 }
 
 /// Whether the vessels are engaged, and whether they are so within two steps, at a tick of 10 seconds.
@@ -98,15 +121,34 @@ fn an_engagement_that_ends_at_the_last_step(rt: HostRuntime) -> Result<(), Fail>
     let mut trace = AuditTrace::new(alloc, &program, 5)?;
     let mut follower = Follower::new(DETECT, ACT, 10);
     // They pass at the end of the first step, are 1111 metres past each other at the end of the second, and are clear in the third.
-    let row = next(&mut follower, head_on(1_852_000));
-    trace.step(&program, &row, 5, &mut marks, 0)?;
-    let row = next(&mut follower, head_on(-9_260_000));
-    trace.step(&program, &row, 6, &mut marks, 0)?;
-    let row = next(&mut follower, head_on(-11_112_000));
-    trace.step(&program, &row, 7, &mut marks, 0)?;
+    take(
+        &mut trace,
+        &mut follower,
+        &program,
+        head_on(1_852_000),
+        5,
+        &mut marks,
+    )?;
+    take(
+        &mut trace,
+        &mut follower,
+        &program,
+        head_on(-9_260_000),
+        6,
+        &mut marks,
+    )?;
+    take(
+        &mut trace,
+        &mut follower,
+        &program,
+        head_on(-11_112_000),
+        7,
+        &mut marks,
+    )?;
     trace.end(&program, &mut marks, 0)?;
     let (rows, totals) = marks.finish(8)?;
-    assert_eq!(rt;
+    is(
+        &rt,
         rows.as_slice(),
         [
             Row::Meeting {
@@ -131,9 +173,10 @@ fn an_engagement_that_ends_at_the_last_step(rt: HostRuntime) -> Result<(), Fail>
                 last: 7,
             },
         ]
-        .as_slice()
+        .as_slice(),
     );
-    assert_eq!(rt;
+    is(
+        &rt,
         totals.as_slice(),
         [
             Total {
@@ -151,7 +194,7 @@ fn an_engagement_that_ends_at_the_last_step(rt: HostRuntime) -> Result<(), Fail>
                 runs: 0,
             },
         ]
-        .as_slice()
+        .as_slice(),
     );
     Ok(())
 }
@@ -165,6 +208,6 @@ fn a_trace_of_no_steps_has_no_rows(rt: HostRuntime) -> Result<(), Fail> {
     let mut trace = AuditTrace::new(alloc, &program, 5)?;
     trace.end(&program, &mut marks, 0)?;
     let (rows, _totals) = marks.finish(5)?;
-    assert_eq!(rt; rows.len(), 0);
+    is(&rt, rows.len(), 0);
     Ok(())
 }

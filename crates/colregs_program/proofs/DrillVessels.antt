@@ -35,7 +35,8 @@ use Rattle.command_line.specs.declared.mode.Mode.TheVariants as mode
 use Rattle.sessions.specs.AuditReport.{sightings_of}
 use Rattle.colregs_program.proofs.DrillLines.{InFleet, IsFleetLine, fleet_lines}
 use Rattle.colregs_program.proofs.FewDifferent.{few_between}
-use Rattle.settling.specs.Sightings.{audit_numbers, sighted}
+use Rattle.settled_ticks.specs.Sightings.{sighted}
+use Rattle.settling.specs.ScenarioAudit.{audit_numbers}
 use Rattle.std.proofs.lemmas.List.{take-append-drop}
 use Rattle.log_lines.specs.GrowingLog.{ended_lines}
 use Rattle.sessions.specs.Modes.{reads_log, reports}
@@ -46,7 +47,7 @@ use Rattle.sessions.specs.Endings.{Came, HasManyTraces, IsAnswerTo}
 use Rattle.sessions.specs.Refusals.{IsMet, IsLogRefused, IsStopped}
 use Rattle.sessions.specs.declared.session_fault.SessionFault.{SessionFault}
 use Rattle.sessions.specs.declared.session_fault.SessionFault.TheVariants as why
-use Rattle.settling.specs.SettledTicks.{greatest_traces}
+use Rattle.traces.specs.declared.all_traces.TheConstants.{MOST_TRACES}
 use Rattle.colregs_program.specs.LogAnswers.{Reports}
 use Rattle.colregs_program.specs.Inner.Streaming.{Ends, LogCount, StreamCause, Stops, is_of_drill}
 use Rattle.colregs_program.specs.declared.streaming.StreamFault.{StreamFault}
@@ -202,7 +203,7 @@ few_pairs pairs once all =
     coded : (p : Pair) → IsFleetPair p → (8200000041 ≤ code p) × (code p < 8200000041 + 1600)
     coded p of = (omega (arith, of.0.0, of.1.0), omega (arith, of.0.1, of.1.1))
 
-few_traces : (numbers : AuditNumbers) (ticks : List Sighting) → All AreOfFleet ticks → HaveMoreThan greatest_traces numbers ticks → ⊥
+few_traces : (numbers : AuditNumbers) (ticks : List Sighting) → All AreOfFleet ticks → HaveMoreThan MOST_TRACES numbers ticks → ⊥
 few_traces numbers ticks all many =
     let few = few_pairs many.pairs many.once
     (All-weaker (λ pair. (start : ℕ) × Begins numbers ticks pair start) IsFleetPair (λ pair begins. pair_so numbers ticks all pair begins.0 begins.1) many.pairs many.begin) in

@@ -25,7 +25,8 @@ use Rattle.sessions.specs.Endings.{IsEnding}
 use Rattle.sessions.specs.OutcomeRows.{count_rows}
 use Rattle.sessions.specs.PlanReport.{IsManoeuvre, IsPlanReport, manoeuvre_rows, log_messages, near_rows, plan_text}
 use Rattle.sessions.specs.PointsReport.{point_rows, points_report, rows_of_line}
-use Rattle.settling.specs.Sightings.{audit_numbers, sighted}
+use Rattle.settled_ticks.specs.Sightings.{sighted}
+use Rattle.settling.specs.ScenarioAudit.{audit_numbers}
 use Rattle.tracks.specs.VesselsHeld.{Sent}
 use Rattle.colregs_program.specs.InertLines.{HasOneFewer, IsInert, one_fewer, rows_of_counts}
 use Rattle.colregs_program.proofs.InertLines.{judged_with, judged_without, sent_same}

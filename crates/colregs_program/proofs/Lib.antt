@@ -3,6 +3,7 @@ pub mod DrillVessels
 pub mod FewDifferent
 pub mod InertLines
 pub mod InertReports
+pub mod OneDue
 pub mod OneLine
 pub mod AskedLogs
 pub mod Due

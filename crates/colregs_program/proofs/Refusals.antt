@@ -10,9 +10,10 @@ use Rattle.scenario.specs.declared.values.Scenario.{Scenario}
 use Rattle.sessions.specs.Endings.{Came}
 use Rattle.sessions.specs.Modes.{reads_log, reports}
 use Rattle.sessions.specs.Refusals.{IsMet}
+use Rattle.sessions.proofs.ForCallers.{before_refused}
 use Rattle.sessions.specs.declared.session_fault.SessionFault.TheVariants as why
 use Rattle.situations.specs.declared.readiness.Unready.{Unready}
-use Rattle.colregs_program.specs.Answers.{EndsWith, HoldsUnder, IsDue, IsOfDrill, IsOfMigration, IsScenario, MetIn, Runs, StopsWith, WritesNothing, WritesPart}
+use Rattle.colregs_program.specs.Answers.{EndsWith, HoldsUnder, IsDue, IsOfDrill, IsOfMigration, IsScenario, MetIn, Runs, StopsWith, TellsLimit, WritesNothing, WritesPart}
 use Rattle.colregs_program.specs.LogAnswers.{GainsFront, GainsReport, GainsSettled, IsAnswered, IsFinished, IsStoppedBy, LeavesSettled, Reports, answer_of, finished}
 use Rattle.command_line.specs.Requests.{AskFor, AskForNothing}
 use Rattle.command_line.specs.declared.mode.Mode.{Mode}
@@ -96,7 +97,7 @@ log_decides words files log request due before now scenario accepted reports is 
 abbrev pub OneComes : Type 0
 OneComes = (m : Mode) (scenario : Scenario) (log : List ℕ) (came other : Came) → IsMet m scenario log came → IsMet m scenario log other → came ≡ other
 
-one_answered : OneComes → (m : Mode) (scenario : Scenario) (log : List ℕ) (a b : Status) → IsAnswered m scenario log a → IsAnswered m scenario log b → a ≡ b
+pub one_answered : OneComes → (m : Mode) (scenario : Scenario) (log : List ℕ) (a b : Status) → IsAnswered m scenario log a → IsAnswered m scenario log b → a ≡ b
 one_answered once m scenario log a b x y = x.is ∙ ap (answer_of scenario) (once m scenario log x.came y.came x.met y.met) ∙ sym y.is
 
 -- What the log calls for is what was met in it.
@@ -117,6 +118,49 @@ calm_told stream.NotRead limit before now told Made is_told calm made count = co
 calm_told stream.NotWritten limit before now told Made (inl same) calm made count = absurd (calm same)
 calm_told stream.NotWritten limit before now told Made (inr none) calm made count = (let is = made none.1 in cc is)
 calm_told (stream.Unreported because) limit before now told Made is_told calm made count = count
+
+-- that of the log's for a failed read alone
+pub log_calm_told : (because : StreamFault) (limit before now : ℕ) (told : Status) (Made : Type 0) → IsTold told (stream_status because limit) Made → (told ≡ status.ReadFault → ⊥)
+    → (Made → IsTrue (is_made (stream_status because limit))) → LogCount before now because → now ≡ before
+log_calm_told stream.NotRead limit before now told Made (inl same) calm made count = absurd (calm same)
+log_calm_told stream.NotRead limit before now told Made (inr none) calm made count = (let is = made none.1 in cc is)
+log_calm_told stream.NotWritten limit before now told Made is_told calm made count = count
+log_calm_told (stream.Unreported because) limit before now told Made is_told calm made count = count
+
+-- that of the shelf's where it had nothing to give alone
+pub shelf_calm_told : (why : SetUpFault) (before now : ℕ) (told : Status) (Made : Type 0) → IsTold told (set_up.answer_of why) Made → (told ≡ status.ShelfFault → ⊥)
+    → (Made → IsTrue (is_made (set_up.answer_of why))) → ((why ≡ fault.NotHad → ⊥) → now ≡ before) → now ≡ before
+shelf_calm_told fault.NotHad before now told Made (inl same) calm made count = absurd (calm same)
+shelf_calm_told fault.NotHad before now told Made (inr none) calm made count = (let is = made none.1 in cc is)
+shelf_calm_told fault.TooLong before now told Made is_told calm made count = count (λ is. cc is)
+shelf_calm_told (fault.Refused key cause) before now told Made is_told calm made count = count (λ is. cc is)
+shelf_calm_told fault.Memory before now told Made is_told calm made count = count (λ is. cc is)
+
+-- ---- the numbers of limits
+
+pub limit_told : (told answer : Status) (Made : Type 0) → IsTold told answer Made → TellsLimit answer → TellsLimit told
+limit_told told answer Made (inl same) limit = subst TellsLimit (sym same) limit
+limit_told told answer Made (inr none) limit = subst TellsLimit (sym none.0) tt
+
+pub words_limit : (why : WordsFault) → TellsLimit (words_fault.answer_of why)
+words_limit unasked.Usage = tt
+words_limit unasked.Memory = tt
+
+pub set_up_limit : (why : SetUpFault) → TellsLimit (set_up.answer_of why)
+set_up_limit fault.NotHad = tt
+set_up_limit fault.TooLong = refl
+set_up_limit (fault.Refused key cause) = tt
+set_up_limit fault.Memory = tt
+
+pub stream_limit : (because : StreamFault) (most : ℕ) → TellsLimit (stream_status because most)
+stream_limit stream.NotRead most = tt
+stream_limit stream.NotWritten most = tt
+stream_limit (stream.Unreported why.Vessels) most = refl
+stream_limit (stream.Unreported why.Pairs) most = refl
+stream_limit (stream.Unreported why.LogBytes) most = tt
+stream_limit (stream.Unreported (why.Own lack)) most = tt
+stream_limit (stream.Unreported why.Targets) most = refl
+stream_limit (stream.Unreported why.Memory) most = tt
 
 module _ (request : Request) (scenario : Scenario) (left left' contents contents' : Option (List ℕ)) where
   pub stops_met : (answer : Status) → StopsWith request scenario left contents contents' answer → MetIn request scenario left answer
@@ -288,7 +332,12 @@ module _ (request : Request) (scenario : Scenario) (left left' contents contents
         front = take (stop.stopped.place - 1) bytes;
         rest = drop (stop.stopped.place - 1) bytes;
         whole = sym (take-append-drop (stop.stopped.place - 1) bytes);
-        gains = record { text = stop.text; settled = stop.stopped.settled; gained = stop.gained };
+        gains = record {
+          unrefused = before_refused request.mode scenario bytes stop.why stop.text stop.stopped;
+          text = stop.text;
+          settled = stop.stopped.settled;
+          gained = stop.gained;
+        };
       }) stops
 
   ends_front : (answer : Status) → EndsWith request scenario left left' contents contents' answer → Front

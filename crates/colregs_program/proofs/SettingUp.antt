@@ -127,3 +127,9 @@ pub own_needed : (need : Bool) (text : List ℕ) (scenario : Scenario) → IsTru
 unfolding scenario_with
 own_needed true text scenario needed means = let own = ap (λ (s : Scenario). s.own) means.values in rw own refl
 own_needed false text scenario needed means = absurd (cc needed)
+
+-- and where she is not, it has none
+pub own_unneeded : (need : Bool) (text : List ℕ) (scenario : Scenario) → need ≡ false → Means need text scenario → scenario.own ≡ None
+unfolding scenario_with
+own_unneeded true text scenario unneeded means = absurd (cc unneeded)
+own_unneeded false text scenario unneeded means = ap (λ (s : Scenario). s.own) means.values

@@ -1,5 +1,5 @@
 -- A log that is read block by block, and what it decides, written as it is decided.
-use Rattle.std.proofs.Common.{ℕ, ◌≡◌, ◌+◌, ◌-◌, ◌<◌, ◌≤◌, inl, inr, Bool, List, [], ◌++◌, length, take, drop, append-nil, append_assoc, length-append, Option, None, Some, IfSome, Ok, Err, refl, sym, ap, subst, ◌∙◌, arith}
+use Rattle.std.proofs.Common.{ℕ, ◌≡◌, ◌+◌, ◌-◌, ◌<◌, ◌≤◌, inl, inr, Bool, true, false, if◌then◌else◌, List, [], ◌++◌, length, take, drop, append-nil, append_assoc, length-append, Option, None, Some, IfSome, Ok, Err, refl, sym, ap, subst, ◌∙◌, arith}
 use Rattle.std.specs.Prelude.{◌≢◌, IfErr, MatchResult, Result}
 use Rattle.std.specs.Io.KnownBytes.{Appends, Consumes, IsAtEnd, Keeps}
 use Rattle.std.proofs.KnownBytes.{Appends-nil, Appends-trans, Consumes-trans}
@@ -10,7 +10,9 @@ use Rattle.outside.specs.Streams.{AppendsPart}
 use Rattle.scenario.specs.declared.values.Scenario.{Scenario}
 use Rattle.command_line.specs.declared.mode.Mode.{Mode}
 use Rattle.sessions.specs.Endings.{IsAnswerTo, IsEnding}
-use Rattle.sessions.specs.Refusals.{IsStopped}
+use Rattle.sessions.specs.Modes.{needs_own, scenario_for}
+use Rattle.scenario.specs.declared.own_part.OwnPart.{OwnPart}
+use Rattle.sessions.specs.Refusals.{IsStopped, IsUnrefused}
 use Rattle.sessions.specs.SettledText.{IsSettledText}
 use Rattle.audit_report.specs.ReportTexts.{HasText}
 use Rattle.audit_report.specs.declared.report_text.ReportText.{ReportText}
@@ -19,7 +21,7 @@ use Rattle.sessions.specs.Standing.{IsInUse, StandsFor, mode_of, session_scenari
 use Rattle.sessions.specs.declared.session.Session.{Session}
 use Rattle.sessions.specs.declared.session_fault.SessionFault.{SessionFault}
 use Rattle.sessions.specs.declared.session_fault.SessionFault.TheVariants as why
-use Rattle.sessions.proofs.ForCallers.{bytes_not_at_end, decided_by, nothing_settled, nothing_with_own, nothing_with_targets, own_not_stopped, stopped_long, stopped_on, targets_not_stopped}
+use Rattle.sessions.proofs.ForCallers.{before_refused, bytes_not_at_end, nothing_refused, nothing_settled, nothing_with_own, nothing_with_targets, own_not_stopped, stopped_long, stopped_on, targets_not_stopped}
 use Rattle.colregs_program.specs.LogAnswers.{GainsFront, GainsPart, GainsSettled, LeavesPart, LeavesSettled, Reports}
 use Rattle.colregs_program.specs.Inner.Streaming.{Ends, FromHere, HasWritten, LogCount, OutCount, PieceCause, PutCause, RefusedCause, StreamCause, Stops}
 use Rattle.colregs_program.specs.declared.streaming.StreamFault.{StreamFault}
@@ -36,8 +38,9 @@ part_on a b c given more put part =
 
 -- ---- what was fed
 
-settled_by : (session : Session) (fed given : List ℕ) → StandsFor session fed given → IsSettledText (mode_of session) (session_scenario session) fed given
-settled_by session fed given stands = decided_by session.work session.scenario (ended_lines fed) given stands.done
+gains_so_far : (session : Session) (fed given : List ℕ) (contents now : Option (List ℕ)) → StandsFor session fed given → Appends contents now given
+    → GainsSettled (mode_of session) (session_scenario session) fed contents now
+gains_so_far session fed given contents now stands gained = record { unrefused = stands.unrefused; text = given; settled = stands.settled; gained = gained }
 
 pub written_from : (session : Session) (left contents : Option (List ℕ)) → StandsFor session [] [] → HasWritten session left left contents contents
 written_from session left contents stands = record { fed = []; given = []; stands = stands; taken = nothing_taken left; gained = Appends-nil contents }
@@ -69,11 +72,13 @@ module _ (session : Session) (first left left' contents now : Option (List ℕ))
       let settled : IsSettledText (mode_of session) (session_scenario session) (has.fed ++ piece) (has.given ++ more) =
       subst (λ (m : Mode). IsSettledText m (session_scenario session) (has.fed ++ piece) (has.given ++ more)) same_mode
       (subst (λ (s : Scenario). IsSettledText (mode_of session') s (has.fed ++ piece) (has.given ++ more)) same_scenario
-      (settled_by session' (has.fed ++ piece) (has.given ++ more) (stands has.fed has.given has.stands))) in
+      (stands has.fed has.given has.stands).settled) in
       record {
         front = has.fed ++ piece;
         rest = [];
         taken = subst (Consumes first left') (sym (append-nil (has.fed ++ piece))) all_taken;
+        unrefused = subst (λ (m : Mode). IsUnrefused m (session_scenario session) (has.fed ++ piece)) same_mode
+            (subst (λ (s : Scenario). IsUnrefused (mode_of session') s (has.fed ++ piece)) same_scenario (stands has.fed has.given has.stands).unrefused);
         text = has.given ++ more;
         settled = settled;
         part = part_on contents now now' has.given more has.gained part;
@@ -90,6 +95,7 @@ module _ (session : Session) (first left left' contents now : Option (List ℕ))
         front = take (stop.place - 1) log;
         rest = drop (stop.place - 1) log;
         taken = subst (Consumes first left') (sym (take-append-drop (stop.place - 1) log)) all_taken;
+        unrefused = before_refused (mode_of session) (session_scenario session) log because (has.given ++ more) stop;
         text = has.given ++ more;
         settled = stop.settled;
         part = part_on contents now now' has.given more has.gained part;
@@ -125,7 +131,7 @@ module _ (session : Session) (first left left' contents now : Option (List ℕ))
         front = has.fed;
         rest = piece ++ rest;
         whole = all ∙ append_assoc has.fed piece rest;
-        gains = record { text = has.given; settled = settled_by session has.fed has.given has.stands; gained = has.gained };
+        gains = gains_so_far session has.fed has.given contents now has.stands has.gained;
       }
 
 -- what holds but for want of memory
@@ -153,9 +159,8 @@ pub settled_left : (session : Session) (first left left' contents now now' : Opt
     → Keeps now now' → LeavesSettled (mode_of session) (session_scenario session) first left' contents now'
 settled_left session first left left' contents now now' has kept same = record {
   read = has.fed;
-  short = has.stands.unrefused.short;
   taken = kept_taken first left left' has.fed has.taken kept;
-  gains = record { text = has.given; settled = settled_by session has.fed has.given has.stands; gained = kept_put contents now now' has.given has.gained same };
+  gains = gains_so_far session has.fed has.given contents now' has.stands (kept_put contents now now' has.given has.gained same);
 }
   where
     kept_taken : (a b c : Option (List ℕ)) (bytes : List ℕ) → Consumes a b bytes → Keeps b c → Consumes a c bytes
@@ -207,11 +212,11 @@ module _ (session : Session) (first left contents now : Option (List ℕ)) (end 
   ended because answer = record {
     end = end;
     ends = whole_at_end first left has.fed
-        (λ log. Rattle.sessions.specs.Refusals.IsUnrefused (mode_of session) (session_scenario session) log × IsAnswerTo (mode_of session) (session_scenario session) log (Err because)
+        (λ log. IsUnrefused (mode_of session) (session_scenario session) log × IsAnswerTo (mode_of session) (session_scenario session) log (Err because)
         × GainsSettled (mode_of session) (session_scenario session) log contents now) has.taken end (
           has.stands.unrefused,
           answer has.fed has.given has.stands,
-          record { text = has.given; settled = settled_by session has.fed has.given has.stands; gained = has.gained },
+          gains_so_far session has.fed has.given contents now has.stands has.gained,
         );
   }
 
@@ -220,7 +225,7 @@ module _ (session : Session) (first left contents now : Option (List ℕ)) (end 
     front = has.fed;
     rest = [];
     whole = sym (append-nil has.fed);
-    gains = record { text = has.given; settled = settled_by session has.fed has.given has.stands; gained = has.gained };
+    gains = gains_so_far session has.fed has.given contents now has.stands has.gained;
   })
 
   -- nothing was written before
@@ -239,10 +244,10 @@ module _ (session : Session) (first left contents now : Option (List ℕ)) (end 
   end_cause why.Pairs answer = inr (ended why.Pairs answer)
   end_cause why.LogBytes answer = absurd (bytes_not_at_end (mode_of session) (session_scenario session) has.fed (answer has.fed has.given has.stands))
   end_cause (why.Own lack) answer =
-      let nothing = nothing_with_own (mode_of session) (session_scenario session) has.fed has.given lack (settled_by session has.fed has.given has.stands) (answer has.fed has.given has.stands) in
+      let nothing = nothing_with_own (mode_of session) (session_scenario session) has.fed has.given lack has.stands.settled (answer has.fed has.given has.stands) in
       (ended (why.Own lack) answer, kept nothing)
   end_cause why.Targets answer =
-      let nothing = nothing_with_targets (mode_of session) (session_scenario session) has.fed has.given (settled_by session has.fed has.given has.stands) (answer has.fed has.given has.stands) in
+      let nothing = nothing_with_targets (mode_of session) (session_scenario session) has.fed has.given has.stands.settled (answer has.fed has.given has.stands) in
       (ended why.Targets answer, kept nothing)
   end_cause why.Memory answer = front_here
 
@@ -325,10 +330,18 @@ none_begun m scenario (Some log) contents = record {
   front = [];
   rest = log;
   whole = refl;
-  gains = record { text = []; settled = nothing_settled m scenario; gained = Appends-nil contents };
+  gains = record { unrefused = nothing_refused m scenario; text = []; settled = nothing_settled m scenario; gained = Appends-nil contents };
 }
 
 -- ---- a whole report
+
+-- A scenario without own ship is what a mode looks at that does not need her.
+pub for_itself : (m : Mode) (scenario : Scenario) → (needs_own m ≡ false → scenario.own ≡ None) → scenario_for m scenario ≡ scenario
+for_itself m scenario none =
+    elim (needs_own m) as (λ (need : Bool). (need ≡ false → scenario.own ≡ None) → (if need then scenario else record scenario { own = None }) ≡ scenario) [
+      | true ↦ λ _. refl
+      | false ↦ λ unneeded. ap (λ (own : Option OwnPart). record scenario { own = own }) (sym (unneeded refl))
+    ] none
 
 pub cause_by : (m m' : Mode) (scenario scenario' : Scenario) (left left' contents contents' : Option (List ℕ)) (because : StreamFault) → m ≡ m' → scenario ≡ scenario'
     → StreamCause m scenario left left' contents contents' because → StreamCause m' scenario' left left' contents contents' because

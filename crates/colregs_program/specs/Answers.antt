@@ -6,6 +6,7 @@ use Rattle.command_line.specs.Requests.{AskFor, AskForNothing}
 use Rattle.command_line.specs.declared.mode.Mode.{Mode}
 use Rattle.command_line.specs.declared.mode.Mode.TheVariants as mode
 use Rattle.command_line.specs.declared.request.Request.{Request}
+use Rattle.log_lines.specs.JudgedLines.{greatest_held}
 use Rattle.scenario.specs.Migration.{IsMigrated, IsNotMigrated}
 use Rattle.scenario.specs.ScenarioReading.{IsRefused, Means}
 use Rattle.scenario_keys.specs.declared.key.Key.{Key}
@@ -15,6 +16,8 @@ use Rattle.colregs_program.specs.LogAnswers.{GainsPart, IsAnswered, IsStoppedBy,
 use Rattle.colregs_program.specs.Stages.{is_at_end, is_before_log, is_in_log, stage_of}
 use Rattle.colregs_program.specs.AskedScenarios.{log_of, with_options}
 use Rattle.sessions.specs.Modes.{needs_own, reads_log, reports}
+use Rattle.traces.specs.declared.all_traces.TheConstants.{MOST_TRACES}
+use Rattle.situations.specs.PlanSituations.{greatest_targets}
 use Rattle.colregs_program.specs.declared.status.Status.{Status}
 use Rattle.colregs_program.specs.declared.status.Status.TheVariants as status
 use Rattle.colregs_program.specs.declared.status.Which.TheVariants as which
@@ -126,6 +129,14 @@ IsDue words files log status.ReadFault = ⊥
 IsDue words files log status.WriteFault = ⊥
 IsDue words files log status.Memory = ⊥
 IsDue words files log met = MeetsAnswer words files log met
+
+-- A limit that no scenario sets is told with its number.
+abbrev pub TellsLimit : Status → Type 0
+TellsLimit (status.Limit which.Scenario most) = most ≡ greatest_scenario
+TellsLimit (status.Limit which.Vessels most) = most ≡ greatest_held
+TellsLimit (status.Limit which.Pairs most) = most ≡ MOST_TRACES
+TellsLimit (status.Limit which.Targets most) = most ≡ greatest_targets
+TellsLimit answer = Unit {0}
 
 -- ---- how far a run has come
 

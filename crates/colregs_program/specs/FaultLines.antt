@@ -1,8 +1,7 @@
 -- What a run writes to standard error: a line that names the fault.
 use Rattle.std.specs.Prelude.{ℕ, codes, Bool, true, false, List, [], ◌∷◌, ◌++◌}
 use Rattle.std.specs.Fmt.{decimal}
-use Rattle.situations.specs.declared.readiness.Unready.{Unready}
-use Rattle.situations.specs.declared.readiness.Unready.TheVariants as unready
+use Rattle.situations.specs.UnreadyTexts.{unready_text}
 use Rattle.scenario_keys.specs.ScenarioTexts.{fault_text}
 use Rattle.colregs_program.specs.declared.status.Which.{Which}
 use Rattle.colregs_program.specs.declared.status.Which.TheVariants as which
@@ -19,12 +18,6 @@ limited which.Vessels = codes "vessels"
 limited which.Pairs = codes "pairs"
 limited which.Targets = codes "targets"
 
--- what own ship lacks
-abbrev pub lacks : Unready → List ℕ
-lacks (unready.NoPoint time) = codes "point"
-lacks (unready.NoCourse time) = codes "course"
-lacks (unready.NoSpeed time) = codes "speed"
-
 -- the line of a fault; nothing where the run is finished
 abbrev pub fault_line : Status → List ℕ
 fault_line status.Done = []
@@ -36,7 +29,7 @@ fault_line status.ReadFault = line (codes "log: not read")
 fault_line status.WriteFault = line (codes "report: not written")
 fault_line (status.Limit which most) = line (codes "limit: " ++ limited which ++ codes " " ++ decimal most)
 fault_line status.Memory = line (codes "memory")
-fault_line (status.OwnUnready why) = line (codes "own: no " ++ lacks why)
+fault_line (status.OwnUnready why) = line (codes "own: " ++ unready_text why)
 
 -- the exit status
 abbrev pub exit_status_of : Status → ℕ

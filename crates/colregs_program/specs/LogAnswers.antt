@@ -1,5 +1,5 @@
 -- What a run answers to its log, and what it leaves in the sink.
-use Rattle.std.specs.Prelude.{ℕ, ◌≡◌, ◌≤◌, ◌++◌, Bool, true, false, List, length, Option, Ok, Err}
+use Rattle.std.specs.Prelude.{ℕ, ◌≡◌, ◌++◌, Bool, true, false, List, Option, Ok, Err}
 use Rattle.std.specs.Io.KnownBytes.{Appends, Consumes}
 use Rattle.outside.specs.Streams.{AppendsPart}
 use Rattle.command_line.specs.declared.mode.Mode.{Mode}
@@ -7,11 +7,11 @@ use Rattle.log_lines.specs.JudgedLines.{greatest_held}
 use Rattle.situations.specs.PlanSituations.{greatest_targets}
 use Rattle.scenario.specs.declared.values.Scenario.{Scenario}
 use Rattle.sessions.specs.Endings.{Came, IsEnding}
-use Rattle.sessions.specs.Refusals.{IsMet, IsStopped}
+use Rattle.sessions.specs.Refusals.{IsMet, IsStopped, IsUnrefused}
 use Rattle.sessions.specs.SettledText.{IsSettledText}
 use Rattle.sessions.specs.declared.session_fault.SessionFault.{SessionFault}
 use Rattle.sessions.specs.declared.session_fault.SessionFault.TheVariants as fault
-use Rattle.settling.specs.SettledTicks.{greatest_traces}
+use Rattle.traces.specs.declared.all_traces.TheConstants.{MOST_TRACES}
 use Rattle.colregs_program.specs.Stages.{is_at_finish, stage_of}
 use Rattle.colregs_program.specs.declared.status.Status.{Status}
 use Rattle.colregs_program.specs.declared.status.Status.TheVariants as status
@@ -26,7 +26,7 @@ finished false = status.Done
 abbrev pub answer_of : Scenario → Came → Status
 answer_of scenario (Ok none) = finished none
 answer_of scenario (Err fault.Vessels) = status.Limit which.Vessels greatest_held
-answer_of scenario (Err fault.Pairs) = status.Limit which.Pairs greatest_traces
+answer_of scenario (Err fault.Pairs) = status.Limit which.Pairs MOST_TRACES
 answer_of scenario (Err fault.LogBytes) = status.Limit which.Log scenario.log.max_bytes
 answer_of scenario (Err (fault.Own why)) = status.OwnUnready why
 answer_of scenario (Err fault.Targets) = status.Limit which.Targets greatest_targets
@@ -50,8 +50,9 @@ pub record GainsReport (mode : Mode) (scenario : Scenario) (log : List ℕ) (con
   pub is : IsEnding mode scenario log text
   pub gained : Appends contents contents' text
 
--- The sink gained what the bytes settle.
+-- No refusal is met in the bytes, and the sink gained what they settle.
 pub record GainsSettled (mode : Mode) (scenario : Scenario) (read : List ℕ) (contents contents' : Option (List ℕ)) : Type 0 where
+  pub unrefused : IsUnrefused mode scenario read
   pub text : List ℕ
   pub settled : IsSettledText mode scenario read text
   pub gained : Appends contents contents' text
@@ -64,25 +65,25 @@ pub record IsStoppedBy (mode : Mode) (scenario : Scenario) (log : List ℕ) (con
   pub is : answer ≡ answer_of scenario (Err why)
   pub gained : Appends contents contents' text
 
--- No more than the limit was read of the log, and the sink gained what was read settles.
+-- No refusal is met in what was read of the log, and the sink gained what that settles.
 pub record LeavesSettled (mode : Mode) (scenario : Scenario) (left left' contents contents' : Option (List ℕ)) : Type 0 where
   pub read : List ℕ
-  pub short : length read ≤ scenario.log.max_bytes
   pub taken : Consumes left left' read
   pub gains : GainsSettled mode scenario read contents contents'
 
--- The sink gained what a front of the log settles.
+-- The sink gained what a front of the log settles, in which no refusal is met.
 pub record GainsFront (mode : Mode) (scenario : Scenario) (log : List ℕ) (contents contents' : Option (List ℕ)) : Type 0 where
   pub front : List ℕ
   pub rest : List ℕ
   pub whole : log ≡ front ++ rest
   pub gains : GainsSettled mode scenario front contents contents'
 
--- The sink gained a proper front of what a front of the bytes that were read settles.
+-- The sink gained a proper front of what a front of the bytes that were read settles, in which no refusal is met.
 pub record LeavesPart (mode : Mode) (scenario : Scenario) (left left' contents contents' : Option (List ℕ)) : Type 0 where
   pub front : List ℕ
   pub rest : List ℕ
   pub taken : Consumes left left' (front ++ rest)
+  pub unrefused : IsUnrefused mode scenario front
   pub text : List ℕ
   pub settled : IsSettledText mode scenario front text
   pub part : AppendsPart contents contents' text

@@ -17,6 +17,7 @@ mod streaming;
 mod telling;
 
 pub use command_line::Mode;
+pub use drill_log::drill_log;
 pub use program::run;
 pub use scenario::{Cause, Key, LogNumbers, Scenario, Window};
 pub use sessions::{Ending, Session, SessionFault};

@@ -1,5 +1,5 @@
 //! The migration of a scenario.
-ghost use Rattle.std.specs.Prelude.{◌≡◌, ◌≢◌, ◌≤◌, ◌<◌, ◌⊎◌, ℕ, length, false, IfErr, IfOk, IsTrue};
+ghost use Rattle.std.specs.Prelude.{◌≡◌, ◌≢◌, ◌≤◌, ◌<◌, ◌⊎◌, ℕ, length, false, Err, IfErr, IfOk, IsTrue};
 ghost use Rattle.std.specs.Io.KnownBytes.{Appends, Keeps};
 ghost use Rattle.outside.specs.Causes.{one_more, Rose};
 ghost use Rattle.outside.specs.Shelves.{IsMissing};
@@ -8,12 +8,13 @@ ghost use Rattle.scenario.specs.Migration.{IsMigrated, IsNotMigrated};
 ghost use Rattle.scenario_keys.specs.declared.key.Key.{Key};
 ghost use Rattle.scenario_keys.specs.declared.cause.Cause.{Cause};
 ghost use Rattle.command_line.specs.declared.mode.Mode.TheVariants.{Migrate};
-ghost use Rattle.colregs_program.specs.Answers.{greatest_scenario, HoldsUnder, IsOfMigration};
+ghost use Rattle.colregs_program.specs.Answers.{greatest_scenario, HoldsUnder, IsOfMigration, TellsLimit};
 ghost use Rattle.colregs_program.specs.LogAnswers.{IsFinished};
 ghost use Rattle.colregs_program.specs.FaultLines.{fault_line};
 ghost use Rattle.colregs_program.specs.Told.{Gains};
 ghost use Rattle.colregs_program.specs.Inner.Migrating.{ComesTo, HoldsMigrated, IsMigrationDue};
 ghost use Rattle.colregs_program.specs.Inner.SetUps.{SetUpCause};
+ghost use Rattle.colregs_program.specs.declared.set_up.SetUpFault.{SetUpFault};
 ghost use Rattle.colregs_program.specs.declared.status.Status.{Status};
 ghost use Rattle.colregs_program.specs.declared.status.Which.TheVariants as which;
 
@@ -37,6 +38,7 @@ fn migrated<H: Shelf>(
     ensures due { (due : Status) → IsMigrationDue request.now (H.files shelf.old) due
         → (H.faults shelf.new ≡ one_more (H.faults shelf.old)) ⊎ ComesTo result due }
     ensures fetched { H.fetches shelf.new ≡ one_more (H.fetches shelf.old) }
+    ensures calm { result ≢ Err SetUpFault.NotHad → H.faults shelf.new ≡ H.faults shelf.old }
 {
     match shelf.fetch(alloc, &request.name, GREATEST_SCENARIO) {
         Fetched::Bytes(text) => match migrate(alloc, text.as_slice()) {
@@ -76,6 +78,8 @@ pub(crate) fn write_migrated<H: Shelf, K: Sink, E: Sink>(
     ensures fetched { H.fetches shelf.new ≡ one_more (H.fetches shelf.old) }
     ensures unwritten { IsFinished result ≡ false → result ≢ Status.WriteFault → Keeps (K.contents out.old) (K.contents out.new) }
     ensures calm { result ≢ Status.WriteFault → K.faults out.new ≡ K.faults out.old }
+    ensures shelf_calm { result ≢ Status.ShelfFault → H.faults shelf.new ≡ H.faults shelf.old }
+    ensures limits { TellsLimit result }
     ensures line { Gains (record { bytes = E.contents err.old; faults = E.faults err.old })
         (record { bytes = E.contents err.new; faults = E.faults err.new }) (fault_line result) }
 {

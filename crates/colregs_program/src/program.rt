@@ -12,7 +12,7 @@ ghost use Rattle.command_line.specs.Requests.{AskFor, AskForNothing};
 ghost use Rattle.command_line.specs.declared.mode.Mode.TheVariants.{Drill, Migrate};
 ghost use Rattle.command_line.specs.declared.request.Request.{Request};
 ghost use Rattle.sessions.specs.Modes.{reads_log};
-ghost use Rattle.colregs_program.specs.Answers.{EndsWith, greatest_scenario, HoldsUnder, IsBeforeLog, IsDue, IsOfDrill, IsOfMigration, IsReadBy, IsRefusedBy, Migrates, Requested, Runs, StopsWith, WritesNothing, WritesPart};
+ghost use Rattle.colregs_program.specs.Answers.{EndsWith, greatest_scenario, HoldsUnder, IsBeforeLog, IsDue, IsOfDrill, IsOfMigration, IsReadBy, IsRefusedBy, Migrates, Requested, Runs, StopsWith, TellsLimit, WritesNothing, WritesPart};
 ghost use Rattle.colregs_program.specs.AskedScenarios.{log_of};
 ghost use Rattle.colregs_program.specs.FaultLines.{fault_line};
 ghost use Rattle.colregs_program.specs.LogAnswers.{GainsFront, GainsReport, IsAnswered, IsFinished, LeavesSettled};
@@ -116,7 +116,12 @@ pub fn run<H: Shelf, S: Source, K: Sink, E: Sink>(
     ensures unread { (request : Request) → AskFor words.now request → reads_log request.mode ≡ false
         → Keeps (S.left log.old) (S.left log.new) × (S.faults log.new ≡ S.faults log.old) }
     ensures unwritten { IsTrue (WritesNothing result) → Keeps (K.contents out.old) (K.contents out.new) }
+    // The count of faults of each rises with its answer alone, and so tells which of them has failed.
     ensures calm { result ≢ Status.WriteFault → K.faults out.new ≡ K.faults out.old }
+    ensures log_calm { result ≢ Status.ReadFault → S.faults log.new ≡ S.faults log.old }
+    ensures shelf_calm { result ≢ Status.ShelfFault → H.faults shelf.new ≡ H.faults shelf.old }
+    // Whatever is told, a limit that no scenario sets has its number.
+    ensures limits { TellsLimit result }
     ensures line { Gains (record { bytes = E.contents err.old; faults = E.faults err.old })
         (record { bytes = E.contents err.new; faults = E.faults err.new }) (fault_line result) }
 {

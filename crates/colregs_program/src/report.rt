@@ -1,5 +1,5 @@
 //! The report on the log of a request, which is read, or made by a drill.
-ghost use Rattle.std.specs.Prelude.{◌≡◌, ◌≤◌, false, IfErr, IfOk, IfSome, IsSome, IsTrue, MatchResult, OnOk};
+ghost use Rattle.std.specs.Prelude.{◌≡◌, ◌≤◌, false, IfErr, IfOk, IfSome, IsSome, IsTrue, MatchResult, None, OnOk};
 ghost use Rattle.std.specs.Io.KnownBytes.{Keeps};
 ghost use Rattle.scenario.specs.ScenarioValues.{IsInRange};
 ghost use Rattle.sessions.specs.Modes.{needs_own, reads_log, reports};
@@ -28,6 +28,7 @@ pub(crate) fn report_on<S: Source, K: Sink>(
     requires reports { IsTrue (reports request.now.mode) }
     requires in_range { IsInRange scenario }
     requires own { IsTrue (needs_own request.now.mode) → IsSome scenario.own }
+    requires unneeded { needs_own request.now.mode ≡ false → scenario.own ≡ None }
     requires seed { request.now.options.seed ≤ 999999 }
     ensures report { IfOk result (λ none. IfSome (log_of request.now scenario (S.left log.old)) (λ bytes.
         Reports request.now.mode scenario bytes none (K.contents out.old) (K.contents out.new))) }

@@ -1,5 +1,5 @@
 //! The scenario of a run, from the shelf.
-ghost use Rattle.std.specs.Prelude.{◌≡◌, ◌⊎◌, ◌≤◌, ◌^◌, length, IfOk, IfErr, IsSome, IsTrue, OnOk, Result, Err, Some};
+ghost use Rattle.std.specs.Prelude.{◌≡◌, ◌≢◌, ◌⊎◌, ◌≤◌, ◌^◌, length, false, IfOk, IfErr, IsSome, IsTrue, OnOk, Result, Err, None, Some};
 ghost use Rattle.outside.specs.Causes.{one_more};
 ghost use Rattle.scenario.specs.ScenarioValues.{IsInRange};
 ghost use Rattle.scenario.specs.declared.values.Scenario.{Scenario};
@@ -85,10 +85,12 @@ pub(crate) fn set_up<H: Shelf>(
     ensures scenario { IfOk result (λ scenario. HoldsUnder (H.files shelf.old) request.now.name (λ text. IsScenario request.now text scenario)) }
     ensures in_range { IfOk result IsInRange }
     ensures own { IfOk result (λ scenario. IsTrue (needs_own request.now.mode) → IsSome scenario.own) }
+    ensures unneeded { IfOk result (λ scenario. needs_own request.now.mode ≡ false → scenario.own ≡ None) }
     ensures cause { IfErr result (SetUpCause request.now (H.files shelf.old) (H.faults shelf.old) (H.faults shelf.new)) }
     ensures due { (due : Result Scenario SetUpFault) → IsSetUpDue request.now (H.files shelf.old) due
         → (H.faults shelf.new ≡ one_more (H.faults shelf.old)) ⊎ ((result ≡ due) ⊎ (result ≡ Err SetUpFault.Memory)) }
     ensures fetched { H.fetches shelf.new ≡ one_more (H.fetches shelf.old) }
+    ensures calm { result ≢ Err SetUpFault.NotHad → H.faults shelf.new ≡ H.faults shelf.old }
 {
     match shelf.fetch(alloc, &request.name, GREATEST_SCENARIO) {
         Fetched::Bytes(text) => match read(alloc, text.as_slice(), needs_own(request.mode)) {

@@ -1,5 +1,5 @@
 //! A log that is read block by block, and what it decides, written as it is decided.
-ghost use Rattle.std.specs.Prelude.{◌≡◌, ◌≢◌, ◌+◌, ◌-◌, ◌<◌, ◌≤◌, ℕ, length, IfErr, IfOk, IfSome, IsSome, IsTrue, MatchResult, Ok, OnOk, List, true, false, vec_len};
+ghost use Rattle.std.specs.Prelude.{◌≡◌, ◌≢◌, ◌+◌, ◌-◌, ◌<◌, ◌≤◌, ℕ, length, IfErr, IfOk, IfSome, IsSome, IsTrue, MatchResult, None, Ok, OnOk, List, true, false, vec_len};
 ghost use Rattle.std.specs.declared.option.Option.{Option};
 ghost use Rattle.std.specs.Io.KnownBytes.{Appends, IsAtEnd};
 ghost use Rattle.audit_report.specs.ReportTexts.{HasText};
@@ -193,6 +193,7 @@ pub(crate) fn write_report<S: Source, K: Sink>(
 ) -> Result<bool, StreamFault>
     requires in_range { IsInRange scenario }
     requires own { IsTrue (needs_own mode) → IsSome scenario.own }
+    requires unneeded { needs_own mode ≡ false → scenario.own ≡ None }
     requires reports { IsTrue (reports mode) }
     ensures report { IfOk result (λ none. IfSome (S.left log.old) (λ bytes. Reports mode scenario bytes none (K.contents out.old) (K.contents out.new))) }
     ensures end { OnOk result (IsAtEnd (S.left log.new)) }

@@ -167,8 +167,8 @@ fn many_windows_in_one_another(rt: HostRuntime) -> Result<(), Fail> {
     assert!(rt; text.len() <= 1024);
     let mut monitor = monitor_of(alloc, &text)?;
     let all = answers(alloc, &mut monitor, &[YES; 40])?;
-    assert_eq!(rt; count(&all, Verdict::Open), 40);
-    assert_eq!(rt; count(&all, Verdict::Yes), 0);
+    is(&rt, count(&all, Verdict::Open), 40);
+    is(&rt, count(&all, Verdict::Yes), 0);
     Ok(())
 }
 
@@ -321,22 +321,22 @@ fn program_of_two(alloc: Global) -> Result<Program, Fail>
 fn two_formulas_over_two_traces(rt: HostRuntime) -> Result<(), Fail> {
     let alloc = rt.alloc();
     let program = program_of_two(alloc)?;
-    assert_eq!(rt; program.formula_count(), 2);
-    assert_eq!(rt; program.reach(), 1);
+    is(&rt, program.formula_count(), 2);
+    is(&rt, program.reach(), 1);
     let mut one = TraceState::new(alloc, &program)?;
     let mut two = TraceState::new(alloc, &program)?;
     let _first = one.feed(&program, &NO);
     let _first = two.feed(&program, &NO);
-    assert_eq!(rt; one.answer(&program, 0), None);
+    is(&rt, one.answer(&program, 0), None);
     let _second = one.feed(&program, &YES);
     let _second = two.feed(&program, &NO);
-    assert_eq!(rt; one.answer(&program, 0), Some((0, Verdict::Yes)));
-    assert_eq!(rt; one.answer(&program, 1), Some((0, Verdict::No)));
-    assert_eq!(rt; two.answer(&program, 1), Some((0, Verdict::Yes)));
+    is(&rt, one.answer(&program, 0), Some((0, Verdict::Yes)));
+    is(&rt, one.answer(&program, 1), Some((0, Verdict::No)));
+    is(&rt, two.answer(&program, 1), Some((0, Verdict::Yes)));
     two.copy_from(&one);
     two.pass_end(&program);
-    assert_eq!(rt; two.answer(&program, 0), Some((1, Verdict::Yes)));
-    assert_eq!(rt; two.answer(&program, 1), Some((1, Verdict::No)));
+    is(&rt, two.answer(&program, 0), Some((1, Verdict::Yes)));
+    is(&rt, two.answer(&program, 1), Some((1, Verdict::No)));
     Ok(())
 }
 
@@ -347,13 +347,13 @@ fn a_monitor_takes_over_another(rt: HostRuntime) -> Result<(), Fail> {
     let mut one = Monitor::new(alloc, &formula)?;
     let mut two = Monitor::new(alloc, &formula)?;
     let first = one.feed(&YES);
-    assert_eq!(rt; first, None);
+    is(&rt, first, None);
     two.copy_from(&one);
     let answer = two.feed(&NO);
-    assert_eq!(rt; answer, Some((0, Verdict::Yes)));
+    is(&rt, answer, Some((0, Verdict::Yes)));
     let next = two.finish_next();
-    assert_eq!(rt; next, Some((1, Verdict::No)));
+    is(&rt, next, Some((1, Verdict::No)));
     let last = two.finish_next();
-    assert_eq!(rt; last, None);
+    is(&rt, last, None);
     Ok(())
 }

@@ -229,6 +229,6 @@ fn a_rule_is_added_behind_the_eleven(rt: HostRuntime) -> Result<(), Fail> {
     let added = set.add(name.same(), parse(alloc, b"F[0,20] risk", TICK)?);
     assert!(rt; added.is_ok());
     assert!(rt; set.holds(name.bytes()));
-    assert_eq!(rt; set.len(), 12);
+    is(&rt, set.len(), 12);
     is_printed(&rt, alloc, &set, 11, b"mine", b"F[0,20] risk")
 }

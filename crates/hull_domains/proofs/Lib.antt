@@ -6,3 +6,6 @@ pub mod Bounding
 pub mod EdgeSides
 pub mod SoFar
 pub mod Circle
+pub mod Tested
+pub mod LongUnits
+pub mod Far

@@ -1,7 +1,7 @@
 //! Whether own ship is inside a target's shape at some instant of a step.
-ghost use Rattle.std.specs.Prelude.{ℕ, ℤ, pos, ◌≡◌, ◌+◌, ◌*◌, ◌^◌, ◌≤◌, ◌<◌, ◌↔◌, ◌+ℤ◌, ◌*ℤ◌, ◌<ℤ◌, ◌≤ℤ◌, IsNone, IfSome, IsTrue, unsigned_abs};
+ghost use Rattle.std.specs.Prelude.{ℕ, ℤ, pos, ◌≡◌, ◌+◌, ◌^◌, ◌≤◌, ◌<◌, ◌↔◌, ◌+ℤ◌, ◌*ℤ◌, ◌<ℤ◌, ◌≤ℤ◌, IsNone, IfSome, IsTrue, unsigned_abs};
+ghost use Rattle.closest_approach.specs.Separation.{IsSeparated};
 ghost use Rattle.fixed_geometry.specs.Compass.{unit_of};
-ghost use Rattle.fixed_geometry.specs.Plane.{norm2_of};
 ghost use Rattle.fixed_geometry.specs.Sizes.{IsWithin};
 ghost use Rattle.hull_domains.specs.Crossings.{mediant, entry_moment, side_of};
 ghost use Rattle.hull_domains.specs.Domains.{IsInside, StaysOutside};
@@ -10,7 +10,7 @@ ghost use Rattle.hull_domains.specs.Inner.EdgeSides.{IsBound, IsLow};
 use crate::shape::Shape;
 use crate::sides::{Fraction, Side, earlier, is_less, later, side_beside, times};
 use closest_approach::{Moment, separated};
-use fixed_geometry::{Point, norm2, square, unit};
+use fixed_geometry::{Point, unit};
 use motion::Step;
 
 /// On which side of an edge of a shape own ship is, where the target heads `ahead`.
@@ -44,24 +44,34 @@ fn mediant(from: Fraction, to: Fraction) -> Moment
     }
 }
 
-/// Whether a radius in tenths of a millimetre is at least so many metres, where a vector ahead is as long as this one.
-fn covers(radius: u64, metres: u64, ahead: Point) -> bool
+/// Whether the distance along an axis is at least so much all the time: at the beginning it is more than that by the whole change.
+fn keeps_off(p: i64, w: i64, radius: u64) -> bool
+    requires p { unsigned_abs p ≤ 2 ^ 34 }
+    requires w { unsigned_abs w ≤ 2 ^ 26 }
     requires radius { radius < 2 ^ 31 }
-    requires metres { metres ≤ 4001 }
-    requires ahead { IsWithin 1000000 ahead }
-    ensures { IsTrue result ↔ (pos (metres * metres * 100000000000000000000) ≤ℤ (pos (radius * radius) *ℤ norm2_of ahead)) }
+    ensures { IsTrue result ↔ (radius + unsigned_abs w ≤ unsigned_abs p) }
 {
-    square(metres) * 100_000_000_000_000_000_000 <= square(radius) * norm2(ahead)
+    radius + w.unsigned_abs() <= p.unsigned_abs()
 }
 
-/// Whether own ship stays out of a circle in which the whole shape lies. It takes a fraction of the time that the edges take.
-fn stays_out_of_the_circle(step: &Step, ahead: Point, shape: &Shape) -> bool
-    requires ahead { IsWithin 1000000 ahead }
-    ensures { IsTrue result → (direction : ℕ) → direction < 3600 → ahead ≡ unit_of direction → StaysOutside step.now direction shape.now }
+/// Whether a step is separated by a radius in tenths of a millimetre. Where it keeps off along an axis, that is seen at once.
+#[tactic(auto, using(crate::proofs::Far::separated_along, crate::proofs::Far::separated_across))]
+fn is_separated(step: &Step, radius: u64) -> bool
+    requires { radius < 2 ^ 31 }
+    ensures { IsTrue result ↔ IsSeparated step.now radius }
 {
-    let metres = u64::from(shape.longest_way()) + 1;
-    let radius = 10_000 * (metres + 1);
-    covers(radius, metres, ahead) && separated(step, radius)
+    let (p, w) = (step.p(), step.w());
+    if keeps_off(p.x, w.x, radius) || keeps_off(p.y, w.y, radius) {
+        return true;
+    }
+    separated(step, radius)
+}
+
+/// Whether own ship stays out of a circle in which the whole shape lies, whatever the direction. It takes a fraction of the time that the edges take.
+fn stays_out_of_the_circle(step: &Step, shape: &Shape) -> bool
+    ensures { IsTrue result → (direction : ℕ) → direction < 3600 → StaysOutside step.now direction shape.now }
+{
+    is_separated(step, 10_000 * (u64::from(shape.longest_way()) + 2))
 }
 
 /// A moment of the step at which own ship is inside the shape of a target that heads in this direction, tenths of a degree below 3600;
@@ -74,10 +84,10 @@ pub fn enters(step: &Step, direction: u16, shape: &Shape) -> Option<Moment>
     ensures instant { IfSome result (λ moment. (moment.a ≤ moment.b) × (0 < moment.b) × (moment.b < 2 ^ 60)) }
     ensures inside { IfSome result (λ moment. IsInside step.now direction shape.now moment.a moment.b) }
 {
-    let ahead = unit(direction);
-    if stays_out_of_the_circle(step, ahead, shape) {
+    if stays_out_of_the_circle(step, shape) {
         return None;
     }
+    let ahead = unit(direction);
     let mut from = Fraction { over: 0, under: 1 };
     let mut to = Fraction { over: 1, under: 1 };
     for k in 0..6 {

@@ -2,7 +2,7 @@
 ghost use Rattle.std.specs.Prelude.{ℕ, ℤ, pos, ◌≡◌, ◌+◌, ◌%◌, ◌≤◌, ◌<◌, ◌↔◌, ◌*ℤ◌, ◌-ℤ◌, ◌<ℤ◌, All, IsTrue, IsSome, IfSome};
 ghost use Rattle.hull_domains.specs.Inner.EdgeSides.{IsShort};
 ghost use Rattle.hull_domains.specs.Inner.Ways.{longest_way, way_to};
-ghost use Rattle.hull_domains.specs.Shapes.{edge_of, vertex_of, HasInside, IsNearVertex, IsShape, Turns};
+ghost use Rattle.hull_domains.specs.Shapes.{edge_of, shape_of, vertex_of, HasInside, IsNearVertex, IsShape, Turns};
 
 use fixed_geometry::{Point, turn};
 use std::marker::Model;
@@ -168,9 +168,11 @@ impl Model for Shape {
 
 impl Shape {
     /// The shape of these vertices, each so many metres forward of the vessel and so many to starboard, or `None` where they are none.
+    #[tactic(auto, using(crate::proofs::Tested::shaped, crate::proofs::Tested::unshaped))]
     pub fn new(vertices: &[(i32, i32); 6]) -> Option<Shape>
         ensures value { IfSome result (λ shape. shape ≡ vertices.now) }
         ensures some { IsSome result ↔ IsShape vertices.now }
+        ensures exact { result ≡ shape_of vertices.now }
     {
         if are_near(vertices) && are_around(vertices) {
             Some(Shape {

@@ -1,5 +1,5 @@
 -- What a row answers to each atom, by what it keeps.
-use Rattle.std.specs.Prelude.{ℕ, Bool, ◌&&◌, Option, is_some}
+use Rattle.std.specs.Prelude.{ℕ, ◌≡◌, ⊤, Bool, ◌&&◌, Option, Some, None, is_some}
 use Rattle.motion.specs.Steps.{RelativeMove}
 use Rattle.sectors.specs.declared.class.Class.TheVariants as class
 use Rattle.mtl_formulas.specs.declared.atom.Atom.{Atom}
@@ -22,6 +22,11 @@ pub record Kept : Type 0 where
   pub tick : ℕ
   pub changes : Changes
   pub by_rank : ByRank
+
+-- Nothing has altered where the vessels are not engaged.
+abbrev pub HaveNotAltered : Option Meeting → Changes → Type 0
+HaveNotAltered None changes = changes ≡ (record { alters = No; apparent = No; to_starboard = No; to_port = No; other_apparent = No })
+HaveNotAltered (Some meeting) changes = ⊤
 
 abbrev pub answer_of : Kept → Atom → Verdict
 answer_of row Always = Yes

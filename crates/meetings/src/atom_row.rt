@@ -9,7 +9,7 @@ use closest_approach::separated;
 use encounters::{Changes, opening};
 use fixed_geometry::{norm2, to_port};
 use motion::Step;
-use mtl_formulas::{Atom, Atoms, Verdict};
+use mtl_formulas::{Atom, Atoms, Glance, Verdict};
 use sectors::Class;
 use std::marker::Model;
 
@@ -46,13 +46,13 @@ pub struct AtomRow {
 
 impl Model for AtomRow {
     ghost use Rattle.std.specs.Prelude.{◌<◌, IfSome};
-    ghost use Rattle.meetings.specs.Answers.{Kept};
+    ghost use Rattle.meetings.specs.Answers.{HaveNotAltered, Kept};
 
     ghost Value = { Kept };
 
     ghost view = { λ row. record { step = row.step; direction = row.direction; other_direction = row.other_direction; risk = row.risk; meeting = row.meeting; tick = row.tick; changes = row.changes; by_rank = row.by_rank } };
 
-    ghost invariant = { λ row. IfSome row.direction (λ d. d < 3600) × IfSome row.other_direction (λ d. d < 3600) };
+    ghost invariant = { λ row. IfSome row.direction (λ d. d < 3600) × (IfSome row.other_direction (λ d. d < 3600) × HaveNotAltered row.meeting row.changes) };
 
     ghost inverse = { λ kept. record { step = kept.step; direction = kept.direction; other_direction = kept.other_direction; risk = kept.risk; meeting = kept.meeting; tick = kept.tick; changes = kept.changes; by_rank = kept.by_rank } };
 }
@@ -208,6 +208,16 @@ impl Atoms for AtomRow {
             Atom::RankGives => told(self.rank_counts() && self.by_rank.gives),
             Atom::RankStands => told(self.rank_counts() && self.by_rank.stands),
             Atom::BothPower => told(self.meeting.is_some() && self.by_rank.both_power),
+        }
+    }
+
+    fn glance(&self) -> Glance {
+        if self.risk || self.meeting.is_some() {
+            return Glance::Nothing;
+        }
+        match self.step {
+            Some(_) => Glance::Apart,
+            None => Glance::Unseen,
         }
     }
 }

@@ -7,5 +7,6 @@ pub mod FormulaTokens
 pub mod FormulaGrammar
 pub mod FormulaReading
 pub mod FormulaValue
+pub mod Glances
 pub mod FaultTexts
 pub mod Inner

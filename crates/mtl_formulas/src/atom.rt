@@ -2,6 +2,7 @@
 ghost use Rattle.std.specs.Prelude.{◌≡◌};
 ghost use Rattle.mtl_formulas.specs.AtomWords.{word_of};
 
+use crate::glance::Glance;
 use crate::verdict::Verdict;
 
 /// A test of one step of an ordered pair of vessels, the subject and the other. The kind of an engagement is that of its
@@ -107,6 +108,7 @@ pub trait Atoms {
     ghost use Rattle.mtl_formulas.specs.declared.atom.Atom.{Atom};
     ghost use Rattle.mtl_formulas.specs.declared.verdict.Verdict.{Verdict};
     ghost use Rattle.mtl_formulas.specs.FormulaMeasures.{IsValidAtom};
+    ghost use Rattle.mtl_formulas.specs.Glances.{IsTold};
 
     ghost answer: { Self → Atom → Verdict };
 
@@ -114,4 +116,11 @@ pub trait Atoms {
     fn value(&self, atom: Atom) -> Verdict
         requires { IsValidAtom atom }
         ensures { result ≡ answer self.now atom };
+
+    /// What a glance tells of the answers, so that not each atom is to be asked.
+    fn glance(&self) -> Glance
+        ensures { IsTold result (answer self.now) }
+    {
+        Glance::Nothing
+    }
 }

@@ -16,9 +16,9 @@ use Rattle.mtl_monitor.specs.declared.program.Program.{Program}
 use Rattle.mtl_monitor.specs.declared.trace_state.TraceState.{TraceState}
 use Rattle.mtl_monitor.specs.Traces.{Trace, value_in}
 use Rattle.mtl_monitor.specs.Inner.Steps.{value_at}
-use Rattle.mtl_monitor.specs.Inner.Quiet.{Answers, AreAnswered, AreQuiet, flag_at, CanStay, MayRest, Walked}
+use Rattle.mtl_monitor.specs.Inner.Quiet.{AreAnswered, AreQuiet, flag_at, CanStay, MayRest, Walked}
 use Rattle.mtl_monitor.specs.Inner.Marks.{IsUnmarked, OnlyMarked}
-use Rattle.mtl_monitor.specs.Inner.Reading.{atom_at, IsAtom, IsListed, AreListed, AreReadable, AreRead, ReadsAtoms}
+use Rattle.mtl_monitor.specs.Inner.Reading.{atom_at, IsAtom, AreAllListed, IsUntold, AreReadable, AreKnown, ReadsAtoms}
 use Rattle.mtl_monitor.specs.declared.node.AtomNode.{AtomNode}
 use Rattle.mtl_monitor.specs.declared.node.Kept.{Kept}
 use Rattle.mtl_monitor.specs.declared.node.ProgramNode.{ProgramNode}
@@ -26,6 +26,9 @@ use Rattle.mtl_monitor.specs.declared.node.Operator.{Operator}
 use Rattle.mtl_monitor.specs.declared.node.Operator.TheVariants as op
 use Rattle.mtl_monitor.proofs.QuietNodes.{IsQuiet-ended, GoesOn-fed, GoesOn-ended}
 use Rattle.mtl_monitor.proofs.Operands.{operands_are}
+use Rattle.mtl_formulas.specs.declared.glance.Glance.{Glance}
+use Rattle.mtl_formulas.specs.Glances.{IsTold}
+use Rattle.mtl_monitor.proofs.Knowing.{AreKnown-answered}
 use Rattle.mtl_monitor.proofs.Walks.{Walk-begins, Walk-reached}
 use Rattle.mtl_monitor.specs.Inner.Standing.{node_at, late_at, root_at, AllBelow, IsRow, EndsAt, KeepAll, GiveAll, Passes}
 use Rattle.mtl_monitor.specs.Following.{Follows, Closes, IsEnded, formula_at}
@@ -69,13 +72,15 @@ Closes-Follows p s formulas rows h =
       gives = λ some. rw h.all_passed (rw (append-nil rows) at (h.gives (omega (arith, h.all_passed)) []));
       quiet = λ k inside flag. rw fed (IsQuiet-ended _ _ _ _ _ _ (h.quiet k inside flag));
       still = h.still;
+      known = h.known;
     }
 
 module _ (p : Program) (s s' : TraceState) (formulas : List FormulaTree) (rows : Trace) where
   module _ (r : Atom → Verdict) (h : Follows p s formulas rows) (fed : s'.fed ≡ s.passed + 1) (passed : s'.passed ≡ s.passed + 1)
       (q : Passes p.nodes.items s.states.items s'.states.items s'.values.items r s.passed (s.passed + 1))
       (quiet : AreQuiet p.nodes.items s'.states.items s'.values.items s'.moving.items (s.passed + 1) ((s.passed + 1) + 1))
-      (still : s'.still ≡ true → (k : ℕ) → k < length p.nodes.items → flag_at s'.moving.items k ≡ false) where
+      (still : s'.still ≡ true → (k : ℕ) → k < length p.nodes.items → flag_at s'.moving.items k ≡ false)
+      (known : AreKnown s'.glance p.nodes.items s'.values.items) where
     row_is : (more : Trace) → IsRow (rows ++ r ∷ more) r s.passed
     row_is more = rw h.all_passed (IsRow-next rows more r)
 
@@ -105,14 +110,15 @@ module _ (p : Program) (s s' : TraceState) (formulas : List FormulaTree) (rows :
           gives = λ some more. rw (count, last) (gave_after more);
           quiet = rw passed quiet;
           still = still;
+          known = known;
         }
 
   -- a row beyond the end
   pub Closes-next : Closes p s formulas rows → s'.fed ≡ s.fed → s'.passed ≡ s.passed + 1
       → Passes p.nodes.items s.states.items s'.states.items s'.values.items beyond s.passed s.fed
       → AreQuiet p.nodes.items s'.states.items s'.values.items s'.moving.items (s.passed + 1) s.fed
-      → (s'.still ≡ true → (k : ℕ) → k < length p.nodes.items → flag_at s'.moving.items k ≡ false) → Closes p s' formulas rows
-  Closes-next h fed passed q quiet still =
+      → (s'.still ≡ true → (k : ℕ) → k < length p.nodes.items → flag_at s'.moving.items k ≡ false) → AreKnown s'.glance p.nodes.items s'.values.items → Closes p s' formulas rows
+  Closes-next h fed passed q quiet still known =
       let last : (s.passed + 1) - 1 ≡ s.passed = omega arith in
       let row : IsRow rows beyond s.passed = IsRow-beyond rows s.passed h.all_passed in
       let end : EndsAt rows s.passed s.fed = λ j below. rw h.all_fed refl in
@@ -125,20 +131,8 @@ module _ (p : Program) (s s' : TraceState) (formulas : List FormulaTree) (rows :
         gives = λ some. rw (passed, last) (q.given rows h.trees h.of.sound.program row end h.keeps);
         quiet = rw (passed, fed) quiet;
         still = still;
+        known = known;
       }
-
--- the answers to a row's atoms, as they were listed
-answered_one : (atoms : List AtomNode) (values : List Verdict) (r : Atom → Verdict) (o : Operator) (k : ℕ) → AreRead atoms values r → IsListed atoms o k → Answers o r (value_at values k)
-answered_one atoms values r (op.Atom a) k read (j, at) =
-    let index : (atom_at atoms j).index ≡ k = ap (λ (n : AtomNode). n.index) at.1 in
-    let atom : (atom_at atoms j).atom ≡ a = ap (λ (n : AtomNode). n.atom) at.1 in
-    rw (index, atom) at (read j at.0)
-answered_one atoms values r (op.Not a) k read at = tt
-answered_one atoms values r (op.Pair kind a b) k read at = tt
-answered_one atoms values r (op.Late cells from a) k read at = tt
-answered_one atoms values r (op.Window kind width from a) k read at = tt
-answered_one atoms values r (op.Since width lower from a b) k read at = tt
-answered_one atoms values r (op.Until from full lower a behind b) k read at = tt
 
 module _ (nodes : List ProgramNode) (states : List Kept) (before values : List Verdict) (moving : List Bool) (i end : ℕ)
     (all_rest : (k : ℕ) → k < length nodes → flag_at moving k ≡ false) (uncrossed : (k : ℕ) → k < length nodes → i ≢ end + late_at nodes k) (below : AllBelow nodes)
@@ -163,13 +157,13 @@ module _ (nodes : List ProgramNode) (states : List Kept) (before values : List V
       }
 
 -- Each atom that is listed is that of a node, so a node of no atom has the value that it had.
-pub ReadsAtoms-listed : (nodes : List ProgramNode) (atoms : List AtomNode) (before values : List Verdict) (marks : ℕ) → AreReadable nodes (length nodes) atoms
+pub ReadsAtoms-listed : (glance : Glance) (nodes : List ProgramNode) (atoms : List AtomNode) (before values : List Verdict) (marks : ℕ) → AreReadable glance nodes (length nodes) atoms
     → OnlyMarked before values marks → ((k : ℕ) → ((j : ℕ) → j < length atoms → (atom_at atoms j).index ≢ k) → value_at values k ≡ value_at before k)
     → ReadsAtoms nodes before values marks
-ReadsAtoms-listed nodes atoms before values marks readable changed others =
+ReadsAtoms-listed glance nodes atoms before values marks readable changed others =
     record { changed = changed; others = λ k inside. by_operator k (node_at nodes k).operator refl }
   where
-    unlisted : (k : ℕ) → (IsAtom (node_at nodes k).operator → ⊥) → value_at values k ≡ value_at before k
+    unlisted : (k : ℕ) → (IsUntold glance (node_at nodes k).operator → ⊥) → value_at values k ≡ value_at before k
     unlisted k never = others k (λ j within same. never (rw same at (readable j within).1))
 
     by_operator : (k : ℕ) (o : Operator) → (node_at nodes k).operator ≡ o → IsAtom (node_at nodes k).operator ⊎ (value_at values k ≡ value_at before k)
@@ -183,34 +177,37 @@ ReadsAtoms-listed nodes atoms before values marks readable changed others =
 
 module _ (p : Program) (s s' : TraceState) (formulas : List FormulaTree) (rows : Trace) (values : List Verdict) (marks : ℕ)
     (reads : ReadsAtoms p.nodes.items s.values.items values marks) (below : AllBelow p.nodes.items) where
-  answered : (row : Atom → Verdict) → AreListed p.nodes.items p.atoms.items → AreRead p.atoms.items values row → AreAnswered p.nodes.items values row
-  answered row listed read k inside = answered_one p.atoms.items values row (node_at p.nodes.items k).operator k read (listed k inside)
+  -- The row's answers are the values of its atoms' nodes, where those before were what the glance told.
+  abbrev pub Answered : (Atom → Verdict) → Type 0
+  Answered row = AreAllListed p.nodes.items p.atoms.items p.asked.items → AreKnown s.glance p.nodes.items s.values.items → AreAnswered p.nodes.items values row
 
-  pub Follows-walked : (r : Atom → Verdict) → Follows p s formulas rows → s'.fed ≡ s.passed + 1 → s'.passed ≡ s.passed + 1 → AreRead p.atoms.items values r
+  pub Follows-walked : (r : Atom → Verdict) → Follows p s formulas rows → s'.fed ≡ s.passed + 1 → s'.passed ≡ s.passed + 1 → IsTold s'.glance r → Answered r
       → Walked p.nodes.items s.states.items s.values.items values s.moving.items s.passed (s.passed + 1) marks s'.states.items s'.values.items s'.moving.items s'.still
       → Follows p s' formulas (rows ++ r ∷ [])
-  Follows-walked r h fed passed read w =
+  Follows-walked r h fed passed told answers w =
       let rest : MayRest p.nodes.items s.states.items s.values.items values s.moving.items s.passed (s.passed + 1) marks = record { quiet = h.quiet; reads = reads } in
-      let all = answered r h.of.listed read in
+      let all = answers h.of.listed h.known in
       Follows-next p s s' formulas rows r h fed passed
       (record {
         kept = λ trace trees program answers ends keeps. record { each = (w.walk.midway trace trees r program answers ends rest all keeps).passed };
         given = λ trace trees program answers ends keeps. record { each = (w.walk.midway trace trees r program answers ends rest all keeps).gave };
       })
       (λ k inside flag. w.walk.quiet _ (GoesOn-fed s.passed) rest below k inside flag) w.walk.all_still
+      (AreKnown-answered s'.glance p.nodes.items s'.values.items r told (w.walk.answered r all))
 
-  pub Closes-walked : Closes p s formulas rows → s'.fed ≡ s.fed → s'.passed ≡ s.passed + 1 → AreRead p.atoms.items values beyond
+  pub Closes-walked : Closes p s formulas rows → s'.fed ≡ s.fed → s'.passed ≡ s.passed + 1 → IsTold s'.glance beyond → Answered beyond
       → Walked p.nodes.items s.states.items s.values.items values s.moving.items s.passed s.fed marks s'.states.items s'.values.items s'.moving.items s'.still
       → Closes p s' formulas rows
-  Closes-walked h fed passed read w =
+  Closes-walked h fed passed told answers w =
       let rest : MayRest p.nodes.items s.states.items s.values.items values s.moving.items s.passed s.fed marks = record { quiet = h.quiet; reads = reads } in
-      let all = answered beyond h.of.listed read in
+      let all = answers h.of.listed h.known in
       Closes-next p s s' formulas rows h fed passed
       (record {
         kept = λ trace trees program answers ends keeps. record { each = (w.walk.midway trace trees beyond program answers ends rest all keeps).passed };
         given = λ trace trees program answers ends keeps. record { each = (w.walk.midway trace trees beyond program answers ends rest all keeps).gave };
       })
       (λ k inside flag. w.walk.quiet _ (GoesOn-ended s.passed s.fed) rest below k inside flag) w.walk.all_still
+      (AreKnown-answered s'.glance p.nodes.items s'.values.items beyond told (w.walk.answered beyond all))
 
 -- the answers to the last row that passed
 module _ (p : Program) (s : TraceState) (formulas : List FormulaTree) (rows : Trace) (k : ℕ) (root : Operand) (v : Verdict)

@@ -19,6 +19,7 @@ pub mod Runs
 pub mod Shapes
 pub mod QuietNodes
 pub mod Walks
+pub mod Knowing
 pub mod Listing
 pub mod Programs
 pub mod Feeding

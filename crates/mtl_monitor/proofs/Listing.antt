@@ -1,12 +1,14 @@
 -- The list of a program's atoms.
-use Rattle.std.proofs.Common.{◌≡◌, ℕ, ◌+◌, ◌%◌, ◌<◌, ◌≤◌, ◌≢◌, refl, sym, ◌∙◌, arith, inl, inr, List, [], ◌∷◌, ◌++◌, length, set, get_or-set_other, get_or-set_same, below_more}
+use Rattle.std.proofs.Common.{◌≡◌, ℕ, ◌+◌, ◌%◌, ◌<◌, ◌≤◌, ◌≢◌, refl, sym, ◌∙◌, arith, inl, inr, Bool, true, false, List, [], ◌∷◌, ◌++◌, length, set, get_or-set_other, get_or-set_same, below_more}
 use Rattle.std.specs.Int.{bit_at}
+use Rattle.std.proofs.lemmas.Bool.{true≢false}
 use Rattle.std.proofs.lemmas.Bool.Decides.{eqb_tells}
 use Rattle.std.proofs.lemmas.List.{length_push, length-set, get_or_push, get_or_append_left}
 use Rattle.mtl_formulas.specs.declared.atom.Atom.{Atom}
 use Rattle.mtl_formulas.specs.declared.atom.Atom.TheVariants.{Always}
 use Rattle.mtl_formulas.specs.declared.verdict.Verdict.{Verdict}
 use Rattle.mtl_formulas.specs.declared.verdict.Verdict.TheVariants.{Open}
+use Rattle.mtl_formulas.specs.declared.glance.Glance.{Glance}
 use Rattle.mtl_formulas.specs.FormulaMeasures.{IsValidAtom}
 use Rattle.mtl_monitor.specs.declared.node.AtomNode.{AtomNode}
 use Rattle.mtl_monitor.specs.declared.node.Operator.{Operator}
@@ -15,17 +17,19 @@ use Rattle.mtl_monitor.specs.declared.node.ProgramNode.{ProgramNode}
 use Rattle.mtl_monitor.specs.Inner.Steps.{value_at, HasValidAtom}
 use Rattle.mtl_monitor.specs.Inner.Marks.{IsUnmarked, OnlyMarked}
 use Rattle.mtl_monitor.specs.Inner.Standing.{node_at}
-use Rattle.mtl_monitor.specs.Inner.Reading.{atom_node, atom_at, IsAtom, IsListed, IsPlaced, ArePlaced, AreReadable, Lists, HaveRead}
+use Rattle.mtl_monitor.specs.Inner.Reading.{atom_node, atom_at, is_untold, IsListed, IsPlaced, ArePlaced, IsUntold, AreReadable, ListsIf, Lists, HaveRead}
 
-module _ (old : List AtomNode) (node : AtomNode) where
+module _ (glance : Glance) (old : List AtomNode) (node : AtomNode) where
   kept_atom : (j : ℕ) → j < length old → atom_at (old ++ node ∷ []) j ≡ atom_at old j
   kept_atom j h = get_or_append_left old (node ∷ []) (atom_node 0 Always) j h
 
   last_atom : atom_at (old ++ node ∷ []) (length old) ≡ node
   last_atom = get_or_push old node (atom_node 0 Always) (length old) refl
 
-  IsListed-more : (o : Operator) (k : ℕ) → IsListed old o k → IsListed (old ++ node ∷ []) o k
-  IsListed-more (op.Atom a) k (j, at) = (j, (omega (arith, at.0, length_push old node), kept_atom j at.0 ∙ at.1))
+  IsListed-more : (o : Operator) (k : ℕ) → IsListed glance old o k → IsListed glance (old ++ node ∷ []) o k
+  IsListed-more (op.Atom a) k listed = λ untold.
+      let found = listed untold in
+      (found.0, (omega (arith, found.1.0, length_push old node), kept_atom found.0 found.1.0 ∙ found.1.1))
   IsListed-more (op.Not a) k at = tt
   IsListed-more (op.Pair kind a b) k at = tt
   IsListed-more (op.Late cells from a) k at = tt
@@ -34,43 +38,50 @@ module _ (old : List AtomNode) (node : AtomNode) where
   IsListed-more (op.Until from full lower a behind b) k at = tt
 
   -- all that were placed before stay so, and so is this one after them
-  AreReadable-more : (nodes : List ProgramNode) (k : ℕ) → node.index ≡ k → IsValidAtom node.atom → IsAtom (node_at nodes k).operator → AreReadable nodes k old
-      → AreReadable nodes (k + 1) (old ++ node ∷ [])
+  AreReadable-more : (nodes : List ProgramNode) (k : ℕ) → node.index ≡ k → IsValidAtom node.atom → IsUntold glance (node_at nodes k).operator → AreReadable glance nodes k old
+      → AreReadable glance nodes (k + 1) (old ++ node ∷ [])
   AreReadable-more nodes k here valid is h j within = by_more j (omega (arith, length_push old node))
     where
-      earlier : (j : ℕ) → j < length old → IsPlaced (old ++ node ∷ []) (k + 1) j × IsAtom (node_at nodes (atom_at (old ++ node ∷ []) j).index).operator
+      earlier : (j : ℕ) → j < length old → IsPlaced (old ++ node ∷ []) (k + 1) j × IsUntold glance (node_at nodes (atom_at (old ++ node ∷ []) j).index).operator
       earlier j inside =
           let was = h j inside in
           rw (kept_atom j inside) ((omega (arith, was.0.0), was.0.1, λ i lower. rw (kept_atom i (omega (arith, lower, inside))) (was.0.2 i lower)), was.1)
 
-      this : IsPlaced (old ++ node ∷ []) (k + 1) (length old) × IsAtom (node_at nodes (atom_at (old ++ node ∷ []) (length old)).index).operator
+      this : IsPlaced (old ++ node ∷ []) (k + 1) (length old) × IsUntold glance (node_at nodes (atom_at (old ++ node ∷ []) (length old)).index).operator
       this = rw last_atom ((omega (arith, here), valid, λ i lower. rw (kept_atom i lower) (omega (arith, here, (h i lower).0.0))), rw here is)
 
-      by_more : (j : ℕ) → j < length old + 1 → IsPlaced (old ++ node ∷ []) (k + 1) j × IsAtom (node_at nodes (atom_at (old ++ node ∷ []) j).index).operator
+      by_more : (j : ℕ) → j < length old + 1 → IsPlaced (old ++ node ∷ []) (k + 1) j × IsUntold glance (node_at nodes (atom_at (old ++ node ∷ []) j).index).operator
       by_more = below_more _ _ earlier this
 
-AreReadable-wider : (nodes : List ProgramNode) (m n : ℕ) (atoms : List AtomNode) → m ≤ n → AreReadable nodes m atoms → AreReadable nodes n atoms
-AreReadable-wider nodes m n atoms wide h j inside = let was = h j inside in ((omega (arith, was.0.0), was.0.1, was.0.2), was.1)
+AreReadable-wider : (glance : Glance) (nodes : List ProgramNode) (m n : ℕ) (atoms : List AtomNode) → m ≤ n → AreReadable glance nodes m atoms
+    → AreReadable glance nodes n atoms
+AreReadable-wider glance nodes m n atoms wide h j inside = let was = h j inside in ((omega (arith, was.0.0), was.0.1, was.0.2), was.1)
 
 -- one node more is listed
-module _ (nodes : List ProgramNode) (k : ℕ) (old new : List AtomNode) (valid : HasValidAtom (node_at nodes k).operator) (lists : Lists old new (node_at nodes k).operator k)
-    (listed : (j : ℕ) → j < k → IsListed old (node_at nodes j).operator j) (readable : AreReadable nodes k old) where
+module _ (glance : Glance) (nodes : List ProgramNode) (k : ℕ) (old new : List AtomNode) (valid : HasValidAtom (node_at nodes k).operator)
+    (lists : Lists glance old new (node_at nodes k).operator k)
+    (listed : (j : ℕ) → j < k → IsListed glance old (node_at nodes j).operator j) (readable : AreReadable glance nodes k old) where
   pub record Both : Type 0 where
-    pub listed_more : (j : ℕ) → j < k + 1 → IsListed new (node_at nodes j).operator j
-    pub readable_more : AreReadable nodes (k + 1) new
+    pub listed_more : (j : ℕ) → j < k + 1 → IsListed glance new (node_at nodes j).operator j
+    pub readable_more : AreReadable glance nodes (k + 1) new
 
-  unlisted : new ≡ old → IsListed old (node_at nodes k).operator k → Both
-  unlisted is this = record { listed_more = rw is (below_more _ _ listed this); readable_more = rw is (AreReadable-wider nodes k (k + 1) old (omega arith) readable) }
+  unlisted : new ≡ old → IsListed glance old (node_at nodes k).operator k → Both
+  unlisted is this = record { listed_more = rw is (below_more _ _ listed this); readable_more = rw is (AreReadable-wider glance nodes k (k + 1) old (omega arith) readable) }
 
-  by_operator : (o : Operator) → (node_at nodes k).operator ≡ o → HasValidAtom o → Lists old new o k → Both
-  by_operator (op.Atom a) is valid_one added =
+  by_untold : (a : Atom) (untold : Bool) → is_untold glance a ≡ untold → (node_at nodes k).operator ≡ op.Atom a → IsValidAtom a
+      → ListsIf untold old new (atom_node k a) → Both
+  by_untold a true asked is valid_one added =
       record {
         listed_more =
             rw added
-            (below_more _ _ (λ j before. IsListed-more old (atom_node k a) (node_at nodes j).operator j (listed j before))
-            (rw is (length old, (omega (arith, length_push old (atom_node k a)), last_atom old (atom_node k a)))));
-        readable_more = rw added (AreReadable-more old (atom_node k a) nodes k refl valid_one (rw is tt) readable);
+            (below_more _ _ (λ j before. IsListed-more glance old (atom_node k a) (node_at nodes j).operator j (listed j before))
+            (rw is (λ untold. (length old, (omega (arith, length_push old (atom_node k a)), last_atom glance old (atom_node k a))))));
+        readable_more = rw added (AreReadable-more glance old (atom_node k a) nodes k refl valid_one (rw is asked) readable);
       }
+  by_untold a false told is valid_one same = unlisted same (rw is (λ untold. absurd (true≢false (sym untold ∙ told))))
+
+  by_operator : (o : Operator) → (node_at nodes k).operator ≡ o → HasValidAtom o → Lists glance old new o k → Both
+  by_operator (op.Atom a) is valid_one added = by_untold a (is_untold glance a) refl is valid_one added
   by_operator (op.Not a) is valid_one same = unlisted same (rw is tt)
   by_operator (op.Pair kind a b) is valid_one same = unlisted same (rw is tt)
   by_operator (op.Late cells from a) is valid_one same = unlisted same (rw is tt)

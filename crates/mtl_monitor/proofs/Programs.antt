@@ -5,16 +5,20 @@ use Rattle.mtl_formulas.specs.FormulaTree.{FormulaTree}
 use Rattle.mtl_monitor.specs.declared.program.Program.{Program}
 use Rattle.mtl_monitor.specs.declared.trace_state.TraceState.{TraceState}
 use Rattle.mtl_monitor.specs.Traces.{Trace}
-use Rattle.mtl_monitor.specs.Inner.Reading.{AreListed}
+use Rattle.mtl_monitor.specs.Inner.Reading.{AreAllListed}
 use Rattle.mtl_monitor.specs.Inner.Starting.{AreFresh}
 use Rattle.mtl_monitor.specs.Following.{IsProgramWith, IsProgramOf, Fits, HasRoom, Follows, Closes}
 use Rattle.mtl_monitor.specs.Growing.{IsProgramFor}
+use Rattle.mtl_formulas.specs.declared.glance.Glance.TheVariants.{Nothing}
+use Rattle.mtl_monitor.specs.Inner.Steps.{value_at}
+use Rattle.mtl_monitor.specs.Inner.Standing.{node_at}
+use Rattle.mtl_monitor.proofs.Knowing.{IsKnown-nothing}
 use Rattle.mtl_monitor.proofs.Beginning.{Keeps-fresh}
 
 -- A new state follows no rows.
-pub Follows-new : (p : Program) (s : TraceState) (formulas : List FormulaTree) → AreFresh p.nodes.items s.states.items s.values.items s.moving.items → s.still ≡ false
+pub Follows-new : (p : Program) (s : TraceState) (formulas : List FormulaTree) → AreFresh p.nodes.items s.states.items s.values.items s.moving.items → s.still ≡ false → s.glance ≡ Nothing
     → s.fed ≡ 0 → s.passed ≡ 0 → IsProgramOf p formulas → Follows p s formulas []
-Follows-new p s formulas fresh still fed passed is =
+Follows-new p s formulas fresh still glance fed passed is =
     record {
       trees = is.trees;
       of = is.of;
@@ -24,6 +28,7 @@ Follows-new p s formulas fresh still fed passed is =
       gives = λ some more. absurd (omega arith);
       quiet = λ k h flag. absurd (true≢false (sym (fresh.move k) ∙ flag));
       still = λ h. absurd (true≢false (sym h ∙ still));
+      known = rw glance (λ k h. IsKnown-nothing (node_at p.nodes.items k).operator (value_at s.values.items k));
     }
 
 -- Programs of one formula are equal in all that counts.
@@ -31,7 +36,7 @@ pub record AreEqual (p q : Program) : Type 0 where
   pub nodes : p.nodes.items ≡ q.nodes.items
   pub roots : p.roots.items ≡ q.roots.items
   pub reach : p.reach ≡ q.reach
-  pub listed : AreListed p.nodes.items p.atoms.items
+  pub listed : AreAllListed p.nodes.items p.atoms.items p.asked.items
 
 pub equal_programs : (p q : Program) (t : FormulaTree) → IsProgramFor p t → IsProgramFor q t → AreEqual p q
 equal_programs p q t is was =
@@ -53,6 +58,7 @@ module _ (p q : Program) (e : AreEqual p q) where
         gives = rw e.nodes h.gives;
         quiet = rw e.nodes h.quiet;
         still = rw e.nodes h.still;
+        known = rw e.nodes h.known;
       }
 
   pub Closes-equal : (s : TraceState) (formulas : List FormulaTree) (rows : Trace) → Closes q s formulas rows → Closes p s formulas rows
@@ -66,6 +72,7 @@ module _ (p q : Program) (e : AreEqual p q) where
         gives = rw e.nodes h.gives;
         quiet = rw e.nodes h.quiet;
         still = rw e.nodes h.still;
+        known = rw e.nodes h.known;
       }
 
   pub Fits-equal : (s : TraceState) → Fits q s → Fits p s

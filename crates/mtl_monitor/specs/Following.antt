@@ -14,7 +14,7 @@ use Rattle.mtl_monitor.specs.Inner.Steps.{value_at}
 use Rattle.mtl_monitor.specs.Inner.Standing.{tree_at, late_at, root_at, Sound, KeepAll, GiveAll}
 use Rattle.mtl_monitor.specs.Inner.Copying.{HaveShapes}
 use Rattle.mtl_monitor.specs.Inner.Quiet.{AreQuiet, flag_at}
-use Rattle.mtl_monitor.specs.Inner.Reading.{AreListed}
+use Rattle.mtl_monitor.specs.Inner.Reading.{AreAllListed, AreKnown}
 
 -- the formula with this index
 abbrev pub formula_at : List FormulaTree → ℕ → FormulaTree
@@ -38,7 +38,7 @@ pub record IsProgramWith (p : Program) (formulas trees : List FormulaTree) : Typ
   pub count : length p.roots.items ≡ length formulas
   pub each : (k : ℕ) → k < length formulas → IsRoot p.nodes.items trees (root_at p.roots.items k) (formula_at formulas k)
   pub farthest : p.reach ≡ greatest_reach formulas
-  pub listed : AreListed p.nodes.items p.atoms.items
+  pub listed : AreAllListed p.nodes.items p.atoms.items p.asked.items
 
 -- The program is one of these formulas, in this order.
 pub record IsProgramOf (p : Program) (formulas : List FormulaTree) : Type 0 where
@@ -88,6 +88,7 @@ pub record Follows (p : Program) (s : TraceState) (formulas : List FormulaTree) 
   pub gives : 0 < length rows → (more : Trace) → GiveAll (rows ++ more) trees p.nodes.items s.values.items (length rows - 1)
   pub quiet : AreQuiet p.nodes.items s.states.items s.values.items s.moving.items s.passed (s.passed + 1)
   pub still : s.still ≡ true → (k : ℕ) → k < length p.nodes.items → flag_at s.moving.items k ≡ false
+  pub known : AreKnown s.glance p.nodes.items s.values.items
 
 -- The state of the program of these formulas was fed these rows, and no more come.
 pub record Closes (p : Program) (s : TraceState) (formulas : List FormulaTree) (rows : Trace) : Type 0 where
@@ -99,6 +100,7 @@ pub record Closes (p : Program) (s : TraceState) (formulas : List FormulaTree) (
   pub gives : 0 < s.passed → GiveAll rows trees p.nodes.items s.values.items (s.passed - 1)
   pub quiet : AreQuiet p.nodes.items s.states.items s.values.items s.moving.items s.passed s.fed
   pub still : s.still ≡ true → (k : ℕ) → k < length p.nodes.items → flag_at s.moving.items k ≡ false
+  pub known : AreKnown s.glance p.nodes.items s.values.items
 
 -- A formula's answer to the last of these rows: the value at the position that lies its reach before, which no further rows change.
 -- None where there is no such position.

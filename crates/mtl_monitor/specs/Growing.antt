@@ -4,7 +4,7 @@ use Rattle.mtl_formulas.specs.FormulaTree.{FormulaTree}
 use Rattle.mtl_formulas.specs.FormulaMeasures.{reach_of}
 use Rattle.mtl_monitor.specs.declared.program.Program.{Program}
 use Rattle.mtl_monitor.specs.Inner.Compiling.{compiled}
-use Rattle.mtl_monitor.specs.Inner.Reading.{AreListed}
+use Rattle.mtl_monitor.specs.Inner.Reading.{AreAllListed}
 
 pub record IsEmpty (p : Program) : Type 0 where
   pub nodes : p.nodes.items ≡ []
@@ -15,11 +15,11 @@ pub record GrowsBy (old new : Program) (t : FormulaTree) : Type 0 where
   pub nodes : new.nodes.items ≡ (compiled old.nodes.items t).nodes
   pub roots : new.roots.items ≡ old.roots.items ++ (compiled old.nodes.items t).operand ∷ []
   pub reach : new.reach ≡ max old.reach (reach_of t)
-  pub listed : AreListed new.nodes.items new.atoms.items
+  pub listed : AreAllListed new.nodes.items new.atoms.items new.asked.items
 
 -- The program was made of this formula alone.
 pub record IsProgramFor (p : Program) (t : FormulaTree) : Type 0 where
   pub nodes : p.nodes.items ≡ (compiled [] t).nodes
   pub roots : p.roots.items ≡ (compiled [] t).operand ∷ []
   pub reach : p.reach ≡ reach_of t
-  pub listed : AreListed p.nodes.items p.atoms.items
+  pub listed : AreAllListed p.nodes.items p.atoms.items p.asked.items

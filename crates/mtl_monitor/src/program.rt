@@ -2,13 +2,14 @@
 ghost use Rattle.std.specs.Prelude.{◌≡◌, ◌≤◌, length};
 ghost use Rattle.mtl_monitor.specs.Inner.Standing.{AllValid, AllValid-prop, AllBelow, AllBelow-prop, AllInside, AllInside-prop};
 ghost use Rattle.mtl_monitor.specs.Inner.Reading.{AreReadable, AreReadable-prop};
+ghost use Rattle.mtl_formulas.specs.declared.glance.Glance.TheVariants.{Nothing, Apart};
 ghost use Rattle.mtl_monitor.specs.Inner.Triggers.{AreTriggers, AreTriggers-prop};
 
 use crate::building::{Operand, add};
 use crate::node::{AtomNode, ProgramNode};
 use crate::reading::list_atoms;
 use crate::triggers::{Trigger, list_triggers};
-use mtl_formulas::Formula;
+use mtl_formulas::{Formula, Glance};
 use outside::Memory;
 use std::alloc::Global;
 
@@ -20,12 +21,15 @@ pub struct Program {
     pub(crate) roots: Vec<Operand>,
     pub(crate) reach: u32,
     pub(crate) atoms: Vec<AtomNode>,
+    /// Those of them that are to be asked where the vessels are seen and apart.
+    pub(crate) asked: Vec<AtomNode>,
     pub(crate) triggers: Vec<Trigger>,
     ghost valid: { AllValid nodes.items } by { AllValid-prop nodes.items },
     ghost below: { AllBelow nodes.items } by { AllBelow-prop nodes.items },
     ghost inside: { AllInside (length nodes.items) roots.items } by { AllInside-prop (length nodes.items) roots.items },
     ghost reach_small: { reach ≤ 7200 },
-    ghost readable: { AreReadable nodes.items (length nodes.items) atoms.items } by { AreReadable-prop nodes.items (length nodes.items) atoms.items },
+    ghost readable: { AreReadable Nothing nodes.items (length nodes.items) atoms.items } by { AreReadable-prop Nothing nodes.items (length nodes.items) atoms.items },
+    ghost askable: { AreReadable Apart nodes.items (length nodes.items) asked.items } by { AreReadable-prop Apart nodes.items (length nodes.items) asked.items },
     ghost triggered: { AreTriggers nodes.items triggers.items } by { AreTriggers-prop nodes.items triggers.items },
 }
 
@@ -35,6 +39,7 @@ impl Program {
     ghost use Rattle.mtl_formulas.specs.FormulaMeasures.{IsValid};
     ghost use Rattle.mtl_monitor.specs.Following.{IsProgramOf, count_of, greatest_reach};
     ghost use Rattle.mtl_monitor.specs.Growing.{IsEmpty, GrowsBy};
+    ghost use Rattle.mtl_monitor.specs.Inner.Reading.{AreToBeRead};
 
     /// The program of no formula. It takes no memory.
     pub fn new(alloc: Global) -> Program
@@ -47,6 +52,7 @@ impl Program {
             roots: Vec::new(alloc),
             reach: 0,
             atoms: Vec::new(alloc),
+            asked: Vec::new(alloc),
             triggers: Vec::new(alloc),
         }
     }
@@ -65,10 +71,12 @@ impl Program {
             mut roots,
             reach,
             mut atoms,
+            mut asked,
             mut triggers,
         } = self;
         let root = add(&mut nodes, formula)?;
-        list_atoms(&nodes, &mut atoms)?;
+        list_atoms(&nodes, Glance::Nothing, &mut atoms)?;
+        list_atoms(&nodes, Glance::Apart, &mut asked)?;
         list_triggers(&nodes, &mut triggers)?;
         match roots.push(root) {
             Ok(()) => Ok(Program {
@@ -76,9 +84,21 @@ impl Program {
                 roots,
                 reach: reach.max(root.late),
                 atoms,
+                asked,
                 triggers,
             }),
             Err(_) => Err(Memory),
+        }
+    }
+
+    /// The atoms to be read at a row, by what a glance told of the row before and tells of this one.
+    pub(crate) fn to_be_read(&self, before: Glance, now: Glance) -> &[AtomNode]
+        ensures { AreToBeRead self.now.nodes.items self.now.atoms.items self.now.asked.items before now result.now }
+    {
+        match (before, now) {
+            (Glance::Apart, Glance::Apart) => &self.asked,
+            (Glance::Unseen, Glance::Unseen) | (Glance::Beyond, Glance::Beyond) => &[],
+            _ => &self.atoms,
         }
     }
 

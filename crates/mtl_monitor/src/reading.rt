@@ -9,33 +9,46 @@ ghost use Rattle.mtl_monitor.specs.Inner.Marks.{IsUnmarked};
 
 use crate::marks::marked;
 use crate::node::{AtomNode, Operator, ProgramNode};
+use crate::starting::pushed;
 use crate::verdicts::is_same;
-use mtl_formulas::{Atoms, Verdict};
+use mtl_formulas::{Atoms, Glance, Verdict};
 use outside::Memory;
 
-/// Lists a node, if it is that of an atom.
-fn list_atom(operator: Operator, index: usize, atoms: &mut Vec<AtomNode>) -> Result<(), Memory>
+/// Lists a node, if it is that of an atom whose answer the glance leaves open.
+fn list_atom(
+    operator: Operator,
+    index: usize,
+    glance: Glance,
+    atoms: &mut Vec<AtomNode>,
+) -> Result<(), Memory>
     requires { HasValidAtom operator }
-    ensures { OnOk result (Lists atoms.old.items atoms.new.items operator index) }
+    ensures { OnOk result (Lists glance atoms.old.items atoms.new.items operator index) }
 {
     match operator {
-        Operator::Atom(atom) => match atoms.push(AtomNode { index, atom }) {
-            Ok(()) => Ok(()),
-            Err(_) => Err(Memory),
-        },
+        Operator::Atom(atom) => {
+            if atom.is_untold(glance) {
+                pushed(atoms, AtomNode { index, atom })
+            } else {
+                Ok(())
+            }
+        }
         _ => Ok(()),
     }
 }
 
-/// Lists the nodes of atoms.
-pub(crate) fn list_atoms(nodes: &[ProgramNode], atoms: &mut Vec<AtomNode>) -> Result<(), Memory>
+/// Lists the nodes of atoms whose answers the glance leaves open.
+pub(crate) fn list_atoms(
+    nodes: &[ProgramNode],
+    glance: Glance,
+    atoms: &mut Vec<AtomNode>,
+) -> Result<(), Memory>
     requires { AllValid nodes.now }
-    ensures listed { OnOk result (AreListed nodes.now atoms.new.items) }
-    ensures readable { OnOk result (AreReadable nodes.now (length nodes.now) atoms.new.items) }
+    ensures listed { OnOk result (AreListed glance nodes.now atoms.new.items) }
+    ensures readable { OnOk result (AreReadable glance nodes.now (length nodes.now) atoms.new.items) }
 {
     atoms.clear();
     for index in 0..nodes.len() {
-        list_atom(nodes[index].operator, index, atoms)?;
+        list_atom(nodes[index].operator, index, glance, atoms)?;
     }
     Ok(())
 }

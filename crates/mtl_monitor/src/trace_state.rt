@@ -7,7 +7,7 @@ use crate::passing::pass_all;
 use crate::program::Program;
 use crate::reading::read_atoms;
 use crate::starting::start;
-use mtl_formulas::{Atom, Atoms, Verdict};
+use mtl_formulas::{Atom, Atoms, Glance, Verdict};
 use outside::Memory;
 use std::alloc::Global;
 
@@ -22,6 +22,10 @@ impl Atoms for Beyond {
     fn value(&self, _atom: Atom) -> Verdict {
         Verdict::Open
     }
+
+    fn glance(&self) -> Glance {
+        Glance::Beyond
+    }
 }
 
 /// The state of a program over one trace, whose rows come one by one.
@@ -34,6 +38,8 @@ pub struct TraceState {
     pub(crate) values: Vec<Verdict>,
     pub(crate) moving: Vec<bool>,
     pub(crate) still: bool,
+    /// What a glance told of the row that was read last.
+    pub(crate) glance: Glance,
     pub(crate) fed: u32,
     pub(crate) passed: u32,
     ghost in_order: { fed ≤ passed },
@@ -45,7 +51,9 @@ impl TraceState {
     ghost use Rattle.mtl_monitor.specs.Traces.{Trace};
     ghost use Rattle.mtl_monitor.specs.declared.program.Program.{Program};
     ghost use Rattle.mtl_monitor.specs.Inner.Quiet.{Walked};
-    ghost use Rattle.mtl_monitor.specs.Inner.Reading.{AreRead, ReadsAtoms};
+    ghost use Rattle.mtl_monitor.specs.Inner.Reading.{AreAllListed, AreKnown, ReadsAtoms};
+    ghost use Rattle.mtl_monitor.specs.Inner.Quiet.{AreAnswered};
+    ghost use Rattle.mtl_formulas.specs.Glances.{IsTold};
     ghost use Rattle.mtl_formulas.specs.declared.verdict.Verdict.{Verdict};
     ghost use Rattle.mtl_monitor.specs.Following.{GivesTheSame, last_value, IsProgramOf, Fits, HasRoom, AreOfOneProgram, Follows, Closes, IsFed, IsEnded, formula_at, count_of, fed_of, past_of};
 
@@ -64,6 +72,7 @@ impl TraceState {
             values: begun.values,
             moving: begun.moving,
             still: false,
+            glance: Glance::Nothing,
             fed: 0,
             passed: 0,
         })
@@ -76,6 +85,7 @@ impl TraceState {
         ensures fits { Fits program.now self.new }
         ensures fed { self.new.fed ≡ self.old.fed }
         ensures passed { self.new.passed ≡ self.old.passed }
+        ensures glance { self.new.glance ≡ self.old.glance }
         ensures walked { (before : List Verdict) → Walked program.now.nodes.items self.old.states.items before
             self.old.values.items self.old.moving.items i end marks
             self.new.states.items self.new.values.items self.new.moving.items self.new.still }
@@ -92,7 +102,7 @@ impl TraceState {
         );
     }
 
-    /// Reads a row's atoms, and marks the nodes of those that are answered otherwise than at the last row.
+    /// Reads a row's atoms but those that a glance tells as at the last row, and marks the nodes of those that are answered otherwise than at the last row.
     fn read<A: Atoms>(&mut self, program: &Program, row: &A) -> u64
         requires { Fits program.now self.old }
         ensures fits { Fits program.now self.new }
@@ -101,10 +111,16 @@ impl TraceState {
         ensures still { self.new.still ≡ self.old.still }
         ensures fed { self.new.fed ≡ self.old.fed }
         ensures passed { self.new.passed ≡ self.old.passed }
-        ensures read { AreRead program.now.atoms.items self.new.values.items (A.answer row.now) }
+        ensures told { IsTold self.new.glance (A.answer row.now) }
+        ensures answered { AreAllListed program.now.nodes.items program.now.atoms.items program.now.asked.items →
+            AreKnown self.old.glance program.now.nodes.items self.old.values.items →
+            AreAnswered program.now.nodes.items self.new.values.items (A.answer row.now) }
         ensures reads { ReadsAtoms program.now.nodes.items self.old.values.items self.new.values.items result }
     {
-        read_atoms(&program.atoms, &mut self.values, row)
+        let glance = row.glance();
+        let atoms = program.to_be_read(self.glance, glance);
+        self.glance = glance;
+        read_atoms(atoms, &mut self.values, row)
     }
 
     /// Feeds the next row. False where the row was only counted: then each formula's answer has the value of its last one.
@@ -209,6 +225,7 @@ impl TraceState {
         self.values.copy_from_slice(&other.values);
         self.moving.copy_from_slice(&other.moving);
         self.still = other.still;
+        self.glance = other.glance;
         self.fed = other.fed;
         self.passed = other.passed;
     }

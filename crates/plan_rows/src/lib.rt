@@ -4,6 +4,8 @@
 #[cfg(test)]
 mod checked;
 #[cfg(test)]
+mod compared;
+#[cfg(test)]
 mod reasons;
 #[cfg(test)]
 mod searches;

@@ -5,9 +5,11 @@ ghost use Rattle.lattice.specs.PlanNumbers.{IsPlan};
 ghost use Rattle.situations.specs.Situations.{IsSituation};
 
 use crate::checked::checked;
+use crate::compared::{is, is_true};
 use ais_messages::PositionReport;
 use encounters::{Act, Detect};
 use fixed_geometry::Point;
+use hull_domains::Shape;
 use lattice::{Lattice, Plan};
 use motion::TickState;
 use outside::Memory;
@@ -52,6 +54,16 @@ const NUMBERS: RuleNumbers = RuleNumbers {
     te: 600,
 };
 
+/// A domain that is longer ahead than aft.
+pub(crate) const LONG_AHEAD: [(i32, i32); 6] = [
+    (600, 0),
+    (300, 150),
+    (-100, 150),
+    (-200, 0),
+    (-100, -150),
+    (300, -150),
+];
+
 /// A vessel at 18 knots.
 fn at(x: i64, y: i64, direction: u16) -> TickState {
     TickState {
@@ -83,18 +95,32 @@ fn towards(alloc: Global, now: u32, lattice: Lattice, target: Target) -> Result<
         act: ACT,
         lattice,
         tick: 10,
+        shape: None,
     })
 }
 
 /// Two vessels that meet head-on at 18 knots each, 18.52 metres aside of each other. Now is tick 1.
 pub(crate) fn head_on(alloc: Global, lattice: Lattice) -> Result<Situation, Memory> {
+    head_on_until(alloc, lattice, u32::MAX)
+}
+
+/// The same, where the other has no direction from a tick on.
+pub(crate) fn head_on_until(
+    alloc: Global,
+    lattice: Lattice,
+    lost: u32,
+) -> Result<Situation, Memory> {
     let mut past = Vec::new(alloc);
     let mut ahead = Vec::new(alloc);
     for k in 0..2_u32 {
         past.push(Some(at(-185_200, 37_040_000 - 926_000 * i64::from(k), 1800)))?;
     }
     for k in 1..lattice.positions() + 2 {
-        ahead.push(at(-185_200, 37_040_000 - 926_000 * i64::from(k), 1800))?;
+        let mut state = at(-185_200, 37_040_000 - 926_000 * i64::from(k), 1800);
+        if k >= lost {
+            state.direction = None;
+        }
+        ahead.push(state)?;
     }
     let target = Target {
         mmsi: 477_553_000,
@@ -125,15 +151,15 @@ fn least(rt: &impl Abort, alloc: Global, situation: Situation) -> Result<Option<
     let first = number_in(&search.situation().lattice, first);
     let again = search.run();
     let again = number_in(&search.situation().lattice, again);
-    assert_eq!(rt; first, flat);
-    assert_eq!(rt; again, flat);
+    is(rt, first, flat);
+    is(rt, again, flat);
     Ok(flat)
 }
 
 /// The answer of the situation of two vessels head-on.
 fn least_head_on(rt: &impl Abort, alloc: Global, lattice: Lattice) -> Result<Option<u32>, Fail> {
     let situation = checked(head_on(alloc, lattice)?);
-    assert!(rt; situation.is_some());
+    is_true(rt, situation.is_some());
     match situation {
         Some(situation) => Ok(least(rt, alloc, situation)?),
         None => Ok(None),
@@ -144,11 +170,25 @@ fn least_head_on(rt: &impl Abort, alloc: Global, lattice: Lattice) -> Result<Opt
 fn two_vessels_head_on(rt: HostRuntime) -> Result<(), Fail> {
     let alloc = rt.alloc();
     let three = Lattice::new(alloc, &[0, 300, 600], &[0], 1, 30, 10, 1800, 1022);
-    assert_eq!(rt; least_head_on(&rt, alloc, three)?, Some(1));
+    is(&rt, least_head_on(&rt, alloc, three)?, Some(1));
     let ahead = Lattice::new(alloc, &[0], &[0], 1, 30, 10, 1800, 1022);
-    assert_eq!(rt; least_head_on(&rt, alloc, ahead)?, None);
+    is(&rt, least_head_on(&rt, alloc, ahead)?, None);
     let two_legs = Lattice::new(alloc, &[0, 300], &[0], 2, 15, 10, 1800, 1022);
-    assert_eq!(rt; least_head_on(&rt, alloc, two_legs)?, Some(2));
+    is(&rt, least_head_on(&rt, alloc, two_legs)?, Some(2));
+    Ok(())
+}
+
+#[test]
+fn two_vessels_head_on_with_a_shape(rt: HostRuntime) -> Result<(), Fail> {
+    let alloc = rt.alloc();
+    let three = Lattice::new(alloc, &[0, 300, 600], &[0], 1, 30, 10, 1800, 1022);
+    let mut situation = head_on(alloc, three)?;
+    situation.shape = Shape::new(&LONG_AHEAD);
+    let situation = checked(situation);
+    is_true(&rt, situation.is_some());
+    if let Some(situation) = situation {
+        is(&rt, least(&rt, alloc, situation)?, Some(1));
+    }
     Ok(())
 }
 
@@ -156,9 +196,9 @@ fn two_vessels_head_on(rt: HostRuntime) -> Result<(), Fail> {
 fn a_turn_at_a_rate_passes_or_comes_too_late(rt: HostRuntime) -> Result<(), Fail> {
     let alloc = rt.alloc();
     let turning = Lattice::new(alloc, &[0, 300, 600], &[0], 1, 30, 10, 100, 1022);
-    assert_eq!(rt; least_head_on(&rt, alloc, turning)?, Some(1));
+    is(&rt, least_head_on(&rt, alloc, turning)?, Some(1));
     let slow = Lattice::new(alloc, &[0, 300, 600], &[0], 1, 30, 10, 20, 1022);
-    assert_eq!(rt; least_head_on(&rt, alloc, slow)?, None);
+    is(&rt, least_head_on(&rt, alloc, slow)?, None);
     Ok(())
 }
 
@@ -167,11 +207,11 @@ fn all_plans_of_the_greatest_lattice_fail_in_their_first_leg(rt: HostRuntime) ->
     let alloc = rt.alloc();
     let greatest = Lattice::new(alloc, &[0; 4], &[0; 8], 6, 30, 10, 1800, 1022);
     let situation = checked(head_on(alloc, greatest)?);
-    assert!(rt; situation.is_some());
+    is_true(&rt, situation.is_some());
     if let Some(situation) = situation {
         let mut search = Search::new(alloc, situation)?;
-        assert!(rt; search.run().is_none());
-        assert!(rt; search.run().is_none());
+        is_true(&rt, search.run().is_none());
+        is_true(&rt, search.run().is_none());
     }
     Ok(())
 }
@@ -220,7 +260,7 @@ impl Line {
     }
 }
 
-/// A target on a random line, which is not seen at some ticks, and a random lattice.
+/// A target on a random line, which is not seen at some ticks, and a random lattice. In about one of two situations domains are shapes.
 fn random_situation(alloc: Global, source: &mut Pcg32) -> Result<Situation, Memory> {
     let lattice = random_lattice(alloc, source);
     let line = Line {
@@ -256,7 +296,11 @@ fn random_situation(alloc: Global, source: &mut Pcg32) -> Result<Situation, Memo
             radius: u64::from(below(source, 4_000_000)),
         },
     };
-    towards(alloc, now, lattice, target)
+    let mut situation = towards(alloc, now, lattice, target)?;
+    if below(source, 2) == 0 {
+        situation.shape = Shape::new(&LONG_AHEAD);
+    }
+    Ok(situation)
 }
 
 #[test]
@@ -266,9 +310,9 @@ fn the_pruned_search_agrees_with_the_flat_list(rt: HostRuntime) -> Result<(), Fa
     let mut first = false;
     let mut later = false;
     let mut none = false;
-    for _ in 0..60u8 {
+    for _ in 0..120u8 {
         let situation = checked(random_situation(alloc, &mut source)?);
-        assert!(rt; situation.is_some());
+        is_true(&rt, situation.is_some());
         if let Some(situation) = situation {
             match least(&rt, alloc, situation)? {
                 Some(0) => first = true,
@@ -277,7 +321,7 @@ fn the_pruned_search_agrees_with_the_flat_list(rt: HostRuntime) -> Result<(), Fa
             }
         }
     }
-    assert!(rt; first && later && none);
+    is_true(&rt, first && later && none);
     Ok(())
 }
 
@@ -305,18 +349,19 @@ fn a_change_of_course_on_the_way(rt: HostRuntime) {
         speed: 90,
     };
     let before = predicted(&REPORTED, &[east], 1000, 1009);
-    assert_eq!(rt; before.point, Point { x: 0, y: 833_400 });
-    assert_eq!(rt; before.direction, Some(0));
+    is(&rt, before.point, Point { x: 0, y: 833_400 });
+    is(&rt, before.direction, Some(0));
     let turned = predicted(&REPORTED, &[east], 1000, 1010);
-    assert_eq!(rt; turned.point, Point { x: 0, y: 926_000 });
-    assert_eq!(rt; turned.direction, Some(900));
-    assert_eq!(rt; turned.speed, Some(90));
+    is(&rt, turned.point, Point { x: 0, y: 926_000 });
+    is(&rt, turned.direction, Some(900));
+    is(&rt, turned.speed, Some(90));
     let after = predicted(&REPORTED, &[east], 1000, 1020);
-    assert_eq!(rt;
+    is(
+        &rt,
         after.point,
         Point {
             x: 463_000,
-            y: 926_000
-        }
+            y: 926_000,
+        },
     );
 }

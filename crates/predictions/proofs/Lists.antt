@@ -1,5 +1,5 @@
 -- Lists of values, each seen as its data.
-use Rattle.std.proofs.Common.{◌≡◌, ◌≢◌, ℕ, ◌==◌, ◌&&◌, ◌||◌, Bool, ℤ, List, [], ◌∷◌, map, length, Some, None, refl, ap, ◌∙◌, arith}
+use Rattle.std.proofs.Common.{◌≡◌, ◌≢◌, ℕ, ◌==◌, ◌||◌, Bool, ℤ, List, [], ◌∷◌, map, length, Some, None, refl, ap, arith}
 use Rattle.std.specs.Prelude.{slice_index_or}
 use Rattle.std.specs.List.{list_all, list_any}
 use Rattle.std.proofs.lemmas.List.{length-map}
@@ -10,12 +10,8 @@ use Rattle.scenario_keys.specs.ListFaults.{elements}
 use Rattle.scenario_keys.proofs.Elements as keys
 use Rattle.predictions.specs.PredictFaults.{change_numbers, predicted_mmsi}
 
-all_viewed : (p : Data → Bool) (values : List Value) → list_all p (map view values) ≡ list_all (λ v. p (view v)) values
-all_viewed p [] = refl
-all_viewed p (v ∷ values) = ap (λ b. p (view v) && b) (all_viewed p values)
-
 pub all_seen : (p : Data → Bool) (values : List Value) → list_all p (elements (items_view values)) ≡ list_all (λ v. p (view v)) values
-all_seen p values = ap (list_all p) (keys.seen_elements values) ∙ all_viewed p values
+all_seen p values = keys.all_seen p values
 
 pub any_seen : (mmsi : ℕ) (values : List Value) → list_any (λ taken. taken == mmsi) (map predicted_mmsi (map view values)) ≡ list_any (λ v. predicted_mmsi (view v) == mmsi) values
 any_seen mmsi [] = refl

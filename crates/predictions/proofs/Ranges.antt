@@ -15,14 +15,14 @@ use Rattle.scenario_keys.specs.FirstFaults.{with_before}
 use Rattle.scenario_keys.specs.FirstOf.{first_of}
 use Rattle.scenario_keys.specs.IntegerFaults.{integer_cause, is_multiple, is_in_bounds, number_cause}
 use Rattle.scenario_keys.specs.KeyValues.{array_in, integer_found, list_in, member_at, natural_of}
-use Rattle.scenario_keys.specs.ListFaults.{elements}
+use Rattle.scenario_keys.specs.ListFaults.{elements, is_integer_list}
 use Rattle.scenario_keys.specs.ToldFaults.{fault_by_at, item_of}
 use Rattle.scenario_keys.specs.declared.cause.Cause.{Cause}
 use Rattle.scenario_keys.specs.declared.cause.Cause.TheVariants as cause
 use Rattle.scenario_keys.specs.declared.key.Key.{Key}
 use Rattle.scenario_keys.proofs.ForCallers.{all_head, all_none, all_tail}
 use Rattle.predictions.proofs.Lists.{all_seen, mapped_seen}
-use Rattle.predictions.specs.PredictFaults.{after_of, are_changes, are_on_ticks, array_cause, ascend, ascend_from, changes_cause, is_change_of, is_from_0_to, is_integer_list, is_ship_taken, list_cause, predicted_mmsi, new_cause, change_numbers_at, predict_fault, ship_cause, ships, table_fault, HaveNoFault}
+use Rattle.predictions.specs.PredictFaults.{after_of, are_changes, are_on_ticks, array_cause, ascend, ascend_from, changes_cause, is_change_of, is_from_0_to, is_ship_taken, list_cause, predicted_mmsi, new_cause, change_numbers_at, predict_fault, ship_cause, ships, table_fault, HaveNoFault}
 use Rattle.predictions.specs.PredictValues.{change_of, predicted_changes, predict_of, predictions_of, ArePredictions, AreTimed}
 use Rattle.predictions.specs.Inner.{AreReadable, IsReadable}
 use Rattle.predictions.specs.declared.changes.Change.{Change}

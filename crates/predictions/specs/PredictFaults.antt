@@ -1,13 +1,12 @@
 -- The faults of the tables of `predict`: of each one its ship, and then its changes.
 use Rattle.std.specs.Prelude.{◌≡◌, ℕ, ◌==◌, ◌%◌, nat_le, Bool, true, false, ◌&&◌, if◌then◌else◌, codes, ℤ, pos, int_le, int_lt, unsigned_abs, List, [], ◌∷◌, length, map, Option, Some, None}
 use Rattle.std.specs.List.{list_all, list_any}
-use Rattle.std.specs.Option.{is_some}
-use Rattle.toml.specs.Data.{Data, Items, as_array, as_integer}
+use Rattle.toml.specs.Data.{Data, Items, as_array}
 use Rattle.scenario_keys.specs.FirstFaults.{with_before}
 use Rattle.scenario_keys.specs.FirstOf.{first_of}
 use Rattle.scenario_keys.specs.IntegerFaults.{number_cause}
 use Rattle.scenario_keys.specs.KeyValues.{integer_found, integers_in, member_at, natural_of}
-use Rattle.scenario_keys.specs.ListFaults.{elements}
+use Rattle.scenario_keys.specs.ListFaults.{elements, is_integer_list}
 use Rattle.scenario_keys.specs.ToldFaults.{fault_by_at, item_of}
 use Rattle.scenario_keys.specs.declared.numbers.Bounds.{Bounds}
 use Rattle.scenario_keys.specs.declared.key.Key.{Key}
@@ -65,16 +64,6 @@ ascend (first ∷ rest) = ascend_from first rest
 
 -- The cause of a list of changes: an element that is no list of integers, then a wrong length of the list or of an element, a
 -- number out of range or an `after` that does not exceed the one before, then an `after` that is no multiple of the tick.
-
-abbrev pub is_integer : Data → Bool
-is_integer found = is_some (as_integer found)
-
-abbrev pub are_integers : Option Items → Bool
-are_integers None = false
-are_integers (Some items) = list_all is_integer (elements items)
-
-abbrev pub is_integer_list : Data → Bool
-is_integer_list found = are_integers (as_array found)
 
 abbrev pub change_numbers_at : Data → Option ChangeNumbers
 change_numbers_at found = change_numbers (integers_in found)

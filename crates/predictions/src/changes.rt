@@ -4,11 +4,11 @@ ghost use Rattle.std.specs.List.{list_all};
 ghost use Rattle.toml.specs.Data.{as_integer};
 ghost use Rattle.toml.specs.View.{array_view, view};
 ghost use Rattle.scenario_keys.specs.KeyValues.{integer_of};
-ghost use Rattle.scenario_keys.specs.ListFaults.{elements};
-ghost use Rattle.predictions.specs.PredictFaults.{after_of, ascend, are_changes, are_on_ticks, change_numbers, changes_cause, is_change_of, is_from_0_to, is_integer, is_integer_list, list_cause, change_numbers_at};
+ghost use Rattle.scenario_keys.specs.ListFaults.{elements, is_integer_list};
+ghost use Rattle.predictions.specs.PredictFaults.{after_of, ascend, are_changes, are_on_ticks, change_numbers, changes_cause, is_change_of, is_from_0_to, list_cause, change_numbers_at};
 ghost use Rattle.predictions.specs.Inner.{exceeds};
 
-use scenario_keys::{Cause, element_count};
+use scenario_keys::{Cause, element_count, integer_of, is_integer_list};
 use std::marker::Model;
 use toml::Value;
 use toml::value::Array;
@@ -64,35 +64,10 @@ pub struct ChangeNumbers {
     pub speed: i64,
 }
 
-fn are_integers(list: &Array) -> bool
-    ensures { result ≡ list_all (λ v. is_integer (view v)) list.now.items }
-{
-    list.iter().all(|found| found.is_integer())
-}
-
-#[tactic(auto, using(crate::proofs::Lists::all_seen))]
-fn is_integer_list(found: &Value) -> bool
-    ensures { result ≡ is_integer_list (view found.now) }
-{
-    match found.as_array() {
-        Some(list) => are_integers(list),
-        None => false,
-    }
-}
-
 fn are_integer_lists(list: &Array) -> bool
     ensures { result ≡ list_all (λ v. is_integer_list (view v)) list.now.items }
 {
     list.iter().all(|found| is_integer_list(found))
-}
-
-fn integer_of(found: &Value) -> i64
-    ensures { result ≡ integer_of (as_integer (view found.now)) }
-{
-    match found.as_integer() {
-        Some(number) => number,
-        None => 0,
-    }
 }
 
 /// The numbers of a list of three.

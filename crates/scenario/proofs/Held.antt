@@ -157,6 +157,7 @@ kind_is None of h = cc
 kind_is (Some (kind.Number this)) of h = let same : this ≡ of = cc in ap (λ (r : Range). Some (kind.Number r)) same
 kind_is (Some (kind.Numbers list)) of h = cc
 kind_is (Some (kind.Tables most)) of h = cc
+kind_is (Some kind.Shape) of h = cc
 kind_is (Some kind.Plans) of h = cc
 kind_is (Some kind.FormulaName) of h = cc
 kind_is (Some kind.FormulaText) of h = cc
@@ -360,6 +361,7 @@ same_fault need_own document row name here (Err cause) = refl
 same_fault need_own document row name (kind.Number of) (Ok table) = refl
 same_fault need_own document row name (kind.Numbers list) (Ok table) = refl
 same_fault need_own document row name (kind.Tables most) (Ok table) = refl
+same_fault need_own document row name kind.Shape (Ok table) = refl
 same_fault need_own document row name kind.Plans (Ok table) = refl
 same_fault need_own document row name kind.Document (Ok table) = refl
 same_fault need_own document row name kind.FormulaName (Ok table) = refl

@@ -1,8 +1,10 @@
 pub mod Firsts
 pub mod Held
 pub mod Single
+pub mod OneReading
 pub mod ListsHeld
 pub mod PlansHeld
+pub mod Vertices
 pub mod Members
 pub mod Migrations
 pub mod Shallow
@@ -12,3 +14,4 @@ pub mod MovedKeys
 pub mod MovedValues
 pub mod MovedFaults
 pub mod SameScenario
+pub mod ForCallers

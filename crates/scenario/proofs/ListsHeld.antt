@@ -16,6 +16,7 @@ use Rattle.scenario_keys.specs.ListFaults.{array_fault, at_item, elements, eleme
 use Rattle.scenario_keys.specs.KeyValues.{array_in, found_in, integer_of, list_at, list_in, natural_of, table_at}
 use Rattle.scenario_keys.specs.ToldFaults.{fault_listed}
 use Rattle.scenario.specs.KeyFaults.{basis_of, fault_in}
+use Rattle.scenario.specs.Shapes.{shape_fault}
 use Rattle.scenario.specs.Inner.NoFaults.{HaveNoFault}
 use Rattle.scenario.specs.Inner.KnownKeys.{fewest_of, kind_at, list_range_at, list_range_in, lists_lie_in}
 use Rattle.scenario.specs.Inner.WithinBounds.{IsWithin}
@@ -151,6 +152,7 @@ list_kind_is None range h = cc
 list_kind_is (Some (kind.Numbers this)) range h = let same : this ≡ range = cc in ap (λ (r : ListRange). Some (kind.Numbers r)) same
 list_kind_is (Some (kind.Number of)) range h = cc
 list_kind_is (Some (kind.Tables most)) range h = cc
+list_kind_is (Some kind.Shape) range h = cc
 list_kind_is (Some kind.Plans) range h = cc
 list_kind_is (Some kind.FormulaName) range h = cc
 list_kind_is (Some kind.FormulaText) range h = cc
@@ -257,6 +259,11 @@ pub tables_uncaused : (basis : Basis) (row : ℕ) (name : List ℕ) (most : ℕ)
     tables_fault most (found_in name table) ≡ None
 tables_uncaused basis row name most (Err cause) h = cc
 tables_uncaused basis row name most (Ok table) h = unlisted row (tables_fault most (get_member name table)) h
+
+pub shape_uncaused : (basis : Basis) (row : ℕ) (name : List ℕ) (table : Result Members Cause) → fault_in basis row name kind.Shape table ≡ None →
+    shape_fault (found_in name table) ≡ None
+shape_uncaused basis row name (Err cause) h = cc
+shape_uncaused basis row name (Ok table) h = unlisted row (shape_fault (get_member name table)) h
 
 pub tables_held : (need_own : Bool) (document : Members) (table name : List ℕ) (most : ℕ) → kind_at (basis_of need_own document) table name ≡ Some (kind.Tables most) →
     HaveNoFault need_own document → length (list_at table name document) ≤ most

@@ -32,7 +32,7 @@ same_fault bytes key other cause why h k =
     let pair = one_fault (has_own k.document) k.document (key, cause) (other, why) (subst (λ (d : Members). IsFirstFault (has_own d) d (key, cause)) same h.first) k.first in
     (ap (λ (p : Key × Cause). p.0) pair, ap (λ (p : Key × Cause). p.1) pair)
 
-one_reason : (bytes : List ℕ) (key other : Key) (cause why : Cause) → IsNotMigrated bytes key cause → IsNotMigrated bytes other why → (key ≡ other) × (cause ≡ why)
+pub one_reason : (bytes : List ℕ) (key other : Key) (cause why : Cause) → IsNotMigrated bytes key cause → IsNotMigrated bytes other why → (key ≡ other) × (cause ≡ why)
 one_reason bytes key other cause why (inl h) (inl k) = (h.at ∙ sym k.at, h.because ∙ sym k.because)
 one_reason bytes key other cause why (inl h) (inr (inl k)) = absurd (h.unread k.document k.reads)
 one_reason bytes key other cause why (inl h) (inr (inr k)) = absurd (h.unread k.document k.reads)

@@ -21,12 +21,13 @@ use Rattle.scenario_keys.proofs.ForCallers.{all_append, all_back, all_front, all
 use Rattle.scenario.specs.DocumentFaults.{IsFaultless}
 use Rattle.scenario.specs.KeyFaults.{basis_of, counts, fault_in, fault_of, is_version_two, tick_of}
 use Rattle.scenario.specs.PlanFaults.{plans_cause, sizes_of}
+use Rattle.scenario.specs.Shapes.{shape_fault}
 use Rattle.scenario.specs.Migration.{found_at, has_own, is_key, kept, kept_by, migrated, new_value}
 use Rattle.scenario.specs.declared.basis.Basis.{Basis}
 use Rattle.scenario.specs.declared.plan_sizes.PlanSizes.{PlanSizes}
 use Rattle.scenario.proofs.Held.{number_uncaused}
 use Rattle.scenario.proofs.KnownLists.{fault_kept, predictions_fault_kept}
-use Rattle.scenario.proofs.ListsHeld.{list_uncaused, tables_uncaused}
+use Rattle.scenario.proofs.ListsHeld.{list_uncaused, shape_uncaused, tables_uncaused}
 use Rattle.scenario.proofs.MovedKeys.{all_rows, held, is_moved, is_second, place_of, row_held, value_moved, Held, IsRow}
 use Rattle.scenario.proofs.MovedValues.{any, predicted_moved, ship_moved, sizes_moved, tick_moved, version_moved}
 use Rattle.scenario.proofs.Shallow.{key_faultless, key_plain, predict_faultless, untouched}
@@ -37,6 +38,7 @@ abbrev pub HasNoCause : ℕ → Kind → Option Data → Type 0
 HasNoCause tick (kind.Number of) found = number_cause (bounds_of tick of) found ≡ None
 HasNoCause tick (kind.Numbers list) found = list_fault list found ≡ None
 HasNoCause tick (kind.Tables most) found = tables_fault most found ≡ None
+HasNoCause tick kind.Shape found = shape_fault found ≡ None
 HasNoCause tick _ found = Unit {0}
 
 uncaused : (basis : Basis) (number : ℕ) (name : List ℕ) (what : Kind) (table : Result Members Cause) → fault_in basis number name what table ≡ None →
@@ -44,6 +46,7 @@ uncaused : (basis : Basis) (number : ℕ) (name : List ℕ) (what : Kind) (table
 uncaused basis number name (kind.Number of) table h = number_uncaused basis number name of table h
 uncaused basis number name (kind.Numbers list) table h = list_uncaused basis number name list table h
 uncaused basis number name (kind.Tables most) table h = tables_uncaused basis number name most table h
+uncaused basis number name kind.Shape table h = shape_uncaused basis number name table h
 uncaused basis number name kind.Plans table h = tt
 uncaused basis number name kind.Document table h = tt
 uncaused basis number name kind.FormulaName table h = tt
@@ -57,6 +60,7 @@ no_fault : (basis : Basis) (number : ℕ) (name : List ℕ) (what : Kind) (membe
 no_fault basis number name (kind.Number of) members key h = ap (fault_by number) h
 no_fault basis number name (kind.Numbers list) members key h = ap (fault_listed number) h
 no_fault basis number name (kind.Tables most) members key h = ap (fault_listed number) h
+no_fault basis number name kind.Shape members key h = ap (fault_listed number) h
 no_fault basis number name kind.Plans members key h = cc
 no_fault basis number name kind.Document members key h = cc
 no_fault basis number name kind.FormulaName members key h = cc
@@ -71,6 +75,8 @@ kept_uncaused tick here (kind.Number of) found e h =
 kept_uncaused tick here (kind.Numbers list) found e h =
     subst (λ (x : Option Data). HasNoCause tick (kind.Numbers list) x) (sym (untouched here found (λ name d. ap (λ (k : Kind). kept_by k name d) e))) h
 kept_uncaused tick here (kind.Tables most) found e h = fault_kept here most found e h
+kept_uncaused tick here kind.Shape found e h =
+    subst (λ (x : Option Data). HasNoCause tick kind.Shape x) (sym (untouched here found (λ name d. ap (λ (k : Kind). kept_by k name d) e))) h
 kept_uncaused tick here kind.Plans found e h = tt
 kept_uncaused tick here kind.Document found e h = tt
 kept_uncaused tick here kind.FormulaName found e h = tt

@@ -23,17 +23,19 @@ use Rattle.scenario.proofs.Shallow.{untouched}
 use Rattle.scenario_keys.proofs.ForCallers.{all_head, all_tail}
 use Rattle.std.proofs.lemmas.List.Elements.{All-cons}
 
--- what stands at a key that holds an integer, or a list of them
+-- what stands at a key that holds an integer, a list of them, or a shape
 
 abbrev pub is_whole : Kind → Bool
 is_whole (kind.Number of) = true
 is_whole (kind.Numbers list) = true
+is_whole kind.Shape = true
 is_whole _ = false
 
 whole_kept : (what : Kind) → is_whole what ≡ true → (name : List ℕ) (found : Data) → kept_by what name found ≡ found
 whole_kept (kind.Number of) h name found = refl
 whole_kept (kind.Numbers list) h name found = refl
 whole_kept (kind.Tables most) h name found = cc
+whole_kept kind.Shape h name found = refl
 whole_kept kind.Plans h name found = cc
 whole_kept kind.Document h name found = cc
 whole_kept kind.FormulaName h name found = cc
@@ -223,6 +225,7 @@ own_moved document h own =
       integer_same document (codes "own") (codes "range") (s 8 any (omega arith) refl own),
       predicted_moved document h own,
       predictions_kept (list_at (codes "") (codes "predict") document),
+      list_same document (codes "own") (codes "shape") (s 15 any (omega arith) refl own),
     ) refl
 
 pub scenario_moved : (need_own : Bool) (document : Members) (rules : List NamedTree) → IsFaultless (has_own document) document → (need_own ≡ true → has_own document ≡ true) →

@@ -216,7 +216,7 @@ by_document document text need_own scenario one h reads right rules values =
           ));
     }
 
-by_bytes : (bytes text : List ℕ) → IsMigrated bytes text → (need_own : Bool) (scenario : Scenario) → Means need_own bytes scenario → MeansTheSame need_own scenario text
+pub by_bytes : (bytes text : List ℕ) → IsMigrated bytes text → (need_own : Bool) (scenario : Scenario) → Means need_own bytes scenario → MeansTheSame need_own scenario text
 by_bytes bytes text is need_own scenario means =
     let same = one_document bytes means.document is.document means.reads is.reads in
     by_document is.document text need_own scenario is.version_one is.faultless is.read_again

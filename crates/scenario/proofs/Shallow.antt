@@ -1,7 +1,7 @@
 -- What is kept of a document without a fault is shallow.
 use Rattle.std.proofs.Common.{◌≡◌, ◌≤◌, ℕ, suc, List, [], ◌∷◌, ◌++◌, map, length, pos, Bool, true, false, not, ◌&&◌, ◌==◌, if◌then◌else◌, Option, Some, None, MatchOption, ℤ, refl, ap, sym, ◌∙◌, subst, All, arith}
 use Rattle.std.specs.Prelude.{codes, is_some}
-use Rattle.std.specs.List.{list_all}
+use Rattle.std.specs.List.{list_all, position, position_or_len}
 use Rattle.std.specs.Str.{bytes_eq}
 use Rattle.std.proofs.lemmas.Bool.{and_parts}
 use Rattle.std.proofs.lemmas.Slice.Eq.{bytes_eq-Decides}
@@ -14,7 +14,7 @@ use Rattle.scenario_keys.specs.FirstFaults.{with_before}
 use Rattle.scenario_keys.specs.FirstOf.{first_of}
 use Rattle.scenario_keys.specs.IntegerFaults.{number_cause}
 use Rattle.scenario_keys.specs.KeyValues.{array_in, integer_found, list_at, list_in, member_at, natural_at, natural_of, table_at}
-use Rattle.scenario_keys.specs.ListFaults.{array_fault, elements, list_fault, table_array_fault, tables_fault}
+use Rattle.scenario_keys.specs.ListFaults.{are_integers, array_fault, at_item, elements, is_integer, is_integer_list, length_fault, list_fault, table_array_fault, tables_fault}
 use Rattle.scenario_keys.specs.ScenarioKeys.{first_rows, formula_rows, metres, own_rows, row, row_in_version_one, rows, Row}
 use Rattle.scenario_keys.specs.ToldFaults.{fault_by_at, item_of}
 use Rattle.scenario_keys.specs.declared.numbers.Bounds.{Bounds}
@@ -27,17 +27,18 @@ use Rattle.scenario_keys.specs.declared.cause.Cause.{Cause}
 use Rattle.scenario_keys.specs.declared.cause.Cause.TheVariants as cause
 use Rattle.scenario_keys.proofs.ForCallers.{all_back, all_front, all_head, all_tail}
 use Rattle.added_rules.specs.FormulaTables.{is_name_taken, name_cause, new_name_cause, IsFormulaFault, IsStringCause, IsTableFault, IsTextCause, IsTextFault}
-use Rattle.predictions.specs.PredictFaults.{array_cause, are_integers, changes_cause, is_integer, is_integer_list, list_cause, new_cause, predict_fault, ship_cause, ships, table_fault}
+use Rattle.predictions.specs.PredictFaults.{array_cause, changes_cause, list_cause, new_cause, predict_fault, ship_cause, ships, table_fault}
 use Rattle.predictions.specs.PredictFaults as predicted
 use Rattle.scenario.specs.DocumentFaults.{IsFaultless, IsTold}
 use Rattle.scenario.specs.KeyFaults.{basis_of, counts, fault_in, fault_of, is_version_two, tick_of}
 use Rattle.scenario.specs.RuleValues.{formula_tables}
+use Rattle.scenario.specs.Shapes.{is_no_integer_list, is_no_vertex, no_shape_fault, shape_array_fault, shape_fault, shape_in, vertices_fault}
 use Rattle.scenario.specs.Inner.WithinBounds.{IsWithin}
 use Rattle.scenario.specs.Migration.{found_at, has_own, is_key, is_key_of, kept, kept_array, kept_by, keys_of, known_members, migrated, new_value, new_value_when, table_names, two_of, with_found, with_key, with_keys, with_member, with_table, with_tables}
 use Rattle.scenario.specs.declared.basis.Basis.{Basis}
 use Rattle.scenario.proofs.Firsts.{is_plain, plain_told, read_from}
 use Rattle.scenario.proofs.Held.{number_uncaused}
-use Rattle.scenario.proofs.ListsHeld.{elements_held, first_one, first_two, list_uncaused, tables_uncaused}
+use Rattle.scenario.proofs.ListsHeld.{elements_held, first_one, first_two, list_uncaused, no_item, no_position, shape_uncaused, tables_uncaused}
 use Rattle.scenario.proofs.Members.{no_deeper}
 use Rattle.scenario.proofs.PlansHeld.{predict_held}
 
@@ -242,6 +243,34 @@ changes_deep tick (Some found) h =
           omega arith)
     ] refl h
 
+-- lists of lists of integers, as of the vertices of a shape
+
+all_pass : (p : Data → Bool) (list : List Data) → length list ≤ position_or_len (λ d. not (p d)) list → list_all p list ≡ true
+all_pass p [] h = refl
+all_pass p (here ∷ rest) h =
+    elim (p here) as (λ b. p here ≡ b → list_all p (here ∷ rest) ≡ true) [
+      | true ↦ λ e. (let z : position_or_len (λ d. not (p d)) (here ∷ rest) ≡ suc (position_or_len (λ d. not (p d)) rest) = rw e (omega arith) in rw e (all_pass p rest (omega arith)))
+      | false ↦ λ e. (let z : position_or_len (λ d. not (p d)) (here ∷ rest) ≡ 0 = rw e refl in absurd (omega arith))
+    ] refl
+
+vertices_listed : (list : List Data) → vertices_fault list ≡ None → list_all is_integer_list list ≡ true
+unfolding vertices_fault
+vertices_listed list h =
+    let (a, b) = first_two (at_item cause.Type_ (position is_no_integer_list list)) (length_fault 6 6 (length list))
+    (at_item cause.Range (position is_no_vertex list) ∷ no_shape_fault (shape_in list) ∷ []) h in
+    all_pass is_integer_list list (no_position is_no_integer_list list (no_item cause.Type_ (position is_no_integer_list list) a))
+
+shape_deep : (found : Option Data) → shape_fault found ≡ None → IsDeep 2 found
+shape_deep None h = tt
+shape_deep (Some found) h =
+    elim (as_array found) as (λ a. as_array found ≡ a → shape_array_fault a ≡ None → depth found ≤ 2) [
+      | None ↦ λ e f. cc
+      | Some items ↦ λ e f. (
+          let flat = elements_deep 1 items (lists_flat (elements items) (vertices_listed (elements items) f)) in
+          let same = array_is found items e in
+          omega arith)
+    ] refl h
+
 by_none : (row index : ℕ) (why : Option Cause) → fault_by_at row index why ≡ None → why ≡ None
 by_none row index None h = refl
 by_none row index (Some why) h = cc
@@ -315,6 +344,7 @@ pub key_plain : (here : Kind) → is_key here ≡ true → is_plain here ≡ tru
 key_plain (kind.Number of) h = refl
 key_plain (kind.Numbers list) h = refl
 key_plain (kind.Tables most) h = refl
+key_plain kind.Shape h = refl
 key_plain kind.Plans h = refl
 key_plain kind.Document h = refl
 key_plain kind.FormulaName h = cc
@@ -377,6 +407,11 @@ kept_deep basis document here (kind.Numbers list) e key h known =
 kept_deep basis document here (kind.Tables most) e key h known =
     let found = found_at here.table here.name document in
     tables_deep most 3 here.name found (tables_uncaused basis here.number here.name most (table_at here.table document) h) (known most e) here e refl
+kept_deep basis document here kind.Shape e key h known =
+    let found = found_at here.table here.name document in
+    let same = untouched here found (λ name d. ap (λ (k : Kind). kept_by k name d) e) in
+    subst (λ (x : Option Data). IsDeep 4 x) (sym same)
+    (deeper 2 4 found (omega arith) (shape_deep found (shape_uncaused basis here.number here.name (table_at here.table document) h)))
 kept_deep basis document here kind.Plans e key h known = cc
 kept_deep basis document here kind.Document e key h known = cc
 kept_deep basis document here kind.FormulaName e key h known = cc

@@ -27,6 +27,7 @@ one_by kind.Formulas basis document row a b h k = one_weight_fault (tick_of docu
 one_by (kind.Number of) basis document row a b h k = h ∙ sym k
 one_by (kind.Numbers list) basis document row a b h k = h ∙ sym k
 one_by (kind.Tables most) basis document row a b h k = h ∙ sym k
+one_by kind.Shape basis document row a b h k = h ∙ sym k
 one_by kind.Plans basis document row a b h k = h ∙ sym k
 one_by kind.Document basis document row a b h k = h ∙ sym k
 one_by kind.FormulaText basis document row a b h k = h ∙ sym k
@@ -51,15 +52,15 @@ one_fault need_own document a b h k =
 pub one_document : (bytes : List ℕ) (a b : Members) → Reads bytes a → Reads bytes b → a ≡ b
 one_document bytes a b h k = let e = sym h.tree ∙ k.tree in cc
 
-one_meaning : (need_own : Bool) (bytes : List ℕ) (a b : Scenario) → Means need_own bytes a → Means need_own bytes b → a ≡ b
+pub one_meaning : (need_own : Bool) (bytes : List ℕ) (a b : Scenario) → Means need_own bytes a → Means need_own bytes b → a ≡ b
 one_meaning need_own bytes a b h k =
     let same = one_document bytes h.document k.document h.reads k.reads in
     let rules = one_rules (tick_of k.document) (rule_numbers_of k.document) (formula_tables k.document) a.rules b.rules
     (subst (λ (d : Members). AreRulesOf d a.rules) same h.rules) k.rules in
     h.values ∙ ap (λ (d : Members). scenario_of need_own d a.rules) same ∙ ap (scenario_of need_own k.document) rules ∙ sym k.values
 
-never : (need_own : Bool) (bytes : List ℕ) (scenario : Scenario) (key : Key) (cause : Cause) → Means need_own bytes scenario → IsRefused need_own bytes key cause → ⊥
-never need_own bytes scenario key cause means refused =
+pub meant_or_refused : (need_own : Bool) (bytes : List ℕ) (scenario : Scenario) (key : Key) (cause : Cause) → Means need_own bytes scenario → IsRefused need_own bytes key cause → ⊥
+meant_or_refused need_own bytes scenario key cause means refused =
     elim refused [
       | inl h ↦ h.unread means.document means.reads
       | inr h ↦ (
@@ -67,7 +68,7 @@ never need_own bytes scenario key cause means refused =
           faultless_or_not need_own h.document (key, cause) (subst (λ (d : Members). IsFaultless need_own d) same means.faultless) h.first)
     ]
 
-one_refusal : (need_own : Bool) (bytes : List ℕ) (key other : Key) (cause why : Cause) → IsRefused need_own bytes key cause → IsRefused need_own bytes other why → (key ≡ other) × (cause ≡ why)
+pub one_refusal : (need_own : Bool) (bytes : List ℕ) (key other : Key) (cause why : Cause) → IsRefused need_own bytes key cause → IsRefused need_own bytes other why → (key ≡ other) × (cause ≡ why)
 one_refusal need_own bytes key other cause why refused again =
     elim refused [
       | inl h ↦ elim again [
@@ -89,13 +90,13 @@ pub meant : (need_own : Bool) (bytes : List ℕ) (result : Result Scenario Scena
     IfErr result (IfFault (λ told. IsRefused need_own bytes told.0 told.1)) →
     (scenario : Scenario) → Means need_own bytes scenario → (result ≡ Ok scenario) ⊎ (result ≡ Err refusal.Memory)
 meant need_own bytes (Ok found) values refused scenario means = inl (ap (λ (s : Scenario). Ok s) (one_meaning need_own bytes found scenario values means))
-meant need_own bytes (Err (refusal.Fault key cause)) values refused scenario means = absurd (never need_own bytes scenario key cause means refused)
+meant need_own bytes (Err (refusal.Fault key cause)) values refused scenario means = absurd (meant_or_refused need_own bytes scenario key cause means refused)
 meant need_own bytes (Err refusal.Memory) values refused scenario means = inr refl
 
 pub told : (need_own : Bool) (bytes : List ℕ) (result : Result Scenario ScenarioFault) → IfOk result (Means need_own bytes) →
     IfErr result (IfFault (λ told. IsRefused need_own bytes told.0 told.1)) →
     (key : Key) (cause : Cause) → IsRefused need_own bytes key cause → (result ≡ Err (refusal.Fault key cause)) ⊎ (result ≡ Err refusal.Memory)
-told need_own bytes (Ok found) values refused key cause is = absurd (never need_own bytes found key cause values is)
+told need_own bytes (Ok found) values refused key cause is = absurd (meant_or_refused need_own bytes found key cause values is)
 told need_own bytes (Err (refusal.Fault other why)) values refused key cause is =
     let same = one_refusal need_own bytes other key why cause refused is in
     let e : other ≡ key = same.0 in

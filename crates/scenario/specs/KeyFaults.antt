@@ -14,6 +14,7 @@ use Rattle.scenario_keys.specs.declared.key.Key.{Key}
 use Rattle.scenario_keys.specs.declared.cause.Cause.{Cause}
 use Rattle.predictions.specs.PredictFaults.{predict_fault}
 use Rattle.scenario.specs.PlanFaults.{plans_cause, sizes_of}
+use Rattle.scenario.specs.Shapes.{shape_fault}
 use Rattle.scenario.specs.declared.basis.Basis.{Basis}
 
 -- the seconds of a tick; 1 where there are none, since a key no later than the tick's then has a fault
@@ -55,6 +56,7 @@ fault_in basis row name (kind.Number range) (Ok table) = fault_by row (number_ca
 fault_in basis row name (kind.Numbers range) (Ok table) = fault_listed row (list_fault range (get_member name table))
 fault_in basis row name kind.Plans (Ok document) = fault_by row (plans_cause basis.tick (sizes_of document))
 fault_in basis row name (kind.Tables most) (Ok table) = fault_listed row (tables_fault most (get_member name table))
+fault_in basis row name kind.Shape (Ok table) = fault_listed row (shape_fault (get_member name table))
 fault_in basis row name kind.PredictedShip (Ok document) =
     predict_fault basis.tick (natural_at (codes "own") (codes "mmsi") document) (list_at (codes "") (codes "predict") document)
 fault_in basis row name _ (Ok table) = None

@@ -1,4 +1,5 @@
 pub mod PlanFaults
+pub mod Shapes
 pub mod KeyFaults
 pub mod RuleValues
 pub mod DocumentFaults

@@ -91,6 +91,7 @@ abbrev pub is_key : Kind → Bool
 is_key (kind.Number range) = true
 is_key (kind.Numbers range) = true
 is_key (kind.Tables most) = true
+is_key kind.Shape = true
 is_key _ = false
 
 abbrev pub is_key_of : List ℕ → Row → Bool

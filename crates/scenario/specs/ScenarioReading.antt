@@ -39,3 +39,22 @@ pub record IsFaultOfKey (need_own : Bool) (bytes : List ℕ) (key : Key) (why : 
 -- The bytes are refused at a key, for a cause: the first fault in the order of the keys.
 abbrev pub IsRefused : Bool → List ℕ → Key → Cause → Type 0
 IsRefused need_own bytes key why = IsNoToml bytes key why ⊎ IsFaultOfKey need_own bytes key why
+
+-- ---- the one reading
+
+-- The bytes mean this scenario, and no other, and are not refused.
+pub record IsOnlyMeaning (need_own : Bool) (bytes : List ℕ) (scenario : Scenario) : Type 0 where
+  pub means : Means need_own bytes scenario
+  pub only : (other : Scenario) → Means need_own bytes other → other ≡ scenario
+  pub accepted : (key : Key) (why : Cause) → ¬ IsRefused need_own bytes key why
+
+-- They are refused at this key for this cause, at no other and for no other, and mean no scenario.
+pub record IsOnlyRefusal (need_own : Bool) (bytes : List ℕ) (key : Key) (why : Cause) : Type 0 where
+  pub refused : IsRefused need_own bytes key why
+  pub only : (other : Key) (because : Cause) → IsRefused need_own bytes other because → (other ≡ key) × (because ≡ why)
+  pub meaningless : (scenario : Scenario) → ¬ Means need_own bytes scenario
+
+-- The bytes have exactly one reading: one scenario, or one first fault.
+abbrev pub HasOneReading : Bool → List ℕ → Type 0
+HasOneReading need_own bytes =
+    ((scenario : Scenario) × IsOnlyMeaning need_own bytes scenario) ⊎ ((key : Key) × (why : Cause) × IsOnlyRefusal need_own bytes key why)

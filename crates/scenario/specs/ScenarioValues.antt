@@ -5,6 +5,7 @@ use Rattle.ais_messages.specs.ShipIdentities.{IsShip}
 use Rattle.fixed_geometry.specs.Place.{Place}
 use Rattle.scenario_keys.specs.KeyValues.{integers_at, list_at, natural_at, naturals_at, optional_at, whole_at}
 use Rattle.scenario.specs.KeyFaults.{tick_of}
+use Rattle.scenario.specs.Shapes.{shape_in}
 use Rattle.lattice.specs.Grids.{Grid, grid, positions_of}
 use Rattle.scenario.specs.declared.own_part.OwnPart.{OwnPart}
 use Rattle.predictions.specs.PredictValues.{predictions_of, ArePredictions}
@@ -92,6 +93,7 @@ own_of document = record {
   lengths = natural_at (codes "own") (codes "lengths") document;
   range = natural_at (codes "own") (codes "range") document;
   predict = predictions_of (list_at (codes "") (codes "predict") document);
+  shape = shape_in (list_at (codes "own") (codes "shape") document);
 }
 
 -- own ship, where she is needed
@@ -116,7 +118,7 @@ scenario_with rules own document = record {
 abbrev pub scenario_of : Bool → Members → List NamedTree → Scenario
 scenario_of need_own document rules = scenario_with rules (own_where need_own document) document
 
--- Each value is in its key's range. A reference and a lattice are so by their types.
+-- Each value is in its key's range. A reference, a lattice and a shape are so by their types.
 
 pub record IsWindow (window : Window) : Type 0 where
   pub start : window.start ≤ 9999999999

@@ -11,6 +11,7 @@ ghost use Rattle.scenario.specs.KeyFaults.{fault_of};
 use crate::basis::{Basis, counts};
 use crate::listed::values_at;
 use crate::plan_sizes::{natural_at, plans_cause, sizes_of};
+use crate::shapes::shape_fault;
 use predictions::predict_fault;
 use scenario_keys::{
     Cause, Key, KeyRow, Kind, bounds_of, fault_by, fault_listed, first_rows, list_fault,
@@ -53,6 +54,7 @@ fn fault_of(basis: Basis, document: &Table, row: &KeyRow) -> Option<(Key, Cause)
         Kind::Tables(most) => {
             fault_listed(row.number, tables_fault(most, value(table, row.name)))
         }
+        Kind::Shape => fault_listed(row.number, shape_fault(value(table, row.name))),
     }
 }
 

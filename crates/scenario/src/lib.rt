@@ -7,12 +7,14 @@
 mod basis;
 mod first;
 mod integers;
+pub mod laws;
 mod listed;
 mod migration;
 mod own_part;
 mod plan_sizes;
 mod reading;
 mod rules;
+mod shapes;
 mod subjects;
 mod values;
 

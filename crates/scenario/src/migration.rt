@@ -164,7 +164,7 @@ fn put_key(
 {
     let is_key = matches!(
         row.kind,
-        Kind::Number(_) | Kind::Numbers(_) | Kind::Tables(_)
+        Kind::Number(_) | Kind::Numbers(_) | Kind::Tables(_) | Kind::Shape
     );
     if !is_key || row.table != table {
         return Ok(());

@@ -10,6 +10,8 @@ ghost use Rattle.scenario.specs.ScenarioValues.{grid_of, own_of, own_where, IsOw
 
 use crate::integers::{natural, optional};
 use crate::listed::{shorts, values_at};
+use crate::shapes::shape_at;
+use hull_domains::Shape;
 use lattice::Lattice;
 use predictions::{Predictions, predictions_of};
 use std::alloc::{AllocError, Global};
@@ -29,6 +31,8 @@ pub struct OwnPart {
     pub range: u32,
     /// What is predicted of other vessels; their courses and speeds of now hold until then.
     pub predict: Predictions,
+    /// The domain of a vessel that has a direction, with which it turns. `None` where the radius stands for it.
+    pub shape: Option<Shape>,
 }
 
 #[tactic(auto, unfolding(crate::specs::Inner::KnownKeys::kind_at, scenario_keys::specs::ScenarioKeys::own_rows))]
@@ -131,6 +135,7 @@ fn own_with(document: &Table, lattice: Lattice, predict: Predictions) -> OwnPart
         lengths: natural(document, "own", "lengths", 0, 100),
         range: natural(document, "own", "range", 1, 100_000),
         predict,
+        shape: shape_at(document),
     }
 }
 

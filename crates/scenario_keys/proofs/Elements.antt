@@ -1,8 +1,8 @@
 -- The elements of an array of values.
-use Rattle.std.specs.List.{position, position_or_len}
+use Rattle.std.specs.List.{list_all, position, position_or_len}
 use Rattle.std.proofs.lemmas.List.{length-map}
 use Rattle.std.proofs.lemmas.Simd.{map-map}
-use Rattle.std.proofs.Common.{Bool, length, ◌≡◌, List, [], ◌∷◌, map, refl, ap}
+use Rattle.std.proofs.Common.{Bool, ◌&&◌, length, ◌≡◌, ◌∙◌, List, [], ◌∷◌, map, refl, ap}
 use Rattle.toml.specs.Data.{Data}
 use Rattle.toml.specs.View.{view, items_of, items_view}
 use Rattle.toml.specs.declared.value.Value.{Value}
@@ -27,3 +27,10 @@ count_seen values = rw (seen_elements values, length-map values view)
 
 pub mapped_seen : {A : Type 0} (f : Data → A) (values : List Value) → map f (elements (items_view values)) ≡ map (λ v. f (view v)) values
 mapped_seen f values = rw (seen_elements values, map-map f view values)
+
+all_viewed : (p : Data → Bool) (values : List Value) → list_all p (map view values) ≡ list_all (λ v. p (view v)) values
+all_viewed p [] = refl
+all_viewed p (v ∷ values) = ap (λ b. p (view v) && b) (all_viewed p values)
+
+pub all_seen : (p : Data → Bool) (values : List Value) → list_all p (elements (items_view values)) ≡ list_all (λ v. p (view v)) values
+all_seen p values = ap (list_all p) (seen_elements values) ∙ all_viewed p values

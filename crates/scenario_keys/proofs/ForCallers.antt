@@ -132,6 +132,25 @@ one_found test single list None (Some b) h k = absurd (never_both test single li
 one_found test single list (Some a) None h k = absurd (never_both test single list a k h)
 one_found test single list (Some a) (Some b) h k = ap (λ f. Some f) (one_first test single list a b h k)
 
+-- and where each test finds something, so do those of a list
+
+pub some_found : {A F : Type 0} (test : A → Option F → Type 0) (list : List A) → All (λ here. (told : Option F) × test here told) list → (told : Option F) × IsFound test list told
+some_found test [] each = (None, all_none (λ here. test here None))
+some_found {A} {F} test (x ∷ xs) each =
+    let here = all_head (λ here. (told : Option F) × test here told) x xs each in
+    by here.0 here.1 (some_found test xs (all_tail (λ here. (told : Option F) × test here told) x xs each))
+  where
+    by : (told : Option F) → test x told → (told : Option F) × IsFound test xs told → (told : Option F) × IsFound test (x ∷ xs) told
+    by (Some found) h rest = (Some found, first_here test x xs found h)
+    by None h (None, all) = (None, All-cons (λ here. test here None) x xs h all)
+    by None h (Some found, is) = (Some found, one_more test x xs found h is)
+
+pub found_append : {A F : Type 0} (test : A → Option F → Type 0) (a b : List A) → (told : Option F) × IsFound test a told → (told : Option F) × IsFound test b told
+    → (told : Option F) × IsFound test (a ++ b) told
+found_append test a b (Some found, is) rest = (Some found, first_ahead test a b found is)
+found_append test a b (None, all) (None, more) = (None, all_append (λ here. test here None) a b all more)
+found_append test a b (None, all) (Some found, is) = (Some found, first_behind test a b found all is)
+
 -- what holds of a fault that is told
 
 pub faults_alike : (P Q : Key × Cause → Type 0) → ((told : Key × Cause) → P told → Q told) → (fault : ScenarioFault) → IfFault P fault → IfFault Q fault

@@ -1,6 +1,7 @@
 -- The fault of a list: the first element of another kind, then a wrong length, then, of integers, the first that is out of range.
 use Rattle.std.specs.Prelude.{ℕ, ◌&&◌, not, nat_le, ℤ, int_le, List, [], ◌∷◌, length, position, is_none, Bool, false, if◌then◌else◌, Option, Some, None}
-use Rattle.std.specs.Option.{option_map_or}
+use Rattle.std.specs.List.{list_all}
+use Rattle.std.specs.Option.{is_some, option_map_or}
 use Rattle.toml.specs.Data.{Data, Items, no_items, item, as_array, as_integer, as_table}
 use Rattle.scenario_keys.specs.FirstOf.{first_of}
 use Rattle.scenario_keys.specs.declared.rows.ListRange.{ListRange}
@@ -59,3 +60,15 @@ table_array_fault most (Some items) = tables_fault_in most (elements items)
 abbrev pub tables_fault : ℕ → Option Data → Option (ℕ × Cause)
 tables_fault most None = None
 tables_fault most (Some found) = table_array_fault most (as_array found)
+
+-- lists that stand in a list
+
+abbrev pub is_integer : Data → Bool
+is_integer found = is_some (as_integer found)
+
+abbrev pub are_integers : Option Items → Bool
+are_integers None = false
+are_integers (Some items) = list_all is_integer (elements items)
+
+abbrev pub is_integer_list : Data → Bool
+is_integer_list found = are_integers (as_array found)

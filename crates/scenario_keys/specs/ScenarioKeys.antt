@@ -135,6 +135,7 @@ own_rows =
     row_when when.ForOwnShip 47 (codes "") (codes "predict.changes") kind.PredictedChanges ∷
     own_row 48 (codes "turn_rate") (optional 1 1800 1800) ∷
     own_row 49 (codes "speed_rate") (optional 1 1022 1022) ∷
+    own_row 54 (codes "shape") kind.Shape ∷
     []
 
 abbrev pub rows : List Row

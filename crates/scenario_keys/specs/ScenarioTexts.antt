@@ -14,9 +14,10 @@ use Rattle.scenario_keys.specs.declared.fault.ScenarioFault.TheVariants as refus
 abbrev pub name_text : Row → List ℕ
 name_text row = if length row.table == 0 then row.name else row.table ++ codes "." ++ row.name
 
--- the faults of a list of integers name an item, and those of a key in each table of a list name the table
+-- the faults of a list of integers and of a shape name an item, and those of a key in each table of a list name the table
 abbrev pub has_items : Kind → Bool
 has_items (kind.Numbers range) = true
+has_items kind.Shape = true
 has_items kind.FormulaName = true
 has_items kind.FormulaText = true
 has_items kind.PredictedShip = true

@@ -1,9 +1,9 @@
 //! What stands at the keys of a document.
 ghost use Rattle.std.specs.Prelude.{◌≡◌, option_map};
-ghost use Rattle.toml.specs.Data.{get_member};
+ghost use Rattle.toml.specs.Data.{as_integer, get_member};
 ghost use Rattle.toml.specs.View.{table_view, view};
 ghost use Rattle.scenario_keys.specs.Inner.ViewedResults.{viewed};
-ghost use Rattle.scenario_keys.specs.KeyValues.{found_in, integer_at, member_at, table_at};
+ghost use Rattle.scenario_keys.specs.KeyValues.{found_in, integer_at, integer_of, member_at, table_at};
 
 use crate::cause::Cause;
 use toml::{Table, Value};
@@ -48,6 +48,16 @@ pub fn integer_found(document: &Table, table: &str, name: &str) -> Option<i64>
     match found(document, table, name) {
         Some(found) => found.as_integer(),
         None => None,
+    }
+}
+
+/// The integer of a value, 0 where it is none.
+pub fn integer_of(found: &Value) -> i64
+    ensures { result ≡ integer_of (as_integer (view found.now)) }
+{
+    match found.as_integer() {
+        Some(number) => number,
+        None => 0,
     }
 }
 

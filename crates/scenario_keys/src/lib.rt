@@ -12,11 +12,11 @@ mod numbers;
 mod rows;
 mod told;
 
-pub use at_keys::{found, integer_found, member, table_of, value};
+pub use at_keys::{found, integer_found, integer_of, member, table_of, value};
 pub use cause::Cause;
 pub use fault::ScenarioFault;
 pub use key::Key;
-pub use lists::{element_count, list_fault, tables_fault};
+pub use lists::{element_count, is_integer_list, length_fault, list_fault, tables_fault};
 pub use numbers::{Bounds, bounds_of, number_cause};
 pub use rows::{KeyRow, Kind, ListRange, Range, When, first_rows, own_rows};
 pub use told::{fault_at, fault_by, fault_listed};

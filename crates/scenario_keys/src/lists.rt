@@ -1,7 +1,8 @@
 //! The faults of lists.
 ghost use Rattle.std.specs.Prelude.{◌≡◌, length, option_map, position};
 ghost use Rattle.toml.specs.View.{array_view, view};
-ghost use Rattle.scenario_keys.specs.ListFaults.{elements, elements_fault, is_in_range, is_no_integer, is_no_table, is_out_of_range, length_fault, list_fault, tables_fault, tables_fault_in};
+ghost use Rattle.std.specs.List.{list_all};
+ghost use Rattle.scenario_keys.specs.ListFaults.{elements, elements_fault, is_in_range, is_integer, is_integer_list, is_no_integer, is_no_table, is_out_of_range, length_fault, list_fault, tables_fault, tables_fault_in};
 
 use crate::cause::Cause;
 use crate::rows::ListRange;
@@ -42,7 +43,8 @@ pub fn element_count(list: &Array) -> usize
     list.len()
 }
 
-fn length_fault(fewest: usize, most: usize, length: usize) -> Option<(usize, Cause)>
+/// The fault of a list of so many elements that is to have from the first number to the second.
+pub fn length_fault(fewest: usize, most: usize, length: usize) -> Option<(usize, Cause)>
     ensures { result ≡ length_fault fewest most length }
 {
     if fewest <= length && length <= most {
@@ -108,5 +110,22 @@ pub fn tables_fault(most: usize, found: Option<&Value>) -> Option<(usize, Cause)
             None => Some((0, Cause::Type_)),
         },
         None => None,
+    }
+}
+
+fn are_integers(list: &Array) -> bool
+    ensures { result ≡ list_all (λ v. is_integer (view v)) list.now.items }
+{
+    list.iter().all(|found| found.is_integer())
+}
+
+/// Whether a list of integers stands there.
+#[tactic(auto, using(crate::proofs::Elements::all_seen))]
+pub fn is_integer_list(found: &Value) -> bool
+    ensures { result ≡ is_integer_list (view found.now) }
+{
+    match found.as_array() {
+        Some(list) => are_integers(list),
+        None => false,
     }
 }

@@ -43,6 +43,8 @@ pub enum Kind {
     Numbers(ListRange),
     /// A list of at most so many tables, which may be left out.
     Tables(usize),
+    /// A list of six vertices, each a list of two integers, that are a shape about a vessel. It may be left out.
+    Shape,
     /// Of each table of `formula` the name of a formula. It is tested together with the text, table by table.
     FormulaName,
     /// Of each table of `formula` the text of a formula. It is tested together with the name.
@@ -64,6 +66,7 @@ pub(crate) fn has_items(kind: Kind) -> bool
     matches!(
         kind,
         Kind::Numbers(_)
+            | Kind::Shape
             | Kind::FormulaName
             | Kind::FormulaText
             | Kind::PredictedShip
@@ -124,7 +127,7 @@ const SPEEDS: Kind = Kind::Numbers(ListRange {
 });
 
 #[rattlefmt::skip]
-const ROWS: [KeyRow; 54] = [
+const ROWS: [KeyRow; 55] = [
     KeyRow { number: 0, table: "", name: "document", kind: Kind::Document, when: When::Always },
     KeyRow { number: 1, table: "", name: "version", kind: Kind::Number(Range::FromTo(1, 2)), when: When::Always },
     KeyRow { number: 2, table: "window", name: "start", kind: Kind::Number(Range::FromTo(0, 9_999_999_999)), when: When::Always },
@@ -179,6 +182,7 @@ const ROWS: [KeyRow; 54] = [
     KeyRow { number: 47, table: "", name: "predict.changes", kind: Kind::PredictedChanges, when: When::ForOwnShip },
     KeyRow { number: 48, table: "own", name: "turn_rate", kind: Kind::Number(Range::Optional(1, 1800, 1800)), when: When::ForOwnShip },
     KeyRow { number: 49, table: "own", name: "speed_rate", kind: Kind::Number(Range::Optional(1, 1022, 1022)), when: When::ForOwnShip },
+    KeyRow { number: 54, table: "own", name: "shape", kind: Kind::Shape, when: When::ForOwnShip },
 ];
 
 /// The rows, in the order in which they are tested.

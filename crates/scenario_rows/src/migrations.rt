@@ -1,9 +1,10 @@
 //! Scenarios of version 1 as ones of version 2.
 use crate::compared::{is, is_true};
 use crate::values::{
-    ACT, DETECT, LOG, WINDOW, good, is_rule, scenario_of, second_version, with_own,
-    with_predictions,
+    ACT, DETECT, LOG, SHAPE, WINDOW, good, is_rule, scenario_of, second_version, with_own,
+    with_predictions, with_shape,
 };
+use hull_domains::Shape;
 use scenario::migrate;
 use std::alloc::{AllocError, Global};
 use std::test::Fail;
@@ -90,6 +91,16 @@ fn own_ship_and_what_is_predicted_are_kept(rt: HostRuntime) -> Result<(), Fail> 
     };
     is(&rt, (first.mmsi, second.mmsi), (477_553_000, 477_553_001));
     is(&rt, first.changes.as_slice().len(), 2);
+    Ok(())
+}
+
+#[test]
+fn a_shape_is_kept(rt: HostRuntime) -> Result<(), Fail> {
+    let good = with_shape(rt.alloc())?;
+    let text = moved(rt.alloc(), good.as_str())?;
+    let scenario = scenario_of(rt.alloc(), text.as_str(), true)?;
+    let own = scenario.own.as_ref().ok_or("own ship")?;
+    is(&rt, own.shape, Shape::new(&SHAPE));
     Ok(())
 }
 

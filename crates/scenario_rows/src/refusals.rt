@@ -382,6 +382,31 @@ const OWN: [Case; 54] = [
     ("leg_ticks = 30\ntail = 10", "leg_ticks = 7200\ntail = 7201", "own.tail: range"),
 ];
 
+/// Faults of own ship's shape, in the order in which they are tested, and a fault before them.
+#[rattlefmt::skip]
+const SHAPE: [Case; 20] = [
+    ("turn_rate = 100", "shape = 1", "own.shape[0]: type"),
+    ("turn_rate = 100", "shape = {}", "own.shape[0]: type"),
+    ("turn_rate = 100", "shape = [300, 0]", "own.shape[0]: type"),
+    ("turn_rate = 100", "shape = [[300, 0], [150, 100], [-150, 100], -300, [-150, -100], [150, -100]]", "own.shape[3]: type"),
+    ("turn_rate = 100", "shape = [[300, 0], [150, 100], [-150, 100.0], [-300, 0], [-150, -100], [150, -100]]", "own.shape[2]: type"),
+    ("turn_rate = 100", "shape = [[9999], ['1']]", "own.shape[1]: type"),
+    ("turn_rate = 100", "shape = []", "own.shape[0]: range"),
+    ("turn_rate = 100", "shape = [[300, 0], [150, 100], [-150, 9999], [-300, 0], [-150, -100]]", "own.shape[0]: range"),
+    ("turn_rate = 100", "shape = [[300, 0], [150, 100], [-150, 100], [-300, 0], [-150, -100], [150, -100], [1]]", "own.shape[0]: range"),
+    ("turn_rate = 100", "shape = [[300, 0], [150, 100], [-150, 100], [-300, 0], [-150, -100], []]", "own.shape[5]: range"),
+    ("turn_rate = 100", "shape = [[300, 0], [150, 100, 0], [-150, 100], [-300], [-150, -100], [150, -100]]", "own.shape[1]: range"),
+    ("turn_rate = 100", "shape = [[300, 0], [150, 100], [-150, 100], [-2001, 0], [-150, -100], [150, -100]]", "own.shape[3]: range"),
+    ("turn_rate = 100", "shape = [[300, 0], [150, 100], [-150, 100], [-300, 0], [-150, -2001], [150, -100]]", "own.shape[4]: range"),
+    ("turn_rate = 100", "shape = [[150, -100], [-150, -100], [-300, 0], [-150, 100], [150, 100], [300, 2001]]", "own.shape[5]: range"),
+    ("turn_rate = 100", "shape = [[150, -100], [-150, -100], [-300, 0], [-150, 100], [150, 100], [300, 0]]", "own.shape[0]: range"),
+    ("turn_rate = 100", "shape = [[300, 0], [0, 0], [-150, 100], [-300, 0], [-150, -100], [150, -100]]", "own.shape[0]: range"),
+    ("turn_rate = 100", "shape = [[300, 0], [150, 100], [0, 200], [-300, 0], [-150, -100], [150, -100]]", "own.shape[0]: range"),
+    ("turn_rate = 100", "speed_rate = 0\nshape = 1", "own.speed_rate: range"),
+    ("turn_rate = 100", "shape = [[2000, 0], [1000, 2000], [-1000, 2000], [-2000, 0], [-1000, -2000], [1000, -2000]]", ""),
+    ("turn_rate = 100", "shape = [[300, 0], [150, 100], [-150, 100], [-300, 0], [-150, -100], [150, -100]]", ""),
+];
+
 /// What stands just within the bounds.
 #[rattlefmt::skip]
 const WITHIN: [Case; 5] = [
@@ -469,7 +494,7 @@ fn at_most_64_vessels_are_predicted(rt: HostRuntime) -> Result<(), AllocError> {
 }
 
 /// What the cases of a table show, the scenario whose parts they replace, and the cases.
-const TABLES: [(&str, Faultless, &[Case]); 14] = [
+const TABLES: [(&str, Faultless, &[Case]); 15] = [
     ("the first keys", Faultless::First, &FIRST),
     ("keys of detect", Faultless::First, &DETECT),
     ("keys of act", Faultless::First, &ACT),
@@ -485,6 +510,7 @@ const TABLES: [(&str, Faultless, &[Case]); 14] = [
     ("the first of two faults", Faultless::First, &ORDER),
     ("keys of version 2", Faultless::Second, &VERSION_TWO),
     ("keys of own ship", Faultless::WithOwn, &OWN),
+    ("own ship's shape", Faultless::WithOwn, &SHAPE),
     ("bounds of own ship", Faultless::WithOwn, &WITHIN),
     ("what is predicted", Faultless::WithPredictions, &PREDICT),
     ("lists of predictions", Faultless::WithOwn, &NO_PREDICTIONS),

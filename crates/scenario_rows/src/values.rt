@@ -3,6 +3,7 @@ use crate::SCENARIO;
 use crate::compared::{is, is_true};
 use crate::refusals::told;
 use encounters::{Act, Detect};
+use hull_domains::Shape;
 use mtl_formulas::print;
 use outside::Memory;
 use rule_set::RuleSet;
@@ -154,6 +155,35 @@ fn own_ship_has_her_plans(rt: HostRuntime) -> Result<(), Fail> {
     is(&rt, own.lattice.plans(), 216);
     is(&rt, own.lattice.positions(), 100);
     is(&rt, (own.base, own.lengths, own.range), (301, 2, 50_000));
+    is(&rt, own.shape, None);
+    Ok(())
+}
+
+/// A domain of six sides, and the good scenario with own ship and it.
+pub(crate) const SHAPE: [(i32, i32); 6] = [
+    (300, 0),
+    (150, 100),
+    (-150, 100),
+    (-300, 0),
+    (-150, -100),
+    (150, -100),
+];
+
+pub(crate) fn with_shape(alloc: Global) -> Result<String, AllocError> {
+    let mut text = with_own(alloc)?;
+    text.push_str(
+        "shape = [[300, 0], [150, 100], [-150, 100], [-300, 0], [-150, -100], [150, -100]]\n",
+    )?;
+    Ok(text)
+}
+
+#[test]
+fn a_shape_is_read(rt: HostRuntime) -> Result<(), Fail> {
+    let text = with_shape(rt.alloc())?;
+    let scenario = scenario_of(rt.alloc(), text.as_str(), true)?;
+    let own = scenario.own.as_ref().ok_or("own ship")?;
+    is_true(&rt, own.shape.is_some());
+    is(&rt, own.shape, Shape::new(&SHAPE));
     Ok(())
 }
 

@@ -10,7 +10,7 @@ use Rattle.log_lines.specs.LogLines.{lines_of}
 use Rattle.log_lines.specs.Standing.{StandsFor as JudgeStandsFor}
 use Rattle.log_lines.specs.declared.judge.Judge.{Judge}
 use Rattle.scenario.specs.declared.values.Scenario.{Scenario}
-use Rattle.settling.specs.Sightings.{audit_numbers}
+use Rattle.settling.specs.ScenarioAudit.{audit_numbers}
 use Rattle.settling.specs.Standing.{AreOfOneLog}
 use Rattle.settling.specs.declared.settled_audit.SettledAudit.{SettledAudit}
 use Rattle.sessions.specs.AuditReport.{IsAuditReport, rows_behind, sightings_of, stretch_fields, stretch_rows}

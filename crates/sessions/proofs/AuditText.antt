@@ -8,21 +8,21 @@ use Rattle.log_lines.specs.LogLines.{lines_of}
 use Rattle.scenario.specs.declared.values.Scenario.{Scenario}
 use Rattle.tracks.specs.VesselsHeld.{Sent}
 use Rattle.sessions.specs.AuditReport.{sightings_of, stretch_rows, total_rows, vessel_rows}
-use Rattle.settling.specs.SettledTicks.{greatest_traces}
+use Rattle.traces.specs.declared.all_traces.TheConstants.{MOST_TRACES}
 use Rattle.traces.specs.declared.fault.TickFault.{TickFault as AuditFault}
 use Rattle.traces.specs.declared.fault.TickFault.TheVariants as audit
 use Rattle.sessions.specs.Inner.Faults.{EndCause, auditing_fault}
 use Rattle.sessions.proofs.Meeting.{too_many_drilled, too_many_traces}
 use Rattle.command_line.specs.declared.mode.Mode.TheVariants as mode
-use Rattle.settling.specs.Sightings.{audit_numbers}
+use Rattle.settling.specs.ScenarioAudit.{audit_numbers}
 
 pub audit_cause : (scenario : Scenario) (log : List ℕ) (fault : AuditFault) → is_crowded scenario (lines_of log) ≡ false
-    → (fault ≡ audit.TooManyPairs → HaveMoreThan greatest_traces (audit_numbers scenario) (sightings_of scenario log)) → EndCause mode.Audit scenario log (auditing_fault fault)
+    → (fault ≡ audit.TooManyPairs → HaveMoreThan MOST_TRACES (audit_numbers scenario) (sightings_of scenario log)) → EndCause mode.Audit scenario log (auditing_fault fault)
 audit_cause scenario log audit.TooManyPairs calm many = too_many_traces scenario log calm (many refl)
 audit_cause scenario log audit.Memory calm many = tt
 
 pub drill_cause : (scenario : Scenario) (log : List ℕ) (fault : AuditFault) → is_crowded scenario (lines_of log) ≡ false
-    → (fault ≡ audit.TooManyPairs → HaveMoreThan greatest_traces (audit_numbers scenario) (sightings_of scenario log)) → EndCause mode.Drill scenario log (auditing_fault fault)
+    → (fault ≡ audit.TooManyPairs → HaveMoreThan MOST_TRACES (audit_numbers scenario) (sightings_of scenario log)) → EndCause mode.Drill scenario log (auditing_fault fault)
 drill_cause scenario log audit.TooManyPairs calm many = too_many_drilled scenario log calm (many refl)
 drill_cause scenario log audit.Memory calm many = tt
 

@@ -21,7 +21,8 @@ use Rattle.log_lines.specs.SentLines.{sent}
 use Rattle.rule_set.specs.NamedTrees.{NamedTree}
 use Rattle.scenario.specs.declared.values.Scenario.{Scenario}
 use Rattle.settling.specs.DecidedRows.{AreDecided}
-use Rattle.settling.specs.Sightings.{audit_numbers, sighted}
+use Rattle.settled_ticks.specs.Sightings.{sighted}
+use Rattle.settling.specs.ScenarioAudit.{audit_numbers}
 use Rattle.sessions.specs.AuditReport.{stretch_fields, stretch_rows}
 use Rattle.sessions.specs.Inner.AuditWriting.{AreOfRules, IsOfRules}
 use Rattle.sessions.proofs.VesselRows.{rows_push}

@@ -18,7 +18,8 @@ use Rattle.sessions.specs.Modes.{needs_own}
 use Rattle.sessions.specs.PointsReport.{point_rows}
 use Rattle.sessions.specs.PlanReport.{IsPlanReport}
 use Rattle.sessions.specs.Endings.{IsAnswerTo, IsEnding}
-use Rattle.sessions.specs.Standing.{IsDone, IsInUse, StandsFor, mode_by, mode_of, session_scenario}
+use Rattle.sessions.specs.Standing.{IsInUse, StandsFor, mode_by, mode_of, session_scenario}
+use Rattle.sessions.specs.Inner.Working.{IsDone}
 use Rattle.sessions.specs.Inner.Faults.{EndCause}
 use Rattle.sessions.specs.declared.ending.Ending.{Ending}
 use Rattle.command_line.specs.declared.mode.Mode.{Mode}
@@ -53,11 +54,15 @@ module _ (self : Session) (judge : Judge) (judges : JudgeOf self judge) where
       let few = few_ended fed in
       judges self.scenario fed (omega (arith, most, short, few)) stands.lines
 
+-- the work that was done
+done_by : (self : Session) (work : Work) → self.work ≡ work → (fed given : List ℕ) → StandsFor self fed given → IsDone work self.scenario (ended_lines fed) given
+done_by self work is fed given stands = subst (λ (w : Work). IsDone w self.scenario (ended_lines fed) given) is (stands.settled, stands.audited)
+
 pub audit_of : (self : Session) (audit : SettledAudit) (judge : Judge) → self.work ≡ work.Audit audit → JudgeOf self judge → (fed given : List ℕ) → StandsFor self fed given
     → (rows : List Row) × IsAuditOf audit judge self.scenario fed rows × (given ≡ stretch_rows self.scenario.rules rows)
 audit_of self audit judge is judges fed given stands =
-    let done = subst (λ (w : Work). IsDone w self.scenario (ended_lines fed) given) is stands.done in (
-      done.0,
+    let done = done_by self (work.Audit audit) is fed given stands in (
+      done.0.0,
       record {
         lines = ended_lines fed;
         more = open_lines (open_part fed);
@@ -65,7 +70,7 @@ audit_of self audit judge is judges fed given stands =
         stands = done.1;
         judged = ended_judge self judge judges fed given stands;
       },
-      done.3,
+      done.0.2,
     )
 
 pub audit_here : (self : Session) (audit : SettledAudit) (judge : Judge) → self.work ≡ work.Audit audit → JudgeOf self judge → IsInUse self → IsAuditAtEnd audit judge self.scenario
@@ -76,15 +81,15 @@ audit_here self audit judge is judges used =
 pub drill_of : (self : Session) (audit : SettledAudit) (judge : Judge) → self.work ≡ work.Drill audit → JudgeOf self judge → (fed given : List ℕ) → StandsFor self fed given
     → IsAuditOf audit judge self.scenario fed [] × (given ≡ [])
 drill_of self audit judge is judges fed given stands =
-    let done = subst (λ (w : Work). IsDone w self.scenario (ended_lines fed) given) is stands.done in (
+    let done = done_by self (work.Drill audit) is fed given stands in (
       record {
         lines = [];
         more = lines_of fed;
         whole = refl;
-        stands = done.0;
+        stands = done.1;
         judged = ended_judge self judge judges fed given stands;
       },
-      done.1,
+      done.0,
     )
 
 pub drill_here : (self : Session) (audit : SettledAudit) (judge : Judge) → self.work ≡ work.Drill audit → JudgeOf self judge → IsInUse self → IsAuditAtEnd audit judge self.scenario
@@ -96,11 +101,10 @@ pub points_of : (self : Session) (ended : EndedLines) → self.work ≡ work.Poi
     → JudgeOf self ended.judge → (fed given : List ℕ) → StandsFor self fed given
     → AreOfLog ended self.scenario fed × (given ≡ point_rows (judged_lines self.scenario (ended_lines fed)))
 points_of self ended is told judges fed given stands =
-    let done = subst (λ (w : Work). IsDone w self.scenario (ended_lines fed) given) is stands.done in
-    (record { judged = told self.scenario fed stands.lines; judge = ended_judge self ended.judge judges fed given stands }, done)
+    (record { judged = told self.scenario fed stands.lines; judge = ended_judge self ended.judge judges fed given stands }, (done_by self work.Points is fed given stands).0)
 
 pub plan_given : (self : Session) → self.work ≡ work.Plan → (fed given : List ℕ) → StandsFor self fed given → given ≡ []
-plan_given self is fed given stands = subst (λ (w : Work). IsDone w self.scenario (ended_lines fed) given) is stands.done
+plan_given self is fed given stands = (done_by self work.Plan is fed given stands).0
 
 pub plan_own : (self : Session) → self.work ≡ work.Plan → IsInUse self → IsSome self.scenario.own
 plan_own self is used = used.stands.own (subst (λ (w : Work). IsTrue (needs_own (mode_by w))) (sym is) refl)

@@ -24,8 +24,8 @@ use Rattle.command_line.specs.declared.mode.Mode.{Mode}
 use Rattle.sessions.specs.Feeding.{Refuses, TookPiece, UnlessMemory}
 use Rattle.sessions.specs.Modes.{needs_own}
 use Rattle.sessions.specs.Refusals.{HasManySettled, IsStopped, IsUnrefused}
-use Rattle.sessions.specs.Standing.{IsDone, StandsFor, keeping_by, mode_by, mode_of, session_scenario}
-use Rattle.sessions.specs.Inner.Working.{GoesOn, Works}
+use Rattle.sessions.specs.Standing.{StandsFor, keeping_by, mode_by, mode_of, session_scenario}
+use Rattle.sessions.specs.Inner.Working.{GoesOn, IsDone, Works}
 use Rattle.sessions.specs.declared.session.Session.{Session}
 use Rattle.sessions.specs.declared.session_fault.SessionFault.{SessionFault}
 use Rattle.sessions.specs.declared.session_fault.SessionFault.TheVariants as why
@@ -34,7 +34,7 @@ use Rattle.tracks.specs.declared.entry.BookFault.{BookFault}
 use Rattle.tracks.specs.declared.entry.BookFault.TheVariants as book
 use Rattle.sessions.specs.Inner.Faults.{judging_fault}
 use Rattle.sessions.proofs.Refusing.{EndedStay, ManyStay, PartsGoOn, stopped_bytes, stopped_on, stopped_pairs, stopped_vessels}
-use Rattle.sessions.proofs.Working.{decided_by, few_by}
+use Rattle.sessions.proofs.Working.{few_by}
 
 -- ---- how many lines there are
 
@@ -85,16 +85,6 @@ piece_without bytes is =
     let whole : take (length bytes) bytes ≡ bytes = take_all (length bytes) bytes (omega arith) in
     subst IsPiece (sym whole) (Rattle.std.proofs.lemmas.List.Elements.All-take (λ (byte : ℕ). is_line_feed byte ≡ false) (length bytes - 1) bytes all)
 
--- ---- before the first byte
-
-pub begun_unrefused : (work : Work) (scenario : Scenario) (lines : StreamedLines) → LinesStandFor lines scenario [] → IsDone work scenario (ended_lines []) []
-    → IsUnrefused (mode_by work) scenario []
-begun_unrefused work scenario lines stands done = record {
-  short = omega arith;
-  calm = stands.judge.calm;
-  few = few_by work scenario (ended_lines []) [] done;
-}
-
 -- ---- a piece that is taken
 
 module _ (old : Session) (piece front : List ℕ) where
@@ -132,7 +122,8 @@ module _ (old : Session) (piece front : List ℕ) where
           calm = on.judge.calm;
           few = few_by work' old.scenario (ended_lines (fed ++ piece)) (given ++ more) done;
         };
-        done = done;
+        settled = done.0;
+        audited = done.1;
       }
 
   -- no line feed
@@ -144,7 +135,7 @@ module _ (old : Session) (piece front : List ℕ) where
     stands = λ fed given stands. (
         let done : IsDone old.work old.scenario (ended_lines (fed ++ piece)) (given ++ []) =
         subst (IsDone old.work old.scenario (ended_lines (fed ++ piece))) (sym (append-nil given))
-        (subst (λ (lines : List (List ℕ)). IsDone old.work old.scenario lines given) (sym (nothing fed)) stands.done) in
+        (subst (λ (lines : List (List ℕ)). IsDone old.work old.scenario lines given) (sym (nothing fed)) (stands.settled, stands.audited)) in
         stands_on lines' old.work taken' fits go refl refl same_kept count fed given [] stands done
         );
   }
@@ -157,7 +148,7 @@ module _ (old : Session) (piece front : List ℕ) where
     judge_on fed given stands = subst (JudgeStandsFor judge old.scenario) (stay fed piece).1 (judge_stands old.scenario (fed ++ piece) (lines_on lines' fits go fed given stands))
 
     pub works_on : (fed given : List ℕ) → StandsFor old fed given → Works old.work old.scenario judge (ended_lines fed) (stay fed piece).0
-    works_on fed given stands = record { given = given; done = stands.done; judged = judge_on fed given stands }
+    works_on fed given stands = record { given = given; done = (stands.settled, stands.audited); judged = judge_on fed given stands }
 
     -- a line that is ended
     pub takes_line : (work' : Work) (taken' : ℕ) (text : ReportText) → mode_by work' ≡ mode_by old.work → keeping_by work' ≡ keeping_by old.work
@@ -169,7 +160,7 @@ module _ (old : Session) (piece front : List ℕ) where
       stands = λ fed given stands. (
           let lines = stay fed piece in
           let is = subst (λ (l : List (List ℕ)). judged_lines old.scenario l ≡ judged_lines old.scenario (ended_lines fed) ++ judged ∷ []) lines.1 (told old.scenario fed stands.lines) in
-          let done = on.done (ended_lines fed) lines.0 given stands.done (judge_on fed given stands) is in
+          let done = on.done (ended_lines fed) lines.0 given (stands.settled, stands.audited) (judge_on fed given stands) is in
           stands_on lines' work' taken' fits go same_mode same_keeping same_kept count fed given on.decided stands
           (subst (λ (l : List (List ℕ)). IsDone work' old.scenario l (given ++ on.decided)) (sym lines.1) done)
           );
@@ -186,7 +177,7 @@ module _ (old : Session) (piece front : List ℕ) where
           let lines = stay fed piece in
           let here = subst (HasManySettled (mode_by old.work) old.scenario) (sym lines.1) (many (ended_lines fed) lines.0 (works_on fed given stands)) in
           subst (IsStopped (mode_of old) (session_scenario old) (fed ++ piece) why.Pairs) (sym (append-nil given))
-          (stopped_pairs stay settle (mode_of old) (session_scenario old) parts fed piece is some stands.unrefused given (decided_by old.work old.scenario (ended_lines fed) given stands.done)
+          (stopped_pairs stay settle (mode_of old) (session_scenario old) parts fed piece is some stands.unrefused given stands.settled
           (fits fed given stands) (lines_on lines' fits go fed given stands).judge.calm here)
           );
     }
@@ -198,7 +189,7 @@ module _ (old : Session) (piece front : List ℕ) where
       more = [];
       has = subst (HasText text) (sym (append-nil front)) has;
       stopped = λ fed given stands. subst (IsStopped (mode_of old) (session_scenario old) (fed ++ piece) why.LogBytes) (sym (append-nil given))
-          (stopped_bytes stay settle (mode_of old) (session_scenario old) parts fed piece is some stands.unrefused given (decided_by old.work old.scenario (ended_lines fed) given stands.done)
+          (stopped_bytes stay settle (mode_of old) (session_scenario old) parts fed piece is some stands.unrefused given stands.settled
           (long fed given stands));
     }
 
@@ -209,7 +200,7 @@ module _ (old : Session) (piece front : List ℕ) where
       more = [];
       has = subst (HasText text) (sym (append-nil front)) has;
       stopped = λ fed given stands. subst (IsStopped (mode_of old) (session_scenario old) (fed ++ piece) why.Vessels) (sym (append-nil given))
-          (stopped_vessels stay settle (mode_of old) (session_scenario old) parts fed piece is some stands.unrefused given (decided_by old.work old.scenario (ended_lines fed) given stands.done)
+          (stopped_vessels stay settle (mode_of old) (session_scenario old) parts fed piece is some stands.unrefused given stands.settled
           (fits fed given stands) (crowded old.scenario fed stands.lines));
     }
 

@@ -11,6 +11,7 @@ mod PlanText
 mod Refusing
 mod Seeking
 mod SettledTexts
+mod SomeAnswer
 mod TakingLines
 mod VesselRows
 mod Working

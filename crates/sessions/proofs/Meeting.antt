@@ -25,16 +25,16 @@ unless_once (Some why) Else a b once x y = x ∙ sym y
 module _ (mode : Mode) (scenario : Scenario) (log : List ℕ) where
   -- what comes behind each test
 
-  abbrev behind_targets : Came → Type 0
+  abbrev pub behind_targets : Came → Type 0
   behind_targets = First (HasNoManoeuvre mode scenario log) (Ok true) (λ (came : Came). came ≡ Ok false)
 
-  abbrev behind_own : Came → Type 0
+  abbrev pub behind_own : Came → Type 0
   behind_own = First (MeetsTargetLimit mode scenario log) (Err fault.Targets) behind_targets
 
-  abbrev behind_traces : Came → Type 0
+  abbrev pub behind_traces : Came → Type 0
   behind_traces = Unless (unready_of mode scenario log) behind_own
 
-  abbrev behind_vessels : Came → Type 0
+  abbrev pub behind_vessels : Came → Type 0
   behind_vessels = First (HasManyTraces mode scenario log) (Err fault.Pairs) behind_traces
 
   pub one_answer_to : (a b : Came) → IsAnswerTo mode scenario log a → IsAnswerTo mode scenario log b → a ≡ b

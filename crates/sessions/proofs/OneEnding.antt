@@ -14,7 +14,7 @@ use Rattle.sessions.specs.PlanReport.{IsManoeuvre, IsOwn, IsPlanReport, plan_tex
 use Rattle.sessions.proofs.OneManoeuvre.{one_manoeuvre}
 use Rattle.command_line.specs.declared.mode.Mode.{Mode}
 use Rattle.command_line.specs.declared.mode.Mode.TheVariants as mode
-use Rattle.settling.specs.Sightings.{audit_numbers}
+use Rattle.settling.specs.ScenarioAudit.{audit_numbers}
 
 one_audit_report : (scenario : Scenario) (log text other : List ℕ) → IsAuditReport scenario log text → IsAuditReport scenario log other → text ≡ other
 one_audit_report scenario log text other a b =

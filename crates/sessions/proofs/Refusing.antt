@@ -10,7 +10,7 @@ use Rattle.log_lines.specs.EachLine.{each_after}
 use Rattle.log_lines.specs.JudgedLines.{greatest_held, held_behind, is_crowded, numbers_of}
 use Rattle.log_lines.specs.LogLines.{is_line_feed}
 use Rattle.scenario.specs.declared.values.Scenario.{Scenario}
-use Rattle.settling.specs.SettledTicks.{HaveManySettled}
+use Rattle.settling.specs.ManySettled.{HaveManySettled}
 use Rattle.log_lines.specs.Pieces.{IsPiece}
 use Rattle.command_line.specs.declared.mode.Mode.{Mode}
 use Rattle.situations.specs.PlanSituations.{greatest_targets, targets_near}
@@ -23,6 +23,7 @@ use Rattle.sessions.specs.SettledText.{IsDecidedBy, IsDecidedText, IsSettledText
 use Rattle.sessions.specs.declared.session_fault.SessionFault.{SessionFault}
 use Rattle.sessions.specs.declared.session_fault.SessionFault.TheVariants as fault
 use Rattle.sessions.proofs.Meeting.{first_once, one_answer_to}
+use Rattle.sessions.proofs.Working.{nothing_refused}
 
 -- ---- what a front has, longer ones have
 
@@ -225,6 +226,15 @@ stopped_on m scenario log more why text is =
       };
       settled = subst (λ (l : List ℕ). IsSettledText m scenario l text) (sym (same_takes log more (is.place - 1) is.place (omega arith) within)) is.settled;
     }
+
+-- Before the place of a refusal no other is met.
+pub before_refused : (m : Mode) (scenario : Scenario) (log : List ℕ) (why : SessionFault) (text : List ℕ)
+    → (is : IsStopped m scenario log why text) → IsUnrefused m scenario (take (is.place - 1) log)
+before_refused m scenario log why text is = at is.place is.refused.before
+  where
+    at : (place : ℕ) → ((shorter : ℕ) → shorter < place → IsUnrefused m scenario (take shorter log)) → IsUnrefused m scenario (take (place - 1) log)
+    at zero before = nothing_refused m scenario
+    at (suc count) before = before (suc count - 1) (omega arith)
 
 -- ---- which refusals come when
 

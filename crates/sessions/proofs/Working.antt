@@ -1,29 +1,31 @@
 -- Work that goes on by one line.
-use Rattle.std.proofs.Common.{ℕ, ◌≡◌, List, [], ◌++◌, append-nil, refl, sym, ap, ◌∙◌, subst}
+use Rattle.std.proofs.Common.{ℕ, ◌≡◌, false, List, [], ◌++◌, append-nil, refl, sym, ap, ◌∙◌, subst, arith}
 use Rattle.std.proofs.lemmas.Grind.{flat_map-append}
 use Rattle.audit_report.specs.CsvRows.{row_of}
 use Rattle.audit_report.specs.ReportTexts.{HasText}
 use Rattle.audit_report.specs.declared.report_text.ReportText.{ReportText}
 use Rattle.audit_rows.specs.declared.row.Row.{Row}
+use Rattle.log_lines.specs.EachLine.{each_after}
 use Rattle.log_lines.specs.GrowingLog.{ended_lines}
-use Rattle.log_lines.specs.JudgedLines.{judged_lines}
+use Rattle.log_lines.specs.JudgedLines.{is_crowded, judged_lines}
 use Rattle.log_lines.specs.Standing.{StandsFor as JudgeStandsFor}
 use Rattle.log_lines.specs.declared.judge.Judge.{Judge}
 use Rattle.log_lines.specs.declared.judged.Judged.{Judged}
 use Rattle.log_lines.proofs.ForCallers.{nothing_judged}
 use Rattle.scenario.specs.declared.values.Scenario.{Scenario}
 use Rattle.settling.specs.DecidedRows.{AreDecided}
+use Rattle.settling.specs.ManySettled.{HaveManySettled}
 use Rattle.settling.specs.Standing.{StandsFor as AuditStandsFor}
 use Rattle.settling.specs.declared.settled_audit.SettledAudit.{SettledAudit}
-use Rattle.settling.proofs.ForCallers.{few_settled, none_decided}
+use Rattle.settling.proofs.ForCallers.{few_settled, none_decided, none_many}
 use Rattle.command_line.specs.declared.mode.Mode.{Mode}
-use Rattle.sessions.specs.Modes.{Look, each_line, each_tick, early_look, nothing, own_ship}
+use Rattle.sessions.specs.Modes.{Look, OfTicks, each_line, each_tick, early_look, nothing, own_ship}
 use Rattle.sessions.specs.AuditReport.{stretch_fields, stretch_rows}
 use Rattle.sessions.specs.PointsReport.{point_rows, rows_of_line}
-use Rattle.sessions.specs.Refusals.{HasManySettled}
+use Rattle.sessions.specs.Refusals.{HasManySettled, IsUnrefused}
 use Rattle.sessions.specs.SettledText.{IsDecidedBy, IsDecidedText, IsSettledText}
-use Rattle.sessions.specs.Standing.{IsDone, mode_by}
-use Rattle.sessions.specs.Inner.Working.{GoesOn}
+use Rattle.sessions.specs.Standing.{mode_by}
+use Rattle.sessions.specs.Inner.Working.{GoesOn, IsDone}
 use Rattle.sessions.specs.declared.work.Work.{Work}
 use Rattle.sessions.specs.declared.work.Work.TheVariants as work
 use Rattle.traces.specs.declared.fault.TickFault.{TickFault as AuditFault}
@@ -50,26 +52,37 @@ nothing_decided nothing scenario = refl
 pub nothing_settled : (m : Mode) (scenario : Scenario) → IsSettledText m scenario [] []
 nothing_settled m scenario = subst (λ (lines : List (List ℕ)). IsDecidedText m scenario lines []) (sym nothing_ended) (nothing_decided (early_look m) scenario)
 
+none_crowded : (scenario : Scenario) → is_crowded scenario [] ≡ false
+unfolding is_crowded each_after
+none_crowded scenario = refl
+
+none_too_many : (look : Look) (scenario : Scenario) → OfTicks look (HaveManySettled scenario []) → ⊥
+none_too_many each_line scenario many = many
+none_too_many each_tick scenario many = none_many scenario many
+none_too_many own_ship scenario many = many
+none_too_many nothing scenario many = many
+
+pub nothing_refused : (m : Mode) (scenario : Scenario) → IsUnrefused m scenario []
+nothing_refused m scenario = record {
+  short = omega arith;
+  calm = ap (is_crowded scenario) nothing_ended ∙ none_crowded scenario;
+  few = λ many. none_too_many (early_look m) scenario (subst (HasManySettled m scenario) nothing_ended many);
+}
+
 pub points_begun : (scenario : Scenario) → IsDone work.Points scenario [] []
-points_begun scenario = no_points scenario
+points_begun scenario = (no_points scenario, tt)
 
 pub audit_begun : (scenario : Scenario) (audit : SettledAudit) → AuditStandsFor audit scenario [] [] → IsDone (work.Audit audit) scenario [] []
-audit_begun scenario audit stands = ([], stands, none_decided scenario, refl)
+audit_begun scenario audit stands = (([], none_decided scenario, refl), stands)
 
 pub begun_ended : (work : Work) (scenario : Scenario) → IsDone work scenario [] [] → IsDone work scenario (ended_lines []) []
 begun_ended work scenario done = subst (λ (lines : List (List ℕ)). IsDone work scenario lines []) (sym nothing_ended) done
 
 -- ---- what was done
 
-pub decided_by : (work : Work) (scenario : Scenario) (lines : List (List ℕ)) (given : List ℕ) → IsDone work scenario lines given → IsDecidedText (mode_by work) scenario lines given
-decided_by work.Points scenario lines given done = done
-decided_by (work.Audit audit) scenario lines given (rows, stands, are, is) = (rows, are, is)
-decided_by work.Plan scenario lines given done = done
-decided_by (work.Drill audit) scenario lines given (stands, is) = is
-
 pub few_by : (work : Work) (scenario : Scenario) (lines : List (List ℕ)) (given : List ℕ) → IsDone work scenario lines given → HasManySettled (mode_by work) scenario lines → ⊥
 few_by work.Points scenario lines given done many = many
-few_by (work.Audit audit) scenario lines given (rows, stands, are, is) many = few_settled scenario audit lines rows stands many
+few_by (work.Audit audit) scenario lines given (decided, stands) many = few_settled scenario audit lines decided.0 stands many
 few_by work.Plan scenario lines given done many = many
 few_by (work.Drill audit) scenario lines given done many = many
 
@@ -80,7 +93,7 @@ pub points_go_on : (scenario : Scenario) (judge : Judge) (judged : Judged) (fron
 points_go_on scenario judge judged front text has = record {
   decided = rows_of_line judged;
   has = has;
-  done = λ lines more given done stands is. ap (λ (g : List ℕ). g ++ rows_of_line judged) done ∙ sym (rows_push (judged_lines scenario lines) judged) ∙ ap point_rows (sym is);
+  done = λ lines more given done stands is. (ap (λ (g : List ℕ). g ++ rows_of_line judged) done.0 ∙ sym (rows_push (judged_lines scenario lines) judged) ∙ ap point_rows (sym is), tt);
 }
 
 stretches_more : (scenario : Scenario) (given : List ℕ) (rows further : List Row) → given ≡ stretch_rows scenario.rules rows
@@ -96,10 +109,8 @@ audit_goes_on scenario judge judged front text audit audit' further stand decide
   decided = stretch_rows scenario.rules further;
   has = has;
   done = λ lines more given done judged is. (
-    done.0 ++ further,
-    stand lines more done.0 done.1 judged,
-    decide lines more done.0 done.1 judged,
-    stretches_more scenario given done.0 further done.3,
+    (done.0.0 ++ further, decide lines more done.0.0 done.1 judged, stretches_more scenario given done.0.0 further done.0.2),
+    stand lines more done.0.0 done.1 judged,
   );
 }
 
@@ -108,7 +119,7 @@ pub plan_goes_on : (scenario : Scenario) (judge : Judge) (judged : Judged) (fron
 plan_goes_on scenario judge judged front text has = record {
   decided = [];
   has = subst (HasText text) (sym (append-nil front)) has;
-  done = λ lines more given done stands is. append-nil given ∙ done;
+  done = λ lines more given done stands is. (append-nil given ∙ done.0, tt);
 }
 
 pub drill_goes_on : (scenario : Scenario) (judge : Judge) (judged : Judged) (front : List ℕ) (text : ReportText) (audit : SettledAudit) → HasText text front
@@ -116,7 +127,7 @@ pub drill_goes_on : (scenario : Scenario) (judge : Judge) (judged : Judged) (fro
 drill_goes_on scenario judge judged front text audit has = record {
   decided = [];
   has = subst (HasText text) (sym (append-nil front)) has;
-  done = λ lines more given done stands is. (done.0, append-nil given ∙ done.1);
+  done = λ lines more given done stands is. (append-nil given ∙ done.0, done.1);
 }
 
 -- The audit's fault that ends a session for its pairs is that of the pairs.

@@ -9,7 +9,7 @@ use Rattle.log_lines.specs.LogLines.{lines_of}
 use Rattle.scenario.specs.declared.values.Scenario.{Scenario}
 use Rattle.sessions.specs.AuditReport.{sightings_of, total_rows}
 use Rattle.sessions.specs.OutcomeRows.{count_rows}
-use Rattle.settling.specs.Sightings.{audit_numbers}
+use Rattle.settling.specs.ScenarioAudit.{audit_numbers}
 
 -- the rows, by the totals of the audit
 unfoldable pub drill_text : Scenario → List ℕ → List Total → List ℕ

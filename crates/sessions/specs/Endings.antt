@@ -18,8 +18,8 @@ use Rattle.command_line.specs.declared.mode.Mode.{Mode}
 use Rattle.command_line.specs.declared.mode.Mode.TheVariants as mode
 use Rattle.sessions.specs.declared.session_fault.SessionFault.{SessionFault}
 use Rattle.sessions.specs.declared.session_fault.SessionFault.TheVariants as fault
-use Rattle.settling.specs.SettledTicks.{greatest_traces}
-use Rattle.settling.specs.Sightings.{audit_numbers}
+use Rattle.traces.specs.declared.all_traces.TheConstants.{MOST_TRACES}
+use Rattle.settling.specs.ScenarioAudit.{audit_numbers}
 
 -- The text is the mode's report on a log.
 abbrev pub IsEnding : Mode → Scenario → List ℕ → List ℕ → Type 0
@@ -33,7 +33,7 @@ IsEnding mode.Migrate scenario log text = ⊥
 
 -- More traces begin at the ticks of the window.
 abbrev pub HasManyTraces : Mode → Scenario → List ℕ → Type 0
-HasManyTraces mode scenario log = OfTicks (look_of mode) (HaveMoreThan greatest_traces (audit_numbers scenario) (sightings_of scenario log))
+HasManyTraces mode scenario log = OfTicks (look_of mode) (HaveMoreThan MOST_TRACES (audit_numbers scenario) (sightings_of scenario log))
 
 -- what own ship lacks
 abbrev pub lack_of : Result Ready Unready → Option Unready

@@ -4,10 +4,12 @@ pub mod AuditReport
 pub mod DrillReport
 pub mod PlanReport
 pub mod Modes
+pub mod SessionFaultTexts
 pub mod SettledText
 pub mod Endings
 pub mod Refusals
 pub mod Standing
 pub mod Feeding
 pub mod Inner
-pub use Rattle.settling.specs.Sightings
+pub use Rattle.settled_ticks.specs.Sightings
+pub use Rattle.settling.specs.ScenarioAudit

@@ -1,5 +1,6 @@
 -- What each mode looks at, and in which log: one row a mode. What is asked of a mode elsewhere follows from its row.
-use Rattle.std.specs.Prelude.{Bool, true, false, if◌then◌else◌}
+use Rattle.std.specs.Prelude.{Bool, true, false, None, if◌then◌else◌}
+use Rattle.scenario.specs.declared.values.Scenario.{Scenario}
 use Rattle.command_line.specs.declared.mode.Mode.{Mode}
 use Rattle.command_line.specs.declared.mode.Mode.TheVariants as mode
 
@@ -56,6 +57,10 @@ is_log _ = true
 -- Own ship is needed where she is looked at.
 abbrev pub needs_own : Mode → Bool
 needs_own mode = is_own (look_of mode)
+
+-- the values that a mode looks at: own ship's where it needs her alone, by which the window of lines ends with the last tick
+abbrev pub scenario_for : Mode → Scenario → Scenario
+scenario_for mode scenario = if needs_own mode then scenario else record scenario { own = None }
 
 -- There is a report on a log where there is a log.
 abbrev pub reports : Mode → Bool

@@ -1,21 +1,17 @@
 -- What a session stands for.
 use Rattle.std.specs.Prelude.{ℕ, ◌≡◌, length, List, [], IsSome, IsTrue}
-use Rattle.audit_rows.specs.declared.row.Row.{Row}
 use Rattle.log_lines.specs.GrowingLog.{ended_lines}
-use Rattle.log_lines.specs.JudgedLines.{judged_lines}
 use Rattle.scenario.specs.ScenarioValues.{IsInRange}
 use Rattle.scenario.specs.declared.values.Scenario.{Scenario}
-use Rattle.settling.specs.DecidedRows.{AreDecided}
 use Rattle.settling.specs.Standing.{StandsFor as AuditStandsFor}
 use Rattle.log_lines.specs.Standing.{LinesStandFor, kept_of}
 use Rattle.tracks.specs.declared.keeping.Keeping.{Keeping}
 use Rattle.tracks.specs.declared.keeping.Keeping.TheVariants.{Latest, Tracks}
 use Rattle.command_line.specs.declared.mode.Mode.{Mode}
 use Rattle.command_line.specs.declared.mode.Mode.TheVariants as mode
-use Rattle.sessions.specs.AuditReport.{stretch_rows}
 use Rattle.sessions.specs.Modes.{needs_own}
-use Rattle.sessions.specs.PointsReport.{point_rows}
 use Rattle.sessions.specs.Refusals.{IsUnrefused}
+use Rattle.sessions.specs.SettledText.{IsDecidedText, IsSettledText}
 use Rattle.sessions.specs.declared.session.Session.{Session}
 use Rattle.sessions.specs.declared.work.Work.{Work}
 use Rattle.sessions.specs.declared.work.Work.TheVariants as work
@@ -44,16 +40,14 @@ keeping_by (work.Audit audit) = Tracks
 keeping_by work.Plan = Tracks
 keeping_by (work.Drill audit) = Tracks
 
--- The work was done on these lines, and this text was given: the rows of their reports; or those of the stretches that they decide; or
--- nothing before the end.
-abbrev pub IsDone : Work → Scenario → List (List ℕ) → List ℕ → Type 0
-IsDone work.Points scenario lines given = given ≡ point_rows (judged_lines scenario lines)
-IsDone (work.Audit audit) scenario lines given =
-    (rows : List Row) × AuditStandsFor audit scenario lines rows × AreDecided scenario lines rows × (given ≡ stretch_rows scenario.rules rows)
-IsDone work.Plan scenario lines given = given ≡ []
-IsDone (work.Drill audit) scenario lines given = AuditStandsFor audit scenario [] [] × (given ≡ [])
+-- An audit has audited the ticks that the lines settle, and given the rows of which the text is. A drill audits none before the log's end.
+abbrev pub HasAudited : (work : Work) (scenario : Scenario) (lines : List (List ℕ)) (given : List ℕ) → IsDecidedText (mode_by work) scenario lines given → Type 0
+HasAudited work.Points scenario lines given decided = Unit {0}
+HasAudited (work.Audit audit) scenario lines given decided = AuditStandsFor audit scenario lines decided.0
+HasAudited work.Plan scenario lines given decided = Unit {0}
+HasAudited (work.Drill audit) scenario lines given decided = AuditStandsFor audit scenario [] []
 
--- The session was fed these bytes of a log, none of which is refused, and has given this text.
+-- The session was fed these bytes of a log, none of which is refused, and has given what they settle.
 pub record StandsFor (session : Session) (fed given : List ℕ) : Type 0 where
   pub in_range : IsInRange session.scenario
   pub own : IsTrue (needs_own (mode_by session.work)) → IsSome session.scenario.own
@@ -61,7 +55,8 @@ pub record StandsFor (session : Session) (fed given : List ℕ) : Type 0 where
   pub kept : kept_of session.lines ≡ keeping_by session.work
   pub taken : session.taken ≡ length fed
   pub unrefused : IsUnrefused (mode_by session.work) session.scenario fed
-  pub done : IsDone session.work session.scenario (ended_lines fed) given
+  pub settled : IsSettledText (mode_by session.work) session.scenario fed given
+  pub audited : HasAudited session.work session.scenario (ended_lines fed) given settled
 
 -- It stands for some bytes.
 pub record IsInUse (session : Session) : Type 0 where

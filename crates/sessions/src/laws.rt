@@ -27,6 +27,11 @@ pub fn one_answer()
     many_settled_stay();
 }
 
+/// A log comes to something: that it comes to nothing is refuted.
+pub fn some_answer()
+    ensures { (mode : Mode) (scenario : Scenario) (log : List ℕ) → ¬ ((came : Came) → ¬ IsMet mode scenario log came) }
+{}
+
 /// The settled bytes of a front of a log are one text at most.
 pub fn one_settled_text()
     ensures { (mode : Mode) (scenario : Scenario) (front text other : List ℕ) →

@@ -4,7 +4,7 @@ ghost use Rattle.audit_report.specs.ReportTexts.{HasText};
 ghost use Rattle.scenario.specs.ScenarioValues.{IsInRange};
 ghost use Rattle.sessions.specs.Endings.{IsAnswerTo, IsEnding};
 ghost use Rattle.sessions.specs.Feeding.{Refuses, TookPiece, UnlessMemory};
-ghost use Rattle.sessions.specs.Modes.{needs_own, reports};
+ghost use Rattle.sessions.specs.Modes.{needs_own, reports, scenario_for};
 ghost use Rattle.sessions.specs.Refusals.{IsStopped};
 ghost use Rattle.sessions.specs.Standing.{IsInUse, StandsFor, mode_of, session_scenario, taken_of};
 ghost use Rattle.log_lines.specs.Pieces.{IsPiece};
@@ -12,6 +12,7 @@ ghost use Rattle.log_lines.specs.Pieces.{IsPiece};
 use crate::audit::end_audit;
 use crate::drill::end_drill;
 use crate::ending::Ending;
+use crate::modes::needs_own;
 use crate::plan::end_plan;
 use crate::points::end_points;
 use crate::session_fault::SessionFault;
@@ -38,6 +39,19 @@ fn piece_length(bytes: &[u8]) -> usize
     }
 }
 
+/// The values that a mode looks at: own ship's where it needs her alone.
+fn scenario_for(mut scenario: Scenario, mode: Mode) -> Scenario
+    requires { IsInRange scenario }
+    ensures value { result ≡ scenario_for mode scenario }
+    ensures in_range { IsInRange result }
+    ensures own { (IsTrue (needs_own mode) → IsSome scenario.own) → IsTrue (needs_own mode) → IsSome result.own }
+{
+    if !needs_own(mode) {
+        scenario.own = None;
+    }
+    scenario
+}
+
 /// The report of a mode on a log that comes in pieces. It is fed the log however it is cut, gives what is decided by the bytes so far, and
 /// at the log's end the rest.
 #[derive(Drop)]
@@ -51,15 +65,17 @@ pub struct Session {
 }
 
 impl Session {
-    /// The session of a mode on a scenario, before the first byte. Own ship is needed where she is planned for. A migration reports on no log.
+    /// The session of a mode on a scenario, before the first byte. Own ship is needed where she is planned for; any other mode leaves her out,
+    /// so that its window of lines ends a gap behind the last tick. A migration reports on no log.
     pub fn new(alloc: Global, scenario: Scenario, mode: Mode) -> Result<Session, Memory>
         requires in_range { IsInRange scenario }
         requires own { IsTrue (needs_own mode) → IsSome scenario.own }
         requires reports { IsTrue (reports mode) }
         ensures mode { IfOk result (λ session. mode_of session ≡ mode) }
-        ensures scenario { IfOk result (λ session. session_scenario session ≡ scenario) }
+        ensures scenario { IfOk result (λ session. session_scenario session ≡ scenario_for mode scenario) }
         ensures stands { IfOk result (λ session. StandsFor session [] []) }
     {
+        let scenario = scenario_for(scenario, mode);
         let work = Work::of(alloc, &scenario, mode)?;
         let lines = StreamedLines::new(alloc, work.keeping(), &scenario);
         Ok(Session {

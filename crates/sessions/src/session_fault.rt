@@ -1,10 +1,12 @@
 //! Why a session gives no report.
-use auditor::AuditFault;
+use auditor::{AuditFault, MOST_TRACES};
 use outside::Memory;
-use situations::{PrepareFault, Unready};
-use tracks::BookFault;
+use situations::{MOST_TARGETS, PrepareFault, Unready};
+use std::error::Error;
+use std::fmt;
+use tracks::{BookFault, MOST_VESSELS};
 
-/// Why a session gives no report.
+/// Why a session gives no report. It is printed as the program's line of it begins: `limit: vessels 4096`, `own: no point`, `memory`.
 #[derive(Clone, Copy, Debug, PartialEq, Eq)]
 pub enum SessionFault {
     /// A line makes a 4097th vessel held.
@@ -20,6 +22,26 @@ pub enum SessionFault {
     /// Memory ran out.
     Memory,
 }
+
+impl fmt::Display for SessionFault {
+    ghost use Rattle.std.specs.Prelude.{Some};
+    ghost use Rattle.sessions.specs.SessionFaultTexts.{session_fault_text};
+
+    ghost output = { λ fault. Some (session_fault_text fault) };
+
+    fn fmt<W: fmt::Write>(&self, f: &mut fmt::Formatter<W>) -> fmt::Result {
+        match self {
+            SessionFault::Vessels => write!(f, "limit: vessels {MOST_VESSELS}"),
+            SessionFault::Pairs => write!(f, "limit: pairs {MOST_TRACES}"),
+            SessionFault::LogBytes => f.write_str("limit: log"),
+            SessionFault::Own(why) => write!(f, "own: {why}"),
+            SessionFault::Targets => write!(f, "limit: targets {MOST_TARGETS}"),
+            SessionFault::Memory => f.write_str("memory"),
+        }
+    }
+}
+
+impl Error for SessionFault {}
 
 impl From<Memory> for SessionFault {
     ghost use Rattle.std.specs.Prelude.{◌≡◌};

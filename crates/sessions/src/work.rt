@@ -3,10 +3,10 @@ ghost use Rattle.std.specs.Prelude.{◌≡◌, ◌≢◌, ◌++◌, ◌∷◌, [
 ghost use Rattle.audit_report.specs.ReportTexts.{HasText};
 ghost use Rattle.log_lines.specs.Standing.{StandsFor as JudgeStandsFor, keeping_of};
 ghost use Rattle.scenario.specs.ScenarioValues.{IsInRange};
-ghost use Rattle.sessions.specs.Inner.Working.{GoesOn, IsReadyFor, Works};
+ghost use Rattle.sessions.specs.Inner.Working.{GoesOn, IsDone, IsReadyFor, Works};
 ghost use Rattle.sessions.specs.Modes.{reports};
 ghost use Rattle.sessions.specs.Refusals.{HasManySettled};
-ghost use Rattle.sessions.specs.Standing.{IsDone, keeping_by, mode_by};
+ghost use Rattle.sessions.specs.Standing.{keeping_by, mode_by};
 ghost use Rattle.sessions.specs.declared.session_fault.SessionFault.TheVariants as fault;
 
 use crate::points::write_line;

@@ -15,12 +15,12 @@ use Rattle.scenario.specs.Ticks.{time_of_tick}
 use Rattle.tracks.specs.SeenVessels.{seen_of}
 use Rattle.tracks.specs.VesselsHeld.{Sent}
 use Rattle.settling.specs.DecidedRows.{AreDecided}
-use Rattle.settling.specs.SettledTicks.{IsSettled}
-use Rattle.settling.specs.Sightings.{audit_numbers, seen_first, sighted}
+use Rattle.settled_ticks.specs.Settled.{IsSettled}
+use Rattle.settled_ticks.specs.Sightings.{seen_first, sighted}
+use Rattle.settling.specs.ScenarioAudit.{audit_numbers}
 use Rattle.settling.proofs.Fronts.{front, no_later, same_rows}
 use Rattle.settling.proofs.SameRows.{same_row}
-use Rattle.settling.proofs.SeenStays.{what_is_settled_stays}
-use Rattle.settling.proofs.SettledTicks.{settled_ticks_are_first, settled_ticks_stay}
+use Rattle.settled_ticks.proofs.ForCallers.{settled_ticks_are_first, settled_ticks_stay, what_is_settled_stays}
 
 module _ (scenario : Scenario) where
   -- ---- what is seen at each tick

@@ -7,8 +7,9 @@ use Rattle.auditor.specs.AuditRows.{IsAuditRow}
 use Rattle.auditor.specs.Standing.{audit_reach}
 use Rattle.log_lines.specs.SentLines.{sent}
 use Rattle.scenario.specs.declared.values.Scenario.{Scenario}
-use Rattle.settling.specs.SettledTicks.{IsSettled}
-use Rattle.settling.specs.Sightings.{audit_numbers, sighted}
+use Rattle.settled_ticks.specs.Settled.{IsSettled}
+use Rattle.settled_ticks.specs.Sightings.{sighted}
+use Rattle.settling.specs.ScenarioAudit.{audit_numbers}
 
 -- They are the rows by the messages so far of which the tick is settled that lies the farthest rule's reach and two behind their last
 -- step: one position more tells that the stretch has ended, and a position ends at the next tick.

@@ -1,8 +1,10 @@
 pub use Rattle.auditor.specs.AuditRows
 pub use Rattle.log_lines.specs.LineTimes
 pub use Rattle.log_lines.specs.SentLines
-pub mod Sightings
-pub mod SettledTicks
+pub use Rattle.settled_ticks.specs.Settled
+pub use Rattle.settled_ticks.specs.Sightings
+pub mod ScenarioAudit
+pub mod ManySettled
 pub mod DecidedRows
 pub mod Standing
 pub mod Inner

@@ -1,35 +1,17 @@
-//! Laws of settled ticks and decided rows, which stand over the definitions alone.
+//! Laws of decided rows, which stand over the definitions alone.
 ghost use Rattle.std.specs.Prelude.{ℕ, ◌≡◌, ◌+◌, ◌-◌, ◌<◌, ◌≤◌, ◌↔◌, ◌++◌, [], get_or, length, List};
 ghost use Rattle.audit_rows.specs.Order.{last_step_of};
 ghost use Rattle.audit_rows.specs.declared.row.Row.{Row};
 ghost use Rattle.traces.specs.Audited.{AuditNumbers, Sighting};
 ghost use Rattle.auditor.specs.AuditRows.{AreAuditRows, AreAuditRowsBelow, IsAuditRow};
 ghost use Rattle.auditor.specs.Standing.{audit_reach, settled_by};
-ghost use Rattle.log_lines.specs.JudgedLines.{numbers_of};
 ghost use Rattle.log_lines.specs.SentLines.{sent};
-ghost use Rattle.scenario.specs.Ticks.{time_of_tick};
 ghost use Rattle.scenario.specs.declared.values.Scenario.{Scenario};
 ghost use Rattle.settling.specs.DecidedRows.{AreDecided};
-ghost use Rattle.settling.specs.SettledTicks.{HaveManySettled, IsSettled};
-ghost use Rattle.settling.specs.Sightings.{audit_numbers, seen_first, sighted};
-ghost use Rattle.tracks.specs.SeenVessels.{seen_of};
-
-/// A tick that is settled stays so, whatever lines follow.
-pub fn settled_ticks_stay()
-    ensures { (scenario : Scenario) (lines more : List (List ℕ)) (i : ℕ) → IsSettled scenario lines i → IsSettled scenario (lines ++ more) i }
-{}
-
-/// The settled ticks are the first ones: with a tick each earlier one is settled.
-pub fn settled_ticks_are_first()
-    ensures { (scenario : Scenario) (lines : List (List ℕ)) (i j : ℕ) → IsSettled scenario lines i → j ≤ i → IsSettled scenario lines j }
-{}
-
-/// The vessels that are seen at a settled tick, and their states there, are the same whatever lines follow.
-pub fn what_is_settled_stays()
-    ensures { (scenario : Scenario) (lines more : List (List ℕ)) (i : ℕ) → IsSettled scenario lines i →
-        seen_of (numbers_of scenario) (sent scenario (lines ++ more)) (time_of_tick scenario.window i)
-        ≡ seen_of (numbers_of scenario) (sent scenario lines) (time_of_tick scenario.window i) }
-{}
+ghost use Rattle.settled_ticks.specs.Settled.{IsSettled};
+ghost use Rattle.settling.specs.ManySettled.{HaveManySettled};
+ghost use Rattle.settled_ticks.specs.Sightings.{seen_first, sighted};
+ghost use Rattle.settling.specs.ScenarioAudit.{audit_numbers};
 
 /// Where too many traces begin at settled ticks, they do so whatever lines follow.
 pub fn many_settled_stay()

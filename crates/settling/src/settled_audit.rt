@@ -1,5 +1,5 @@
 //! The audit of a window's ticks, as the lines of a log settle them.
-ghost use Rattle.std.specs.Prelude.{◌≡◌, ◌+◌, ◌≤◌, ◌++◌, [], ℕ, List, IfOk, OnOk, Err, true, false};
+ghost use Rattle.std.specs.Prelude.{◌≡◌, ◌+◌, ◌++◌, [], ℕ, List, IfOk, OnOk, Err};
 ghost use Rattle.audit_rows.specs.declared.row.Row.{Row};
 ghost use Rattle.auditor.specs.AuditRows.{AreAuditRows};
 ghost use Rattle.auditor.specs.AuditTotals.{AreTotals};
@@ -8,30 +8,22 @@ ghost use Rattle.traces.specs.declared.fault.TickFault.TheVariants.{TooManyPairs
 ghost use Rattle.log_lines.specs.SentLines.{sent};
 ghost use Rattle.log_lines.specs.Standing.{StandsFor as JudgeStandsFor, keeping_of};
 ghost use Rattle.scenario.specs.ScenarioValues.{IsInRange};
-ghost use Rattle.scenario.specs.Ticks.{time_of_tick};
 ghost use Rattle.settling.specs.DecidedRows.{AreDecided};
-ghost use Rattle.settling.specs.Inner.AuditedTicks.{IsAudited, IsReady, is_past};
-ghost use Rattle.settling.specs.SettledTicks.{HaveManySettled, IsSettled, greatest_traces};
-ghost use Rattle.settling.specs.Sightings.{audit_numbers, seen_first, sighted};
+ghost use Rattle.settling.specs.Inner.AuditedTicks.{IsAudited, IsReady};
+ghost use Rattle.settling.specs.ManySettled.{HaveManySettled};
+ghost use Rattle.traces.specs.declared.all_traces.TheConstants.{MOST_TRACES};
+ghost use Rattle.settled_ticks.specs.Standing.{handed_out};
+ghost use Rattle.settled_ticks.specs.Sightings.{sighted};
+ghost use Rattle.settling.specs.ScenarioAudit.{audit_numbers};
 ghost use Rattle.settling.specs.Standing.{AreOfOneLog, StandsFor};
 ghost use Rattle.tracks.specs.declared.keeping.Keeping.TheVariants.{Tracks};
 
 use auditor::{Audit, AuditEnd, AuditFault, Row};
 use log_lines::Judge;
-use motion::TickState;
 use outside::Memory;
 use scenario::Scenario;
+use settled_ticks::SettledTicks;
 use std::alloc::Global;
-
-/// Whether the clock is past a time.
-fn is_past(clock: Option<u64>, time: u64) -> bool
-    ensures { result ≡ is_past clock time }
-{
-    match clock {
-        None => false,
-        Some(clock) => time < clock,
-    }
-}
 
 /// Puts further rows behind these.
 fn add(rows: &mut Vec<Row>, mut further: Vec<Row>) -> Result<(), Memory>
@@ -46,10 +38,7 @@ fn add(rows: &mut Vec<Row>, mut further: Vec<Row>) -> Result<(), Memory>
 pub struct SettledAudit {
     alloc: Global,
     audit: Audit,
-    /// The first tick that was not audited.
-    next: u32,
-    /// Room for the vessels that are seen at a tick.
-    seen: Vec<(u32, TickState)>,
+    ticks: SettledTicks,
 }
 
 impl SettledAudit {
@@ -69,44 +58,8 @@ impl SettledAudit {
         Ok(SettledAudit {
             alloc,
             audit,
-            next: 0,
-            seen: Vec::new(alloc),
+            ticks: SettledTicks::new(alloc),
         })
-    }
-
-    /// Whether the judge's lines settle the next tick.
-    fn is_settled(&self, scenario: &Scenario, judge: &Judge) -> bool
-        requires { IsInRange scenario.now }
-        ensures within { result ≡ true → self.now.next ≤ scenario.now.window.ticks }
-        ensures settled { result ≡ true → (lines : List (List ℕ)) → JudgeStandsFor judge.now scenario.now lines
-            → IsSettled scenario.now lines self.now.next }
-        ensures open { result ≡ false → (lines : List (List ℕ)) → JudgeStandsFor judge.now scenario.now lines
-            → IsSettled scenario.now lines self.now.next → ⊥ }
-    {
-        let window = &scenario.window;
-        let behind = u64::from(scenario.log.gap) + u64::from(scenario.log.slack);
-        self.next <= window.ticks && is_past(judge.clock(), window.time(self.next) + behind)
-    }
-
-    /// Audits the next tick by what the judge's lines tell, and gives the rows that it decides.
-    fn step(&mut self, scenario: &Scenario, judge: &Judge) -> Result<Vec<Row>, AuditFault>
-        requires in_range { IsInRange scenario.now }
-        requires keeping { keeping_of judge.now ≡ Tracks }
-        requires ready { IsReady self.old scenario.now judge.now }
-        requires within { self.old.next ≤ scenario.now.window.ticks }
-        ensures next { OnOk result (self.new.next ≡ self.old.next + 1) }
-        ensures audited { IfOk result (λ rows. (lines : List (List ℕ)) (given : List Row) → JudgeStandsFor judge.now scenario.now lines
-            → IsAudited self.old scenario.now lines given → IsAudited self.new scenario.now lines (given ++ rows.items)) }
-        ensures many { result ≡ Err TooManyPairs → (lines : List (List ℕ)) (given : List Row) → JudgeStandsFor judge.now scenario.now lines
-            → IsAudited self.old scenario.now lines given
-            → HaveMoreThan greatest_traces (audit_numbers scenario.now) (seen_first scenario.now (sent scenario.now lines) (self.old.next + 1)) }
-    {
-        let book = judge.book();
-        book.moves_little();
-        book.look(scenario.window.time(self.next), &mut self.seen)?;
-        let rows = self.audit.step(self.seen.as_slice())?;
-        self.next += 1;
-        Ok(rows)
     }
 
     /// Audits each further tick that the judge's lines settle, and gives the rows that they decide, behind those that were given.
@@ -128,8 +81,8 @@ impl SettledAudit {
             → JudgeStandsFor judge.now scenario.now (lines ++ more) → HaveManySettled scenario.now (lines ++ more) → ⊥) }
     {
         let mut rows = Vec::new(self.alloc);
-        while self.is_settled(scenario, judge) {
-            let further = self.step(scenario, judge)?;
+        while self.ticks.next(scenario, judge)? {
+            let further = self.audit.step(self.ticks.seen())?;
             add(&mut rows, further)?;
         }
         Ok(rows)
@@ -140,16 +93,16 @@ impl SettledAudit {
         requires in_range { IsInRange scenario.now }
         requires keeping { keeping_of judge.now ≡ Tracks }
         requires ready { IsReady self.old scenario.now judge.now }
-        ensures all { OnOk result (self.new.next ≡ scenario.now.window.ticks + 1) }
+        ensures all { OnOk result (handed_out self.new.ticks ≡ scenario.now.window.ticks + 1) }
         ensures audited { IfOk result (λ rows. (lines : List (List ℕ)) (given : List Row) → JudgeStandsFor judge.now scenario.now lines
             → IsAudited self.old scenario.now lines given → IsAudited self.new scenario.now lines (given ++ rows.items)) }
         ensures many { result ≡ Err TooManyPairs → (lines : List (List ℕ)) (given : List Row) → JudgeStandsFor judge.now scenario.now lines
             → IsAudited self.old scenario.now lines given
-            → HaveMoreThan greatest_traces (audit_numbers scenario.now) (sighted scenario.now (sent scenario.now lines)) }
+            → HaveMoreThan MOST_TRACES (audit_numbers scenario.now) (sighted scenario.now (sent scenario.now lines)) }
     {
         let mut rows = Vec::new(self.alloc);
-        while self.next <= scenario.window.ticks {
-            let further = self.step(scenario, judge)?;
+        while self.ticks.next_at_end(scenario, judge)? {
+            let further = self.audit.step(self.ticks.seen())?;
             add(&mut rows, further)?;
         }
         Ok(rows)
@@ -170,10 +123,10 @@ impl SettledAudit {
         // The limit is met exactly where a 4097th trace begins; memory may run out before.
         ensures many { result ≡ Err TooManyPairs → (lines more : List (List ℕ)) (given : List Row) → StandsFor self scenario.now lines given
             → JudgeStandsFor judge.now scenario.now (lines ++ more)
-            → HaveMoreThan greatest_traces (audit_numbers scenario.now) (sighted scenario.now (sent scenario.now (lines ++ more))) }
+            → HaveMoreThan MOST_TRACES (audit_numbers scenario.now) (sighted scenario.now (sent scenario.now (lines ++ more))) }
         ensures few { OnOk result ((lines more : List (List ℕ)) (given : List Row) → StandsFor self scenario.now lines given
             → JudgeStandsFor judge.now scenario.now (lines ++ more)
-            → HaveMoreThan greatest_traces (audit_numbers scenario.now) (sighted scenario.now (sent scenario.now (lines ++ more))) → ⊥) }
+            → HaveMoreThan MOST_TRACES (audit_numbers scenario.now) (sighted scenario.now (sent scenario.now (lines ++ more))) → ⊥) }
     {
         let mut rows = self.finish(scenario, judge)?;
         let end = self.audit.end()?;

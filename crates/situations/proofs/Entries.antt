@@ -1,20 +1,69 @@
 -- Own ship is inside a domain at the moment that tells of it, or at no instant.
-use Rattle.std.proofs.Common.{◌≡◌, ◌<◌, ◌≤◌, refl, Some, None}
-use Rattle.std.specs.Prelude.{Option, IfSome, IsNone, IsTrue, MatchOption, ◌↔◌, is_some}
-use Rattle.closest_approach.specs.Separation.{IsSeparated}
+use Rattle.std.proofs.Common.{◌≡◌, ◌∙◌, ℕ, ◌^◌, ◌<◌, ◌≤◌, List, refl, sym, subst₂, Some, None}
+use Rattle.std.specs.Prelude.{Option, IfSome, IsNone, IsTrue, MatchOption, ◌↔◌, is_some, ℤ}
+use Rattle.closest_approach.specs.Separation.{IsNearer, IsSeparated, nearest_of}
 use Rattle.closest_approach.specs.declared.nearest.Moment.{Moment}
 use Rattle.closest_approach.proofs.Decision.{not_nearer}
 use Rattle.encounters.specs.declared.pair_step.PairStep.{PairStep}
-use Rattle.situations.specs.Domains.{Enters, IsEntry, IsInsideAt, moment_of}
+use Rattle.hull_domains.specs.Crossings.{entry_moment}
+use Rattle.hull_domains.specs.Domains.{IsInside, StaysOutside}
+use Rattle.motion.specs.Steps.{RelativeMove}
+use Rattle.situations.specs.Domains.{Enters, IsEntry, IsInsideAt, IsInsideBy, moment_by, moment_of}
 use Rattle.situations.specs.declared.situation.Situation.{Situation}
 use Rattle.situations.specs.declared.situation.Target.{Target}
 
+-- ---- where a shape and a direction are not both there, the domain is a circle
+
+abbrev pub IsCircle : Option (List (ℤ × ℤ)) → Option ℕ → Type 0
+IsCircle shape direction = (vertices : List (ℤ × ℤ)) (d : ℕ) → shape ≡ Some vertices → direction ≡ Some d → ⊥
+
+module _ (radius : ℕ) (step : RelativeMove) (a b : ℕ) where
+  in_circle : (shape : Option (List (ℤ × ℤ))) (direction : Option ℕ) → IsCircle shape direction → IsInsideBy shape direction radius step a b → IsNearer step radius a b
+  in_circle (Some shape) (Some d) circle h = absurd (circle shape d refl refl)
+  in_circle (Some shape) None circle h = h
+  in_circle None direction circle h = h
+
+  of_circle : (shape : Option (List (ℤ × ℤ))) (direction : Option ℕ) → IsCircle shape direction → IsNearer step radius a b → IsInsideBy shape direction radius step a b
+  of_circle (Some shape) (Some d) circle h = absurd (circle shape d refl refl)
+  of_circle (Some shape) None circle h = h
+  of_circle None direction circle h = h
+
+circle_moment : (step : RelativeMove) (shape : Option (List (ℤ × ℤ))) (direction : Option ℕ) → IsCircle shape direction → moment_by shape direction step ≡ nearest_of step 1
+circle_moment step (Some shape) (Some d) circle = absurd (circle shape d refl refl)
+circle_moment step (Some shape) None circle = refl
+circle_moment step None direction circle = refl
+
+-- ---- what the tests of a shape and of a circle tell
+
 module _ (s : Situation) (T : Target) (pair : PairStep) where
-  pub entry_is : (o : Option Moment) → (IsNone o ↔ IsSeparated pair.step T.domain.radius) → IfSome o (λ moment. moment ≡ moment_of s T pair)
-      → IfSome o (λ moment. (moment.a ≤ moment.b) × (0 < moment.b)) → IfSome o (λ moment. IsInsideAt s T pair moment.a moment.b)
+  module _ (shape : List (ℤ × ℤ)) (d : ℕ) (has : Some shape ≡ s.shape) (heads : Some d ≡ pair.b.direction) where
+    shaped : (a b : ℕ) → IsInside pair.step d shape a b → IsInsideAt s T pair a b
+    shaped a b = subst₂ (λ (o : Option (List (ℤ × ℤ))) (e : Option ℕ). IsInsideBy o e T.domain.radius pair.step a b) has heads
+
+    in_shape : (a b : ℕ) → IsInsideAt s T pair a b → IsInside pair.step d shape a b
+    in_shape a b = subst₂ (λ (o : Option (List (ℤ × ℤ))) (e : Option ℕ). IsInsideBy o e T.domain.radius pair.step a b) (sym has) (sym heads)
+
+    shape_moment : entry_moment pair.step d shape ≡ moment_of s T pair
+    shape_moment = subst₂ (λ (o : Option (List (ℤ × ℤ))) (e : Option ℕ). entry_moment pair.step d shape ≡ moment_by o e pair.step) has heads refl
+
+    pub entry_by_shape : (o : Option Moment) → (IsNone o ↔ StaysOutside pair.step d shape) → IfSome o (λ moment. moment ≡ entry_moment pair.step d shape)
+        → IfSome o (λ moment. (moment.a ≤ moment.b) × (0 < moment.b) × (moment.b < 2 ^ 60)) → IfSome o (λ moment. IsInside pair.step d shape moment.a moment.b)
+        → MatchOption o (¬ Enters s T pair) (IsEntry s T pair)
+    entry_by_shape None none is instant inside = λ h. none.0 refl h.a h.b h.within h.some (in_shape h.a h.b h.inside)
+    entry_by_shape (Some moment) none is instant inside =
+        record { is = is ∙ shape_moment; within = instant.0; some = instant.1; inside = shaped moment.a moment.b inside }
+
+  pub entry_by_circle : IsCircle s.shape pair.b.direction → (o : Option Moment) → (IsNone o ↔ IsSeparated pair.step T.domain.radius) → IfSome o (λ moment. moment ≡ nearest_of pair.step 1)
+      → IfSome o (λ moment. (moment.a ≤ moment.b) × (0 < moment.b)) → IfSome o (λ moment. IsNearer pair.step T.domain.radius moment.a moment.b)
       → MatchOption o (¬ Enters s T pair) (IsEntry s T pair)
-  entry_is None none is instant inside = λ h. not_nearer pair.step T.domain.radius h.a h.b (none.0 refl) h.within h.some h.inside
-  entry_is (Some moment) none is instant inside = record { is = is; within = instant.0; some = instant.1; inside = inside }
+  entry_by_circle circle None none is instant inside =
+      λ h. not_nearer pair.step T.domain.radius h.a h.b (none.0 refl) h.within h.some (in_circle T.domain.radius pair.step h.a h.b s.shape pair.b.direction circle h.inside)
+  entry_by_circle circle (Some moment) none is instant inside = record {
+    is = is ∙ sym (circle_moment pair.step s.shape pair.b.direction circle);
+    within = instant.0;
+    some = instant.1;
+    inside = of_circle T.domain.radius pair.step moment.a moment.b s.shape pair.b.direction circle inside;
+  }
 
   pub entry_enters : (moment : Moment) → IsEntry s T pair moment → Enters s T pair
   entry_enters moment h = record { a = moment.a; b = moment.b; within = h.within; some = h.some; inside = h.inside }

@@ -22,6 +22,7 @@ pub mod Safety
 pub mod LeastPlans
 pub mod Prefixes
 pub mod Readiness
+pub mod UnreadyTexts
 pub mod KnownStates
 pub mod NearVessels
 pub mod PlanSituations

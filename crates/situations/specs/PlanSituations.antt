@@ -73,4 +73,5 @@ module _ (numbers : JudgingNumbers) (messages : List Sent) (scenario : Scenario)
     act = scenario.act;
     lattice = own.lattice;
     tick = scenario.window.tick;
+    shape = own.shape;
   }

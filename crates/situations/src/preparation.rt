@@ -185,6 +185,7 @@ pub fn prepare(alloc: Global, scenario: Scenario, book: &Book) -> Result<Prepare
         act,
         lattice: own.lattice,
         tick: window.tick,
+        shape: own.shape,
     };
     Ok(Prepared {
         ready,

@@ -5,9 +5,12 @@ ghost use Rattle.tracks.specs.Standing.{IsAccepted};
 ghost use Rattle.situations.specs.Readiness.{is_fresh, readiness_by, with_course};
 ghost use Rattle.situations.specs.Inner.Facts.{IsReady};
 
+use std::error::Error;
+use std::fmt;
 use tracks::Accepted;
 
 /// Why own ship cannot be planned for at now. The times are those of her latest accepted report, in seconds since the Unix epoch.
+/// It is printed as `no point`, `no course` or `no speed`.
 #[derive(Clone, Copy, Debug, PartialEq, Eq)]
 pub enum Unready {
     /// She has no accepted report at most the gap old: this is the time of her latest, if she has any.
@@ -17,6 +20,23 @@ pub enum Unready {
     /// It tells a course, but no speed.
     NoSpeed(u64),
 }
+
+impl fmt::Display for Unready {
+    ghost use Rattle.std.specs.Prelude.{Some};
+    ghost use Rattle.situations.specs.UnreadyTexts.{unready_text};
+
+    ghost output = { λ why. Some (unready_text why) };
+
+    fn fmt<W: fmt::Write>(&self, f: &mut fmt::Formatter<W>) -> fmt::Result {
+        f.write_str(match self {
+            Unready::NoPoint(_) => "no point",
+            Unready::NoCourse(_) => "no course",
+            Unready::NoSpeed(_) => "no speed",
+        })
+    }
+}
+
+impl Error for Unready {}
 
 /// What own ship is planned from.
 #[derive(Clone, Copy, Debug, PartialEq, Eq)]

@@ -2,6 +2,7 @@
 use crate::domain::Domain;
 use crate::lists::{Ahead, Past, Targets};
 use encounters::{Act, Detect};
+use hull_domains::Shape;
 use lattice::Lattice;
 use motion::TickState;
 use rule_set::RuleSet;
@@ -15,7 +16,7 @@ pub struct Target {
     pub past: Past,
     /// How she is predicted at the ticks from now on, up to the last planned one.
     pub ahead: Ahead,
-    /// The water round her that own ship is to stay out of.
+    /// The water round her that own ship is to stay out of, where the situation's shape does not stand for it.
     pub domain: Domain,
 }
 
@@ -38,4 +39,6 @@ pub struct Situation {
     pub lattice: Lattice,
     /// The length of a tick, at most 60 s.
     pub tick: u32,
+    /// The domain of each target in a step at whose first tick she has a direction, with which it turns. `None` where domains are circles.
+    pub shape: Option<Shape>,
 }

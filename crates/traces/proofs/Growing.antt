@@ -5,8 +5,9 @@ use Rattle.std.proofs.lemmas.List.{map-append}
 use Rattle.std.proofs.lemmas.List.Elements.{Contains-append_left, Contains-append_right, Contains-append_cases}
 use Rattle.meetings.specs.declared.pair.Pair.{Pair}
 use Rattle.traces.specs.Audited.{AuditNumbers, Sighting}
-use Rattle.traces.specs.Inner.TracesKept.{Follows}
+use Rattle.traces.specs.Inner.TracesKept.{Follows, Holds}
 use Rattle.traces.specs.Known.{IsFollowed, Known, opened, pairs_of}
+use Rattle.traces.specs.declared.all_traces.AllTraces.{AllTraces}
 use Rattle.traces.specs.declared.followed_trace.FollowedTrace.{FollowedTrace}
 use Rattle.traces.proofs.Members.{in_cons, in_head, in_none, in_tail}
 
@@ -83,3 +84,18 @@ pub follows_at : (numbers : AuditNumbers) (items : List FollowedTrace) (front : 
 follows_at numbers items front known back index trace e at z =
     subst (λ (t : FollowedTrace). Follows numbers t known) (sym e)
     (subst (λ (n : ℕ). Follows numbers (get_or items n trace) known) (sym at) (zip_at (Follows numbers) items front known back trace z))
+
+-- Where the trace at an index changes, and its pair does not, the traces stand for the changed ones, and the pairs are theirs.
+pub trace_changed : (kept : AllTraces) (numbers : AuditNumbers) (front back : List Known) (known after : Known) (index : ℕ) (trace : FollowedTrace) → after.pair ≡ known.pair
+    → index ≡ length front → Holds kept numbers (front ++ known ∷ back) → Follows numbers trace after
+    → AllZip (Follows numbers) (set kept.traces.items index trace) (front ++ after ∷ back)
+    × ((pair : Pair) → Contains kept.pairs.keys pair ↔ Contains (pairs_of (front ++ after ∷ back)) pair)
+trace_changed kept numbers front back known after index trace of_pair at h now =
+    let same = pairs_changed front back known after of_pair in (
+      subst (λ (n : ℕ). AllZip (Follows numbers) (set kept.traces.items n trace) (front ++ after ∷ back)) (sym at)
+          (zip_set (Follows numbers) kept.traces.items front known back trace after h.traces now),
+      λ pair. (
+        λ i. subst (λ (ps : List Pair). Contains ps pair) (sym same) ((h.pairs pair).0 i),
+        λ i. (h.pairs pair).1 (subst (λ (ps : List Pair). Contains ps pair) same i),
+      ),
+    )

@@ -4,13 +4,10 @@ use Rattle.std.specs.List.{AllByRecursion, AllPairs, Contains}
 use Rattle.mtl_formulas.specs.declared.atom.Atom.{Atom}
 use Rattle.mtl_formulas.specs.declared.verdict.Verdict.{Verdict}
 use Rattle.mtl_monitor.specs.Traces.{Trace}
-use Rattle.encounters.specs.Standing.{IsStateAfter}
 use Rattle.encounters.specs.declared.pair_step.PairStep.{PairStep}
-use Rattle.meetings.specs.Answers.{answer_of}
 use Rattle.meetings.specs.Atoms.{AreAtomRows, IsAtomRow}
 use Rattle.meetings.specs.declared.pair.Pair.{Pair}
 use Rattle.traces.specs.Audited.{Begins, AuditNumbers, Sighting, step_of, terms_of, trace_steps}
-use Rattle.traces.specs.declared.followed_trace.NextRow.{NextRow}
 
 -- a trace by its steps so far, and what they answer to the atoms
 pub record Known : Type 0 where
@@ -45,13 +42,6 @@ pub record AreKnown (numbers : AuditNumbers) (ticks : List Sighting) (knowns : L
   pub once : AllPairs ◌≢◌ (pairs_of knowns)
 
 -- ---- their next steps
-
--- The row is that of the next step of the trace, with the state of the engagement before the step and at it.
-pub record IsNextRow (numbers : AuditNumbers) (known : Known) (step : Option PairStep) (next : NextRow) : Type 0 where
-  pub seen : next.seen ≡ step
-  pub was : IsStateAfter numbers.detect known.steps next.was
-  pub is : IsStateAfter numbers.detect (known.steps ++ step ∷ []) next.is
-  pub row : IsAtomRow (terms_of numbers) (known.steps ++ step ∷ []) (length known.steps) (answer_of next.row)
 
 -- The trace is the same with its step from the one sighting to the next.
 pub record IsFollowed (numbers : AuditNumbers) (before seen : Sighting) (known after : Known) : Type 0 where

@@ -1,21 +1,25 @@
 //! All traces of a window, tick by tick.
-ghost use Rattle.std.specs.Prelude.{ℕ, ◌≡◌, ◌+◌, ◌<◌, ◌≤◌, ◌++◌, ◌∷◌, ◌^◌, [], List, length, Err, IfOk, OnOk};
+ghost use Rattle.std.specs.Prelude.{ℕ, ◌≡◌, ◌+◌, ◌<◌, ◌≤◌, ◌++◌, ◌∷◌, ◌^◌, [], List, length, Err, IfOk, IfSome, OnOk};
 ghost use Rattle.std.specs.List.{AllZip, Contains};
+ghost use Rattle.std.specs.Option.{option_copied};
+ghost use Rattle.encounters.specs.Directions.{HaveDirections};
 ghost use Rattle.encounters.specs.Risk.{IsDetect};
+ghost use Rattle.encounters.specs.Standing.{IsStateAfter};
 ghost use Rattle.meetings.specs.Answers.{answer_of};
+ghost use Rattle.meetings.specs.Atoms.{IsAtomRow};
 ghost use Rattle.meetings.specs.declared.pair.Pair.{Pair};
-ghost use Rattle.traces.specs.Audited.{AreAscending, ArePlaced, AuditNumbers, MoveLittle, Sighting, last_sighting, step_of};
+ghost use Rattle.traces.specs.Audited.{AreAscending, ArePlaced, AuditNumbers, MoveLittle, Sighting, last_sighting, step_of, terms_of};
 ghost use Rattle.traces.specs.Inner.TracesKept.{AreBegun, AreKnownOn, AreTooMany, HaveBegunNow, Holds, IsBeginning, IsNextTick, IsTaken, MayBegin, MayTake};
-ghost use Rattle.traces.specs.Known.{AreKnown, IsFollowed, IsNextRow, Known, opened, pairs_of, watched};
+ghost use Rattle.traces.specs.Known.{AreKnown, IsFollowed, Known, opened, pairs_of, watched};
 ghost use Rattle.traces.specs.Standing.{HaveBegun, HaveMoreThan, IsSound, StandsFor, given_of, last_tick_of, latest_sighting, traces_of};
 ghost use Rattle.traces.specs.declared.fault.TickFault.TheVariants.{TooManyPairs};
 
 use crate::contact_pairs::contacts;
 use crate::fault::TickFault;
-use crate::followed_trace::{FollowedTrace, NextRow};
+use crate::followed_trace::FollowedTrace;
 use crate::known_pairs::{add, is_among, is_chosen};
-use encounters::{Act, Detect};
-use meetings::Pair;
+use encounters::{Act, Detect, EngagementState, PairStep};
+use meetings::{AtomRow, Pair};
 use motion::TickState;
 use outside::Memory;
 use std::alloc::Global;
@@ -56,6 +60,9 @@ impl AllTraces {
         requires ticks { last_tick ≤ 20000 }
         ensures sound { IfOk result (λ traces. IsSound traces) }
         ensures none { IfOk result (λ traces. traces_of traces ≡ 0) }
+        ensures given { IfOk result (λ traces. given_of traces ≡ 0) }
+        ensures last_tick { IfOk result (λ traces. last_tick_of traces ≡ last_tick) }
+        ensures latest { IfOk result (λ traces. latest_sighting traces ≡ []) }
         ensures stands { IfOk result (λ traces. (numbers : AuditNumbers) → numbers.detect ≡ detect → numbers.act ≡ act → numbers.tick ≡ tick
             → numbers.last_tick ≡ last_tick → numbers.subjects ≡ subjects.now → StandsFor traces numbers [] []) }
     {
@@ -103,10 +110,10 @@ impl AllTraces {
         self.traces[index].pair
     }
 
-    /// Takes the next step of the trace with this index, from the latest tick to the one at which these vessels are seen, and gives
-    /// its row. It is asked of each trace once before the tick is taken.
+    /// The next step of the trace with this index: from the latest tick to the one at which these vessels are seen. `None` where
+    /// either vessel is not seen at either.
     #[inline(always)]
-    pub fn next_row(&mut self, index: usize, seen: &[(u32, TickState)]) -> NextRow
+    pub fn next_step(&mut self, index: usize, seen: &[(u32, TickState)]) -> Option<PairStep>
         requires sound { IsSound self.old }
         requires within { index < traces_of self.old }
         requires ascending { AreAscending seen.now }
@@ -117,14 +124,46 @@ impl AllTraces {
         ensures last_tick { last_tick_of self.new ≡ last_tick_of self.old }
         ensures latest { latest_sighting self.new ≡ latest_sighting self.old }
         ensures as_many { traces_of self.new ≡ traces_of self.old }
+        ensures directions { IfSome result HaveDirections }
+        ensures step { (numbers : AuditNumbers) (ticks : List Sighting) (front : List Known) (known : Known) (back : List Known)
+            → StandsFor self.old numbers ticks (front ++ known ∷ back) → index ≡ length front
+            → result ≡ step_of known.pair (latest_sighting self.old) seen.now }
+        ensures stands { (numbers : AuditNumbers) (ticks : List Sighting) (front : List Known) (known : Known) (back : List Known)
+            → StandsFor self.old numbers ticks (front ++ known ∷ back) → index ≡ length front
+            → StandsFor self.new numbers ticks (front ++ known ∷ back) }
+    {
+        self.traces[index].next_step(&self.latest, seen)
+    }
+
+    /// Takes a step of the trace with this index, and gives its row. Each trace takes its next step once before the tick is taken.
+    #[inline(always)]
+    pub fn take_step(&mut self, index: usize, step: Option<&PairStep>) -> AtomRow
+        requires sound { IsSound self.old }
+        requires within { index < traces_of self.old }
+        requires directions { IfSome (option_copied step) HaveDirections }
+        ensures sound { IsSound self.new }
+        ensures given { given_of self.new ≡ given_of self.old }
+        ensures last_tick { last_tick_of self.new ≡ last_tick_of self.old }
+        ensures latest { latest_sighting self.new ≡ latest_sighting self.old }
+        ensures as_many { traces_of self.new ≡ traces_of self.old }
         ensures row { (numbers : AuditNumbers) (ticks : List Sighting) (front : List Known) (known : Known) (back : List Known)
             → StandsFor self.old numbers ticks (front ++ known ∷ back) → index ≡ length front → length known.steps < 2 ^ 31
-            → IsNextRow numbers known (step_of known.pair (latest_sighting self.old) seen.now) result }
+            → IsAtomRow (terms_of numbers) (known.steps ++ option_copied step.entry ∷ []) (length known.steps) (answer_of result) }
         ensures stands { (numbers : AuditNumbers) (ticks : List Sighting) (front : List Known) (known : Known) (back : List Known)
             → StandsFor self.old numbers ticks (front ++ known ∷ back) → index ≡ length front → length known.steps < 2 ^ 31
-            → StandsFor self.new numbers ticks (front ++ watched known (step_of known.pair (latest_sighting self.old) seen.now) (answer_of result.row) ∷ back) }
+            → StandsFor self.new numbers ticks (front ++ watched known (option_copied step.entry) (answer_of result) ∷ back) }
     {
-        self.traces[index].next_row(&self.latest, seen)
+        self.traces[index].take_step(step)
+    }
+
+    /// The state of the engagement of the trace with this index, at its latest step; apart before the first.
+    #[inline(always)]
+    pub fn state(&self, index: usize) -> EngagementState
+        requires { index < traces_of self.now }
+        ensures { (numbers : AuditNumbers) (ticks : List Sighting) (front : List Known) (known : Known) (back : List Known)
+            → StandsFor self.now numbers ticks (front ++ known ∷ back) → index ≡ length front → IsStateAfter numbers.detect known.steps result }
+    {
+        self.traces[index].state()
     }
 
     /// Takes the next tick, of whose vessels these are seen, in the order of their MMSIs, where all traces have taken their step to it:

@@ -1,29 +1,19 @@
 //! One trace: its next step, and what that answers to the atoms.
-ghost use Rattle.std.specs.Prelude.{◌≡◌, ◌<◌, ◌^◌, length, IfSome};
+ghost use Rattle.std.specs.Prelude.{◌≡◌, ◌<◌, ◌^◌, ◌++◌, ◌∷◌, [], length, IfSome};
+ghost use Rattle.std.specs.Option.{option_copied};
 ghost use Rattle.encounters.specs.Directions.{HaveDirections};
 ghost use Rattle.encounters.specs.Risk.{IsDetect};
+ghost use Rattle.encounters.specs.Standing.{IsStateAfter};
 ghost use Rattle.meetings.specs.Answers.{answer_of};
-ghost use Rattle.traces.specs.Audited.{AreAscending, ArePlaced, AuditNumbers, MoveLittle, step_of};
+ghost use Rattle.meetings.specs.Atoms.{IsAtomRow};
+ghost use Rattle.traces.specs.Audited.{AreAscending, ArePlaced, AuditNumbers, MoveLittle, step_of, terms_of};
 ghost use Rattle.traces.specs.Inner.TracesKept.{Follows};
-ghost use Rattle.traces.specs.Known.{IsNextRow, Known, opened, watched};
+ghost use Rattle.traces.specs.Known.{Known, opened, watched};
 
 use crate::sightings::state_near;
 use encounters::{Act, Detect, EngagementState, PairStep};
 use meetings::{AtomRow, Follower, Pair, step_between};
 use motion::TickState;
-
-/// What the next step of a trace brings.
-#[derive(Drop)]
-pub struct NextRow {
-    /// The step: `None` where either vessel is not seen at either tick.
-    pub seen: Option<PairStep>,
-    /// What it answers to the atoms.
-    pub row: AtomRow,
-    /// The state of the engagement before the step.
-    pub was: EngagementState,
-    /// The state at it.
-    pub is: EngagementState,
-}
 
 /// One trace: its pair, its first step, and the engagement. It stands for the steps so far.
 #[derive(Drop)]
@@ -54,7 +44,7 @@ impl FollowedTrace {
     /// Its next step, from the one sighting to the next: `None` where either vessel is not seen at either. It still stands for the
     /// steps so far, and only remembers where the vessels are.
     #[inline(always)]
-    fn next_step(
+    pub(crate) fn next_step(
         &mut self,
         before: &[(u32, TickState)],
         seen: &[(u32, TickState)],
@@ -76,27 +66,23 @@ impl FollowedTrace {
         step_between(a0, b0, a1, b1)
     }
 
-    /// Takes its next step, from the one sighting to the next, and gives its row.
+    /// Takes this step, and gives its row.
     #[inline(always)]
-    pub(crate) fn next_row(
-        &mut self,
-        before: &[(u32, TickState)],
-        seen: &[(u32, TickState)],
-    ) -> NextRow
-        requires before_ascending { AreAscending before.now }
-        requires before_placed { ArePlaced before.now }
-        requires ascending { AreAscending seen.now }
-        requires placed { ArePlaced seen.now }
-        requires moves { MoveLittle before.now seen.now }
+    pub(crate) fn take_step(&mut self, step: Option<&PairStep>) -> AtomRow
+        requires { IfSome (option_copied step) HaveDirections }
         ensures row { (numbers : AuditNumbers) (known : Known) → Follows numbers self.old known → length known.steps < 2 ^ 31
-            → IsNextRow numbers known (step_of known.pair before.now seen.now) result }
+            → IsAtomRow (terms_of numbers) (known.steps ++ option_copied step.entry ∷ []) (length known.steps) (answer_of result) }
         ensures follows { (numbers : AuditNumbers) (known : Known) → Follows numbers self.old known → length known.steps < 2 ^ 31
-            → Follows numbers self.new (watched known (step_of known.pair before.now seen.now) (answer_of result.row)) }
+            → Follows numbers self.new (watched known (option_copied step.entry) (answer_of result)) }
     {
-        let seen = self.next_step(before, seen);
-        let was = self.follower.state();
-        let row = self.follower.step(seen.as_ref());
-        let is = self.follower.state();
-        NextRow { seen, row, was, is }
+        self.follower.step(step)
+    }
+
+    /// The state of the engagement at its latest step; apart before the first.
+    #[inline(always)]
+    pub(crate) fn state(&self) -> EngagementState
+        ensures { (numbers : AuditNumbers) (known : Known) → Follows numbers self.now known → IsStateAfter numbers.detect known.steps result }
+    {
+        self.follower.state()
     }
 }

@@ -1,7 +1,7 @@
 //! The traces of ordered pairs of vessels: which of those seen at a tick are in contact, when the trace of each audited pair begins,
 //! and each trace's rows of atoms, one step after the other.
 //!
-//! At each tick the next row of every trace is asked, whatever is made of it, and then the tick is taken, which begins the traces of
+//! At each tick every trace takes its next step, which gives a row of atoms, and then the tick is taken, which begins the traces of
 //! the pairs that are in contact for the first time.
 #![tactic(auto)]
 
@@ -15,5 +15,4 @@ mod sightings;
 pub use all_traces::{AllTraces, MOST_TRACES};
 pub use contact_pairs::contacts;
 pub use fault::TickFault;
-pub use followed_trace::NextRow;
 pub use sightings::state_of;

@@ -12,7 +12,7 @@ use Rattle.command_line.specs.declared.request.Request.{Request}
 use Rattle.log_lines.specs.JudgedLines.{greatest_held}
 use Rattle.situations.specs.PlanSituations.{greatest_targets}
 use Rattle.scenario.specs.declared.values.Scenario.{Scenario}
-use Rattle.settling.specs.SettledTicks.{greatest_traces}
+use Rattle.traces.specs.declared.all_traces.TheConstants.{MOST_TRACES}
 use Rattle.sessions.specs.Endings.{IsAnswerTo}
 use Rattle.sessions.specs.Modes.{reads_log}
 use Rattle.sessions.specs.Refusals.{IsStopped, IsUnrefused}
@@ -37,7 +37,7 @@ abbrev pub stream_status : StreamFault → ℕ → Status
 stream_status fault.NotRead most = status.ReadFault
 stream_status fault.NotWritten most = status.WriteFault
 stream_status (fault.Unreported why.Vessels) most = status.Limit which.Vessels greatest_held
-stream_status (fault.Unreported why.Pairs) most = status.Limit which.Pairs greatest_traces
+stream_status (fault.Unreported why.Pairs) most = status.Limit which.Pairs MOST_TRACES
 stream_status (fault.Unreported why.LogBytes) most = status.Limit which.Log most
 stream_status (fault.Unreported (why.Own lack)) most = status.OwnUnready lack
 stream_status (fault.Unreported why.Targets) most = status.Limit which.Targets greatest_targets

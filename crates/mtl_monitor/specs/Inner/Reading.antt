@@ -1,10 +1,14 @@
 -- The nodes of atoms, which are read at each row.
-use Rattle.std.specs.Prelude.{◌≡◌, ◌≢◌, ℕ, ◌<◌, List, [], ◌∷◌, ◌++◌, length, get_or, ◌⊎◌}
+use Rattle.std.specs.Prelude.{◌≡◌, ◌≢◌, ℕ, ◌<◌, Bool, true, false, List, [], ◌∷◌, ◌++◌, length, get_or, ◌⊎◌, is_none, IfSome}
 use Rattle.std.specs.Coded.{le_prop}
+use Rattle.std.proofs.Math.Bool.{Bool-set}
 use Rattle.mtl_formulas.specs.declared.atom.Atom.{Atom}
 use Rattle.mtl_formulas.specs.declared.atom.Atom.TheVariants.{Always}
 use Rattle.mtl_formulas.specs.declared.verdict.Verdict.{Verdict}
+use Rattle.mtl_formulas.specs.declared.glance.Glance.{Glance}
+use Rattle.mtl_formulas.specs.declared.glance.Glance.TheVariants.{Nothing, Apart}
 use Rattle.mtl_formulas.specs.FormulaMeasures.{IsValidAtom}
+use Rattle.mtl_formulas.specs.Glances.{told_by}
 use Rattle.mtl_monitor.specs.declared.node.AtomNode.{AtomNode}
 use Rattle.mtl_monitor.specs.declared.node.Operator.{Operator}
 use Rattle.mtl_monitor.specs.declared.node.Operator.TheVariants as op
@@ -19,22 +23,40 @@ atom_node index atom = record { index = index; atom = atom }
 abbrev pub atom_at : List AtomNode → ℕ → AtomNode
 atom_at atoms j = get_or atoms j (atom_node 0 Always)
 
--- A node of an atom is in the list.
-abbrev pub IsListed : List AtomNode → Operator → ℕ → Type 0
-IsListed atoms (op.Atom a) k = (j : ℕ) × (j < length atoms × (atom_at atoms j ≡ atom_node k a))
-IsListed atoms _ k = Unit {0}
+-- whether a glance leaves the answer to an atom open
+abbrev pub is_untold : Glance → Atom → Bool
+is_untold glance a = is_none (told_by glance a)
 
-abbrev pub AreListed : List ProgramNode → List AtomNode → Type 0
-AreListed nodes atoms = (k : ℕ) → k < length nodes → IsListed atoms (node_at nodes k).operator k
+-- A node of an atom whose answer the glance leaves open is in the list.
+abbrev pub IsListed : Glance → List AtomNode → Operator → ℕ → Type 0
+IsListed glance atoms (op.Atom a) k = is_untold glance a ≡ true → (j : ℕ) × (j < length atoms × (atom_at atoms j ≡ atom_node k a))
+IsListed glance atoms _ k = Unit {0}
 
--- A node is added to the list, if it is that of an atom.
-abbrev pub Lists : List AtomNode → List AtomNode → Operator → ℕ → Type 0
-Lists old new (op.Atom a) index = new ≡ old ++ atom_node index a ∷ []
-Lists old new _ index = new ≡ old
+abbrev pub AreListed : Glance → List ProgramNode → List AtomNode → Type 0
+AreListed glance nodes atoms = (k : ℕ) → k < length nodes → IsListed glance atoms (node_at nodes k).operator k
+
+-- All atoms are in the one list, and those to be asked where the vessels are apart in the other.
+pub record AreAllListed (nodes : List ProgramNode) (atoms asked : List AtomNode) : Type 0 where
+  pub all : AreListed Nothing nodes atoms
+  pub apart : AreListed Apart nodes asked
+
+abbrev pub ListsIf : Bool → List AtomNode → List AtomNode → AtomNode → Type 0
+ListsIf true old new node = new ≡ old ++ node ∷ []
+ListsIf false old new node = new ≡ old
+
+-- A node is added to the list, if it is that of an atom whose answer the glance leaves open.
+abbrev pub Lists : Glance → List AtomNode → List AtomNode → Operator → ℕ → Type 0
+Lists glance old new (op.Atom a) index = ListsIf (is_untold glance a) old new (atom_node index a)
+Lists glance old new _ index = new ≡ old
 
 abbrev pub IsAtom : Operator → Type 0
 IsAtom (op.Atom a) = Unit {0}
 IsAtom _ = ⊥
+
+-- The glance leaves the answer to the node's atom open.
+abbrev pub IsUntold : Glance → Operator → Type 0
+IsUntold glance (op.Atom a) = is_untold glance a ≡ true
+IsUntold glance _ = ⊥
 
 -- A valid atom of a node among the first n, after all that stand before it in the list.
 abbrev pub IsPlaced : List AtomNode → ℕ → ℕ → Type 0
@@ -44,21 +66,36 @@ IsPlaced atoms n j =
 abbrev pub ArePlaced : List AtomNode → ℕ → Type 0
 ArePlaced atoms n = (j : ℕ) → j < length atoms → IsPlaced atoms n j
 
--- The atoms are those of nodes among the first n.
-abbrev pub AreReadable : List ProgramNode → ℕ → List AtomNode → Type 0
-AreReadable nodes n atoms = (j : ℕ) → j < length atoms → IsPlaced atoms n j × IsAtom (node_at nodes (atom_at atoms j).index).operator
+-- The atoms are those of nodes among the first n, and the glance leaves their answers open.
+abbrev pub AreReadable : Glance → List ProgramNode → ℕ → List AtomNode → Type 0
+AreReadable glance nodes n atoms = (j : ℕ) → j < length atoms → IsPlaced atoms n j × IsUntold glance (node_at nodes (atom_at atoms j).index).operator
 
-IsAtom-prop : (o : Operator) → IsProp (IsAtom o)
-IsAtom-prop (op.Atom a) = hlevel
-IsAtom-prop (op.Not a) = hlevel
-IsAtom-prop (op.Pair kind a b) = hlevel
-IsAtom-prop (op.Late cells from a) = hlevel
-IsAtom-prop (op.Window kind width from a) = hlevel
-IsAtom-prop (op.Since width lower from a b) = hlevel
-IsAtom-prop (op.Until from full lower a behind b) = hlevel
+IsUntold-prop : (glance : Glance) (o : Operator) → IsProp (IsUntold glance o)
+IsUntold-prop glance (op.Atom a) = hlevel Bool-set
+IsUntold-prop glance (op.Not a) = hlevel
+IsUntold-prop glance (op.Pair kind a b) = hlevel
+IsUntold-prop glance (op.Late cells from a) = hlevel
+IsUntold-prop glance (op.Window kind width from a) = hlevel
+IsUntold-prop glance (op.Since width lower from a b) = hlevel
+IsUntold-prop glance (op.Until from full lower a behind b) = hlevel
 
-pub AreReadable-prop : (nodes : List ProgramNode) (n : ℕ) (atoms : List AtomNode) → IsProp (AreReadable nodes n atoms)
-AreReadable-prop nodes n atoms = hlevel (le_prop, IsValidAtom-prop, IsAtom-prop)
+pub AreReadable-prop : (glance : Glance) (nodes : List ProgramNode) (n : ℕ) (atoms : List AtomNode) → IsProp (AreReadable glance nodes n atoms)
+AreReadable-prop glance nodes n atoms = hlevel (le_prop, IsValidAtom-prop, IsUntold-prop)
+
+-- The value of a node's atom is what the glance tells of it.
+abbrev pub IsKnown : Glance → Operator → Verdict → Type 0
+IsKnown glance (op.Atom a) v = IfSome (told_by glance a) (λ told. v ≡ told)
+IsKnown glance _ v = Unit {0}
+
+abbrev pub AreKnown : Glance → List ProgramNode → List Verdict → Type 0
+AreKnown glance nodes values = (k : ℕ) → k < length nodes → IsKnown glance (node_at nodes k).operator (value_at values k)
+
+-- These of the atoms are to be read, after a row and at one of which a glance tells this: all, or those that it leaves open at both.
+pub record AreToBeRead (nodes : List ProgramNode) (all asked : List AtomNode) (before now : Glance) (atoms : List AtomNode) : Type 0 where
+  pub told : Glance
+  pub of_both : (told ≡ Nothing) ⊎ ((told ≡ before) × (told ≡ now))
+  pub readable : AreReadable told nodes (length nodes) atoms
+  pub listed : AreAllListed nodes all asked → AreListed told nodes atoms
 
 -- The row answers each of the atoms with its node's value.
 abbrev pub AreRead : List AtomNode → List Verdict → (Atom → Verdict) → Type 0

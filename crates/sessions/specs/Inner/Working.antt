@@ -7,8 +7,13 @@ use Rattle.log_lines.specs.Standing.{StandsFor as JudgeStandsFor}
 use Rattle.log_lines.specs.declared.judge.Judge.{Judge}
 use Rattle.log_lines.specs.declared.judged.Judged.{Judged}
 use Rattle.scenario.specs.declared.values.Scenario.{Scenario}
-use Rattle.sessions.specs.Standing.{IsDone}
+use Rattle.sessions.specs.SettledText.{IsDecidedText}
+use Rattle.sessions.specs.Standing.{HasAudited, mode_by}
 use Rattle.sessions.specs.declared.work.Work.{Work}
+
+-- The work was done on these lines, and this text was given: the one that they decide.
+abbrev pub IsDone : Work → Scenario → List (List ℕ) → List ℕ → Type 0
+IsDone work scenario lines given = (decided : IsDecidedText (mode_by work) scenario lines given) × HasAudited work scenario lines given decided
 
 -- The work was done on some lines, and the judge has taken these and more.
 pub record Works (work : Work) (scenario : Scenario) (judge : Judge) (lines more : List (List ℕ)) : Type 0 where

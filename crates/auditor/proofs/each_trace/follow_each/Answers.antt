@@ -42,17 +42,18 @@ loop-index-preserved c =
     let many = inv.many in
     let test = c.loop-index-test.true in
     let within : i < length old = omega arith in
-    let next = c.next_row-next.ensures in
+    let found = c.next_step-next_step.ensures in
+    let taken = c.take_step-row.ensures in
     let was = inv.rest i c.index-values-index.result (omega arith) within in
     let few_was = was.few in
     let one_more = c.step.ensures.steps in
     let few_now : steps_of after ≤ c.args.traces.now.given + 1 = omega arith in
     record {
-      sound = next.sound;
-      given = next.given ∙ inv.given;
-      last_tick = next.last_tick ∙ inv.last_tick;
-      latest = next.latest ∙ inv.latest;
-      traces = next.as_many ∙ inv.traces;
+      sound = taken.sound;
+      given = taken.given ∙ found.given ∙ inv.given;
+      last_tick = taken.last_tick ∙ found.last_tick ∙ inv.last_tick;
+      latest = taken.latest ∙ found.latest ∙ inv.latest;
+      traces = taken.as_many ∙ found.as_many ∙ inv.traces;
       tracks_are = inv.tracks_are;
       few = omega arith;
       totals = c.step.ensures.as_many ∙ inv.totals;
@@ -64,10 +65,11 @@ loop-index-preserved c =
       ];
       rest = λ k d from lt. (let ne : k ≢ i = omega arith in let inside : k < length old = omega arith in rw get_or-set_other (inv.rest k d (omega arith) inside));
       holds = λ numbers ticks knowns bound given is are z at h.
-          under_way_more c.args.program.now numbers ticks c.args.seen.now c.args.step knowns bound given c.loop-index.traces c.next_row-next.new.self old c.loop-index.marks c.step.new.marks
-          c.loop-index.first i (c.formula_count-tracks.result + 1) c.index-values-index.result after c.next_row-next.result is inv.tracks_are within
-          (gives_row c.args.program.now numbers ticks c.args.seen.now c.args.step knowns bound given c.loop-index.traces c.next_row-next.new.self i c.next_row-next.result next.row next.stands)
+          under_way_more c.args.program.now numbers ticks c.args.seen.now c.args.step knowns bound given c.loop-index.traces c.take_step-row.new.self old c.loop-index.marks c.step.new.marks
+          c.loop-index.first i (c.formula_count-tracks.result + 1) c.index-values-index.result after _ is inv.tracks_are within
           c.in_ok-step.ensures.stands
+          (gives_row c.args.program.now numbers ticks c.args.seen.now c.args.step knowns bound given c.loop-index.traces c.next_step-next_step.new.self c.take_step-row.new.self i
+          c.next_step-next_step.result _ c.as_ref-pair_step.ensures.value c.state-was.ensures found.step found.stands taken.row taken.stands c.state-is.ensures)
           (inv.holds numbers ticks knowns bound given is are z at h);
     }
 

@@ -4,7 +4,7 @@ use Rattle.sessions.specs.Modes.{reads_log}
 use Rattle.colregs_program.specs.Answers.{HoldsUnder, IsRefusedBy, greatest_scenario}
 use Rattle.command_line.specs.declared.mode.Mode.{Mode}
 use Rattle.colregs_program.proofs.Due.{migration_due}
-use Rattle.colregs_program.proofs.Refusals.{bytes_told, calm_told, drill_status, drill_told, drills_too, keeps_same, log_decides, memory_failed, memory_front, met_is, migrates, no_migration, no_report, not_asked, not_set_up, nothing_told, own_told, pairs_told, put_told, read_told, reported_met, reported_so, runs, set_up_migrates, set_up_unfinished, targets_told, unread_too, vessels_told}
+use Rattle.colregs_program.proofs.Refusals.{bytes_told, calm_told, drill_status, drill_told, drills_too, keeps_same, limit_told, log_calm_told, log_decides, memory_failed, memory_front, met_is, migrates, no_migration, no_report, not_asked, not_set_up, nothing_told, own_told, pairs_told, put_told, read_told, reported_met, reported_so, runs, set_up_limit, set_up_migrates, set_up_unfinished, shelf_calm_told, stream_limit, targets_told, unread_too, vessels_told, words_limit}
 use Rattle.colregs_program.proofs.SettingUp.{options_in_range}
 use Rattle.colregs_program.specs.declared.status.Status.TheVariants as status
 use Rattle.colregs_program.proofs.program.run.Goals as goal
@@ -32,6 +32,11 @@ pub returns-in-Err-clause-fetched : goal.returns-in-Err-clause-fetched
 returns-in-Err-clause-fetched g c = λ request asks.
     let told = rw c.into.ensures at c.tell.ensures.same in
     inr (memory_failed c.args.words.now (Err c.in-Err.fault) c.in-Err.fault _ _ refl told request (c.in-Err.ensures.accepted request asks), refl)
+
+pub returns-in-Err-clause-limits : goal.returns-in-Err-clause-limits
+returns-in-Err-clause-limits g c =
+    let told = rw c.into.ensures at c.tell.ensures.same in
+    limit_told _ _ _ told (words_limit c.in-Err.fault)
 
 -- ---- a migration
 
@@ -67,6 +72,16 @@ pub returns-then-not-reports-clause-unfetched : goal.returns-then-not-reports-cl
 returns-then-not-reports-clause-unfetched g c = λ nothing. absurd (asked_or_nothing c.args.words.now c.in-Ok.request c.in-Ok.ensures.asked nothing)
 
 -- ---- no scenario
+
+pub returns-in-Err-set_up-clause-shelf_calm : goal.returns-in-Err-set_up-clause-shelf_calm
+returns-in-Err-set_up-clause-shelf_calm g c = λ not.
+    let told = rw c.into-in-Err-set_up.ensures at c.tell-in-Err-set_up.ensures.same in
+    shelf_calm_told c.in-Err-set_up.fault _ _ _ _ told not (λ made. made) (λ had. c.in-Err-set_up.ensures.calm (λ is. had (cc is)))
+
+pub returns-in-Err-set_up-clause-limits : goal.returns-in-Err-set_up-clause-limits
+returns-in-Err-set_up-clause-limits g c =
+    let told = rw c.into-in-Err-set_up.ensures at c.tell-in-Err-set_up.ensures.same in
+    limit_told _ _ _ told (set_up_limit c.in-Err-set_up.fault)
 
 pub returns-in-Err-set_up-clause-due : goal.returns-in-Err-set_up-clause-due
 returns-in-Err-set_up-clause-due g c = λ due is shelf source sink.
@@ -165,7 +180,26 @@ returns-in-Err-report_on-clause-calm g c = λ not.
     let told = rw c.stream_status.ensures at c.tell-in-Err-report_on.ensures.same in
     calm_told c.in-Err-report_on.fault _ _ _ _ _ told not (λ made. made) c.in-Err-report_on.ensures.out_faults
 
+pub returns-in-Err-report_on-clause-log_calm : goal.returns-in-Err-report_on-clause-log_calm
+returns-in-Err-report_on-clause-log_calm g c = λ not.
+    let told = rw c.stream_status.ensures at c.tell-in-Err-report_on.ensures.same in
+    log_calm_told c.in-Err-report_on.fault _ _ _ _ _ told not (λ made. made) c.in-Err-report_on.ensures.log_faults
+
+pub returns-in-Err-report_on-clause-shelf_calm : goal.returns-in-Err-report_on-clause-shelf_calm
+returns-in-Err-report_on-clause-shelf_calm g c = λ not. c.in-Ok-set_up.ensures.calm (λ is. cc is)
+
+pub returns-in-Err-report_on-clause-limits : goal.returns-in-Err-report_on-clause-limits
+returns-in-Err-report_on-clause-limits g c =
+    let told = rw c.stream_status.ensures at c.tell-in-Err-report_on.ensures.same in
+    limit_told _ _ _ told (stream_limit c.in-Err-report_on.fault _)
+
 -- ---- a report
+
+pub returns-then-none-clause-shelf_calm : goal.returns-then-none-clause-shelf_calm
+returns-then-none-clause-shelf_calm g c = λ not. c.in-Ok-set_up.ensures.calm (λ is. cc is)
+
+pub returns-clause-shelf_calm : goal.returns-clause-shelf_calm
+returns-clause-shelf_calm g c = λ not. c.in-Ok-set_up.ensures.calm (λ is. cc is)
 
 pub returns-then-none-clause-headline : goal.returns-then-none-clause-headline
 returns-then-none-clause-headline g c = λ finished.

@@ -1,8 +1,8 @@
-use Rattle.std.proofs.Common.{inr, Ok, Err, subst, sym, IsTrue}
+use Rattle.std.proofs.Common.{◌≡◌, ◌∙◌, inr, Ok, Err, None, subst, sym, IsTrue}
 use Rattle.std.specs.Prelude.{IsSome}
 use Rattle.scenario.specs.ScenarioValues.{IsInRange}
 use Rattle.scenario.specs.declared.values.Scenario.{Scenario}
-use Rattle.colregs_program.proofs.SettingUp.{due-from_read, in_range, own_needed}
+use Rattle.colregs_program.proofs.SettingUp.{due-from_read, in_range, own_needed, own_unneeded}
 use Rattle.colregs_program.proofs.set_up.set_up.Goals as goal
 
 pub returns-in-Ok-clause-due : goal.returns-in-Ok-clause-due
@@ -21,6 +21,10 @@ pub returns-in-Ok-clause-own : goal.returns-in-Ok-clause-own
 returns-in-Ok-clause-own g c = λ needed.
     subst (λ (s : Scenario). IsSome s.own) (sym c.with_options.ensures)
     (own_needed c.needs_own.result _ c.in-Ok.scenario (subst IsTrue (sym c.needs_own.ensures) needed) c.in-Ok.ensures.values)
+
+pub returns-in-Ok-clause-unneeded : goal.returns-in-Ok-clause-unneeded
+returns-in-Ok-clause-unneeded g c = λ unneeded.
+    subst (λ (s : Scenario). s.own ≡ None) (sym c.with_options.ensures) (own_unneeded c.needs_own.result _ c.in-Ok.scenario (c.needs_own.ensures ∙ unneeded) c.in-Ok.ensures.values)
 
 pub returns-in-Ok-clause-in_range : goal.returns-in-Ok-clause-in_range
 returns-in-Ok-clause-in_range g c =

@@ -2,7 +2,7 @@ use Rattle.std.proofs.Common.{◌∙◌, Ok, refl, ap, arith}
 use Rattle.std.proofs.lemmas.Result.{IfOk-weaker}
 use Rattle.outside.proofs.ForCallers.{err_cause}
 use Rattle.scenario.specs.declared.values.Scenario.{Scenario}
-use Rattle.colregs_program.proofs.StreamedReports.{cause_by, none_begun, reports_by, written_from}
+use Rattle.colregs_program.proofs.StreamedReports.{cause_by, for_itself, none_begun, reports_by, written_from}
 use Rattle.colregs_program.proofs.streaming.write_report.Goals as goal
 
 pub returns-in_err-session-clause-cause : goal.returns-in_err-session-clause-cause
@@ -17,7 +17,7 @@ pub loop-block-init : goal.loop-block-init
 loop-block-init g c = record {
   room = (let long = c.in_ok-block.ensures in omega (arith, long));
   mode = c.in_ok-session.ensures.mode;
-  scenario = c.in_ok-session.ensures.scenario;
+  scenario = c.in_ok-session.ensures.scenario ∙ for_itself c.args.mode c.args.scenario c.requires.unneeded;
   written = written_from c.in_ok-session.session (g.S.Source.left c.args.log.now) (g.K.Sink.contents c.args.out.now) c.in_ok-session.ensures.stands;
   log_faults = refl;
   out_faults = refl;

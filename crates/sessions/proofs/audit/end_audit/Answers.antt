@@ -6,8 +6,9 @@ use Rattle.traces.specs.Standing.{HaveMoreThan}
 use Rattle.log_lines.specs.JudgedLines.{judged_lines, numbers_of}
 use Rattle.log_lines.specs.LogLines.{lines_of}
 use Rattle.log_lines.specs.SentLines.{sent}
-use Rattle.settling.specs.SettledTicks.{greatest_traces}
-use Rattle.settling.specs.Sightings.{audit_numbers, sighted}
+use Rattle.traces.specs.declared.all_traces.TheConstants.{MOST_TRACES}
+use Rattle.settled_ticks.specs.Sightings.{sighted}
+use Rattle.settling.specs.ScenarioAudit.{audit_numbers}
 use Rattle.sessions.specs.AuditReport.{rows_behind, sightings_of}
 use Rattle.sessions.proofs.AtEnds.{judged_parts, of_one_log, of_whole, whole_report}
 use Rattle.sessions.proofs.AuditText.{audit_cause, whole_text}
@@ -26,7 +27,7 @@ returns-in_err-end-clause-cause c =
     let scenario = c.args.scenario.now in
     let judge = c.args.judge.now in
     audit_cause scenario log c.in_err-end.field-0.0 of.judged.calm
-    (λ pairs. of_whole c.args.audit judge scenario log given of (λ (lines : List (List ℕ)). HaveMoreThan greatest_traces (audit_numbers scenario) (sighted scenario (sent scenario lines)))
+    (λ pairs. of_whole c.args.audit judge scenario log given of (λ (lines : List (List ℕ)). HaveMoreThan MOST_TRACES (audit_numbers scenario) (sighted scenario (sent scenario lines)))
     (c.end.ensures.many (c.in_err-end.was ∙ ap Err pairs) of.lines of.more given of.stands (judged_parts c.args.audit judge scenario log given of))))
 
 pub write_stretches-requires : goal.write_stretches-requires
@@ -68,7 +69,7 @@ returns-clause-answer c = λ log given of.
     let scenario = c.args.scenario.now in
     let judge = c.args.judge.now in
     audit_done scenario log of.judged.calm (λ many. c.in_ok-end.ensures.few of.lines of.more given of.stands (judged_parts c.args.audit judge scenario log given of)
-    (Rattle.std.proofs.Common.subst (λ (ls : List (List ℕ)). HaveMoreThan greatest_traces (audit_numbers scenario) (sighted scenario (sent scenario ls))) of.whole many))
+    (Rattle.std.proofs.Common.subst (λ (ls : List (List ℕ)). HaveMoreThan MOST_TRACES (audit_numbers scenario) (sighted scenario (sent scenario ls))) of.whole many))
 
 pub returns-in_err-write_totals-clause-cause : goal.returns-in_err-write_totals-clause-cause
 returns-in_err-write_totals-clause-cause c = err_cause _ _ _ c.from_residual-in_err-write_totals.ensures.1 (λ log given of. tt)

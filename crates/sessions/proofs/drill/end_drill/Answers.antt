@@ -7,8 +7,9 @@ use Rattle.traces.specs.Standing.{HaveMoreThan}
 use Rattle.log_lines.specs.JudgedLines.{judged_lines}
 use Rattle.log_lines.specs.LogLines.{lines_of}
 use Rattle.log_lines.specs.SentLines.{sent}
-use Rattle.settling.specs.SettledTicks.{greatest_traces}
-use Rattle.settling.specs.Sightings.{audit_numbers, sighted}
+use Rattle.traces.specs.declared.all_traces.TheConstants.{MOST_TRACES}
+use Rattle.settled_ticks.specs.Sightings.{sighted}
+use Rattle.settling.specs.ScenarioAudit.{audit_numbers}
 use Rattle.sessions.specs.AuditReport.{sightings_of, total_rows}
 use Rattle.sessions.specs.DrillReport.{drill_text}
 use Rattle.sessions.proofs.AtEnds.{judged_parts, of_one_log, of_whole}
@@ -27,7 +28,7 @@ returns-in_err-end-clause-cause c =
     let scenario = c.args.scenario.now in
     let judge = c.args.judge.now in
     drill_cause scenario log c.in_err-end.field-0.0 of.judged.calm
-    (λ pairs. of_whole c.args.audit judge scenario log [] of (λ (lines : List (List ℕ)). HaveMoreThan greatest_traces (audit_numbers scenario) (sighted scenario (sent scenario lines)))
+    (λ pairs. of_whole c.args.audit judge scenario log [] of (λ (lines : List (List ℕ)). HaveMoreThan MOST_TRACES (audit_numbers scenario) (sighted scenario (sent scenario lines)))
     (c.end.ensures.many (c.in_err-end.was ∙ ap Err pairs) of.lines of.more [] of.stands (judged_parts c.args.audit judge scenario log [] of))))
 
 pub write_totals-requires : goal.write_totals-requires
@@ -61,4 +62,4 @@ unfolding sightings_of
 returns-clause-answer c = λ log of.
     let scenario = c.args.scenario.now in
     drill_done scenario log of.judged.calm (λ many. c.in_ok-end.ensures.few of.lines of.more [] of.stands (judged_parts c.args.audit c.args.judge.now scenario log [] of)
-    (subst (λ (ls : List (List ℕ)). HaveMoreThan greatest_traces (audit_numbers scenario) (sighted scenario (sent scenario ls))) of.whole many))
+    (subst (λ (ls : List (List ℕ)). HaveMoreThan MOST_TRACES (audit_numbers scenario) (sighted scenario (sent scenario ls))) of.whole many))

@@ -72,6 +72,7 @@ returns-clause-prepared c = λ numbers messages stands.
       act = scenario.act;
       lattice = own.lattice;
       tick = window.tick;
+      shape = own.shape;
     } in
     let prepared : Prepared = record { ready = ready; near = c.in_ok-ready.near; situation = situation } in
     subst (λ (o : Option OwnPart). IfSome o (λ own. IsPrepared numbers messages scenario own prepared)) (sym c.unwrap-own.ensures) (record {
@@ -88,6 +89,7 @@ returns-clause-prepared c = λ numbers messages stands.
         act = scenario.act;
         lattice = own.lattice;
         tick = window.tick;
+        shape = own.shape;
       };
       sound = is_situation numbers messages scenario own vessel situation c.requires.in_range part grid found.own.1.fresh past c.in_ok-own_past.ensures.known start.state
           (ap (λ s. s.point) start.value) refl refl (record {

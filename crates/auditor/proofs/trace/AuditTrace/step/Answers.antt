@@ -14,16 +14,16 @@ use Rattle.auditor.proofs.trace.AuditTrace.step.Goals as goal
 pub returns-clause-stands : goal.returns-clause-stands
 returns-clause-stands c = on_ok_weaker c.mark_rules.result
     (λ marks numbers known seen before mine after bound given stands at of tracks e keeps.
-    let next = c.args.next.now in
-    let row = answer_of next.row in
+    let next = c.args.next in
+    let row = answer_of next.row.now in
     let count = stands.rows in
-    let same : option_copied c.as_ref.result ≡ seen = c.as_ref.ensures.value ∙ of.seen in
+    let same : option_copied next.seen ≡ seen = of.seen in
     let is_mark : IsMeetingMark numbers.detect (known.steps ++ seen ∷ []) (length known.steps) c.meeting_mark.result =
     subst (λ (o : Option PairStep). IsMeetingMark numbers.detect (known.steps ++ o ∷ []) (length known.steps) c.meeting_mark.result) same
-    (c.meeting_mark.ensures numbers.detect known.steps (subst (λ (o : Option PairStep). IsStateAfter numbers.detect (known.steps ++ o ∷ []) next.is) (sym same) of.is)) in
+    (c.meeting_mark.ensures numbers.detect known.steps (subst (λ (o : Option PairStep). IsStateAfter numbers.detect (known.steps ++ o ∷ []) next.is.now) (sym same) of.is)) in
     let begins = stands.start in
     let apart = c.stays_apart-apart.ensures in
-    let meets = meeting_marked numbers known seen c.meeting_mark.result next.was next.is c.stays_apart-apart.result c.args.first c.args.step
+    let meets = meeting_marked numbers known seen c.meeting_mark.result next.was.now next.is.now c.stays_apart-apart.result c.args.first c.args.step
     c.args.marks.now c.mark_or_repeat.new.marks at of.was of.is is_mark apart.was apart.is (λ rests. let later = apart.later rests in omega arith)
     c.in_ok-mark_or_repeat.ensures.keeps in
     stepped c.args.program.now numbers _ known seen row c.meeting_mark.result
@@ -38,16 +38,16 @@ returns-clause-stands c = on_ok_weaker c.mark_rules.result
 
 pub returns-then-has_answered-clause-stands : goal.returns-then-has_answered-clause-stands
 returns-then-has_answered-clause-stands c = λ numbers known seen before mine after bound given stands at of tracks e keeps.
-    let next = c.args.next.now in
-    let row = answer_of next.row in
+    let next = c.args.next in
+    let row = answer_of next.row.now in
     let count = stands.rows in
-    let same : option_copied c.as_ref.result ≡ seen = c.as_ref.ensures.value ∙ of.seen in
+    let same : option_copied next.seen ≡ seen = of.seen in
     let is_mark : IsMeetingMark numbers.detect (known.steps ++ seen ∷ []) (length known.steps) c.meeting_mark.result =
     subst (λ (o : Option PairStep). IsMeetingMark numbers.detect (known.steps ++ o ∷ []) (length known.steps) c.meeting_mark.result) same
-    (c.meeting_mark.ensures numbers.detect known.steps (subst (λ (o : Option PairStep). IsStateAfter numbers.detect (known.steps ++ o ∷ []) next.is) (sym same) of.is)) in
+    (c.meeting_mark.ensures numbers.detect known.steps (subst (λ (o : Option PairStep). IsStateAfter numbers.detect (known.steps ++ o ∷ []) next.is.now) (sym same) of.is)) in
     let begins = stands.start in
     let apart = c.stays_apart-apart.ensures in
-    let meets = meeting_marked numbers known seen c.meeting_mark.result next.was next.is c.stays_apart-apart.result c.args.first c.args.step
+    let meets = meeting_marked numbers known seen c.meeting_mark.result next.was.now next.is.now c.stays_apart-apart.result c.args.first c.args.step
     c.args.marks.now c.mark_or_repeat.new.marks at of.was of.is is_mark apart.was apart.is (λ rests. let later = apart.later rests in omega arith)
     c.in_ok-mark_or_repeat.ensures.keeps in
     let reach = c.has_answered.ensures c.if-has_answered.true (formulas_of numbers) (record { trees = stands.values.trees; of = stands.values.of }) in

@@ -17,7 +17,8 @@ invariant_of-result c =
       inside = rw (made.0, roots) (inside_after old.nodes.items old.roots.items t c.requires old.inside);
       reach_small = omega (arith, c.max.ensures, old.reach_small, c.in_ok-root.ensures.late, c.requires.reach);
       readable = rw c.deref.ensures.value at c.in_ok-list_atoms.ensures.readable;
-      triggered = rw c.deref-2.ensures.value at c.in_ok-list_triggers.ensures;
+      askable = rw c.deref-2.ensures.value at c.in_ok-list_atoms-2.ensures.readable;
+      triggered = rw c.deref-3.ensures.value at c.in_ok-list_triggers.ensures;
     }
 
 pub returns-in-Ok-clause-formulas : goal.returns-in-Ok-clause-formulas
@@ -27,7 +28,7 @@ returns-in-Ok-clause-formulas c = λ formulas h.
     let made = c.in_ok-root.ensures.made in
     let roots : c.push.new.self.items ≡ old.roots.items ++ (compiled old.nodes.items t).operand ∷ [] = rw (← made.1) c.in-Ok.ensures.items in
     let reach : c.max.result ≡ max old.reach (reach_of t) = omega (arith, c.max.ensures, c.in_ok-root.ensures.late) in
-    IsProgramOf-grown old formulas t c.requires h _ (record { nodes = made.0; roots = roots; reach = reach; listed = rw c.deref.ensures.value at c.in_ok-list_atoms.ensures.listed })
+    IsProgramOf-grown old formulas t c.requires h _ (record { nodes = made.0; roots = roots; reach = reach; listed = record { all = rw c.deref.ensures.value at c.in_ok-list_atoms.ensures.listed; apart = rw c.deref-2.ensures.value at c.in_ok-list_atoms-2.ensures.listed } })
 
 pub list_atoms-requires : goal.list_atoms-requires
 list_atoms-requires c =

@@ -3,7 +3,8 @@ use Rattle.outside.proofs.ForCallers.{same_fault}
 use Rattle.traces.specs.declared.fault.TickFault.{TickFault as AuditFault}
 use Rattle.traces.specs.declared.fault.TickFault.TheVariants as audit_fault
 use Rattle.sessions.specs.Refusals.{HasManySettled}
-use Rattle.sessions.specs.Standing.{IsDone, mode_by}
+use Rattle.sessions.specs.Standing.{mode_by}
+use Rattle.sessions.specs.Inner.Working.{IsDone}
 use Rattle.sessions.specs.declared.work.Work.{Work}
 use Rattle.sessions.proofs.Auditing.{last_of_rules, rows_of_rules_decided}
 use Rattle.sessions.proofs.Working.{audit_goes_on, pairs_alone, points_go_on}
@@ -15,15 +16,15 @@ returns-in_err-rows-in-Audit-clause-many c = λ told lines more works.
     let fault = pairs_alone c.in_err-rows-in-Audit.field-0.0 (sym (same_fault c.from_residual-in_err-rows-in-Audit.result _ _ c.from_residual-in_err-rows-in-Audit.ensures.1 told)) in
     let err : c.settle.result ≡ Err audit_fault.TooManyPairs = c.in_err-rows-in-Audit.was ∙ ap (λ (e : AuditFault). Err e) fault in
     let done = subst (λ (w : Work). IsDone w scenario lines works.given) c.in-Audit.is works.done in
-    subst (λ (w : Work). HasManySettled (mode_by w) scenario (lines ++ more)) (sym c.in-Audit.is) (c.settle.ensures.many err lines more done.0 done.1 works.judged)
+    subst (λ (w : Work). HasManySettled (mode_by w) scenario (lines ++ more)) (sym c.in-Audit.is) (c.settle.ensures.many err lines more done.0.0 done.1 works.judged)
 
 pub write_stretches-requires : goal.write_stretches-requires
 write_stretches-requires c =
     let scenario = c.args.scenario.now in
     let ready = c.requires.ready in
     let done = subst (λ (w : Work). IsDone w scenario ready.lines ready.works.given) c.in-Audit.is ready.works.done in
-    let decided = c.in_ok-rows-in-Audit.ensures.decided ready.lines ready.more done.0 done.1 ready.works.judged in
-    rw c.as_slice.ensures.value (last_of_rules scenario.rules done.0 c.in_ok-rows-in-Audit.rows.items (rows_of_rules_decided scenario (ready.lines ++ ready.more) _ decided))
+    let decided = c.in_ok-rows-in-Audit.ensures.decided ready.lines ready.more done.0.0 done.1 ready.works.judged in
+    rw c.as_slice.ensures.value (last_of_rules scenario.rules done.0.0 c.in_ok-rows-in-Audit.rows.items (rows_of_rules_decided scenario (ready.lines ++ ready.more) _ decided))
 
 pub returns-in_ok-write_line-in-Points-clause-goes_on : goal.returns-in_ok-write_line-in-Points-clause-goes_on
 returns-in_ok-write_line-in-Points-clause-goes_on c = λ front has.
@@ -39,4 +40,4 @@ pub returns-in_ok-write_stretches-in-Audit-clause-few : goal.returns-in_ok-write
 returns-in_ok-write_stretches-in-Audit-clause-few c = λ lines more works many.
     let scenario = c.args.scenario.now in
     let done = subst (λ (w : Work). IsDone w scenario lines works.given) c.in-Audit.is works.done in
-    c.in_ok-rows-in-Audit.ensures.few lines more done.0 done.1 works.judged (subst (λ (w : Work). HasManySettled (mode_by w) scenario (lines ++ more)) c.in-Audit.is many)
+    c.in_ok-rows-in-Audit.ensures.few lines more done.0.0 done.1 works.judged (subst (λ (w : Work). HasManySettled (mode_by w) scenario (lines ++ more)) c.in-Audit.is many)

@@ -7,8 +7,9 @@ use Rattle.auditor.specs.Standing.{StandsFor as AuditStandsFor}
 use Rattle.traces.specs.declared.fault.TickFault.{TickFault as AuditFault}
 use Rattle.traces.specs.declared.fault.TickFault.TheVariants as audit_fault
 use Rattle.log_lines.specs.SentLines.{sent}
-use Rattle.settling.specs.SettledTicks.{greatest_traces}
-use Rattle.settling.specs.Sightings.{audit_numbers, seen_first, sighted}
+use Rattle.traces.specs.declared.all_traces.TheConstants.{MOST_TRACES}
+use Rattle.settled_ticks.specs.Sightings.{seen_first, sighted}
+use Rattle.settling.specs.ScenarioAudit.{audit_numbers}
 use Rattle.outside.proofs.ForCallers.{same_fault}
 use Rattle.settling.proofs.AuditedTicks.{audited_with_more}
 use Rattle.settling.proofs.settled_audit.SettledAudit.end.Goals as goal
@@ -68,4 +69,4 @@ pub returns-clause-few : goal.returns-clause-few
 returns-clause-few c = λ lines more given stands judged many.
     let scenario = c.args.scenario.now in
     let up = c.in_ok-rows.ensures.audited (lines ++ more) given judged (audited_with_more scenario c.args.self lines more given stands) in
-    up.few (subst (λ (k : ℕ). HaveMoreThan greatest_traces (audit_numbers scenario) (seen_first scenario (sent scenario (lines ++ more)) k)) (sym c.in_ok-rows.ensures.all) many)
+    up.few (subst (λ (k : ℕ). HaveMoreThan MOST_TRACES (audit_numbers scenario) (seen_first scenario (sent scenario (lines ++ more)) k)) (sym c.in_ok-rows.ensures.all) many)

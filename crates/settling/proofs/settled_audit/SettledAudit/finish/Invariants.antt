@@ -2,12 +2,13 @@ use Rattle.std.proofs.Common.{ℕ, ◌+◌, ◌-◌, ◌++◌, List}
 use Rattle.audit_rows.specs.declared.row.Row.{Row}
 use Rattle.log_lines.specs.Standing.{StandsFor as JudgeStandsFor}
 use Rattle.settling.specs.Inner.AuditedTicks.{IsAudited}
+use Rattle.settled_ticks.specs.Standing.{handed_out}
 use Rattle.settling.proofs.settled_audit.SettledAudit.finish.Given as goal
 
 -- the ticks before the next were audited
-abbrev pub invariant-loop-self : goal.invariant-loop-self
-invariant-loop-self l = (lines : List (List ℕ)) (given : List Row) → JudgeStandsFor l.judge l.scenario lines
+abbrev pub invariant-loop-rows : goal.invariant-loop-rows
+invariant-loop-rows l = (lines : List (List ℕ)) (given : List Row) → JudgeStandsFor l.judge l.scenario lines
     → IsAudited l.initial.self l.scenario lines given → IsAudited l.self l.scenario lines (given ++ l.rows.items)
 
-abbrev pub decreases-loop-self : goal.decreases-loop-self
-decreases-loop-self l = l.scenario.window.ticks + 1 - l.self.next
+abbrev pub decreases-loop-rows : goal.decreases-loop-rows
+decreases-loop-rows l = l.scenario.window.ticks + 1 - handed_out l.self.ticks

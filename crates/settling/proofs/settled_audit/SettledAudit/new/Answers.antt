@@ -6,7 +6,7 @@ use Rattle.settling.proofs.settled_audit.SettledAudit.new.Goals as goal
 pub returns : goal.returns
 returns c =
     let scenario = c.args.scenario.now in
-    before_all _ scenario refl c.in_ok-audit.ensures.sound
+    before_all _ scenario c.new-2.ensures c.in_ok-audit.ensures.sound
     (subst (λ (subjects : List ℕ). AuditStandsFor c.in_ok-audit.audit (record {
       detect = scenario.detect;
       act = scenario.act;

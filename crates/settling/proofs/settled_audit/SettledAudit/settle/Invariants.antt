@@ -3,12 +3,13 @@ use Rattle.audit_rows.specs.declared.row.Row.{Row}
 use Rattle.log_lines.specs.Standing.{StandsFor as JudgeStandsFor}
 use Rattle.settling.specs.Inner.AuditedTicks.{IsSettling}
 use Rattle.settling.specs.Standing.{StandsFor}
+use Rattle.settled_ticks.specs.Standing.{handed_out}
 use Rattle.settling.proofs.settled_audit.SettledAudit.settle.Given as goal
 
 -- the ticks before the next were audited, and are settled
-abbrev pub invariant-loop-self : goal.invariant-loop-self
-invariant-loop-self l = (lines more : List (List ℕ)) (given : List Row) → StandsFor l.initial.self l.scenario lines given
+abbrev pub invariant-loop-rows : goal.invariant-loop-rows
+invariant-loop-rows l = (lines more : List (List ℕ)) (given : List Row) → StandsFor l.initial.self l.scenario lines given
     → JudgeStandsFor l.judge l.scenario (lines ++ more) → IsSettling l.self l.scenario (lines ++ more) (given ++ l.rows.items)
 
-abbrev pub decreases-loop-self : goal.decreases-loop-self
-decreases-loop-self l = l.scenario.window.ticks + 1 - l.self.next
+abbrev pub decreases-loop-rows : goal.decreases-loop-rows
+decreases-loop-rows l = l.scenario.window.ticks + 1 - handed_out l.self.ticks

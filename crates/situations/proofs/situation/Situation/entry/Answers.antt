@@ -1,5 +1,15 @@
-use Rattle.situations.proofs.Entries.{entry_is}
+use Rattle.std.proofs.Common.{sym}
+use Rattle.situations.proofs.Entries.{entry_by_circle, entry_by_shape}
 use Rattle.situations.proofs.situation.Situation.entry.Goals as goal
+use Rattle.situations.proofs.situation.Situation.entry.Goals.{in_default-via-in-Some+in_default, in_default-via-in_default}
 
-pub returns : goal.returns
-returns c = entry_is c.args.self.now c.args.target.now c.args.pair.now c.entry.result c.entry.ensures.none c.entry.ensures.moment c.entry.ensures.instant c.entry.ensures.nearer
+pub returns-in-Some-Some : goal.returns-in-Some-Some
+returns-in-Some-Some c =
+    entry_by_shape c.args.self.now c.args.target.now c.args.pair.now c.in-Some-Some.shape c.in-Some-Some.direction (sym c.in-Some-Some.is-0) (sym c.in-Some-Some.is-1)
+    c.enters.result c.enters.ensures.none c.enters.ensures.moment c.enters.ensures.instant c.enters.ensures.inside
+
+pub returns-in_default : goal.returns-in_default
+returns-in_default c =
+    entry_by_circle c.args.self.now c.args.target.now c.args.pair.now
+    (λ vertices direction has heads. elim c.in_default.branch [ in_default-via-in-Some+in_default w ↦ cc | in_default-via-in_default w ↦ cc ])
+    c.entry.result c.entry.ensures.none c.entry.ensures.moment c.entry.ensures.instant c.entry.ensures.nearer

@@ -1,0 +1,18 @@
+//! Laws of scenarios, which stand over the definitions alone.
+ghost use Rattle.std.specs.Prelude.{ℕ, List, Bool};
+ghost use Rattle.scenario.specs.Migration.{IsMigrated, MeansTheSame};
+ghost use Rattle.scenario.specs.ScenarioReading.{HasOneReading, Means};
+ghost use Rattle.scenario.specs.declared.values.Scenario.{Scenario};
+
+/// Bytes, whatever they are, have exactly one reading, with own ship or without: they mean one scenario, or they are refused at one key for
+/// one cause, the first in the order of the keys, and never both.
+pub fn one_reading()
+    ensures { (need_own : Bool) (bytes : List ℕ) → HasOneReading need_own bytes }
+{}
+
+/// Whatever text is the migration of some bytes means the scenario that they mean, with the one safe distance for each kind of encounter; or
+/// it is refused for the weight of its rules, where these are too heavy together.
+pub fn a_migrated_text_means_the_same()
+    ensures { (bytes text : List ℕ) (need_own : Bool) (scenario : Scenario) → IsMigrated bytes text → Means need_own bytes scenario →
+        MeansTheSame need_own scenario text }
+{}

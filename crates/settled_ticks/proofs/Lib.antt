@@ -1,0 +1,4 @@
+mod EarlierTicks
+mod SeenStays
+mod MovesLittle
+pub mod ForCallers

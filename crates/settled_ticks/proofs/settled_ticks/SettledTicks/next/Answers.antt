@@ -1,0 +1,13 @@
+use Rattle.settled_ticks.proofs.settled_ticks.SettledTicks.next.Goals as goal
+
+pub returns-clause-handed : goal.returns-clause-handed
+returns-clause-handed c = λ more.
+    let now = c.in_ok-hand_out.ensures in
+    record {
+      next = now.next;
+      within = c.is_settled.ensures.within c.if-not-is_settled.false;
+      ascending = now.ascending;
+      placed = now.placed;
+      seen = now.seen;
+      moves = now.moves;
+    }

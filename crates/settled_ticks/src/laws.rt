@@ -1,0 +1,25 @@
+//! Laws of settled ticks, which stand over the definitions alone.
+ghost use Rattle.std.specs.Prelude.{ℕ, ◌≡◌, ◌≤◌, ◌++◌, List};
+ghost use Rattle.log_lines.specs.JudgedLines.{numbers_of};
+ghost use Rattle.log_lines.specs.SentLines.{sent};
+ghost use Rattle.scenario.specs.Ticks.{time_of_tick};
+ghost use Rattle.scenario.specs.declared.values.Scenario.{Scenario};
+ghost use Rattle.settled_ticks.specs.Settled.{IsSettled};
+ghost use Rattle.tracks.specs.SeenVessels.{seen_of};
+
+/// A tick that is settled stays so, whatever lines follow.
+pub fn settled_ticks_stay()
+    ensures { (scenario : Scenario) (lines more : List (List ℕ)) (i : ℕ) → IsSettled scenario lines i → IsSettled scenario (lines ++ more) i }
+{}
+
+/// The settled ticks are the first ones: with a tick each earlier one is settled.
+pub fn settled_ticks_are_first()
+    ensures { (scenario : Scenario) (lines : List (List ℕ)) (i j : ℕ) → IsSettled scenario lines i → j ≤ i → IsSettled scenario lines j }
+{}
+
+/// The vessels that are seen at a settled tick, and their states there, are the same whatever lines follow.
+pub fn what_is_settled_stays()
+    ensures { (scenario : Scenario) (lines more : List (List ℕ)) (i : ℕ) → IsSettled scenario lines i →
+        seen_of (numbers_of scenario) (sent scenario (lines ++ more)) (time_of_tick scenario.window i)
+        ≡ seen_of (numbers_of scenario) (sent scenario lines) (time_of_tick scenario.window i) }
+{}

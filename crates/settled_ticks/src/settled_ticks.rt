@@ -1,0 +1,125 @@
+//! The ticks of a window, one after the other, as the lines of a log settle them.
+ghost use Rattle.std.specs.Prelude.{◌≡◌, ◌+◌, ◌<◌, ◌≤◌, [], ℕ, List, IfOk, OnOk, true, false};
+ghost use Rattle.log_lines.specs.JudgedLines.{numbers_of};
+ghost use Rattle.log_lines.specs.SentLines.{sent};
+ghost use Rattle.log_lines.specs.Standing.{StandsFor as JudgeStandsFor, keeping_of};
+ghost use Rattle.scenario.specs.ScenarioValues.{IsInRange};
+ghost use Rattle.scenario.specs.Ticks.{time_of_tick};
+ghost use Rattle.settled_ticks.specs.Inner.{is_past};
+ghost use Rattle.settled_ticks.specs.Settled.{IsSettled};
+ghost use Rattle.settled_ticks.specs.Sightings.{seen_first};
+ghost use Rattle.settled_ticks.specs.Standing.{IsHandedOut, handed_out, latest_sighting};
+ghost use Rattle.traces.specs.Audited.{AreAscending, ArePlaced, MoveLittle, last_sighting};
+ghost use Rattle.tracks.specs.SeenVessels.{seen_of};
+ghost use Rattle.tracks.specs.declared.keeping.Keeping.TheVariants.{Tracks};
+
+use log_lines::Judge;
+use motion::TickState;
+use outside::Memory;
+use scenario::Scenario;
+use std::alloc::Global;
+
+/// Whether the clock is past a time.
+fn is_past(clock: Option<u64>, time: u64) -> bool
+    ensures { result ≡ is_past clock time }
+{
+    match clock {
+        None => false,
+        Some(clock) => time < clock,
+    }
+}
+
+/// Hands out the ticks of a window, each once. After an `Err` it may only be dropped.
+#[derive(Drop)]
+pub struct SettledTicks {
+    /// The first tick that was not handed out.
+    next: u32,
+    /// The vessels that are seen at the one before it.
+    seen: Vec<(u32, TickState)>,
+}
+
+impl SettledTicks {
+    /// No tick was handed out. This takes no memory.
+    pub fn new(alloc: Global) -> SettledTicks
+        ensures { handed_out result ≡ 0 }
+    {
+        SettledTicks {
+            next: 0,
+            seen: Vec::new(alloc),
+        }
+    }
+
+    /// The vessels that are seen at the tick that was handed out last, in the order of their MMSIs.
+    pub fn seen(&self) -> &[(u32, TickState)]
+        ensures { result.now ≡ latest_sighting self.now }
+    {
+        self.seen.as_slice()
+    }
+
+    /// Whether the judge's lines settle the next tick.
+    fn is_settled(&self, scenario: &Scenario, judge: &Judge) -> bool
+        requires { IsInRange scenario.now }
+        ensures within { result ≡ true → self.now.next ≤ scenario.now.window.ticks }
+        ensures settled { result ≡ true → (lines : List (List ℕ)) → JudgeStandsFor judge.now scenario.now lines
+            → IsSettled scenario.now lines self.now.next }
+        ensures open { result ≡ false → (lines : List (List ℕ)) → JudgeStandsFor judge.now scenario.now lines
+            → IsSettled scenario.now lines self.now.next → ⊥ }
+    {
+        let window = &scenario.window;
+        let behind = u64::from(scenario.log.gap) + u64::from(scenario.log.slack);
+        self.next <= window.ticks && is_past(judge.clock(), window.time(self.next) + behind)
+    }
+
+    /// Hands out the next tick, by what the judge's lines tell.
+    fn hand_out(&mut self, scenario: &Scenario, judge: &Judge) -> Result<(), Memory>
+        requires in_range { IsInRange scenario.now }
+        requires keeping { keeping_of judge.now ≡ Tracks }
+        requires within { self.old.next ≤ scenario.now.window.ticks }
+        ensures next { OnOk result (self.new.next ≡ self.old.next + 1) }
+        ensures ascending { OnOk result (AreAscending (latest_sighting self.new)) }
+        ensures placed { OnOk result (ArePlaced (latest_sighting self.new)) }
+        ensures seen { OnOk result ((lines : List (List ℕ)) → JudgeStandsFor judge.now scenario.now lines → latest_sighting self.new
+            ≡ seen_of (numbers_of scenario.now) (sent scenario.now lines) (time_of_tick scenario.now.window self.old.next)) }
+        ensures moves { OnOk result ((lines : List (List ℕ)) → JudgeStandsFor judge.now scenario.now lines
+            → MoveLittle (last_sighting (seen_first scenario.now (sent scenario.now lines) self.old.next)) (latest_sighting self.new)) }
+    {
+        let book = judge.book();
+        book.moves_little();
+        book.look(scenario.window.time(self.next), &mut self.seen)?;
+        self.next += 1;
+        Ok(())
+    }
+
+    /// Hands out the next tick if the judge's lines settle it, and tells whether they do. Where they do not, this takes no memory.
+    pub fn next(&mut self, scenario: &Scenario, judge: &Judge) -> Result<bool, Memory>
+        requires in_range { IsInRange scenario.now }
+        requires keeping { keeping_of judge.now ≡ Tracks }
+        ensures handed { IfOk result (λ more. more ≡ true → IsHandedOut self.old self.new scenario.now judge.now) }
+        ensures settled { IfOk result (λ more. more ≡ true → (lines : List (List ℕ)) → JudgeStandsFor judge.now scenario.now lines
+            → IsSettled scenario.now lines (handed_out self.old)) }
+        ensures same { IfOk result (λ more. more ≡ false → self.new ≡ self.old) }
+        ensures open { IfOk result (λ more. more ≡ false → (lines : List (List ℕ)) → JudgeStandsFor judge.now scenario.now lines
+            → IsSettled scenario.now lines (handed_out self.old) → ⊥) }
+    {
+        if !self.is_settled(scenario, judge) {
+            return Ok(false);
+        }
+        self.hand_out(scenario, judge)?;
+        Ok(true)
+    }
+
+    /// Hands out the next tick by what the lines of the whole log tell, settled or not, and tells whether one was left.
+    pub fn next_at_end(&mut self, scenario: &Scenario, judge: &Judge) -> Result<bool, Memory>
+        requires in_range { IsInRange scenario.now }
+        requires keeping { keeping_of judge.now ≡ Tracks }
+        ensures handed { IfOk result (λ more. more ≡ true → IsHandedOut self.old self.new scenario.now judge.now) }
+        ensures same { IfOk result (λ more. more ≡ false → self.new ≡ self.old) }
+        ensures all { IfOk result (λ more. more ≡ false → scenario.now.window.ticks < handed_out self.old) }
+    {
+        if scenario.window.ticks < self.next {
+            return Ok(false);
+        }
+        self.hand_out(scenario, judge)?;
+        Ok(true)
+    }
+}

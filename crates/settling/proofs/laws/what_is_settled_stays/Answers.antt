@@ -1,5 +1,0 @@
-use Rattle.settling.proofs.SeenStays.{what_is_settled_stays}
-use Rattle.settling.proofs.laws.what_is_settled_stays.Goals as goal
-
-pub returns : goal.returns
-returns c = what_is_settled_stays

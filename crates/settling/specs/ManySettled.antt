@@ -1,0 +1,15 @@
+-- When settled ticks begin too many traces.
+use Rattle.std.specs.Prelude.{ℕ, ◌<◌, List}
+use Rattle.traces.specs.Standing.{HaveMoreThan}
+use Rattle.traces.specs.declared.all_traces.TheConstants.{MOST_TRACES}
+use Rattle.log_lines.specs.SentLines.{sent}
+use Rattle.scenario.specs.declared.values.Scenario.{Scenario}
+use Rattle.settled_ticks.specs.Settled.{IsSettled}
+use Rattle.settled_ticks.specs.Sightings.{seen_first}
+use Rattle.settling.specs.ScenarioAudit.{audit_numbers}
+
+-- More traces begin at settled ticks, the first so many, than there may be.
+pub record HaveManySettled (scenario : Scenario) (lines : List (List ℕ)) : Type 0 where
+  pub count : ℕ
+  pub settled : (i : ℕ) → i < count → IsSettled scenario lines i
+  pub many : HaveMoreThan MOST_TRACES (audit_numbers scenario) (seen_first scenario (sent scenario lines) count)
