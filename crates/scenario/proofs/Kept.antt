@@ -12,13 +12,11 @@ use Rattle.scenario_keys.specs.ScenarioKeys.{first_rows, formula_rows, own_rows,
 use Rattle.scenario_keys.specs.declared.rows.Kind.{Kind}
 use Rattle.scenario_keys.specs.declared.rows.Kind.TheVariants as kind
 use Rattle.scenario_keys.proofs.Elements.{mapped_seen}
-use Rattle.scenario.specs.Migration.{is_key_of, kept_array, kept_by, keys_of, known_members, new_value, with_found, with_key, with_keys, with_member, with_table, with_tables}
+use Rattle.scenario.specs.Migration.{is_key_at, is_key_of, kept_array, kept_by, known_members, new_value}
+use Rattle.scenario.specs.Inner.PutTogether.{keys_of, with_found, with_key, with_keys, with_member, with_table, with_tables}
 use Rattle.scenario.proofs.Members.{found_other, found_same, get_other, get_same, or_else, or_none}
 
 -- in the keys of one table
-
-abbrev pub is_key_at : List ℕ → List ℕ → Row → Bool
-is_key_at table name here = is_key_of table here && bytes_eq name here.name
 
 abbrev pub value_by : Members → List Row → Option Data → Option Data
 value_by document [] found = found

@@ -6,7 +6,10 @@ use Rattle.std.specs.Str.{bytes_eq}
 use Rattle.std.proofs.lemmas.Bool.Decides.{nat_tests}
 use Rattle.std.proofs.lemmas.List.{length-map, map-append}
 use Rattle.std.proofs.lemmas.List.Elements.{All-cons}
-use Rattle.toml.specs.Data.{Data, Items, no_members, as_array}
+use Rattle.std.specs.Cmp.Lexicographic.{slice_cmp}
+use Rattle.std.specs.Ordering.{nat_cmp}
+use Rattle.std.proofs.lemmas.Cmp.{nat_list_cmp_total, tied_itself}
+use Rattle.toml.specs.Data.{Data, Items, Members, member, no_members, as_array, get_member}
 use Rattle.toml.specs.View.{items_of}
 use Rattle.mtl_formulas.specs.FormulaReading.{tree, IsMeaning}
 use Rattle.rule_set.specs.NamedTrees.{NamedTree}
@@ -29,23 +32,36 @@ use Rattle.predictions.specs.PredictFaults.{changes_cause, predicted_mmsi, predi
 use Rattle.predictions.specs.PredictFaults as predicted
 use Rattle.predictions.specs.PredictValues.{predicted_changes, predict_of, predictions_of}
 use Rattle.predictions.specs.declared.predictions.Predict.{Predict}
-use Rattle.scenario.specs.Migration.{kept, kept_array, kept_by, known_members, two_of, with_found}
+use Rattle.scenario.specs.Migration.{kept, kept_array, kept_by, known_members, member_if, two_of}
 use Rattle.scenario.proofs.ListsHeld.{first_one, first_two}
-use Rattle.scenario.proofs.Members.{found_other, found_same, or_else, or_none}
+use Rattle.scenario.proofs.Members.{passed, unlike}
 
 -- the two members of a table
 
+found_itself : (name : List ℕ) (here : Data) (rest : Members) → get_member name (member name here rest) ≡ Some here
+found_itself name here rest = rw (tied_itself nat_list_cmp_total name) refl
+
+two_found : (first second : List ℕ) (a b : Option Data) → bytes_eq first second ≡ false → get_member first (member_if first a (member_if second b no_members)) ≡ a
+two_found first second None None h = refl
+two_found first second None (Some there) h = passed (slice_cmp nat_cmp first second) None (Some there) (unlike first second h)
+two_found first second (Some here) b h = found_itself first here (member_if second b no_members)
+
+next_found : (first second : List ℕ) (a b : Option Data) → bytes_eq second first ≡ false → get_member second (member_if first a (member_if second b no_members)) ≡ b
+next_found first second a None h = alone a
+  where
+    alone : (a : Option Data) → get_member second (member_if first a no_members) ≡ None
+    alone None = refl
+    alone (Some here) = passed (slice_cmp nat_cmp second first) None (Some here) (unlike second first h)
+next_found first second None (Some there) h = found_itself second there no_members
+next_found first second (Some here) (Some there) h =
+    passed (slice_cmp nat_cmp second first) (get_member second (member second there no_members)) (Some here) (unlike second first h)
+    ∙ found_itself second there no_members
+
 first_of_two : (first second : List ℕ) (here : Data) → bytes_eq first second ≡ false → member_at first (two_of first second here) ≡ member_at first here
-first_of_two first second here h =
-    found_other first second (member_at second here) (with_found first (member_at first here) no_members) h
-    ∙ found_same first (member_at first here) no_members
-    ∙ or_none (member_at first here)
+first_of_two first second here h = two_found first second (member_at first here) (member_at second here) h
 
 second_of_two : (first second : List ℕ) (here : Data) → bytes_eq second first ≡ false → member_at second (two_of first second here) ≡ member_at second here
-second_of_two first second here h =
-    found_same second (member_at second here) (with_found first (member_at first here) no_members)
-    ∙ ap (or_else (member_at second here)) (found_other second first (member_at first here) no_members h)
-    ∙ or_none (member_at second here)
+second_of_two first second here h = next_found first second (member_at first here) (member_at second here) h
 
 abbrev pub formula_kept : Data → Data
 formula_kept = known_members (codes "formula")
@@ -60,10 +76,10 @@ text_kept : (here : Data) → member_at (codes "text") (formula_kept here) ≡ m
 text_kept here = second_of_two (codes "name") (codes "text") here refl
 
 ship_kept : (here : Data) → member_at (codes "mmsi") (predict_kept here) ≡ member_at (codes "mmsi") here
-ship_kept here = first_of_two (codes "mmsi") (codes "changes") here refl
+ship_kept here = second_of_two (codes "changes") (codes "mmsi") here refl
 
 changes_kept : (here : Data) → member_at (codes "changes") (predict_kept here) ≡ member_at (codes "changes") here
-changes_kept here = second_of_two (codes "mmsi") (codes "changes") here refl
+changes_kept here = first_of_two (codes "changes") (codes "mmsi") here refl
 
 -- the list itself
 
@@ -98,7 +114,7 @@ all_tables f h list =
 
 known_is_table : (name : List ℕ) (here : Data) → is_no_table (known_members name here) ≡ false
 known_is_table name here =
-    elim (bytes_eq name (codes "formula")) as (λ b. is_no_table (if b then two_of (codes "name") (codes "text") here else two_of (codes "mmsi") (codes "changes") here) ≡ false) [
+    elim (bytes_eq name (codes "formula")) as (λ b. is_no_table (if b then two_of (codes "name") (codes "text") here else two_of (codes "changes") (codes "mmsi") here) ≡ false) [
       | true ↦ refl
       | false ↦ refl
     ]

@@ -11,6 +11,7 @@ pub mod Shallow
 pub mod Kept
 pub mod KnownLists
 pub mod MovedKeys
+pub mod MigratedDocuments
 pub mod MovedValues
 pub mod MovedFaults
 pub mod SameScenario

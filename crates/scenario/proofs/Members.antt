@@ -11,7 +11,7 @@ use Rattle.std.proofs.lemmas.Map.Lookups.{exact_bytes}
 use Rattle.toml.specs.Data.{Data, Members, no_members, member, depth, get_member, members_depth}
 use Rattle.toml.specs.View.{members_view, view}
 use Rattle.toml.specs.declared.value.Value.{Value}
-use Rattle.scenario.specs.Migration.{with_found, with_member}
+use Rattle.scenario.specs.Inner.PutTogether.{with_found, with_member}
 
 -- an insertion into the entries of a map
 
@@ -49,12 +49,12 @@ get_same name found (member other here rest) = same_by (slice_cmp nat_cmp name o
 
 -- what is found at another name
 
-passed : (o : Ordering) (a b : Option Data) → is_eq o ≡ false → match_ordering o a b a ≡ a
+pub passed : (o : Ordering) (a b : Option Data) → is_eq o ≡ false → match_ordering o a b a ≡ a
 passed Less a b h = refl
 passed Equal a b h = cc
 passed Greater a b h = refl
 
-unlike : (name other : List ℕ) → bytes_eq name other ≡ false → is_eq (slice_cmp nat_cmp name other) ≡ false
+pub unlike : (name other : List ℕ) → bytes_eq name other ≡ false → is_eq (slice_cmp nat_cmp name other) ≡ false
 unlike name other h = is_eq-slice_cmp name other ∙ h
 
 other_by : (o : Ordering) (name new other : List ℕ) (found here : Data) (rest : Members) → o ≡ slice_cmp nat_cmp new other → bytes_eq name new ≡ false →

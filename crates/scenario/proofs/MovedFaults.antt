@@ -22,7 +22,8 @@ use Rattle.scenario.specs.DocumentFaults.{IsFaultless}
 use Rattle.scenario.specs.KeyFaults.{basis_of, counts, fault_in, fault_of, is_version_two, tick_of}
 use Rattle.scenario.specs.PlanFaults.{plans_cause, sizes_of}
 use Rattle.scenario.specs.Shapes.{shape_fault}
-use Rattle.scenario.specs.Migration.{found_at, has_own, is_key, kept, kept_by, migrated, new_value}
+use Rattle.scenario.specs.Migration.{found_at, has_own, is_key, kept, kept_by, new_value}
+use Rattle.scenario.specs.Inner.PutTogether.{migrated}
 use Rattle.scenario.specs.declared.basis.Basis.{Basis}
 use Rattle.scenario.specs.declared.plan_sizes.PlanSizes.{PlanSizes}
 use Rattle.scenario.proofs.Held.{number_uncaused}

@@ -15,9 +15,10 @@ use Rattle.scenario_keys.specs.declared.rows.When.TheVariants as when
 use Rattle.scenario_keys.proofs.ForCallers.{all_back, all_front, all_head, all_tail}
 use Rattle.scenario.specs.DocumentFaults.{IsFaultless, IsTold}
 use Rattle.scenario.specs.KeyFaults.{basis_of, counts, fault_in}
-use Rattle.scenario.specs.Migration.{found_at, has_own, is_key, kept, keys_of, migrated, new_value, new_value_when, table_names}
+use Rattle.scenario.specs.Migration.{found_at, has_own, is_key, is_key_at, kept, new_value, new_value_when, table_names}
+use Rattle.scenario.specs.Inner.PutTogether.{keys_of, migrated}
 use Rattle.scenario.specs.declared.basis.Basis.{Basis}
-use Rattle.scenario.proofs.Kept.{is_key_at, key_held, tables_by, IsAlone}
+use Rattle.scenario.proofs.Kept.{key_held, tables_by, IsAlone}
 use Rattle.scenario.proofs.Shallow.{faultless_parts, key_faultless, key_plain}
 
 -- each key has one row

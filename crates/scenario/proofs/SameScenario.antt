@@ -20,12 +20,15 @@ use Rattle.scenario.specs.KeyFaults.{basis_of, is_version_two, tick_of}
 use Rattle.scenario.specs.RuleValues.{formula_tables, rule_numbers_of, safe_of, AreRulesOf}
 use Rattle.scenario.specs.ScenarioValues.{scenario_of, scenario_with}
 use Rattle.scenario.specs.ScenarioReading.{IsRefused, Means, Reads}
-use Rattle.scenario.specs.Migration.{found_at, has_own, migrated, IsMigrated, MeansTheSame}
+use Rattle.scenario.specs.Migration.{found_at, has_own, IsMigrated, MeansTheSame}
+use Rattle.scenario.specs.Inner.PutTogether.{migrated}
 use Rattle.scenario.specs.declared.values.Scenario.{Scenario}
 use Rattle.scenario.proofs.Firsts.{faultless, first_in_formulas, first_plain, formulas_none, formulas_some, none_told, own_plain, IsPlain}
 use Rattle.scenario.proofs.KnownLists.{added_kept, formulas_kept}
 use Rattle.scenario.proofs.ListsHeld.{nat_le-true}
 use Rattle.scenario.proofs.MovedFaults.{first_faultless, own_faultless, safe_moved, NoFault}
+use Rattle.toml.specs.Text.{IsDocumentText}
+use Rattle.scenario.proofs.MigratedDocuments.{one_migrated, put_together}
 use Rattle.scenario.proofs.MovedKeys.{all_rows, place_of, there}
 use Rattle.scenario.proofs.MovedValues.{any, first_same, formulas_moved, integer_same, scenario_moved, tick_moved, version_moved}
 use Rattle.scenario.proofs.Shallow.{faultless_parts, formulas_faultless, key_faultless}
@@ -219,7 +222,8 @@ by_document document text need_own scenario one h reads right rules values =
 pub by_bytes : (bytes text : List ℕ) → IsMigrated bytes text → (need_own : Bool) (scenario : Scenario) → Means need_own bytes scenario → MeansTheSame need_own scenario text
 by_bytes bytes text is need_own scenario means =
     let same = one_document bytes means.document is.document means.reads is.reads in
-    by_document is.document text need_own scenario is.version_one is.faultless is.read_again
+    by_document is.document text need_own scenario is.version_one is.faultless
+    (subst (λ (d : Members). Reads text d) (one_migrated is.document is.after (migrated is.document) is.becomes (put_together is.document)) is.read_again)
     (subst (λ (d : Members). IsFaultless need_own d) same means.faultless)
     (subst (λ (d : Members). AreRulesOf d scenario.rules) same means.rules)
     (means.values ∙ ap (λ (d : Members). scenario_of need_own d scenario.rules) same)
@@ -228,3 +232,18 @@ pub same : {E : Type 0} (bytes : List ℕ) (result : Result (Vec ℕ Global) E) 
     IfOk result (λ text. (need_own : Bool) (scenario : Scenario) → Means need_own bytes scenario → MeansTheSame need_own scenario text.items)
 same bytes (Ok text) is = by_bytes bytes text.items is
 same bytes (Err fault) is = tt
+
+pub migrated_of : {E : Type 0} (bytes : List ℕ) (document : Members) (result : Result (Vec ℕ Global) E) → Reads bytes document → is_version_two document ≡ false →
+    IsFaultless (has_own document) document → IfOk result (λ text. IsDocumentText false (migrated document) text.items) → IfOk result (λ text. Reads text.items (migrated document)) →
+    IfOk result (λ text. IsMigrated bytes text.items)
+migrated_of bytes document (Ok text) reads one faultless printed again = record {
+  document = document;
+  reads = reads;
+  version_one = one;
+  faultless = faultless;
+  after = migrated document;
+  becomes = put_together document;
+  printed = printed;
+  read_again = again;
+}
+migrated_of bytes document (Err fault) reads one faultless printed again = tt

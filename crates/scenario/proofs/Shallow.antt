@@ -34,7 +34,8 @@ use Rattle.scenario.specs.KeyFaults.{basis_of, counts, fault_in, fault_of, is_ve
 use Rattle.scenario.specs.RuleValues.{formula_tables}
 use Rattle.scenario.specs.Shapes.{is_no_integer_list, is_no_vertex, no_shape_fault, shape_array_fault, shape_fault, shape_in, vertices_fault}
 use Rattle.scenario.specs.Inner.WithinBounds.{IsWithin}
-use Rattle.scenario.specs.Migration.{found_at, has_own, is_key, is_key_of, kept, kept_array, kept_by, keys_of, known_members, migrated, new_value, new_value_when, table_names, two_of, with_found, with_key, with_keys, with_member, with_table, with_tables}
+use Rattle.scenario.specs.Migration.{found_at, has_own, is_key, is_key_of, kept, kept_array, kept_by, known_members, member_if, new_value, new_value_when, table_names, two_of}
+use Rattle.scenario.specs.Inner.PutTogether.{keys_of, migrated, with_found, with_key, with_keys, with_member, with_table, with_tables}
 use Rattle.scenario.specs.declared.basis.Basis.{Basis}
 use Rattle.scenario.proofs.Firsts.{is_plain, plain_told, read_from}
 use Rattle.scenario.proofs.Held.{number_uncaused}
@@ -56,10 +57,14 @@ found_deep : (n : ℕ) (name : List ℕ) (found : Option Data) (members : Member
 found_deep n name None members h k = k
 found_deep n name (Some found) members h k = no_deeper n name found members h k
 
+if_deep : (n : ℕ) (name : List ℕ) (found : Option Data) (rest : Members) → IsDeep n found → members_depth rest ≤ n → members_depth (member_if name found rest) ≤ n
+if_deep n name None rest h k = k
+if_deep n name (Some found) rest h k = omega arith
+
 two_deep : (n : ℕ) (first second : List ℕ) (here : Data) → IsDeep n (member_at first here) → IsDeep n (member_at second here) → depth (two_of first second here) ≤ suc n
 two_deep n first second here h k =
-    let a = found_deep n first (member_at first here) no_members h (omega arith) in
-    let b = found_deep n second (member_at second here) (with_found first (member_at first here) no_members) k a in
+    let a = if_deep n second (member_at second here) no_members k (omega arith) in
+    let b = if_deep n first (member_at first here) (member_if second (member_at second here) no_members) h a in
     omega arith
 
 items_deep : (f : Data → Data) (n : ℕ) (list : List Data) → All (λ here. depth (f here) ≤ n) list → items_depth (items_of (map f list)) ≤ n
@@ -289,7 +294,7 @@ predict_deep tick own before here h =
     let (a, b) = no_table_fault tick own before here h in
     let ship = deeper 0 2 (member_at (codes "mmsi") here) (omega arith)
     (number_deep ships (member_at (codes "mmsi") here) (ship_caused own before (member_at (codes "mmsi") here) a)) in
-    two_deep 2 (codes "mmsi") (codes "changes") here ship (changes_deep tick (member_at (codes "changes") here) b)
+    two_deep 2 (codes "changes") (codes "mmsi") here (changes_deep tick (member_at (codes "changes") here) b) ship
 
 pub none_first : {A F : Type 0} (test : A → Option F) (list : List A) → first_of (map test list) ≡ None → All (λ here. test here ≡ None) list
 none_first {F = F} test [] h = λ k d lt. absurd (omega arith)

@@ -2,3 +2,4 @@
 pub mod KnownKeys
 pub mod NoFaults
 pub mod WithinBounds
+pub mod PutTogether

@@ -1,8 +1,7 @@
 -- The scenario of version 2 that a scenario of version 1 becomes.
 use Rattle.std.specs.Prelude.{◌≡◌, ◌⊎◌, ◌≤◌, ◌<◌, ◌==◌, ◌&&◌, ◌++◌, ℕ, pos, codes, bytes_eq, List, [], ◌∷◌, map, Bool, true, false, is_some, if◌then◌else◌, Option, Some, None}
-use Rattle.std.specs.Cmp.Lexicographic.{slice_cmp}
-use Rattle.std.specs.Ordering.{match_ordering, nat_cmp}
-use Rattle.toml.specs.Data.{Data, integer, array, Items, Members, no_members, member, as_array, get_member}
+use Rattle.std.specs.List.{find, list_any}
+use Rattle.toml.specs.Data.{Data, integer, array, Items, Members, no_members, member, as_array, get_member, is_before}
 use Rattle.toml.specs.Data as toml
 use Rattle.toml.specs.Text.{IsDocumentText}
 use Rattle.toml.specs.View.{items_of}
@@ -25,31 +24,20 @@ use Rattle.scenario.specs.KeyFaults.{is_version_two}
 use Rattle.scenario.specs.ScenarioReading.{IsNoToml, IsRefused, Means, Reads}
 use Rattle.scenario.specs.declared.values.Scenario.{Scenario}
 
--- members in the order of their names, and one more, in the place of one of its name
+-- of a table of `formula` its name and its text, and of one of `predict` its changes and its ship
 
-abbrev pub with_member : List ℕ → Data → Members → Members
-with_member name found no_members = member name found no_members
-with_member name found (member other here rest) =
-    match_ordering
-    (slice_cmp nat_cmp name other)
-    (member name found (member other here rest))
-    (member other found rest)
-    (member other here (with_member name found rest))
-
-abbrev pub with_found : List ℕ → Option Data → Members → Members
-with_found name None members = members
-with_found name (Some found) members = with_member name found members
-
--- of a table of `formula` its name and its text, and of one of `predict` its ship and its changes
+abbrev pub member_if : List ℕ → Option Data → Members → Members
+member_if name None rest = rest
+member_if name (Some found) rest = member name found rest
 
 abbrev pub two_of : List ℕ → List ℕ → Data → Data
-two_of first second here = toml.table (with_found second (member_at second here) (with_found first (member_at first here) no_members))
+two_of first second here = toml.table (member_if first (member_at first here) (member_if second (member_at second here) no_members))
 
 abbrev pub known_members : List ℕ → Data → Data
 known_members list here =
     if bytes_eq list (codes "formula")
     then two_of (codes "name") (codes "text") here
-    else two_of (codes "mmsi") (codes "changes") here
+    else two_of (codes "changes") (codes "mmsi") here
 
 -- what is kept of what stands at a key: all of it, but of a list of tables the known members
 
@@ -97,36 +85,43 @@ is_key _ = false
 abbrev pub is_key_of : List ℕ → Row → Bool
 is_key_of table row = is_key row.kind && bytes_eq row.table table
 
--- the keys of a table, with what they hold in version 2, put to what is there
+-- What a table holds at a name in version 2: the new value of the key that stands there, and nothing where none does.
 
-abbrev pub with_key : Members → List ℕ → Row → Members → Members
-with_key document table row members =
-    if is_key_of table row then with_found row.name (new_value document row) members else members
+abbrev pub is_key_at : List ℕ → List ℕ → Row → Bool
+is_key_at table name row = is_key_of table row && bytes_eq name row.name
 
-abbrev pub with_keys : Members → List ℕ → List Row → Members → Members
-with_keys document table [] members = members
-with_keys document table (row ∷ rest) members = with_keys document table rest (with_key document table row members)
+abbrev pub value_of_key : Members → Option Row → Option Data
+value_of_key document None = None
+value_of_key document (Some row) = new_value document row
 
-unfoldable pub keys_of : Members → List ℕ → Members
-keys_of document table = with_keys document table rows no_members
+abbrev pub value_at : Members → List ℕ → List ℕ → Option Data
+value_at document table name = value_of_key document (find (is_key_at table name) rows)
 
--- the tables in which keys stand, those of them that the document has
+-- the names of the members ascend
+abbrev pub are_in_order : Members → Bool
+are_in_order no_members = true
+are_in_order (member name found rest) = is_before name rest && are_in_order rest
 
+-- the members are the keys of the table, and nothing else
+abbrev pub AreKeysOf : Members → List ℕ → Members → Type 0
+AreKeysOf document table keys = (are_in_order keys ≡ true) × ((name : List ℕ) → get_member name keys ≡ value_at document table name)
+
+-- the tables in which keys stand
 abbrev pub table_names : List (List ℕ)
 table_names =
     codes "window" ∷ codes "reference" ∷ codes "log" ∷ codes "detect" ∷ codes "act" ∷ codes "rules" ∷ codes "own" ∷ []
 
-abbrev pub with_table : Members → List ℕ → Members → Members
-with_table document name members =
-    if is_some (get_member name document) then with_member name (toml.table (keys_of document name)) members else members
+-- the document has a table of keys of this name
+abbrev pub has_table : Members → List ℕ → Bool
+has_table document name = list_any (bytes_eq name) table_names && is_some (get_member name document)
 
-abbrev pub with_tables : Members → List (List ℕ) → Members → Members
-with_tables document [] members = members
-with_tables document (name ∷ rest) members = with_tables document rest (with_table document name members)
-
--- The document of version 2: the keys of the table of keys that the document of version 1 has, and nothing else.
-unfoldable pub migrated : Members → Members
-migrated document = with_tables document table_names (keys_of document (codes ""))
+-- The document of version 2: each table of keys that the document of version 1 has, with its keys, the keys that stand in no table, and nothing else.
+pub record IsMigratedDocument (document after : Members) : Type 0 where
+  pub in_order : are_in_order after ≡ true
+  pub tables :
+      (name : List ℕ) → has_table document name ≡ true
+      → (keys : Members) × (get_member name after ≡ Some (toml.table keys)) × AreKeysOf document name keys
+  pub keys : (name : List ℕ) → has_table document name ≡ false → get_member name after ≡ value_at document [] name
 
 -- The text is that of the document of version 2, and is read as it. The document of version 1 has no fault.
 pub record IsMigrated (bytes text : List ℕ) : Type 0 where
@@ -134,8 +129,10 @@ pub record IsMigrated (bytes text : List ℕ) : Type 0 where
   pub reads : Reads bytes document
   pub version_one : is_version_two document ≡ false
   pub faultless : IsFaultless (has_own document) document
-  pub printed : IsDocumentText false (migrated document) text
-  pub read_again : Reads text (migrated document)
+  pub after : Members
+  pub becomes : IsMigratedDocument document after
+  pub printed : IsDocumentText false after text
+  pub read_again : Reads text after
 
 -- The bytes are of version 2: that is a fault of `version`, whatever else they hold.
 pub record IsOfVersionTwo (bytes : List ℕ) (key : Key) (why : Cause) : Type 0 where

@@ -1,6 +1,7 @@
 //! Laws of scenarios, which stand over the definitions alone.
-ghost use Rattle.std.specs.Prelude.{ℕ, List, Bool};
-ghost use Rattle.scenario.specs.Migration.{IsMigrated, MeansTheSame};
+ghost use Rattle.std.specs.Prelude.{◌≡◌, ℕ, List, Bool};
+ghost use Rattle.toml.specs.Data.{Members};
+ghost use Rattle.scenario.specs.Migration.{IsMigrated, IsMigratedDocument, MeansTheSame};
 ghost use Rattle.scenario.specs.ScenarioReading.{HasOneReading, Means};
 ghost use Rattle.scenario.specs.declared.values.Scenario.{Scenario};
 
@@ -15,4 +16,10 @@ pub fn one_reading()
 pub fn a_migrated_text_means_the_same()
     ensures { (bytes text : List ℕ) (need_own : Bool) (scenario : Scenario) → IsMigrated bytes text → Means need_own bytes scenario →
         MeansTheSame need_own scenario text }
+{}
+
+/// Whatever document stands in a scenario of version 1, there is exactly one document of version 2 that it becomes.
+pub fn one_migrated_document()
+    ensures some { (document : Members) → (after : Members) × IsMigratedDocument document after }
+    ensures one { (document after other : Members) → IsMigratedDocument document after → IsMigratedDocument document other → after ≡ other }
 {}

@@ -1,5 +1,8 @@
 //! Turns a scenario of version 1 into one of version 2 with the same meaning.
 ghost use Rattle.std.specs.Prelude.{◌≡◌, ◌⊎◌, ◌≤◌, codes, map, option_map, false, Bool, IfErr, IfOk, OnOk};
+ghost use Rattle.std.specs.Cmp.Lexicographic.{slice_cmp};
+ghost use Rattle.std.specs.Ordering.{nat_cmp};
+ghost use Rattle.std.specs.declared.cmp.Ordering.TheVariants.{Greater};
 ghost use Rattle.toml.specs.Data.{members_depth, no_members};
 ghost use Rattle.toml.specs.Text.{IsDocumentText};
 ghost use Rattle.scenario.specs.DocumentFaults.{IsFaultless};
@@ -10,7 +13,8 @@ ghost use Rattle.scenario_keys.specs.ListFaults.{elements};
 ghost use Rattle.scenario_keys.specs.ToldFaults.{IfFault};
 ghost use Rattle.scenario_keys.specs.declared.key.Key.{Key};
 ghost use Rattle.scenario_keys.specs.declared.cause.Cause.{Cause};
-ghost use Rattle.scenario.specs.Migration.{found_at, has_own, kept, kept_by, keys_of, known_members, migrated, new_value, table_names, two_of, with_found, with_key, with_keys, with_member, with_table, with_tables, IsMigrated, IsNotMigrated, MeansTheSame};
+ghost use Rattle.scenario.specs.Migration.{found_at, has_own, kept, kept_by, known_members, new_value, table_names, two_of, IsMigrated, IsNotMigrated, MeansTheSame};
+ghost use Rattle.scenario.specs.Inner.PutTogether.{keys_of, migrated, with_found, with_key, with_keys, with_member, with_table, with_tables};
 ghost use Rattle.scenario.specs.ScenarioReading.{Means, Reads};
 ghost use Rattle.scenario.specs.declared.values.Scenario.{Scenario};
 
@@ -66,8 +70,9 @@ fn put_found(
     }
 }
 
-/// A table of the members of these two names alone.
+/// A table of the members of these two names alone, which ascend.
 fn two_of(alloc: Global, here: &Value, first: &str, second: &str) -> Result<Value, AllocError>
+    requires { slice_cmp nat_cmp second.now first.now ≡ Greater }
     ensures { IfOk result (λ v. view v ≡ two_of first.now second.now (view here.now)) }
 {
     let mut members = Table::new(alloc);
@@ -83,7 +88,7 @@ fn known_members(alloc: Global, list: &str, here: &Value) -> Result<Value, Alloc
     if list == "formula" {
         return two_of(alloc, here, "name", "text");
     }
-    two_of(alloc, here, "mmsi", "changes")
+    two_of(alloc, here, "changes", "mmsi")
 }
 
 fn known_tables(alloc: Global, list: &str, tables: &Array) -> Result<Array, AllocError>
@@ -192,7 +197,7 @@ fn with_keys(
 }
 
 /// The keys of a table, with what they hold in version 2.
-#[tactic(auto, unfolding(crate::specs::Migration::keys_of))]
+#[tactic(auto, unfolding(crate::specs::Inner::PutTogether::keys_of))]
 fn keys_of(alloc: Global, document: &Table, table: &str) -> Result<Table, AllocError>
     ensures { IfOk result (λ t. table_view t ≡ keys_of (table_view document.now) table.now) }
 {
@@ -232,7 +237,7 @@ fn with_tables(
 }
 
 /// The document of version 2.
-#[tactic(auto, unfolding(crate::specs::Migration::migrated))]
+#[tactic(auto, unfolding(crate::specs::Inner::PutTogether::migrated))]
 fn migrated(alloc: Global, document: &Table) -> Result<Table, AllocError>
     ensures { IfOk result (λ t. table_view t ≡ migrated (table_view document.now)) }
 {

@@ -2,7 +2,7 @@ use Rattle.std.proofs.Common.{◌≡◌, List, IfOk, subst, ap, ◌∙◌}
 use Rattle.toml.specs.Data.{Members}
 use Rattle.toml.specs.View.{members_view, table_view}
 use Rattle.scenario_keys.specs.ScenarioKeys.{first_rows, own_rows, Row}
-use Rattle.scenario.specs.Migration.{with_keys}
+use Rattle.scenario.specs.Inner.PutTogether.{with_keys}
 use Rattle.scenario.proofs.Kept.{keys_in_parts}
 use Rattle.scenario.proofs.migration.keys_of.Goals as goal
 

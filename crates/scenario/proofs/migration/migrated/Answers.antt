@@ -1,7 +1,8 @@
 use Rattle.std.proofs.Common.{◌≡◌, IfOk, subst}
 use Rattle.toml.specs.Data.{Members}
 use Rattle.toml.specs.View.{table_view}
-use Rattle.scenario.specs.Migration.{migrated, table_names, with_tables}
+use Rattle.scenario.specs.Migration.{table_names}
+use Rattle.scenario.specs.Inner.PutTogether.{migrated, with_tables}
 use Rattle.scenario.proofs.migration.migrated.Goals as goal
 
 pub returns : goal.returns

@@ -1,6 +1,6 @@
 use Rattle.std.proofs.Common.{List, ℕ, ap, ◌∙◌}
 use Rattle.toml.specs.View.{members_view, table_view, view}
-use Rattle.scenario.specs.Migration.{with_member}
+use Rattle.scenario.specs.Inner.PutTogether.{with_member}
 use Rattle.scenario.proofs.Members.{put_seen}
 use Rattle.scenario.proofs.migration.put.Goals as goal
 

@@ -1,7 +1,7 @@
 use Rattle.std.proofs.Common.{◌≡◌, map, drop}
 use Rattle.toml.specs.View.{table_view}
 use Rattle.scenario_keys.specs.Inner.SeenRows.{seen}
-use Rattle.scenario.specs.Migration.{with_keys}
+use Rattle.scenario.specs.Inner.PutTogether.{with_keys}
 use Rattle.scenario.proofs.migration.with_keys.Given as goal
 
 abbrev pub invariant-loop-row : goal.invariant-loop-row

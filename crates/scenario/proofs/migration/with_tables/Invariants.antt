@@ -1,6 +1,6 @@
 use Rattle.std.proofs.Common.{◌≡◌, map, drop}
 use Rattle.toml.specs.View.{table_view}
-use Rattle.scenario.specs.Migration.{with_tables}
+use Rattle.scenario.specs.Inner.PutTogether.{with_tables}
 use Rattle.scenario.proofs.migration.with_tables.Given as goal
 
 abbrev pub invariant-loop-name : goal.invariant-loop-name
