@@ -333,7 +333,7 @@ fn two_formulas_over_two_traces(rt: HostRuntime) -> Result<(), Fail> {
     is(&rt, one.answer(&program, 0), Some((0, Verdict::Yes)));
     is(&rt, one.answer(&program, 1), Some((0, Verdict::No)));
     is(&rt, two.answer(&program, 1), Some((0, Verdict::Yes)));
-    two.copy_from(&one);
+    two.copy_from(&program, &one);
     two.pass_end(&program);
     is(&rt, two.answer(&program, 0), Some((1, Verdict::Yes)));
     is(&rt, two.answer(&program, 1), Some((1, Verdict::No)));

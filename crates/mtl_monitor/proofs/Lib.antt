@@ -21,6 +21,7 @@ pub mod QuietNodes
 pub mod Walks
 pub mod Knowing
 pub mod Listing
+pub mod Keepers
 pub mod Programs
 pub mod Feeding
 pub mod GrowingProgram

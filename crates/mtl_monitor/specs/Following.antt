@@ -59,9 +59,9 @@ pub record Fits (p : Program) (s : TraceState) : Type 0 where
 abbrev pub HasRoom : Program → TraceState → Type 0
 HasRoom p s = HaveShapes p.nodes.items s.states.items
 
--- Both are states of one program.
-abbrev pub AreOfOneProgram : TraceState → TraceState → Type 0
-AreOfOneProgram s r = (p : Program) × (Fits p s × HasRoom p s × Fits p r × HasRoom p r)
+-- Both are states of this program.
+abbrev pub AreStatesOf : Program → TraceState → TraceState → Type 0
+AreStatesOf p s r = Fits p s × HasRoom p s × Fits p r × HasRoom p r
 
 -- how many rows were fed, and how many passed at the end beyond them
 abbrev pub fed_of : TraceState → ℕ

@@ -7,6 +7,7 @@ pub mod Compiling
 pub mod Marks
 pub mod Triggers
 pub mod Starting
+pub mod Keeping
 pub mod Copying
 pub mod Quiet
 pub mod Reading

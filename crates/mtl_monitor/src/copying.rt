@@ -1,6 +1,7 @@
 //! What nodes keep, taken over from the nodes of another state of the same program.
-ghost use Rattle.std.specs.Prelude.{◌≡◌, length};
-ghost use Rattle.mtl_monitor.specs.Inner.Copying.{HasRoomOf, HaveRoomOf};
+ghost use Rattle.std.specs.Prelude.{◌≡◌, ◌<◌, length};
+ghost use Rattle.std.specs.List.{All};
+ghost use Rattle.mtl_monitor.specs.Inner.Copying.{AgreeBut, HasRoomOf, HaveRoomOf};
 
 use crate::node::Kept;
 use circular_buffer::HeapCircularBuffer;
@@ -35,13 +36,15 @@ fn copy_kept(keeps: &mut Kept, other: &Kept)
     }
 }
 
-/// Takes over what other nodes of the same program keep.
-pub(crate) fn copy_all(states: &mut [Kept], others: &[Kept])
+/// Takes over what other nodes of the same program keep, where all but those of these indices keep the same already.
+pub(crate) fn copy_listed(states: &mut [Kept], others: &[Kept], keepers: &[usize])
     requires same { length states.old ≡ length others.now }
+    requires inside { All (λ k. k < length others.now) keepers.now }
     requires room { HaveRoomOf states.old others.now }
+    requires agree { AgreeBut keepers.now 0 states.old others.now }
     ensures { states.new ≡ others.now }
 {
-    for k in 0..others.len() {
-        copy_kept(&mut states[k], &others[k]);
+    for k in keepers {
+        copy_kept(&mut states[*k], &others[*k]);
     }
 }

@@ -10,6 +10,7 @@
 mod building;
 mod copying;
 mod delay_line;
+mod keeping;
 mod left;
 mod lookahead;
 mod marks;

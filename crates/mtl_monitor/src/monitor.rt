@@ -92,6 +92,6 @@ impl Monitor {
         ensures fed { fed_rows self.new ≡ fed_rows other.now }
         ensures past { past_rows self.new ≡ past_rows other.now }
     {
-        self.state.copy_from(&other.state);
+        self.state.copy_from(&self.program, &other.state);
     }
 }

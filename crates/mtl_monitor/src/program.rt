@@ -4,8 +4,10 @@ ghost use Rattle.mtl_monitor.specs.Inner.Standing.{AllValid, AllValid-prop, AllB
 ghost use Rattle.mtl_monitor.specs.Inner.Reading.{AreReadable, AreReadable-prop};
 ghost use Rattle.mtl_formulas.specs.declared.glance.Glance.TheVariants.{Nothing, Apart};
 ghost use Rattle.mtl_monitor.specs.Inner.Triggers.{AreTriggers, AreTriggers-prop};
+ghost use Rattle.mtl_monitor.specs.Inner.Keeping.{keepers_of};
 
 use crate::building::{Operand, add};
+use crate::keeping::list_keepers;
 use crate::node::{AtomNode, ProgramNode};
 use crate::reading::list_atoms;
 use crate::triggers::{Trigger, list_triggers};
@@ -24,6 +26,8 @@ pub struct Program {
     /// Those of them that are to be asked where the vessels are seen and apart.
     pub(crate) asked: Vec<AtomNode>,
     pub(crate) triggers: Vec<Trigger>,
+    /// The indices of the nodes that keep something between rows, in order.
+    pub(crate) keepers: Vec<usize>,
     ghost valid: { AllValid nodes.items } by { AllValid-prop nodes.items },
     ghost below: { AllBelow nodes.items } by { AllBelow-prop nodes.items },
     ghost inside: { AllInside (length nodes.items) roots.items } by { AllInside-prop (length nodes.items) roots.items },
@@ -31,6 +35,7 @@ pub struct Program {
     ghost readable: { AreReadable Nothing nodes.items (length nodes.items) atoms.items } by { AreReadable-prop Nothing nodes.items (length nodes.items) atoms.items },
     ghost askable: { AreReadable Apart nodes.items (length nodes.items) asked.items } by { AreReadable-prop Apart nodes.items (length nodes.items) asked.items },
     ghost triggered: { AreTriggers nodes.items triggers.items } by { AreTriggers-prop nodes.items triggers.items },
+    ghost kept: { keepers.items ≡ keepers_of nodes.items },
 }
 
 impl Program {
@@ -54,6 +59,7 @@ impl Program {
             atoms: Vec::new(alloc),
             asked: Vec::new(alloc),
             triggers: Vec::new(alloc),
+            keepers: Vec::new(alloc),
         }
     }
 
@@ -73,11 +79,13 @@ impl Program {
             mut atoms,
             mut asked,
             mut triggers,
+            mut keepers,
         } = self;
         let root = add(&mut nodes, formula)?;
         list_atoms(&nodes, Glance::Nothing, &mut atoms)?;
         list_atoms(&nodes, Glance::Apart, &mut asked)?;
         list_triggers(&nodes, &mut triggers)?;
+        list_keepers(&nodes, &mut keepers)?;
         match roots.push(root) {
             Ok(()) => Ok(Program {
                 nodes,
@@ -86,6 +94,7 @@ impl Program {
                 atoms,
                 asked,
                 triggers,
+                keepers,
             }),
             Err(_) => Err(Memory),
         }

@@ -1,7 +1,7 @@
 //! What is known of one trace.
 ghost use Rattle.std.specs.Prelude.{◌≡◌, ◌≤◌, ◌<◌, ◌+◌, ◌^◌};
 
-use crate::copying::copy_all;
+use crate::copying::copy_listed;
 use crate::node::Kept;
 use crate::passing::pass_all;
 use crate::program::Program;
@@ -55,7 +55,7 @@ impl TraceState {
     ghost use Rattle.mtl_monitor.specs.Inner.Quiet.{AreAnswered};
     ghost use Rattle.mtl_formulas.specs.Glances.{IsTold};
     ghost use Rattle.mtl_formulas.specs.declared.verdict.Verdict.{Verdict};
-    ghost use Rattle.mtl_monitor.specs.Following.{GivesTheSame, last_value, IsProgramOf, Fits, HasRoom, AreOfOneProgram, Follows, Closes, IsFed, IsEnded, formula_at, count_of, fed_of, past_of};
+    ghost use Rattle.mtl_monitor.specs.Following.{GivesTheSame, last_value, IsProgramOf, Fits, HasRoom, AreStatesOf, Follows, Closes, IsFed, IsEnded, formula_at, count_of, fed_of, past_of};
 
     /// The state of a program over a trace of which no row was fed. It takes all its memory here.
     pub fn new(alloc: Global, program: &Program) -> Result<TraceState, Memory>
@@ -210,8 +210,8 @@ impl TraceState {
     }
 
     /// Takes over another state of the same program. It takes no memory.
-    pub fn copy_from(&mut self, other: &TraceState)
-        requires { AreOfOneProgram self.old other.now }
+    pub fn copy_from(&mut self, program: &Program, other: &TraceState)
+        requires { AreStatesOf program.now self.old other.now }
         ensures fits { (p : Program) → Fits p other.now → Fits p self.new }
         ensures room { (p : Program) → HasRoom p other.now → HasRoom p self.new }
         ensures fed { fed_of self.new ≡ fed_of other.now }
@@ -221,7 +221,7 @@ impl TraceState {
         ensures closes { (p : Program) (formulas : List FormulaTree) (rows : Trace) →
             Closes p other.now formulas rows → Closes p self.new formulas rows }
     {
-        copy_all(&mut self.states, &other.states);
+        copy_listed(&mut self.states, &other.states, &program.keepers);
         self.values.copy_from_slice(&other.values);
         self.moving.copy_from_slice(&other.moving);
         self.still = other.still;

@@ -25,7 +25,7 @@ use Rattle.planner.specs.declared.legs.PlannedLeg.{PlannedLeg}
 use Rattle.situations.specs.declared.situation.Situation.{Situation}
 use Rattle.situations.specs.declared.situation.Target.{Target}
 use Rattle.planner.specs.declared.watched.Watched.{Watched}
-use Rattle.situations.proofs.Blocks.{reached_end, shared}
+use Rattle.situations.proofs.Blocks.{shared, told_within}
 use Rattle.situations.proofs.CommonLegs.{in_force, same_contact, same_reached, same_steps, when_less, when_not_less}
 use Rattle.situations.proofs.FlatList.{none_some}
 use Rattle.situations.proofs.Lifting.{begins_too, enters_too, fails_too, rows_too, some_weaker}
@@ -224,15 +224,6 @@ module _ (s : Situation) (leg : PlannedLeg) (is : IsPlannedLeg s leg) where
 
 -- ---- ticks
 
-pub reached_within : (s : Situation) (legs : ℕ) → reached s legs ≤ end_of s
-reached_within s legs = elim (cases_lt legs s.lattice.legs) [
-  | inl more ↦ (let told = leg_begins s.lattice legs more in
-      let le : legs ≤ s.lattice.legs = omega arith in
-      let few = mul-le-mul_right s.lattice.leg_ticks le in
-      omega arith)
-  | inr all ↦ (let e = reached_end s legs all in omega arith)
-]
-
 -- Where a path has the states of a leg's ticks and one more, it ends with the leg, and within the plan.
 pub ends_there : (s : Situation) (leg : PlannedLeg) → IsPlannedLeg s leg → (count : ℕ) → count ≡ lasts s leg.index + 1
     → (leg.begins + count ≡ steps_told s.lattice (leg.index + 1) + 1) × (leg.begins + count ≤ positions_of s.lattice + 1)
@@ -241,7 +232,7 @@ ends_there s leg is count e =
     let begins = leg_begins s.lattice leg.index is.inside in
     let ends = leg_ends s leg.index is.inside in
     let until : leg.begins + count ≡ steps_told s.lattice (leg.index + 1) + 1 = omega arith in
-    let le = reached_within s (leg.index + 1) in
+    let le = told_within s.lattice (leg.index + 1) in
     (until, omega arith)
 
 -- What was fed up to the end of some legs was fed up to the plan's end.
@@ -250,7 +241,7 @@ early_to_end s legs watched h = λ k d lt.
     let early = h k d lt in
     let fed = early.fed in
     let since = early.since in
-    let le = reached_within s legs in
+    let le = told_within s.lattice legs in
     record { fed = omega arith; since = omega arith }
 
 -- Nothing was entered before now.

@@ -2,7 +2,7 @@
 ghost use Rattle.std.specs.Prelude.{ℕ, ◌≡◌, ◌+◌, ◌<◌, ◌≤◌, ◌^◌, ◌↔◌, IfOk, IsTrue, List, OnOk, false, length};
 ghost use Rattle.mtl_formulas.specs.FormulaTree.{FormulaTree};
 ghost use Rattle.mtl_formulas.specs.declared.verdict.Verdict.TheVariants.{No};
-ghost use Rattle.mtl_monitor.specs.Following.{count_of, fed_of, formula_at, past_of, Fits, Follows, HasRoom, AreOfOneProgram};
+ghost use Rattle.mtl_monitor.specs.Following.{count_of, fed_of, formula_at, past_of, Fits, Follows, HasRoom};
 ghost use Rattle.mtl_monitor.specs.Traces.{Trace};
 ghost use Rattle.planner.specs.Inner.Breaking.{flag_at, HasPassed, IsBrokenAt, IsNewlyBrokenAt, IsRowAdded, Tells};
 
@@ -69,7 +69,7 @@ impl Already {
         ensures ending_room { HasRoom program.now ending.new }
         ensures tells { IfOk result (λ already. (formulas : List FormulaTree) (rows : Trace) → Follows program.now values.now formulas rows → Tells formulas rows already) }
     {
-        ending.copy_from(values);
+        ending.copy_from(program, values);
         let mut already = Already {
             rules: program.formula_count(),
             flags: Vec::new(alloc),

@@ -64,7 +64,7 @@ impl Towards<'_> {
         ensures followed { IsFollowed self.now leg.now.plan (reached self.now.situation.now leg.now.index)
             (reached self.now.situation.now (leg.now.index + 1)) from.now watched.new result }
     {
-        watched.copy_from(from);
+        watched.copy_from(self.program, from);
         self.follow(leg, path, watched)
     }
 }

@@ -4,7 +4,7 @@ ghost use Rattle.std.specs.Option.{option_copied};
 ghost use Rattle.encounters.specs.Directions.{HaveDirections};
 ghost use Rattle.encounters.specs.Risk.{IsDetect};
 ghost use Rattle.mtl_formulas.specs.FormulaTree.{FormulaTree};
-ghost use Rattle.mtl_monitor.specs.Following.{count_of, fed_of, past_of, AreOfOneProgram, Fits, Follows, HasRoom, IsProgramOf};
+ghost use Rattle.mtl_monitor.specs.Following.{count_of, fed_of, past_of, AreStatesOf, Fits, Follows, HasRoom, IsProgramOf};
 ghost use Rattle.mtl_monitor.specs.Traces.{Trace};
 ghost use Rattle.situations.specs.FailingPlans.{BreaksARule};
 ghost use Rattle.planner.specs.Inner.Breaking.{formulas_of, Tells};
@@ -63,13 +63,13 @@ impl Watched {
     }
 
     /// Takes over what is kept of the same target after other steps. This takes no memory.
-    pub(crate) fn copy_from(&mut self, other: &Watched)
-        requires { AreOfOneProgram self.old.values other.now.values }
+    pub(crate) fn copy_from(&mut self, program: &Program, other: &Watched)
+        requires { AreStatesOf program.now self.old.values other.now.values }
         ensures { IsCopyOf self.new other.now }
     {
         self.begun = other.begun;
         self.follower = other.follower;
-        self.values.copy_from(&other.values);
+        self.values.copy_from(program, &other.values);
         self.since_now = other.since_now;
     }
 
@@ -140,7 +140,7 @@ impl Watched {
         if !self.begun {
             return false;
         }
-        ending.copy_from(&self.values);
+        ending.copy_from(towards.program, &self.values);
         for past in 0..towards.program.reach() {
             ending.pass_end(towards.program);
             let index = self.since_now + past;

@@ -99,7 +99,7 @@ first_plan_begins c legs left k n some e =
 
 -- ---- what lasts
 
-told_within : (grid : Grid) (legs : ℕ) → steps_told grid legs ≤ positions_of grid
+pub told_within : (grid : Grid) (legs : ℕ) → steps_told grid legs ≤ positions_of grid
 told_within grid legs = elim (cases_lt legs grid.legs) [
   | inl lt ↦ (let le : legs ≤ grid.legs = omega arith in
       let few = mul-le-mul_right grid.leg_ticks le in

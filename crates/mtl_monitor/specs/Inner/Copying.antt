@@ -1,5 +1,5 @@
 -- What nodes keep, taken over without memory.
-use Rattle.std.specs.Prelude.{◌≡◌, ℕ, ◌-◌, ◌<◌, List, length}
+use Rattle.std.specs.Prelude.{◌≡◌, ◌≢◌, ℕ, ◌-◌, ◌<◌, ◌≤◌, List, length, slice_index}
 use Rattle.mtl_monitor.specs.declared.node.Operator.{Operator}
 use Rattle.mtl_monitor.specs.declared.node.Operator.TheVariants as op
 use Rattle.mtl_monitor.specs.declared.node.ProgramNode.{ProgramNode}
@@ -18,6 +18,17 @@ HasRoomOf _ _ = ⊥
 
 abbrev pub HaveRoomOf : List Kept → List Kept → Type 0
 HaveRoomOf states others = (k : ℕ) → k < length others → HasRoomOf (state_at states k) (state_at others k)
+
+-- The nodes keep the same, but for those of these indices from the n-th on.
+abbrev pub AgreeBut : List ℕ → ℕ → List Kept → List Kept → Type 0
+AgreeBut indices n states others =
+    (k : ℕ) → k < length others → ((j : ℕ) → n ≤ j → j < length indices → slice_index indices j ≢ k) → state_at states k ≡ state_at others k
+
+-- The first n of the nodes of these indices have taken over what the others keep.
+pub record HaveCopied (indices : List ℕ) (states others : List Kept) (n : ℕ) : Type 0 where
+  pub fit : length states ≡ length others
+  pub room : HaveRoomOf states others
+  pub agree : AgreeBut indices n states others
 
 -- A node of this operator keeps this, with room for all that it reads.
 abbrev pub HasShape : Operator → Kept → Type 0

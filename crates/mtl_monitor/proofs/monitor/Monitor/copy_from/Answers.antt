@@ -7,4 +7,4 @@ copy_from-requires c =
     let m = c.args.self.now in
     let other = c.args.other.now in
     let e = equal_programs m.program other.program t is.0.program is.1.program in
-    (m.program, (m.fits, is.0.room, Fits-equal m.program other.program e other.state other.fits, HasRoom-equal m.program other.program e other.state is.1.room))
+    (m.fits, is.0.room, Fits-equal m.program other.program e other.state other.fits, HasRoom-equal m.program other.program e other.state is.1.room)

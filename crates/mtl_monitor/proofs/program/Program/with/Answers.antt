@@ -19,6 +19,7 @@ invariant_of-result c =
       readable = rw c.deref.ensures.value at c.in_ok-list_atoms.ensures.readable;
       askable = rw c.deref-2.ensures.value at c.in_ok-list_atoms-2.ensures.readable;
       triggered = rw c.deref-3.ensures.value at c.in_ok-list_triggers.ensures;
+      kept = rw c.deref-4.ensures.value at c.in_ok-list_keepers.ensures;
     }
 
 pub returns-in-Ok-clause-formulas : goal.returns-in-Ok-clause-formulas

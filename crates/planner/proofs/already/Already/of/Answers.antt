@@ -5,9 +5,6 @@ use Rattle.mtl_monitor.specs.Traces.{Trace}
 use Rattle.planner.proofs.TellingNow.{AreTold, all_told, closes_next, next_row, none_told, row_told}
 use Rattle.planner.proofs.already.Already.of.Goals as goal
 
-pub copy_from-requires : goal.copy_from-requires
-copy_from-requires c = (c.args.program.now, (c.requires.ending_fits, c.requires.ending_room, c.requires.fits, c.requires.room))
-
 pub loop-past-init : goal.loop-past-init
 loop-past-init c = record {
   fits = c.copy_from.ensures.fits c.args.program.now c.requires.fits;

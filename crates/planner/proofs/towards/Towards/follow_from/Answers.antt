@@ -3,12 +3,6 @@ use Rattle.situations.specs.Prefixes.{reached}
 use Rattle.planner.proofs.Following.{from_copy}
 use Rattle.planner.proofs.towards.Towards.follow_from.Goals as goal
 
-pub copy_from-requires : goal.copy_from-requires
-copy_from-requires c =
-    let mine = c.requires.ready in
-    let theirs = c.requires.from in
-    (c.args.self.now.program.now, (mine.fits, mine.room, theirs.fits, theirs.room))
-
 pub follow-requires-clause-ready : goal.follow-requires-clause-ready
 follow-requires-clause-ready c = c.copy_from.ensures.ready c.args.self.now.program.now c.requires.from
 

@@ -8,9 +8,6 @@ use Rattle.planner.proofs.TellingNow.{closes_next}
 use Rattle.planner.proofs.Watching.{breaks_rule, none_begun, rule_told}
 use Rattle.planner.proofs.watched.Watched.ends_newly_broken.Goals as goal
 
-pub copy_from-requires : goal.copy_from-requires
-copy_from-requires c = (c.args.towards.now.program.now, (c.requires.fits, c.requires.room, c.requires.ready.fits, c.requires.ready.room))
-
 pub returns-then-not-self-clause-breaks : goal.returns-then-not-self-clause-breaks
 returns-then-not-self-clause-breaks c = λ W cut at from is stands. (
   λ t. cc,
