@@ -18,7 +18,7 @@ use Rattle.audit_rows.specs.Rows.{IsRowOf, TellsStretch, TellsOf}
 use Rattle.audit_rows.specs.MarkCounts.{AreCounts}
 use Rattle.audit_rows.specs.Stretches.{HasKindAndLeast, MarksEngagement, distance_of, marked_kind, mark_at}
 use Rattle.audit_rows.specs.Tracks.{Track, longer, next_step}
-use Rattle.audit_rows.proofs.MarkCounting.{counts_after, counts_first, counts_none, counts_same, counts_turned}
+use Rattle.audit_rows.proofs.MarkCounting.{EndsAs, counts_after, counts_first, counts_none, counts_same, counts_turned}
 use Rattle.audit_rows.proofs.Sorts.{join_still, told_sort, to_sort, from_sort, sort_join, is_told, told_by, nothing_told, is_nothing}
 use Rattle.audit_rows.proofs.Stretches.{closed_front, closed_further, mark_front, measures_alike, tells_front}
 
@@ -293,6 +293,12 @@ none_yet lane track h e = subst (λ (o : Option Opened). MatchOption o (track.ma
 counts_before : (lane : Lane) (track : Track) (o : Option Opened) → Stands lane track → lane.latest ≡ o → AreCountsBefore lane.counts o (next_step track) track.marks
 counts_before lane track o h e = subst (λ (o : Option Opened). AreCountsBefore lane.counts o (next_step track) track.marks) e h.counts
 
+-- the last mark is of the latest stretch
+ends_as : (track : Track) (stretch : Stretch) → IsLatest track stretch → EndsAs track.marks stretch.mark
+ends_as track stretch h =
+    let within = h.ends.within in
+    record { at = length track.marks - 1; last = omega arith; sort = h.ends.each (length track.marks - 1) (omega arith) (omega arith) }
+
 pub stands_same : (lane : Lane) (track : Track) (mark : Mark) (opened : Opened) → Stands lane track → lane.latest ≡ Some opened → sort_of opened.mark ≡ sort_of mark
     → Stands (record { topic = lane.topic; latest = Some (record { first = opened.first; mark = join opened.mark mark }); counts = lane.counts }) (longer track mark)
 stands_same lane track mark opened h e same =
@@ -304,7 +310,7 @@ stands_same lane track mark opened h e same =
     record {
       topic = h.topic;
       latest = record { from = l.from; first = l.first; last = omega arith; ends = same_sort_ends track.marks mark l.from opened.mark l.ends same };
-      counts = rw next (counts_same lane.counts opened mark (next_step track) track.marks (omega arith) same (counts_before lane track (Some opened) h e));
+      counts = rw next (counts_same lane.counts opened mark (next_step track) track.marks (omega arith) same (ends_as track (ended opened (next_step track)) l) (counts_before lane track (Some opened) h e));
     }
 
 -- A mark of the sort of the latest stretch leaves the lane as it is, unless it tells of an engagement.
@@ -326,7 +332,7 @@ stands_other lane track mark opened step small h e next other =
     record {
       topic = h.topic;
       latest = record { from = length track.marks; first = next; last = omega arith; ends = other_sort_ends track.marks mark (λ k e same. other (sym (l.ends.each k (omega arith) (omega arith)) ∙ same)) };
-      counts = rw then (counts_turned lane.counts opened mark step track.marks small (omega arith) (rw next (counts_before lane track (Some opened) h e)));
+      counts = rw then (counts_turned lane.counts opened mark step track.marks small (omega arith) (ends_as track (ended opened (next_step track)) l) other (rw next (counts_before lane track (Some opened) h e)));
     }
 
 pub stands_first : (lane : Lane) (track : Track) (mark : Mark) (step : ℕ) → Stands lane track → lane.latest ≡ None → step ≡ next_step track
@@ -338,7 +344,7 @@ stands_first lane track mark step h e next =
     record {
       topic = h.topic;
       latest = record { from = length track.marks; first = next; last = omega arith; ends = other_sort_ends track.marks mark (λ k e same. absurd (omega arith)) };
-      counts = rw then (counts_first lane.counts mark step track.marks (rw next (counts_before lane track None h e)));
+      counts = rw then (counts_first lane.counts mark step track.marks (none_yet lane track h e) (rw next (counts_before lane track None h e)));
     }
 
 pub lane_closes : (lane : Lane) (track : Track) (mark : Mark) (opened : Opened) (step : ℕ) → Stands lane track → lane.latest ≡ Some opened → step ≡ next_step track

@@ -1,19 +1,21 @@
 -- Lemmas for the crates above: the rows of tracks from those of each track, tracks among others, and what later marks leave as it is.
-use Rattle.std.proofs.Common.{◌≡◌, ℕ, ◌+◌, ◌<◌, ◌≤◌, List, [], ◌∷◌, ◌++◌, length, refl, sym, ap, subst, arith, ◌⊎◌, inl, inr}
-use Rattle.std.specs.List.{Contains}
+use Rattle.std.proofs.Common.{◌≡◌, ◌≢◌, ℕ, Bool, map, ◌+◌, ◌<◌, ◌≤◌, List, [], ◌∷◌, ◌++◌, length, refl, sym, ap, subst, arith, ◌⊎◌, inl, inr}
+use Rattle.std.specs.List.{AllPairs, Contains, filter}
 use Rattle.audit_rows.specs.declared.mark.Mark.{Mark}
 use Rattle.audit_rows.specs.declared.row.Row.{Row}
 use Rattle.audit_rows.specs.declared.row_queue.RowQueue.{RowQueue}
 use Rattle.audit_rows.specs.declared.topic.Topic.{Topic}
 use Rattle.audit_rows.specs.Inner.Queues.{StandsFor}
-use Rattle.audit_rows.specs.Order.{first_step_of, last_step_of}
+use Rattle.audit_rows.specs.Order.{InOrder, first_step_of, last_step_of, place_cmp, sort_key_of}
 use Rattle.audit_rows.specs.Rows.{AreRowsBelow, IsRow, IsRowOf}
 use Rattle.audit_rows.specs.Tracks.{AreSettled, Continue, IsNew, IsNextAt, Track, longer, marked, next_step}
 use Rattle.audit_rows.proofs.Queues.{given_rows}
-use Rattle.audit_rows.proofs.StrictOrder.{in_cons, in_head, in_none, in_tail}
+use Rattle.audit_rows.proofs.Fronts.{sorted_filter}
+use Rattle.audit_rows.proofs.Places.{place_total}
+use Rattle.audit_rows.proofs.StrictOrder.{all_different, in_cons, in_head, in_none, in_tail}
 use Rattle.audit_rows.proofs.Stretches.{closed_front, closed_further}
 -- the laws, and that rows below a settled bound are those of whatever the tracks become
-pub use Rattle.audit_rows.proofs.Fronts.{one_list, front_of_all, still_below}
+pub use Rattle.audit_rows.proofs.Fronts.{one_list, front_of_all, still_below, from_filter, in_filter}
 pub use Rattle.audit_rows.proofs.Tracks.{settled_by_reach}
 -- a mark that repeats the last one
 pub use Rattle.audit_rows.proofs.Repeats.{repeated}
@@ -55,6 +57,14 @@ row_within track row (from, to, t) =
     let ordered = t.stretch.ordered in
     let within = t.stretch.within in
     (omega arith, omega arith, omega arith)
+
+-- ---- rows in order
+
+pub different_keys : (rows : List Row) → InOrder rows → AllPairs ◌≢◌ (map sort_key_of rows)
+different_keys rows ordered = all_different sort_key_of place_cmp place_total rows ordered
+
+pub ordered_filter : (p : Row → Bool) (rows : List Row) → InOrder rows → InOrder (filter p rows)
+ordered_filter p rows ordered = sorted_filter p sort_key_of place_cmp rows ordered
 
 -- ---- a row behind which a mark stands is a row whatever marks follow, and only then
 

@@ -3,6 +3,7 @@ mod StrictOrder
 mod Places
 mod Stretches
 mod Sorts
+mod BrokenStretches
 mod MarkCounting
 mod Closing
 mod Tracks

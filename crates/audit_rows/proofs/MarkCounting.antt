@@ -8,9 +8,11 @@ use Rattle.audit_rows.specs.declared.counts.MarkCounts.{MarkCounts}
 use Rattle.audit_rows.specs.declared.mark.Mark.{Mark}
 use Rattle.audit_rows.specs.declared.mark.Mark.TheVariants as mark
 use Rattle.audit_rows.specs.declared.stretch.Opened.{Opened}
-use Rattle.audit_rows.specs.Inner.Lanes.{AreCountsBefore, with_stretch, told}
+use Rattle.audit_rows.specs.Inner.Lanes.{AreCountsBefore, open_run, with_stretch, told}
 use Rattle.audit_rows.specs.Inner.Sorts.{Sort, Nothing, Broken, Undecided, Engaged, join, sort_of}
-use Rattle.audit_rows.specs.MarkCounts.{AreCounts, is_any, is_broken, is_nothing, is_undecided, passing}
+use Rattle.audit_rows.specs.MarkCounts.{AreCounts, broken_stretches, is_any, is_broken, is_nothing, is_undecided, passing}
+use Rattle.audit_rows.specs.Stretches.{mark_at}
+use Rattle.audit_rows.proofs.BrokenStretches.{few_stretches, stretches_first, stretches_more, stretches_same}
 use Rattle.audit_rows.proofs.Sorts.{sort_join}
 
 pub length-filter_append : {X : Type 0} (p : X → Bool) (xs ys : List X) → length (filter p (xs ++ ys)) ≡ length (filter p xs) + length (filter p ys)
@@ -72,6 +74,12 @@ any_by m = refl
 alike : (test : Mark → Bool) (by : Sort → Bool) → ((m : Mark) → test m ≡ by (sort_of m)) → (a b : Mark) → sort_of a ≡ sort_of b → test a ≡ test b
 alike test by is a b e = is a ∙ ap by e ∙ sym (is b)
 
+-- The marks end in one of the same sort.
+pub record EndsAs (marks : List Mark) (whole : Mark) : Type 0 where
+  pub at : ℕ
+  pub last : at + 1 ≡ length marks
+  pub sort : sort_of (mark_at marks at) ≡ sort_of whole
+
 -- ---- one more mark of the stretch
 
 grows : (p : Bool) (n first step old new : ℕ) → first ≤ step → n + cond p (step - first) 0 ≡ old → new ≡ old + cond p 1 0 → n + cond p ((step + 1) - first) 0 ≡ new
@@ -79,7 +87,7 @@ grows true n first step old new le h g = omega arith
 grows false n first step old new le h g = omega arith
 
 module _ (counts : MarkCounts) (opened : Opened) (mark : Mark) (step : ℕ) (marks : List Mark) (le : opened.first ≤ step) (same : sort_of opened.mark ≡ sort_of mark)
-    (h : AreCountsBefore counts (Some opened) step marks) where
+    (ends : EndsAs marks opened.mark) (h : AreCountsBefore counts (Some opened) step marks) where
   one_same : (test : Mark → Bool) (by : Sort → Bool) → ((m : Mark) → test m ≡ by (sort_of m)) → (n : ℕ) → n + cond (test opened.mark) (step - opened.first) 0 ≡ passing test marks
       → n + cond (test (join opened.mark mark)) ((step + 1) - opened.first) 0 ≡ passing test (marks ++ mark ∷ [])
   one_same test by is n e =
@@ -89,12 +97,19 @@ module _ (counts : MarkCounts) (opened : Opened) (mark : Mark) (step : ℕ) (mar
       subst (λ (b : Bool). n + cond b ((step + 1) - opened.first) 0 ≡ all) (alike test by is opened.mark (join opened.mark mark) (sym (sort_join opened.mark mark)))
       (grows (test opened.mark) n opened.first step (passing test marks) all le e more)
 
+  runs_same : counts.runs + open_run (Some (record { first = opened.first; mark = join opened.mark mark })) ≡ broken_stretches (marks ++ mark ∷ [])
+  runs_same =
+      let joined : is_broken (join opened.mark mark) ≡ is_broken opened.mark = alike is_broken broken_sort broken_by (join opened.mark mark) opened.mark (sort_join opened.mark mark) in
+      let none = stretches_same marks mark ends.at ends.last (alike is_broken broken_sort broken_by (mark_at marks ends.at) mark (ends.sort ∙ same)) in
+      ap (λ (b : Bool). counts.runs + cond b 1 0) joined ∙ (h.runs ∙ sym none)
+
   pub counts_same : AreCountsBefore counts (Some (record { first = opened.first; mark = join opened.mark mark })) (step + 1) (marks ++ mark ∷ [])
   counts_same = record {
     all = one_same is_any (λ s. true) any_by counts.all h.all;
     nothing = one_same is_nothing nothing_sort nothing_by counts.nothing h.nothing;
     broken = one_same is_broken broken_sort broken_by counts.broken h.broken;
     undecided = one_same is_undecided undecided_sort undecided_by counts.undecided h.undecided;
+    runs = runs_same;
   }
 
 -- ---- the counts of all marks
@@ -107,37 +122,42 @@ as_before n all e = omega arith
 
 pub counts_after : (counts : MarkCounts) (opened : Opened) (step : ℕ) (marks : List Mark) → step < 2 ^ 32 → length marks ≤ step → AreCountsBefore counts (Some opened) step marks
     → AreCounts (with_stretch counts opened step) marks
-counts_after counts opened step marks small le h = by opened.mark (λ test. few test marks) h.all h.nothing h.broken h.undecided
+counts_after counts opened step marks small le h = by opened.mark (λ test. few test marks) (few_stretches marks) h.all h.nothing h.broken h.undecided h.runs
   where
-    by : (mark : Mark) → ((test : Mark → Bool) → passing test marks ≤ length marks)
+    by : (mark : Mark) → ((test : Mark → Bool) → passing test marks ≤ length marks) → broken_stretches marks ≤ length marks
         → counts.all + cond (is_any mark) (step - opened.first) 0 ≡ passing is_any marks
         → counts.nothing + cond (is_nothing mark) (step - opened.first) 0 ≡ passing is_nothing marks
         → counts.broken + cond (is_broken mark) (step - opened.first) 0 ≡ passing is_broken marks
         → counts.undecided + cond (is_undecided mark) (step - opened.first) 0 ≡ passing is_undecided marks
+        → counts.runs + cond (is_broken mark) 1 0 ≡ broken_stretches marks
         → AreCounts (with_stretch counts (record { first = opened.first; mark = mark }) step) marks
-    by mark.Nothing few a n b u = record {
+    by mark.Nothing few few_runs a n b u r = record {
       all = tells _ _ _ _ a (few is_any) (omega arith);
       nothing = tells _ _ _ _ n (few is_nothing) (omega arith);
       broken = as_before _ _ b;
       undecided = as_before _ _ u;
+      runs = as_before _ _ r;
     }
-    by mark.Broken few a n b u = record {
+    by mark.Broken few few_runs a n b u r = record {
       all = tells _ _ _ _ a (few is_any) (omega arith);
       nothing = as_before _ _ n;
       broken = tells _ _ _ _ b (few is_broken) (omega arith);
       undecided = as_before _ _ u;
+      runs = tells _ _ _ _ r few_runs (omega arith);
     }
-    by mark.Undecided few a n b u = record {
+    by mark.Undecided few few_runs a n b u r = record {
       all = tells _ _ _ _ a (few is_any) (omega arith);
       nothing = as_before _ _ n;
       broken = as_before _ _ b;
       undecided = tells _ _ _ _ u (few is_undecided) (omega arith);
+      runs = as_before _ _ r;
     }
-    by (mark.Engaged kind least) few a n b u = record {
+    by (mark.Engaged kind least) few few_runs a n b u r = record {
       all = tells _ _ _ _ a (few is_any) (omega arith);
       nothing = as_before _ _ n;
       broken = as_before _ _ b;
       undecided = as_before _ _ u;
+      runs = as_before _ _ r;
     }
 
 pub counts_none : (counts : MarkCounts) (step : ℕ) (marks : List Mark) → AreCountsBefore counts None step marks → AreCounts counts marks
@@ -146,6 +166,7 @@ counts_none counts step marks h = record {
   nothing = as_before _ _ h.nothing;
   broken = as_before _ _ h.broken;
   undecided = as_before _ _ h.undecided;
+  runs = as_before _ _ h.runs;
 }
 
 -- ---- the first mark of a stretch
@@ -157,19 +178,40 @@ begins test mark marks n step e = by (test mark) (one_more test marks mark)
     by true h = omega arith
     by false h = omega arith
 
-counts_begun : (counts : MarkCounts) (mark : Mark) (step : ℕ) (marks : List Mark) → AreCounts counts marks
+counts_begun : (counts : MarkCounts) (mark : Mark) (step : ℕ) (marks : List Mark) → broken_stretches (marks ++ mark ∷ []) ≡ broken_stretches marks + cond (is_broken mark) 1 0 → AreCounts counts marks
     → AreCountsBefore counts (Some (record { first = step; mark = mark })) (step + 1) (marks ++ mark ∷ [])
-counts_begun counts mark step marks h = record {
+counts_begun counts mark step marks one h = record {
   all = begins is_any mark marks counts.all step h.all;
   nothing = begins is_nothing mark marks counts.nothing step h.nothing;
   broken = begins is_broken mark marks counts.broken step h.broken;
   undecided = begins is_undecided mark marks counts.undecided step h.undecided;
+  runs = ap (λ (n : ℕ). n + cond (is_broken mark) 1 0) h.runs ∙ sym one;
 }
 
-pub counts_first : (counts : MarkCounts) (mark : Mark) (step : ℕ) (marks : List Mark) → AreCountsBefore counts None step marks
+pub counts_first : (counts : MarkCounts) (mark : Mark) (step : ℕ) (marks : List Mark) → marks ≡ [] → AreCountsBefore counts None step marks
     → AreCountsBefore counts (Some (record { first = step; mark = mark })) (step + 1) (marks ++ mark ∷ [])
-counts_first counts mark step marks h = counts_begun counts mark step marks (counts_none counts step marks h)
+counts_first counts mark step marks empty h =
+    counts_begun counts mark step marks
+    (subst (λ (ms : List Mark). broken_stretches (ms ++ mark ∷ []) ≡ broken_stretches ms + cond (is_broken mark) 1 0) (sym empty) (stretches_first mark))
+    (counts_none counts step marks h)
+
+broken_both : (a b : Mark) → is_broken a ≡ true → is_broken b ≡ true → sort_of a ≡ sort_of b
+broken_both mark.Broken mark.Broken e f = refl
+broken_both mark.Broken mark.Nothing e f = absurd (cc)
+broken_both mark.Broken mark.Undecided e f = absurd (cc)
+broken_both mark.Broken (mark.Engaged kind least) e f = absurd (cc)
+broken_both mark.Nothing b e f = absurd (cc)
+broken_both mark.Undecided b e f = absurd (cc)
+broken_both (mark.Engaged kind least) b e f = absurd (cc)
+
+only_one : (b : Bool) → (b ≡ true → ⊥) → b ≡ false
+only_one true h = absurd (h refl)
+only_one false h = refl
 
 pub counts_turned : (counts : MarkCounts) (opened : Opened) (mark : Mark) (step : ℕ) (marks : List Mark) → step < 2 ^ 32 → length marks ≤ step
+    → EndsAs marks opened.mark → (sort_of opened.mark ≡ sort_of mark → ⊥)
     → AreCountsBefore counts (Some opened) step marks → AreCountsBefore (with_stretch counts opened step) (Some (record { first = step; mark = mark })) (step + 1) (marks ++ mark ∷ [])
-counts_turned counts opened mark step marks small le h = counts_begun (with_stretch counts opened step) mark step marks (counts_after counts opened step marks small le h)
+counts_turned counts opened mark step marks small le ends other h =
+    counts_begun (with_stretch counts opened step) mark step marks
+    (stretches_more marks mark ends.at ends.last (λ is. only_one (is_broken (mark_at marks ends.at)) (λ was. other (sym ends.sort ∙ broken_both (mark_at marks ends.at) mark was is))))
+    (counts_after counts opened step marks small le h)

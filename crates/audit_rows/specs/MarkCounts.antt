@@ -1,10 +1,11 @@
--- How many marks of each sort there are.
-use Rattle.std.specs.Prelude.{ℕ, ◌≡◌, Bool, true, false, List, length, Option, None, IsSomeAnd, MatchOption}
-use Rattle.std.specs.List.{filter}
+-- How many marks of each sort there are, and how many stretches of broken ones.
+use Rattle.std.specs.Prelude.{ℕ, ◌≡◌, ◌+◌, ◌&&◌, not, Bool, true, false, List, length, Option, None, IsSomeAnd, MatchOption}
+use Rattle.std.specs.List.{filter, range_with_len}
 use Rattle.audit_rows.specs.declared.counts.MarkCounts.{MarkCounts}
 use Rattle.audit_rows.specs.declared.mark.Mark.{Mark}
 use Rattle.audit_rows.specs.declared.mark.Mark.TheVariants.{Nothing, Broken, Undecided, Engaged}
 use Rattle.audit_rows.specs.declared.topic.Topic.{Topic}
+use Rattle.audit_rows.specs.Stretches.{mark_at}
 use Rattle.audit_rows.specs.Tracks.{Track}
 
 abbrev pub is_any : Mark → Bool
@@ -32,11 +33,20 @@ is_undecided (Engaged kind least) = false
 abbrev pub passing : (Mark → Bool) → List Mark → ℕ
 passing test marks = length (filter test marks)
 
+-- The mark at an index is broken, and the one behind it, if there is one, is not.
+abbrev pub ends_broken : List Mark → ℕ → Bool
+ends_broken marks k = is_broken (mark_at marks k) && not (is_broken (mark_at marks (k + 1)))
+
+-- how many maximal stretches of broken marks there are, by their ends
+abbrev pub broken_stretches : List Mark → ℕ
+broken_stretches marks = length (filter (ends_broken marks) (range_with_len 0 (length marks)))
+
 pub record AreCounts (counts : MarkCounts) (marks : List Mark) : Type 0 where
   pub all : counts.all ≡ passing is_any marks
   pub nothing : counts.nothing ≡ passing is_nothing marks
   pub broken : counts.broken ≡ passing is_broken marks
   pub undecided : counts.undecided ≡ passing is_undecided marks
+  pub runs : counts.runs ≡ broken_stretches marks
 
 -- The topic and the counts of a track, if there is one.
 abbrev pub IsCountOf : Option (Topic × MarkCounts) → Option Track → Type 0

@@ -161,6 +161,7 @@ fn counts_of_a_track(rt: HostRuntime) -> Result<(), Fail> {
         nothing: 1,
         broken: 3,
         undecided: 2,
+        runs: 2,
     };
     is(&rt, queue.counts(index, 6), Some((topic, counts)));
     is(&rt, queue.track_count(), 1);

@@ -11,7 +11,7 @@ use Rattle.audit_rows.specs.declared.stretch.Stretch.{Stretch}
 use Rattle.audit_rows.specs.declared.topic.Topic.{Topic}
 use Rattle.audit_rows.specs.declared.topic.Topic.TheVariants as topic
 use Rattle.audit_rows.specs.Inner.Sorts.{sort_of}
-use Rattle.audit_rows.specs.MarkCounts.{is_any, is_broken, is_nothing, is_undecided, passing}
+use Rattle.audit_rows.specs.MarkCounts.{is_any, is_broken, is_nothing, is_undecided, broken_stretches, passing}
 use Rattle.audit_rows.specs.Stretches.{HasKindAndLeast, mark_at}
 use Rattle.audit_rows.specs.Tracks.{Track, next_step}
 
@@ -44,12 +44,18 @@ abbrev pub open_passing : (Mark → Bool) → Option Opened → ℕ → ℕ
 open_passing test None step = 0
 open_passing test (Some opened) step = if test opened.mark then step - opened.first else 0
 
+-- whether the stretch is a broken one, as a number
+abbrev pub open_run : Option Opened → ℕ
+open_run None = 0
+open_run (Some opened) = if is_broken opened.mark then 1 else 0
+
 -- The counts of the marks before the latest stretch, with those of that stretch, are those of all marks.
 pub record AreCountsBefore (counts : MarkCounts) (latest : Option Opened) (step : ℕ) (marks : List Mark) : Type 0 where
   pub all : counts.all + open_passing is_any latest step ≡ passing is_any marks
   pub nothing : counts.nothing + open_passing is_nothing latest step ≡ passing is_nothing marks
   pub broken : counts.broken + open_passing is_broken latest step ≡ passing is_broken marks
   pub undecided : counts.undecided + open_passing is_undecided latest step ≡ passing is_undecided marks
+  pub runs : counts.runs + open_run latest ≡ broken_stretches marks
 
 pub record Stands (lane : Lane) (track : Track) : Type 0 where
   pub topic : lane.topic ≡ track.topic
@@ -59,16 +65,16 @@ pub record Stands (lane : Lane) (track : Track) : Type 0 where
 -- ---- how counts grow
 
 abbrev pub no_counts : MarkCounts
-no_counts = record { all = 0; nothing = 0; broken = 0; undecided = 0 }
+no_counts = record { all = 0; nothing = 0; broken = 0; undecided = 0; runs = 0 }
 
 -- a number as a count tells it: it stands still at its type's end
 abbrev pub told : ℕ → ℕ
 told n = min n (2 ^ 32 - 1)
 
--- with so many marks more, all of this mark's sort
+-- with a stretch of so many marks more, all of this mark's sort
 abbrev pub with_more : MarkCounts → Mark → ℕ → MarkCounts
 with_more counts Nothing many = record counts { all = told (counts.all + many); nothing = told (counts.nothing + many) }
-with_more counts Broken many = record counts { all = told (counts.all + many); broken = told (counts.broken + many) }
+with_more counts Broken many = record counts { all = told (counts.all + many); broken = told (counts.broken + many); runs = told (counts.runs + 1) }
 with_more counts Undecided many = record counts { all = told (counts.all + many); undecided = told (counts.undecided + many) }
 with_more counts (Engaged kind least) many = record counts { all = told (counts.all + many) }
 
