@@ -1,17 +1,13 @@
--- How many marks of a rule's tracks pass a test.
-use Rattle.std.proofs.Common.{◌≡◌, ℕ, ◌+◌, Bool, List, [], ◌∷◌, ◌++◌, length, refl, ap, ◌∙◌, arith, length-append}
-use Rattle.std.specs.List.{filter}
-use Rattle.std.proofs.lemmas.List.Elements.{filter-append}
+-- What the marks of a rule's tracks come to.
+use Rattle.std.proofs.Common.{◌≡◌, ℕ, ◌+◌, List, [], ◌∷◌, ◌++◌, refl, arith}
 use Rattle.std.proofs.lemmas.List.Sums.{sum_by-append, sum_by-cons}
 use Rattle.audit_rows.specs.declared.mark.Mark.{Mark}
 use Rattle.audit_rows.specs.Tracks.{Track}
-use Rattle.auditor.specs.Tallies.{counted, marks_in}
-
-pub length-filter_append : {X : Type 0} (p : X → Bool) (xs ys : List X) → length (filter p (xs ++ ys)) ≡ length (filter p xs) + length (filter p ys)
-length-filter_append p xs ys = ap length (filter-append p xs ys) ∙ length-append (filter p xs) (filter p ys)
+use Rattle.auditor.specs.Tallies.{counted, of_rule}
 
 -- one more track
-pub counted_last : (rule : ℕ) (test : Mark → Bool) (tracks : List Track) (track : Track) → counted rule test (tracks ++ track ∷ []) ≡ counted rule test tracks + marks_in rule test track
-counted_last rule test tracks track =
-    let none : counted rule test [] ≡ 0 = refl in
-    omega (arith, sum_by-append (marks_in rule test) tracks (track ∷ []), sum_by-cons (marks_in rule test) track [])
+pub counted_last : (rule : ℕ) (measure : List Mark → ℕ) (tracks : List Track) (track : Track)
+    → counted rule measure (tracks ++ track ∷ []) ≡ counted rule measure tracks + of_rule rule measure track
+counted_last rule measure tracks track =
+    let none : counted rule measure [] ≡ 0 = refl in
+    omega (arith, sum_by-append (of_rule rule measure) tracks (track ∷ []), sum_by-cons (of_rule rule measure) track [])

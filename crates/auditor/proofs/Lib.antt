@@ -1,6 +1,6 @@
 pub mod ForCallers
 mod Counts
-mod Runs
+mod RuleRuns
 mod Totals
 mod Begun
 mod RowAnswers

@@ -9,28 +9,28 @@ use Rattle.audit_rows.specs.declared.row.Row.{Row}
 use Rattle.audit_rows.proofs.ForCallers.{marked_there, next_there}
 use Rattle.auditor.specs.ValueMarks.{mark_of}
 use Rattle.auditor.specs.Inner.RowAnswers.{Answer, AreAnswers, AwaitAll, Awaits, IsAnswer, MarksRule, MarksRules, answered, answered_all}
-use Rattle.auditor.specs.Tallies.{Keeps}
-use Rattle.auditor.specs.declared.marks.Marks.{Marks}
+use Rattle.audit_rows.specs.Inner.Queues.{StandsFor as Keeps}
+use Rattle.audit_rows.specs.declared.row_queue.RowQueue.{RowQueue}
 use Rattle.auditor.specs.declared.trace.AuditTrace.{AuditTrace}
 
 -- ---- one rule
 
 -- what marking the track with a value's mark says
-abbrev pub MarkedBy : Marks → Marks → ℕ → ℕ → Verdict → Type 0
-MarkedBy old new index step value = (rules bound : ℕ) (tracks : List Track) (given : List Row) → Keeps old rules tracks bound given
-    → IsNextAt tracks index step → Keeps new rules (marked tracks index (mark_of value)) bound given
+abbrev pub MarkedBy : RowQueue → RowQueue → ℕ → ℕ → Verdict → Type 0
+MarkedBy old new index step value = (tracks : List Track) (bound : ℕ) (given : List Row) → Keeps old tracks bound given
+    → IsNextAt tracks index step → Keeps new (marked tracks index (mark_of value)) bound given
 
-module _ (program : Program) (trace : AuditTrace) (index rule : ℕ) (old new : Marks) where
+module _ (program : Program) (trace : AuditTrace) (index rule : ℕ) (old new : RowQueue) where
   pub with_mark : (position : ℕ) (value : Verdict) → IsAnswer program trace.values rule (Some (position, value))
       → MarkedBy old new index (trace.start + position) value → MarksRule program trace index rule old new
   with_mark position value is by = record {
     answer = Some (position, value);
     is = is;
-    keeps = λ rules bound before track after given e awaits keeps.
-        let there : Keeps new rules (marked (before ++ track ∷ after) index (mark_of value)) bound given =
-        by rules bound (before ++ track ∷ after) given keeps
+    keeps = λ bound before track after given e awaits keeps.
+        let there : Keeps new (marked (before ++ track ∷ after) index (mark_of value)) bound given =
+        by (before ++ track ∷ after) bound given keeps
         (subst (λ (i : ℕ). IsNextAt (before ++ track ∷ after) i (trace.start + position)) (sym e) (next_there before after track (trace.start + position) awaits)) in
-        subst (λ (tracks : List Track). Keeps new rules tracks bound given)
+        subst (λ (tracks : List Track). Keeps new tracks bound given)
         (ap (λ (i : ℕ). marked (before ++ track ∷ after) i (mark_of value)) e ∙ marked_there before after track (mark_of value)) there;
   }
 
@@ -38,7 +38,7 @@ module _ (program : Program) (trace : AuditTrace) (index rule : ℕ) (old new : 
   with_none same is = record {
     answer = None;
     is = is;
-    keeps = λ rules bound before track after given e awaits keeps. subst (λ (m : Marks). Keeps m rules (before ++ track ∷ after) bound given) same keeps;
+    keeps = λ bound before track after given e awaits keeps. subst (λ (m : RowQueue). Keeps m (before ++ track ∷ after) bound given) same keeps;
   }
 
 -- ---- one rule more
@@ -89,15 +89,15 @@ last_of start (x ∷ xs) answer (t ∷ ts) h =
     }
 
 module _ (program : Program) (trace : AuditTrace) (first : ℕ) where
-  pub no_rules : (marks : Marks) → MarksRules program trace first 0 marks marks
+  pub no_rules : (marks : RowQueue) → MarksRules program trace first 0 marks marks
   no_rules marks = record {
     answers = [];
     many = refl;
     are = tt;
-    keeps = λ rules bound before mine after given e await keeps. keeps;
+    keeps = λ bound before mine after given e await keeps. keeps;
   }
 
-  pub one_rule_more : (n : ℕ) (old now new : Marks) → MarksRules program trace first n old now → MarksRule program trace (first + n) n now new
+  pub one_rule_more : (n : ℕ) (old now new : RowQueue) → MarksRules program trace first n old now → MarksRule program trace (first + n) n now new
       → MarksRules program trace first (n + 1) old new
   one_rule_more n old now new so_far one =
       let many = so_far.many in
@@ -107,19 +107,19 @@ module _ (program : Program) (trace : AuditTrace) (first : ℕ) where
         many = omega (arith, length-append so_far.answers (one.answer ∷ []));
         are = answers_then program trace.values 0 so_far.answers one.answer so_far.are
             (subst (λ (k : ℕ). IsAnswer program trace.values k one.answer) place one.is);
-        keeps = λ rules bound before mine after given e await keeps.
+        keeps = λ bound before mine after given e await keeps.
             let l = last_of trace.start so_far.answers one.answer mine await in
             let done = answered_all so_far.answers l.front in
             let regrouped : before ++ (mine ++ after) ≡ before ++ (l.front ++ l.track ∷ after) =
             ap (λ (ts : List Track). before ++ (ts ++ after)) l.is ∙ ap (λ (ts : List Track). before ++ ts) (append_assoc l.front (l.track ∷ []) after) in
-            let now_kept : Keeps now rules (before ++ (done ++ l.track ∷ after)) bound given =
-            so_far.keeps rules bound before l.front (l.track ∷ after) given e l.await
-            (subst (λ (ts : List Track). Keeps old rules ts bound given) regrouped keeps) in
+            let now_kept : Keeps now (before ++ (done ++ l.track ∷ after)) bound given =
+            so_far.keeps bound before l.front (l.track ∷ after) given e l.await
+            (subst (λ (ts : List Track). Keeps old ts bound given) regrouped keeps) in
             let there : first + n ≡ length (before ++ done) = (let m = l.many in omega (arith, length-append before done)) in
-            let new_kept : Keeps new rules ((before ++ done) ++ answered one.answer l.track ∷ after) bound given =
-            one.keeps rules bound (before ++ done) l.track after given there l.awaits
-            (subst (λ (ts : List Track). Keeps now rules ts bound given) (sym (append_assoc before done (l.track ∷ after))) now_kept) in
-            subst (λ (ts : List Track). Keeps new rules ts bound given)
+            let new_kept : Keeps new ((before ++ done) ++ answered one.answer l.track ∷ after) bound given =
+            one.keeps bound (before ++ done) l.track after given there l.awaits
+            (subst (λ (ts : List Track). Keeps now ts bound given) (sym (append_assoc before done (l.track ∷ after))) now_kept) in
+            subst (λ (ts : List Track). Keeps new ts bound given)
             (append_assoc before done (answered one.answer l.track ∷ after)
             ∙ ap (λ (ts : List Track). before ++ ts) (sym (append_assoc done (answered one.answer l.track ∷ []) after))
             ∙ ap (λ (ts : List Track). before ++ (ts ++ after)) (sym l.marks))

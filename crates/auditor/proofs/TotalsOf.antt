@@ -23,8 +23,11 @@ use Rattle.auditor.specs.AuditTracks.{IsTraceOf}
 use Rattle.auditor.specs.Inner.AuditKeeping.{AreTracksOfAll}
 use Rattle.auditor.specs.Inner.TracesKept.{AreEnded}
 use Rattle.auditor.specs.RuleCounts.{told}
-use Rattle.audit_rows.specs.MarkCounts.{is_broken, is_nothing, is_undecided}
-use Rattle.auditor.specs.Tallies.{Tallies, counted, is_of_rule, marks_in}
+use Rattle.audit_rows.specs.MarkCounts.{is_any, is_broken, is_nothing, is_undecided, passing}
+use Rattle.audit_rows.specs.Inner.Closed.{HaveOwnTopics}
+use Rattle.audit_rows.specs.Rows.{AreRows}
+use Rattle.auditor.proofs.RuleRuns.{runs_counted}
+use Rattle.auditor.specs.Tallies.{Tallies, counted, is_of_rule, of_rule}
 use Rattle.auditor.specs.TraceKeeping.{AreRuleMarksWhole, AreRuleTracks, AreTracks}
 use Rattle.auditor.specs.ValueMarks.{mark_of}
 use Rattle.auditor.specs.declared.total.Total.{Total}
@@ -90,65 +93,65 @@ all_pass (m ∷ ms) = ap suc (all_pass ms)
 
 -- ---- counting the marks of a rule's tracks
 
-module _ (rule : ℕ) (test : Mark → Bool) where
-  in_meeting : (track : Track) (pair : Pair) → track.topic ≡ topic.Meeting pair → marks_in rule test track ≡ 0
-  in_meeting track pair e = ap (λ (t : Topic). if is_of_rule rule t then length (filter test track.marks) else 0) e
+module _ (rule : ℕ) (measure : List Mark → ℕ) where
+  in_meeting : (track : Track) (pair : Pair) → track.topic ≡ topic.Meeting pair → of_rule rule measure track ≡ 0
+  in_meeting track pair e = ap (λ (t : Topic). if is_of_rule rule t then measure track.marks else 0) e
 
-  in_other : (track : Track) (pair : Pair) (other : ℕ) → track.topic ≡ topic.Verdict pair other → other ≢ rule → marks_in rule test track ≡ 0
+  in_other : (track : Track) (pair : Pair) (other : ℕ) → track.topic ≡ topic.Verdict pair other → other ≢ rule → of_rule rule measure track ≡ 0
   in_other track pair other e ne =
-      ap (λ (t : Topic). if is_of_rule rule t then length (filter test track.marks) else 0) e
-      ∙ ap (λ (b : Bool). if b then length (filter test track.marks) else 0) (ne_eqb other rule ne)
+      ap (λ (t : Topic). if is_of_rule rule t then measure track.marks else 0) e
+      ∙ ap (λ (b : Bool). if b then measure track.marks else 0) (ne_eqb other rule ne)
 
-  in_rule : (track : Track) (pair : Pair) (other : ℕ) → track.topic ≡ topic.Verdict pair other → other ≡ rule → marks_in rule test track ≡ length (filter test track.marks)
+  in_rule : (track : Track) (pair : Pair) (other : ℕ) → track.topic ≡ topic.Verdict pair other → other ≡ rule → of_rule rule measure track ≡ measure track.marks
   in_rule track pair other e same =
-      ap (λ (t : Topic). if is_of_rule rule t then length (filter test track.marks) else 0) e
-      ∙ ap (λ (b : Bool). if b then length (filter test track.marks) else 0) (eq-eqb other rule same)
+      ap (λ (t : Topic). if is_of_rule rule t then measure track.marks else 0) e
+      ∙ ap (λ (b : Bool). if b then measure track.marks else 0) (eq-eqb other rule same)
 
   none_counted : (known : Known) (from : ℕ) (rules : List NamedTree) (tracks : List Track) → rule < from
-      → AreRuleTracks AreRuleMarksWhole known from (map (λ (r : NamedTree). r.tree) rules) tracks → counted rule test tracks ≡ 0
+      → AreRuleTracks AreRuleMarksWhole known from (map (λ (r : NamedTree). r.tree) rules) tracks → counted rule measure tracks ≡ 0
   none_counted known from [] [] lt h = refl
   none_counted known from [] (t ∷ ts) lt h = absurd h
   none_counted known from (r ∷ rs) [] lt h = absurd h
   none_counted known from (r ∷ rs) (t ∷ ts) lt h =
       let here = in_other t known.pair from h.0.topic (λ e. absurd (omega arith)) in
       let rest = none_counted known (from + 1) rs ts (omega arith) h.1 in
-      let all = sum_by-cons (marks_in rule test) t ts in
+      let all = sum_by-cons (of_rule rule measure) t ts in
       omega arith
 
   one_counted : (count : ℕ) (known : Known) (from : ℕ) (rules : List NamedTree) (tracks : List Track) (k : ℕ) → rule ≡ from + k → k < length rules
-      → ((marks : List Mark) → AreRuleMarksWhole (rule_at rules k).tree known.trace marks → length (filter test marks) ≡ count)
-      → AreRuleTracks AreRuleMarksWhole known from (map (λ (r : NamedTree). r.tree) rules) tracks → counted rule test tracks ≡ count
+      → ((marks : List Mark) → AreRuleMarksWhole (rule_at rules k).tree known.trace marks → measure marks ≡ count)
+      → AreRuleTracks AreRuleMarksWhole known from (map (λ (r : NamedTree). r.tree) rules) tracks → counted rule measure tracks ≡ count
   one_counted count known from [] tracks k e lt f h = absurd (omega arith)
   one_counted count known from (r ∷ rs) [] k e lt f h = absurd h
   one_counted count known from (r ∷ rs) (t ∷ ts) zero e lt f h =
       let here = in_rule t known.pair from h.0.topic (omega arith) in
       let this = f t.marks h.0.marks in
       let rest = none_counted known (from + 1) rs ts (omega arith) h.1 in
-      let all = sum_by-cons (marks_in rule test) t ts in
+      let all = sum_by-cons (of_rule rule measure) t ts in
       omega arith
   one_counted count known from (r ∷ rs) (t ∷ ts) (suc k) e lt f h =
       let here = in_other t known.pair from h.0.topic (λ same. absurd (omega arith)) in
       let rest = one_counted count known (from + 1) rs ts k (omega arith) (omega arith) f h.1 in
-      let all = sum_by-cons (marks_in rule test) t ts in
+      let all = sum_by-cons (of_rule rule measure) t ts in
       omega arith
 
   trace_counted : (numbers : AuditNumbers) (count : ℕ) (known : Known) (mine : List Track) → rule < length numbers.rules
-      → ((marks : List Mark) → AreRuleMarksWhole (rule_at numbers.rules rule).tree known.trace marks → length (filter test marks) ≡ count)
-      → AreTracks AreRuleMarksWhole numbers known mine → counted rule test mine ≡ count
+      → ((marks : List Mark) → AreRuleMarksWhole (rule_at numbers.rules rule).tree known.trace marks → measure marks ≡ count)
+      → AreTracks AreRuleMarksWhole numbers known mine → counted rule measure mine ≡ count
   trace_counted numbers count known [] lt f h = absurd h
   trace_counted numbers count known (meeting ∷ rules) lt f h =
       let none = in_meeting meeting known.pair h.0.topic in
       let rest = one_counted count known 0 numbers.rules rules rule (omega arith) lt f h.1 in
-      let all = sum_by-cons (marks_in rule test) meeting rules in
+      let all = sum_by-cons (of_rule rule measure) meeting rules in
       omega arith
 
   all_counted : (numbers : AuditNumbers) (count : Traced → ℕ) → rule < length numbers.rules
-      → ((known : Known) (marks : List Mark) → AreRuleMarksWhole (rule_at numbers.rules rule).tree known.trace marks → length (filter test marks) ≡ count (traced known))
-      → (knowns : List Known) (tracks : List Track) → AreTracksOfAll AreRuleMarksWhole numbers knowns tracks → counted rule test tracks ≡ sum_by count (map traced knowns)
-  all_counted numbers count lt f [] tracks h = ap (λ (ts : List Track). counted rule test ts) h
+      → ((known : Known) (marks : List Mark) → AreRuleMarksWhole (rule_at numbers.rules rule).tree known.trace marks → measure marks ≡ count (traced known))
+      → (knowns : List Known) (tracks : List Track) → AreTracksOfAll AreRuleMarksWhole numbers knowns tracks → counted rule measure tracks ≡ sum_by count (map traced knowns)
+  all_counted numbers count lt f [] tracks h = ap (λ (ts : List Track). counted rule measure ts) h
   all_counted numbers count lt f (k ∷ ks) tracks (mine, others, h) =
-      let whole : counted rule test tracks ≡ counted rule test (mine ++ others) = ap (λ (ts : List Track). counted rule test ts) h.0.whole in
-      let both = sum_by-append (marks_in rule test) mine others in
+      let whole : counted rule measure tracks ≡ counted rule measure (mine ++ others) = ap (λ (ts : List Track). counted rule measure ts) h.0.whole in
+      let both = sum_by-append (of_rule rule measure) mine others in
       let here = trace_counted numbers (count (traced k)) k mine lt (f k) h.1 in
       let rest = all_counted numbers count lt f ks others h.2 in
       let all = sum_by-cons count (traced k) (map traced ks) in
@@ -158,23 +161,23 @@ module _ (rule : ℕ) (test : Mark → Bool) where
 
 module _ (numbers : AuditNumbers) (rule : ℕ) (lt : rule < length numbers.rules) (knowns : List Known) (tracks : List Track) (h : AreTracksOfAll AreRuleMarksWhole numbers knowns tracks) where
   by_value : (value : Verdict) (test : Mark → Bool) → ((v : Verdict) → test (mark_of v) ≡ is_value value v)
-      → counted rule test tracks ≡ sum_by (positions_with value (rule_at numbers.rules rule).tree) (map traced knowns)
+      → counted rule (passing test) tracks ≡ sum_by (positions_with value (rule_at numbers.rules rule).tree) (map traced knowns)
   by_value value test agree =
-      all_counted rule test numbers (positions_with value (rule_at numbers.rules rule).tree) lt (λ known marks is.
+      all_counted rule (passing test) numbers (positions_with value (rule_at numbers.rules rule).tree) lt (λ known marks is.
       marks_passing test (is_value value) agree (value_in known.trace (rule_at numbers.rules rule).tree) 0 marks
       (λ i within. let same : i ≡ 0 + i = omega arith in is.each i within ∙ ap (λ (n : ℕ). mark_of (value_in known.trace (rule_at numbers.rules rule).tree n)) same)
       ∙ ap (λ (n : ℕ). length (filter (λ i. is_value value (value_in known.trace (rule_at numbers.rules rule).tree i)) (range_with_len 0 n))) is.count) knowns tracks h
 
-  by_length : counted rule (λ (m : Mark). true) tracks ≡ sum_by (λ (t : Traced). length t.trace) (map traced knowns)
-  by_length = all_counted rule (λ (m : Mark). true) numbers (λ (t : Traced). length t.trace) lt (λ known marks is. all_pass marks ∙ is.count) knowns tracks h
+  by_length : counted rule (passing is_any) tracks ≡ sum_by (λ (t : Traced). length t.trace) (map traced knowns)
+  by_length = all_counted rule (passing is_any) numbers (λ (t : Traced). length t.trace) lt (λ known marks is. all_pass marks ∙ is.count) knowns tracks h
 
-  pub is_total : (rows : List Row) (total : Total) → Tallies rule tracks rows total → IsTotal numbers (map traced knowns) rows rule total
-  is_total rows total t = record {
+  pub is_total : (rows : List Row) (total : Total) → HaveOwnTopics tracks → AreRows tracks rows → Tallies rule tracks total → IsTotal numbers (map traced knowns) rows rule total
+  is_total rows total own are t = record {
     positions = t.positions ∙ ap told by_length;
     yes = t.yes ∙ ap told (by_value Yes is_nothing yes_agree);
     no = t.no ∙ ap told (by_value No is_broken no_agree);
     undecided = t.undecided ∙ ap told (by_value Open is_undecided open_agree);
-    runs = t.runs;
+    runs = t.runs ∙ ap told (runs_counted rule tracks rows own are);
   }
 
 some_still : {X : Type 0} (P Q : X → Type 0) (o : Option X) → ((x : X) → P x → Q x) → IsSomeAnd o P → IsSomeAnd o Q
@@ -187,6 +190,6 @@ are_totals numbers ticks knowns rows totals are rows_of ended = record {
   traces = map traced knowns;
   are_traces = are_traces numbers ticks knowns are rows_of;
   count = ended.are_totals.0;
-  each = λ rule lt. some_still (Tallies rule ended.tracks rows) (IsTotal numbers (map traced knowns) rows rule) (slice_get totals rule)
-      (λ total t. is_total numbers rule lt knowns ended.tracks ended.are_tracks rows total t) (ended.are_totals.1 rule lt);
+  each = λ rule lt. some_still (Tallies rule ended.tracks) (IsTotal numbers (map traced knowns) rows rule) (slice_get totals rule)
+      (λ total t. is_total numbers rule lt knowns ended.tracks ended.are_tracks rows total ended.own_topics ended.are_rows t) (ended.are_totals.1 rule lt);
 }

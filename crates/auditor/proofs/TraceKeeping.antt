@@ -17,45 +17,45 @@ use Rattle.traces.specs.Audited.{AuditNumbers}
 use Rattle.traces.specs.Known.{Known, watched}
 use Rattle.auditor.specs.AuditTracks.{IsMeetingMark}
 use Rattle.auditor.specs.Inner.RowAnswers.{AwaitAll, MarksRules, answered_all}
-use Rattle.auditor.specs.Tallies.{Keeps}
+use Rattle.audit_rows.specs.Inner.Queues.{StandsFor as Keeps}
 use Rattle.auditor.specs.TraceKeeping.{AreRuleMarksSoFar, AreTracks, AreTracksSoFar, HasTracksOf, IsMeetingTrack, StandsFor, Steps, formulas_of}
-use Rattle.auditor.specs.declared.marks.Marks.{Marks}
+use Rattle.audit_rows.specs.declared.row_queue.RowQueue.{RowQueue}
 use Rattle.auditor.specs.declared.trace.AuditTrace.{AuditTrace}
 use Rattle.auditor.proofs.TraceTracks.{AreRuleMarksPast, all_brought, answers_all, apart_repeats, ended_marks, fed_marks, first_tracks, marks_then, meeting_stays, whole_tracks}
 
 -- Behind a trace's meeting the marks of its rules are marked.
-behind_meeting : (program : Program) (trace : AuditTrace) (first : ℕ) (old new : Marks) (marks : MarksRules program trace (first + 1) (count_of program) old new)
-    (rules bound : ℕ) (before : List Track) (meeting : Track) (mine after : List Track) (given : List Row) → first ≡ length before
-    → AwaitAll trace.start marks.answers mine → Keeps old rules (before ++ meeting ∷ (mine ++ after)) bound given
-    → Keeps new rules (before ++ meeting ∷ answered_all marks.answers mine ++ after) bound given
-behind_meeting program trace first old new marks rules bound before meeting mine after given e await keeps =
+behind_meeting : (program : Program) (trace : AuditTrace) (first : ℕ) (old new : RowQueue) (marks : MarksRules program trace (first + 1) (count_of program) old new)
+    (bound : ℕ) (before : List Track) (meeting : Track) (mine after : List Track) (given : List Row) → first ≡ length before
+    → AwaitAll trace.start marks.answers mine → Keeps old (before ++ meeting ∷ (mine ++ after)) bound given
+    → Keeps new (before ++ meeting ∷ answered_all marks.answers mine ++ after) bound given
+behind_meeting program trace first old new marks bound before meeting mine after given e await keeps =
     let there : first + 1 ≡ length (before ++ meeting ∷ []) = omega (arith, length-append before (meeting ∷ [])) in
     let done = answered_all marks.answers mine in
-    subst (λ (ts : List Track). Keeps new rules ts bound given) (append_assoc before (meeting ∷ []) (done ++ after) ∙ sym (append_assoc before (meeting ∷ done) after))
-    (marks.keeps rules bound (before ++ meeting ∷ []) mine after given there await
-    (subst (λ (ts : List Track). Keeps old rules ts bound given) (sym (append_assoc before (meeting ∷ []) (mine ++ after))) keeps))
+    subst (λ (ts : List Track). Keeps new ts bound given) (append_assoc before (meeting ∷ []) (done ++ after) ∙ sym (append_assoc before (meeting ∷ done) after))
+    (marks.keeps bound (before ++ meeting ∷ []) mine after given there await
+    (subst (λ (ts : List Track). Keeps old ts bound given) (sym (append_assoc before (meeting ∷ []) (mine ++ after))) keeps))
 
 -- ---- a step
 
 -- The meeting's track, where it is the one at the index, has one mark more.
-pub record MarksMeeting (numbers : AuditNumbers) (known : Known) (first : ℕ) (mark : Mark) (old new : Marks) : Type 0 where
-  pub keeps : (rules bound : ℕ) (before after : List Track) (track : Track) (given : List Row) → first ≡ length before → IsMeetingTrack numbers known track
-      → Keeps old rules (before ++ track ∷ after) bound given → Keeps new rules (before ++ longer track mark ∷ after) bound given
+pub record MarksMeeting (numbers : AuditNumbers) (known : Known) (first : ℕ) (mark : Mark) (old new : RowQueue) : Type 0 where
+  pub keeps : (bound : ℕ) (before after : List Track) (track : Track) (given : List Row) → first ≡ length before → IsMeetingTrack numbers known track
+      → Keeps old (before ++ track ∷ after) bound given → Keeps new (before ++ longer track mark ∷ after) bound given
 
 -- So it has where the mark is taken, or is left out since the vessels were apart and are.
-pub meeting_marked : (numbers : AuditNumbers) (known : Known) (seen : Option PairStep) (mark : Mark) (was is : EngagementState) (apart : Bool) (first step : ℕ) (old new : Marks)
+pub meeting_marked : (numbers : AuditNumbers) (known : Known) (seen : Option PairStep) (mark : Mark) (was is : EngagementState) (apart : Bool) (first step : ℕ) (old new : RowQueue)
     → step ≡ known.start + length known.steps → IsStateAfter numbers.detect known.steps was → IsStateAfter numbers.detect (known.steps ++ seen ∷ []) is
     → IsMeetingMark numbers.detect (known.steps ++ seen ∷ []) (length known.steps) mark
     → (apart ≡ true → was ≡ Apart) → (apart ≡ true → is ≡ Apart) → (apart ≡ true → known.start < step)
-    → ((rules bound : ℕ) (before after : List Track) (track : Track) (given : List Row) → Keeps old rules (before ++ track ∷ after) bound given → first ≡ length before
-    → step ≡ next_step track → (apart ≡ true → Repeats track mark) → Keeps new rules (before ++ longer track mark ∷ after) bound given)
+    → ((bound : ℕ) (before after : List Track) (track : Track) (given : List Row) → Keeps old (before ++ track ∷ after) bound given → first ≡ length before
+    → step ≡ next_step track → (apart ≡ true → Repeats track mark) → Keeps new (before ++ longer track mark ∷ after) bound given)
     → MarksMeeting numbers known first mark old new
 meeting_marked numbers known seen mark was is apart first step old new at before_is after_is is_mark was_apart is_apart later by = record {
-  keeps = λ rules bound before after track given e meeting keeps.
+  keeps = λ bound before after track given e meeting keeps.
       let first_step = meeting.first in
       let count = meeting.marks.count in
       let next : step ≡ next_step track = omega arith in
-      by rules bound before after track given keeps e next
+      by bound before after track given keeps e next
       (λ rests.
       let some = later rests in
       apart_repeats numbers.detect known.steps seen was is (was_apart rests) (is_apart rests) (omega arith) before_is after_is mark is_mark track count meeting.marks.each);
@@ -78,18 +78,17 @@ module _ (program : Program) (numbers : AuditNumbers) (trace : AuditTrace) (know
         };
       }
 
-  pub stepped : (first : ℕ) (old now new : Marks) → MarksMeeting numbers known first mark old now
+  pub stepped : (first : ℕ) (old now new : RowQueue) → MarksMeeting numbers known first mark old now
       → MarksRules program trace (first + 1) (count_of program) now new
       → (before mine after : List Track) (bound : ℕ) (given : List Row) → AreTracksSoFar numbers known mine → first ≡ length before
-      → Keeps old (length numbers.rules) (before ++ mine ++ after) bound given
+      → Keeps old (before ++ mine ++ after) bound given
       → Steps program numbers trace known seen row new before after bound given
   stepped first old now new meets marks before [] after bound given tracks e keeps = absurd tracks
   stepped first old now new meets marks before (meeting ∷ mine) after bound given tracks e keeps =
       let (of_meeting, of_rules) = tracks in
-      let rules = length numbers.rules in
-      let now_kept : Keeps now rules (before ++ longer meeting mark ∷ (mine ++ after)) bound given =
-      meets.keeps rules bound before (mine ++ after) meeting given e of_meeting
-      (subst (λ (ts : List Track). Keeps old rules ts bound given) (append_assoc before (meeting ∷ mine) after) keeps) in
+      let now_kept : Keeps now (before ++ longer meeting mark ∷ (mine ++ after)) bound given =
+      meets.keeps bound before (mine ++ after) meeting given e of_meeting
+      (subst (λ (ts : List Track). Keeps old ts bound given) (append_assoc before (meeting ∷ mine) after) keeps) in
       let of_count = stands.values.of.count in
       let many : length marks.answers ≡ length (formulas_of numbers) = marks.many ∙ of_count in
       let answers = answers_all program trace.values (formulas_of numbers) (λ answer tree. IsFed answer tree (known.trace ++ row ∷ []))
@@ -101,20 +100,20 @@ module _ (program : Program) (numbers : AuditNumbers) (trace : AuditTrace) (know
         stands = stands;
         mine = longer meeting mark ∷ answered_all marks.answers mine;
         tracks = (meeting_longer meeting of_meeting, brought);
-        keeps = behind_meeting program trace first now new marks rules bound before (longer meeting mark) mine after given e
+        keeps = behind_meeting program trace first now new marks bound before (longer meeting mark) mine after given e
             (subst (λ (start : ℕ). AwaitAll start marks.answers mine) (sym stands.start) await) now_kept;
       }
 
 -- ---- rows beyond the end
 
 -- Where so many rows have passed beyond its end, the trace has these tracks.
-pub record HasTracksPast (past : ℕ) (numbers : AuditNumbers) (known : Known) (marks : Marks) (before after : List Track) (bound : ℕ) (given : List Row) : Type 0 where
+pub record HasTracksPast (past : ℕ) (numbers : AuditNumbers) (known : Known) (marks : RowQueue) (before after : List Track) (bound : ℕ) (given : List Row) : Type 0 where
   pub mine : List Track
   pub tracks : AreTracks (AreRuleMarksPast past) numbers known mine
-  pub keeps : Keeps marks (length numbers.rules) (before ++ mine ++ after) bound given
+  pub keeps : Keeps marks (before ++ mine ++ after) bound given
 
-module _ (numbers : AuditNumbers) (known : Known) (marks : Marks) (before after : List Track) (bound : ℕ) (given : List Row) where
-  pub at_end : (mine : List Track) → AreTracksSoFar numbers known mine → Keeps marks (length numbers.rules) (before ++ mine ++ after) bound given
+module _ (numbers : AuditNumbers) (known : Known) (marks : RowQueue) (before after : List Track) (bound : ℕ) (given : List Row) where
+  pub at_end : (mine : List Track) → AreTracksSoFar numbers known mine → Keeps marks (before ++ mine ++ after) bound given
       → HasTracksPast 0 numbers known marks before after bound given
   at_end [] tracks keeps = absurd tracks
   at_end (meeting ∷ mine) tracks keeps = record {
@@ -127,7 +126,7 @@ module _ (numbers : AuditNumbers) (known : Known) (marks : Marks) (before after 
       → HasTracksOf numbers known marks before after bound given
   at_last past e h = more h.mine h.tracks h.keeps
     where
-      more : (mine : List Track) → AreTracks (AreRuleMarksPast past) numbers known mine → Keeps marks (length numbers.rules) (before ++ mine ++ after) bound given
+      more : (mine : List Track) → AreTracks (AreRuleMarksPast past) numbers known mine → Keeps marks (before ++ mine ++ after) bound given
           → HasTracksOf numbers known marks before after bound given
       more [] tracks keeps = absurd tracks
       more (meeting ∷ mine) tracks keeps = record {
@@ -136,14 +135,14 @@ module _ (numbers : AuditNumbers) (known : Known) (marks : Marks) (before after 
         keeps = keeps;
       }
 
-module _ (program : Program) (numbers : AuditNumbers) (trace : AuditTrace) (known : Known) (first past : ℕ) (old new : Marks)
+module _ (program : Program) (numbers : AuditNumbers) (trace : AuditTrace) (known : Known) (first past : ℕ) (old new : RowQueue)
     (start : trace.start ≡ known.start) (closes : Closes program trace.values (formulas_of numbers) known.trace) (rows : past_of trace.values ≡ past + 1)
     (marks : MarksRules program trace (first + 1) (count_of program) old new) where
   pub one_past : (before after : List Track) (bound : ℕ) (given : List Row) → first ≡ length before
       → HasTracksPast past numbers known old before after bound given → HasTracksPast (past + 1) numbers known new before after bound given
   one_past before after bound given e h = more h.mine h.tracks h.keeps
     where
-      more : (mine : List Track) → AreTracks (AreRuleMarksPast past) numbers known mine → Keeps old (length numbers.rules) (before ++ mine ++ after) bound given
+      more : (mine : List Track) → AreTracks (AreRuleMarksPast past) numbers known mine → Keeps old (before ++ mine ++ after) bound given
           → HasTracksPast (past + 1) numbers known new before after bound given
       more [] tracks keeps = absurd tracks
       more (meeting ∷ mine) tracks keeps =
@@ -158,7 +157,7 @@ module _ (program : Program) (numbers : AuditNumbers) (trace : AuditTrace) (know
           record {
             mine = meeting ∷ answered_all marks.answers mine;
             tracks = (tracks.0, brought);
-            keeps = behind_meeting program trace first old new marks (length numbers.rules) bound before meeting mine after given e
+            keeps = behind_meeting program trace first old new marks bound before meeting mine after given e
                 (subst (λ (start : ℕ). AwaitAll start marks.answers mine) (sym start) await)
-                (subst (λ (ts : List Track). Keeps old (length numbers.rules) ts bound given) (append_assoc before (meeting ∷ mine) after) keeps);
+                (subst (λ (ts : List Track). Keeps old ts bound given) (append_assoc before (meeting ∷ mine) after) keeps);
           }

@@ -25,9 +25,9 @@ use Rattle.traces.specs.declared.all_traces.AllTraces.{AllTraces}
 use Rattle.traces.proofs.ForCallers.{different_pairs, in_head, in_tail, known_count, zip_at, zip_length, zip_push, zip_set}
 use Rattle.auditor.specs.Inner.AuditKeeping.{AreAllTracks, AreTracksOfAll}
 use Rattle.auditor.specs.Inner.TracesKept.{AreFinished, AreStepped, Holds, IsAtStep}
-use Rattle.auditor.specs.Tallies.{Keeps}
+use Rattle.audit_rows.specs.Inner.Queues.{StandsFor as Keeps}
 use Rattle.auditor.specs.TraceKeeping.{AreRuleMarksSoFar, AreRuleMarksWhole, AreRuleTracks, AreTracks, AreTracksSoFar, HasTracksOf, IsNextRow, StandsFor, Steps, formulas_of}
-use Rattle.auditor.specs.declared.marks.Marks.{Marks}
+use Rattle.audit_rows.specs.declared.row_queue.RowQueue.{RowQueue}
 use Rattle.auditor.specs.declared.trace.AuditTrace.{AuditTrace}
 use Rattle.auditor.specs.declared.trace.NextRow.{NextRow}
 use Rattle.auditor.proofs.Growing.{tracks_push}
@@ -52,7 +52,7 @@ program_length program numbers is = is.of.count ∙ length-map numbers.rules (λ
 
 module _ (program : Program) (numbers : AuditNumbers) (ticks : List Sighting) (seen : Sighting) (step : ℕ) (knowns : List Known) (bound : ℕ) (given : List Row) where
   -- The first traces have taken their step, and the others have not.
-  pub record IsUnderWay (kept : AllTraces) (values : List AuditTrace) (marks : Marks) (first index : ℕ) : Type 0 where
+  pub record IsUnderWay (kept : AllTraces) (values : List AuditTrace) (marks : RowQueue) (first index : ℕ) : Type 0 where
     pub front : List Known
     pub rest : List Known
     pub done : List Known
@@ -68,9 +68,9 @@ module _ (program : Program) (numbers : AuditNumbers) (ticks : List Sighting) (s
     pub done_tracks : AreAllTracks numbers done mine
     pub rest_tracks : AreAllTracks numbers rest others
     pub first_is : first ≡ length mine
-    pub keeps : Keeps marks (length numbers.rules) (mine ++ others) bound given
+    pub keeps : Keeps marks (mine ++ others) bound given
 
-  pub under_way_none : (kept : AllTraces) (values : List AuditTrace) (marks : Marks) → TracesStandFor kept numbers ticks knowns → Holds program values marks numbers knowns bound given
+  pub under_way_none : (kept : AllTraces) (values : List AuditTrace) (marks : RowQueue) → TracesStandFor kept numbers ticks knowns → Holds program values marks numbers knowns bound given
       → ((known : Known) → Contains knowns known → IsAtStep step known) → ((known : Known) → Contains knowns known → length known.steps < 2 ^ 31) → IsUnderWay kept values marks 0 0
   under_way_none kept values marks traces h at short = record {
     front = [];
@@ -132,27 +132,27 @@ module _ (program : Program) (numbers : AuditNumbers) (ticks : List Sighting) (s
       )
 
   -- what the step of a trace comes to
-  abbrev pub StepsIt : AuditTrace → AuditTrace → NextRow → Marks → Marks → ℕ → Type 0
+  abbrev pub StepsIt : AuditTrace → AuditTrace → NextRow → RowQueue → RowQueue → ℕ → Type 0
   StepsIt trace after next marks marks' first =
       (numbers : AuditNumbers) (known : Known) (seen : Option PairStep) (front mine back : List Track) (bound : ℕ) (given : List Row) → StandsFor program numbers trace known
       → step ≡ known.start + length known.steps → IsNextRow numbers known seen next → AreTracksSoFar numbers known mine → first ≡ length front
-      → Keeps marks (length numbers.rules) (front ++ mine ++ back) bound given → Steps program numbers after known seen (answer_of next.row.now) marks' front back bound given
+      → Keeps marks (front ++ mine ++ back) bound given → Steps program numbers after known seen (answer_of next.row.now) marks' front back bound given
 
-  module _ (kept kept' : AllTraces) (values : List AuditTrace) (marks marks' : Marks) (first index tracks : ℕ) (d after : AuditTrace) (next : NextRow)
+  module _ (kept kept' : AllTraces) (values : List AuditTrace) (marks marks' : RowQueue) (first index tracks : ℕ) (d after : AuditTrace) (next : NextRow)
       (is : IsProgramOf program (formulas_of numbers)) (many : tracks ≡ count_of program + 1) (within : index < length values)
       (it : StepsIt (get_or values index d) after next marks marks' first) (gives : GivesRow kept kept' index next) where
     by_rest : (front rest done : List Known) (mine others : List Track) → knowns ≡ front ++ rest → length done ≡ index → AllZip (IsFollowed numbers (last_sighting ticks) seen) front done
         → ((known : Known) → Contains rest known → IsAtStep step known) → ((known : Known) → Contains rest known → length known.steps < 2 ^ 31)
         → TracesStandFor kept numbers ticks (done ++ rest) → AllZip (StandsFor program numbers) values (done ++ rest) → AreAllTracks numbers done mine → AreAllTracks numbers rest others
-        → first ≡ length mine → Keeps marks (length numbers.rules) (mine ++ others) bound given → IsUnderWay kept' (set values index after) marks' (first + tracks) (index + 1)
+        → first ≡ length mine → Keeps marks (mine ++ others) bound given → IsUnderWay kept' (set values index after) marks' (first + tracks) (index + 1)
     by_rest front [] done mine others parted count followed at short traces stand all all_rest is_first keeps =
         let many_traces = zip_length (StandsFor program numbers) values (done ++ []) stand in
         absurd (omega (arith, length-append done []))
     by_rest front (k ∷ ks) done mine others parted count followed at short traces stand all (its, more, rest_all) is_first keeps =
         let step_seen : Option PairStep = step_of k.pair (last_sighting ticks) seen in
         let old : StandsFor program numbers (get_or values index d) k = subst (λ (n : ℕ). StandsFor program numbers (get_or values n d) k) count (zip_at (StandsFor program numbers) values done k ks d stand) in
-        let before_keeps : Keeps marks (length numbers.rules) (mine ++ its ++ more) bound given =
-        subst (λ (ts : List Track). Keeps marks (length numbers.rules) ts bound given) (ap (λ (ts : List Track). mine ++ ts) rest_all.0.whole ∙ sym (append_assoc mine its more)) keeps in
+        let before_keeps : Keeps marks (mine ++ its ++ more) bound given =
+        subst (λ (ts : List Track). Keeps marks ts bound given) (ap (λ (ts : List Track). mine ++ ts) rest_all.0.whole ∙ sym (append_assoc mine its more)) keeps in
         let row = gives done k ks traces (sym count) (short k (in_head k ks)) in
         let s = it numbers k step_seen mine its more bound given old (at k (in_head k ks)).0 row.0 rest_all.1 is_first before_keeps in
         let after_known : Known = watched k step_seen (answer_of next.row.now) in
@@ -183,10 +183,10 @@ module _ (program : Program) (numbers : AuditNumbers) (ticks : List Sighting) (s
     under_way_more u = by_rest u.front u.rest u.done u.mine u.others u.parted u.count u.followed u.at u.short u.traces u.stand u.done_tracks u.rest_tracks u.first_is u.keeps
 
   -- all have taken it
-  all_by_rest : (kept : AllTraces) (values : List AuditTrace) (marks : Marks) (index : ℕ) (front rest done : List Known) (mine others : List Track) → knowns ≡ front ++ rest → length done ≡ index
+  all_by_rest : (kept : AllTraces) (values : List AuditTrace) (marks : RowQueue) (index : ℕ) (front rest done : List Known) (mine others : List Track) → knowns ≡ front ++ rest → length done ≡ index
       → AllZip (IsFollowed numbers (last_sighting ticks) seen) front done → TracesStandFor kept numbers ticks (done ++ rest)
       → AllZip (StandsFor program numbers) values (done ++ rest) → AreAllTracks numbers done mine → AreAllTracks numbers rest others
-      → Keeps marks (length numbers.rules) (mine ++ others) bound given → length values ≤ index → AreStepped program numbers ticks seen kept values knowns marks bound given
+      → Keeps marks (mine ++ others) bound given → length values ≤ index → AreStepped program numbers ticks seen kept values knowns marks bound given
   all_by_rest kept values marks index front (k ∷ ks) done mine others parted count followed traces stand all all_rest keeps past =
       let many_traces = zip_length (StandsFor program numbers) values (done ++ k ∷ ks) stand in
       absurd (omega (arith, length-append done (k ∷ ks)))
@@ -198,11 +198,11 @@ module _ (program : Program) (numbers : AuditNumbers) (ticks : List Sighting) (s
       stand = subst (λ (ys : List Known). AllZip (StandsFor program numbers) values ys) (append-nil done) stand;
       tracks = mine;
       are_tracks = all;
-      keeps = subst (λ (ts : List Track). Keeps marks (length numbers.rules) ts bound given) (ap (λ (ts : List Track). mine ++ ts) all_rest ∙ append-nil mine) keeps;
+      keeps = subst (λ (ts : List Track). Keeps marks ts bound given) (ap (λ (ts : List Track). mine ++ ts) all_rest ∙ append-nil mine) keeps;
     };
   }
 
-  pub under_way_all : (kept : AllTraces) (values : List AuditTrace) (marks : Marks) (first index : ℕ) → IsUnderWay kept values marks first index → length values ≤ index
+  pub under_way_all : (kept : AllTraces) (values : List AuditTrace) (marks : RowQueue) (first index : ℕ) → IsUnderWay kept values marks first index → length values ≤ index
       → AreStepped program numbers ticks seen kept values knowns marks bound given
   under_way_all kept values marks first index u past = all_by_rest kept values marks index u.front u.rest u.done u.mine u.others u.parted u.count u.followed u.traces u.stand u.done_tracks u.rest_tracks u.keeps past
 
@@ -210,14 +210,14 @@ module _ (program : Program) (numbers : AuditNumbers) (ticks : List Sighting) (s
 
 module _ (program : Program) (numbers : AuditNumbers) (knowns new : List Known) (start bound : ℕ) (given : List Row) where
   -- The first of the new traces have begun, and the others have not.
-  pub record AreBeginning (values : List AuditTrace) (marks : Marks) : Type 0 where
+  pub record AreBeginning (values : List AuditTrace) (marks : RowQueue) : Type 0 where
     pub done : List Known
     pub rest : List Known
     pub parted : new ≡ done ++ rest
     pub opened : AreOpened start rest
     pub held : Holds program values marks numbers (knowns ++ done) bound given
 
-  pub beginning_none : (values : List AuditTrace) (marks : Marks) → Holds program values marks numbers knowns bound given → AreOpened start new → AreBeginning values marks
+  pub beginning_none : (values : List AuditTrace) (marks : RowQueue) → Holds program values marks numbers knowns bound given → AreOpened start new → AreBeginning values marks
   beginning_none values marks h opened = record {
     done = [];
     rest = new;
@@ -226,7 +226,7 @@ module _ (program : Program) (numbers : AuditNumbers) (knowns new : List Known) 
     held = subst (λ (ks : List Known). Holds program values marks numbers ks bound given) (sym (append-nil knowns)) h;
   }
 
-  module _ (values : List AuditTrace) (marks : Marks) (kept : AllTraces) (ticks : List Sighting) (traces : TracesStandFor kept numbers ticks (knowns ++ new)) where
+  module _ (values : List AuditTrace) (marks : RowQueue) (kept : AllTraces) (ticks : List Sighting) (traces : TracesStandFor kept numbers ticks (knowns ++ new)) where
     held_count : (done : List Known) → Holds program values marks numbers (knowns ++ done) bound given → length values ≡ length (knowns ++ done)
     held_count done h = zip_length (StandsFor program numbers) values (knowns ++ done) h.stand
 
@@ -242,7 +242,7 @@ module _ (program : Program) (numbers : AuditNumbers) (knowns new : List Known) 
         by_rest done [] e h = subst (λ (ks : List Known). Holds program values marks numbers (knowns ++ ks) bound given) (sym (e ∙ append-nil done)) h
         by_rest done (k ∷ ks) e h = absurd (let all = all_count done (k ∷ ks) e in let some = held_count done h in omega arith)
 
-    module _ (values' : List AuditTrace) (marks' : Marks) (once : AllPairs ◌≢◌ (pairs_of (knowns ++ new))) (index : ℕ) (pair : Pair) (at : length values ≡ index) (within : index < traces_of kept)
+    module _ (values' : List AuditTrace) (marks' : RowQueue) (once : AllPairs ◌≢◌ (pairs_of (knowns ++ new))) (index : ℕ) (pair : Pair) (at : length values ≡ index) (within : index < traces_of kept)
         (is : (front : List Known) (known : Known) (back : List Known) → TracesStandFor kept numbers ticks (front ++ known ∷ back) → index ≡ length front → pair ≡ known.pair)
         (it : (knowns : List Known) → Holds program values marks numbers knowns bound given → (Contains (pairs_of knowns) pair → ⊥)
         → Holds program values' marks' numbers (knowns ++ opened pair start ∷ []) bound given) where
@@ -270,7 +270,7 @@ module _ (program : Program) (numbers : AuditNumbers) (knowns new : List Known) 
 
 module _ (program : Program) (numbers : AuditNumbers) (knowns : List Known) (bound : ℕ) (given : List Row) where
   -- The first traces have ended, and the others have not.
-  pub record IsEnding (traces : List AuditTrace) (marks : Marks) (first index : ℕ) : Type 0 where
+  pub record IsEnding (traces : List AuditTrace) (marks : RowQueue) (first index : ℕ) : Type 0 where
     pub front : List Known
     pub rest : List Known
     pub parted : knowns ≡ front ++ rest
@@ -280,9 +280,9 @@ module _ (program : Program) (numbers : AuditNumbers) (knowns : List Known) (bou
     pub done_tracks : AreTracksOfAll AreRuleMarksWhole numbers front mine
     pub rest_tracks : AreAllTracks numbers rest others
     pub first_is : first ≡ length mine
-    pub keeps : Keeps marks (length numbers.rules) (mine ++ others) bound given
+    pub keeps : Keeps marks (mine ++ others) bound given
 
-  pub ending_none : (traces : List AuditTrace) (marks : Marks) → Holds program traces marks numbers knowns bound given → IsEnding traces marks 0 0
+  pub ending_none : (traces : List AuditTrace) (marks : RowQueue) → Holds program traces marks numbers knowns bound given → IsEnding traces marks 0 0
   ending_none traces marks h = record {
     front = [];
     rest = knowns;
@@ -296,23 +296,23 @@ module _ (program : Program) (numbers : AuditNumbers) (knowns : List Known) (bou
     keeps = h.keeps;
   }
 
-  abbrev pub EndsIt : AuditTrace → Marks → Marks → ℕ → Type 0
+  abbrev pub EndsIt : AuditTrace → RowQueue → RowQueue → ℕ → Type 0
   EndsIt trace marks marks' first =
       (numbers : AuditNumbers) (known : Known) (before mine after : List Track) (bound : ℕ) (given : List Row) → StandsFor program numbers trace known → AreTracksSoFar numbers known mine → first ≡ length before
-      → Keeps marks (length numbers.rules) (before ++ mine ++ after) bound given → HasTracksOf numbers known marks' before after bound given
+      → Keeps marks (before ++ mine ++ after) bound given → HasTracksOf numbers known marks' before after bound given
 
-  module _ (traces : List AuditTrace) (marks marks' : Marks) (first index tracks : ℕ) (d after : AuditTrace) (is : IsProgramOf program (formulas_of numbers)) (many : tracks ≡ count_of program + 1)
+  module _ (traces : List AuditTrace) (marks marks' : RowQueue) (first index tracks : ℕ) (d after : AuditTrace) (is : IsProgramOf program (formulas_of numbers)) (many : tracks ≡ count_of program + 1)
       (within : index < length traces) (it : EndsIt (get_or traces index d) marks marks' first) where
     ends_rest : (front rest : List Known) (mine others : List Track) → knowns ≡ front ++ rest → AllZip (StandsFor program numbers) (drop index traces) rest
         → AreTracksOfAll AreRuleMarksWhole numbers front mine → AreAllTracks numbers rest others
-        → first ≡ length mine → Keeps marks (length numbers.rules) (mine ++ others) bound given → IsEnding (set traces index after) marks' (first + tracks) (index + 1)
+        → first ≡ length mine → Keeps marks (mine ++ others) bound given → IsEnding (set traces index after) marks' (first + tracks) (index + 1)
     ends_rest front [] mine others parted stand all all_rest is_first keeps =
         absurd (subst (λ (xs : List AuditTrace). AllZip (StandsFor program numbers) xs []) (drop_more traces index d within) stand)
     ends_rest front (k ∷ ks) mine others parted stand all (its, more, rest_all) is_first keeps =
         let z : AllZip (StandsFor program numbers) (get_or traces index d ∷ drop (index + 1) traces) (k ∷ ks) =
         subst (λ (xs : List AuditTrace). AllZip (StandsFor program numbers) xs (k ∷ ks)) (drop_more traces index d within) stand in
-        let before_keeps : Keeps marks (length numbers.rules) (mine ++ its ++ more) bound given =
-        subst (λ (ts : List Track). Keeps marks (length numbers.rules) ts bound given) (ap (λ (ts : List Track). mine ++ ts) rest_all.0.whole ∙ sym (append_assoc mine its more)) keeps in
+        let before_keeps : Keeps marks (mine ++ its ++ more) bound given =
+        subst (λ (ts : List Track). Keeps marks ts bound given) (ap (λ (ts : List Track). mine ++ ts) rest_all.0.whole ∙ sym (append_assoc mine its more)) keeps in
         let s = it numbers k mine its more bound given z.0 rest_all.1 is_first before_keeps in
         let length_mine : length s.mine ≡ length numbers.rules + 1 = tracks_length AreRuleMarksWhole numbers k s.mine s.tracks in
         let of_program : count_of program ≡ length numbers.rules = program_length program numbers is in
@@ -332,16 +332,16 @@ module _ (program : Program) (numbers : AuditNumbers) (knowns : List Known) (bou
     pub ending_more : IsEnding traces marks first index → IsEnding (set traces index after) marks' (first + tracks) (index + 1)
     ending_more e = ends_rest e.front e.rest e.mine e.others e.parted e.stand e.done_tracks e.rest_tracks e.first_is e.keeps
 
-  all_ended : (traces : List AuditTrace) (marks : Marks) (index : ℕ) (front rest : List Known) (mine others : List Track) → knowns ≡ front ++ rest → AllZip (StandsFor program numbers) (drop index traces) rest
-      → AreTracksOfAll AreRuleMarksWhole numbers front mine → AreAllTracks numbers rest others → Keeps marks (length numbers.rules) (mine ++ others) bound given
+  all_ended : (traces : List AuditTrace) (marks : RowQueue) (index : ℕ) (front rest : List Known) (mine others : List Track) → knowns ≡ front ++ rest → AllZip (StandsFor program numbers) (drop index traces) rest
+      → AreTracksOfAll AreRuleMarksWhole numbers front mine → AreAllTracks numbers rest others → Keeps marks (mine ++ others) bound given
       → length traces ≤ index → AreFinished numbers knowns marks bound given
   all_ended traces marks index front (k ∷ ks) mine others parted stand all all_rest keeps past =
       absurd (subst (λ (xs : List AuditTrace). AllZip (StandsFor program numbers) xs (k ∷ ks)) (drop_all index traces past) stand)
   all_ended traces marks index front [] mine others parted stand all all_rest keeps past = record {
     tracks = mine;
     are_tracks = subst (λ (xs : List Known). AreTracksOfAll AreRuleMarksWhole numbers xs mine) (sym (parted ∙ append-nil front)) all;
-    keeps = subst (λ (ts : List Track). Keeps marks (length numbers.rules) ts bound given) (ap (λ (ts : List Track). mine ++ ts) all_rest ∙ append-nil mine) keeps;
+    keeps = subst (λ (ts : List Track). Keeps marks ts bound given) (ap (λ (ts : List Track). mine ++ ts) all_rest ∙ append-nil mine) keeps;
   }
 
-  pub ending_all : (traces : List AuditTrace) (marks : Marks) (first index : ℕ) → IsEnding traces marks first index → length traces ≤ index → AreFinished numbers knowns marks bound given
+  pub ending_all : (traces : List AuditTrace) (marks : RowQueue) (first index : ℕ) → IsEnding traces marks first index → length traces ≤ index → AreFinished numbers knowns marks bound given
   ending_all traces marks first index e past = all_ended traces marks index e.front e.rest e.mine e.others e.parted e.stand e.done_tracks e.rest_tracks e.keeps past

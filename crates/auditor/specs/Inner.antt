@@ -1,4 +1,3 @@
-pub mod Counting
 pub mod TrackCounts
 pub mod RowAnswers
 pub mod AuditKeeping

@@ -6,7 +6,6 @@ use Rattle.traces.specs.Audited.{AuditNumbers, Sighting}
 use Rattle.traces.specs.Known.{AreKnown, Known}
 use Rattle.traces.specs.Standing as followed
 use Rattle.auditor.specs.Inner.TracesKept.{Holds, IsReady}
-use Rattle.auditor.specs.Tallies.{rules_of}
 use Rattle.auditor.specs.TraceKeeping.{formulas_of}
 use Rattle.auditor.specs.declared.audit.Audit.{Audit}
 
@@ -37,7 +36,6 @@ latest_sighting audit = followed.latest_sighting audit.traces
 pub record IsSound (audit : Audit) : Type 0 where
   pub traces : followed.IsSound audit.traces
   pub rules : count_of audit.program ≤ 17
-  pub totals : rules_of audit.marks ≡ count_of audit.program
   pub many : length audit.values.items ≡ followed.traces_of audit.traces
   pub ready : All (IsReady audit.program (given_of audit)) audit.values.items
 
@@ -48,4 +46,4 @@ pub record StandsFor (audit : Audit) (numbers : AuditNumbers) (ticks : List Sigh
   pub knowns : List Known
   pub are_known : AreKnown numbers ticks knowns
   pub traces : followed.StandsFor audit.traces numbers ticks knowns
-  pub holds : Holds audit.program audit.values.items audit.marks numbers knowns (settled_by numbers (length ticks - 1)) given
+  pub holds : Holds audit.program audit.values.items audit.queue numbers knowns (settled_by numbers (length ticks - 1)) given

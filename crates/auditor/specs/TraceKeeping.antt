@@ -21,8 +21,8 @@ use Rattle.traces.specs.Known.{Known, watched}
 use Rattle.auditor.specs.AuditTracks.{IsMeetingMark}
 use Rattle.auditor.specs.ValueMarks.{mark_of}
 use Rattle.audit_rows.specs.declared.row.Row.{Row}
-use Rattle.auditor.specs.Tallies.{Keeps}
-use Rattle.auditor.specs.declared.marks.Marks.{Marks}
+use Rattle.audit_rows.specs.Inner.Queues.{StandsFor as QueueStandsFor}
+use Rattle.audit_rows.specs.declared.row_queue.RowQueue.{RowQueue}
 use Rattle.auditor.specs.declared.trace.AuditTrace.{AuditTrace}
 use Rattle.auditor.specs.declared.trace.NextRow.{NextRow}
 
@@ -101,15 +101,15 @@ pub record IsNextRow (numbers : AuditNumbers) (known : Known) (step : Option Pai
   pub row : IsAtomRow (terms_of numbers) (known.steps ++ step ∷ []) (length known.steps) (answer_of next.row.now)
 
 -- With the next step and its answers the trace has these tracks.
-pub record Steps (program : Program) (numbers : AuditNumbers) (trace : AuditTrace) (known : Known) (seen : Option PairStep) (answers : Atom → Verdict) (marks : Marks)
+pub record Steps (program : Program) (numbers : AuditNumbers) (trace : AuditTrace) (known : Known) (seen : Option PairStep) (answers : Atom → Verdict) (queue : RowQueue)
     (before after : List Track) (bound : ℕ) (given : List Row) : Type 0 where
   pub stands : StandsFor program numbers trace (watched known seen answers)
   pub mine : List Track
   pub tracks : AreTracksSoFar numbers (watched known seen answers) mine
-  pub keeps : Keeps marks (length numbers.rules) (before ++ mine ++ after) bound given
+  pub keeps : QueueStandsFor queue (before ++ mine ++ after) bound given
 
 -- At its end it has marks at all positions.
-pub record HasTracksOf (numbers : AuditNumbers) (known : Known) (marks : Marks) (before after : List Track) (bound : ℕ) (given : List Row) : Type 0 where
+pub record HasTracksOf (numbers : AuditNumbers) (known : Known) (queue : RowQueue) (before after : List Track) (bound : ℕ) (given : List Row) : Type 0 where
   pub mine : List Track
   pub tracks : AreTracksWhole numbers known mine
-  pub keeps : Keeps marks (length numbers.rules) (before ++ mine ++ after) bound given
+  pub keeps : QueueStandsFor queue (before ++ mine ++ after) bound given

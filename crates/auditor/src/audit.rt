@@ -12,11 +12,11 @@ ghost use Rattle.auditor.specs.AuditRows.{AreAuditRows, AreAuditRowsBelow};
 ghost use Rattle.auditor.specs.AuditTotals.{AreTotals};
 ghost use Rattle.auditor.specs.Standing.{IsSound, StandsFor, given_of, last_tick_of, latest_sighting, settled_by};
 
+use crate::counting::totals_of;
 use crate::each_trace::{begin_each, end_each, follow_each};
-use crate::marks::Marks;
 use crate::total::Total;
 use crate::trace::AuditTrace;
-use audit_rows::Row;
+use audit_rows::{Row, RowQueue};
 use encounters::{Act, Detect};
 use motion::TickState;
 use mtl_monitor::Program;
@@ -36,7 +36,8 @@ pub struct Audit {
     traces: AllTraces,
     /// The values of the formulas over each trace, in the order of the traces.
     values: Vec<AuditTrace>,
-    marks: Marks,
+    /// The tracks of each trace, in the same order: the meeting's, and then one for each rule.
+    queue: RowQueue,
 }
 
 /// What the end of the window brings: the rows that were not given before, and the total of each rule.
@@ -70,13 +71,12 @@ impl Audit {
         }) [] []) }
     {
         let program = program_of(alloc, rules)?;
-        let marks = Marks::new(alloc, program.formula_count())?;
         Ok(Audit {
             alloc,
             program,
             traces: AllTraces::new(alloc, detect, act, subjects, window.tick, window.ticks)?,
             values: Vec::new(alloc),
-            marks,
+            queue: RowQueue::new(alloc),
         })
     }
 
@@ -108,7 +108,7 @@ impl Audit {
             &mut self.traces,
             &mut self.values,
             &self.program,
-            &mut self.marks,
+            &mut self.queue,
             seen,
             given.saturating_sub(1),
         )?;
@@ -118,11 +118,11 @@ impl Audit {
             &self.traces,
             &mut self.values,
             &self.program,
-            &mut self.marks,
+            &mut self.queue,
             given,
         )?;
         let bound = given.saturating_sub(self.program.reach()).saturating_sub(1);
-        Ok(self.marks.rows_below(bound)?)
+        Ok(self.queue.rows_below(bound)?)
     }
 
     /// Ends the audit, after the last tick of the window: the rows that were not given yet, and one total for each rule.
@@ -135,14 +135,16 @@ impl Audit {
             → AreTotals numbers ticks (given ++ end.rows.items) end.totals.items) }
     {
         let Audit {
+            alloc,
             program,
             traces,
             mut values,
-            mut marks,
-            ..
+            mut queue,
         } = self;
-        end_each(&mut values, &program, &mut marks)?;
-        let (rows, totals) = marks.finish(traces.last_tick())?;
+        end_each(&mut values, &program, &mut queue)?;
+        let end = traces.last_tick();
+        let totals = totals_of(alloc, &queue, program.formula_count(), end)?;
+        let rows = queue.finish(end)?;
         Ok(AuditEnd { rows, totals })
     }
 }

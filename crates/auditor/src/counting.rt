@@ -1,5 +1,5 @@
-//! The positions of tracks, counted for their rules.
-ghost use Rattle.std.specs.Prelude.{◌≡◌, ◌==◌, [], ℕ, List, length};
+//! What each rule comes to, counted track by track.
+ghost use Rattle.std.specs.Prelude.{◌≡◌, ◌==◌, [], ℕ, List, length, IfOk};
 ghost use Rattle.audit_rows.specs.Inner.Queues.{StandsFor};
 ghost use Rattle.audit_rows.specs.Tracks.{EndAt, Track};
 ghost use Rattle.audit_rows.specs.declared.row.Row.{Row};
@@ -8,19 +8,21 @@ ghost use Rattle.auditor.specs.Tallies.{AreTallies, is_of_rule};
 
 use crate::total::Total;
 use audit_rows::{MarkCounts, RowQueue, Topic};
+use outside::Memory;
+use std::alloc::Global;
 
-/// Counts the positions of a track for its rule, if it is a rule's.
+/// Counts a track for its rule, if it is a rule's.
 fn take_track(totals: &mut [Total], topic: Topic, counts: MarkCounts)
     ensures { AddsTrack (λ rule. is_of_rule rule topic) counts totals.old totals.new }
 {
     match topic {
         Topic::Meeting(_) => {}
-        Topic::Verdict(_, rule) => take_positions(totals, rule as usize, counts),
+        Topic::Verdict(_, rule) => take_rule(totals, rule as usize, counts),
     }
 }
 
-/// Counts the positions of a track of a rule, if there is a total of that rule.
-fn take_positions(totals: &mut [Total], rule: usize, counts: MarkCounts)
+/// Counts a track of a rule, if there is a total of that rule.
+fn take_rule(totals: &mut [Total], rule: usize, counts: MarkCounts)
     ensures { AddsTrack (λ other. rule == other) counts totals.old totals.new }
 {
     if rule < totals.len() {
@@ -28,15 +30,30 @@ fn take_positions(totals: &mut [Total], rule: usize, counts: MarkCounts)
     }
 }
 
-/// Counts the positions of all tracks, whose next marks would be for the step.
-pub(crate) fn take_tracks(totals: &mut [Total], queue: &RowQueue, end: u32)
+/// Counts all tracks, whose next marks would be for the step.
+fn take_tracks(totals: &mut [Total], queue: &RowQueue, end: u32)
     ensures as_many { length totals.new ≡ length totals.old }
-    ensures tallies { (rules bound : ℕ) (tracks : List Track) (given told : List Row) → StandsFor queue.now tracks bound given → EndAt end tracks
-        → AreTallies totals.old rules [] told → AreTallies totals.new rules tracks told }
+    ensures tallies { (rules bound : ℕ) (tracks : List Track) (given : List Row) → StandsFor queue.now tracks bound given → EndAt end tracks
+        → AreTallies totals.old rules [] → AreTallies totals.new rules tracks }
 {
     for index in 0..queue.track_count() {
         if let Some((topic, counts)) = queue.counts(index, end) {
             take_track(totals, topic, counts);
         }
     }
+}
+
+/// One total for each of so many rules, over all tracks, whose next marks would be for the step.
+pub fn totals_of(
+    alloc: Global,
+    queue: &RowQueue,
+    rules: usize,
+    end: u32,
+) -> Result<Vec<Total>, Memory>
+    ensures { IfOk result (λ totals. (tracks : List Track) (bound : ℕ) (given : List Row) → StandsFor queue.now tracks bound given → EndAt end tracks
+        → AreTallies totals.items rules tracks) }
+{
+    let mut totals = vec![in alloc; Total::default(); rules]?;
+    take_tracks(&mut totals, queue, end);
+    Ok(totals)
 }

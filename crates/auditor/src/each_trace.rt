@@ -10,12 +10,13 @@ ghost use Rattle.traces.specs.Known.{AreKnown, AreOpened, Known, opened, pairs_o
 ghost use Rattle.traces.specs.Standing.{IsSound, StandsFor as TracesStandFor, given_of, last_tick_of, latest_sighting, traces_of};
 ghost use Rattle.auditor.specs.Inner.AuditKeeping.{AreAllTracks};
 ghost use Rattle.auditor.specs.Inner.TracesKept.{AreFinished, AreStepped, Holds, IsReady};
-ghost use Rattle.auditor.specs.Tallies.{Keeps, rules_of};
+ghost use Rattle.audit_rows.specs.Inner.Queues.{StandsFor as QueueStandsFor};
+ghost use Rattle.auditor.specs.Tallies.{IsUnknown, begun_tracks};
 ghost use Rattle.auditor.specs.TraceKeeping.{StandsFor, formulas_of};
 ghost use Rattle.traces.specs.declared.all_traces.TheConstants.{MOST_TRACES};
 
-use crate::marks::Marks;
 use crate::trace::{AuditTrace, NextRow};
+use audit_rows::{RowQueue, Topic};
 use meetings::Pair;
 use motion::TickState;
 use mtl_monitor::Program;
@@ -28,7 +29,7 @@ pub(crate) fn follow_each(
     traces: &mut AllTraces,
     values: &mut [AuditTrace],
     program: &Program,
-    marks: &mut Marks,
+    queue: &mut RowQueue,
     seen: &[(u32, TickState)],
     step: u32,
 ) -> Result<(), Memory>
@@ -40,18 +41,16 @@ pub(crate) fn follow_each(
     requires few { given_of traces.old ≤ 20000 }
     requires ready { All (IsReady program.now (given_of traces.old)) values.old }
     requires rules { count_of program.now ≤ 17 }
-    requires totals { rules_of marks.old ≡ count_of program.now }
     ensures sound { IsSound traces.new }
     ensures given { given_of traces.new ≡ given_of traces.old }
     ensures last_tick { last_tick_of traces.new ≡ last_tick_of traces.old }
     ensures traces { traces_of traces.new ≡ traces_of traces.old }
     ensures many { length values.new ≡ length values.old }
-    ensures as_many { rules_of marks.new ≡ rules_of marks.old }
     ensures ready { OnOk result (All (IsReady program.now (given_of traces.old + 1)) values.new) }
     ensures stepped { OnOk result ((numbers : AuditNumbers) (ticks : List Sighting) (knowns : List Known) (bound : ℕ) (given : List Row)
         → IsProgramOf program.now (formulas_of numbers) → AreKnown numbers ticks knowns → TracesStandFor traces.old numbers ticks knowns → step ≡ length ticks - 1
-        → Holds program.now values.old marks.old numbers knowns bound given
-        → AreStepped program.now numbers ticks seen.now traces.new values.new knowns marks.new bound given) }
+        → Holds program.now values.old queue.old numbers knowns bound given
+        → AreStepped program.now numbers ticks seen.now traces.new values.new knowns queue.new bound given) }
 {
     let mut first = 0;
     let tracks = program.formula_count() + 1;
@@ -67,32 +66,47 @@ pub(crate) fn follow_each(
             was: &was,
             is: &is,
         };
-        trace.step(program, next, step, marks, first)?;
+        trace.step(program, next, step, queue, first)?;
         first += tracks;
     }
     Ok(())
 }
 
-/// Begins the tracks of the trace of a pair, which begins at a step.
+/// Begins the tracks of a pair's trace, behind those that are there: the meeting's, and then one for each of so many rules, at most
+/// 2^32, since a row names its rule by 32 bits. No other trace may be of the pair, and it may begin at no step below the bound of the
+/// rows that were handed out.
+pub fn begin_tracks(queue: &mut RowQueue, pair: Pair, rules: usize) -> Result<(), Memory>
+    requires { rules ≤ 2 ^ 32 }
+    ensures { OnOk result ((start bound : ℕ) (tracks : List Track) (given : List Row) → QueueStandsFor queue.old tracks bound given
+        → IsUnknown pair tracks → bound ≤ start → QueueStandsFor queue.new (tracks ++ begun_tracks pair start rules) bound given) }
+{
+    queue.begin(Topic::Meeting(pair))?;
+    for rule in 0..rules {
+        queue.begin(Topic::Verdict(pair, rule as u32))?;
+    }
+    Ok(())
+}
+
+/// Begins the trace of a pair, and its tracks, at a step.
 fn begin_one(
     alloc: Global,
     values: &mut Vec<AuditTrace>,
     program: &Program,
-    marks: &mut Marks,
+    queue: &mut RowQueue,
     pair: Pair,
     start: u32,
 ) -> Result<(), Memory>
     requires early { start < 2 ^ 31 }
+    requires rules { count_of program.now ≤ 17 }
     requires ready { All (IsReady program.now (start + 1)) values.old.items }
-    ensures as_many { rules_of marks.new ≡ rules_of marks.old }
     ensures many { OnOk result (length values.new.items ≡ length values.old.items + 1) }
     ensures ready { OnOk result (All (IsReady program.now (start + 1)) values.new.items) }
     ensures holds { OnOk result ((numbers : AuditNumbers) (knowns : List Known) (bound : ℕ) (given : List Row)
-        → IsProgramOf program.now (formulas_of numbers) → Holds program.now values.old.items marks.old numbers knowns bound given
+        → IsProgramOf program.now (formulas_of numbers) → Holds program.now values.old.items queue.old numbers knowns bound given
         → (Contains (pairs_of knowns) pair → ⊥) → bound ≤ start
-        → Holds program.now values.new.items marks.new numbers (knowns ++ opened pair start ∷ []) bound given) }
+        → Holds program.now values.new.items queue.new numbers (knowns ++ opened pair start ∷ []) bound given) }
 {
-    marks.begin(pair)?;
+    begin_tracks(queue, pair, program.formula_count())?;
     values.push(AuditTrace::new(alloc, program, start)?)?;
     Ok(())
 }
@@ -103,22 +117,22 @@ pub(crate) fn begin_each(
     traces: &AllTraces,
     values: &mut Vec<AuditTrace>,
     program: &Program,
-    marks: &mut Marks,
+    queue: &mut RowQueue,
     start: u32,
 ) -> Result<(), Memory>
     requires early { start < 2 ^ 31 }
+    requires rules { count_of program.now ≤ 17 }
     requires few { length values.old.items ≤ traces_of traces.now }
     requires ready { All (IsReady program.now (start + 1)) values.old.items }
-    ensures as_many { rules_of marks.new ≡ rules_of marks.old }
     ensures many { OnOk result (length values.new.items ≡ traces_of traces.now) }
     ensures ready { OnOk result (All (IsReady program.now (start + 1)) values.new.items) }
     ensures holds { OnOk result ((numbers : AuditNumbers) (ticks : List Sighting) (knowns new : List Known) (bound : ℕ) (given : List Row)
         → IsProgramOf program.now (formulas_of numbers) → TracesStandFor traces.now numbers ticks (knowns ++ new) → AllPairs ◌≢◌ (pairs_of (knowns ++ new))
-        → AreOpened start new → Holds program.now values.old.items marks.old numbers knowns bound given → bound ≤ start
-        → Holds program.now values.new.items marks.new numbers (knowns ++ new) bound given) }
+        → AreOpened start new → Holds program.now values.old.items queue.old numbers knowns bound given → bound ≤ start
+        → Holds program.now values.new.items queue.new numbers (knowns ++ new) bound given) }
 {
     for index in values.len()..traces.len() {
-        begin_one(alloc, values, program, marks, traces.pair(index), start)?;
+        begin_one(alloc, values, program, queue, traces.pair(index), start)?;
     }
     Ok(())
 }
@@ -127,20 +141,19 @@ pub(crate) fn begin_each(
 pub(crate) fn end_each(
     values: &mut [AuditTrace],
     program: &Program,
-    marks: &mut Marks,
+    queue: &mut RowQueue,
 ) -> Result<(), Memory>
     requires ready { All (IsReady program.now 20001) values.old }
     requires many { length values.old ≤ MOST_TRACES }
     requires rules { count_of program.now ≤ 17 }
-    requires totals { rules_of marks.old ≡ count_of program.now }
     ensures { OnOk result ((numbers : AuditNumbers) (knowns : List Known) (bound : ℕ) (given : List Row)
-        → IsProgramOf program.now (formulas_of numbers) → Holds program.now values.old marks.old numbers knowns bound given
-        → AreFinished numbers knowns marks.new bound given) }
+        → IsProgramOf program.now (formulas_of numbers) → Holds program.now values.old queue.old numbers knowns bound given
+        → AreFinished numbers knowns queue.new bound given) }
 {
     let mut first = 0;
     let tracks = program.formula_count() + 1;
     for trace in values.iter_mut() {
-        trace.end(program, marks, first)?;
+        trace.end(program, queue, first)?;
         first += tracks;
     }
     Ok(())

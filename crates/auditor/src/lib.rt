@@ -9,13 +9,13 @@ mod audit;
 mod counting;
 mod each_trace;
 pub mod laws;
-mod marks;
 mod total;
 mod trace;
 
 pub use audit::{Audit, AuditEnd};
 pub use audit_rows::Row;
-pub use marks::Marks;
+pub use counting::totals_of;
+pub use each_trace::begin_tracks;
 pub use total::Total;
 pub use trace::{AuditTrace, NextRow};
 pub use traces::{MOST_TRACES, TickFault as AuditFault};

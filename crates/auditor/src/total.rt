@@ -1,6 +1,6 @@
 //! What a rule comes to over all traces.
 ghost use Rattle.std.specs.Prelude.{◌≡◌};
-ghost use Rattle.auditor.specs.Inner.Counting.{with_counts, with_run};
+ghost use Rattle.auditor.specs.Inner.TrackCounts.{with_counts};
 
 use audit_rows::MarkCounts;
 
@@ -20,7 +20,7 @@ pub struct Total {
 }
 
 impl Total {
-    /// Counts the positions of a track of the rule. A count stands still at its type's end.
+    /// Counts a track of the rule. A count stands still at its type's end.
     pub(crate) fn take(&mut self, counts: MarkCounts)
         ensures { self.new ≡ with_counts counts self.old }
     {
@@ -28,12 +28,6 @@ impl Total {
         self.yes = self.yes.saturating_add(u64::from(counts.nothing));
         self.no = self.no.saturating_add(u64::from(counts.broken));
         self.undecided = self.undecided.saturating_add(u64::from(counts.undecided));
-    }
-
-    /// Counts a maximal stretch of broken positions.
-    pub(crate) fn take_run(&mut self)
-        ensures { self.new ≡ with_run self.old }
-    {
-        self.runs = self.runs.saturating_add(1);
+        self.runs = self.runs.saturating_add(u64::from(counts.runs));
     }
 }

@@ -7,11 +7,10 @@ ghost use Rattle.encounters.specs.declared.pair_step.PairStep.{PairStep};
 ghost use Rattle.audit_rows.specs.Tracks.{Repeats, Track, longer, next_step};
 ghost use Rattle.audit_rows.specs.declared.row.Row.{Row};
 ghost use Rattle.auditor.specs.AuditTracks.{IsMeetingMark};
-ghost use Rattle.auditor.specs.Tallies.{Keeps, rules_of};
+ghost use Rattle.audit_rows.specs.Inner.Queues.{StandsFor as Keeps};
 ghost use Rattle.auditor.specs.ValueMarks.{mark_of};
 
-use crate::marks::Marks;
-use audit_rows::Mark;
+use audit_rows::{Mark, RowQueue};
 use closest_approach::least;
 use encounters::{EngagementState, PairStep};
 use meetings::AtomRow;
@@ -49,21 +48,20 @@ fn mark_of(value: Verdict) -> Mark
 /// Takes the next mark of the track at the index, which is for the step. Nothing is to be done for a mark that repeats the last.
 #[inline(always)]
 fn mark_or_repeat(
-    marks: &mut Marks,
+    queue: &mut RowQueue,
     index: usize,
     step: u32,
     mark: Mark,
     repeats: bool,
 ) -> Result<(), Memory>
-    ensures as_many { rules_of marks.new ≡ rules_of marks.old }
-    ensures keeps { OnOk result ((rules bound : ℕ) (before after : List Track) (track : Track) (given : List Row)
-        → Keeps marks.old rules (before ++ track ∷ after) bound given → index ≡ length before → step ≡ next_step track
-        → (repeats ≡ true → Repeats track mark) → Keeps marks.new rules (before ++ longer track mark ∷ after) bound given) }
+    ensures { OnOk result ((bound : ℕ) (before after : List Track) (track : Track) (given : List Row)
+        → Keeps queue.old (before ++ track ∷ after) bound given → index ≡ length before → step ≡ next_step track
+        → (repeats ≡ true → Repeats track mark) → Keeps queue.new (before ++ longer track mark ∷ after) bound given) }
 {
     if repeats {
         return Ok(());
     }
-    marks.mark(index, step, mark)
+    queue.mark(index, step, mark)
 }
 
 /// What the next step of a trace brings.
@@ -118,32 +116,35 @@ impl AuditTrace {
     fn mark_rule(
         &self,
         program: &Program,
-        marks: &mut Marks,
+        queue: &mut RowQueue,
         index: usize,
         rule: usize,
     ) -> Result<(), Memory>
         requires fits { Fits program.now self.now.values }
         requires few { fed_of self.now.values ≤ 2 ^ 31 }
         requires formula { rule < count_of program.now }
-        ensures as_many { rules_of marks.new ≡ rules_of marks.old }
-        ensures marks { OnOk result (MarksRule program.now self.now index rule marks.old marks.new) }
+        ensures { OnOk result (MarksRule program.now self.now index rule queue.old queue.new) }
     {
         match self.values.answer(program, rule) {
-            Some((position, value)) => marks.mark(index, self.start + position, mark_of(value)),
+            Some((position, value)) => queue.mark(index, self.start + position, mark_of(value)),
             None => Ok(()),
         }
     }
 
     /// Marks the positions that the last row has decided: the rules' tracks in the queue begin with that of rule 0 at this index.
-    fn mark_rules(&self, program: &Program, marks: &mut Marks, first: usize) -> Result<(), Memory>
+    fn mark_rules(
+        &self,
+        program: &Program,
+        queue: &mut RowQueue,
+        first: usize,
+    ) -> Result<(), Memory>
         requires fits { Fits program.now self.now.values }
         requires few { fed_of self.now.values ≤ 2 ^ 31 }
         requires room { first + count_of program.now < 2 ^ 64 }
-        ensures as_many { rules_of marks.new ≡ rules_of marks.old }
-        ensures marks { OnOk result (MarksRules program.now self.now first (count_of program.now) marks.old marks.new) }
+        ensures { OnOk result (MarksRules program.now self.now first (count_of program.now) queue.old queue.new) }
     {
         for rule in 0..program.formula_count() {
-            self.mark_rule(program, marks, first + rule, rule)?;
+            self.mark_rule(program, queue, first + rule, rule)?;
         }
         Ok(())
     }
@@ -178,46 +179,47 @@ impl AuditTrace {
         program: &Program,
         next: NextRow<'_>,
         step: u32,
-        marks: &mut Marks,
+        queue: &mut RowQueue,
         first: usize,
     ) -> Result<(), Memory>
         requires ready { IsReady program.now self.old }
         requires few { steps_of self.old < 2 ^ 31 }
-        requires totals { rules_of marks.old ≡ count_of program.now }
         requires room { first + count_of program.now + 1 < 2 ^ 64 }
         ensures ready { IsReady program.now self.new }
         ensures steps { steps_of self.new ≡ steps_of self.old + 1 }
-        ensures as_many { rules_of marks.new ≡ rules_of marks.old }
         ensures stands { OnOk result ((numbers : AuditNumbers) (known : Known) (seen : Option PairStep) (before mine after : List Track) (bound : ℕ) (given : List Row)
             → StandsFor program.now numbers self.old known → step ≡ known.start + length known.steps → IsNextRow numbers known seen next.entry
-            → AreTracksSoFar numbers known mine → first ≡ length before → Keeps marks.old (length numbers.rules) (before ++ mine ++ after) bound given
-            → Steps program.now numbers self.new known seen (answer_of next.entry.row.now) marks.new before after bound given) }
+            → AreTracksSoFar numbers known mine → first ≡ length before → Keeps queue.old (before ++ mine ++ after) bound given
+            → Steps program.now numbers self.new known seen (answer_of next.entry.row.now) queue.new before after bound given) }
     {
         let NextRow { seen, row, was, is } = next;
         let changes = self.values.feed(program, row);
         let apart = self.stays_apart(was, is, step);
-        mark_or_repeat(marks, first, step, meeting_mark(is, seen), apart)?;
+        mark_or_repeat(queue, first, step, meeting_mark(is, seen), apart)?;
         if !changes && self.has_answered(program, step) {
             return Ok(());
         }
-        self.mark_rules(program, marks, first + 1)
+        self.mark_rules(program, queue, first + 1)
     }
 
     /// Ends the trace: its tracks get the marks of all positions that are left.
-    pub fn end(&mut self, program: &Program, marks: &mut Marks, first: usize) -> Result<(), Memory>
+    pub fn end(
+        &mut self,
+        program: &Program,
+        queue: &mut RowQueue,
+        first: usize,
+    ) -> Result<(), Memory>
         requires ready { IsReady program.now self.old }
         requires few { steps_of self.old ≤ 2 ^ 31 }
-        requires totals { rules_of marks.old ≡ count_of program.now }
         requires room { first + count_of program.now + 1 < 2 ^ 64 }
-        ensures as_many { rules_of marks.new ≡ rules_of marks.old }
-        ensures ended { OnOk result ((numbers : AuditNumbers) (known : Known) (before mine after : List Track) (bound : ℕ) (given : List Row)
+        ensures { OnOk result ((numbers : AuditNumbers) (known : Known) (before mine after : List Track) (bound : ℕ) (given : List Row)
             → StandsFor program.now numbers self.old known → AreTracksSoFar numbers known mine → first ≡ length before
-            → Keeps marks.old (length numbers.rules) (before ++ mine ++ after) bound given
-            → HasTracksOf numbers known marks.new before after bound given) }
+            → Keeps queue.old (before ++ mine ++ after) bound given
+            → HasTracksOf numbers known queue.new before after bound given) }
     {
         for _ in 0..program.reach() {
             self.values.pass_end(program);
-            self.mark_rules(program, marks, first + 1)?;
+            self.mark_rules(program, queue, first + 1)?;
         }
         Ok(())
     }

@@ -1,7 +1,7 @@
 //! The marks of traces, their rows and their totals.
 use crate::compared::is;
-use audit_rows::{Mark, Row};
-use auditor::{Marks, Total};
+use audit_rows::{Mark, Row, RowQueue};
+use auditor::{Total, begin_tracks, totals_of};
 use meetings::Pair;
 use sectors::Class;
 use std::test::Fail;
@@ -45,19 +45,20 @@ fn engaged(least: u64) -> Mark {
 
 #[test]
 fn a_trace_gives_its_rows_as_they_are_decided_and_its_total(rt: HostRuntime) -> Result<(), Fail> {
-    let mut marks = Marks::new(rt.alloc(), 1)?;
-    marks.begin(PAIR)?;
-    marks.mark(0, 0, engaged(300))?;
-    marks.mark(0, 1, engaged(200))?;
-    marks.mark(0, 2, Mark::Nothing)?;
-    marks.mark(0, 3, engaged(400))?;
-    marks.mark(1, 0, Mark::Nothing)?;
-    marks.mark(1, 1, Mark::Broken)?;
-    marks.mark(1, 2, Mark::Broken)?;
-    let early = marks.rows_below(2)?;
+    let mut queue = RowQueue::new(rt.alloc());
+    begin_tracks(&mut queue, PAIR, 1)?;
+    queue.mark(0, 0, engaged(300))?;
+    queue.mark(0, 1, engaged(200))?;
+    queue.mark(0, 2, Mark::Nothing)?;
+    queue.mark(0, 3, engaged(400))?;
+    queue.mark(1, 0, Mark::Nothing)?;
+    queue.mark(1, 1, Mark::Broken)?;
+    queue.mark(1, 2, Mark::Broken)?;
+    let early = queue.rows_below(2)?;
     is(&rt, early.as_slice(), [meeting(0, 1, 200)].as_slice());
-    marks.mark(1, 3, Mark::Undecided)?;
-    let (late, totals) = marks.finish(4)?;
+    queue.mark(1, 3, Mark::Undecided)?;
+    let totals = totals_of(rt.alloc(), &queue, 1, 4)?;
+    let late = queue.finish(4)?;
     is(
         &rt,
         late.as_slice(),
@@ -85,22 +86,23 @@ fn a_trace_gives_its_rows_as_they_are_decided_and_its_total(rt: HostRuntime) -> 
 
 #[test]
 fn each_rule_has_one_total_over_the_traces_of_all_pairs(rt: HostRuntime) -> Result<(), Fail> {
-    let mut marks = Marks::new(rt.alloc(), 2)?;
-    marks.begin(PAIR)?;
-    marks.begin(REVERSE)?;
+    let mut queue = RowQueue::new(rt.alloc());
+    begin_tracks(&mut queue, PAIR, 2)?;
+    begin_tracks(&mut queue, REVERSE, 2)?;
     for index in [0, 3] {
-        marks.mark(index, 5, Mark::Nothing)?;
-        marks.mark(index, 6, Mark::Nothing)?;
+        queue.mark(index, 5, Mark::Nothing)?;
+        queue.mark(index, 6, Mark::Nothing)?;
     }
-    marks.mark(1, 5, Mark::Broken)?;
-    marks.mark(1, 6, Mark::Nothing)?;
-    marks.mark(2, 5, Mark::Nothing)?;
-    marks.mark(2, 6, Mark::Nothing)?;
-    marks.mark(4, 5, Mark::Broken)?;
-    marks.mark(4, 6, Mark::Nothing)?;
-    marks.mark(5, 5, Mark::Undecided)?;
-    marks.mark(5, 6, Mark::Undecided)?;
-    let (rows, totals) = marks.finish(7)?;
+    queue.mark(1, 5, Mark::Broken)?;
+    queue.mark(1, 6, Mark::Nothing)?;
+    queue.mark(2, 5, Mark::Nothing)?;
+    queue.mark(2, 6, Mark::Nothing)?;
+    queue.mark(4, 5, Mark::Broken)?;
+    queue.mark(4, 6, Mark::Nothing)?;
+    queue.mark(5, 5, Mark::Undecided)?;
+    queue.mark(5, 6, Mark::Undecided)?;
+    let totals = totals_of(rt.alloc(), &queue, 2, 7)?;
+    let rows = queue.finish(7)?;
     is(
         &rt,
         rows.as_slice(),

@@ -1,13 +1,12 @@
 //! A worked trace.
-ghost use Rattle.std.specs.Prelude.{◌≡◌, ◌+◌, ◌<◌, ◌^◌, IfOk, IfSome};
+ghost use Rattle.std.specs.Prelude.{◌≡◌, ◌+◌, ◌<◌, ◌^◌, IfOk, IfSome, OnOk, length};
 ghost use Rattle.encounters.specs.Directions.{HasDirection, HaveDirections};
 ghost use Rattle.mtl_monitor.specs.Following.{count_of};
-ghost use Rattle.auditor.specs.Tallies.{rules_of};
 ghost use Rattle.auditor.specs.TraceKeeping.{IsReady, steps_of};
 
 use crate::compared::is;
-use audit_rows::Row;
-use auditor::{AuditTrace, Marks, NextRow, Total};
+use audit_rows::{Row, RowQueue};
+use auditor::{AuditTrace, NextRow, Total, begin_tracks, totals_of};
 use encounters::{Act, Detect, PairStep};
 use fixed_geometry::Point;
 use meetings::{Follower, Pair};
@@ -80,16 +79,14 @@ fn take(
     program: &Program,
     seen: Option<PairStep>,
     step: u32,
-    marks: &mut Marks,
+    queue: &mut RowQueue,
 ) -> Result<(), Memory>
     requires seen { IfSome seen HaveDirections }
     requires ready { IsReady program.now trace.old }
     requires few { steps_of trace.old < 2 ^ 31 }
-    requires totals { rules_of marks.old ≡ count_of program.now }
     requires room { count_of program.now < 2 ^ 31 }
     ensures ready { IsReady program.now trace.new }
     ensures steps { steps_of trace.new ≡ steps_of trace.old + 1 }
-    ensures as_many { rules_of marks.new ≡ rules_of marks.old }
 {
     let was = follower.state();
     let row = follower.step(seen.as_ref());
@@ -100,7 +97,27 @@ fn take(
         was: &was,
         is: &is,
     };
-    trace.step(program, next, step, marks, 0)
+    trace.step(program, next, step, queue, 0)
+}
+
+/// Takes steps of a head-on meeting, by their numbers and by how far apart the vessels are along their tracks.
+fn take_all(
+    trace: &mut AuditTrace,
+    follower: &mut Follower,
+    program: &Program,
+    steps: &[(u32, i64)],
+    queue: &mut RowQueue,
+) -> Result<(), Memory>
+    requires ready { IsReady program.now trace.old }
+    requires few { steps_of trace.old + length steps.now < 2 ^ 31 }
+    requires room { count_of program.now < 2 ^ 31 }
+    ensures ready { OnOk result (IsReady program.now trace.new) }
+    ensures steps { OnOk result (steps_of trace.new ≡ steps_of trace.old + length steps.now) }
+{
+    for (step, ahead) in steps {
+        take(trace, follower, program, head_on(*ahead), *step, queue)?;
+    }
+    Ok(())
 }
 
 /// Whether the vessels are engaged, and whether they are so within two steps, at a tick of 10 seconds.
@@ -116,37 +133,21 @@ fn two_rules(alloc: Global) -> Result<Program, Fail>
 fn an_engagement_that_ends_at_the_last_step(rt: HostRuntime) -> Result<(), Fail> {
     let alloc = rt.alloc();
     let program = two_rules(alloc)?;
-    let mut marks = Marks::new(alloc, 2)?;
-    marks.begin(PAIR)?;
+    let mut queue = RowQueue::new(alloc);
+    begin_tracks(&mut queue, PAIR, program.formula_count())?;
     let mut trace = AuditTrace::new(alloc, &program, 5)?;
     let mut follower = Follower::new(DETECT, ACT, 10);
     // They pass at the end of the first step, are 1111 metres past each other at the end of the second, and are clear in the third.
-    take(
+    take_all(
         &mut trace,
         &mut follower,
         &program,
-        head_on(1_852_000),
-        5,
-        &mut marks,
+        &[(5, 1_852_000), (6, -9_260_000), (7, -11_112_000)],
+        &mut queue,
     )?;
-    take(
-        &mut trace,
-        &mut follower,
-        &program,
-        head_on(-9_260_000),
-        6,
-        &mut marks,
-    )?;
-    take(
-        &mut trace,
-        &mut follower,
-        &program,
-        head_on(-11_112_000),
-        7,
-        &mut marks,
-    )?;
-    trace.end(&program, &mut marks, 0)?;
-    let (rows, totals) = marks.finish(8)?;
+    trace.end(&program, &mut queue, 0)?;
+    let totals = totals_of(alloc, &queue, 2, 8)?;
+    let rows = queue.finish(8)?;
     is(
         &rt,
         rows.as_slice(),
@@ -203,11 +204,11 @@ fn an_engagement_that_ends_at_the_last_step(rt: HostRuntime) -> Result<(), Fail>
 fn a_trace_of_no_steps_has_no_rows(rt: HostRuntime) -> Result<(), Fail> {
     let alloc = rt.alloc();
     let program = two_rules(alloc)?;
-    let mut marks = Marks::new(alloc, 2)?;
-    marks.begin(PAIR)?;
+    let mut queue = RowQueue::new(alloc);
+    begin_tracks(&mut queue, PAIR, program.formula_count())?;
     let mut trace = AuditTrace::new(alloc, &program, 5)?;
-    trace.end(&program, &mut marks, 0)?;
-    let (rows, _totals) = marks.finish(5)?;
+    trace.end(&program, &mut queue, 0)?;
+    let rows = queue.finish(5)?;
     is(&rt, rows.len(), 0);
     Ok(())
 }

@@ -24,6 +24,15 @@ module _ {X : Type 0} where
   different_tail : (x : X) (xs : List X) → AllPairs ◌≢◌ (x ∷ xs) → AllPairs ◌≢◌ xs
   different_tail x xs d i j e lt within = d (suc i) (suc j) e (omega arith) (omega arith)
 
+  -- elements of one list and then those of another
+  pub different_append : (xs ys : List X) → AllPairs ◌≢◌ xs → AllPairs ◌≢◌ ys → ((x : X) → Contains xs x → Contains ys x → ⊥) → AllPairs ◌≢◌ (xs ++ ys)
+  different_append [] ys d e apart = e
+  different_append (x ∷ xs) ys d e apart =
+      different_cons x (xs ++ ys) (λ i. elim (Contains-append_cases xs ys x i) [
+        | inl here ↦ different_head x xs d here
+        | inr there ↦ apart x (in_head x xs) there
+      ]) (different_append xs ys (different_tail x xs d) e (λ z i j. apart z (in_tail x xs z i) j))
+
   -- none of them stands before itself
   pub different_before : (xs : List X) (y : X) (ys : List X) → AllPairs ◌≢◌ (xs ++ y ∷ ys) → Contains xs y → ⊥
   different_before [] y ys d i = in_none y i
@@ -100,3 +109,10 @@ module _ {X Y : Type 0} (f : X → Y) where
         | inl same ↦ (x, in_head x xs, same)
         | inr later ↦ (let (z, j, e) = from_map xs y later in (z, in_tail x xs z j, e))
       ]
+
+  -- Images of different elements are different where no two elements have one.
+  pub different_map : ((x y : X) → f x ≡ f y → x ≡ y) → (xs : List X) → AllPairs ◌≢◌ xs → AllPairs ◌≢◌ (map f xs)
+  different_map one [] d = different_none
+  different_map one (x ∷ xs) d =
+      different_cons (f x) (map f xs)
+      (λ i. let (y, j, e) = from_map xs (f x) i in different_head x xs d (subst (λ (z : X). Contains xs z) (one y x e) j)) (different_map one xs (different_tail x xs d))

@@ -9,8 +9,8 @@ use Rattle.mtl_monitor.specs.declared.trace_state.TraceState.{TraceState}
 use Rattle.audit_rows.specs.Tracks.{Track, longer, next_step}
 use Rattle.audit_rows.specs.declared.row.Row.{Row}
 use Rattle.auditor.specs.ValueMarks.{mark_of}
-use Rattle.auditor.specs.Tallies.{Keeps}
-use Rattle.auditor.specs.declared.marks.Marks.{Marks}
+use Rattle.audit_rows.specs.Inner.Queues.{StandsFor as QueueStandsFor}
+use Rattle.audit_rows.specs.declared.row_queue.RowQueue.{RowQueue}
 use Rattle.auditor.specs.declared.trace.AuditTrace.{AuditTrace}
 
 -- a position and its value, where there is one
@@ -50,21 +50,21 @@ AwaitAll start [] (track ∷ tracks) = ⊥
 AwaitAll start (answer ∷ answers) [] = ⊥
 AwaitAll start (answer ∷ answers) (track ∷ tracks) = Awaits start answer track × AwaitAll start answers tracks
 
--- ---- what marking brings to the marks
+-- ---- what marking brings to the queue
 
 -- The track at the index has the mark of its rule's answer.
-pub record MarksRule (program : Program) (trace : AuditTrace) (index rule : ℕ) (old new : Marks) : Type 0 where
+pub record MarksRule (program : Program) (trace : AuditTrace) (index rule : ℕ) (old new : RowQueue) : Type 0 where
   pub answer : Answer
   pub is : IsAnswer program trace.values rule answer
-  pub keeps : (rules bound : ℕ) (before : List Track) (track : Track) (after : List Track) (given : List Row) → index ≡ length before
-      → Awaits trace.start answer track → Keeps old rules (before ++ track ∷ after) bound given
-      → Keeps new rules (before ++ answered answer track ∷ after) bound given
+  pub keeps : (bound : ℕ) (before : List Track) (track : Track) (after : List Track) (given : List Row) → index ≡ length before
+      → Awaits trace.start answer track → QueueStandsFor old (before ++ track ∷ after) bound given
+      → QueueStandsFor new (before ++ answered answer track ∷ after) bound given
 
 -- So have the tracks of so many rules, from the index on.
-pub record MarksRules (program : Program) (trace : AuditTrace) (first count : ℕ) (old new : Marks) : Type 0 where
+pub record MarksRules (program : Program) (trace : AuditTrace) (first count : ℕ) (old new : RowQueue) : Type 0 where
   pub answers : List Answer
   pub many : length answers ≡ count
   pub are : AreAnswers program trace.values 0 answers
-  pub keeps : (rules bound : ℕ) (before mine after : List Track) (given : List Row) → first ≡ length before
-      → AwaitAll trace.start answers mine → Keeps old rules (before ++ (mine ++ after)) bound given
-      → Keeps new rules (before ++ (answered_all answers mine ++ after)) bound given
+  pub keeps : (bound : ℕ) (before mine after : List Track) (given : List Row) → first ≡ length before
+      → AwaitAll trace.start answers mine → QueueStandsFor old (before ++ (mine ++ after)) bound given
+      → QueueStandsFor new (before ++ (answered_all answers mine ++ after)) bound given

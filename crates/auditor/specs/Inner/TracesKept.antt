@@ -1,4 +1,4 @@
--- What an audit keeps of all traces beside their steps: the values of the rules' formulas, and the marks.
+-- What an audit keeps of all traces beside their steps: the values of the rules' formulas, and the queue of their rows.
 use Rattle.std.specs.Prelude.{ℕ, ◌≡◌, ◌+◌, ◌≤◌, List, length}
 use Rattle.std.specs.List.{AllZip}
 use Rattle.mtl_monitor.specs.declared.program.Program.{Program}
@@ -10,10 +10,12 @@ use Rattle.traces.specs.Known.{IsFollowed, Known}
 use Rattle.traces.specs.Standing as traces
 use Rattle.traces.specs.declared.all_traces.AllTraces.{AllTraces}
 use Rattle.auditor.specs.Inner.AuditKeeping.{AreAllTracks, AreTracksOfAll}
-use Rattle.auditor.specs.Tallies.{AreTallies, Keeps}
+use Rattle.audit_rows.specs.Inner.Closed.{HaveOwnTopics}
+use Rattle.audit_rows.specs.Inner.Queues.{StandsFor as QueueStandsFor}
+use Rattle.auditor.specs.Tallies.{AreTallies}
 use Rattle.auditor.specs.TraceKeeping.{AreRuleMarksWhole, StandsFor, formulas_of}
 use Rattle.auditor.specs.TraceKeeping as trace
-use Rattle.auditor.specs.declared.marks.Marks.{Marks}
+use Rattle.audit_rows.specs.declared.row_queue.RowQueue.{RowQueue}
 use Rattle.auditor.specs.declared.total.Total.{Total}
 use Rattle.auditor.specs.declared.trace.AuditTrace.{AuditTrace}
 
@@ -22,12 +24,12 @@ pub record IsReady (program : Program) (most : ℕ) (one : AuditTrace) : Type 0 
   pub ready : trace.IsReady program one
   pub few : trace.steps_of one ≤ most
 
--- The values and the marks stand for these traces, of whose rows those were given that end below the bound.
-pub record Holds (program : Program) (values : List AuditTrace) (marks : Marks) (numbers : AuditNumbers) (knowns : List Known) (bound : ℕ) (given : List Row) : Type 0 where
+-- The values and the queue stand for these traces, of whose rows those were given that end below the bound.
+pub record Holds (program : Program) (values : List AuditTrace) (queue : RowQueue) (numbers : AuditNumbers) (knowns : List Known) (bound : ℕ) (given : List Row) : Type 0 where
   pub stand : AllZip (StandsFor program numbers) values knowns
   pub tracks : List Track
   pub are_tracks : AreAllTracks numbers knowns tracks
-  pub keeps : Keeps marks (length numbers.rules) tracks bound given
+  pub keeps : QueueStandsFor queue tracks bound given
 
 -- ---- a step of each trace
 
@@ -37,11 +39,11 @@ IsAtStep step known = (step ≡ known.start + length known.steps) × (known.star
 
 -- All of them have taken their step to the tick at which these vessels are seen.
 pub record AreStepped (program : Program) (numbers : AuditNumbers) (ticks : List Sighting) (seen : Sighting) (kept : AllTraces) (values : List AuditTrace) (knowns : List Known)
-    (marks : Marks) (bound : ℕ) (given : List Row) : Type 0 where
+    (queue : RowQueue) (bound : ℕ) (given : List Row) : Type 0 where
   pub after : List Known
   pub followed : AllZip (IsFollowed numbers (last_sighting ticks) seen) knowns after
   pub stands : traces.StandsFor kept numbers ticks after
-  pub holds : Holds program values marks numbers after bound given
+  pub holds : Holds program values queue numbers after bound given
 
 -- ---- rows so far
 
@@ -52,14 +54,15 @@ AreSettledKnowns bound numbers knowns = (tracks : List Track) → AreAllTracks n
 -- ---- the end
 
 -- Their tracks have marks at all positions.
-pub record AreFinished (numbers : AuditNumbers) (knowns : List Known) (marks : Marks) (bound : ℕ) (given : List Row) : Type 0 where
+pub record AreFinished (numbers : AuditNumbers) (knowns : List Known) (queue : RowQueue) (bound : ℕ) (given : List Row) : Type 0 where
   pub tracks : List Track
   pub are_tracks : AreTracksOfAll AreRuleMarksWhole numbers knowns tracks
-  pub keeps : Keeps marks (length numbers.rules) tracks bound given
+  pub keeps : QueueStandsFor queue tracks bound given
 
 -- The rows and the totals are those of the traces with marks at all positions.
 pub record AreEnded (numbers : AuditNumbers) (knowns : List Known) (rows : List Row) (totals : List Total) : Type 0 where
   pub tracks : List Track
   pub are_tracks : AreTracksOfAll AreRuleMarksWhole numbers knowns tracks
+  pub own_topics : HaveOwnTopics tracks
   pub are_rows : AreRows tracks rows
-  pub are_totals : AreTallies totals (length numbers.rules) tracks rows
+  pub are_totals : AreTallies totals (length numbers.rules) tracks

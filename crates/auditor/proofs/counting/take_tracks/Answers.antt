@@ -12,19 +12,19 @@ pub loop-index-preserved : goal.loop-index-preserved
 loop-index-preserved c = elim c.match-counts.branch [
   | in-Some w ↦ rw w.totals-is (record {
     as_many = w.take_track.ensures.as_many ∙ c.loop-index.invariant.as_many;
-    tallies = λ rules bound tracks given told h ends none.
+    tallies = λ rules bound tracks given h ends none.
         let index = c.loop-index.index in
         let many = c.track_count-index-end.ensures tracks bound given h in
         let there = there_at tracks index (omega (arith, c.loop-index-test.true)) in
         let is = subst (λ (o : Option Track). IsCountOf c.counts.result o) there.at (c.counts.ensures tracks bound given h ends) in
         let found = counted_there c.counts.result w.in-Some.topic w.in-Some.counts there.track w.in-Some.is is in
-        let so_far = c.loop-index.invariant.tallies rules bound tracks given told h ends none in
-        subst (λ (ts : List Track). AreTallies w.take_track.new.totals rules ts told) (sym there.more)
-        (w.take_track.ensures.tallies rules (take index tracks) there.track told (λ rule. ap (is_of_rule rule) (sym found.0)) found.1 so_far);
+        let so_far = c.loop-index.invariant.tallies rules bound tracks given h ends none in
+        subst (λ (ts : List Track). AreTallies w.take_track.new.totals rules ts) (sym there.more)
+        (w.take_track.ensures.tallies rules (take index tracks) there.track (λ rule. ap (is_of_rule rule) (sym found.0)) found.1 so_far);
   })
   | in_default w ↦ rw w.totals-is (record {
     as_many = c.loop-index.invariant.as_many;
-    tallies = λ rules bound tracks given told h ends none.
+    tallies = λ rules bound tracks given h ends none.
         let many = c.track_count-index-end.ensures tracks bound given h in
         let there = there_at tracks c.loop-index.index (omega (arith, c.loop-index-test.true)) in
         let is = subst (λ (o : Option Track). IsCountOf c.counts.result o) there.at (c.counts.ensures tracks bound given h ends) in absurd (no_count c.counts.result there.track w.in_default.is is);
@@ -32,7 +32,7 @@ loop-index-preserved c = elim c.match-counts.branch [
 ]
 
 pub returns-clause-tallies : goal.returns-clause-tallies
-returns-clause-tallies c = λ rules bound tracks given told h ends none.
+returns-clause-tallies c = λ rules bound tracks given h ends none.
     let many = c.track_count-index-end.ensures tracks bound given h in
     let all : take c.loop-index.index tracks ≡ tracks = take_all c.loop-index.index tracks (omega (arith, c.loop-index-test.false)) in
-    subst (λ (ts : List Track). AreTallies c.loop-index.totals rules ts told) all (c.loop-index.invariant.tallies rules bound tracks given told h ends none)
+    subst (λ (ts : List Track). AreTallies c.loop-index.totals rules ts) all (c.loop-index.invariant.tallies rules bound tracks given h ends none)

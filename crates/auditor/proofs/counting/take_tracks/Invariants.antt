@@ -8,6 +8,6 @@ use Rattle.auditor.proofs.counting.take_tracks.Given as goal
 abbrev pub invariant-loop-index : goal.invariant-loop-index
 invariant-loop-index l = record {
   as_many : length l.totals ≡ length l.fn.totals;
-  tallies : (rules bound : ℕ) (tracks : List Track) (given told : List Row) → StandsFor l.queue tracks bound given → EndAt l.end tracks
-      → AreTallies l.fn.totals rules [] told → AreTallies l.totals rules (take l.index tracks) told;
+  tallies : (rules bound : ℕ) (tracks : List Track) (given : List Row) → StandsFor l.queue tracks bound given → EndAt l.end tracks
+      → AreTallies l.fn.totals rules [] → AreTallies l.totals rules (take l.index tracks);
 }

@@ -7,10 +7,9 @@ pub loop-trace-init : goal.loop-trace-init
 loop-trace-init c = record {
   tracks_are = ap (λ (n : ℕ). n + 1) c.formula_count-tracks.ensures.count;
   few = omega arith;
-  totals = c.requires.totals;
   many = refl;
   rest = λ k d from lt. c.requires.ready k d lt;
-  holds = λ numbers knowns bound given is h. ending_none c.args.program.now numbers knowns bound given c.args.values.now c.args.marks.now h;
+  holds = λ numbers knowns bound given is h. ending_none c.args.program.now numbers knowns bound given c.args.values.now c.args.queue.now h;
 }
 
 pub loop-trace-preserved : goal.loop-trace-preserved
@@ -29,13 +28,12 @@ loop-trace-preserved c =
     record {
       tracks_are = inv.tracks_are;
       few = omega arith;
-      totals = c.end.ensures.as_many ∙ inv.totals;
       many = count ∙ inv.many;
       rest = λ k d from lt. (let ne : k ≢ i = omega arith in let inside : k < length old = omega arith in rw get_or-set_other (inv.rest k d (omega arith) inside));
       holds = λ numbers knowns bound given is h.
-          ending_more c.args.program.now numbers knowns bound given old c.loop-trace.marks c.end.new.marks c.loop-trace.first i (c.formula_count-tracks.result + 1) c.trace-item.result after is
+          ending_more c.args.program.now numbers knowns bound given old c.loop-trace.queue c.end.new.queue c.loop-trace.first i (c.formula_count-tracks.result + 1) c.trace-item.result after is
           inv.tracks_are within
-          c.in_ok-end.ensures.ended
+          c.in_ok-end.ensures
           (inv.holds numbers knowns bound given is h);
     }
 
@@ -44,5 +42,5 @@ returns c = λ numbers knowns bound given is h.
     let many = c.loop-trace.invariant.many in
     let test = c.loop-trace-test.false in
     let past : length c.loop-trace.values ≤ c.loop-trace.trace-index = omega arith in
-    ending_all c.args.program.now numbers knowns bound given c.loop-trace.values c.loop-trace.marks c.loop-trace.first c.loop-trace.trace-index
+    ending_all c.args.program.now numbers knowns bound given c.loop-trace.values c.loop-trace.queue c.loop-trace.first c.loop-trace.trace-index
     (c.loop-trace.invariant.holds numbers knowns bound given is h) past

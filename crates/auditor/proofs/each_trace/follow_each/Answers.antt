@@ -18,13 +18,11 @@ loop-index-init c = record {
   traces = refl;
   tracks_are = ap (λ (n : ℕ). n + 1) c.formula_count-tracks.ensures.count;
   few = omega arith;
-  totals = c.requires.totals;
-  totals_were = refl;
   many = refl;
   done = λ k d lt. absurd (omega arith);
   rest = λ k d from lt. c.requires.ready k d lt;
   holds = λ numbers ticks knowns bound given is are z at h.
-      under_way_none c.args.program.now numbers ticks c.args.seen.now c.args.step knowns bound given c.args.traces.now c.args.values.now c.args.marks.now z h
+      under_way_none c.args.program.now numbers ticks c.args.seen.now c.args.step knowns bound given c.args.traces.now c.args.values.now c.args.queue.now z h
       (at_step numbers ticks knowns c.args.step are at)
       (λ known i. let few = few_steps numbers ticks knowns are known i in let count = z.count in let most = c.requires.few in omega arith);
 }
@@ -56,8 +54,6 @@ loop-index-preserved c =
       traces = taken.as_many ∙ found.as_many ∙ inv.traces;
       tracks_are = inv.tracks_are;
       few = omega arith;
-      totals = c.step.ensures.as_many ∙ inv.totals;
-      totals_were = c.step.ensures.as_many ∙ inv.totals_were;
       many = count ∙ inv.many;
       done = λ k d lt. elim (before_or_at k i lt) [
         | inl before ↦ (let ne : k ≢ i = omega arith in rw get_or-set_other (inv.done k d before))
@@ -65,7 +61,7 @@ loop-index-preserved c =
       ];
       rest = λ k d from lt. (let ne : k ≢ i = omega arith in let inside : k < length old = omega arith in rw get_or-set_other (inv.rest k d (omega arith) inside));
       holds = λ numbers ticks knowns bound given is are z at h.
-          under_way_more c.args.program.now numbers ticks c.args.seen.now c.args.step knowns bound given c.loop-index.traces c.take_step-row.new.self old c.loop-index.marks c.step.new.marks
+          under_way_more c.args.program.now numbers ticks c.args.seen.now c.args.step knowns bound given c.loop-index.traces c.take_step-row.new.self old c.loop-index.queue c.step.new.queue
           c.loop-index.first i (c.formula_count-tracks.result + 1) c.index-values-index.result after _ is inv.tracks_are within
           c.in_ok-step.ensures.stands
           (gives_row c.args.program.now numbers ticks c.args.seen.now c.args.step knowns bound given c.loop-index.traces c.next_step-next_step.new.self c.take_step-row.new.self i
@@ -78,5 +74,5 @@ returns-clause-stepped c = λ numbers ticks knowns bound given is are z at h.
     let many = c.loop-index.invariant.many in
     let test = c.loop-index-test.false in
     let past : length c.loop-index.values ≤ c.loop-index.index = omega arith in
-    under_way_all c.args.program.now numbers ticks c.args.seen.now c.args.step knowns bound given c.loop-index.traces c.loop-index.values c.loop-index.marks c.loop-index.first c.loop-index.index
+    under_way_all c.args.program.now numbers ticks c.args.seen.now c.args.step knowns bound given c.loop-index.traces c.loop-index.values c.loop-index.queue c.loop-index.first c.loop-index.index
     (c.loop-index.invariant.holds numbers ticks knowns bound given is are z at h) past

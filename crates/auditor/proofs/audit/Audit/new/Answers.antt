@@ -1,12 +1,11 @@
-use Rattle.std.proofs.Common.{◌≡◌, ℕ, [], List, length, refl, sym, subst, ◌∙◌, arith}
+use Rattle.std.proofs.Common.{◌≡◌, ℕ, [], List, refl, sym, subst, arith}
 use Rattle.std.specs.List.{AllZip}
 use Rattle.traces.specs.Audited.{AuditNumbers}
 use Rattle.traces.proofs.ForCallers.{begun_within, different_none, in_none}
 use Rattle.auditor.specs.Standing.{settled_by}
-use Rattle.auditor.specs.Tallies.{Keeps}
+use Rattle.audit_rows.specs.Inner.Queues.{StandsFor as Keeps}
 use Rattle.auditor.specs.TraceKeeping.{StandsFor}
 use Rattle.auditor.specs.declared.trace.AuditTrace.{AuditTrace}
-use Rattle.auditor.proofs.UnderWay.{program_length}
 use Rattle.auditor.proofs.audit.Audit.new.Goals as goal
 
 pub returns-clause-stands : goal.returns-clause-stands
@@ -21,7 +20,6 @@ returns-clause-stands c =
     } in
     let none : 0 ≡ settled_by numbers 0 = omega arith in
     let formulas = c.in_ok-program.ensures.formulas in
-    let count = c.formula_count.ensures.count ∙ program_length c.in_ok-program.program numbers formulas in
     record {
       program = formulas;
       knowns = [];
@@ -32,10 +30,9 @@ returns-clause-stands c =
       };
       traces = c.in_ok-new.ensures.stands numbers refl refl refl refl refl;
       holds = record {
-        stand = subst (λ (vs : List AuditTrace). AllZip (StandsFor c.in_ok-program.program numbers) vs []) (sym c.new-3.ensures.items) tt;
+        stand = subst (λ (vs : List AuditTrace). AllZip (StandsFor c.in_ok-program.program numbers) vs []) (sym c.new-2.ensures.items) tt;
         tracks = [];
         are_tracks = refl;
-        keeps = subst (λ (b : ℕ). Keeps c.in_ok-marks.marks (length numbers.rules) [] b []) none
-            (subst (λ (n : ℕ). Keeps c.in_ok-marks.marks n [] 0 []) count c.in_ok-marks.ensures);
+        keeps = subst (λ (b : ℕ). Keeps c.new-3.result [] b []) none c.new-3.ensures;
       };
     }

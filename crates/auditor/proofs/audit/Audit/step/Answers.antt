@@ -17,7 +17,7 @@ returns-in_err-tick-clause-many c = λ fault numbers ticks given s.
     let e = c.given-given.ensures in
     let count = s.traces.count in
     let step_is : c.saturating_sub.result ≡ length ticks - 1 = (let less = c.saturating_sub.ensures in omega arith) in
-    let held = subst (λ (vs : List AuditTrace). Holds c.args.self.now.program vs c.args.self.now.marks numbers s.knowns (settled_by numbers (length ticks - 1)) given) (sym c.deref_mut.ensures.value) s.holds in
+    let held = subst (λ (vs : List AuditTrace). Holds c.args.self.now.program vs c.args.self.now.queue numbers s.knowns (settled_by numbers (length ticks - 1)) given) (sym c.deref_mut.ensures.value) s.holds in
     let st = c.in_ok-follow_each.ensures.stepped numbers ticks s.knowns (settled_by numbers (length ticks - 1)) given s.program s.are_known s.traces step_is held in
     let same = same_fault c.from_residual-in_err-tick.result c.in_err-tick.field-0.0 TooManyPairs c.from_residual-in_err-tick.ensures.1 fault in
     let err : c.tick.result ≡ Err TooManyPairs = c.in_err-tick.was ∙ ap (λ (f : TickFault). Err f) (sym same) in
@@ -30,7 +30,6 @@ returns-clause-sound c =
     record {
       traces = c.in_ok-tick.ensures.sound;
       rules = sound.rules;
-      totals = c.rows_below.ensures.as_many ∙ (c.begin_each.ensures.as_many ∙ (c.follow_each.ensures.as_many ∙ sound.totals));
       many = c.in_ok-begin_each.ensures.many;
       ready = subst (λ (n : ℕ). All (IsReady c.args.self.now.program n) c.begin_each.new.values.items) (sym now) c.in_ok-begin_each.ensures.ready;
     }
@@ -40,7 +39,7 @@ returns-clause-stands c = λ numbers ticks given s.
     let e = c.given-given.ensures in
     let count = s.traces.count in
     let step_is : c.saturating_sub.result ≡ length ticks - 1 = (let less = c.saturating_sub.ensures in omega arith) in
-    let held = subst (λ (vs : List AuditTrace). Holds c.args.self.now.program vs c.args.self.now.marks numbers s.knowns (settled_by numbers (length ticks - 1)) given) (sym c.deref_mut.ensures.value) s.holds in
+    let held = subst (λ (vs : List AuditTrace). Holds c.args.self.now.program vs c.args.self.now.queue numbers s.knowns (settled_by numbers (length ticks - 1)) given) (sym c.deref_mut.ensures.value) s.holds in
     let st = c.in_ok-follow_each.ensures.stepped numbers ticks s.knowns (settled_by numbers (length ticks - 1)) given s.program s.are_known s.traces step_is held in
     let b = c.in_ok-tick.ensures.stands numbers ticks s.knowns st.after s.are_known st.followed st.stands in
     let as_many = c.follow_each.ensures.many in
@@ -50,7 +49,7 @@ returns-clause-stands c = λ numbers ticks given s.
     let all_old : c.args.self.now.values.len ≡ length old = omega (arith, c.args.self.now.values.ok.0) in
     let all_new : length new ≡ length old = as_many ∙ ap (λ (vs : List AuditTrace). length vs) before in
     let written = whole_written c.args.self.now.values.len new old all_old all_new in
-    let stepped = subst (λ (vs : List AuditTrace). Holds c.args.self.now.program vs c.follow_each.new.marks numbers st.after (settled_by numbers (length ticks - 1)) given) (sym written) st.holds in
+    let stepped = subst (λ (vs : List AuditTrace). Holds c.args.self.now.program vs c.follow_each.new.queue numbers st.after (settled_by numbers (length ticks - 1)) given) (sym written) st.holds in
     let at : length ticks ≡ c.given-given.result = sym (e ∙ count) in
     let early : settled_by numbers (length ticks - 1) ≤ c.given-given.result = omega arith in
     let begun = c.in_ok-begin_each.ensures.holds numbers (ticks ++ c.args.seen.now ∷ []) st.after b.new (settled_by numbers (length ticks - 1)) given s.program b.stands b.are_known.once
@@ -70,7 +69,7 @@ returns-clause-stands c = λ numbers ticks given s.
         tracks = begun.tracks;
         are_tracks = begun.are_tracks;
         keeps = kept_on numbers ticks c.args.seen.now knowns b.are_known c.saturating_sub-bound.result is c.rows_below.new.self begun.tracks (given ++ c.in_ok-rows_below.field-0.items)
-            (c.in_ok-rows_below.ensures.keeps (length numbers.rules) (settled_by numbers (length ticks - 1)) begun.tracks given begun.keeps le settled);
+            (c.in_ok-rows_below.ensures.stands begun.tracks (settled_by numbers (length ticks - 1)) given begun.keeps le settled);
       };
     }
 
@@ -79,7 +78,7 @@ returns-clause-rows c = λ numbers ticks given s.
     let e = c.given-given.ensures in
     let count = s.traces.count in
     let step_is : c.saturating_sub.result ≡ length ticks - 1 = (let less = c.saturating_sub.ensures in omega arith) in
-    let held = subst (λ (vs : List AuditTrace). Holds c.args.self.now.program vs c.args.self.now.marks numbers s.knowns (settled_by numbers (length ticks - 1)) given) (sym c.deref_mut.ensures.value) s.holds in
+    let held = subst (λ (vs : List AuditTrace). Holds c.args.self.now.program vs c.args.self.now.queue numbers s.knowns (settled_by numbers (length ticks - 1)) given) (sym c.deref_mut.ensures.value) s.holds in
     let st = c.in_ok-follow_each.ensures.stepped numbers ticks s.knowns (settled_by numbers (length ticks - 1)) given s.program s.are_known s.traces step_is held in
     let b = c.in_ok-tick.ensures.stands numbers ticks s.knowns st.after s.are_known st.followed st.stands in
     let as_many = c.follow_each.ensures.many in
@@ -89,7 +88,7 @@ returns-clause-rows c = λ numbers ticks given s.
     let all_old : c.args.self.now.values.len ≡ length old = omega (arith, c.args.self.now.values.ok.0) in
     let all_new : length new ≡ length old = as_many ∙ ap (λ (vs : List AuditTrace). length vs) before in
     let written = whole_written c.args.self.now.values.len new old all_old all_new in
-    let stepped = subst (λ (vs : List AuditTrace). Holds c.args.self.now.program vs c.follow_each.new.marks numbers st.after (settled_by numbers (length ticks - 1)) given) (sym written) st.holds in
+    let stepped = subst (λ (vs : List AuditTrace). Holds c.args.self.now.program vs c.follow_each.new.queue numbers st.after (settled_by numbers (length ticks - 1)) given) (sym written) st.holds in
     let at : length ticks ≡ c.given-given.result = sym (e ∙ count) in
     let early : settled_by numbers (length ticks - 1) ≤ c.given-given.result = omega arith in
     let begun = c.in_ok-begin_each.ensures.holds numbers (ticks ++ c.args.seen.now ∷ []) st.after b.new (settled_by numbers (length ticks - 1)) given s.program b.stands b.are_known.once
@@ -100,13 +99,13 @@ returns-clause-rows c = λ numbers ticks given s.
     let le = later_bound numbers ticks c.args.seen.now knowns b.are_known c.saturating_sub-bound.result is in
     let settled = all_settled numbers ticks c.args.seen.now knowns b.are_known c.saturating_sub-bound.result is begun.tracks begun.are_tracks in
     rows_given numbers ticks c.args.seen.now knowns b.are_known c.saturating_sub-bound.result is begun.tracks (given ++ c.in_ok-rows_below.field-0.items) begun.are_tracks
-    (c.in_ok-rows_below.ensures.rows (length numbers.rules) (settled_by numbers (length ticks - 1)) begun.tracks given begun.keeps le settled)
+    (c.in_ok-rows_below.ensures.rows begun.tracks (settled_by numbers (length ticks - 1)) given begun.keeps le settled)
 
 pub returns-clause-few : goal.returns-clause-few
 returns-clause-few c = λ numbers ticks given s more.
     let e = c.given-given.ensures in
     let count = s.traces.count in
     let step_is : c.saturating_sub.result ≡ length ticks - 1 = (let less = c.saturating_sub.ensures in omega arith) in
-    let held = subst (λ (vs : List AuditTrace). Holds c.args.self.now.program vs c.args.self.now.marks numbers s.knowns (settled_by numbers (length ticks - 1)) given) (sym c.deref_mut.ensures.value) s.holds in
+    let held = subst (λ (vs : List AuditTrace). Holds c.args.self.now.program vs c.args.self.now.queue numbers s.knowns (settled_by numbers (length ticks - 1)) given) (sym c.deref_mut.ensures.value) s.holds in
     let st = c.in_ok-follow_each.ensures.stepped numbers ticks s.knowns (settled_by numbers (length ticks - 1)) given s.program s.are_known s.traces step_is held in
     c.in_ok-tick.ensures.few numbers ticks s.knowns st.after s.are_known st.followed st.stands more

@@ -13,8 +13,7 @@ loop-init c = record {
   fed = refl;
   past = c.requires.ready.unended;
   follows = λ formulas rows follows. inl follows;
-  rules = refl;
-  tracks = λ numbers known before mine after bound given stands tracks e keeps. at_end numbers known c.args.marks.now before after bound given mine tracks keeps;
+  tracks = λ numbers known before mine after bound given stands tracks e keeps. at_end numbers known c.args.queue.now before after bound given mine tracks keeps;
 }
 
 pub loop-preserved : goal.loop-preserved
@@ -32,17 +31,16 @@ loop-preserved c =
       fed = c.pass_end.ensures.fed ∙ c.loop.invariant.fed;
       past = past;
       follows = λ formulas rows follows. inr (closes formulas rows follows);
-      rules = c.mark_rules.ensures.as_many ∙ c.loop.invariant.rules;
       tracks = λ numbers known before mine after bound given stands tracks e keeps.
-          one_past c.args.program.now numbers _ known c.args.first c.loop.counter c.loop.marks c.mark_rules.new.marks
-          (c.loop.invariant.start ∙ stands.start) (closes (formulas_of numbers) known.trace stands.values) past c.in_ok-mark_rules.ensures.marks
+          one_past c.args.program.now numbers _ known c.args.first c.loop.counter c.loop.queue c.mark_rules.new.queue
+          (c.loop.invariant.start ∙ stands.start) (closes (formulas_of numbers) known.trace stands.values) past c.in_ok-mark_rules.ensures
           before after bound given e (c.loop.invariant.tracks numbers known before mine after bound given stands tracks e keeps);
     }
 
-pub returns-clause-ended : goal.returns-clause-ended
-returns-clause-ended c = λ numbers known before mine after bound given stands tracks e keeps.
+pub returns : goal.returns
+returns c = λ numbers known before mine after bound given stands tracks e keeps.
     let reach : c.reach-end.result ≡ greatest_reach (formulas_of numbers) =
     c.reach-end.ensures.formulas (formulas_of numbers) (record { trees = stands.values.trees; of = stands.values.of }) in
     let last : c.loop.counter ≡ greatest_reach (formulas_of numbers) = omega (arith, c.loop-test.false, c.loop.auto.counter-end) in
-    at_last numbers known c.loop.marks before after bound given c.loop.counter last
+    at_last numbers known c.loop.queue before after bound given c.loop.counter last
     (c.loop.invariant.tracks numbers known before mine after bound given stands tracks e keeps)

@@ -1,4 +1,4 @@
-use Rattle.std.proofs.Common.{◌≡◌, ◌++◌, ◌∷◌, [], length, length-append, sym, subst, ◌∙◌, arith}
+use Rattle.std.proofs.Common.{◌≡◌, ◌++◌, ◌∷◌, [], length, length-append, sym, subst, arith}
 use Rattle.std.specs.Prelude.{Option}
 use Rattle.std.specs.Option.{option_copied}
 use Rattle.encounters.specs.Standing.{IsStateAfter}
@@ -24,17 +24,17 @@ returns-clause-stands c = on_ok_weaker c.mark_rules.result
     let begins = stands.start in
     let apart = c.stays_apart-apart.ensures in
     let meets = meeting_marked numbers known seen c.meeting_mark.result next.was.now next.is.now c.stays_apart-apart.result c.args.first c.args.step
-    c.args.marks.now c.mark_or_repeat.new.marks at of.was of.is is_mark apart.was apart.is (λ rests. let later = apart.later rests in omega arith)
-    c.in_ok-mark_or_repeat.ensures.keeps in
+    c.args.queue.now c.mark_or_repeat.new.queue at of.was of.is is_mark apart.was apart.is (λ rests. let later = apart.later rests in omega arith)
+    c.in_ok-mark_or_repeat.ensures in
     stepped c.args.program.now numbers _ known seen row c.meeting_mark.result
     (record {
       start = stands.start;
       rows = omega (arith, length-append known.steps (seen ∷ []), length-append known.trace (row ∷ []));
       values = c.feed-changes.ensures.follows (formulas_of numbers) known.trace stands.values;
     })
-    is_mark c.args.first c.args.marks.now c.mark_or_repeat.new.marks c.mark_rules.new.marks meets marks
+    is_mark c.args.first c.args.queue.now c.mark_or_repeat.new.queue c.mark_rules.new.queue meets marks
     before mine after bound given tracks e keeps)
-    c.mark_rules.ensures.marks
+    c.mark_rules.ensures
 
 pub returns-then-has_answered-clause-stands : goal.returns-then-has_answered-clause-stands
 returns-then-has_answered-clause-stands c = λ numbers known seen before mine after bound given stands at of tracks e keeps.
@@ -48,8 +48,8 @@ returns-then-has_answered-clause-stands c = λ numbers known seen before mine af
     let begins = stands.start in
     let apart = c.stays_apart-apart.ensures in
     let meets = meeting_marked numbers known seen c.meeting_mark.result next.was.now next.is.now c.stays_apart-apart.result c.args.first c.args.step
-    c.args.marks.now c.mark_or_repeat.new.marks at of.was of.is is_mark apart.was apart.is (λ rests. let later = apart.later rests in omega arith)
-    c.in_ok-mark_or_repeat.ensures.keeps in
+    c.args.queue.now c.mark_or_repeat.new.queue at of.was of.is is_mark apart.was apart.is (λ rests. let later = apart.later rests in omega arith)
+    c.in_ok-mark_or_repeat.ensures in
     let reach = c.has_answered.ensures c.if-has_answered.true (formulas_of numbers) (record { trees = stands.values.trees; of = stands.values.of }) in
     rested c.args.program.now numbers _ known seen row c.meeting_mark.result
     (record {
@@ -58,4 +58,4 @@ returns-then-has_answered-clause-stands c = λ numbers known seen before mine af
       values = c.feed-changes.ensures.follows (formulas_of numbers) known.trace stands.values;
     })
     is_mark _ stands.values (c.feed-changes.ensures.same c.if-not-changes.true) (omega arith)
-    c.args.first c.args.marks.now c.mark_or_repeat.new.marks meets before mine after bound given tracks e keeps
+    c.args.first c.args.queue.now c.mark_or_repeat.new.queue meets before mine after bound given tracks e keeps
