@@ -1,7 +1,7 @@
 -- The traces that the ticks have begun, from one tick to the next.
-use Rattle.std.proofs.Common.{◌≡◌, ◌≢◌, ℕ, ◌-◌, ◌<◌, ◌≤◌, ◌⊎◌, inl, inr, List, [], ◌∷◌, ◌++◌, length, map, get_or, append-nil, sym, ap, subst, ◌∙◌, arith}
+use Rattle.std.proofs.Common.{◌≡◌, ◌≢◌, ℕ, ◌-◌, ◌<◌, ◌≤◌, inl, inr, List, [], ◌∷◌, ◌++◌, length, get_or, append-nil, sym, ap, subst, ◌∙◌, arith}
 use Rattle.std.specs.Prelude.{All, Option}
-use Rattle.std.specs.List.{AllByRecursion, AllPairs, AllZip, Contains}
+use Rattle.std.specs.List.{AllPairs, AllZip, Contains}
 use Rattle.std.proofs.lemmas.List.{length-map, map-append}
 use Rattle.std.proofs.lemmas.List.Elements.{All-contains, Contains-append_cases, Contains-get_or}
 use Rattle.encounters.specs.declared.pair_step.PairStep.{PairStep}
@@ -9,9 +9,9 @@ use Rattle.meetings.specs.Ranks.{all_power_driven}
 use Rattle.meetings.specs.Traces.{AreInContact}
 use Rattle.meetings.specs.declared.pair.Pair.{Pair}
 use Rattle.meetings.proofs.ForCallers.{rows_then, steps_from-length}
-use Rattle.traces.specs.Audited.{Begins, AuditNumbers, Sighting, seen_state_at, terms_of, trace_steps, last_sighting, step_of}
+use Rattle.traces.specs.Audited.{Begins, AuditNumbers, Sighting, seen_state_at, terms_of, last_sighting, step_of}
 use Rattle.traces.specs.Inner.TracesKept.{AreBegun, AreKnownOn, AreTooMany, Follows, HaveBegunNow, HaveBoth, Holds, IsFresh, IsNextTick, MayBegin, swapped}
-use Rattle.traces.specs.Known.{AreKnown, AreOpened, IsFollowed, IsKnown, Known, opened, pairs_of, watched}
+use Rattle.traces.specs.Known.{AreKnown, AreOpened, IsFollowed, IsKnown, Known, opened, pairs_of}
 use Rattle.traces.specs.Standing.{HaveMoreThan, StandsFor, traces_of}
 use Rattle.traces.specs.declared.all_traces.AllTraces.{AllTraces}
 use Rattle.traces.specs.declared.all_traces.TheConstants.{MOST_TRACES}

@@ -1,4 +1,4 @@
-use Rattle.std.proofs.Common.{ℕ, List, take}
+use Rattle.std.proofs.Common.{List, take}
 use Rattle.traces.specs.Audited.{AuditNumbers}
 use Rattle.traces.specs.Inner.TracesKept.{Holds, IsBeginning, MayBegin}
 use Rattle.traces.specs.Known.{Known}

@@ -1,8 +1,8 @@
-use Rattle.std.proofs.Common.{◌≡◌, ◌⊎◌, ◌≤◌, ℕ, List, [], ◌∷◌, ◌++◌, length, Err, sym, ap, subst, ◌∙◌}
+use Rattle.std.proofs.Common.{◌≡◌, ◌⊎◌, ℕ, List, [], ◌∷◌, ◌++◌, length, Err, sym, ap, subst, ◌∙◌}
 use Rattle.std.specs.List.{Contains}
 use Rattle.meetings.specs.declared.pair.Pair.{Pair}
 use Rattle.traces.specs.Audited.{AuditNumbers, Sighting}
-use Rattle.traces.specs.Inner.TracesKept.{AreTooMany, Follows, Holds, IsBeginning, IsTaken, MayTake, swapped}
+use Rattle.traces.specs.Inner.TracesKept.{AreTooMany, Follows, Holds, IsTaken, MayTake, swapped}
 use Rattle.traces.specs.Known.{Known, opened, pairs_of}
 use Rattle.traces.specs.declared.all_traces.AllTraces.{AllTraces}
 use Rattle.traces.specs.declared.all_traces.TheConstants.{MOST_TRACES}

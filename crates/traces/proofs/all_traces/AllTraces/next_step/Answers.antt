@@ -1,4 +1,4 @@
-use Rattle.std.proofs.Common.{◌≡◌, ◌++◌, ◌∷◌, refl, subst}
+use Rattle.std.proofs.Common.{◌≡◌, refl, subst}
 use Rattle.traces.specs.Audited.{Sighting, step_of}
 use Rattle.traces.proofs.Growing.{follows_at, trace_changed}
 use Rattle.traces.proofs.all_traces.AllTraces.next_step.Goals as goal

@@ -1,4 +1,4 @@
-use Rattle.std.proofs.Common.{◌≡◌, inl, inr, List, [], ◌∷◌, ◌++◌, length, length-append, sym, subst, ◌∙◌, arith}
+use Rattle.std.proofs.Common.{◌≡◌, inl, inr, List, [], ◌∷◌, ◌++◌, sym, subst}
 use Rattle.std.specs.List.{AllZip}
 use Rattle.traces.specs.Inner.TracesKept.{Follows}
 use Rattle.traces.specs.Known.{opened}

@@ -1,10 +1,9 @@
-use Rattle.std.proofs.Common.{◌≡◌, ℕ, ◌+◌, ◌≤◌, ◌++◌, ◌∷◌, [], List, length, length-append, Err, sym, ap, subst, ◌∙◌, arith}
+use Rattle.std.proofs.Common.{◌≡◌, ◌++◌, ◌∷◌, [], length-append, Err, sym, ap, ◌∙◌, arith}
 use Rattle.outside.proofs.ForCallers.{same_fault}
-use Rattle.traces.specs.Known.{Known}
 use Rattle.traces.specs.declared.fault.TickFault.{TickFault}
 use Rattle.traces.specs.declared.fault.TickFault.TheVariants.{TooManyPairs}
 use Rattle.traces.proofs.NextTick.{known_count_of, known_on, next_tick, no_more}
-use Rattle.traces.proofs.Ticks.{given_now, last_is}
+use Rattle.traces.proofs.Ticks.{last_is}
 use Rattle.traces.proofs.all_traces.AllTraces.tick.Goals as goal
 
 pub returns-in_err-begin-clause-many : goal.returns-in_err-begin-clause-many
