@@ -131,8 +131,8 @@ impl RowQueue {
         self.lanes.len()
     }
 
-    /// What the marks of the track at the index are of, and how many it has of each sort, where the next mark of each track would be
-    /// for the step. `None` where there is no such track.
+    /// What the marks of the track at the index are of, how many it has of each sort and how many stretches of broken ones, where the
+    /// next mark of each track would be for the step. `None` where there is no such track.
     pub fn counts(&self, index: usize, end: u32) -> Option<(Topic, MarkCounts)>
         ensures { (tracks : List Track) (bound : ℕ) (given : List Row) → StandsFor self.now tracks bound given → EndAt end tracks
             → IsCountOf result (slice_get tracks index) }
