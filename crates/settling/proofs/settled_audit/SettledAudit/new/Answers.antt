@@ -1,4 +1,4 @@
-use Rattle.std.proofs.Common.{ℕ, List, [], refl, subst}
+use Rattle.std.proofs.Common.{ℕ, List, [], subst}
 use Rattle.auditor.specs.Standing.{StandsFor as AuditStandsFor}
 use Rattle.settling.proofs.AuditedTicks.{before_all}
 use Rattle.settling.proofs.settled_audit.SettledAudit.new.Goals as goal
