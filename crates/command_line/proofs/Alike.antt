@@ -12,10 +12,10 @@ use Rattle.clap.specs.Faults.{bundle_fault, bundle_step_fault, check_fault, ente
 use Rattle.clap.specs.declared.builder.value_parser.ValueParser.TheVariants.{Values}
 use Rattle.clap.specs.declared.error.kind.ErrorKind.TheVariants.{InvalidValue, TooManyValues}
 use Rattle.clap.specs.Walk.{Held, Outcome, Step, Waiting, Walk, after_flag, after_step, arg_by_id, arg_by_index, arg_by_long, arg_by_short, attached_value, bundle, bundle_met, bundle_step, done, finished, flag_met, idle, is_pending, long_met, long_or_other, long_word, next, nothing_held, option, option_met, option_word, plain, plain_word, positional, positional_held, pushed, reacted, refused, settled, settled_rows, short_met, short_or_plain, short_word, subcommand, subcommand_met, subcommand_or_other, takes_several, takes_values, to_positional, trailing, used, used_by_id, value, waits, walk_from, walked, walked_from, word_met}
-use Rattle.command_line.specs.CommandLine.{colregs}
+use Rattle.command_line.specs.CommandLine.{colregs, settings}
 use Rattle.command_line.specs.Requests.{with_program_name}
-use Rattle.command_line.proofs.Finished.{defaults_added, defaults_pass, fault_behind, fault_in_two, seeded}
-use Rattle.command_line.proofs.Walking.{Choices, top}
+use Rattle.command_line.proofs.Finished.{defaults_added, defaults_pass, fault_behind, fault_in_two, with_settings}
+use Rattle.command_line.proofs.Settings.{Choices, top}
 
 module _ (v w : Choices) where
   abbrev at_v : List Rule
@@ -315,7 +315,7 @@ module _ (v w : Choices) where
         ap₂ or_else (turn_alike x word) (ap (λ y. walk_fault (top v) [] y words) (walked_alike x word) ∙ walk_fault_alike words (walked at_w [] x word))
 
     finished_alike : (h : Held) → finished at_v h ≡ finished at_w h
-    finished_alike h = defaults_added v (settled at_v h).rows ∙ ap (λ (s : Held). seeded s.rows) (settled_alike h) ∙ sym (defaults_added w (settled at_w h).rows)
+    finished_alike h = defaults_added v (settled at_v h).rows ∙ ap (λ (s : Held). with_settings settings s.rows) (settled_alike h) ∙ sym (defaults_added w (settled at_w h).rows)
 
     behind_alike : (x : Walk) → fault_behind v x ≡ fault_behind w x
     unfolding colregs top

@@ -11,7 +11,7 @@ use Rattle.command_line.specs.declared.mode.Mode.{Mode}
 use Rattle.command_line.specs.declared.request.Request.{Request}
 use Rattle.command_line.proofs.Alike.{fault_alike, matches_alike}
 use Rattle.command_line.proofs.HeldRequests.{one_request, plain_accepted}
-use Rattle.command_line.proofs.Walking.{Choices}
+use Rattle.command_line.proofs.Settings.{Choices}
 
 same_values : (v w : Choices) → AreModes v.now → AreModes w.now → (text : Text) → list_any (possible_matches false text) v.now ≡ list_any (possible_matches false text) w.now
 same_values v w are_v are_w text = are_v text ∙ sym (are_w text)

@@ -1,11 +1,12 @@
--- What a parse by the command gives: values of the mode, the scenario and the seed, and numbers of their ranges.
-use Rattle.std.proofs.Common.{◌≡◌, ◌∙◌, ◌<◌, ◌≤◌, ◌&&◌, inl, inr, ℕ, Bool, true, false, true≢false, not, is_some, zero, suc, refl, sym, ap, subst, arith, codes, length, List, [], ◌∷◌, map, Some, None, Option}
+-- What a parse by the command gives: values of the mode, the scenario and the options with a default, and texts that their options take.
+use Rattle.std.proofs.Common.{◌≡◌, ◌∙◌, ◌<◌, ◌≤◌, ◌&&◌, ◌||◌, inl, inr, ℕ, Bool, true, false, true≢false, not, is_some, zero, suc, refl, sym, ap, subst, arith, codes, length, List, [], ◌∷◌, map, Some, None, Option}
 use Rattle.std.specs.Prelude.{find, option_and_then, option_map, slice_get, unwrap_or}
 use Rattle.std.specs.Borrow.{Bor}
 use Rattle.std.specs.List.{All, list_all, list_any, slice_index_or}
 use Rattle.std.specs.Str.{bytes_eq}
+use Rattle.std.specs.Str.Parse.{digits_value, without_leading_plus}
 use Rattle.std.proofs.lemmas.Slice.Eq.{bytes_eq-Decides}
-use Rattle.clap.specs.Words.{Accepts, App, IsUnsignedIn, Rule, Text, app_of, args_of, first_value, found_of, groups_of, has_subcommand, items_of, matched_of, possible_matches, rule_of}
+use Rattle.clap.specs.Words.{Accepts, App, Rule, Text, app_of, args_of, first_value, found_of, groups_of, has_subcommand, items_of, matched_of, possible_matches, rule_of}
 use Rattle.clap.specs.Built.{IsAuto, IsParsedFrom, IsPlain, IsPlainArg, SameRules}
 use Rattle.clap.specs.Facts.{Entry, EntryPasses, HasIn, IsGroupEntry, IsParsed, PassesArg, least_values, parser_of, parser_of_value, unwrap_or_range}
 use Rattle.clap.specs.Simple.{shape_of}
@@ -21,8 +22,11 @@ use Rattle.clap.specs.declared.parser.matches.MatchedArg.{MatchedArg}
 use Rattle.clap.proofs.CallerLemmas.{default_present, entry_by_id, present_has_entry, required_present, same_rules_by_id}
 use Rattle.clap.proofs.SimpleLemmas.{is_false, is_nil, plain_fields}
 use Rattle.clap.proofs.WalkLemmas.{both}
-use Rattle.command_line.specs.CommandLine.{Setting, colregs, label, least, mode_rule, most, scenario_rule, seed, seed_rule, start, ticks}
-use Rattle.command_line.proofs.Walking.{Choices}
+use Rattle.command_line.specs.CommandLine.{Kind, Setting, a_number, colregs, default_of, flag, kind_of, label, mode_rule, option_rule, scenario_rule, setting_rule, settings}
+use Rattle.command_line.specs.CommandLine.{takes_number, takes_text, written}
+use Rattle.command_line.specs.Requests.{IsTaken}
+use Rattle.command_line.proofs.ByKind.{TakesValue}
+use Rattle.command_line.proofs.Settings.{Choices, known, setting_is}
 
 -- ---- what a rule says of its argument
 
@@ -77,51 +81,72 @@ length_rules (x ∷ xs) = ap suc (length_rules xs)
 
 -- the ids of the command's arguments
 abbrev ids : List Text
-ids = codes "mode" ∷ codes "scenario" ∷ codes "start" ∷ codes "ticks" ∷ codes "seed" ∷ []
+ids = codes "mode" ∷ codes "scenario" ∷ map label settings
 
--- an id that stands at one place stands at no other
-abbrev IsOnly : ℕ → Type 0
-IsOnly k = (j : ℕ) → j < 5 → bytes_eq (slice_index_or ids j []) (slice_index_or ids k []) ≡ true → j ≡ k
+-- no id stands twice
+abbrev are_apart : List Text → Bool
+are_apart [] = true
+are_apart (id ∷ rest) = not (list_any (λ other. bytes_eq id other) rest) && are_apart rest
 
-only_mode : IsOnly 0
-only_mode zero lt e = refl
-only_mode (suc zero) lt e = cc
-only_mode (suc (suc zero)) lt e = cc
-only_mode (suc (suc (suc zero))) lt e = cc
-only_mode (suc (suc (suc (suc zero)))) lt e = cc
-only_mode (suc (suc (suc (suc (suc j))))) lt e = absurd (omega arith)
+any_at : (p : Text → Bool) (xs : List Text) (k : ℕ) → k < length xs → p (slice_index_or xs k []) ≡ true → list_any p xs ≡ true
+any_at p [] k lt is = absurd (omega arith)
+any_at p (x ∷ xs) zero lt is = ap (λ b. b || list_any p xs) is
+any_at p (x ∷ xs) (suc k) lt is = go (p x) (any_at p xs k (omega arith) is)
+  where
+    go : (t : Bool) → list_any p xs ≡ true → (t || list_any p xs) ≡ true
+    go true more = refl
+    go false more = more
 
-only_scenario : IsOnly 1
-only_scenario zero lt e = cc
-only_scenario (suc zero) lt e = refl
-only_scenario (suc (suc zero)) lt e = cc
-only_scenario (suc (suc (suc zero))) lt e = cc
-only_scenario (suc (suc (suc (suc zero)))) lt e = cc
-only_scenario (suc (suc (suc (suc (suc j))))) lt e = absurd (omega arith)
+all_at : (p : Text → Bool) (xs : List Text) (k : ℕ) → list_all p xs ≡ true → k < length xs → p (slice_index_or xs k []) ≡ true
+all_at p [] k all lt = absurd (omega arith)
+all_at p (x ∷ xs) zero all lt = (both (p x) (list_all p xs) all).0
+all_at p (x ∷ xs) (suc k) all lt = all_at p xs k (both (p x) (list_all p xs) all).1 (omega arith)
 
-only_start : IsOnly 2
-only_start zero lt e = cc
-only_start (suc zero) lt e = cc
-only_start (suc (suc zero)) lt e = refl
-only_start (suc (suc (suc zero))) lt e = cc
-only_start (suc (suc (suc (suc zero)))) lt e = cc
-only_start (suc (suc (suc (suc (suc j))))) lt e = absurd (omega arith)
+-- so an id that stands at one place stands at no other
+one_place : (xs : List Text) → are_apart xs ≡ true → (j k : ℕ) → j < length xs → k < length xs → bytes_eq (slice_index_or xs j []) (slice_index_or xs k []) ≡ true → j ≡ k
+one_place [] e j k below under same = absurd (omega arith)
+one_place (x ∷ xs) e zero zero below under same = refl
+one_place (x ∷ xs) e zero (suc k) below under same =
+    let p = both (not (list_any (λ other. bytes_eq x other) xs)) (are_apart xs) e in
+    let twice = any_at (λ other. bytes_eq x other) xs k (omega arith) same in
+    absurd (true≢false (sym twice ∙ is_false _ p.0))
+one_place (x ∷ xs) e (suc j) zero below under same =
+    let p = both (not (list_any (λ other. bytes_eq x other) xs)) (are_apart xs) e in
+    let equal : slice_index_or xs j [] ≡ x = (bytes_eq-Decides (slice_index_or xs j []) x).0 same in
+    let turned : bytes_eq x (slice_index_or xs j []) ≡ true = (bytes_eq-Decides x (slice_index_or xs j [])).1 (sym equal) in
+    let twice = any_at (λ other. bytes_eq x other) xs j (omega arith) turned in
+    absurd (true≢false (sym twice ∙ is_false _ p.0))
+one_place (x ∷ xs) e (suc j) (suc k) below under same =
+    let p = both (not (list_any (λ other. bytes_eq x other) xs)) (are_apart xs) e in
+    ap suc (one_place xs p.1 j k (omega arith) (omega arith) same)
 
-only_ticks : IsOnly 3
-only_ticks zero lt e = cc
-only_ticks (suc zero) lt e = cc
-only_ticks (suc (suc zero)) lt e = cc
-only_ticks (suc (suc (suc zero))) lt e = refl
-only_ticks (suc (suc (suc (suc zero)))) lt e = cc
-only_ticks (suc (suc (suc (suc (suc j))))) lt e = absurd (omega arith)
+-- an id of the command's own is not empty, and no flag's that `clap` adds
+abbrev is_own : Text → Bool
+is_own id = not (bytes_eq id []) && (not (bytes_eq id (codes "help")) && not (bytes_eq id (codes "version")))
 
-only_seed : IsOnly 4
-only_seed zero lt e = cc
-only_seed (suc zero) lt e = cc
-only_seed (suc (suc zero)) lt e = cc
-only_seed (suc (suc (suc zero))) lt e = cc
-only_seed (suc (suc (suc (suc zero)))) lt e = refl
-only_seed (suc (suc (suc (suc (suc j))))) lt e = absurd (omega arith)
+id_at : (rs : List Rule) (k : ℕ) (d : Rule) → k < length rs → (slice_index_or rs k d).id ≡ slice_index_or (map (λ (r : Rule). r.id) rs) k []
+id_at [] k d lt = absurd (omega arith)
+id_at (r ∷ rs) zero d lt = refl
+id_at (r ∷ rs) (suc k) d lt = id_at rs k d (omega arith)
+
+-- ---- the place of an option
+
+option_id : (name : Text) (k : Kind) → (option_rule name k).id ≡ name
+option_id name (takes_number low high default) = refl
+option_id name flag = refl
+option_id name (takes_text default) = refl
+
+abbrev IsAt : Setting → List Setting → ℕ → Type 0
+IsAt s ss k = (k < length ss) × (slice_index_or (map label ss) k [] ≡ label s) × ((d : Rule) → slice_index_or (map setting_rule ss) k d ≡ setting_rule s)
+
+place_in : (s : Setting) (ss : List Setting) → list_any (λ x. bytes_eq (label x) (label s)) ss ≡ true → (k : ℕ) × IsAt s ss k
+place_in s [] listed = cc
+place_in s (x ∷ ss) listed = go (bytes_eq (label x) (label s)) refl listed (place_in s ss)
+  where
+    go : (t : Bool) → bytes_eq (label x) (label s) ≡ t → (t || list_any (λ y. bytes_eq (label y) (label s)) ss) ≡ true
+        → (list_any (λ y. bytes_eq (label y) (label s)) ss ≡ true → (k : ℕ) × IsAt s ss k) → (k : ℕ) × IsAt s (x ∷ ss) k
+    go true e listed more = let same = setting_is x s e in (0, (omega arith, ap label same, λ d. ap setting_rule same))
+    go false e listed more = let at = more listed in (suc at.0, (omega (arith, at.1.0), at.1.1, at.1.2))
 
 -- an entry of an id is found
 entry_found : (xs : List Entry) (id : Text) → HasIn xs id → is_some (option_map (λ (e : Entry). e.1) (find (λ e. bytes_eq e.0.now id) xs)) ≡ true
@@ -177,37 +202,51 @@ module _ (c : Command) (m : ArgMatches) (p : IsParsedFrom c m) (values : Choices
   unfolding colregs
   plain_command = (each_plain (args_of c) (ap (list_all good) rules_are), (plain_fields c is_plain_shape).groups)
 
-  five_arguments : length (args_of c) ≡ 5
+  arguments_are : length (args_of c) ≡ length ids
   unfolding colregs
-  five_arguments = sym (length_rules (args_of c)) ∙ ap length rules_are
+  arguments_are = sym (length_rules (args_of c)) ∙ ap length rules_are
 
-  pub ids_are : (k : ℕ) (d : Arg) → k < 5 → (slice_index_or (args_of c) k d).id.now ≡ slice_index_or ids k []
+  abbrev rules : List Rule
+  rules = (colregs values).top.rules
+
+  rule_ids : map (λ (r : Rule). r.id) rules ≡ ids
   unfolding colregs
-  ids_are zero d lt = ap (λ (r : Rule). r.id) (rule_at (args_of c) 0 d ∙ ap (λ rs. slice_index_or rs 0 (rule_of d)) rules_are)
-  ids_are (suc zero) d lt = ap (λ (r : Rule). r.id) (rule_at (args_of c) 1 d ∙ ap (λ rs. slice_index_or rs 1 (rule_of d)) rules_are)
-  ids_are (suc (suc zero)) d lt = ap (λ (r : Rule). r.id) (rule_at (args_of c) 2 d ∙ ap (λ rs. slice_index_or rs 2 (rule_of d)) rules_are)
-  ids_are (suc (suc (suc zero))) d lt = ap (λ (r : Rule). r.id) (rule_at (args_of c) 3 d ∙ ap (λ rs. slice_index_or rs 3 (rule_of d)) rules_are)
-  ids_are (suc (suc (suc (suc zero)))) d lt = ap (λ (r : Rule). r.id) (rule_at (args_of c) 4 d ∙ ap (λ rs. slice_index_or rs 4 (rule_of d)) rules_are)
-  ids_are (suc (suc (suc (suc (suc k))))) d lt = absurd (omega arith)
+  rule_ids = refl
+
+  rule_count : length rules ≡ length ids
+  unfolding colregs
+  rule_count = refl
+
+  pub ids_are : (k : ℕ) (d : Arg) → k < length ids → (slice_index_or (args_of c) k d).id.now ≡ slice_index_or ids k []
+  ids_are k d lt =
+      ap (λ (r : Rule). r.id) (rule_at (args_of c) k d ∙ ap (λ rs. slice_index_or rs k (rule_of d)) rules_are)
+      ∙ id_at rules k (rule_of d) (subst (λ n. k < n) (sym rule_count) lt) ∙ ap (λ xs. slice_index_or xs k []) rule_ids
 
   abbrev argument : ℕ → Arg → Arg
   argument k d = slice_index_or (args_of c) k d
 
-  -- an id of the command's own, which no other argument has
+  -- a place of one of the command's own arguments
   abbrev IsOwn : ℕ → Type 0
-  IsOwn k = (k < 5) × IsOnly k × (slice_index_or ids k [] ≡ [] → ⊥) × (slice_index_or ids k [] ≡ codes "help" → ⊥) × (slice_index_or ids k [] ≡ codes "version" → ⊥)
+  IsOwn k = k < length ids
+
+  named : (k : ℕ) → IsOwn k → (slice_index_or ids k [] ≡ [] → ⊥) × (slice_index_or ids k [] ≡ codes "help" → ⊥) × (slice_index_or ids k [] ≡ codes "version" → ⊥)
+  named k own =
+      let id = slice_index_or ids k [] in
+      let p = both (not (bytes_eq id [])) _ (all_at is_own ids k refl own) in
+      let q = both (not (bytes_eq id (codes "help"))) _ p.1 in
+      (apart id [] (is_false _ p.0), apart id (codes "help") (is_false _ q.0), apart id (codes "version") (is_false _ q.1))
 
   unique : (k : ℕ) (d : Arg) → IsOwn k → (j : ℕ) (e : Arg) → j < length (args_of c) → bytes_eq (argument j e).id.now (argument k d).id.now ≡ true → j ≡ k
   unique k d own j e lt same =
-      let below : j < 5 = rw five_arguments at lt in
-      own.1 j below (rw (ids_are j e below, ids_are k d own.0) at same)
+      let below : j < length ids = subst (λ n. j < n) arguments_are lt in
+      one_place ids refl j k below own (rw (ids_are j e below, ids_are k d own) at same)
 
   no_flag : (k : ℕ) (d : Arg) → IsOwn k → IsAuto (argument k d) → ⊥
-  no_flag k d own (inl help) = own.3 (sym (ids_are k d own.0) ∙ help)
-  no_flag k d own (inr version) = own.4 (sym (ids_are k d own.0) ∙ version)
+  no_flag k d own (inl help) = (named k own).1 (sym (ids_are k d own) ∙ help)
+  no_flag k d own (inr version) = (named k own).2 (sym (ids_are k d own) ∙ version)
 
   inside : (k : ℕ) → IsOwn k → k < length (args_of c)
-  inside k own = rw five_arguments own.0
+  inside k own = subst (λ n. k < n) (sym arguments_are) own
 
   first_some : (xs : List (Bor Text)) → 0 < length xs → is_some (option_map (λ s. s.now) (slice_get xs 0)) ≡ true
   first_some [] lt = absurd (omega arith)
@@ -228,7 +267,7 @@ module _ (c : Command) (m : ArgMatches) (p : IsParsedFrom c m) (values : Choices
           let no_groups : groups_of p.built ≡ [] = (p.from.plain plain_command).1 in
           elim got.3.1 [
             | inl h ↦ elim h.1 [
-              | inl empty ↦ absurd (own.2 (sym (ids_are k d own.0) ∙ (sym key_id ∙ empty)))
+              | inl empty ↦ absurd ((named k own).0 (sym (ids_are k d own) ∙ (sym key_id ∙ empty)))
               | inr has ↦
                   let bad : 0 < 0 = rw no_groups at has in
                   absurd (omega arith)
@@ -255,7 +294,7 @@ module _ (c : Command) (m : ArgMatches) (p : IsParsedFrom c m) (values : Choices
   -- an entry of the argument is no group's
   no_group : (k : ℕ) (d : Arg) → IsOwn k → (e : Entry) → e.0.now ≡ (argument k d).id.now → IsGroupEntry p.built e → e.1.is_group ≡ true → ⊥
   no_group k d own e key group is = elim (group is) [
-    | inl empty ↦ own.2 (sym (ids_are k d own.0) ∙ (sym key ∙ empty))
+    | inl empty ↦ (named k own).0 (sym (ids_are k d own) ∙ (sym key ∙ empty))
     | inr has ↦
         let none : groups_of p.built ≡ [] = (p.from.plain plain_command).1 in
         let bad : 0 < 0 = rw none at has in
@@ -293,7 +332,7 @@ module _ (c : Command) (m : ArgMatches) (p : IsParsedFrom c m) (values : Choices
       accepted_as (argument k d) passed.1 q text parser
       (same_rules_by_id c m p k d (inside k own) (unique k d own) (no_flag k d own) passed.0 passed.1 passed.2 passed.3 passed.4.0) passed.4.1
 
-  -- ---- the mode, the scenario and the seed
+  -- ---- the mode, the scenario and the options
 
   set_at : (k : ℕ) (d : Arg) (rule : Rule) → rule_of (argument k d) ≡ rule → rule.action ≡ Some Set → (argument k d).action ≡ Some Set
   set_at k d rule is set = ap (λ (r : Rule). r.action) is ∙ set
@@ -310,29 +349,20 @@ module _ (c : Command) (m : ArgMatches) (p : IsParsedFrom c m) (values : Choices
   rule_is k d = rule_at (args_of c) k d ∙ ap (λ rs. slice_index_or rs k (rule_of d)) rules_are
 
   own_mode : IsOwn 0
-  own_mode = (omega arith, only_mode, apart (codes "mode") [] refl, apart (codes "mode") (codes "help") refl, apart (codes "mode") (codes "version") refl)
+  own_mode = omega arith
 
   own_scenario : IsOwn 1
-  own_scenario = (omega arith, only_scenario, apart (codes "scenario") [] refl, apart (codes "scenario") (codes "help") refl, apart (codes "scenario") (codes "version") refl)
-
-  own_start : IsOwn 2
-  own_start = (omega arith, only_start, apart (codes "start") [] refl, apart (codes "start") (codes "help") refl, apart (codes "start") (codes "version") refl)
-
-  own_ticks : IsOwn 3
-  own_ticks = (omega arith, only_ticks, apart (codes "ticks") [] refl, apart (codes "ticks") (codes "help") refl, apart (codes "ticks") (codes "version") refl)
-
-  own_seed : IsOwn 4
-  own_seed = (omega arith, only_seed, apart (codes "seed") [] refl, apart (codes "seed") (codes "help") refl, apart (codes "seed") (codes "version") refl)
+  own_scenario = omega arith
 
   required_filled : (k : ℕ) (d : Arg) (rule : Rule) → IsOwn k → rule_of (argument k d) ≡ rule → rule.required ≡ true → rule.action ≡ Some Set → rule.range ≡ None → rule.is_simple ≡ true
       → is_some (first_value (found_of m) (slice_index_or ids k [])) ≡ true
   required_filled k d rule own is required set range simple =
       let there = required_present c m p plain_command local_command negates_none k d (inside k own) (ap (λ (r : Rule). r.required) is ∙ required) in
       let some = filled k d own (set_at k d rule is set) (delimiter_at k d rule is simple) (least_at k d rule is range) (present_has_entry (found_of m) (argument k d).id.now there) in
-      subst (λ (id : Text). is_some (first_value (found_of m) id) ≡ true) (ids_are k d own.0) some
+      subst (λ (id : Text). is_some (first_value (found_of m) id) ≡ true) (ids_are k d own) some
 
   any_argument : Arg
-  any_argument = first_argument (args_of c) (rw five_arguments (omega arith))
+  any_argument = first_argument (args_of c) (inside 0 own_mode)
 
   pub mode_filled : is_some (first_value (found_of m) (codes "mode")) ≡ true
   unfolding colregs
@@ -350,11 +380,35 @@ module _ (c : Command) (m : ArgMatches) (p : IsParsedFrom c m) (values : Choices
       let there = default_present c m p local_command k d (inside k own) (bare, wants) in
       let some = filled k d own (set_at k d rule is set) (delimiter_at k d rule is simple) (least_at k d rule is range)
       (entry_found (found_of m).entries.items (argument k d).id.now there) in
-      subst (λ (id : Text). is_some (first_value (found_of m) id) ≡ true) (ids_are k d own.0) some
+      subst (λ (id : Text). is_some (first_value (found_of m) id) ≡ true) (ids_are k d own) some
 
-  pub seed_filled : is_some (first_value (found_of m) (codes "seed")) ≡ true
+  -- the place of an option among the arguments
+  abbrev place : Setting → ℕ
+  place s = suc (suc (place_in s settings (known values s).listed).0)
+
+  own_setting : (s : Setting) → IsOwn (place s)
+  own_setting s = let at = (place_in s settings (known values s).listed).1 in omega (arith, at.0)
+
+  setting_id : (s : Setting) → slice_index_or ids (place s) [] ≡ label s
+  setting_id s = (place_in s settings (known values s).listed).1.1
+
+  setting_at : (s : Setting) (d : Arg) → rule_of (argument (place s) d) ≡ setting_rule s
   unfolding colregs
-  seed_filled = default_filled 4 any_argument seed_rule (codes "1") [] own_seed (rule_is 4 any_argument) refl refl refl refl
+  setting_at s d = rule_is (place s) d ∙ (place_in s settings (known values s).listed).1.2 (rule_of d)
+
+  option_filled : (at : ℕ) (d : Arg) (name : Text) (k : Kind) → IsOwn at → rule_of (argument at d) ≡ option_rule name k → TakesValue k → is_some (default_of k) ≡ true
+      → is_some (first_value (found_of m) (slice_index_or ids at [])) ≡ true
+  option_filled at d name (takes_number low high None) own is takes some = cc
+  option_filled at d name (takes_number low high (Some n)) own is takes some = default_filled at d _ (written (a_number n)) [] own is refl refl refl refl
+  option_filled at d name flag own is takes some = absurd takes
+  option_filled at d name (takes_text None) own is takes some = cc
+  option_filled at d name (takes_text (Some text)) own is takes some = default_filled at d _ text [] own is refl refl refl refl
+
+  -- an option with a default and a value has a text
+  pub setting_filled : (s : Setting) → TakesValue (kind_of s) → is_some (default_of (kind_of s)) ≡ true → is_some (first_value (found_of m) (label s)) ≡ true
+  setting_filled s takes some =
+      subst (λ (id : Text). is_some (first_value (found_of m) id) ≡ true) (setting_id s)
+      (option_filled (place s) any_argument (label s) (kind_of s) (own_setting s) (setting_at s any_argument) takes some)
 
   -- the text of the mode is a value of the argument
   pub mode_passed : (text : Text) → first_value (found_of m) (codes "mode") ≡ Some text → list_any (possible_matches false text) values.now ≡ true
@@ -363,19 +417,20 @@ module _ (c : Command) (m : ArgMatches) (p : IsParsedFrom c m) (values : Choices
       let is = rule_is 0 any_argument in
       let parser = ap (λ (r : Rule). r.parser) is in
       let case : (argument 0 any_argument).ignore_case ≡ false = ap (λ (r : Rule). r.ignore_case) is in
-      let found = subst (λ (id : Text). first_value (found_of m) id ≡ Some text) (sym (ids_are 0 any_argument own_mode.0)) first in
+      let found = subst (λ (id : Text). first_value (found_of m) id ≡ Some text) (sym (ids_are 0 any_argument own_mode)) first in
       subst (λ (b : Bool). Accepts b (Values values) text) case (value_passed 0 any_argument own_mode (Values values) parser text found)
 
-  -- the text of a number is one of the option's range
-  passed_at : (k : ℕ) (s : Setting) → IsOwn k → slice_index_or ids k [] ≡ label s → (slice_index_or (colregs values).top.rules k (rule_of any_argument)).parser ≡ Some (Unsigned (least s) (most s))
-      → (text : Text) → first_value (found_of m) (label s) ≡ Some text → IsUnsignedIn (least s) (most s) text
-  passed_at k s own id_is parser_is text first =
-      let parser = ap (λ (r : Rule). r.parser) (rule_is k any_argument) ∙ parser_is in
-      let found = subst (λ (id : Text). first_value (found_of m) id ≡ Some text) (sym (ids_are k any_argument own.0 ∙ id_is)) first in
-      value_passed k any_argument own (Unsigned (least s) (most s)) parser text found
+  taken_at : (at : ℕ) (d : Arg) (name : Text) (k : Kind) → IsOwn at → rule_of (argument at d) ≡ option_rule name k
+      → (text : Text) → first_value (found_of m) (slice_index_or ids at []) ≡ Some text → IsTaken k text
+  taken_at at d name (takes_number low high default) own is text first =
+      let found = subst (λ (id : Text). first_value (found_of m) id ≡ Some text) (sym (ids_are at d own)) first in
+      let passed = value_passed at d own (Unsigned low high) (ap (λ (r : Rule). r.parser) is) text found in
+      (digits_value 10 (without_leading_plus text), passed.2, passed.3, (passed.0, refl))
+  taken_at at d name flag own is text first = tt
+  taken_at at d name (takes_text default) own is text first = tt
 
-  pub number_passed : (s : Setting) (text : Text) → first_value (found_of m) (label s) ≡ Some text → IsUnsignedIn (least s) (most s) text
-  unfolding colregs
-  number_passed start text first = passed_at 2 start own_start refl refl text first
-  number_passed ticks text first = passed_at 3 ticks own_ticks refl refl text first
-  number_passed seed text first = passed_at 4 seed own_seed refl refl text first
+  -- an option takes its text
+  pub setting_taken : (s : Setting) (text : Text) → first_value (found_of m) (label s) ≡ Some text → IsTaken (kind_of s) text
+  setting_taken s text first =
+      taken_at (place s) any_argument (label s) (kind_of s) (own_setting s) (setting_at s any_argument) text
+      (subst (λ (id : Text). first_value (found_of m) id ≡ Some text) (sym (setting_id s)) first)

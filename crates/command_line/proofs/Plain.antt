@@ -1,5 +1,5 @@
 -- Words of the plain form are taken, and what their matches hold.
-use Rattle.std.proofs.Common.{◌≡◌, ◌∙◌, ◌<◌, ◌^◌, ℕ, Bool, true, false, refl, sym, ap, subst, codes, decimal, List, [], ◌∷◌, ◌++◌, append_assoc, append-nil, map}
+use Rattle.std.proofs.Common.{◌≡◌, ◌∙◌, ◌||◌, Bool, true, false, refl, sym, ap, ap₂, subst, codes, List, [], ◌∷◌, ◌++◌, None, append_assoc, append-nil, map}
 use Rattle.std.specs.List.{fold, flat_map}
 use Rattle.std.specs.Str.{bytes_eq}
 use Rattle.std.proofs.lemmas.Slice.Eq.{bytes_eq-Decides}
@@ -7,22 +7,24 @@ use Rattle.clap.specs.Words.{Row, Text}
 use Rattle.clap.specs.Kinds.{or_else}
 use Rattle.clap.specs.Walk.{Walk, has_row, nothing_held, walk_from, walked}
 use Rattle.clap.specs.Faults.{settle_fault, turn_fault, walk_fault}
-use Rattle.command_line.specs.CommandLine.{AreModes, Setting, label, mode_text, seed, start, ticks}
-use Rattle.command_line.specs.Requests.{AreInRange, AreOnce, is_given, is_scenario_name, setting_words}
+use Rattle.command_line.specs.CommandLine.{AreModes, Setting, Value, a_flag, a_number, a_text, flag, kind_of, label, mode_text, written}
+use Rattle.command_line.specs.Requests.{AreOnce, MayAllBeGiven, is_given, is_plain_text, setting_words}
 use Rattle.command_line.specs.declared.mode.Mode.{Mode}
-use Rattle.command_line.proofs.Numbers.{decimal_accepted, decimal_is_name, most_small}
-use Rattle.command_line.proofs.Walking.{Choices, before_value, behind, flag_faultless, flag_walked, held, mode_accepted, mode_faultless, mode_is_name, mode_walked, name_faultless, name_walked, number_faultless, number_walked, row, rows_settled, settled_name, settled_number, settles_name, settles_number, top}
+use Rattle.command_line.proofs.ByKind.{IsRight, TakesValue, flag_kind, number_kind, right_accepted, right_given, sound, text_kind}
+use Rattle.command_line.proofs.Settings.{Choices, known, top}
+use Rattle.command_line.proofs.Walking.{Pending, before_value, behind, flag_faultless, flag_walked, held, mode_accepted, mode_faultless, mode_is_name, mode_walked, name_faultless, name_faultless_by}
+use Rattle.command_line.proofs.Walking.{name_walked, name_walked_by, row, rows_settled, settled_name, settled_value, settles_name, settles_value, value_faultless, value_walked, with_value}
 
-abbrev pub setting_row : Setting × ℕ → Row
-setting_row g = row (label g.0) (decimal g.1)
+abbrev pub setting_row : Setting × Value → Row
+setting_row g = row (label g.0) (written g.1)
 
 -- none of these options has a row yet
-abbrev AreMissing : List Row → List (Setting × ℕ) → Type 0
+abbrev AreMissing : List Row → List (Setting × Value) → Type 0
 AreMissing rows [] = Unit {0}
 AreMissing rows (g ∷ rest) = (has_row (label g.0) rows ≡ false) × AreMissing rows rest
 
 -- and none that is given before it
-abbrev AreNew : List Row → List (Setting × ℕ) → Type 0
+abbrev AreNew : List Row → List (Setting × Value) → Type 0
 AreNew rows [] = Unit {0}
 AreNew rows (g ∷ rest) = (has_row (label g.0) rows ≡ false) × AreNew (rows ++ setting_row g ∷ []) rest
 
@@ -46,7 +48,7 @@ has_row-more id (x ∷ rows) r none other = go (bytes_eq x.id id) refl (has_row-
     go false e more = rw e (more (rw e at none) other)
 
 -- an option that is not given again keeps the others missing
-missing_more : (rows : List Row) (g : Setting × ℕ) (rest : List (Setting × ℕ)) → AreMissing rows rest → is_given g.0 rest ≡ false → AreMissing (rows ++ setting_row g ∷ []) rest
+missing_more : (rows : List Row) (g : Setting × Value) (rest : List (Setting × Value)) → AreMissing rows rest → is_given g.0 rest ≡ false → AreMissing (rows ++ setting_row g ∷ []) rest
 missing_more rows g [] missing once = tt
 missing_more rows g (x ∷ rest) missing once = go (bytes_eq (label x.0) (label g.0)) refl (missing_more rows g rest)
   where
@@ -56,22 +58,21 @@ missing_more rows g (x ∷ rest) missing once = go (bytes_eq (label x.0) (label 
     go true e more = let bad : true ≡ false = rw e at once in cc
     go false e more = (has_row-more (label x.0) rows (setting_row g) missing.0 (bytes_eq-turned (label x.0) (label g.0) e), more missing.1 (rw e at once))
 
-all_new : (given : List (Setting × ℕ)) (rows : List Row) → AreMissing rows given → AreOnce given → AreNew rows given
+all_new : (given : List (Setting × Value)) (rows : List Row) → AreMissing rows given → AreOnce given → AreNew rows given
 all_new [] rows missing once = tt
 all_new (g ∷ rest) rows missing once = (missing.0, all_new rest (rows ++ setting_row g ∷ []) (missing_more rows g rest missing.1 once.0) once.1)
 
--- an argument with its value is used, and the rows are these
-abbrev pub Settles : Choices → List Row → Text → Text → List Row → Type 0
-Settles values rows id value after = (rows_settled values rows id value ≡ after) × (settle_fault (top values).rules false (held rows id value) ≡ [])
+-- an argument is used, and the rows are these
+abbrev pub Settles : Choices → List Row → Pending → List Row → Type 0
+Settles values rows pending after = (rows_settled values rows pending ≡ after) × (settle_fault (top values).rules false (held rows pending) ≡ [])
 
 -- the words are walked without a fault, and what is held at their end makes these rows
 pub record Walks (values : Choices) (from : Walk) (words : List Text) (after : List Row) : Type 0 where
   pub rows : List Row
-  pub id : Text
-  pub value : Text
+  pub pending : Pending
   pub faultless : walk_fault (top values) [] from words ≡ []
-  pub ends : fold (walked (top values).rules []) from words ≡ behind rows id value 3
-  pub settles : Settles values rows id value after
+  pub ends : fold (walked (top values).rules []) from words ≡ behind rows pending 3
+  pub settles : Settles values rows pending after
 
 -- one more word before others
 word_faultless : (values : Choices) (from next : Walk) (word : Text) (words : List Text) → turn_fault (top values) [] from word ≡ []
@@ -85,59 +86,88 @@ step : (values : Choices) (from next : Walk) (word : Text) (words : List Text) (
     → walked (top values).rules [] from word ≡ next → Walks values next words after → Walks values from (word ∷ words) after
 step values from next word words after turn is rest = record {
   rows = rest.rows;
-  id = rest.id;
-  value = rest.value;
+  pending = rest.pending;
   faultless = word_faultless values from next word words turn is rest.faultless;
   ends = ap (λ w. fold (walked (top values).rules []) w words) is ∙ rest.ends;
   settles = rest.settles;
 }
 
-none_walks : (values : Choices) (rows : List Row) (id value : Text) (after : List Row) → Settles values rows id value after → Walks values (behind rows id value 3) [] after
+none_walks : (values : Choices) (rows : List Row) (pending : Pending) (after : List Row) → Settles values rows pending after → Walks values (behind rows pending 3) [] after
 unfolding walk_fault
-none_walks values rows id value after settles = record { rows = rows; id = id; value = value; faultless = refl; ends = refl; settles = settles }
+none_walks values rows pending after settles = record { rows = rows; pending = pending; faultless = refl; ends = refl; settles = settles }
 
-settings_walk : (values : Choices) (given : List (Setting × ℕ)) (rows : List Row) (id value : Text) (after : List Row) → Settles values rows id value after
-    → AreNew after given → AreInRange given → Walks values (behind rows id value 3) (flat_map setting_words given) (after ++ map setting_row given)
-settings_walk values [] rows id value after settles new ranges =
-    none_walks values rows id value (after ++ []) (settles.0 ∙ sym (append-nil after), settles.1)
-settings_walk values (g ∷ rest) rows id value after settles new ranges =
-    let s = g.0 in
-    let text = decimal g.1 in
-    let small : g.1 < 2 ^ 64 = most_small s g.1 ranges.1 in
-    let is_text = decimal_is_name g.1 small in
-    let accepted = decimal_accepted s g.1 ranges.0 ranges.1 in
-    let next : Settles values after (label s) text (after ++ setting_row g ∷ []) = (settled_number values after s text new.0, settles_number values after s text new.0 accepted) in
-    let more = settings_walk values rest after (label s) text (after ++ setting_row g ∷ []) next new.1 ranges.2 in
-    let whole : (after ++ setting_row g ∷ []) ++ map setting_row rest ≡ after ++ map setting_row (g ∷ rest) = append_assoc after (setting_row g ∷ []) (map setting_row rest) in
-    step values (behind rows id value 3) (before_value after (label s)) (codes "--" ++ label s) (text ∷ flat_map setting_words rest) (after ++ map setting_row (g ∷ rest))
-    (flag_faultless values rows id value s settles.1)
-    (flag_walked values rows id value s ∙ ap (λ rs. before_value rs (label s)) settles.0)
-    (step values (before_value after (label s)) (behind after (label s) text 3) text (flat_map setting_words rest) (after ++ map setting_row (g ∷ rest))
-    (number_faultless values after s text is_text) (number_walked values after s text is_text)
-    (subst (Walks values (behind after (label s) text 3) (flat_map setting_words rest)) whole more))
+-- an option and its value before other words
+value_walks : (values : Choices) (rows : List Row) (pending : Pending) (after : List Row) (s : Setting) (v : Value) (words : List Text) (end : List Row)
+    → TakesValue (kind_of s) × (is_plain_text (written v) ≡ true) → IsRight (kind_of s) v → Settles values rows pending after → has_row (label s) after ≡ false
+    → (Settles values after (with_value (label s) (written v)) (after ++ setting_row (s, v) ∷ []) → Walks values (behind after (with_value (label s) (written v)) 3) words end)
+    → Walks values (behind rows pending 3) ((codes "--" ++ label s) ∷ written v ∷ words) end
+value_walks values rows pending after s v words end plain right settles none rest =
+    let text = written v in
+    let accepted = right_accepted (kind_of s) v right in
+    let next : Settles values after (with_value (label s) text) (after ++ setting_row (s, v) ∷ []) =
+    (settled_value values after s text plain.0 none, settles_value values after s text plain.0 none accepted) in
+    step values (behind rows pending 3) (before_value after (label s)) (codes "--" ++ label s) (text ∷ words) end
+    (name_faultless_by values rows pending s plain.0 settles.1)
+    (name_walked_by values rows pending s plain.0 ∙ ap (λ rs. before_value rs (label s)) settles.0)
+    (step values (before_value after (label s)) (behind after (with_value (label s) text) 3) text words end
+    (value_faultless (top values) after (label s) text plain.1) (value_walked values after s text plain.0 plain.1) (rest next))
+
+-- and a flag
+flag_walks : (values : Choices) (rows : List Row) (pending : Pending) (after : List Row) (s : Setting) (words : List Text) (end : List Row)
+    → kind_of s ≡ flag → Settles values rows pending after → has_row (label s) after ≡ false
+    → Walks values (behind (after ++ row (label s) (codes "true") ∷ []) None 3) words end → Walks values (behind rows pending 3) ((codes "--" ++ label s) ∷ words) end
+flag_walks values rows pending after s words end is settles none rest =
+    step values (behind rows pending 3) (behind (after ++ row (label s) (codes "true") ∷ []) None 3) (codes "--" ++ label s) words end
+    (flag_faultless values rows pending s after is none settles.0 settles.1)
+    (flag_walked values rows pending s after is none settles.0) rest
+
+one_more : (after : List Row) (g : Setting × Value) (rest : List (Setting × Value)) → (after ++ setting_row g ∷ []) ++ map setting_row rest ≡ after ++ map setting_row (g ∷ rest)
+one_more after g rest = append_assoc after (setting_row g ∷ []) (map setting_row rest)
+
+settings_walk : (values : Choices) (given : List (Setting × Value)) (rows : List Row) (pending : Pending) (after : List Row) → Settles values rows pending after
+    → AreNew after given → MayAllBeGiven given → Walks values (behind rows pending 3) (flat_map setting_words given) (after ++ map setting_row given)
+settings_walk values [] rows pending after settles new may = none_walks values rows pending (after ++ []) (settles.0 ∙ sym (append-nil after), settles.1)
+settings_walk values ((s, a_number n) ∷ rest) rows pending after settles new may =
+    let v = a_number n in
+    let text = written v in
+    subst (Walks values (behind rows pending 3) (flat_map setting_words ((s, v) ∷ rest))) (one_more after (s, v) rest)
+    (value_walks values rows pending after s v (flat_map setting_words rest) ((after ++ setting_row (s, v) ∷ []) ++ map setting_row rest)
+    (number_kind (kind_of s) n (sound s) may.0) (right_given (kind_of s) v (sound s) may.0) settles new.0
+    (λ next. settings_walk values rest after (with_value (label s) text) (after ++ setting_row (s, v) ∷ []) next new.1 may.1))
+settings_walk values ((s, a_text t) ∷ rest) rows pending after settles new may =
+    let v = a_text t in
+    subst (Walks values (behind rows pending 3) (flat_map setting_words ((s, v) ∷ rest))) (one_more after (s, v) rest)
+    (value_walks values rows pending after s v (flat_map setting_words rest) ((after ++ setting_row (s, v) ∷ []) ++ map setting_row rest)
+    (text_kind (kind_of s) t may.0) (right_given (kind_of s) v (sound s) may.0) settles new.0
+    (λ next. settings_walk values rest after (with_value (label s) t) (after ++ setting_row (s, v) ∷ []) next new.1 may.1))
+settings_walk values ((s, a_flag true) ∷ rest) rows pending after settles new may =
+    let v = a_flag true in
+    subst (Walks values (behind rows pending 3) (flat_map setting_words ((s, v) ∷ rest))) (one_more after (s, v) rest)
+    (flag_walks values rows pending after s (flat_map setting_words rest) ((after ++ setting_row (s, v) ∷ []) ++ map setting_row rest)
+    (flag_kind (kind_of s) true may.0).0 settles new.0
+    (settings_walk values rest (after ++ setting_row (s, v) ∷ []) None (after ++ setting_row (s, v) ∷ []) (refl, refl) new.1 may.1))
+settings_walk values ((s, a_flag false) ∷ rest) rows pending after settles new may =
+    let bad : false ≡ true = (flag_kind (kind_of s) false may.0).1 in cc
 
 -- the rows of the mode and the name
 abbrev pub first_rows : Text → Text → List Row
 first_rows mode name = row (codes "mode") mode ∷ row (codes "scenario") name ∷ []
 
-first_missing : (mode name : Text) (given : List (Setting × ℕ)) → AreMissing (first_rows mode name) given
-first_missing mode name [] = tt
-first_missing mode name (g ∷ rest) = (other g.0, first_missing mode name rest)
-  where
-    other : (s : Setting) → has_row (label s) (first_rows mode name) ≡ false
-    other start = refl
-    other ticks = refl
-    other seed = refl
+first_missing : (values : Choices) (mode name : Text) (given : List (Setting × Value)) → AreMissing (first_rows mode name) given
+first_missing values mode name [] = tt
+first_missing values mode name (g ∷ rest) =
+    let is = known values g.0 in
+    (ap₂ (λ a b. a || (b || false)) is.no_mode is.no_scenario, first_missing values mode name rest)
 
 -- the plain form is walked
-pub plain_walks : (values : Choices) → AreModes values.now → (m : Mode) (name : Text) (given : List (Setting × ℕ)) → is_scenario_name name ≡ true → AreOnce given → AreInRange given
+pub plain_walks : (values : Choices) → AreModes values.now → (m : Mode) (name : Text) (given : List (Setting × Value)) → is_plain_text name ≡ true → AreOnce given → MayAllBeGiven given
     → Walks values (walk_from nothing_held) (mode_text m ∷ name ∷ flat_map setting_words given) (first_rows (mode_text m) name ++ map setting_row given)
-plain_walks values are m name given named once ranges =
+plain_walks values are m name given named once may =
     let t = mode_text m in
-    let settles : Settles values (row (codes "mode") t ∷ []) (codes "scenario") name (first_rows t name) = (settled_name values t name, settles_name values t name) in
-    let new = all_new given (first_rows t name) (first_missing t name given) once in
-    step values (walk_from nothing_held) (behind [] (codes "mode") t 2) t (name ∷ flat_map setting_words given) (first_rows t name ++ map setting_row given)
+    let settles : Settles values (row (codes "mode") t ∷ []) (with_value (codes "scenario") name) (first_rows t name) = (settled_name values t name, settles_name values t name) in
+    let new = all_new given (first_rows t name) (first_missing values t name given) once in
+    step values (walk_from nothing_held) (behind [] (with_value (codes "mode") t) 2) t (name ∷ flat_map setting_words given) (first_rows t name ++ map setting_row given)
     (mode_faultless values t (mode_is_name m)) (mode_walked values t (mode_is_name m))
-    (step values (behind [] (codes "mode") t 2) (behind (row (codes "mode") t ∷ []) (codes "scenario") name 3) name (flat_map setting_words given) (first_rows t name ++ map setting_row given)
+    (step values (behind [] (with_value (codes "mode") t) 2) (behind (row (codes "mode") t ∷ []) (with_value (codes "scenario") name) 3) name (flat_map setting_words given) (first_rows t name ++ map setting_row given)
     (name_faultless values t name (mode_accepted values are m) named) (name_walked values t name named)
-    (settings_walk values given (row (codes "mode") t ∷ []) (codes "scenario") name (first_rows t name) settles new ranges))
+    (settings_walk values given (row (codes "mode") t ∷ []) (with_value (codes "scenario") name) (first_rows t name) settles new may))

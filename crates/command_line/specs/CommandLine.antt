@@ -1,11 +1,14 @@
 -- The command `colregs`, in the words in which `clap` says how it reads a command line.
-use Rattle.std.specs.Prelude.{◌≡◌, ℕ, codes, true, false, List, [], ◌∷◌, Some}
+use Rattle.std.specs.Prelude.{◌≡◌, ℕ, Bool, codes, true, false, List, [], ◌∷◌, Option, Some, None, fold, map, option_map}
 use Rattle.std.specs.Borrow.{Bor}
+use Rattle.std.specs.Fmt.{decimal}
 use Rattle.std.specs.List.{list_any}
+use Rattle.std.specs.Option.{option_map_or}
 use Rattle.std.specs.Str.{bytes_eq}
 use Rattle.clap.specs.Words.{App, Rule, Text, new_app, new_rule, possible_matches, with_rule}
 use Rattle.clap.specs.Simple.{on_top}
-use Rattle.clap.specs.declared.builder.ArgAction.TheVariants.{Set}
+use Rattle.clap.specs.Values.{bool_text}
+use Rattle.clap.specs.declared.builder.ArgAction.TheVariants.{Set, SetTrue}
 use Rattle.clap.specs.declared.builder.possible_value.PossibleValue.{PossibleValue}
 use Rattle.clap.specs.declared.builder.value_parser.ValueParser.TheVariants as parser
 use Rattle.command_line.specs.declared.mode.Mode.{Mode}
@@ -27,28 +30,57 @@ modes = mode.Points ∷ mode.Audit ∷ mode.Plan ∷ mode.Drill ∷ mode.Migrate
 abbrev pub AreModes : List PossibleValue → Type 0
 AreModes values = (text : Text) → list_any (possible_matches false text) values ≡ list_any (λ m. bytes_eq (mode_text m) text) modes
 
--- ---- the options, each with a number
+-- ---- the options, by kind
+
+-- what an option takes: a number of a range, nothing, or a text
+pub data Kind : Type 0 where
+  -- the least number, the greatest, and the number where the option is not given
+  takes_number : ℕ → ℕ → Option ℕ → Kind
+  flag : Kind
+  -- the text where the option is not given
+  takes_text : Option Text → Kind
 
 pub data Setting : Type 0 where
   start : Setting
   ticks : Setting
   seed : Setting
+  why : Setting
+  rows_file : Setting
+
+abbrev pub settings : List Setting
+settings = start ∷ ticks ∷ seed ∷ why ∷ rows_file ∷ []
 
 abbrev pub label : Setting → Text
 label start = codes "start"
 label ticks = codes "ticks"
 label seed = codes "seed"
+label why = codes "why"
+label rows_file = codes "rows"
 
--- the range of the number
-abbrev pub least : Setting → ℕ
-least start = 0
-least ticks = 1
-least seed = 0
+abbrev pub kind_of : Setting → Kind
+kind_of start = takes_number 0 9999999999 None
+kind_of ticks = takes_number 1 20000 None
+kind_of seed = takes_number 0 999999 (Some 1)
+kind_of why = flag
+kind_of rows_file = takes_text (Some (codes "why.csv"))
 
-abbrev pub most : Setting → ℕ
-most start = 9999999999
-most ticks = 20000
-most seed = 999999
+-- the value of an option
+pub data Value : Type 0 where
+  a_number : ℕ → Value
+  a_flag : Bool → Value
+  a_text : Text → Value
+
+-- the value where the option is not given
+abbrev pub default_of : Kind → Option Value
+default_of (takes_number low high default) = option_map a_number default
+default_of flag = Some (a_flag false)
+default_of (takes_text default) = option_map a_text default
+
+-- the value as a text
+abbrev pub written : Value → Text
+written (a_number n) = decimal n
+written (a_flag given) = bool_text given
+written (a_text text) = text
 
 -- ---- the command
 
@@ -62,21 +94,28 @@ mode_rule values = record (new_rule (codes "mode")) { required = true; action = 
 abbrev pub scenario_rule : Rule
 scenario_rule = record (new_rule (codes "scenario")) { required = true; action = Some Set; value_names = 1 }
 
-abbrev pub number_rule : Text → ℕ → ℕ → Rule
-number_rule name low high =
-    record (new_rule name) { long = Some name; action = Some Set; value_names = 1; parser = Some (parser.Unsigned low high) }
+abbrev pub default_texts : Kind → List Text
+default_texts kind = option_map_or (λ v. written v ∷ []) (default_of kind) []
+
+-- an option of this name and kind
+abbrev pub option_rule : Text → Kind → Rule
+option_rule name (takes_number low high default) = record (new_rule name) {
+  long = Some name;
+  action = Some Set;
+  value_names = 1;
+  parser = Some (parser.Unsigned low high);
+  defaults = default_texts (takes_number low high default);
+}
+option_rule name flag = record (new_rule name) { long = Some name; action = Some SetTrue }
+option_rule name (takes_text default) =
+    record (new_rule name) { long = Some name; action = Some Set; value_names = 1; defaults = default_texts (takes_text default) }
 
 abbrev pub setting_rule : Setting → Rule
-setting_rule s = number_rule (label s) (least s) (most s)
+setting_rule s = option_rule (label s) (kind_of s)
 
-abbrev pub seed_rule : Rule
-seed_rule = record (setting_rule seed) { defaults = codes "1" ∷ [] }
-
--- the command: a mode and a scenario, which are required, and the options, of which the seed has a default
+-- the command: a mode and a scenario, which are required, and the options
 unfoldable pub colregs : Bor (List PossibleValue) → App
-colregs values =
-    with_rule (with_rule (with_rule (with_rule (with_rule program (mode_rule values)) scenario_rule) (setting_rule start)) (setting_rule ticks))
-    seed_rule
+colregs values = fold with_rule (with_rule (with_rule program (mode_rule values)) scenario_rule) (map setting_rule settings)
 
 -- `clap` is given this command
 abbrev pub IsColregs : App → Type 0

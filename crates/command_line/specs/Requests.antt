@@ -1,12 +1,13 @@
 -- What the words of a command line ask for. The program's own name is none of them.
-use Rattle.std.specs.Prelude.{◌≡◌, ◌≢◌, ◌≤◌, ◌==◌, ⊤, ℕ, Bool, true, false, not, codes, List, [], ◌∷◌, ◌++◌, Option, Some, None}
-use Rattle.std.specs.Prelude.{find, option_map, unwrap_or}
+use Rattle.std.specs.Prelude.{◌≡◌, ◌≢◌, ◌≤◌, ◌==◌, ⊤, ℕ, Bool, true, false, not, codes, List, [], ◌∷◌, ◌++◌, Option, Some}
+use Rattle.std.specs.Prelude.{IfSome, find, option_map}
+use Rattle.std.specs.Option.{option_map_or, option_or}
 use Rattle.std.specs.List.{flat_map, list_any}
 use Rattle.std.specs.Str.{bytes_eq}
-use Rattle.std.specs.Fmt.{decimal}
 use Rattle.std.specs.Str.Parse.{IsNumeral, digits_value, without_leading_plus}
 use Rattle.clap.specs.Words.{App, Row, Text, fault_of, first_of, matches_of}
-use Rattle.command_line.specs.CommandLine.{IsColregs, Setting, label, least, mode_text, most, start, ticks, seed}
+use Rattle.command_line.specs.CommandLine.{IsColregs, Kind, Setting, Value, a_flag, a_number, a_text, default_of, flag, kind_of, label, mode_text, rows_file}
+use Rattle.command_line.specs.CommandLine.{seed, start, takes_number, takes_text, ticks, why, written}
 use Rattle.command_line.specs.declared.request.Options.{Options}
 use Rattle.command_line.specs.declared.request.Request.{Request}
 
@@ -16,26 +17,34 @@ IsNumber text n = IsNumeral 10 (without_leading_plus text) × (n ≡ digits_valu
 
 -- ---- what `clap` makes of the words
 
--- the text is a number of the option's range
-abbrev pub IsNumberOf : Setting → Text → ℕ → Type 0
-IsNumberOf s text n = (least s ≤ n) × (n ≤ most s) × IsNumber text n
+-- an option of the kind takes the text: where it takes a number, that of a number in its range
+abbrev pub IsTaken : Kind → Text → Type 0
+IsTaken (takes_number low high default) text = (n : ℕ) × (low ≤ n) × (n ≤ high) × IsNumber text n
+IsTaken _ text = ⊤
 
--- the matches hold this number of the option
-abbrev pub HoldsNumber : List Row → Setting → ℕ → Type 0
-HoldsNumber rows s n = (text : Text) × (first_of (label s) rows ≡ Some text) × IsNumberOf s text n
+-- the value that the text of an option says, where the matches hold one; a flag is given where that is `true`
+abbrev pub said : Kind → Option Text → Option Value
+said (takes_number low high default) held = option_map (λ text. a_number (digits_value 10 (without_leading_plus text))) held
+said flag held = Some (a_flag (option_map_or (bytes_eq (codes "true")) held false))
+said (takes_text default) held = option_map a_text held
 
--- and of an option that may be left out
-abbrev pub MayHoldNumber : List Row → Setting → Option ℕ → Type 0
-MayHoldNumber rows s None = first_of (label s) rows ≡ None
-MayHoldNumber rows s (Some n) = HoldsNumber rows s n
+-- the matches hold this value of the option, or none
+abbrev pub HoldsValue : List Row → Setting → Option Value → Type 0
+HoldsValue rows s value = IfSome (first_of (label s) rows) (IsTaken (kind_of s)) × (value ≡ said (kind_of s) (first_of (label s) rows))
+
+-- the value of an option among the options
+abbrev pub value_of : Setting → Options → Option Value
+value_of start options = option_map a_number options.start
+value_of ticks options = option_map a_number options.ticks
+value_of seed options = Some (a_number options.seed)
+value_of why options = Some (a_flag options.why)
+value_of rows_file options = Some (a_text options.rows)
 
 -- the matches hold this request
 pub record HoldsRequest (rows : List Row) (request : Request) : Type 0 where
   pub mode : first_of (codes "mode") rows ≡ Some (mode_text request.mode)
   pub name : first_of (codes "scenario") rows ≡ Some request.name
-  pub start_given : MayHoldNumber rows start request.options.start
-  pub ticks_given : MayHoldNumber rows ticks request.options.ticks
-  pub seed_given : HoldsNumber rows seed request.options.seed
+  pub options : (s : Setting) → HoldsValue rows s (value_of s request.options)
 
 -- the words with the program's name, as `clap` reads them
 abbrev pub with_program_name : List Text → List Text
@@ -59,40 +68,49 @@ AskForNothing words = (app : App) × IsColregs app × AreWordsRefused app words
 
 -- ---- the plain form
 
--- a name that is not empty and does not begin with `-`
-abbrev pub is_scenario_name : Text → Bool
-is_scenario_name [] = false
-is_scenario_name (first ∷ rest) = not (first == 45)
+-- a text that is not empty and does not begin with `-`
+abbrev pub is_plain_text : Text → Bool
+is_plain_text [] = false
+is_plain_text (first ∷ rest) = not (first == 45)
 
--- an option with its number, as two words
-abbrev pub setting_words : Setting × ℕ → List Text
-setting_words given = (codes "--" ++ label given.0) ∷ decimal given.1 ∷ []
+-- what a value adds behind the option: nothing behind a flag, and else the value as a word of its own
+abbrev pub value_words : Value → List Text
+value_words (a_flag given) = []
+value_words (a_number n) = written (a_number n) ∷ []
+value_words (a_text text) = written (a_text text) ∷ []
 
-abbrev pub is_given : Setting → List (Setting × ℕ) → Bool
+abbrev pub setting_words : Setting × Value → List Text
+setting_words given = (codes "--" ++ label given.0) ∷ value_words given.1
+
+abbrev pub is_given : Setting → List (Setting × Value) → Bool
 is_given s given = list_any (λ g. bytes_eq (label g.0) (label s)) given
 
 -- no option stands twice
-abbrev pub AreOnce : List (Setting × ℕ) → Type 0
+abbrev pub AreOnce : List (Setting × Value) → Type 0
 AreOnce [] = ⊤
 AreOnce (g ∷ rest) = (is_given g.0 rest ≡ false) × AreOnce rest
 
--- each number lies in its option's range
-abbrev pub AreInRange : List (Setting × ℕ) → Type 0
-AreInRange [] = ⊤
-AreInRange (g ∷ rest) = (least g.0 ≤ g.1) × (g.1 ≤ most g.0) × AreInRange rest
+-- an option of this kind may be given with this value: a number of the range, a flag as one that is set, a plain text
+abbrev pub MayBeGiven : Kind → Value → Type 0
+MayBeGiven (takes_number low high default) (a_number n) = (low ≤ n) × (n ≤ high)
+MayBeGiven flag (a_flag given) = given ≡ true
+MayBeGiven (takes_text default) (a_text text) = is_plain_text text ≡ true
+MayBeGiven _ _ = ⊥
 
--- the number of an option, where it is given
-abbrev pub given_to : Setting → List (Setting × ℕ) → Option ℕ
-given_to s given = option_map (λ g. g.1) (find (λ g. bytes_eq (label g.0) (label s)) given)
+abbrev pub MayAllBeGiven : List (Setting × Value) → Type 0
+MayAllBeGiven [] = ⊤
+MayAllBeGiven (g ∷ rest) = MayBeGiven (kind_of g.0) g.1 × MayAllBeGiven rest
 
-abbrev pub options_of : List (Setting × ℕ) → Options
-options_of given = record { start = given_to start given; ticks = given_to ticks given; seed = unwrap_or (given_to seed given) 1 }
+-- the value of an option: the one that is given, or else its default
+abbrev pub value_among : Setting → List (Setting × Value) → Option Value
+value_among s given = option_or (option_map (λ g. g.1) (find (λ g. bytes_eq (label g.0) (label s)) given)) (default_of (kind_of s))
 
--- The words are a mode, a name and then options, each at most once and each followed by its number: this is what they ask for.
+-- The words are a mode, a name and then options, each at most once. A flag stands alone, and any other option is followed by its value.
+-- This is what they ask for.
 pub record IsPlain (words : List Text) (request : Request) : Type 0 where
-  pub given : List (Setting × ℕ)
+  pub given : List (Setting × Value)
   pub form : words ≡ mode_text request.mode ∷ request.name ∷ flat_map setting_words given
-  pub name : is_scenario_name request.name ≡ true
+  pub name : is_plain_text request.name ≡ true
   pub once : AreOnce given
-  pub ranges : AreInRange given
-  pub options : request.options ≡ options_of given
+  pub values : MayAllBeGiven given
+  pub options : (s : Setting) → value_of s request.options ≡ value_among s given

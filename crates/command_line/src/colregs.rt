@@ -1,7 +1,7 @@
 //! The command `colregs` of `clap`.
-ghost use Rattle.std.specs.Prelude.{◌≡◌, IfOk};
+ghost use Rattle.std.specs.Prelude.{◌≡◌, IfOk, None, Some, codes};
 ghost use Rattle.clap.specs.Words.{app_of, rule_of};
-ghost use Rattle.command_line.specs.CommandLine.{colregs, mode_rule, number_rule, program, scenario_rule, seed, seed_rule, setting_rule, start, ticks};
+ghost use Rattle.command_line.specs.CommandLine.{colregs, flag, mode_rule, option_rule, program, rows_file, scenario_rule, seed, setting_rule, start, takes_number, takes_text, ticks, why};
 
 use clap::builder::{PossibleValue, ValueParser};
 use clap::{Arg, ArgAction, Command};
@@ -34,13 +34,34 @@ fn number_option<'a>(
     most: u64,
     help: &'a str,
 ) -> Arg<'a>
-    ensures { rule_of result ≡ number_rule name.entry.now least most }
+    ensures { rule_of result ≡ option_rule name.entry.now (takes_number least most None) }
 {
     Arg::new(alloc, name)
         .long(name)
         .action(ArgAction::Set)
         .value_name(unit)
         .value_parser(ValueParser::Unsigned(least, most))
+        .help(help)
+}
+
+/// An option that takes nothing.
+fn flag<'a>(alloc: Global, name: &'a str, help: &'a str) -> Arg<'a>
+    ensures { rule_of result ≡ option_rule name.entry.now flag }
+{
+    Arg::new(alloc, name)
+        .long(name)
+        .action(ArgAction::SetTrue)
+        .help(help)
+}
+
+/// An option that takes a text.
+fn text_option<'a>(alloc: Global, name: &'a str, unit: &'a str, help: &'a str) -> Arg<'a>
+    ensures { rule_of result ≡ option_rule name.entry.now (takes_text None) }
+{
+    Arg::new(alloc, name)
+        .long(name)
+        .action(ArgAction::Set)
+        .value_name(unit)
         .help(help)
 }
 
@@ -97,7 +118,7 @@ fn ticks<'a>(alloc: Global) -> Arg<'a>
 
 /// What a drill's log is made from.
 fn seed<'a>(alloc: Global) -> Arg<'a>
-    ensures { rule_of result ≡ seed_rule }
+    ensures { rule_of result ≡ setting_rule seed }
 {
     number_option(
         alloc,
@@ -108,6 +129,32 @@ fn seed<'a>(alloc: Global) -> Arg<'a>
         "The seed of a drill's log, 0 to 999999",
     )
     .default_value("1")
+}
+
+/// Whether the report says why there is no plan. It has no effect yet, so help does not list it.
+fn why<'a>(alloc: Global) -> Arg<'a>
+    ensures { rule_of result ≡ setting_rule why }
+{
+    flag(
+        alloc,
+        "why",
+        "Say of each plan why it fails, where every plan does",
+    )
+    .hide(true)
+}
+
+/// The file with the rows that say so. It has no effect yet, so help does not list it.
+fn rows<'a>(alloc: Global) -> Arg<'a>
+    ensures { rule_of result ≡ setting_rule rows_file }
+{
+    text_option(
+        alloc,
+        "rows",
+        "FILE",
+        "The file of the rows that say why there is no plan",
+    )
+    .default_value("why.csv")
+    .hide(true)
 }
 
 /// The command with no argument yet.
@@ -132,5 +179,7 @@ pub(crate) fn colregs<'a>(
         .arg(scenario(alloc))?
         .arg(start(alloc))?
         .arg(ticks(alloc))?
-        .arg(seed(alloc))
+        .arg(seed(alloc))?
+        .arg(why(alloc))?
+        .arg(rows(alloc))
 }

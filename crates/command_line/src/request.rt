@@ -1,8 +1,9 @@
 //! What the words ask for.
-ghost use Rattle.std.specs.Prelude.{◌≡◌, ◌⊎◌, ◌<◌, ◌^◌, ◌∷◌, IfOk, IfSome, codes, map, option_map};
+ghost use Rattle.std.specs.Prelude.{◌≡◌, ◌⊎◌, ◌<◌, ◌^◌, ◌∷◌, IfOk, IfSome, Some, codes, map, option_map};
 ghost use Rattle.std.specs.Borrow.{Bor};
 ghost use Rattle.clap.specs.Words.{first_of, found_of, rows_of};
-ghost use Rattle.command_line.specs.Requests.{AskFor, AskForNothing, HoldsRequest, IsPlain, with_program_name};
+ghost use Rattle.command_line.specs.Requests.{AskFor, AskForNothing, HoldsRequest, IsPlain, said, with_program_name};
+ghost use Rattle.command_line.specs.CommandLine.{a_flag, flag};
 ghost use Rattle.command_line.specs.Inner.Reading.{GivesNumber, GivesOptions, HoldsNone};
 ghost use Rattle.command_line.specs.declared.request.Request.{Request};
 
@@ -15,7 +16,7 @@ use outside::{Memory, Word};
 use std::alloc::{AllocError, Global};
 
 /// The options, each of which counts in the modes that use it.
-#[derive(Clone, Copy, Debug, PartialEq, Eq)]
+#[derive(Debug, Drop)]
 pub struct Options {
     /// The start of the window in place of the scenario's, in seconds since the Unix epoch, 0 to 9999999999.
     pub start: Option<u64>,
@@ -23,6 +24,10 @@ pub struct Options {
     pub ticks: Option<u32>,
     /// The seed of a drill's log, 0 to 999999.
     pub seed: u32,
+    /// Whether the report is to say why there is no plan.
+    pub why: bool,
+    /// The name of the file with the rows that say so, which may be empty.
+    pub rows: Word,
 }
 
 /// What is asked for: a mode, with the scenario of a name.
@@ -81,19 +86,38 @@ fn narrow(number: Option<u64>) -> Option<u32>
     }
 }
 
+/// Whether a flag is given: `clap` keeps that as a text.
+fn flag_given(matches: &ArgMatches<'_>, name: &str) -> bool
+    ensures { Some (a_flag result) ≡ said flag (first_of name.now (rows_of (found_of matches.now))) }
+{
+    match text_given(matches, name) {
+        Some("true") => true,
+        _ => false,
+    }
+}
+
 /// The options that the matches hold.
-fn options_in(matches: &ArgMatches<'_>) -> Result<Options, WordsFault>
+fn options_in(alloc: Global, matches: &ArgMatches<'_>) -> Result<Options, WordsFault>
     ensures { GivesOptions (rows_of (found_of matches.now)) result }
 {
     let start = number_given(matches, "start", 0, 9_999_999_999)?;
     let ticks = narrow(number_given(matches, "ticks", 1, 20_000)?);
-    match number_given(matches, "seed", 0, 999_999)? {
-        Some(seed) => Ok(Options {
+    let Some(seed) = number_given(matches, "seed", 0, 999_999)? else {
+        return Err(WordsFault::Usage);
+    };
+    let why = flag_given(matches, "why");
+    let Some(rows) = text_given(matches, "rows") else {
+        return Err(WordsFault::Usage);
+    };
+    match Word::new(alloc, rows) {
+        Ok(rows) => Ok(Options {
             start,
             ticks,
             seed: seed as u32,
+            why,
+            rows,
         }),
-        None => Err(WordsFault::Usage),
+        Err(Memory) => Err(WordsFault::Memory),
     }
 }
 
@@ -111,7 +135,7 @@ fn request_in(alloc: Global, matches: &ArgMatches<'_>) -> Result<Request, WordsF
     let Some(name) = text_given(matches, "scenario") else {
         return Err(WordsFault::Usage);
     };
-    let options = options_in(matches)?;
+    let options = options_in(alloc, matches)?;
     match Word::new(alloc, name) {
         Ok(name) => Ok(Request {
             mode,

@@ -1,8 +1,8 @@
 -- How the matches are read, one value after the other.
-use Rattle.std.specs.Prelude.{◌≡◌, ◌≢◌, ◌⊎◌, ◌≤◌, ℕ, codes, List, Option, Some, None, Result, Ok, Err}
+use Rattle.std.specs.Prelude.{◌≡◌, ◌≢◌, ◌⊎◌, ◌≤◌, ⊤, ℕ, true, codes, List, Option, Some, None, Result, Ok, Err, is_some}
 use Rattle.clap.specs.Words.{Row, Text, first_of}
-use Rattle.command_line.specs.CommandLine.{Setting, label, mode_text, seed, start, ticks}
-use Rattle.command_line.specs.Requests.{HoldsNumber, IsNumber, IsNumberOf, MayHoldNumber}
+use Rattle.command_line.specs.CommandLine.{Setting, default_of, kind_of, label, mode_text}
+use Rattle.command_line.specs.Requests.{HoldsValue, IsNumber, IsTaken, said, value_of}
 use Rattle.command_line.specs.declared.mode.Mode.{Mode}
 use Rattle.command_line.specs.declared.request.Options.{Options}
 use Rattle.command_line.specs.declared.request.WordsFault.{WordsFault}
@@ -18,23 +18,26 @@ GivesNumber rows name low high (Ok (Some n)) = (text : Text) × (first_of name r
 GivesNumber rows name low high (Err Usage) = (text : Text) × (first_of name rows ≡ Some text) × ((n : ℕ) → IsNumberIn low high text n → ⊥)
 GivesNumber rows name low high (Err Memory) = ⊥
 
--- the matches hold a value of an option that is no number of its range: `clap` lets none through
-abbrev pub HoldsNoNumber : List Row → Type 0
-HoldsNoNumber rows = (s : Setting) × (text : Text) × (first_of (label s) rows ≡ Some text) × ((n : ℕ) → IsNumberOf s text n → ⊥)
+-- the matches hold a text that the option does not take: `clap` lets none through
+abbrev pub HoldsNoValue : List Row → Type 0
+HoldsNoValue rows = (s : Setting) × (text : Text) × (first_of (label s) rows ≡ Some text) × (IsTaken (kind_of s) text → ⊥)
 
--- the matches hold no seed, or a value that is no number of its range
+-- the matches say no value of an option that has a default: `clap` puts the default there
+abbrev pub LacksDefault : List Row → Type 0
+LacksDefault rows = (s : Setting) × (said (kind_of s) (first_of (label s) rows) ≡ None) × (is_some (default_of (kind_of s)) ≡ true)
+
 abbrev pub HoldsNoOptions : List Row → Type 0
-HoldsNoOptions rows = (first_of (label seed) rows ≡ None) ⊎ HoldsNoNumber rows
+HoldsNoOptions rows = LacksDefault rows ⊎ HoldsNoValue rows
 
 abbrev pub GivesOptions : List Row → Result Options WordsFault → Type 0
-GivesOptions rows (Ok options) = MayHoldNumber rows start options.start × MayHoldNumber rows ticks options.ticks × HoldsNumber rows seed options.seed
+GivesOptions rows (Ok options) = (s : Setting) → HoldsValue rows s (value_of s options)
 GivesOptions rows (Err Usage) = HoldsNoOptions rows
-GivesOptions rows (Err Memory) = ⊥
+GivesOptions rows (Err Memory) = ⊤
 
 -- the matches hold no mode
 abbrev pub HoldsNoMode : List Row → Type 0
 HoldsNoMode rows = (mode : Mode) → first_of (codes "mode") rows ≢ Some (mode_text mode)
 
--- the matches hold no request: the mode, the name or the seed is missing, or a value is no number of its range
+-- the matches hold no request: the mode, the name or a default is missing, or an option does not take its text
 abbrev pub HoldsNone : List Row → Type 0
 HoldsNone rows = HoldsNoMode rows ⊎ ((first_of (codes "scenario") rows ≡ None) ⊎ HoldsNoOptions rows)
