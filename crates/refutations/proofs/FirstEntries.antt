@@ -1,0 +1,183 @@
+-- The first good entry of a prefix: the first reason towards the first target that has one.
+use Rattle.std.proofs.Common.{◌≡◌, ◌∙◌, ℕ, ◌<◌, ◌≤◌, ◌⊎◌, inl, inr, List, length, take, get_or, refl, sym, ap, subst, arith, ◌^◌, Some, None}
+use Rattle.std.specs.Prelude.{Option, Bool, true, false, AllPairs, IfSome, IsNone, IsSomeAnd, ◌↔◌, ℤ, pos, neg_ℤ, ◌*ℤ◌, int_le, unsigned_abs, if◌then◌else◌, slice_index}
+use Rattle.std.proofs.lemmas.Bool.{cases_lt}
+use Rattle.std.proofs.lemmas.List.{get_or-take}
+use Rattle.closest_approach.specs.Separation.{nearest_of}
+use Rattle.closest_approach.specs.declared.nearest.Moment.{Moment}
+use Rattle.encounters.specs.declared.pair_step.PairStep.{PairStep}
+use Rattle.fixed_geometry.specs.Plane.{dot_of, norm2_of}
+use Rattle.hull_domains.specs.Crossings.{entry_moment}
+use Rattle.hull_domains.specs.Domains.{IsInside, StaysOutside}
+use Rattle.meetings.specs.Traces.{step_at}
+use Rattle.motion.specs.Steps.{RelativeMove}
+use Rattle.mtl_formulas.specs.FormulaTree.{FormulaTree}
+use Rattle.situations.specs.Domains.{moment_by, moment_of, Enters, IsEntry as IsDomainEntry, IsInsideAt, IsInsideBy}
+use Rattle.situations.specs.FailingPlans.{BreaksARule, BreaksAt, EntersAt, EntersDomain, FailsBy, FailsTowards}
+use Rattle.situations.specs.Prefixes.{reached, steps_told, PrefixFails}
+use Rattle.situations.specs.Reasons.{HasReason, IsFirstBroken, IsFirstEntry, RuleBreaksAt}
+use Rattle.situations.specs.Situations.{own_at, target_at}
+use Rattle.situations.specs.declared.reasons.BrokenRule.{BrokenRule}
+use Rattle.situations.specs.declared.reasons.DomainEntry.{DomainEntry}
+use Rattle.situations.specs.declared.situation.Situation.{Situation}
+use Rattle.situations.specs.declared.situation.Target.{Target}
+use Rattle.situations.proofs.FirstBroken.{rule_there}
+use Rattle.situations.proofs.ForCallers.{and_weaker, fails_too, rule_reason, same_step, shared, some_at, some_here}
+use Rattle.refutations.specs.CanonicalLists.{IsEarlier, IsFirstGood, TellsMoment}
+use Rattle.refutations.specs.GoodEntries.{Holds, HoldsFor, IsInsideIn, IsInstant}
+use Rattle.refutations.specs.Inner.Walks.{IsFirstTowards}
+use Rattle.refutations.specs.declared.entry.Reason.{Reason}
+use Rattle.refutations.specs.declared.entry.Reason.TheVariants.{Domain, Rule}
+use Rattle.refutations.proofs.HeldReasons.{alike, has_reason, reasons_agree}
+
+-- ---- the moment of an entry has small numbers
+
+b_small : (t u : Bool) (n a : ℕ) → n < 2 ^ 60
+    → (if t then record { a = 0; b = 1 } else (if u then record { a = 1; b = 1 } else (let moment : Moment = record { a = a; b = n } in moment))).b < 2 ^ 60
+b_small true u n a h = omega arith
+b_small false true n a h = omega arith
+b_small false false n a h = h
+
+pub nearest_small : (step : RelativeMove) (l : ℕ) → pos l ≡ norm2_of step.w → l ≤ 2 ^ 53 → (nearest_of step 1).b < 2 ^ 60
+unfolding nearest_of
+nearest_small step l e small =
+    b_small (int_le (pos 0) (dot_of step.p step.w)) (int_le (pos 1 *ℤ norm2_of step.w) (neg_ℤ (dot_of step.p step.w))) (unsigned_abs (norm2_of step.w)) (unsigned_abs (dot_of step.p step.w)) (let same : l ≡ unsigned_abs (norm2_of step.w) = ap unsigned_abs e in omega arith)
+
+module _ (s : Situation) (T : Target) (pair : PairStep) (moment : Moment) (h : IsDomainEntry s T pair moment) where
+  pub small_by_shape : (shape : List (ℤ × ℤ)) (d : ℕ) → Some shape ≡ s.shape → Some d ≡ pair.b.direction → (o : Option Moment) → (IsNone o ↔ StaysOutside pair.step d shape)
+      → IfSome o (λ found. found ≡ entry_moment pair.step d shape) → IfSome o (λ found. (found.a ≤ found.b) × (0 < found.b) × (found.b < 2 ^ 60)) → moment.b < 2 ^ 60
+  small_by_shape shape d has heads None none is instant = absurd (none.0 refl moment.a moment.b h.within h.some (in_shape h.inside))
+    where
+      in_shape : IsInsideAt s T pair moment.a moment.b → IsInside pair.step d shape moment.a moment.b
+      in_shape inside =
+          subst (λ (e : Option ℕ). IsInsideBy (Some shape) e T.domain.radius pair.step moment.a moment.b) (sym heads)
+          (subst (λ (o : Option (List (ℤ × ℤ))). IsInsideBy o pair.b.direction T.domain.radius pair.step moment.a moment.b) (sym has) inside)
+  small_by_shape shape d has heads (Some found) none is instant = subst (λ (m : Moment). m.b < 2 ^ 60) (is ∙ same ∙ sym h.is) instant.2
+    where
+      same : entry_moment pair.step d shape ≡ moment_of s T pair
+      same = subst (λ (o : Option (List (ℤ × ℤ))). entry_moment pair.step d shape ≡ moment_by o pair.b.direction pair.step) has
+          (subst (λ (e : Option ℕ). entry_moment pair.step d shape ≡ moment_by (Some shape) e pair.step) heads refl)
+
+  pub small_by_circle : ((vertices : List (ℤ × ℤ)) (d : ℕ) → s.shape ≡ Some vertices → pair.b.direction ≡ Some d → ⊥) → (nearest_of pair.step 1).b < 2 ^ 60 → moment.b < 2 ^ 60
+  small_by_circle circle small = subst (λ (m : Moment). m.b < 2 ^ 60) (sym (h.is ∙ nearest s.shape pair.b.direction circle)) small
+    where
+      nearest : (shape : Option (List (ℤ × ℤ))) (direction : Option ℕ) → ((vertices : List (ℤ × ℤ)) (d : ℕ) → shape ≡ Some vertices → direction ≡ Some d → ⊥)
+          → moment_by shape direction pair.step ≡ nearest_of pair.step 1
+      nearest (Some shape) (Some d) circle = absurd (circle shape d refl refl)
+      nearest (Some shape) None circle = refl
+      nearest None direction circle = refl
+
+-- ---- the first reason towards a target
+
+module _ (s : Situation) (X : List ℕ) (last : ℕ) (T : Target) where
+  enters_at : (step : ℕ) (moment : Moment) → IsInsideIn s X last T step moment → EntersAt s X T step
+  enters_at step moment h =
+      and_weaker (λ (pair : PairStep). IsInsideAt s T pair moment.a moment.b) (Enters s T) (step_at (own_at s X) (target_at s T) step)
+      (λ pair inside. record { a = moment.a; b = moment.b; within = h.instant.within; some = h.instant.some; inside = inside }) h.inside
+
+  pub entry_first : (entry : DomainEntry) → IsFirstEntry s X last T entry → IsInstant entry.moment → IsFirstTowards s X last T (Domain entry.step entry.moment)
+  entry_first entry h instant = record {
+    holds = record {
+      from_now = h.from_now;
+      planned = h.planned;
+      instant = instant;
+      inside = and_weaker (λ (pair : PairStep). IsDomainEntry s T pair entry.moment) (λ (pair : PairStep). IsInsideAt s T pair entry.moment.a entry.moment.b)
+          (step_at (own_at s X) (target_at s T) entry.step) (λ pair is. is.inside) h.enters;
+    };
+    known = tt;
+    moment = and_weaker (λ (pair : PairStep). IsDomainEntry s T pair entry.moment) (λ (pair : PairStep). entry.moment ≡ moment_of s T pair)
+        (step_at (own_at s X) (target_at s T) entry.step) (λ pair is. is.is) h.enters;
+    first = before;
+  }
+    where
+      before : (other : Reason) → Holds s X last T other → ¬ IsEarlier other (Domain entry.step entry.moment)
+      before (Domain step moment) holds less = h.no_step_before step holds.from_now less (enters_at step moment holds)
+      before (Rule index step) holds less = less
+
+  pub broken_first : (broken : BrokenRule) → (¬ EntersDomain s X last T) → IsFirstBroken s X last T broken → IsFirstTowards s X last T (Rule broken.rule broken.step)
+  broken_first broken none h = record {
+    holds = h.breaks;
+    known = (rule_there s.rules (λ (f : FormulaTree). BreaksAt s X last T f broken.step) broken.rule h.breaks).0;
+    moment = tt;
+    first = before;
+  }
+    where
+      before : (other : Reason) → Holds s X last T other → ¬ IsEarlier other (Rule broken.rule broken.step)
+      before (Domain step moment) holds less =
+          none (record { step = step; from_now = holds.from_now; planned = holds.planned; enters = enters_at step moment holds })
+      before (Rule index step) holds less = elim less [
+        | inl earlier ↦ h.no_step_before step index earlier holds
+        | inr both ↦ h.no_rule_before index both.1 (subst (λ (k : ℕ). RuleBreaksAt s X last T k index) both.0 holds)
+      ]
+
+  pub none_towards : (¬ EntersDomain s X last T) → (¬ BreaksARule s X last T) → ¬ FailsTowards s X last T
+  none_towards no_entry no_break either = elim either [ inl h ↦ no_entry h | inr h ↦ no_break h ]
+
+  pub holds_fails : (reason : Reason) → Holds s X last T reason → FailsTowards s X last T
+  holds_fails reason h = by (has_reason s X last T reason h)
+    where
+      by : HasReason s X last T → FailsTowards s X last T
+      by (inl enters) = inl enters
+      by (inr found) = inr (rule_reason s X T last found.step found.rule found.breaks)
+
+-- ---- the first good entry
+
+module _ (s : Situation) (some : 1 ≤ s.lattice.legs) (prefix plan : List ℕ) (extends : take (length prefix) plan ≡ prefix) where
+  pub prefix_fails_too : PrefixFails s prefix → FailsBy s (reached s (length prefix)) plan
+  prefix_fails_too h =
+      fails_too s prefix plan (steps_told s.lattice (length prefix))
+      (shared s.lattice prefix plan (length prefix) some (λ i lt. ap (λ (ds : List ℕ). slice_index ds i) (sym extends) ∙ get_or-take (length prefix) plan i 0 lt))
+      (reached s (length prefix)) (omega arith) (reached s (length prefix)) (omega arith) (omega arith) h
+
+  moment_too : (T : Target) (reason : Reason) → Holds s plan (reached s (length prefix)) T reason → TellsMoment s plan T reason → TellsMoment s prefix T reason
+  moment_too T (Domain step moment) holds h =
+      subst (λ (o : Option PairStep). IsSomeAnd o (λ pair. moment ≡ moment_of s T pair))
+      (same_step s plan prefix (steps_told s.lattice (length prefix)) (λ k lt. sym (alike s some prefix plan extends T k lt)) T step holds.planned) h
+  moment_too T (Rule index step) holds h = tt
+
+  first_towards_too : (T : Target) (reason : Reason) → IsFirstTowards s plan (reached s (length prefix)) T reason → IsFirstTowards s prefix (reached s (length prefix)) T reason
+  first_towards_too T reason h = record {
+    holds = (reasons_agree s some prefix plan extends T reason).1 h.holds;
+    known = h.known;
+    moment = moment_too T reason h.holds h.moment;
+    first = λ other holds. h.first other ((reasons_agree s some prefix plan extends T other).0 holds);
+  }
+
+  module _ (k : ℕ) (T : Target) (reason : Reason) (lt : k < length s.targets) (is : T ≡ get_or s.targets k T)
+      (ascending : AllPairs (λ (a b : Target). a.mmsi < b.mmsi) s.targets)
+      (before : (i : ℕ) (d : Target) → i < k → ¬ FailsTowards s plan (reached s (length prefix)) (get_or s.targets i d))
+      (h : IsFirstTowards s plan (reached s (length prefix)) T reason) where
+    here_first : IsFirstTowards s prefix (reached s (length prefix)) T reason
+    here_first = first_towards_too T reason h
+
+    -- no reason towards another target, and no earlier one towards this
+    none_before : (target : ℕ) (other : Reason) (j : ℕ) → (get_or s.targets j T).mmsi ≡ target → j < length s.targets → HoldsFor s prefix (get_or s.targets j T) other
+        → (target < T.mmsi) ⊎ ((target ≡ T.mmsi) × IsEarlier other reason) → ⊥
+    none_before target other j mmsi within holds precedes = elim (cases_lt j k) [
+      | inl less ↦ before j T less (holds_fails s plan (reached s (length prefix)) (get_or s.targets j T) other
+          ((reasons_agree s some prefix plan extends (get_or s.targets j T) other).0 holds))
+      | inr from ↦ elim (cases_lt k j) [
+        | inl more ↦ (let further : (get_or s.targets k T).mmsi < (get_or s.targets j T).mmsi = ascending k j T more within in
+            let own : T.mmsi ≡ (get_or s.targets k T).mmsi = ap (λ (t : Target). t.mmsi) is in
+            elim precedes [ inl less ↦ absurd (omega arith) | inr both ↦ (let same = both.0 in absurd (omega arith)) ])
+        | inr to ↦ (let e : j ≡ k = omega arith in
+            let same : get_or s.targets j T ≡ T = ap (λ (i : ℕ). get_or s.targets i T) e ∙ sym is in
+            let own : (get_or s.targets j T).mmsi ≡ T.mmsi = ap (λ (t : Target). t.mmsi) same in
+            elim precedes [
+              | inl less ↦ absurd (omega arith)
+              | inr both ↦ here_first.first other (subst (λ (t : Target). HoldsFor s prefix t other) same holds) both.1
+            ])
+      ]
+    ]
+
+    pub first_good : IsFirstGood s (record { prefix = prefix; target = T.mmsi; reason = reason })
+    first_good = record {
+      good = some_here (λ (t : Target). (t.mmsi ≡ T.mmsi) × HoldsFor s prefix t reason) s.targets k T lt
+          (ap (λ (t : Target). t.mmsi) (sym is), subst (λ (t : Target). HoldsFor s prefix t reason) is here_first.holds);
+      moment = some_here (λ (t : Target). (t.mmsi ≡ T.mmsi) × TellsMoment s prefix t reason) s.targets k T lt
+          (ap (λ (t : Target). t.mmsi) (sym is), subst (λ (t : Target). TellsMoment s prefix t reason) is here_first.moment);
+      first = λ other same good precedes.
+          let found = some_at (λ (t : Target). (t.mmsi ≡ other.target) × HoldsFor s other.prefix t other.reason) s.targets good in
+          let facts = found.1.1 T in
+          none_before other.target other.reason found.0 facts.0 found.1.0 (subst (λ (p : List ℕ). HoldsFor s p (get_or s.targets found.0 T) other.reason) same facts.1) precedes;
+    }

@@ -1,0 +1,4 @@
+pub mod GoodEntries
+pub mod RightLists
+pub mod CanonicalLists
+pub mod Inner

@@ -1,0 +1,194 @@
+//! Whether an entry is good.
+ghost use Rattle.std.specs.Prelude.{◌≡◌, ◌≤◌, ◌<◌, ◌↔◌, length, take, IfOk, IsTrue};
+ghost use Rattle.std.specs.Int.Digits.{AllBelowBase};
+ghost use Rattle.encounters.specs.Directions.{HaveDirections};
+ghost use Rattle.lattice.specs.Grids.{choices_of};
+ghost use Rattle.lattice.specs.PlanNumbers.{IsPlan};
+ghost use Rattle.situations.specs.Domains.{IsInsideAt};
+ghost use Rattle.situations.specs.Prefixes.{reached};
+ghost use Rattle.situations.specs.Situations.{end_of, now_of, IsSituation, IsTarget};
+ghost use Rattle.refutations.specs.GoodEntries.{Holds, IsGood, IsInsideIn, IsInsideThen, IsInstant};
+ghost use Rattle.refutations.specs.RightLists.{IsEntry, KnowsRule};
+
+use crate::entry::{Reason, WhyEntry};
+use crate::instants::is_nearer;
+use crate::laws::plans_agree_on_reasons;
+use crate::planned_trace::breaks_at;
+use closest_approach::Moment;
+use encounters::PairStep;
+use hull_domains::inside;
+use lattice::Plan;
+use lattice::laws::numbers_and_plans_are_inverse;
+use outside::Memory;
+use situations::laws::prefixes_are_blocks;
+use situations::{Situation, Target};
+use std::alloc::Global;
+
+/// Whether a moment is an instant of a step, told by numbers that can be reckoned with.
+fn is_instant(moment: &Moment) -> bool
+    ensures { IsTrue result ↔ IsInstant moment.now }
+{
+    moment.a <= moment.b && 0 < moment.b && moment.b < 1 << 60
+}
+
+/// Whether own ship is inside a target's domain at an instant of a step of both.
+fn is_inside(situation: &Situation, target: &Target, pair: &PairStep, moment: &Moment) -> bool
+    requires target { IsTarget situation.now target.now }
+    requires heads { HaveDirections pair.now }
+    requires instant { IsInstant moment.now }
+    ensures { IsTrue result ↔ IsInsideAt situation.now target.now pair.now moment.now.a moment.now.b }
+{
+    match (&situation.shape, pair.b.direction) {
+        (Some(shape), Some(direction)) => inside(&pair.step, direction, shape, moment),
+        _ => is_nearer(&pair.step, target.domain.radius, *moment),
+    }
+}
+
+/// Whether she is at an instant of the step that begins at a tick.
+fn is_inside_then(
+    situation: &Situation,
+    plan: &Plan,
+    target: &Target,
+    step: u32,
+    moment: &Moment,
+) -> bool
+    requires situation { IsSituation situation.now }
+    requires plan { IsPlan (choices_of situation.now.lattice) situation.now.lattice.legs plan.now }
+    requires target { IsTarget situation.now target.now }
+    requires planned { step < end_of situation.now }
+    requires instant { IsInstant moment.now }
+    ensures { IsTrue result ↔ IsInsideThen situation.now plan.now target.now step moment.now }
+{
+    match situation.step_at(plan, target, step) {
+        Some(pair) => is_inside(situation, target, &pair, moment),
+        None => false,
+    }
+}
+
+/// Whether the step is one from now up to a horizon, the moment an instant of it, and she is inside then.
+fn is_inside_in(
+    situation: &Situation,
+    plan: &Plan,
+    target: &Target,
+    until: u32,
+    step: u32,
+    moment: &Moment,
+) -> bool
+    requires situation { IsSituation situation.now }
+    requires plan { IsPlan (choices_of situation.now.lattice) situation.now.lattice.legs plan.now }
+    requires target { IsTarget situation.now target.now }
+    requires until { until ≤ end_of situation.now }
+    ensures { IsTrue result ↔ IsInsideIn situation.now plan.now until target.now step moment.now }
+{
+    if step < situation.now() || step >= until || !is_instant(moment) {
+        return false;
+    }
+    is_inside_then(situation, plan, target, step, moment)
+}
+
+/// Whether a reason holds towards a target under a plan, up to a horizon.
+fn holds(
+    alloc: Global,
+    situation: &Situation,
+    plan: &Plan,
+    target: &Target,
+    until: u32,
+    reason: Reason,
+) -> Result<bool, Memory>
+    requires situation { IsSituation situation.now }
+    requires plan { IsPlan (choices_of situation.now.lattice) situation.now.lattice.legs plan.now }
+    requires target { IsTarget situation.now target.now }
+    requires from_now { now_of situation.now ≤ until }
+    requires until { until ≤ end_of situation.now }
+    requires known { KnowsRule situation.now reason }
+    ensures { IfOk result (λ holds. IsTrue holds ↔ Holds situation.now plan.now until target.now reason) }
+{
+    match reason {
+        Reason::Domain { step, moment } => Ok(is_inside_in(
+            situation, plan, target, until, step, &moment,
+        )),
+        Reason::Rule { index, step } => breaks_at(
+            alloc,
+            situation,
+            plan,
+            target,
+            until,
+            index as usize,
+            step,
+        ),
+    }
+}
+
+/// The horizon of so many legs: the tick up to which they tell the steps.
+pub(crate) fn horizon(situation: &Situation, legs: usize) -> u32
+    requires { IsSituation situation.now }
+    ensures value { result ≡ reached situation.now legs }
+    ensures from_now { now_of situation.now ≤ result }
+    ensures within { result ≤ end_of situation.now }
+{
+    let lattice = &situation.lattice;
+    if legs < usize::from(lattice.legs()) {
+        situation.now() + legs as u32 * lattice.leg_ticks()
+    } else {
+        situation.end()
+    }
+}
+
+/// The first plan that extends a prefix.
+pub(crate) fn first_plan(situation: &Situation, prefix: &[u16]) -> Plan
+    requires few { length prefix.now ≤ situation.now.lattice.legs }
+    requires below { AllBelowBase (choices_of situation.now.lattice) prefix.now }
+    ensures plan { IsPlan (choices_of situation.now.lattice) situation.now.lattice.legs result }
+    ensures extends { take (length prefix.now) result ≡ prefix.now }
+{
+    prefixes_are_blocks(situation);
+    numbers_and_plans_are_inverse(&situation.lattice);
+    let (first, _) = situation.lattice.block(prefix);
+    situation.lattice.plan(first)
+}
+
+/// Whether an entry's target is this one, and its reason holds towards her under a plan up to a horizon.
+fn is_good_towards(
+    alloc: Global,
+    situation: &Situation,
+    plan: &Plan,
+    target: &Target,
+    until: u32,
+    entry: &WhyEntry,
+) -> Result<bool, Memory>
+    requires situation { IsSituation situation.now }
+    requires plan { IsPlan (choices_of situation.now.lattice) situation.now.lattice.legs plan.now }
+    requires target { IsTarget situation.now target.now }
+    requires from_now { now_of situation.now ≤ until }
+    requires until { until ≤ end_of situation.now }
+    requires known { KnowsRule situation.now entry.now.reason }
+    ensures { IfOk result (λ good. IsTrue good
+        ↔ ((target.now.mmsi ≡ entry.now.target) × Holds situation.now plan.now until target.now entry.now.reason)) }
+{
+    if target.mmsi != entry.target {
+        return Ok(false);
+    }
+    holds(alloc, situation, plan, target, until, entry.reason)
+}
+
+/// Whether an entry is good.
+pub(crate) fn is_good(
+    alloc: Global,
+    situation: &Situation,
+    entry: &WhyEntry,
+) -> Result<bool, Memory>
+    requires situation { IsSituation situation.now }
+    requires entry { IsEntry situation.now entry.now }
+    ensures { IfOk result (λ good. IsTrue good ↔ IsGood situation.now entry.now) }
+{
+    plans_agree_on_reasons(situation);
+    let prefix = entry.prefix.choices();
+    let until = horizon(situation, prefix.len());
+    let plan = first_plan(situation, prefix);
+    for target in situation.targets.as_slice() {
+        if is_good_towards(alloc, situation, &plan, target, until, entry)? {
+            return Ok(true);
+        }
+    }
+    Ok(false)
+}

@@ -1,0 +1,44 @@
+//! A prefix of plans.
+ghost use Rattle.std.specs.Prelude.{◌≡◌, ◌≤◌, length};
+
+use smallvec::SmallVec;
+use std::alloc::Global;
+use std::marker::Model;
+
+/// The choices of the first legs of a plan, 1 to 8 of them, the first leg's first. It is seen as their list. It lies inline and takes no memory.
+#[derive(Drop)]
+pub struct Prefix {
+    choices: SmallVec<u16, 8>,
+}
+
+impl Model for Prefix {
+    ghost use Rattle.std.specs.Prelude.{List, ℕ, ◌≤◌, length};
+
+    ghost Value = { List ℕ };
+
+    ghost view = { λ p. p.choices.items };
+
+    ghost invariant = { λ p. (1 ≤ length p.choices.items) × (length p.choices.items ≤ 8) };
+}
+
+impl Prefix {
+    /// The prefix of these choices.
+    pub fn of(alloc: Global, choices: &[u16]) -> Prefix
+        requires some { 1 ≤ length choices.now }
+        requires few { length choices.now ≤ 8 }
+        ensures { result ≡ choices.now }
+    {
+        Prefix {
+            choices: SmallVec::from_slice(alloc, choices).unwrap(),
+        }
+    }
+
+    /// The choices.
+    pub fn choices(&self) -> &[u16]
+        ensures choices { result.now ≡ self.now }
+        ensures some { 1 ≤ length result.now }
+        ensures few { length result.now ≤ 8 }
+    {
+        self.choices.as_slice()
+    }
+}
