@@ -4,6 +4,7 @@ use Rattle.std.specs.Prelude.{slice_get, All, IsSomeAnd, ◌↔◌}
 use Rattle.std.specs.Int.Digits.{AllBelowBase}
 use Rattle.std.proofs.lemmas.Bool.{cases_lt}
 use Rattle.std.proofs.lemmas.List.Elements.{All-get_or}
+use Rattle.std.proofs.Math.Seq.{take-length}
 use Rattle.lattice.specs.Grids.{choices_of, plans_of}
 use Rattle.lattice.specs.PlanNumbers.{number_of, IsPlan}
 use Rattle.lattice.proofs.Digits.{below_plan_of, length-plan_of, number_plan_of}
@@ -13,13 +14,9 @@ use Rattle.situations.specs.Prefixes.{AreOneBlock, IsInBlock, reached}
 use Rattle.situations.specs.Reasons.{HasReason}
 use Rattle.situations.specs.declared.situation.Situation.{Situation}
 use Rattle.refutations.specs.GoodEntries.{IsGood}
-use Rattle.refutations.specs.RightLists.{behind, ends_from, first_of, IsEntry, IsFirstBad, IsRight, IsSoundAt}
+use Rattle.refutations.specs.RightLists.{behind, ends_from, first_of, IsEntry, IsRight, IsSoundAt}
 use Rattle.refutations.specs.declared.entry.WhyEntry.{WhyEntry}
 use Rattle.refutations.proofs.HeldReasons.{good_reason}
-
-pub take_length : {X : Type 0} (xs : List X) → take (length xs) xs ≡ xs
-take_length [] = refl
-take_length {X} (x ∷ xs) = ap (λ (ys : List X). x ∷ ys) (take_length xs)
 
 -- what holds of the element with an index
 
@@ -56,7 +53,7 @@ module _ (s : Situation) where
 
   -- A list that is right covers all plans.
   right_covers : (xs : List WhyEntry) (d : WhyEntry) → IsRight s xs → (number : ℕ) → number < choices_of s.lattice ^ s.lattice.legs → Some_ (IsCoveredBy s number) xs
-  right_covers xs d h number lt = covers xs d number (length xs) h.each (let all = take_length xs in rw all (omega (arith, h.whole)))
+  right_covers xs d h number lt = covers xs d number (length xs) h.each (let all = take-length xs in rw all (omega (arith, h.whole)))
 
   module _ (some : 0 < choices_of s.lattice)
       (blocks : (prefix : List ℕ) → AllBelowBase (choices_of s.lattice) prefix → length prefix ≤ s.lattice.legs → AreOneBlock s prefix)
@@ -84,12 +81,6 @@ module _ (s : Situation) where
 -- ---- what a check tells
 
 module _ (s : Situation) where
-  pub bad_not_right : (xs : List WhyEntry) (k : ℕ) → IsFirstBad s xs k → ¬ IsRight s xs
-  bad_not_right xs k bad right = elim (cases_lt k (length xs)) [
-    | inl lt ↦ bad.here lt (right.each k lt)
-    | inr from ↦ (let within = bad.within in let e : k ≡ length xs = omega arith in bad.short e right.whole)
-  ]
-
   -- one more sound entry
   pub sound_here : (xs : List WhyEntry) (k begin : ℕ) (entry : WhyEntry) → k < length xs → entry ≡ get_or xs k entry → begin ≡ ends_from s 0 (take k xs)
       → IsGood s entry → first_of s entry ≡ begin → IsSoundAt s xs k
@@ -102,16 +93,6 @@ module _ (s : Situation) where
   ends_here xs k end entry lt is ends =
       sym ends ∙ (ap (behind s) is ∙ (sym (ends_more s 0 xs k entry lt) ∙ ap (λ (n : ℕ). ends_from s 0 (take n xs)) (sym (add-one k))))
 
-  pub not_sound : (xs : List WhyEntry) (k begin : ℕ) (entry : WhyEntry) → entry ≡ get_or xs k entry → begin ≡ ends_from s 0 (take k xs)
-      → ¬ (IsGood s entry × (first_of s entry ≡ begin)) → ¬ IsSoundAt s xs k
-  not_sound xs k begin entry is covered none h =
-      let at = there (λ (e : WhyEntry). IsGood s e × (first_of s e ≡ ends_from s 0 (take k xs))) xs k h in
-      let both = subst (λ (e : WhyEntry). IsGood s e × (first_of s e ≡ ends_from s 0 (take k xs))) (sym is) (at.1 entry) in
-      none (both.0, both.1 ∙ sym covered)
-
-  pub first_bad : (xs : List WhyEntry) (k : ℕ) → k < length xs → ((j : ℕ) → j < k → IsSoundAt s xs j) → (¬ IsSoundAt s xs k) → IsFirstBad s xs k
-  first_bad xs k lt before none = record { within = omega arith; before = before; here = λ less. none; short = λ e. absurd (omega arith) }
-
   pub all_sound : (xs : List WhyEntry) (k n : ℕ) → length xs ≤ k → n ≡ ends_from s 0 (take k xs) → k ≤ length xs → n ≡ ends_from s 0 xs
   all_sound xs k n from covered to =
-      let e : k ≡ length xs = omega arith in covered ∙ ap (λ (i : ℕ). ends_from s 0 (take i xs)) e ∙ ap (ends_from s 0) (take_length xs)
+      let e : k ≡ length xs = omega arith in covered ∙ ap (λ (i : ℕ). ends_from s 0 (take i xs)) e ∙ ap (ends_from s 0) (take-length xs)

@@ -1,19 +1,17 @@
 -- The first good entry of a prefix: the first reason towards the first target that has one.
-use Rattle.std.proofs.Common.{◌≡◌, ◌∙◌, ℕ, ◌<◌, ◌≤◌, ◌⊎◌, inl, inr, List, length, take, get_or, refl, sym, ap, subst, arith, ◌^◌, Some, None}
-use Rattle.std.specs.Prelude.{Option, Bool, true, false, AllPairs, IfSome, IsNone, IsSomeAnd, ◌↔◌, ℤ, pos, neg_ℤ, ◌*ℤ◌, int_le, unsigned_abs, if◌then◌else◌, slice_index}
+use Rattle.std.proofs.Common.{◌≡◌, ◌∙◌, ℕ, ◌<◌, ◌≤◌, ◌⊎◌, inl, inr, List, length, take, get_or, sym, ap, subst, arith, ◌^◌}
+use Rattle.std.specs.Prelude.{Option, Bool, true, false, AllPairs, IsSomeAnd, pos, neg_ℤ, ◌*ℤ◌, int_le, unsigned_abs, if◌then◌else◌, slice_index}
 use Rattle.std.proofs.lemmas.Bool.{cases_lt}
-use Rattle.std.proofs.lemmas.List.{get_or-take}
+use Rattle.std.proofs.lemmas.List.{get_or-take, length-take-le}
 use Rattle.closest_approach.specs.Separation.{nearest_of}
 use Rattle.closest_approach.specs.declared.nearest.Moment.{Moment}
 use Rattle.encounters.specs.declared.pair_step.PairStep.{PairStep}
 use Rattle.fixed_geometry.specs.Plane.{dot_of, norm2_of}
-use Rattle.hull_domains.specs.Crossings.{entry_moment}
-use Rattle.hull_domains.specs.Domains.{IsInside, StaysOutside}
 use Rattle.meetings.specs.Traces.{step_at}
 use Rattle.motion.specs.Steps.{RelativeMove}
 use Rattle.mtl_formulas.specs.FormulaTree.{FormulaTree}
-use Rattle.situations.specs.Domains.{moment_by, moment_of, Enters, IsEntry as IsDomainEntry, IsInsideAt, IsInsideBy}
-use Rattle.situations.specs.FailingPlans.{BreaksARule, BreaksAt, EntersAt, EntersDomain, FailsBy, FailsTowards}
+use Rattle.situations.specs.Domains.{moment_of, Enters, IsEntry as IsDomainEntry, IsInsideAt}
+use Rattle.situations.specs.FailingPlans.{BreaksAt, EntersAt, EntersDomain, FailsBy, FailsTowards}
 use Rattle.situations.specs.Prefixes.{reached, steps_told, PrefixFails}
 use Rattle.situations.specs.Reasons.{HasReason, IsFirstBroken, IsFirstEntry, RuleBreaksAt}
 use Rattle.situations.specs.Situations.{own_at, target_at}
@@ -42,30 +40,6 @@ pub nearest_small : (step : RelativeMove) (l : ℕ) → pos l ≡ norm2_of step.
 unfolding nearest_of
 nearest_small step l e small =
     b_small (int_le (pos 0) (dot_of step.p step.w)) (int_le (pos 1 *ℤ norm2_of step.w) (neg_ℤ (dot_of step.p step.w))) (unsigned_abs (norm2_of step.w)) (unsigned_abs (dot_of step.p step.w)) (let same : l ≡ unsigned_abs (norm2_of step.w) = ap unsigned_abs e in omega arith)
-
-module _ (s : Situation) (T : Target) (pair : PairStep) (moment : Moment) (h : IsDomainEntry s T pair moment) where
-  pub small_by_shape : (shape : List (ℤ × ℤ)) (d : ℕ) → Some shape ≡ s.shape → Some d ≡ pair.b.direction → (o : Option Moment) → (IsNone o ↔ StaysOutside pair.step d shape)
-      → IfSome o (λ found. found ≡ entry_moment pair.step d shape) → IfSome o (λ found. (found.a ≤ found.b) × (0 < found.b) × (found.b < 2 ^ 60)) → moment.b < 2 ^ 60
-  small_by_shape shape d has heads None none is instant = absurd (none.0 refl moment.a moment.b h.within h.some (in_shape h.inside))
-    where
-      in_shape : IsInsideAt s T pair moment.a moment.b → IsInside pair.step d shape moment.a moment.b
-      in_shape inside =
-          subst (λ (e : Option ℕ). IsInsideBy (Some shape) e T.domain.radius pair.step moment.a moment.b) (sym heads)
-          (subst (λ (o : Option (List (ℤ × ℤ))). IsInsideBy o pair.b.direction T.domain.radius pair.step moment.a moment.b) (sym has) inside)
-  small_by_shape shape d has heads (Some found) none is instant = subst (λ (m : Moment). m.b < 2 ^ 60) (is ∙ same ∙ sym h.is) instant.2
-    where
-      same : entry_moment pair.step d shape ≡ moment_of s T pair
-      same = subst (λ (o : Option (List (ℤ × ℤ))). entry_moment pair.step d shape ≡ moment_by o pair.b.direction pair.step) has
-          (subst (λ (e : Option ℕ). entry_moment pair.step d shape ≡ moment_by (Some shape) e pair.step) heads refl)
-
-  pub small_by_circle : ((vertices : List (ℤ × ℤ)) (d : ℕ) → s.shape ≡ Some vertices → pair.b.direction ≡ Some d → ⊥) → (nearest_of pair.step 1).b < 2 ^ 60 → moment.b < 2 ^ 60
-  small_by_circle circle small = subst (λ (m : Moment). m.b < 2 ^ 60) (sym (h.is ∙ nearest s.shape pair.b.direction circle)) small
-    where
-      nearest : (shape : Option (List (ℤ × ℤ))) (direction : Option ℕ) → ((vertices : List (ℤ × ℤ)) (d : ℕ) → shape ≡ Some vertices → direction ≡ Some d → ⊥)
-          → moment_by shape direction pair.step ≡ nearest_of pair.step 1
-      nearest (Some shape) (Some d) circle = absurd (circle shape d refl refl)
-      nearest (Some shape) None circle = refl
-      nearest None direction circle = refl
 
 -- ---- the first reason towards a target
 
@@ -109,9 +83,6 @@ module _ (s : Situation) (X : List ℕ) (last : ℕ) (T : Target) where
         | inl earlier ↦ h.no_step_before step index earlier holds
         | inr both ↦ h.no_rule_before index both.1 (subst (λ (k : ℕ). RuleBreaksAt s X last T k index) both.0 holds)
       ]
-
-  pub none_towards : (¬ EntersDomain s X last T) → (¬ BreaksARule s X last T) → ¬ FailsTowards s X last T
-  none_towards no_entry no_break either = elim either [ inl h ↦ no_entry h | inr h ↦ no_break h ]
 
   pub holds_fails : (reason : Reason) → Holds s X last T reason → FailsTowards s X last T
   holds_fails reason h = by (has_reason s X last T reason h)
@@ -181,3 +152,26 @@ module _ (s : Situation) (some : 1 ≤ s.lattice.legs) (prefix plan : List ℕ) 
           let facts = found.1.1 T in
           none_before other.target other.reason found.0 facts.0 found.1.0 (subst (λ (p : List ℕ). HoldsFor s p (get_or s.targets found.0 T) other.reason) same facts.1) precedes;
     }
+
+-- ---- where the prefix is the first legs of the plan
+
+module _ (s : Situation) (some : 1 ≤ s.lattice.legs) (plan prefix : List ℕ) (legs until : ℕ) (is : prefix ≡ take legs plan) (le : legs ≤ length plan) (told : until ≡ reached s legs) where
+  lasts : length prefix ≡ legs
+  lasts = ap length is ∙ length-take-le legs plan le
+
+  extends : take (length prefix) plan ≡ prefix
+  extends = ap (λ (n : ℕ). take n plan) lasts ∙ sym is
+
+  same : until ≡ reached s (length prefix)
+  same = told ∙ ap (reached s) (sym lasts)
+
+  pub passes_at : (¬ FailsBy s until plan) → ¬ PrefixFails s prefix
+  passes_at passes h = passes (subst (λ (last : ℕ). FailsBy s last plan) (sym same) (prefix_fails_too s some prefix plan extends h))
+
+  pub first_good_at : (k : ℕ) (T : Target) (reason : Reason) → k < length s.targets → T ≡ get_or s.targets k T → AllPairs (λ (a b : Target). a.mmsi < b.mmsi) s.targets
+      → ((i : ℕ) (d : Target) → i < k → ¬ FailsTowards s plan until (get_or s.targets i d)) → IsFirstTowards s plan until T reason
+      → IsFirstGood s (record { prefix = prefix; target = T.mmsi; reason = reason })
+  first_good_at k T reason lt at ascending before h =
+      first_good s some prefix plan extends k T reason lt at ascending
+      (subst (λ (last : ℕ). (i : ℕ) (d : Target) → i < k → ¬ FailsTowards s plan last (get_or s.targets i d)) same before)
+      (subst (λ (last : ℕ). IsFirstTowards s plan last T reason) same h)

@@ -1,10 +1,10 @@
 -- The walk over the prefixes.
 use Rattle.std.proofs.Common.{ℕ, zero, suc, ◌≡◌, ◌∙◌, ◌+◌, ◌*◌, ◌-◌, ◌^◌, ◌≤◌, ◌<◌, ◌⊎◌, inl, inr, List, [], ◌∷◌, ◌++◌, length, length-append, take, refl, arith, ap, sym, subst, add-one}
 use Rattle.std.specs.Prelude.{slice_get, All, IsSomeAnd, ◌↔◌}
-use Rattle.std.proofs.lemmas.List.{take-append-le}
+use Rattle.std.proofs.lemmas.List.{take-append-le, take-take}
 use Rattle.std.proofs.lemmas.List.Elements.{All-from_get_or}
 use Rattle.std.proofs.Math.Nat.{pow-suc, mul-le-mul_right}
-use Rattle.std.proofs.Math.Seq.{take-append_seam}
+use Rattle.std.proofs.Math.Seq.{take-append_seam, take-length}
 use Rattle.lattice.specs.Grids.{choices_of, plans_of}
 use Rattle.lattice.specs.PlanNumbers.{plan_of, number_of}
 use Rattle.lattice.proofs.Digits.{length-plan_of, number_plan_of, plan_push}
@@ -14,12 +14,12 @@ use Rattle.situations.specs.Prefixes.{reached, PrefixFails}
 use Rattle.situations.specs.Reasons.{HasReason}
 use Rattle.situations.specs.declared.situation.Situation.{Situation}
 use Rattle.situations.proofs.ForCallers.{first_plan_begins, reached_end}
-use Rattle.refutations.specs.CanonicalLists.{IsCanonical, IsCanonicalFor, IsFirstGood, SomePlanPasses}
+use Rattle.refutations.specs.CanonicalLists.{IsCanonicalFor, IsFirstGood, SomePlanPasses}
 use Rattle.refutations.specs.GoodEntries.{IsGood}
 use Rattle.refutations.specs.Inner.Walks.{first_extension, IsNext, IsWalkedTo, NoneIsShorter}
 use Rattle.refutations.specs.RightLists.{behind, ends_from, first_of, IsEntry, IsRight}
 use Rattle.refutations.specs.declared.entry.WhyEntry.{WhyEntry}
-use Rattle.refutations.proofs.Blocks.{take_length, there}
+use Rattle.refutations.proofs.Blocks.{there}
 use Rattle.refutations.proofs.HeldReasons.{good_reason}
 
 -- ---- lists with one more element
@@ -33,20 +33,8 @@ get_last : {X : Type 0} (P : X → Type 0) (xs : List X) (y : X) → P y → IsS
 get_last P [] y p = p
 get_last P (x ∷ xs) y p = get_last P xs y p
 
-take_all : {X : Type 0} (xs : List X) (y : X) → take (length xs) (xs ++ y ∷ []) ≡ xs
-take_all [] y = refl
-take_all {X} (x ∷ xs) y = ap (λ (ys : List X). x ∷ ys) (take_all xs y)
-
 last_or_before : (k n : ℕ) → k < n + 1 → (k < n) ⊎ (n ≡ k)
 last_or_before k n lt = grind arith
-
--- ---- fronts of fronts
-
-pub front_of_front : {X : Type 0} (i j : ℕ) (xs : List X) → i ≤ j → take i (take j xs) ≡ take i xs
-front_of_front zero j xs le = refl
-front_of_front (suc i) zero xs le = absurd (omega arith)
-front_of_front (suc i) (suc j) [] le = refl
-front_of_front {X} (suc i) (suc j) (x ∷ xs) le = ap (λ (ys : List X). x ∷ ys) (front_of_front i j xs (omega arith))
 
 -- ---- the prefixes of plans, by their numbers
 
@@ -60,7 +48,7 @@ same_legs c legs k n choice some lt less =
     let front : take k (plan_of c k n ++ choice ∷ []) ≡ plan_of c k n =
     subst (λ (i : ℕ). take i (plan_of c k n ++ choice ∷ []) ≡ plan_of c k n) (length-plan_of c k n) (take-append_seam (plan_of c k n) (choice ∷ [])) in
     let plan = plan_of c legs ((n * c + choice) * c ^ (legs - (k + 1))) in
-    sym (front_of_front k (k + 1) plan (omega arith)) ∙ (ap (take k) (longer ∙ one_leg) ∙ (front ∙ sym shorter))
+    sym (take-take k (k + 1) plan (omega arith)) ∙ (ap (take k) (longer ∙ one_leg) ∙ (front ∙ sym shorter))
 
 -- the block of a prefix is made of those of the prefixes with one more leg
 
@@ -82,9 +70,6 @@ module _ (s : Situation) where
   ends_append from [] entry = refl
   ends_append from (x ∷ xs) entry = ends_append (behind s x) xs entry
 
-  pub none_yet : (end : ℕ) → end ≡ 0 → IsWalkedTo s [] end
-  none_yet end e = record { each = λ k lt. absurd (omega arith); ends = sym e }
-
   -- one more entry
   pub one_more : (xs new : List WhyEntry) (entry : WhyEntry) (n end : ℕ) → IsWalkedTo s xs n → new ≡ xs ++ entry ∷ [] → IsNext s xs entry → behind s entry ≡ end
       → IsWalkedTo s new end
@@ -94,7 +79,7 @@ module _ (s : Situation) where
           rw (front, get_append xs entry k less) (old.each k less))
       | inr same ↦ subst (λ (i : ℕ). IsSomeAnd (slice_get (xs ++ entry ∷ []) i) (IsNext s (take i (xs ++ entry ∷ [])))) same
           (get_last (IsNext s (take (length xs) (xs ++ entry ∷ []))) xs entry
-          (let front : take (length xs) (xs ++ entry ∷ []) ≡ xs = take_all xs entry in rw front next))
+          (let front : take (length xs) (xs ++ entry ∷ []) ≡ xs = take-append_seam xs (entry ∷ []) in rw front next))
     ];
     ends = ends_append 0 xs entry ∙ ends;
   })
@@ -147,15 +132,12 @@ module _ (s : Situation) where
           let front : take k next ≡ take k plan = same_legs (choices_of s.lattice) s.lattice.legs k n choice some lt less in
           let i = length entry.prefix in
           let within : i ≤ k = omega arith in
-          let begins : entry.prefix ≡ take i plan = same ∙ (sym (front_of_front i k next within) ∙ (ap (take i) front ∙ front_of_front i k plan within)) in
+          let begins : entry.prefix ≡ take i plan = same ∙ (sym (take-take i k next within) ∙ (ap (take i) front ∙ take-take i k plan within)) in
           elim (last_or_before i k shorter) [
             | inl before ↦ above.none entry one before begins
             | inr last ↦ not_good (take k plan) entry (begins ∙ ap (λ (j : ℕ). take j plan) (sym last)) (passes (omega arith))
           ];
     }
-
-  pub none_at_root : (plan : List ℕ) → NoneIsShorter s 0 plan
-  none_at_root plan = record { none = λ entry one shorter same. absurd (omega arith) }
 
   -- ---- a whole plan that does not fail
 
@@ -163,7 +145,7 @@ module _ (s : Situation) where
   whole_passes n known passes =
       let long = length-plan_of (choices_of s.lattice) s.lattice.legs n in
       let whole : take s.lattice.legs (numbered s n) ≡ numbered s n =
-      subst (λ (i : ℕ). take i (numbered s n) ≡ numbered s n) long (take_length (numbered s n)) in
+      subst (λ (i : ℕ). take i (numbered s n) ≡ numbered s n) long (take-length (numbered s n)) in
       let end = reached_end s (length (numbered s n)) (omega arith) in
       record {
         number = n;
@@ -178,13 +160,6 @@ module _ (s : Situation) where
   next_weaker P before [] k f h = h
   next_weaker P before (x ∷ xs) zero f h = f x h
   next_weaker P before (x ∷ xs) (suc k) f h = next_weaker P before xs k f h
-
-  pub walked_canonical : (xs : List WhyEntry) → IsWalkedTo s xs (plans_of s.lattice) → IsCanonical s xs
-  walked_canonical xs h = record {
-    each = λ k lt. next_weaker (λ entry. IsEntry s entry × IsCanonicalFor s (numbered s (ends_from s 0 (take k xs))) entry) (take k xs) xs k
-        (λ entry next. (next.is, next.canonical)) (h.each k lt);
-    ends = h.ends;
-  }
 
   pub walked_right : (xs : List WhyEntry) → IsWalkedTo s xs (plans_of s.lattice) → IsRight s xs
   walked_right xs h = record {

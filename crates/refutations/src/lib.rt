@@ -2,11 +2,13 @@
 //!
 //! A list of entries says of every plan of own ship why it fails. An entry is a prefix of plans, the choices of their first legs, with a target and a
 //! reason: own ship is inside the target's domain at an instant of a step, or a rule is newly broken at a step. It is good where its reason holds in what
-//! the prefix tells of the trace, and then every plan that extends the prefix fails for that reason. [`check`] judges a list with no search.
+//! the prefix tells of the trace, and then every plan that extends the prefix fails for that reason. [`explain`] gives the canonical list where no plan
+//! passes, and [`check`] judges any list with no search.
 #![tactic(auto)]
 
 mod check_list;
 mod entry;
+mod explaining;
 mod goodness;
 mod instants;
 pub mod laws;
@@ -15,4 +17,5 @@ mod prefix;
 
 pub use check_list::check;
 pub use entry::{Checked, Reason, WhyEntry};
+pub use explaining::explain;
 pub use prefix::Prefix;

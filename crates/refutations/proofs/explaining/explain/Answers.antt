@@ -1,0 +1,24 @@
+use Rattle.std.proofs.Common.{ℕ, ◌≡◌, ◌∙◌, ◌*◌, ◌-◌, ◌^◌, arith, ap, subst}
+use Rattle.lattice.specs.Grids.{choices_of, plans_of}
+use Rattle.refutations.specs.Inner.Walks.{first_extension, IsWalkedTo}
+use Rattle.refutations.proofs.Walking.{walked_entries, walked_right}
+use Rattle.refutations.proofs.explaining.explain.Goals as goal
+
+walked : (c : goal.Then-branch) → IsWalkedTo c.args.situation.now c.explore.new.list.items (plans_of c.args.situation.now.lattice)
+walked c =
+    let s = c.args.situation.now in
+    let whole : s.lattice.legs - 0 ≡ s.lattice.legs = omega arith in
+    let one : 1 * choices_of s.lattice ^ s.lattice.legs ≡ choices_of s.lattice ^ s.lattice.legs = omega arith in
+    let end : first_extension s 0 1 ≡ plans_of s.lattice = ap (λ (k : ℕ). 1 * choices_of s.lattice ^ k) whole ∙ one in
+    subst (IsWalkedTo s c.explore.new.list.items) end (c.in_ok-explore.ensures.list c.if-branch.true)
+
+pub returns-then-branch-clause-none : goal.returns-then-branch-clause-none
+returns-then-branch-clause-none c =
+    let s = c.args.situation.now in
+    let xs = c.explore.new.list.items in
+    let all = walked_entries s xs (plans_of s.lattice) (walked c) in
+    let fail = c.a_right_list_refutes.ensures xs all (walked_right s xs (walked c)) in
+    (λ impossible. cc, λ some. absurd (some.passes (fail some.number some.known)))
+
+pub returns-then-branch-clause-entries : goal.returns-then-branch-clause-entries
+returns-then-branch-clause-entries c = walked_entries c.args.situation.now c.explore.new.list.items (plans_of c.args.situation.now.lattice) (walked c)
