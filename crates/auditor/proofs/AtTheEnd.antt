@@ -5,7 +5,8 @@ use Rattle.mtl_formulas.specs.FormulaTree.{FormulaTree}
 use Rattle.audit_rows.specs.Tracks.{EndAt, Track}
 use Rattle.traces.specs.Audited.{AuditNumbers}
 use Rattle.traces.specs.Known.{Known}
-use Rattle.auditor.specs.TraceKeeping.{AreRuleMarksWhole, AreRuleTracks, AreTracks, formulas_of}
+use Rattle.auditor.specs.TraceKeeping.{AreRuleMarksWhole, AreRuleTracks, AreTracks}
+use Rattle.auditor.specs.SettledRows.{formulas_of}
 use Rattle.auditor.specs.Inner.AuditKeeping.{AreTracksOfAll}
 use Rattle.auditor.specs.Inner.TracesKept.{IsAtStep}
 use Rattle.traces.proofs.ForCallers.{in_head, in_tail}

@@ -2,7 +2,7 @@
 use Rattle.std.proofs.Common.{◌≡◌, ℕ, ◌+◌, ◌-◌, ◌<◌, ◌≤◌, zero, suc, inl, inr, List, [], ◌∷◌, length, map, ap, subst, arith}
 use Rattle.std.specs.List.{Contains}
 use Rattle.mtl_formulas.specs.FormulaMeasures.{reach_of}
-use Rattle.mtl_monitor.specs.Following.{greatest_reach}
+use Rattle.mtl_monitor.specs.Reaches.{greatest_reach}
 use Rattle.rule_set.specs.NamedTrees.{NamedTree, rule_at}
 use Rattle.audit_rows.specs.Tracks.{AreSettled, Track, next_step}
 use Rattle.audit_rows.proofs.ForCallers.{settled_by_reach}
@@ -11,8 +11,9 @@ use Rattle.traces.specs.Known.{AreKnown, Known}
 use Rattle.traces.proofs.ForCallers.{in_cons, known_within, steps_count}
 use Rattle.auditor.specs.Inner.AuditKeeping.{AreAllTracks}
 use Rattle.auditor.specs.Inner.TracesKept.{IsAtStep}
-use Rattle.auditor.specs.Standing.{settled_by}
-use Rattle.auditor.specs.TraceKeeping.{AreRuleMarksSoFar, AreTracksSoFar, formulas_of}
+use Rattle.auditor.specs.SettledRows.{settled_by}
+use Rattle.auditor.specs.TraceKeeping.{AreRuleMarksSoFar, AreTracksSoFar}
+use Rattle.auditor.specs.SettledRows.{formulas_of}
 use Rattle.auditor.proofs.Growing.{each_track}
 use Rattle.auditor.proofs.TracksOf.{found_rule, found_trace}
 

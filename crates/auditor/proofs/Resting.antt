@@ -6,7 +6,8 @@ use Rattle.mtl_formulas.specs.FormulaMeasures.{reach_of}
 use Rattle.mtl_formulas.specs.declared.atom.Atom.{Atom}
 use Rattle.mtl_formulas.specs.declared.verdict.Verdict.{Verdict}
 use Rattle.mtl_formulas.specs.declared.verdict.Verdict.TheVariants.{No, Open, Yes}
-use Rattle.mtl_monitor.specs.Following.{Follows, GivesTheSame, IsFed, formula_at, greatest_reach, last_value}
+use Rattle.mtl_monitor.specs.Following.{Follows, GivesTheSame, IsFed, formula_at, last_value}
+use Rattle.mtl_monitor.specs.Reaches.{greatest_reach}
 use Rattle.mtl_monitor.specs.Inner.Standing.{root_at, tree_at, late_at}
 use Rattle.mtl_monitor.specs.Traces.{Trace, value_in}
 use Rattle.mtl_monitor.specs.declared.program.Program.{Program}
@@ -22,7 +23,8 @@ use Rattle.traces.specs.Known.{Known, watched}
 use Rattle.auditor.specs.AuditTracks.{IsMeetingMark}
 use Rattle.auditor.specs.ValueMarks.{mark_of}
 use Rattle.audit_rows.specs.Inner.Queues.{StandsFor as Keeps}
-use Rattle.auditor.specs.TraceKeeping.{AreRuleMarksSoFar, AreRuleTracks, AreTracksSoFar, IsRuleTrack, StandsFor, Steps, formulas_of}
+use Rattle.auditor.specs.TraceKeeping.{AreRuleMarksSoFar, AreRuleTracks, AreTracksSoFar, IsRuleTrack, StandsFor, Steps}
+use Rattle.auditor.specs.SettledRows.{formulas_of}
 use Rattle.audit_rows.specs.declared.row_queue.RowQueue.{RowQueue}
 use Rattle.auditor.specs.declared.trace.AuditTrace.{AuditTrace}
 use Rattle.auditor.proofs.TraceKeeping.{MarksMeeting, meeting_longer}

@@ -1,6 +1,6 @@
 -- One tick of the whole audit.
 use Rattle.std.proofs.Common.{◌≡◌, ℕ, ◌+◌, ◌-◌, ◌≤◌, List, [], ◌∷◌, ◌++◌, length, length-append, sym, subst, arith}
-use Rattle.mtl_monitor.specs.Following.{greatest_reach}
+use Rattle.mtl_monitor.specs.Reaches.{greatest_reach}
 use Rattle.audit_rows.specs.Rows.{AreRowsBelow}
 use Rattle.audit_rows.specs.Tracks.{AreSettled, Track}
 use Rattle.audit_rows.specs.declared.row.Row.{Row}
@@ -8,9 +8,9 @@ use Rattle.traces.specs.Audited.{AuditNumbers, Sighting}
 use Rattle.traces.specs.Known.{AreKnown, Known}
 use Rattle.auditor.specs.AuditRows.{AreAuditRowsBelow}
 use Rattle.auditor.specs.Inner.AuditKeeping.{AreAllTracks}
-use Rattle.auditor.specs.Standing.{settled_by}
+use Rattle.auditor.specs.SettledRows.{settled_by}
 use Rattle.audit_rows.specs.Inner.Queues.{StandsFor as Keeps}
-use Rattle.auditor.specs.TraceKeeping.{formulas_of}
+use Rattle.auditor.specs.SettledRows.{formulas_of}
 use Rattle.audit_rows.specs.declared.row_queue.RowQueue.{RowQueue}
 use Rattle.auditor.proofs.NextTick.{settled}
 use Rattle.auditor.proofs.RowsOf.{audit_rows_below}

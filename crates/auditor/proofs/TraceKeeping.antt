@@ -3,7 +3,8 @@ use Rattle.std.proofs.Common.{◌≡◌, ℕ, ◌+◌, ◌<◌, Bool, true, List
 use Rattle.std.specs.Prelude.{Option}
 use Rattle.mtl_formulas.specs.declared.atom.Atom.{Atom}
 use Rattle.mtl_formulas.specs.declared.verdict.Verdict.{Verdict}
-use Rattle.mtl_monitor.specs.Following.{Closes, IsEnded, IsFed, count_of, formula_at, greatest_reach, past_of}
+use Rattle.mtl_monitor.specs.Following.{Closes, IsEnded, IsFed, count_of, formula_at, past_of}
+use Rattle.mtl_monitor.specs.Reaches.{greatest_reach}
 use Rattle.mtl_monitor.specs.declared.program.Program.{Program}
 use Rattle.encounters.specs.Standing.{IsStateAfter}
 use Rattle.encounters.specs.declared.engagement_state.EngagementState.{EngagementState}
@@ -18,7 +19,8 @@ use Rattle.traces.specs.Known.{Known, watched}
 use Rattle.auditor.specs.AuditTracks.{IsMeetingMark}
 use Rattle.auditor.specs.Inner.RowAnswers.{AwaitAll, MarksRules, answered_all}
 use Rattle.audit_rows.specs.Inner.Queues.{StandsFor as Keeps}
-use Rattle.auditor.specs.TraceKeeping.{AreRuleMarksSoFar, AreTracks, AreTracksSoFar, HasTracksOf, IsMeetingTrack, StandsFor, Steps, formulas_of}
+use Rattle.auditor.specs.TraceKeeping.{AreRuleMarksSoFar, AreTracks, AreTracksSoFar, HasTracksOf, IsMeetingTrack, StandsFor, Steps}
+use Rattle.auditor.specs.SettledRows.{formulas_of}
 use Rattle.audit_rows.specs.declared.row_queue.RowQueue.{RowQueue}
 use Rattle.auditor.specs.declared.trace.AuditTrace.{AuditTrace}
 use Rattle.auditor.proofs.TraceTracks.{AreRuleMarksPast, all_brought, answers_all, apart_repeats, ended_marks, fed_marks, first_tracks, marks_then, meeting_stays, whole_tracks}

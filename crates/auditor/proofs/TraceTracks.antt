@@ -7,7 +7,8 @@ use Rattle.mtl_formulas.specs.FormulaTree.{FormulaTree}
 use Rattle.mtl_formulas.specs.FormulaMeasures.{reach_of}
 use Rattle.mtl_formulas.specs.declared.atom.Atom.{Atom}
 use Rattle.mtl_formulas.specs.declared.verdict.Verdict.{Verdict}
-use Rattle.mtl_monitor.specs.Following.{IsEnded, IsFed, formula_at, greatest_reach}
+use Rattle.mtl_monitor.specs.Following.{IsEnded, IsFed, formula_at}
+use Rattle.mtl_monitor.specs.Reaches.{greatest_reach}
 use Rattle.mtl_monitor.specs.Traces.{Trace, value_in}
 use Rattle.mtl_monitor.specs.declared.program.Program.{Program}
 use Rattle.mtl_monitor.specs.declared.trace_state.TraceState.{TraceState}

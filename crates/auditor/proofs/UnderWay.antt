@@ -26,7 +26,8 @@ use Rattle.traces.proofs.ForCallers.{different_pairs, in_head, in_tail, known_co
 use Rattle.auditor.specs.Inner.AuditKeeping.{AreAllTracks, AreTracksOfAll}
 use Rattle.auditor.specs.Inner.TracesKept.{AreFinished, AreStepped, Holds, IsAtStep}
 use Rattle.audit_rows.specs.Inner.Queues.{StandsFor as Keeps}
-use Rattle.auditor.specs.TraceKeeping.{AreRuleMarksSoFar, AreRuleMarksWhole, AreRuleTracks, AreTracks, AreTracksSoFar, HasTracksOf, IsNextRow, StandsFor, Steps, formulas_of}
+use Rattle.auditor.specs.TraceKeeping.{AreRuleMarksSoFar, AreRuleMarksWhole, AreRuleTracks, AreTracks, AreTracksSoFar, HasTracksOf, IsNextRow, StandsFor, Steps}
+use Rattle.auditor.specs.SettledRows.{formulas_of}
 use Rattle.audit_rows.specs.declared.row_queue.RowQueue.{RowQueue}
 use Rattle.auditor.specs.declared.trace.AuditTrace.{AuditTrace}
 use Rattle.auditor.specs.declared.trace.NextRow.{NextRow}

@@ -7,6 +7,7 @@ pub use Rattle.meetings.specs.Traces
 pub use Rattle.mtl_monitor.specs.Traces as MonitorTraces
 pub use Rattle.rule_set.specs.NamedTrees
 pub use Rattle.traces.specs.Audited
+pub mod SettledRows
 pub mod ValueMarks
 pub mod AuditTracks
 pub mod RuleCounts

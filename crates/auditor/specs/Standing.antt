@@ -1,22 +1,13 @@
 -- What an audit stands for: its numbers, the vessels seen at the ticks that it was given, and the rows that it has given.
 use Rattle.std.specs.Prelude.{ℕ, ◌≡◌, ◌+◌, ◌-◌, ◌≤◌, List, length, All}
-use Rattle.mtl_monitor.specs.Following.{IsProgramOf, count_of, greatest_reach}
+use Rattle.mtl_monitor.specs.Following.{IsProgramOf, count_of}
 use Rattle.audit_rows.specs.declared.row.Row.{Row}
 use Rattle.traces.specs.Audited.{AuditNumbers, Sighting}
 use Rattle.traces.specs.Known.{AreKnown, Known}
 use Rattle.traces.specs.Standing as followed
 use Rattle.auditor.specs.Inner.TracesKept.{Holds, IsReady}
-use Rattle.auditor.specs.TraceKeeping.{formulas_of}
+use Rattle.auditor.specs.SettledRows.{formulas_of, settled_by}
 use Rattle.auditor.specs.declared.audit.Audit.{Audit}
-
--- how many positions ahead the farthest of the rules looks
-abbrev pub audit_reach : AuditNumbers → ℕ
-audit_reach numbers = greatest_reach (formulas_of numbers)
-
--- The rows whose last step is below this bound are decided once tick k was given: the farthest rule looks so far ahead, and one
--- further position tells that a stretch has ended.
-abbrev pub settled_by : AuditNumbers → ℕ → ℕ
-settled_by numbers k = k - (audit_reach numbers + 1)
 
 -- ---- what the audit is asked
 

@@ -1,5 +1,5 @@
 -- What is kept of one trace so far, and its tracks.
-use Rattle.std.specs.Prelude.{ℕ, ◌≡◌, ◌+◌, ◌-◌, ◌<◌, List, [], ◌∷◌, ◌++◌, length, map, Option}
+use Rattle.std.specs.Prelude.{ℕ, ◌≡◌, ◌+◌, ◌-◌, ◌<◌, List, [], ◌∷◌, ◌++◌, length, Option}
 use Rattle.std.specs.Option.{option_copied}
 use Rattle.mtl_formulas.specs.FormulaTree.{FormulaTree}
 use Rattle.mtl_formulas.specs.FormulaMeasures.{reach_of}
@@ -18,6 +18,7 @@ use Rattle.audit_rows.specs.declared.mark.Mark.{Mark}
 use Rattle.audit_rows.specs.declared.topic.Topic.TheVariants as topic
 use Rattle.traces.specs.Audited.{AuditNumbers, terms_of}
 use Rattle.traces.specs.Known.{Known, watched}
+use Rattle.auditor.specs.SettledRows.{formulas_of}
 use Rattle.auditor.specs.AuditTracks.{IsMeetingMark}
 use Rattle.auditor.specs.ValueMarks.{mark_of}
 use Rattle.audit_rows.specs.declared.row.Row.{Row}
@@ -25,9 +26,6 @@ use Rattle.audit_rows.specs.Inner.Queues.{StandsFor as QueueStandsFor}
 use Rattle.audit_rows.specs.declared.row_queue.RowQueue.{RowQueue}
 use Rattle.auditor.specs.declared.trace.AuditTrace.{AuditTrace}
 use Rattle.auditor.specs.declared.trace.NextRow.{NextRow}
-
-abbrev pub formulas_of : AuditNumbers → List FormulaTree
-formulas_of numbers = map (λ rule. rule.tree) numbers.rules
 
 -- ---- its tracks
 

@@ -5,12 +5,13 @@ ghost use Rattle.mtl_monitor.specs.Following.{IsProgramOf, count_of};
 ghost use Rattle.rule_set.specs.NamedTrees.{NamedTree};
 ghost use Rattle.audit_rows.specs.declared.row.Row.{Row};
 ghost use Rattle.traces.specs.Audited.{AreAscending, ArePlaced, MoveLittle, AuditNumbers, Sighting};
-ghost use Rattle.traces.specs.Standing.{HaveMoreThan};
+ghost use Rattle.traces.specs.ManyTraces.{HaveMoreThan};
 ghost use Rattle.traces.specs.declared.all_traces.TheConstants.{MOST_TRACES};
 ghost use Rattle.traces.specs.declared.fault.TickFault.TheVariants.{TooManyPairs};
 ghost use Rattle.auditor.specs.AuditRows.{AreAuditRows, AreAuditRowsBelow};
 ghost use Rattle.auditor.specs.AuditTotals.{AreTotals};
-ghost use Rattle.auditor.specs.Standing.{IsSound, StandsFor, given_of, last_tick_of, latest_sighting, settled_by};
+ghost use Rattle.auditor.specs.Standing.{IsSound, StandsFor, given_of, last_tick_of, latest_sighting};
+ghost use Rattle.auditor.specs.SettledRows.{settled_by};
 
 use crate::counting::totals_of;
 use crate::each_trace::{begin_each, end_each, follow_each};

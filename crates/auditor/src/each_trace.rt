@@ -12,7 +12,8 @@ ghost use Rattle.auditor.specs.Inner.AuditKeeping.{AreAllTracks};
 ghost use Rattle.auditor.specs.Inner.TracesKept.{AreFinished, AreStepped, Holds, IsReady};
 ghost use Rattle.audit_rows.specs.Inner.Queues.{StandsFor as QueueStandsFor};
 ghost use Rattle.auditor.specs.Tallies.{IsUnknown, begun_tracks};
-ghost use Rattle.auditor.specs.TraceKeeping.{StandsFor, formulas_of};
+ghost use Rattle.auditor.specs.TraceKeeping.{StandsFor};
+ghost use Rattle.auditor.specs.SettledRows.{formulas_of};
 ghost use Rattle.traces.specs.declared.all_traces.TheConstants.{MOST_TRACES};
 
 use crate::trace::{AuditTrace, NextRow};

@@ -91,12 +91,14 @@ impl AuditTrace {
     ghost use Rattle.meetings.specs.Answers.{answer_of};
     ghost use Rattle.meetings.specs.declared.pair.Pair.{Pair};
     ghost use Rattle.mtl_formulas.specs.FormulaTree.{FormulaTree};
-    ghost use Rattle.mtl_monitor.specs.Following.{Fits, IsProgramOf, count_of, fed_of, greatest_reach};
+    ghost use Rattle.mtl_monitor.specs.Following.{Fits, IsProgramOf, count_of, fed_of};
+    ghost use Rattle.mtl_monitor.specs.Reaches.{greatest_reach};
     ghost use Rattle.mtl_monitor.specs.declared.program.Program.{Program};
     ghost use Rattle.traces.specs.Audited.{AuditNumbers};
     ghost use Rattle.traces.specs.Known.{Known, opened};
     ghost use Rattle.auditor.specs.Inner.RowAnswers.{MarksRule, MarksRules};
-    ghost use Rattle.auditor.specs.TraceKeeping.{AreTracksSoFar, HasTracksOf, IsNextRow, IsReady, StandsFor, Steps, formulas_of, steps_of};
+    ghost use Rattle.auditor.specs.TraceKeeping.{AreTracksSoFar, HasTracksOf, IsNextRow, IsReady, StandsFor, Steps, steps_of};
+    ghost use Rattle.auditor.specs.SettledRows.{formulas_of};
 
     /// The trace that begins at a step, of which there are none yet.
     pub fn new(alloc: Global, program: &Program, start: u32) -> Result<AuditTrace, Memory>

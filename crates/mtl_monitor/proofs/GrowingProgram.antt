@@ -9,7 +9,8 @@ use Rattle.mtl_monitor.specs.declared.node.ProgramNode.{ProgramNode}
 use Rattle.mtl_monitor.specs.declared.program.Program.{Program}
 use Rattle.mtl_monitor.specs.Inner.Standing.{root_at, AllValid, AllBelow, AllInside}
 use Rattle.mtl_monitor.specs.Inner.Compiling.{Compiled, compiled}
-use Rattle.mtl_monitor.specs.Following.{formula_at, greatest_reach, IsRoot, IsProgramOf}
+use Rattle.mtl_monitor.specs.Following.{formula_at, IsRoot, IsProgramOf}
+use Rattle.mtl_monitor.specs.Reaches.{greatest_reach}
 use Rattle.mtl_monitor.specs.Growing.{GrowsBy}
 use Rattle.mtl_monitor.proofs.Gaining.{Grown, IsTree}
 use Rattle.mtl_monitor.proofs.Joining.{late_kept}

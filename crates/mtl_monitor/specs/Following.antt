@@ -1,6 +1,6 @@
 -- What a program and the state of a trace stand for. A reader has only to know that a new state follows no rows, how each call
 -- takes this on, and what the answers are: what the nodes keep for it is of no matter here.
-use Rattle.std.specs.Prelude.{◌≡◌, ℕ, ◌+◌, ◌-◌, ◌<◌, ◌≤◌, max, List, [], ◌∷◌, ◌++◌, length, get_or, ◌⊎◌, Option, Some, None, true, false}
+use Rattle.std.specs.Prelude.{◌≡◌, ℕ, ◌+◌, ◌-◌, ◌<◌, ◌≤◌, List, [], ◌∷◌, ◌++◌, length, get_or, ◌⊎◌, Option, Some, None, true, false}
 use Rattle.mtl_formulas.specs.declared.atom.Atom.TheVariants.{Always}
 use Rattle.mtl_formulas.specs.declared.verdict.Verdict.{Verdict}
 use Rattle.mtl_formulas.specs.FormulaTree.{FormulaTree, leaf}
@@ -9,6 +9,7 @@ use Rattle.mtl_monitor.specs.declared.building.Operand.{Operand}
 use Rattle.mtl_monitor.specs.declared.node.ProgramNode.{ProgramNode}
 use Rattle.mtl_monitor.specs.declared.program.Program.{Program}
 use Rattle.mtl_monitor.specs.declared.trace_state.TraceState.{TraceState}
+use Rattle.mtl_monitor.specs.Reaches.{greatest_reach}
 use Rattle.mtl_monitor.specs.Traces.{Trace, value_in}
 use Rattle.mtl_monitor.specs.Inner.Steps.{value_at}
 use Rattle.mtl_monitor.specs.Inner.Standing.{tree_at, late_at, root_at, Sound, KeepAll, GiveAll}
@@ -19,11 +20,6 @@ use Rattle.mtl_monitor.specs.Inner.Reading.{AreAllListed, AreKnown}
 -- the formula with this index
 abbrev pub formula_at : List FormulaTree → ℕ → FormulaTree
 formula_at formulas k = get_or formulas k (leaf Always)
-
--- how many positions ahead the farthest of the formulas looks
-abbrev pub greatest_reach : List FormulaTree → ℕ
-greatest_reach [] = 0
-greatest_reach (t ∷ ts) = max (reach_of t) (greatest_reach ts)
 
 -- The node computes the formula, as late as that reaches.
 pub record IsRoot (nodes : List ProgramNode) (trees : List FormulaTree) (root : Operand) (t : FormulaTree) : Type 0 where

@@ -42,7 +42,8 @@ impl Program {
     ghost use Rattle.std.specs.Prelude.{IfOk, List, [], ◌∷◌, ◌++◌, ◌+◌};
     ghost use Rattle.mtl_formulas.specs.FormulaTree.{FormulaTree, tree_of};
     ghost use Rattle.mtl_formulas.specs.FormulaMeasures.{IsValid};
-    ghost use Rattle.mtl_monitor.specs.Following.{IsProgramOf, count_of, greatest_reach};
+    ghost use Rattle.mtl_monitor.specs.Following.{IsProgramOf, count_of};
+    ghost use Rattle.mtl_monitor.specs.Reaches.{greatest_reach};
     ghost use Rattle.mtl_monitor.specs.Growing.{IsEmpty, GrowsBy};
     ghost use Rattle.mtl_monitor.specs.Inner.Reading.{AreToBeRead};
 

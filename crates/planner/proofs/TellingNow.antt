@@ -11,7 +11,8 @@ use Rattle.mtl_formulas.specs.FormulaTree.{FormulaTree}
 use Rattle.mtl_formulas.specs.declared.atom.Atom.{Atom}
 use Rattle.mtl_formulas.specs.declared.verdict.Verdict.{Verdict}
 use Rattle.mtl_formulas.specs.declared.verdict.Verdict.TheVariants.{No, Open}
-use Rattle.mtl_monitor.specs.Following.{Closes, Follows, IsEnded, IsFed, count_of, formula_at, greatest_reach, past_of}
+use Rattle.mtl_monitor.specs.Following.{Closes, Follows, IsEnded, IsFed, count_of, formula_at, past_of}
+use Rattle.mtl_monitor.specs.Reaches.{greatest_reach}
 use Rattle.mtl_monitor.specs.Traces.{Trace, value_in}
 use Rattle.mtl_monitor.specs.declared.program.Program.{Program}
 use Rattle.mtl_monitor.specs.declared.trace_state.TraceState.{TraceState}

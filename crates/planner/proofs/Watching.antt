@@ -16,6 +16,7 @@ use Rattle.mtl_formulas.specs.declared.atom.Atom.{Atom}
 use Rattle.mtl_formulas.specs.declared.verdict.Verdict.{Verdict}
 use Rattle.mtl_formulas.specs.declared.verdict.Verdict.TheVariants.{No}
 use Rattle.mtl_monitor.specs.Following as monitor
+use Rattle.mtl_monitor.specs.Reaches.{greatest_reach}
 use Rattle.mtl_monitor.specs.Traces.{Trace, value_in}
 use Rattle.mtl_monitor.specs.declared.program.Program.{Program}
 use Rattle.rule_set.specs.NamedTrees.{NamedTree}
@@ -47,7 +48,7 @@ rule_known [] P k h = absurd h
 rule_known (x ∷ rules) P zero h = (omega arith, h)
 rule_known (x ∷ rules) P (suc k) h = let inner = rule_known rules P k h in let lt = inner.0 in (omega arith, inner.1)
 
-pub within_greatest : (formulas : List FormulaTree) (k : ℕ) → k < length formulas → reach_of (monitor.formula_at formulas k) ≤ monitor.greatest_reach formulas
+pub within_greatest : (formulas : List FormulaTree) (k : ℕ) → k < length formulas → reach_of (monitor.formula_at formulas k) ≤ greatest_reach formulas
 within_greatest [] k lt = absurd (omega arith)
 within_greatest (f ∷ formulas) zero lt = omega arith
 within_greatest (f ∷ formulas) (suc k) lt = let h = within_greatest formulas k (omega arith) in omega arith
@@ -223,7 +224,7 @@ module _ (s : Situation) (X : List ℕ) (T : Target) (cut : Trace) (is_cut : IsC
 
   -- A rule that is broken is told by some row, be it one beyond the end.
   pub rule_told : (start : ℕ) (rows : Trace) → BeginsAt s X at T start → AreTraceRows s X at T start rows → IsUnbroken s X T cut at → BreaksARule s X at T
-      → (passed : ℕ) × ((length rows < passed) × (passed ≤ length rows + monitor.greatest_reach (formulas_of s)) × IsNewlyBrokenAt (formulas_of s) cut rows passed)
+      → (passed : ℕ) × ((length rows < passed) × (passed ≤ length rows + greatest_reach (formulas_of s)) × IsNewlyBrokenAt (formulas_of s) cut rows passed)
   rule_told start rows begins are unbroken (k, h) =
       let known = rule_known s.rules (NewlyBreaks s X at T) k h in
       let f = monitor.formula_at (formulas_of s) k in

@@ -1,6 +1,6 @@
 -- What a mode comes to on a scenario and a log at its end: its report, or why there is none.
 use Rattle.std.specs.Prelude.{ℕ, ◌≡◌, ◌<◌, ◌⊎◌, IsTrue, Bool, true, false, List, length, Option, Some, None, Result, Ok, Err}
-use Rattle.traces.specs.Standing.{HaveMoreThan}
+use Rattle.traces.specs.ManyTraces.{HaveMoreThan}
 use Rattle.log_lines.specs.JudgedLines.{is_crowded, numbers_of}
 use Rattle.log_lines.specs.LogLines.{lines_of}
 use Rattle.situations.specs.PlanSituations.{greatest_targets, own_readiness, targets_near}

@@ -8,8 +8,9 @@ use Rattle.std.proofs.lemmas.List.FromFn.{take-map-range_with_len}
 use Rattle.audit_rows.specs.declared.row.Row.{Row}
 use Rattle.traces.specs.Audited.{Begins, AuditNumbers, MoveLittle, Sighting}
 use Rattle.auditor.specs.AuditRows.{AreAuditRowsBelow}
-use Rattle.traces.specs.Standing.{HaveMoreThan}
-use Rattle.auditor.specs.Standing.{IsSound, StandsFor as AuditStandsFor, given_of, last_tick_of, latest_sighting, settled_by}
+use Rattle.traces.specs.ManyTraces.{HaveMoreThan}
+use Rattle.auditor.specs.Standing.{IsSound, StandsFor as AuditStandsFor, given_of, last_tick_of, latest_sighting}
+use Rattle.auditor.specs.SettledRows.{settled_by}
 use Rattle.auditor.proofs.ForCallers.{more_stay}
 use Rattle.log_lines.specs.JudgedLines.{numbers_of}
 use Rattle.log_lines.specs.SentLines.{sent}

@@ -7,7 +7,7 @@ use Rattle.audit_rows.specs.Order.{InOrder, last_step_of, sort_key_of}
 use Rattle.audit_rows.specs.declared.row.Row.{Row}
 use Rattle.traces.specs.Audited.{Sighting}
 use Rattle.auditor.specs.AuditRows.{AreAuditRows, AreAuditRowsBelow, IsAuditRow}
-use Rattle.auditor.specs.Standing.{audit_reach, settled_by}
+use Rattle.auditor.specs.SettledRows.{audit_reach, settled_by}
 use Rattle.log_lines.specs.JudgedLines.{numbers_of}
 use Rattle.log_lines.specs.SentLines.{sent}
 use Rattle.scenario.specs.declared.values.Scenario.{Scenario}

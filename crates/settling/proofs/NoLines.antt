@@ -2,7 +2,7 @@
 use Rattle.std.proofs.Common.{ℕ, ◌+◌, ◌<◌, zero, suc, [], arith}
 use Rattle.std.specs.List.Sorted.{IsStrictlySortedBy}
 use Rattle.audit_rows.specs.Order.{last_step_of}
-use Rattle.auditor.specs.Standing.{audit_reach}
+use Rattle.auditor.specs.SettledRows.{audit_reach}
 use Rattle.scenario.specs.declared.values.Scenario.{Scenario}
 use Rattle.settling.specs.DecidedRows.{AreDecided}
 use Rattle.settling.specs.ManySettled.{HaveManySettled}
@@ -12,7 +12,7 @@ use Rattle.settled_ticks.specs.Settled.{IsSettled}
 use Rattle.settled_ticks.specs.Sightings.{seen_first}
 use Rattle.settled_ticks.proofs.ForCallers.{none_settled}
 use Rattle.log_lines.specs.SentLines.{sent}
-use Rattle.traces.specs.Standing.{HaveMoreThan}
+use Rattle.traces.specs.ManyTraces.{HaveMoreThan}
 use Rattle.traces.specs.declared.all_traces.TheConstants.{MOST_TRACES}
 
 pub none_decided : (scenario : Scenario) → AreDecided scenario [] []

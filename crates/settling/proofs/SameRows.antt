@@ -8,7 +8,7 @@ use Rattle.mtl_formulas.specs.FormulaMeasures.{reach_of as reach_of_tree}
 use Rattle.mtl_formulas.specs.declared.atom.Atom.{Atom}
 use Rattle.mtl_formulas.specs.declared.verdict.Verdict.{Verdict}
 use Rattle.mtl_formulas.proofs.ReachLaw.{equal-AgreeAt, value_of-same}
-use Rattle.mtl_monitor.specs.Following.{greatest_reach}
+use Rattle.mtl_monitor.specs.Reaches.{greatest_reach}
 use Rattle.mtl_monitor.specs.Traces.{Trace, value_in}
 use Rattle.rule_set.specs.NamedTrees.{NamedTree, rule_at}
 use Rattle.encounters.specs.Engagement.{seen_at}
@@ -36,7 +36,7 @@ use Rattle.auditor.specs.AuditTracks.{AreMarksOf, AreMeetingMarks, AreRuleMarks,
 use Rattle.traces.specs.Audited.{Begins, AuditNumbers, Sighting, seen_state_at, state_in, step_of, terms_of, trace_steps}
 use Rattle.auditor.specs.ValueMarks.{mark_of}
 use Rattle.auditor.specs.AuditRows.{IsAuditRow}
-use Rattle.auditor.specs.Standing.{audit_reach}
+use Rattle.auditor.specs.SettledRows.{audit_reach}
 use Rattle.settling.proofs.MoreMarks.{go_on}
 use Rattle.settling.proofs.SomeMarks.{some_mark}
 

@@ -4,7 +4,7 @@ use Rattle.std.specs.List.{Contains}
 use Rattle.audit_rows.specs.Order.{InOrder, last_step_of}
 use Rattle.audit_rows.specs.declared.row.Row.{Row}
 use Rattle.auditor.specs.AuditRows.{IsAuditRow}
-use Rattle.auditor.specs.Standing.{audit_reach}
+use Rattle.auditor.specs.SettledRows.{audit_reach}
 use Rattle.log_lines.specs.SentLines.{sent}
 use Rattle.scenario.specs.declared.values.Scenario.{Scenario}
 use Rattle.settled_ticks.specs.Settled.{IsSettled}

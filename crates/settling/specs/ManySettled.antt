@@ -1,6 +1,6 @@
 -- When settled ticks begin too many traces.
 use Rattle.std.specs.Prelude.{ℕ, ◌<◌, List}
-use Rattle.traces.specs.Standing.{HaveMoreThan}
+use Rattle.traces.specs.ManyTraces.{HaveMoreThan}
 use Rattle.traces.specs.declared.all_traces.TheConstants.{MOST_TRACES}
 use Rattle.log_lines.specs.SentLines.{sent}
 use Rattle.scenario.specs.declared.values.Scenario.{Scenario}

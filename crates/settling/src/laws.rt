@@ -4,7 +4,7 @@ ghost use Rattle.audit_rows.specs.Order.{last_step_of};
 ghost use Rattle.audit_rows.specs.declared.row.Row.{Row};
 ghost use Rattle.traces.specs.Audited.{AuditNumbers, Sighting};
 ghost use Rattle.auditor.specs.AuditRows.{AreAuditRows, AreAuditRowsBelow, IsAuditRow};
-ghost use Rattle.auditor.specs.Standing.{audit_reach, settled_by};
+ghost use Rattle.auditor.specs.SettledRows.{audit_reach, settled_by};
 ghost use Rattle.log_lines.specs.SentLines.{sent};
 ghost use Rattle.scenario.specs.declared.values.Scenario.{Scenario};
 ghost use Rattle.settling.specs.DecidedRows.{AreDecided};

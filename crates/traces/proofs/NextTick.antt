@@ -12,7 +12,8 @@ use Rattle.meetings.proofs.ForCallers.{rows_then, steps_from-length}
 use Rattle.traces.specs.Audited.{Begins, AuditNumbers, Sighting, seen_state_at, terms_of, last_sighting, step_of}
 use Rattle.traces.specs.Inner.TracesKept.{AreBegun, AreKnownOn, AreTooMany, Follows, HaveBegunNow, HaveBoth, Holds, IsFresh, IsNextTick, MayBegin, swapped}
 use Rattle.traces.specs.Known.{AreKnown, AreOpened, IsFollowed, IsKnown, Known, opened, pairs_of}
-use Rattle.traces.specs.Standing.{HaveMoreThan, StandsFor, traces_of}
+use Rattle.traces.specs.Standing.{StandsFor, traces_of}
+use Rattle.traces.specs.ManyTraces.{HaveMoreThan}
 use Rattle.traces.specs.declared.all_traces.AllTraces.{AllTraces}
 use Rattle.traces.specs.declared.all_traces.TheConstants.{MOST_TRACES}
 use Rattle.traces.proofs.Different.{different_before, different_cons, few_different, from_map}

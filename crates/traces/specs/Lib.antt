@@ -6,5 +6,6 @@ pub mod Audited
 pub mod Contacts
 pub mod FaultTexts
 pub mod Known
+pub mod ManyTraces
 pub mod Standing
 pub mod Inner

@@ -1,8 +1,7 @@
 -- What the traces of a window stand for: their numbers, the vessels seen at the ticks that were given, and what is known of each.
-use Rattle.std.specs.Prelude.{ℕ, ◌≡◌, ◌≢◌, ◌+◌, ◌<◌, ◌≤◌, List, ◌++◌, length, All, AllPairs}
+use Rattle.std.specs.Prelude.{ℕ, ◌≡◌, ◌+◌, ◌≤◌, List, ◌++◌, length}
 use Rattle.encounters.specs.Risk.{IsDetect}
-use Rattle.meetings.specs.declared.pair.Pair.{Pair}
-use Rattle.traces.specs.Audited.{AreAscending, ArePlaced, Begins, AuditNumbers, Sighting, last_sighting}
+use Rattle.traces.specs.Audited.{AreAscending, ArePlaced, AuditNumbers, Sighting, last_sighting}
 use Rattle.traces.specs.Inner.TracesKept.{Holds}
 use Rattle.traces.specs.Known.{AreKnown, AreOpened, Known}
 use Rattle.traces.specs.declared.all_traces.AllTraces.{AllTraces}
@@ -51,12 +50,3 @@ pub record HaveBegun (kept : AllTraces) (numbers : AuditNumbers) (ticks : List S
   pub opened : AreOpened start new
   pub stands : StandsFor kept numbers ticks (before ++ new)
   pub are_known : AreKnown numbers ticks (before ++ new)
-
--- ---- the limit of traces
-
--- More traces begin at these ticks than this number.
-pub record HaveMoreThan (most : ℕ) (numbers : AuditNumbers) (ticks : List Sighting) : Type 0 where
-  pub pairs : List Pair
-  pub many : most < length pairs
-  pub once : AllPairs ◌≢◌ pairs
-  pub begin : All (λ pair. (start : ℕ) × Begins numbers ticks pair start) pairs

@@ -11,7 +11,8 @@ ghost use Rattle.meetings.specs.declared.pair.Pair.{Pair};
 ghost use Rattle.traces.specs.Audited.{AreAscending, ArePlaced, AuditNumbers, MoveLittle, Sighting, last_sighting, step_of, terms_of};
 ghost use Rattle.traces.specs.Inner.TracesKept.{AreBegun, AreKnownOn, AreTooMany, HaveBegunNow, Holds, IsBeginning, IsNextTick, IsTaken, MayBegin, MayTake};
 ghost use Rattle.traces.specs.Known.{AreKnown, IsFollowed, Known, opened, pairs_of, watched};
-ghost use Rattle.traces.specs.Standing.{HaveBegun, HaveMoreThan, IsSound, StandsFor, given_of, last_tick_of, latest_sighting, traces_of};
+ghost use Rattle.traces.specs.Standing.{HaveBegun, IsSound, StandsFor, given_of, last_tick_of, latest_sighting, traces_of};
+ghost use Rattle.traces.specs.ManyTraces.{HaveMoreThan};
 ghost use Rattle.traces.specs.declared.fault.TickFault.TheVariants.{TooManyPairs};
 
 use crate::contact_pairs::contacts;

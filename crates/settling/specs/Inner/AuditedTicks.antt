@@ -2,8 +2,9 @@
 use Rattle.std.specs.Prelude.{ℕ, ◌≡◌, ◌<◌, ◌-◌, List}
 use Rattle.audit_rows.specs.declared.row.Row.{Row}
 use Rattle.auditor.specs.AuditRows.{AreAuditRowsBelow}
-use Rattle.traces.specs.Standing.{HaveMoreThan}
-use Rattle.auditor.specs.Standing.{IsSound, StandsFor as AuditStandsFor, given_of, last_tick_of, settled_by}
+use Rattle.traces.specs.ManyTraces.{HaveMoreThan}
+use Rattle.auditor.specs.Standing.{IsSound, StandsFor as AuditStandsFor, given_of, last_tick_of}
+use Rattle.auditor.specs.SettledRows.{settled_by}
 use Rattle.log_lines.specs.SentLines.{sent}
 use Rattle.log_lines.specs.Standing.{StandsFor as JudgeStandsFor}
 use Rattle.log_lines.specs.declared.judge.Judge.{Judge}

@@ -7,7 +7,7 @@ use Rattle.traces.specs.Audited.{AuditNumbers, Sighting}
 use Rattle.traces.specs.Known.{AreOpened, Known, pairs_of}
 use Rattle.traces.specs.Standing.{StandsFor as TracesStandFor}
 use Rattle.auditor.specs.Inner.TracesKept.{Holds, IsReady}
-use Rattle.auditor.specs.TraceKeeping.{formulas_of}
+use Rattle.auditor.specs.SettledRows.{formulas_of}
 use Rattle.auditor.proofs.UnderWay.{AreBeginning}
 use Rattle.auditor.proofs.each_trace.begin_each.Given as goal
 

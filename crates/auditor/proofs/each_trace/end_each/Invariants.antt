@@ -4,7 +4,7 @@ use Rattle.audit_rows.specs.declared.row.Row.{Row}
 use Rattle.traces.specs.Audited.{AuditNumbers}
 use Rattle.traces.specs.Known.{Known}
 use Rattle.auditor.specs.Inner.TracesKept.{Holds, IsReady}
-use Rattle.auditor.specs.TraceKeeping.{formulas_of}
+use Rattle.auditor.specs.SettledRows.{formulas_of}
 use Rattle.auditor.specs.declared.trace.AuditTrace.{AuditTrace}
 use Rattle.auditor.proofs.UnderWay.{IsEnding}
 use Rattle.auditor.proofs.each_trace.end_each.Given as goal

@@ -5,7 +5,7 @@ use Rattle.traces.specs.Audited.{AuditNumbers, Sighting}
 use Rattle.traces.specs.Known.{AreKnown, Known}
 use Rattle.traces.specs.Standing.{IsSound, StandsFor as TracesStandFor, given_of, last_tick_of, latest_sighting, traces_of}
 use Rattle.auditor.specs.Inner.TracesKept.{Holds, IsReady}
-use Rattle.auditor.specs.TraceKeeping.{formulas_of}
+use Rattle.auditor.specs.SettledRows.{formulas_of}
 use Rattle.auditor.specs.declared.trace.AuditTrace.{AuditTrace}
 use Rattle.auditor.proofs.UnderWay.{IsUnderWay}
 use Rattle.auditor.proofs.each_trace.follow_each.Given as goal

@@ -2,7 +2,7 @@ use Rattle.std.proofs.Common.{ℕ, List, ◌∙◌, ◌++◌, length, ap, Err, [
 use Rattle.outside.proofs.ForCallers.{err_cause}
 use Rattle.auditor.specs.AuditRows.{AreAuditRows}
 use Rattle.auditor.specs.AuditTotals.{AreTotals}
-use Rattle.traces.specs.Standing.{HaveMoreThan}
+use Rattle.traces.specs.ManyTraces.{HaveMoreThan}
 use Rattle.log_lines.specs.JudgedLines.{judged_lines, numbers_of}
 use Rattle.log_lines.specs.LogLines.{lines_of}
 use Rattle.log_lines.specs.SentLines.{sent}

@@ -1,6 +1,6 @@
 use Rattle.std.proofs.Common.{◌≡◌, ◌++◌, ◌-◌, ◌∙◌, ℕ, List, length, sym, subst, arith}
 use Rattle.auditor.specs.Inner.TracesKept.{Holds}
-use Rattle.auditor.specs.Standing.{settled_by}
+use Rattle.auditor.specs.SettledRows.{settled_by}
 use Rattle.auditor.specs.declared.trace.AuditTrace.{AuditTrace}
 use Rattle.auditor.proofs.AtTheEnd.{all_end, last_step}
 use Rattle.auditor.proofs.NextTick.{at_step}

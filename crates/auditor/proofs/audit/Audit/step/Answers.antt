@@ -5,8 +5,8 @@ use Rattle.traces.specs.Known.{AreOpened, Known}
 use Rattle.traces.specs.declared.fault.TickFault.{TickFault}
 use Rattle.traces.specs.declared.fault.TickFault.TheVariants.{TooManyPairs}
 use Rattle.auditor.specs.Inner.TracesKept.{Holds, IsReady}
-use Rattle.auditor.specs.Standing.{settled_by}
-use Rattle.auditor.specs.TraceKeeping.{formulas_of}
+use Rattle.auditor.specs.SettledRows.{settled_by}
+use Rattle.auditor.specs.SettledRows.{formulas_of}
 use Rattle.auditor.specs.declared.trace.AuditTrace.{AuditTrace}
 use Rattle.auditor.proofs.Growing.{whole_written}
 use Rattle.auditor.proofs.Stepping.{all_settled, bound_of, kept_on, later_bound, rows_given}

@@ -5,7 +5,7 @@ use Rattle.encounters.specs.Standing.{IsStateAfter}
 use Rattle.encounters.specs.declared.pair_step.PairStep.{PairStep}
 use Rattle.meetings.specs.Answers.{answer_of}
 use Rattle.auditor.specs.AuditTracks.{IsMeetingMark}
-use Rattle.auditor.specs.TraceKeeping.{formulas_of}
+use Rattle.auditor.specs.SettledRows.{formulas_of}
 use Rattle.std.proofs.lemmas.Result.{on_ok_weaker}
 use Rattle.auditor.proofs.Resting.{rested}
 use Rattle.auditor.proofs.TraceKeeping.{meeting_marked, stepped}

@@ -2,7 +2,7 @@ use Rattle.std.proofs.Common.{ℕ, ◌≡◌, ◌+◌, ◌++◌, List, Err, sym,
 use Rattle.audit_rows.specs.declared.row.Row.{Row}
 use Rattle.auditor.specs.AuditRows.{AreAuditRows}
 use Rattle.auditor.specs.AuditTotals.{AreTotals}
-use Rattle.traces.specs.Standing.{HaveMoreThan}
+use Rattle.traces.specs.ManyTraces.{HaveMoreThan}
 use Rattle.auditor.specs.Standing.{StandsFor as AuditStandsFor}
 use Rattle.traces.specs.declared.fault.TickFault.{TickFault as AuditFault}
 use Rattle.traces.specs.declared.fault.TickFault.TheVariants as audit_fault
