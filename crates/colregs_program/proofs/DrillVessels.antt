@@ -28,7 +28,7 @@ use Rattle.motion.specs.declared.leg.TickState.{TickState}
 use Rattle.meetings.specs.Traces.{AreInContact}
 use Rattle.meetings.specs.declared.pair.Pair.{Pair}
 use Rattle.traces.specs.Audited.{Begins, AuditNumbers, Sighting, seen_state_at, state_in}
-use Rattle.traces.specs.Standing.{HaveMoreThan}
+use Rattle.traces.specs.ManyTraces.{HaveMoreThan}
 use Rattle.scenario.specs.Ticks.{time_of_tick}
 use Rattle.command_line.specs.declared.mode.Mode.{Mode}
 use Rattle.command_line.specs.declared.mode.Mode.TheVariants as mode

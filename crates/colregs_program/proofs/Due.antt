@@ -105,12 +105,17 @@ no_meeting words files log request answer Any accepted migrates meets =
 pub migration_due : (words : List (List ℕ)) (files : Option Files) (log : Option (List ℕ)) (request : Request) (due : Status)
     → AskFor words request → request.mode ≡ mode.Migrate → IsDue words files log due → IsMigrationDue request files due
 migration_due words files log request status.Usage accepted migrates is = absurd (asked_or_nothing words request accepted is)
-migration_due words files log request status.ShelfFault accepted migrates is = of_request words request (λ r. IsMissing files r.name) accepted is
+migration_due words files log request status.ShelfFault accepted migrates is = inl (refl, of_request words request (λ r. IsMissing files r.name) accepted is)
 migration_due words files log request (status.Limit which.Scenario most) accepted migrates is =
-    (is.0, of_request words request (λ r. LiesUnder files r.name (λ text. greatest_scenario < length text)) accepted is.1)
+    inr (inl (ap (status.Limit which.Scenario) is.0, of_request words request (λ r. LiesUnder files r.name (λ text. greatest_scenario < length text)) accepted is.1))
 migration_due words files log request (status.Scenario key why) accepted migrates is =
-    subst (λ (m : Mode). LiesUnder files request.name (λ text. (length text ≤ greatest_scenario) × IsRefusedBy m text key why)) migrates
-    (of_request words request (λ r. LiesUnder files r.name (λ text. (length text ≤ greatest_scenario) × IsRefusedBy r.mode text key why)) accepted is)
+    inr (inr (inl (
+      key,
+      why,
+      refl,
+      subst (λ (m : Mode). LiesUnder files request.name (λ text. (length text ≤ greatest_scenario) × IsRefusedBy m text key why)) migrates
+          (of_request words request (λ r. LiesUnder files r.name (λ text. (length text ≤ greatest_scenario) × IsRefusedBy r.mode text key why)) accepted is),
+    )))
 migration_due words files log request (status.Limit which.Log most) accepted migrates is = no_meeting words files log request _ _ accepted migrates is
 migration_due words files log request (status.Limit which.Vessels most) accepted migrates is = no_meeting words files log request _ _ accepted migrates is
 migration_due words files log request (status.Limit which.Pairs most) accepted migrates is = no_meeting words files log request _ _ accepted migrates is
@@ -119,7 +124,10 @@ migration_due words files log request (status.OwnUnready why) accepted migrates 
 migration_due words files log request status.NoManoeuvre accepted migrates is = no_meeting words files log request _ _ accepted migrates is
 migration_due words files log request status.Done accepted migrates (inl is) = no_meeting words files log request _ _ accepted migrates is
 migration_due words files log request status.Done accepted migrates (inr is) =
-    (of_request words request (λ r. (r.mode ≡ mode.Migrate) × LiesUnder files r.name (λ text. (length text ≤ greatest_scenario) × CanMigrate text)) accepted is).1
+    inr (inr (inr (
+      refl,
+      (of_request words request (λ r. (r.mode ≡ mode.Migrate) × LiesUnder files r.name (λ text. (length text ≤ greatest_scenario) × CanMigrate text)) accepted is).1,
+    )))
 migration_due words files log request status.ReadFault accepted migrates is = absurd is
 migration_due words files log request status.WriteFault accepted migrates is = absurd is
 migration_due words files log request status.Memory accepted migrates is = absurd is

@@ -12,7 +12,7 @@ use Rattle.command_line.specs.declared.mode.Mode.{Mode}
 use Rattle.command_line.specs.declared.mode.Mode.TheVariants as mode
 use Rattle.command_line.specs.declared.request.Request.{Request}
 use Rattle.colregs_program.specs.Answers.{CanMigrate, IsRefusedBy, greatest_scenario}
-use Rattle.colregs_program.specs.Inner.Migrating.{IsMigrationDue}
+use Rattle.colregs_program.specs.Inner.Migrating.{IsLong, IsMigrationDue, IsRefusal, MayBe}
 use Rattle.colregs_program.specs.Inner.SetUps.{SetUpCause, answer_of, set_up_fault}
 use Rattle.colregs_program.specs.declared.set_up.SetUpFault.TheVariants as fault
 use Rattle.colregs_program.specs.declared.status.Status.{Status}
@@ -42,41 +42,21 @@ module _ (request : Request) (v : Vec ℕ Global) (why : ScenarioFault)
   told_so key cause (inr same) = let is : why ≡ refusal.Memory = cc same in rw is (inr refl)
 
   held_due : (held : Files) → Fetches (Some held) request.name greatest_scenario (fetched.Bytes v) → (due : Status) → IsMigrationDue request (Some held) due → IsAnswered why due
-  held_due held fetch status.ShelfFault due = cc (due, fetch.0)
-  held_due held fetch (status.Limit which.Scenario most) due =
-      let long : greatest_scenario < length v.items = of_found held request.name v.items (λ text. greatest_scenario < length text) fetch.0 due.1 in
+  held_due held fetch due (inl (is, missing)) = cc (missing, fetch.0)
+  held_due held fetch due (inr (inl (is, lies))) =
+      let long : greatest_scenario < length v.items = of_found held request.name v.items IsLong fetch.0 lies in
       absurd (omega (arith, long, fetch.1))
-  held_due held fetch (status.Scenario key cause) due =
-      told_so key cause (told key cause (of_found held request.name v.items (λ text. (length text ≤ greatest_scenario) × IsNotMigrated text key cause) fetch.0 due).1)
-  held_due held fetch status.Done due =
-      can_not why refl (of_found held request.name v.items (λ text. (length text ≤ greatest_scenario) × CanMigrate text) fetch.0 due).1
-  held_due held fetch status.Usage due = absurd due
-  held_due held fetch (status.Limit which.Log most) due = absurd due
-  held_due held fetch (status.Limit which.Vessels most) due = absurd due
-  held_due held fetch (status.Limit which.Pairs most) due = absurd due
-  held_due held fetch (status.Limit which.Targets most) due = absurd due
-  held_due held fetch (status.OwnUnready lack) due = absurd due
-  held_due held fetch status.NoManoeuvre due = absurd due
-  held_due held fetch status.ReadFault due = absurd due
-  held_due held fetch status.WriteFault due = absurd due
-  held_due held fetch status.Memory due = absurd due
+  held_due held fetch due (inr (inr (inl (key, cause, is, lies)))) =
+      subst (IsAnswered why) (sym is) (told_so key cause (told key cause (of_found held request.name v.items (IsRefusal key cause) fetch.0 lies).1))
+  held_due held fetch due (inr (inr (inr (is, lies)))) =
+      subst (IsAnswered why) (sym is) (can_not why refl (of_found held request.name v.items MayBe fetch.0 lies).1)
 
   -- where the shelf tells nothing, nothing is due
   untold : (due : Status) → IsMigrationDue request None due → IsAnswered why due
-  untold status.ShelfFault due = absurd due
-  untold (status.Limit which.Scenario most) due = cc due.1.2
-  untold (status.Scenario key cause) due = cc due.2
-  untold status.Done due = cc due.2
-  untold status.Usage due = absurd due
-  untold (status.Limit which.Log most) due = absurd due
-  untold (status.Limit which.Vessels most) due = absurd due
-  untold (status.Limit which.Pairs most) due = absurd due
-  untold (status.Limit which.Targets most) due = absurd due
-  untold (status.OwnUnready lack) due = absurd due
-  untold status.NoManoeuvre due = absurd due
-  untold status.ReadFault due = absurd due
-  untold status.WriteFault due = absurd due
-  untold status.Memory due = absurd due
+  untold due (inl (is, missing)) = absurd missing
+  untold due (inr (inl (is, lies))) = cc lies.2
+  untold due (inr (inr (inl (key, cause, is, lies)))) = cc lies.2
+  untold due (inr (inr (inr (is, lies)))) = cc lies.2
 
   pub refused_due : (files : Option Files) → Fetches files request.name greatest_scenario (fetched.Bytes v) → (due : Status) → IsMigrationDue request files due → IsAnswered why due
   refused_due None fetch due is = untold due is
@@ -87,43 +67,22 @@ module _ (request : Request) (v : Vec ℕ Global) (why : ScenarioFault)
 module _ (request : Request) (v text : Vec ℕ Global)
     (told : (key : Key) (cause : Cause) → IsNotMigrated v.items key cause → (gave text ≡ Err (refusal.Fault key cause)) ⊎ (gave text ≡ Err refusal.Memory)) where
   held_done : (held : Files) → Fetches (Some held) request.name greatest_scenario (fetched.Bytes v) → (due : Status) → IsMigrationDue request (Some held) due → due ≡ status.Done
-  held_done held fetch status.ShelfFault due = cc (due, fetch.0)
-  held_done held fetch (status.Limit which.Scenario most) due =
-      let long : greatest_scenario < length v.items = of_found held request.name v.items (λ text. greatest_scenario < length text) fetch.0 due.1 in
+  held_done held fetch due (inl (is, missing)) = cc (missing, fetch.0)
+  held_done held fetch due (inr (inl (is, lies))) =
+      let long : greatest_scenario < length v.items = of_found held request.name v.items IsLong fetch.0 lies in
       absurd (omega (arith, long, fetch.1))
-  held_done held fetch (status.Scenario key cause) due =
-      none (told key cause (of_found held request.name v.items (λ text. (length text ≤ greatest_scenario) × IsNotMigrated text key cause) fetch.0 due).1)
+  held_done held fetch due (inr (inr (inl (key, cause, is, lies)))) = none (told key cause (of_found held request.name v.items (IsRefusal key cause) fetch.0 lies).1)
     where
       none : {A : Type 0} → (gave text ≡ Err (refusal.Fault key cause)) ⊎ (gave text ≡ Err refusal.Memory) → A
       none (inl is) = cc is
       none (inr is) = cc is
-  held_done held fetch status.Done due = refl
-  held_done held fetch status.Usage due = absurd due
-  held_done held fetch (status.Limit which.Log most) due = absurd due
-  held_done held fetch (status.Limit which.Vessels most) due = absurd due
-  held_done held fetch (status.Limit which.Pairs most) due = absurd due
-  held_done held fetch (status.Limit which.Targets most) due = absurd due
-  held_done held fetch (status.OwnUnready lack) due = absurd due
-  held_done held fetch status.NoManoeuvre due = absurd due
-  held_done held fetch status.ReadFault due = absurd due
-  held_done held fetch status.WriteFault due = absurd due
-  held_done held fetch status.Memory due = absurd due
+  held_done held fetch due (inr (inr (inr (is, lies)))) = is
 
   untold_done : (due : Status) → IsMigrationDue request None due → due ≡ status.Done
-  untold_done status.ShelfFault due = absurd due
-  untold_done (status.Limit which.Scenario most) due = cc due.1.2
-  untold_done (status.Scenario key cause) due = cc due.2
-  untold_done status.Done due = refl
-  untold_done status.Usage due = absurd due
-  untold_done (status.Limit which.Log most) due = absurd due
-  untold_done (status.Limit which.Vessels most) due = absurd due
-  untold_done (status.Limit which.Pairs most) due = absurd due
-  untold_done (status.Limit which.Targets most) due = absurd due
-  untold_done (status.OwnUnready lack) due = absurd due
-  untold_done status.NoManoeuvre due = absurd due
-  untold_done status.ReadFault due = absurd due
-  untold_done status.WriteFault due = absurd due
-  untold_done status.Memory due = absurd due
+  untold_done due (inl (is, missing)) = absurd missing
+  untold_done due (inr (inl (is, lies))) = cc lies.2
+  untold_done due (inr (inr (inl (key, cause, is, lies)))) = cc lies.2
+  untold_done due (inr (inr (inr (is, lies)))) = is
 
   pub migrated_due : (files : Option Files) → Fetches files request.name greatest_scenario (fetched.Bytes v) → (due : Status) → IsMigrationDue request files due → due ≡ status.Done
   migrated_due None fetch due is = untold_done due is

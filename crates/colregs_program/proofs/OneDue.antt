@@ -19,7 +19,7 @@ use Rattle.sessions.proofs.ForCallers.{memory_not_met, some_met}
 use Rattle.colregs_program.specs.Answers.{CanMigrate, IsDue, IsRefusedBy, IsRefusedFor, IsScenario, LiesUnder, MeetsAnswer, greatest_scenario}
 use Rattle.colregs_program.specs.AskedScenarios.{log_of, with_options}
 use Rattle.colregs_program.specs.LogAnswers.{IsAnswered, answer_of}
-use Rattle.colregs_program.specs.Inner.Migrating.{IsMigrationDue}
+use Rattle.colregs_program.specs.Inner.Migrating.{IsLong, IsMigrationDue, IsRefusal, MayBe}
 use Rattle.colregs_program.specs.Inner.SetUps as set_up
 use Rattle.colregs_program.specs.declared.set_up.SetUpFault.{SetUpFault}
 use Rattle.colregs_program.specs.declared.set_up.SetUpFault.TheVariants as fault
@@ -45,9 +45,6 @@ lies_or_missing (Some files) name P (held, text, is, content, p) missing =
     let same : files ≡ held = cc is in
     let none = subst (λ (f : Files). content_of name f ≡ None) same missing in
     cc (content, none)
-
-abbrev IsLong : List ℕ → Type 0
-IsLong text = greatest_scenario < length text
 
 -- ---- setting up comes to one thing
 
@@ -119,37 +116,7 @@ one_following once log request (Err because) a b is is' = sym is ∙ is'
 -- ---- a migration comes to one thing
 
 module _ (request : Request) (files : Option Files) where
-  -- what its answer says: nothing lies there, or too much; or why the bytes are not migrated, or that they can be
-  abbrev IsRefusal : Key → Cause → List ℕ → Type 0
-  IsRefusal key cause text = (length text ≤ greatest_scenario) × IsNotMigrated text key cause
-
-  abbrev MayBe : List ℕ → Type 0
-  MayBe text = (length text ≤ greatest_scenario) × CanMigrate text
-
-  abbrev Says : Status → Type 0
-  Says answer =
-      ((answer ≡ status.ShelfFault) × IsMissing files request.name)
-      ⊎ (((answer ≡ status.Limit which.Scenario greatest_scenario) × LiesUnder files request.name IsLong)
-      ⊎ (((key : Key) × (cause : Cause) × (answer ≡ status.Scenario key cause) × LiesUnder files request.name (IsRefusal key cause))
-      ⊎ ((answer ≡ status.Done) × LiesUnder files request.name MayBe)))
-
-  says : (answer : Status) → IsMigrationDue request files answer → Says answer
-  says status.ShelfFault is = inl (refl, is)
-  says (status.Limit which.Scenario most) is = inr (inl (ap (status.Limit which.Scenario) is.0, is.1))
-  says (status.Scenario key cause) is = inr (inr (inl (key, cause, refl, is)))
-  says status.Done is = inr (inr (inr (refl, is)))
-  says status.Usage is = absurd is
-  says (status.Limit which.Log most) is = absurd is
-  says (status.Limit which.Vessels most) is = absurd is
-  says (status.Limit which.Pairs most) is = absurd is
-  says (status.Limit which.Targets most) is = absurd is
-  says (status.OwnUnready lack) is = absurd is
-  says status.NoManoeuvre is = absurd is
-  says status.ReadFault is = absurd is
-  says status.WriteFault is = absurd is
-  says status.Memory is = absurd is
-
-  one_said : (a b : Status) → Says a → Says b → a ≡ b
+  one_said : (a b : Status) → IsMigrationDue request files a → IsMigrationDue request files b → a ≡ b
   one_said a b (inl x) (inl y) = x.0 ∙ sym y.0
   one_said a b (inl x) (inr (inl y)) = absurd (lies_or_missing files request.name IsLong y.1 x.1)
   one_said a b (inl x) (inr (inr (inl (key, cause, is, lies)))) = absurd (lies_or_missing files request.name (IsRefusal key cause) lies x.1)
@@ -212,8 +179,7 @@ one_due once words files log a b x y = elim (asked_by words files log a x) [
         one_following once log request here.came a b here.follows (subst (Follows log request b) same there.follows)
     by request asked false is =
         let migrating = migrates request.mode is in
-        one_said request files a b (says request files a (migration_due words files log request a asked migrating x))
-        (says request files b (migration_due words files log request b asked migrating y))
+        one_said request files a b (migration_due words files log request a asked migrating x) (migration_due words files log request b asked migrating y)
 
 -- ---- there is some answer
 

@@ -81,6 +81,19 @@ not_set_up words files log request due told before now why Made accepted reports
           inr (memory_told told Made (subst (λ (w : SetUpFault). IsTold told (set_up.answer_of w) Made) memory_alone is_told))
     ]
 
+-- a migration that failed answers what is due, where no fetch failed, and one that did not is done
+pub migration_told : (before now : ℕ) (why : SetUpFault) (told due : Status) (Made : Type 0)
+    → (now ≡ one_more before) ⊎ ((set_up.answer_of why ≡ due) ⊎ (why ≡ fault.Memory)) → ¬ Rose before now
+    → IsTold told (set_up.answer_of why) Made → (told ≡ due) ⊎ (told ≡ status.Memory)
+migration_told before now why told due Made (inl risen) calm is_told = absurd (calm (rose before now risen))
+migration_told before now why told due Made (inr (inl is)) calm is_told = told_is told (set_up.answer_of why) due Made is_told is
+migration_told before now why told due Made (inr (inr memory)) calm is_told =
+    inr (memory_told told Made (subst (λ (w : SetUpFault). IsTold told (set_up.answer_of w) Made) memory is_told))
+
+pub migration_done : (before now : ℕ) (due : Status) → (now ≡ one_more before) ⊎ (due ≡ status.Done) → ¬ Rose before now → (status.Done ≡ due) ⊎ (status.Done ≡ status.Memory)
+migration_done before now due (inl risen) calm = absurd (calm (rose before now risen))
+migration_done before now due (inr is) calm = inl (sym is)
+
 -- where setting up gave a scenario, the log decides
 pub log_decides : (words : List (List ℕ)) (files : Option Files) (log : Option (List ℕ)) (request : Request) (due : Status) (before now : ℕ) (scenario : Scenario)
     → AskFor words request → IsTrue (reports request.mode) → IsDue words files log due → GivesDue request files before now (Ok scenario) → ¬ Rose before now

@@ -18,18 +18,24 @@ limited which.Vessels = codes "vessels"
 limited which.Pairs = codes "pairs"
 limited which.Targets = codes "targets"
 
+-- the words of a fault; none where the run is finished
+abbrev pub status_text : Status → List ℕ
+status_text status.Done = []
+status_text status.NoManoeuvre = []
+status_text status.Usage = codes "usage: points|audit|plan|drill|migrate SCENARIO"
+status_text (status.Scenario key cause) = codes "scenario: " ++ fault_text key cause
+status_text status.ShelfFault = codes "scenario: not read"
+status_text status.ReadFault = codes "log: not read"
+status_text status.WriteFault = codes "report: not written"
+status_text (status.Limit which most) = codes "limit: " ++ limited which ++ codes " " ++ decimal most
+status_text status.Memory = codes "memory"
+status_text (status.OwnUnready why) = codes "own: " ++ unready_text why
+
 -- the line of a fault; nothing where the run is finished
 abbrev pub fault_line : Status → List ℕ
 fault_line status.Done = []
 fault_line status.NoManoeuvre = []
-fault_line status.Usage = line (codes "usage: points|audit|plan|drill|migrate SCENARIO")
-fault_line (status.Scenario key cause) = line (codes "scenario: " ++ fault_text key cause)
-fault_line status.ShelfFault = line (codes "scenario: not read")
-fault_line status.ReadFault = line (codes "log: not read")
-fault_line status.WriteFault = line (codes "report: not written")
-fault_line (status.Limit which most) = line (codes "limit: " ++ limited which ++ codes " " ++ decimal most)
-fault_line status.Memory = line (codes "memory")
-fault_line (status.OwnUnready why) = line (codes "own: " ++ unready_text why)
+fault_line fault = line (status_text fault)
 
 -- the exit status
 abbrev pub exit_status_of : Status → ℕ

@@ -4,3 +4,4 @@ pub mod LineBytes
 pub mod SetUps
 pub mod WordsFaults
 pub mod Migrating
+pub mod Fetching

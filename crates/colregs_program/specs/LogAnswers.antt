@@ -22,15 +22,19 @@ abbrev pub finished : Bool → Status
 finished true = status.NoManoeuvre
 finished false = status.Done
 
+-- the answer of a run whose session gives no report, where its log may have so many bytes
+abbrev pub answer_without : SessionFault → ℕ → Status
+answer_without fault.Vessels most = status.Limit which.Vessels greatest_held
+answer_without fault.Pairs most = status.Limit which.Pairs MOST_TRACES
+answer_without fault.LogBytes most = status.Limit which.Log most
+answer_without (fault.Own why) most = status.OwnUnready why
+answer_without fault.Targets most = status.Limit which.Targets greatest_targets
+answer_without fault.Memory most = status.Memory
+
 -- the answer of a run whose log comes to this
 abbrev pub answer_of : Scenario → Came → Status
 answer_of scenario (Ok none) = finished none
-answer_of scenario (Err fault.Vessels) = status.Limit which.Vessels greatest_held
-answer_of scenario (Err fault.Pairs) = status.Limit which.Pairs MOST_TRACES
-answer_of scenario (Err fault.LogBytes) = status.Limit which.Log scenario.log.max_bytes
-answer_of scenario (Err (fault.Own why)) = status.OwnUnready why
-answer_of scenario (Err fault.Targets) = status.Limit which.Targets greatest_targets
-answer_of scenario (Err fault.Memory) = status.Memory
+answer_of scenario (Err why) = answer_without why scenario.log.max_bytes
 
 -- The run is finished: its report is written.
 abbrev pub IsFinished : Status → Bool

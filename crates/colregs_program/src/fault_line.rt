@@ -1,12 +1,13 @@
 //! The line on standard error that names a fault.
-ghost use Rattle.std.specs.Prelude.{◌≡◌, IfOk, OnErr, IsTrue, string_bytes};
-ghost use Rattle.scenario_keys.specs.declared.key.Key.{Key};
+ghost use Rattle.std.specs.Prelude.{◌≡◌, IfOk, OnErr, IsTrue, MatchOption};
 ghost use Rattle.colregs_program.specs.FaultLines.{fault_line, is_made};
 
-use crate::status::{Status, Which};
-use scenario::{Cause, Key, ScenarioFault};
+use crate::status::Status;
+use scenario::ScenarioFault;
 use situations::Unready;
 use std::alloc::{AllocError, Global};
+use std::error::Error;
+use std::fmt;
 
 /// A line for standard error, or nothing.
 #[derive(Drop)]
@@ -14,6 +15,50 @@ pub(crate) enum FaultLine {
     Fixed(&'static str),
     Made(String),
 }
+
+/// The line of a fault whose words hold no number, so that no memory is needed for it; nothing where the run is finished.
+fn fixed_line(status: &Status) -> Option<&'static str>
+    ensures { MatchOption result (IsTrue (is_made status.now)) (λ line. line.now ≡ fault_line status.now) }
+{
+    match status {
+        Status::Done | Status::NoManoeuvre => Some(""),
+        Status::Usage => Some("usage: points|audit|plan|drill|migrate SCENARIO\n"),
+        Status::ShelfFault => Some("scenario: not read\n"),
+        Status::ReadFault => Some("log: not read\n"),
+        Status::WriteFault => Some("report: not written\n"),
+        Status::Memory => Some("memory\n"),
+        Status::OwnUnready(Unready::NoPoint(_)) => Some("own: no point\n"),
+        Status::OwnUnready(Unready::NoCourse(_)) => Some("own: no course\n"),
+        Status::OwnUnready(Unready::NoSpeed(_)) => Some("own: no speed\n"),
+        Status::Scenario(..) | Status::Limit(..) => None,
+    }
+}
+
+impl fmt::Display for Status {
+    ghost use Rattle.std.specs.Prelude.{Some};
+    ghost use Rattle.colregs_program.specs.FaultLines.{status_text};
+
+    ghost output = { λ status. Some (status_text status) };
+
+    fn fmt<W: fmt::Write>(&self, f: &mut fmt::Formatter<W>) -> fmt::Result {
+        match self {
+            Status::Done | Status::NoManoeuvre => Ok(()),
+            Status::Usage => f.write_str("usage: points|audit|plan|drill|migrate SCENARIO"),
+            Status::Scenario(key, cause) => {
+                let fault = ScenarioFault::Fault(*key, *cause);
+                write!(f, "scenario: {fault}")
+            }
+            Status::ShelfFault => f.write_str("scenario: not read"),
+            Status::ReadFault => f.write_str("log: not read"),
+            Status::WriteFault => f.write_str("report: not written"),
+            Status::Limit(which, most) => write!(f, "limit: {which} {most}"),
+            Status::Memory => f.write_str("memory"),
+            Status::OwnUnready(why) => write!(f, "own: {why}"),
+        }
+    }
+}
+
+impl Error for Status {}
 
 impl FaultLine {
     ghost use Rattle.colregs_program.specs.Inner.LineBytes.{line_bytes};
@@ -23,24 +68,10 @@ impl FaultLine {
         ensures text { IfOk result (λ line. line_bytes line ≡ fault_line status.now) }
         ensures memory { OnErr result (IsTrue (is_made status.now)) }
     {
-        let text = match status {
-            Status::Done | Status::NoManoeuvre => "",
-            Status::Usage => "usage: points|audit|plan|drill|migrate SCENARIO\n",
-            Status::Scenario(key, cause) => {
-                return Ok(FaultLine::Made(refusal_line(alloc, *key, *cause)?));
-            }
-            Status::ShelfFault => "scenario: not read\n",
-            Status::ReadFault => "log: not read\n",
-            Status::WriteFault => "report: not written\n",
-            Status::Limit(which, most) => {
-                return Ok(FaultLine::Made(limit_line(alloc, *which, *most)?));
-            }
-            Status::Memory => "memory\n",
-            Status::OwnUnready(Unready::NoPoint(_)) => "own: no point\n",
-            Status::OwnUnready(Unready::NoCourse(_)) => "own: no course\n",
-            Status::OwnUnready(Unready::NoSpeed(_)) => "own: no speed\n",
-        };
-        Ok(FaultLine::Fixed(text))
+        match fixed_line(status) {
+            Some(line) => Ok(FaultLine::Fixed(line)),
+            None => Ok(FaultLine::Made(format!(in alloc; "{status}\n")?)),
+        }
     }
 
     pub(crate) fn as_bytes(&self) -> &[u8]
@@ -50,24 +81,5 @@ impl FaultLine {
             FaultLine::Fixed(text) => text.as_bytes(),
             FaultLine::Made(text) => text.as_bytes(),
         }
-    }
-}
-
-fn refusal_line(alloc: Global, key: Key, cause: Cause) -> Result<String, AllocError>
-    ensures { IfOk result (λ text. string_bytes text ≡ fault_line (Status.Scenario key cause)) }
-{
-    let fault = ScenarioFault::Fault(key, cause);
-    format!(in alloc; "scenario: {fault}\n")
-}
-
-fn limit_line(alloc: Global, which: Which, most: u64) -> Result<String, AllocError>
-    ensures { IfOk result (λ text. string_bytes text ≡ fault_line (Status.Limit which most)) }
-{
-    match which {
-        Which::Scenario => format!(in alloc; "limit: scenario {most}\n"),
-        Which::Log => format!(in alloc; "limit: log {most}\n"),
-        Which::Vessels => format!(in alloc; "limit: vessels {most}\n"),
-        Which::Pairs => format!(in alloc; "limit: pairs {most}\n"),
-        Which::Targets => format!(in alloc; "limit: targets {most}\n"),
     }
 }

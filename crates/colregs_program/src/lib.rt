@@ -6,6 +6,7 @@
 #![tactic(auto)]
 
 mod fault_line;
+mod fetching;
 pub mod laws;
 mod migrate;
 mod program;

@@ -18,11 +18,12 @@ ghost use Rattle.colregs_program.specs.declared.set_up.SetUpFault.{SetUpFault};
 ghost use Rattle.colregs_program.specs.declared.status.Status.{Status};
 ghost use Rattle.colregs_program.specs.declared.status.Which.TheVariants as which;
 
+use crate::fetching::fetch_text;
 use crate::set_up::{GREATEST_SCENARIO, SetUpFault};
 use crate::status::Status;
 use crate::telling::tell;
 use command_line::Request;
-use outside::{Fetched, Shelf, Sink, put_all};
+use outside::{Shelf, Sink, put_all};
 use scenario::migrate;
 use std::alloc::Global;
 
@@ -40,14 +41,10 @@ fn migrated<H: Shelf>(
     ensures fetched { H.fetches shelf.new ≡ one_more (H.fetches shelf.old) }
     ensures calm { result ≢ Err SetUpFault.NotHad → H.faults shelf.new ≡ H.faults shelf.old }
 {
-    match shelf.fetch(alloc, &request.name, GREATEST_SCENARIO) {
-        Fetched::Bytes(text) => match migrate(alloc, text.as_slice()) {
-            Ok(text) => Ok(text),
-            Err(fault) => Err(fault.into()),
-        },
-        Fetched::TooLong => Err(SetUpFault::TooLong),
-        Fetched::Failed => Err(SetUpFault::NotHad),
-        Fetched::Memory => Err(SetUpFault::Memory),
+    let text = fetch_text(alloc, &request.name, GREATEST_SCENARIO, shelf)?;
+    match migrate(alloc, text.as_slice()) {
+        Ok(text) => Ok(text),
+        Err(fault) => Err(fault.into()),
     }
 }
 

@@ -9,9 +9,10 @@ ghost use Rattle.sessions.specs.Modes.{needs_own, reports};
 ghost use Rattle.colregs_program.specs.Inner.SetUps.{AreOptions, IsSetUpDue, SetUpCause};
 ghost use Rattle.colregs_program.specs.declared.set_up.SetUpFault.{SetUpFault};
 
+use crate::fetching::{FetchFault, fetch_text};
 use crate::status::{Status, Which};
 use command_line::{Options, Request};
-use outside::{Fetched, Shelf};
+use outside::Shelf;
 use scenario::{Cause, Key, Scenario, ScenarioFault, read};
 use sessions::needs_own;
 use std::alloc::Global;
@@ -45,6 +46,21 @@ impl From<ScenarioFault> for SetUpFault {
     }
 }
 
+impl From<FetchFault> for SetUpFault {
+    ghost use Rattle.std.specs.Prelude.{◌≡◌};
+    ghost use Rattle.colregs_program.specs.Inner.SetUps.{unhad_fault};
+
+    ghost from_gives = { λ fault made. made ≡ unhad_fault fault };
+
+    fn from(fault: FetchFault) -> SetUpFault {
+        match fault {
+            FetchFault::NotHad => SetUpFault::NotHad,
+            FetchFault::TooLong => SetUpFault::TooLong,
+            FetchFault::Memory => SetUpFault::Memory,
+        }
+    }
+}
+
 impl From<SetUpFault> for Status {
     ghost use Rattle.std.specs.Prelude.{◌≡◌};
     ghost use Rattle.colregs_program.specs.Inner.SetUps.{answer_of};
@@ -62,8 +78,8 @@ impl From<SetUpFault> for Status {
 }
 
 /// The scenario with the values that are given in place of its own.
-fn with_options(mut scenario: Scenario, options: Options) -> Scenario
-    ensures { result ≡ with_options options scenario }
+fn with_options(mut scenario: Scenario, options: &Options) -> Scenario
+    ensures { result ≡ with_options options.now scenario }
 {
     if let Some(start) = options.start {
         scenario.window.start = start;
@@ -92,13 +108,9 @@ pub(crate) fn set_up<H: Shelf>(
     ensures fetched { H.fetches shelf.new ≡ one_more (H.fetches shelf.old) }
     ensures calm { result ≢ Err SetUpFault.NotHad → H.faults shelf.new ≡ H.faults shelf.old }
 {
-    match shelf.fetch(alloc, &request.name, GREATEST_SCENARIO) {
-        Fetched::Bytes(text) => match read(alloc, text.as_slice(), needs_own(request.mode)) {
-            Ok(scenario) => Ok(with_options(scenario, request.options)),
-            Err(fault) => Err(fault.into()),
-        },
-        Fetched::TooLong => Err(SetUpFault::TooLong),
-        Fetched::Failed => Err(SetUpFault::NotHad),
-        Fetched::Memory => Err(SetUpFault::Memory),
+    let text = fetch_text(alloc, &request.name, GREATEST_SCENARIO, shelf)?;
+    match read(alloc, text.as_slice(), needs_own(request.mode)) {
+        Ok(scenario) => Ok(with_options(scenario, &request.options)),
+        Err(fault) => Err(fault.into()),
     }
 }

@@ -5,6 +5,7 @@ ghost use Rattle.colregs_program.specs.FaultLines.{exit_status_of};
 use command_line::WordsFault;
 use scenario::{Cause, Key};
 use situations::Unready;
+use std::fmt;
 
 /// What is limited.
 #[derive(Clone, Copy, Debug, PartialEq, Eq)]
@@ -21,7 +22,24 @@ pub enum Which {
     Targets,
 }
 
-/// How a run ends. Standard error gets a line that names each fault.
+impl fmt::Display for Which {
+    ghost use Rattle.std.specs.Prelude.{Some};
+    ghost use Rattle.colregs_program.specs.FaultLines.{limited};
+
+    ghost output = { λ which. Some (limited which) };
+
+    fn fmt<W: fmt::Write>(&self, f: &mut fmt::Formatter<W>) -> fmt::Result {
+        f.write_str(match self {
+            Which::Scenario => "scenario",
+            Which::Log => "log",
+            Which::Vessels => "vessels",
+            Which::Pairs => "pairs",
+            Which::Targets => "targets",
+        })
+    }
+}
+
+/// How a run ends. Standard error gets a line that names each fault: it is printed as that line's words.
 #[derive(Clone, Copy, Debug, PartialEq, Eq)]
 pub enum Status {
     /// The whole report is written, and the log that it is of was read to its end.

@@ -1,5 +1,5 @@
 //! A log that is read block by block, and what it decides, written as it is decided.
-ghost use Rattle.std.specs.Prelude.{◌≡◌, ◌≢◌, ◌+◌, ◌-◌, ◌<◌, ◌≤◌, ℕ, length, IfErr, IfOk, IfSome, IsSome, IsTrue, MatchResult, None, Ok, OnOk, List, true, false, vec_len};
+ghost use Rattle.std.specs.Prelude.{◌≡◌, ◌≢◌, ◌+◌, ◌-◌, ◌<◌, ◌≤◌, [], ℕ, length, IfErr, IfOk, IfSome, IsSome, IsTrue, MatchResult, None, Ok, OnOk, List, true, false, vec_len};
 ghost use Rattle.std.specs.declared.option.Option.{Option};
 ghost use Rattle.std.specs.Io.KnownBytes.{Appends, IsAtEnd};
 ghost use Rattle.audit_report.specs.ReportTexts.{HasText};
@@ -183,6 +183,27 @@ fn write_end<K: Sink>(session: Session, out: &mut K) -> Result<bool, StreamFault
     Ok(ending.none)
 }
 
+/// Feeds the session, which was fed nothing yet, the log to its end, and writes what is decided on the way.
+fn feed_log<S: Source, K: Sink>(
+    alloc: Global,
+    session: &mut Session,
+    log: &mut S,
+    out: &mut K,
+) -> Result<(), StreamFault>
+    requires begun { StandsFor session.old [] [] }
+    ensures mode { mode_of session.new ≡ mode_of session.old }
+    ensures scenario { session_scenario session.new ≡ session_scenario session.old }
+    ensures written { OnOk result (HasWritten session.new (S.left log.old) (S.left log.new) (K.contents out.old) (K.contents out.new)) }
+    ensures end { OnOk result (IsAtEnd (S.left log.new)) }
+    ensures cause { IfErr result (StreamCause (mode_of session.old) (session_scenario session.old) (S.left log.old) (S.left log.new) (K.contents out.old) (K.contents out.new)) }
+    ensures log_faults { MatchResult result (λ _. S.faults log.new ≡ S.faults log.old) (LogCount (S.faults log.old) (S.faults log.new)) }
+    ensures out_faults { MatchResult result (λ _. K.faults out.new ≡ K.faults out.old) (OutCount (K.faults out.old) (K.faults out.new)) }
+{
+    let mut block = zeros(alloc, BLOCK)?;
+    while write_block(alloc, session, block.as_mut_slice(), log, out)? {}
+    Ok(())
+}
+
 /// Reads a log to its end and writes the report on it, as it is decided. Tells whether it is one without a manoeuvre.
 pub(crate) fn write_report<S: Source, K: Sink>(
     alloc: Global,
@@ -202,7 +223,6 @@ pub(crate) fn write_report<S: Source, K: Sink>(
     ensures out_faults { MatchResult result (λ _. K.faults out.new ≡ K.faults out.old) (OutCount (K.faults out.old) (K.faults out.new)) }
 {
     let mut session = Session::new(alloc, scenario, mode)?;
-    let mut block = zeros(alloc, BLOCK)?;
-    while write_block(alloc, &mut session, block.as_mut_slice(), log, out)? {}
+    feed_log(alloc, &mut session, log, out)?;
     write_end(session, out)
 }

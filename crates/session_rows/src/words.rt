@@ -20,14 +20,35 @@ fn asked(alloc: Global, texts: &[&str]) -> Result<Request, WordsFault> {
     }
 }
 
-const BARE: Options = Options {
+/// Options, with the name of the rows as a text.
+#[derive(Clone, Copy, Debug, PartialEq, Eq)]
+struct Given {
+    start: Option<u64>,
+    ticks: Option<u32>,
+    seed: u32,
+    why: bool,
+    rows: &'static str,
+}
+
+const BARE: Given = Given {
     start: None,
     ticks: None,
     seed: 1,
+    why: false,
+    rows: "why.csv",
 };
 
 /// Words, and what they ask for: a mode, the name of a scenario, and options.
-type Asked = (&'static [&'static str], Mode, &'static str, Options);
+type Asked = (&'static [&'static str], Mode, &'static str, Given);
+
+/// Whether the options are these.
+fn are_given(rt: &impl Abort, options: &Options, wanted: &Given) {
+    is(rt, options.start, wanted.start);
+    is(rt, options.ticks, wanted.ticks);
+    is(rt, options.seed, wanted.seed);
+    is(rt, options.why, wanted.why);
+    is(rt, options.rows.text(), wanted.rows);
+}
 
 /// Whether the words of each row ask for what stands behind them.
 fn are_asked(rt: &impl Abort, alloc: Global, rows: &[Asked]) {
@@ -36,7 +57,7 @@ fn are_asked(rt: &impl Abort, alloc: Global, rows: &[Asked]) {
             Ok(request) => {
                 is(rt, request.mode, *mode);
                 is(rt, request.name.text(), *name);
-                is(rt, request.options, *options);
+                are_given(rt, &request.options, options);
             }
             Err(_) => assert!(rt; false, "{name}"),
         }
@@ -64,20 +85,40 @@ fn two_words_of_every_mode(rt: HostRuntime) {
     are_asked(&rt, rt.alloc(), &OF_EVERY_MODE);
 }
 
-const FOUR: Options = Options {
+const FOUR: Given = Given {
     start: None,
     ticks: Some(4),
     seed: 1,
+    why: false,
+    rows: "why.csv",
 };
 
-const ALL: Options = Options {
+const ALL: Given = Given {
     start: Some(9_999_999_999),
     ticks: Some(20_000),
     seed: 0,
+    why: false,
+    rows: "why.csv",
+};
+
+const WHY: Given = Given {
+    start: None,
+    ticks: None,
+    seed: 1,
+    why: true,
+    rows: "why.csv",
+};
+
+const ROWS: Given = Given {
+    start: None,
+    ticks: None,
+    seed: 1,
+    why: false,
+    rows: "-b",
 };
 
 #[rattlefmt::skip]
-const WITH_OPTIONS: [Asked; 9] = [
+const WITH_OPTIONS: [Asked; 13] = [
     (&["audit", "a", "--ticks", "4"], Mode::Audit, "a", FOUR),
     (&["--ticks", "4", "audit", "a"], Mode::Audit, "a", FOUR),
     (&["audit", "--ticks=4", "a"], Mode::Audit, "a", FOUR),
@@ -87,6 +128,10 @@ const WITH_OPTIONS: [Asked; 9] = [
     (&["audit", "a", "--ticks=+4"], Mode::Audit, "a", FOUR),
     (&["--seed", "00", "--start=9999999999", "--ticks=0020000", "drill", "a"], Mode::Drill, "a", ALL),
     (&["--seed", "0", "drill", "--start=9999999999", "a", "--ticks", "20000"], Mode::Drill, "a", ALL),
+    (&["plan", "--why", "a"], Mode::Plan, "a", WHY),
+    (&["plan", "--rows", "why.csv", "--why", "--", "a"], Mode::Plan, "a", WHY),
+    (&["--rows=-b", "plan", "a"], Mode::Plan, "a", ROWS),
+    (&["audit", "--", "--why"], Mode::Audit, "--why", BARE),
 ];
 
 #[test]
@@ -128,6 +173,23 @@ const NO_COMMAND_LINES: [&[&str]; 11] = [
     &["audit", "a", "--", "--ticks", "4"],
     &["audit", "a", "--help"],
 ];
+
+#[rattlefmt::skip]
+const NO_FLAGS_OR_TEXTS: [&[&str]; 8] = [
+    &["plan", "a", "--why", "--why"],
+    &["plan", "a", "--why=true"],
+    &["plan", "a", "--why="],
+    &["plan", "a", "--why", "true"],
+    &["plan", "a", "--rows"],
+    &["plan", "a", "--rows", "-b"],
+    &["plan", "a", "--rows", "--why"],
+    &["plan", "a", "--rows", "b", "--rows", "b"],
+];
+
+#[test]
+fn flags_and_texts_out_of_form(rt: HostRuntime) {
+    are_usage(&rt, rt.alloc(), &NO_FLAGS_OR_TEXTS);
+}
 
 #[test]
 fn words_that_are_no_command_line(rt: HostRuntime) {

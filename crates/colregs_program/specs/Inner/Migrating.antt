@@ -6,6 +6,8 @@ use Rattle.scenario.specs.Migration.{IsMigrated, IsNotMigrated}
 use Rattle.colregs_program.specs.Answers.{CanMigrate, HoldsUnder, LiesUnder, greatest_scenario}
 use Rattle.colregs_program.specs.Inner.SetUps.{answer_of}
 use Rattle.command_line.specs.declared.request.Request.{Request}
+use Rattle.scenario_keys.specs.declared.key.Key.{Key}
+use Rattle.scenario_keys.specs.declared.cause.Cause.{Cause}
 use Rattle.colregs_program.specs.declared.set_up.SetUpFault.{SetUpFault}
 use Rattle.colregs_program.specs.declared.set_up.SetUpFault.TheVariants as fault
 use Rattle.colregs_program.specs.declared.status.Status.{Status}
@@ -16,22 +18,24 @@ use Rattle.colregs_program.specs.declared.status.Which.TheVariants as which
 abbrev pub HoldsMigrated : Option Files → List ℕ → (List ℕ → Type 0) → Type 0
 HoldsMigrated files name P = HoldsUnder files name (λ text. (length text ≤ greatest_scenario) × (migrated : List ℕ) × IsMigrated text migrated × P migrated)
 
--- the answer that the bytes under the name call for, where they are to be migrated
+-- too long for a scenario, refused for a cause, or with nothing against it
+abbrev pub IsLong : List ℕ → Type 0
+IsLong text = greatest_scenario < length text
+
+abbrev pub IsRefusal : Key → Cause → List ℕ → Type 0
+IsRefusal key cause text = (length text ≤ greatest_scenario) × IsNotMigrated text key cause
+
+abbrev pub MayBe : List ℕ → Type 0
+MayBe text = (length text ≤ greatest_scenario) × CanMigrate text
+
+-- The answer that the bytes under the name call for, where they are to be migrated: nothing lies there, or too much; or it is told why they are
+-- not migrated, or they can be.
 abbrev pub IsMigrationDue : Request → Option Files → Status → Type 0
-IsMigrationDue request files status.ShelfFault = IsMissing files request.name
-IsMigrationDue request files (status.Limit which.Scenario most) = (most ≡ greatest_scenario) × LiesUnder files request.name (λ text. greatest_scenario < length text)
-IsMigrationDue request files (status.Scenario key cause) = LiesUnder files request.name (λ text. (length text ≤ greatest_scenario) × IsNotMigrated text key cause)
-IsMigrationDue request files status.Done = LiesUnder files request.name (λ text. (length text ≤ greatest_scenario) × CanMigrate text)
-IsMigrationDue request files status.Usage = ⊥
-IsMigrationDue request files (status.Limit which.Log most) = ⊥
-IsMigrationDue request files (status.Limit which.Vessels most) = ⊥
-IsMigrationDue request files (status.Limit which.Pairs most) = ⊥
-IsMigrationDue request files (status.Limit which.Targets most) = ⊥
-IsMigrationDue request files (status.OwnUnready why) = ⊥
-IsMigrationDue request files status.NoManoeuvre = ⊥
-IsMigrationDue request files status.ReadFault = ⊥
-IsMigrationDue request files status.WriteFault = ⊥
-IsMigrationDue request files status.Memory = ⊥
+IsMigrationDue request files answer =
+    ((answer ≡ status.ShelfFault) × IsMissing files request.name)
+    ⊎ (((answer ≡ status.Limit which.Scenario greatest_scenario) × LiesUnder files request.name IsLong)
+    ⊎ (((key : Key) × (cause : Cause) × (answer ≡ status.Scenario key cause) × LiesUnder files request.name (IsRefusal key cause))
+    ⊎ ((answer ≡ status.Done) × LiesUnder files request.name MayBe)))
 
 -- A migration that came to this gives the answer, or found no memory.
 abbrev pub ComesTo : Result (Vec ℕ Global) SetUpFault → Status → Type 0

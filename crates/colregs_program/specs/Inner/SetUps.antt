@@ -8,6 +8,8 @@ use Rattle.scenario_keys.specs.declared.fault.ScenarioFault.TheVariants as refus
 use Rattle.colregs_program.specs.Answers.{HoldsUnder, IsRefusedBy, IsScenario, LiesUnder, greatest_scenario}
 use Rattle.command_line.specs.declared.request.Options.{Options}
 use Rattle.command_line.specs.declared.request.Request.{Request}
+use Rattle.colregs_program.specs.declared.fetching.FetchFault.{FetchFault}
+use Rattle.colregs_program.specs.declared.fetching.FetchFault.TheVariants as fetch
 use Rattle.colregs_program.specs.declared.set_up.SetUpFault.{SetUpFault}
 use Rattle.colregs_program.specs.declared.set_up.SetUpFault.TheVariants as fault
 use Rattle.colregs_program.specs.declared.status.Status.{Status}
@@ -24,6 +26,12 @@ pub record AreOptions (options : Options) : Type 0 where
 abbrev pub set_up_fault : ScenarioFault → SetUpFault
 set_up_fault (refusal.Fault key cause) = fault.Refused key cause
 set_up_fault refusal.Memory = fault.Memory
+
+-- the fault of a scenario that was not had
+abbrev pub unhad_fault : FetchFault → SetUpFault
+unhad_fault fetch.NotHad = fault.NotHad
+unhad_fault fetch.TooLong = fault.TooLong
+unhad_fault fetch.Memory = fault.Memory
 
 -- the answer of a run that ends with this fault
 abbrev pub answer_of : SetUpFault → Status

@@ -9,10 +9,7 @@ use Rattle.audit_report.specs.declared.report_text.ReportText.{ReportText}
 use Rattle.outside.specs.declared.whole.ReadFault.TheVariants as read
 use Rattle.command_line.specs.declared.mode.Mode.{Mode}
 use Rattle.command_line.specs.declared.request.Request.{Request}
-use Rattle.log_lines.specs.JudgedLines.{greatest_held}
-use Rattle.situations.specs.PlanSituations.{greatest_targets}
 use Rattle.scenario.specs.declared.values.Scenario.{Scenario}
-use Rattle.traces.specs.declared.all_traces.TheConstants.{MOST_TRACES}
 use Rattle.sessions.specs.Endings.{IsAnswerTo}
 use Rattle.sessions.specs.Modes.{reads_log}
 use Rattle.sessions.specs.Refusals.{IsStopped, IsUnrefused}
@@ -20,12 +17,11 @@ use Rattle.sessions.specs.Standing.{StandsFor, mode_of, session_scenario}
 use Rattle.sessions.specs.declared.session.Session.{Session}
 use Rattle.sessions.specs.declared.session_fault.SessionFault.{SessionFault}
 use Rattle.sessions.specs.declared.session_fault.SessionFault.TheVariants as why
-use Rattle.colregs_program.specs.LogAnswers.{GainsFront, GainsPart, GainsSettled, LeavesPart, LeavesSettled, answer_of}
+use Rattle.colregs_program.specs.LogAnswers.{GainsFront, GainsPart, GainsSettled, LeavesPart, LeavesSettled, answer_of, answer_without}
 use Rattle.colregs_program.specs.AskedScenarios.{log_of}
 use Rattle.colregs_program.specs.Answers.{EndsWith, StopsWith, WritesPart}
 use Rattle.colregs_program.specs.declared.status.Status.{Status}
 use Rattle.colregs_program.specs.declared.status.Status.TheVariants as status
-use Rattle.colregs_program.specs.declared.status.Which.TheVariants as which
 use Rattle.colregs_program.specs.declared.streaming.StreamFault.{StreamFault}
 use Rattle.colregs_program.specs.declared.streaming.StreamFault.TheVariants as fault
 
@@ -36,12 +32,7 @@ no_memory = fault.Unreported why.Memory
 abbrev pub stream_status : StreamFault → ℕ → Status
 stream_status fault.NotRead most = status.ReadFault
 stream_status fault.NotWritten most = status.WriteFault
-stream_status (fault.Unreported why.Vessels) most = status.Limit which.Vessels greatest_held
-stream_status (fault.Unreported why.Pairs) most = status.Limit which.Pairs MOST_TRACES
-stream_status (fault.Unreported why.LogBytes) most = status.Limit which.Log most
-stream_status (fault.Unreported (why.Own lack)) most = status.OwnUnready lack
-stream_status (fault.Unreported why.Targets) most = status.Limit which.Targets greatest_targets
-stream_status (fault.Unreported why.Memory) most = status.Memory
+stream_status (fault.Unreported because) most = answer_without because most
 
 -- The session was fed what was taken of the log, and the sink gained what it has given.
 pub record HasWritten (session : Session) (left left' contents contents' : Option (List ℕ)) : Type 0 where

@@ -241,3 +241,8 @@ returns-clause-unfetched g c = λ nothing. absurd (asked_or_nothing c.args.words
 
 pub returns-clause-unread : goal.returns-clause-unread
 returns-clause-unread g c = λ request asks not. c.report_on.ensures.untouched (unread_too c.args.words.now request c.in-Ok.request asks c.in-Ok.ensures.asked not)
+
+-- ---- the seed of a drill
+
+pub report_on-requires-clause-seed : goal.report_on-requires-clause-seed
+report_on-requires-clause-seed g c = (options_in_range c.args.words.now c.in-Ok.request c.in-Ok.ensures.asked).seed

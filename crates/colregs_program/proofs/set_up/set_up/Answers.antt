@@ -7,15 +7,13 @@ use Rattle.colregs_program.proofs.set_up.set_up.Goals as goal
 
 pub returns-in-Ok-clause-due : goal.returns-in-Ok-clause-due
 returns-in-Ok-clause-due g c = λ due is_due.
-    let content = rw c.in-Bytes.is at c.fetch.ensures.content in
     let read = rw (c.as_slice.ensures.value, c.needs_own.ensures) at c.in-Ok.ensures in
-    rw c.with_options.ensures (inr (due-from_read c.args.request.now _ c.in-Bytes.text (Ok c.in-Ok.scenario) c.requires.reports content read.meant read.told due is_due))
+    rw c.with_options.ensures (inr (due-from_read c.args.request.now _ c.in_ok-text.text (Ok c.in-Ok.scenario) c.requires.reports c.in_ok-text.ensures.content read.meant read.told due is_due))
 
-pub returns-in-Bytes-clause-due : goal.returns-in-Bytes-clause-due
-returns-in-Bytes-clause-due g c = λ due is_due.
-    let content = rw c.in-Bytes.is at c.fetch.ensures.content in
+pub returns-clause-due : goal.returns-clause-due
+returns-clause-due g c = λ due is_due.
     let read = rw (c.as_slice.ensures.value, c.needs_own.ensures) at c.in-Err.ensures in
-    rw c.into.ensures (inr (due-from_read c.args.request.now _ c.in-Bytes.text (Err c.in-Err.fault) c.requires.reports content read.meant read.told due is_due))
+    rw c.into.ensures (inr (due-from_read c.args.request.now _ c.in_ok-text.text (Err c.in-Err.fault) c.requires.reports c.in_ok-text.ensures.content read.meant read.told due is_due))
 
 pub returns-in-Ok-clause-own : goal.returns-in-Ok-clause-own
 returns-in-Ok-clause-own g c = λ needed.
