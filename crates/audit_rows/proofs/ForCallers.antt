@@ -12,7 +12,8 @@ use Rattle.audit_rows.specs.Tracks.{AreSettled, Continue, IsNew, IsNextAt, Track
 use Rattle.audit_rows.proofs.Queues.{given_rows}
 use Rattle.audit_rows.proofs.Fronts.{sorted_filter}
 use Rattle.audit_rows.proofs.Places.{place_total}
-use Rattle.audit_rows.proofs.StrictOrder.{all_different, in_cons, in_head, in_none, in_tail}
+use Rattle.outside.proofs.Members.{in_cons, in_head, in_none, in_tail}
+use Rattle.audit_rows.proofs.StrictOrder.{all_different}
 use Rattle.audit_rows.proofs.Stretches.{closed_front, closed_further}
 -- the laws, and that rows below a settled bound are those of whatever the tracks become
 pub use Rattle.audit_rows.proofs.Fronts.{one_list, front_of_all, still_below, from_filter, in_filter}

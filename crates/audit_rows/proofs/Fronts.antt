@@ -10,7 +10,8 @@ use Rattle.audit_rows.specs.declared.row.Row.{Row}
 use Rattle.audit_rows.specs.Order.{last_step_of, place_cmp, sort_key_of}
 use Rattle.audit_rows.specs.Rows.{AreRows, AreRowsBelow, IsRow}
 use Rattle.audit_rows.specs.Tracks.{AreSettled, Continue, Track}
-use Rattle.audit_rows.proofs.StrictOrder.{in_cons, in_head, in_tail, in_none, less_than, all_from, sorted_append, same_list}
+use Rattle.outside.proofs.Members.{in_cons, in_head, in_none, in_tail}
+use Rattle.audit_rows.proofs.StrictOrder.{less_than, all_from, sorted_append, same_list}
 use Rattle.audit_rows.proofs.Places.{place_total, earlier_first}
 use Rattle.audit_rows.proofs.Tracks.{row_still, row_before, settled_is_closed}
 

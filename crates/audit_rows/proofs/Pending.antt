@@ -12,7 +12,7 @@ use Rattle.audit_rows.specs.declared.row.Row.{Row}
 use Rattle.audit_rows.specs.Order.{InOrder, last_step_of, place_cmp, sort_key_of, topic_of}
 use Rattle.audit_rows.specs.Inner.Queues.{ArePlaced}
 use Rattle.audit_rows.proofs.Places.{derived_cmp, derived_is, same_place}
-use Rattle.audit_rows.proofs.StrictOrder.{in_cons, in_head, in_tail, in_none}
+use Rattle.outside.proofs.Members.{in_cons, in_head, in_none, in_tail}
 
 -- the pending entries at one place each
 pub keys_are_places : (es : List (SortKey × Row)) → ArePlaced es → keys_of es ≡ map sort_key_of (values_of es)

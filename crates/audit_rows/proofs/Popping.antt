@@ -11,7 +11,8 @@ use Rattle.audit_rows.specs.declared.row.Row.{Row}
 use Rattle.audit_rows.specs.Order.{last_step_of, place_cmp, sort_key_of}
 use Rattle.audit_rows.specs.Inner.Queues.{ArePlaced, IsPopping, IsPopped}
 use Rattle.audit_rows.proofs.Places.{derived_cmp, derived_is, not_later}
-use Rattle.audit_rows.proofs.StrictOrder.{in_none, all_at}
+use Rattle.outside.proofs.Members.{in_none}
+use Rattle.audit_rows.proofs.StrictOrder.{all_at}
 use Rattle.audit_rows.proofs.Pending.{keys_are_places}
 
 pub nothing_popped : (bound : ℕ) (old : List (SortKey × Row)) → ArePlaced old → IsPopping bound old [] old

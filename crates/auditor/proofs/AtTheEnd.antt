@@ -9,7 +9,7 @@ use Rattle.auditor.specs.TraceKeeping.{AreRuleMarksWhole, AreRuleTracks, AreTrac
 use Rattle.auditor.specs.SettledRows.{formulas_of}
 use Rattle.auditor.specs.Inner.AuditKeeping.{AreTracksOfAll}
 use Rattle.auditor.specs.Inner.TracesKept.{IsAtStep}
-use Rattle.traces.proofs.ForCallers.{in_head, in_tail}
+use Rattle.outside.proofs.Members.{in_head, in_tail}
 
 -- The trace has so many steps and rows that its next ones would be at this step.
 pub record EndsAt (end : ℕ) (known : Known) : Type 0 where

@@ -13,7 +13,8 @@ use Rattle.traces.specs.Known.{Known, opened, pairs_of}
 use Rattle.auditor.specs.Inner.AuditKeeping.{AreAllTracks, AreTracksOfAll}
 use Rattle.auditor.specs.Tallies.{IsUnknown, begun_rules, begun_tracks, pair_of}
 use Rattle.auditor.specs.TraceKeeping.{AreRuleMarksSoFar, AreRuleTracks, AreTracks, AreTracksSoFar}
-use Rattle.traces.proofs.ForCallers.{in_cons, in_head, in_map, in_tail}
+use Rattle.outside.proofs.Members.{in_cons, in_head, in_tail}
+use Rattle.traces.proofs.ForCallers.{in_map}
 use Rattle.auditor.proofs.TracksOf.{found_rule, found_trace}
 
 -- ---- the tracks of a further trace

@@ -8,7 +8,8 @@ use Rattle.audit_rows.specs.Tracks.{AreSettled, Track, next_step}
 use Rattle.audit_rows.proofs.ForCallers.{settled_by_reach}
 use Rattle.traces.specs.Audited.{AuditNumbers, Sighting}
 use Rattle.traces.specs.Known.{AreKnown, Known}
-use Rattle.traces.proofs.ForCallers.{in_cons, known_within, steps_count}
+use Rattle.outside.proofs.Members.{in_cons}
+use Rattle.traces.proofs.ForCallers.{known_within, steps_count}
 use Rattle.auditor.specs.Inner.AuditKeeping.{AreAllTracks}
 use Rattle.auditor.specs.Inner.TracesKept.{IsAtStep}
 use Rattle.auditor.specs.SettledRows.{settled_by}

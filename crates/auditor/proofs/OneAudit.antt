@@ -18,7 +18,8 @@ use Rattle.auditor.specs.RuleCounts.{told}
 use Rattle.auditor.specs.declared.total.Total.{Total}
 use Rattle.auditor.specs.AuditRows.{AreAuditRows, IsAuditRow}
 use Rattle.auditor.specs.AuditTotals.{AreTotals, AreTraces, IsTotal, Traced, positions_with}
-use Rattle.traces.proofs.ForCallers.{different_from_map, from_map, in_cons, in_head, in_none, in_tail, one_beginning, same_sum}
+use Rattle.outside.proofs.Members.{in_cons, in_head, in_none, in_tail}
+use Rattle.traces.proofs.ForCallers.{different_from_map, from_map, one_beginning, same_sum}
 
 module _ (numbers : AuditNumbers) (ticks : List Sighting) where
   -- ---- rows

@@ -25,7 +25,8 @@ use Rattle.audit_rows.specs.Tracks.{IsNew, Track}
 use Rattle.audit_rows.proofs.ForCallers.{different_keys, from_filter, in_filter, in_rows, ordered_filter, row_in}
 use Rattle.auditor.specs.RuleCounts.{is_run_of}
 use Rattle.auditor.specs.Tallies.{counted, is_of_rule, of_rule}
-use Rattle.traces.proofs.ForCallers.{different_append, different_map, different_none, few_different, from_map, in_cons, in_head, in_map, in_none, in_tail}
+use Rattle.outside.proofs.Members.{in_cons, in_head, in_none, in_tail}
+use Rattle.traces.proofs.ForCallers.{different_append, different_map, different_none, few_different, from_map, in_map}
 
 compared : (k n : ℕ) → (k < n) ⊎ (n ≤ k)
 compared k n = grind arith

@@ -15,7 +15,8 @@ use Rattle.audit_rows.specs.Tracks.{Track}
 use Rattle.audit_rows.specs.declared.mark.Mark.{Mark}
 use Rattle.audit_rows.specs.declared.topic.Topic.{Topic}
 use Rattle.audit_rows.specs.declared.topic.Topic.TheVariants.{Meeting, Verdict}
-use Rattle.traces.proofs.ForCallers.{from_map, in_cons, in_head, in_none, in_tail, one_beginning}
+use Rattle.outside.proofs.Members.{in_cons, in_head, in_none, in_tail}
+use Rattle.traces.proofs.ForCallers.{from_map, one_beginning}
 use Rattle.traces.specs.Audited.{Begins, AuditNumbers, Sighting, terms_of, trace_steps}
 use Rattle.traces.specs.Known.{AreKnown, IsKnown, Known}
 use Rattle.auditor.specs.AuditTracks.{AreMarksOf, AreMeetingMarks, AreRuleMarks, IsTrack}

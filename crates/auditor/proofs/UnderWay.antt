@@ -22,7 +22,8 @@ use Rattle.traces.specs.Audited.{AuditNumbers, Sighting, last_sighting, step_of,
 use Rattle.traces.specs.Known.{AreOpened, IsFollowed, Known, opened, pairs_of, watched}
 use Rattle.traces.specs.Standing.{StandsFor as TracesStandFor, latest_sighting, traces_of}
 use Rattle.traces.specs.declared.all_traces.AllTraces.{AllTraces}
-use Rattle.traces.proofs.ForCallers.{different_pairs, in_head, in_tail, known_count, zip_at, zip_length, zip_push, zip_set}
+use Rattle.outside.proofs.Members.{in_head, in_tail}
+use Rattle.traces.proofs.ForCallers.{different_pairs, known_count, zip_at, zip_length, zip_push, zip_set}
 use Rattle.auditor.specs.Inner.AuditKeeping.{AreAllTracks, AreTracksOfAll}
 use Rattle.auditor.specs.Inner.TracesKept.{AreFinished, AreStepped, Holds, IsAtStep}
 use Rattle.audit_rows.specs.Inner.Queues.{StandsFor as Keeps}

@@ -5,17 +5,17 @@ use Rattle.mtl_formulas.specs.declared.verdict.Verdict.TheVariants.{No, Open, Ye
 use Rattle.mtl_formulas.specs.VerdictOrder.{least, greatest}
 use Rattle.mtl_formulas.specs.FormulaValue.{greatest_over, least_over}
 
-greatest_no : (v : Verdict) → greatest v No ≡ v
+pub greatest_no : (v : Verdict) → greatest v No ≡ v
 greatest_no No = refl
 greatest_no Open = refl
 greatest_no Yes = refl
 
-least_yes : (v : Verdict) → least v Yes ≡ v
+pub least_yes : (v : Verdict) → least v Yes ≡ v
 least_yes No = refl
 least_yes Open = refl
 least_yes Yes = refl
 
-greatest_assoc : (u v w : Verdict) → greatest (greatest u v) w ≡ greatest u (greatest v w)
+pub greatest_assoc : (u v w : Verdict) → greatest (greatest u v) w ≡ greatest u (greatest v w)
 greatest_assoc No v w = refl
 greatest_assoc Yes v w = refl
 greatest_assoc Open No w = refl
@@ -24,7 +24,7 @@ greatest_assoc Open Open No = refl
 greatest_assoc Open Open Open = refl
 greatest_assoc Open Open Yes = refl
 
-least_assoc : (u v w : Verdict) → least (least u v) w ≡ least u (least v w)
+pub least_assoc : (u v w : Verdict) → least (least u v) w ≡ least u (least v w)
 least_assoc No v w = refl
 least_assoc Yes v w = refl
 least_assoc Open No w = refl

@@ -8,27 +8,10 @@ use Rattle.circular_buffer.specs.Buffer.{buffer, keep_last}
 use Rattle.mtl_formulas.specs.declared.verdict.Verdict.{Verdict}
 use Rattle.mtl_formulas.specs.declared.verdict.Verdict.TheVariants.{No, Open, Yes}
 use Rattle.mtl_formulas.specs.VerdictOrder.{least, greatest}
+use Rattle.mtl_formulas.proofs.Verdicts.{greatest_assoc, greatest_no, least_assoc, least_yes}
 use Rattle.mtl_monitor.specs.declared.lookahead.Stretch.{Stretch}
 use Rattle.mtl_monitor.specs.declared.lookahead.Lookahead.{Lookahead}
 use Rattle.mtl_monitor.specs.Inner.Lookahead.{nowhere, single, joined, first_of, with_all_after, lookahead_with, lookahead_after, lookahead_value, reached_over, stretch_over, singles, to_the_last, Reads, untouched}
-
-least_assoc : (u v w : Verdict) → least (least u v) w ≡ least u (least v w)
-least_assoc No v w = refl
-least_assoc Yes v w = refl
-least_assoc Open No w = refl
-least_assoc Open Yes w = refl
-least_assoc Open Open No = refl
-least_assoc Open Open Open = refl
-least_assoc Open Open Yes = refl
-
-greatest_assoc : (u v w : Verdict) → greatest (greatest u v) w ≡ greatest u (greatest v w)
-greatest_assoc No v w = refl
-greatest_assoc Yes v w = refl
-greatest_assoc Open No w = refl
-greatest_assoc Open Yes w = refl
-greatest_assoc Open Open No = refl
-greatest_assoc Open Open Open = refl
-greatest_assoc Open Open Yes = refl
 
 pub least-greatest : (u v w : Verdict) → greatest (least u v) (least u w) ≡ least u (greatest v w)
 least-greatest No v w = refl
@@ -40,16 +23,6 @@ least-greatest Open Open Yes = refl
 least-greatest Open Yes No = refl
 least-greatest Open Yes Open = refl
 least-greatest Open Yes Yes = refl
-
-greatest_no : (v : Verdict) → greatest v No ≡ v
-greatest_no No = refl
-greatest_no Open = refl
-greatest_no Yes = refl
-
-least_yes : (v : Verdict) → least v Yes ≡ v
-least_yes No = refl
-least_yes Open = refl
-least_yes Yes = refl
 
 least_no : (v : Verdict) → least v No ≡ No
 least_no No = refl

@@ -8,7 +8,7 @@ use Rattle.std.specs.declared.cmp.Ordering.TheVariants.{Less, Equal, Greater}
 use Rattle.std.proofs.lemmas.Bool.Decides.{nat_tests}
 use Rattle.std.proofs.lemmas.Cmp.{nat_cmp_total}
 use Rattle.meetings.specs.declared.pair.Pair.{Pair}
-use Rattle.traces.proofs.ForCallers.{in_cons, in_head, in_none, in_tail}
+use Rattle.outside.proofs.Members.{in_cons, in_head, in_none, in_tail}
 use Rattle.audit_rows.specs.Order.{InOrder, pair_cmp, place_cmp, sort_key_of, topic_cmp}
 use Rattle.audit_rows.specs.declared.sort_key.SortKey.{SortKey}
 use Rattle.audit_rows.specs.declared.row.Row.{Row}

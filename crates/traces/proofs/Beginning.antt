@@ -10,7 +10,7 @@ use Rattle.traces.specs.Contacts.{AreContacts}
 use Rattle.traces.specs.Inner.TracesKept.{AreBegun, AreTooMany, Grew, HaveBoth, Holds, IsBeginning, IsTaken, MayTake, swapped}
 use Rattle.traces.specs.Known.{Known, pairs_of}
 use Rattle.traces.specs.declared.all_traces.AllTraces.{AllTraces}
-use Rattle.traces.proofs.Members.{in_cons, in_none}
+use Rattle.outside.proofs.Members.{in_cons, in_none}
 use Rattle.traces.proofs.Taking.{grew_on, pairs_still}
 use Rattle.traces.proofs.Ticks.{audited_back, contact_back}
 

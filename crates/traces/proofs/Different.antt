@@ -6,7 +6,7 @@ use Rattle.std.proofs.lemmas.List.Elements.{Contains-append_left, Contains-appen
 use Rattle.std.proofs.lemmas.List.Kept.{AllPairs-cons}
 use Rattle.std.proofs.lemmas.List.Quantifiers.{all_pairs_push}
 use Rattle.std.proofs.lemmas.List.Sums.{sum_by-append, sum_by-cons}
-use Rattle.traces.proofs.Members.{in_cons, in_head, in_none, in_tail}
+use Rattle.outside.proofs.Members.{in_cons, in_head, in_none, in_tail}
 
 module _ {X : Type 0} where
   pub different_none : AllPairs {X = X} ◌≢◌ []

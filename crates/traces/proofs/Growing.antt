@@ -9,7 +9,7 @@ use Rattle.traces.specs.Inner.TracesKept.{Follows, Holds}
 use Rattle.traces.specs.Known.{IsFollowed, Known, opened, pairs_of}
 use Rattle.traces.specs.declared.all_traces.AllTraces.{AllTraces}
 use Rattle.traces.specs.declared.followed_trace.FollowedTrace.{FollowedTrace}
-use Rattle.traces.proofs.Members.{in_cons, in_head, in_none, in_tail}
+use Rattle.outside.proofs.Members.{in_cons, in_head, in_none, in_tail}
 
 -- ---- lists of traces and what they stand for
 

@@ -1,5 +1,4 @@
 pub mod ForCallers
-mod Members
 mod Pairs
 mod Ticks
 mod Different

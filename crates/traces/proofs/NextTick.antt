@@ -18,7 +18,7 @@ use Rattle.traces.specs.declared.all_traces.AllTraces.{AllTraces}
 use Rattle.traces.specs.declared.all_traces.TheConstants.{MOST_TRACES}
 use Rattle.traces.proofs.Different.{different_before, different_cons, few_different, from_map}
 use Rattle.traces.proofs.Growing.{pairs_followed, zip_length, zip_member}
-use Rattle.traces.proofs.Members.{in_cons}
+use Rattle.outside.proofs.Members.{in_cons}
 use Rattle.traces.proofs.Taking.{pairs_still}
 use Rattle.traces.proofs.Ticks.{began_before, begins_back, begins_now, begins_still, begins_until, begun_within, contact_is_now, no_steps, steps_then}
 

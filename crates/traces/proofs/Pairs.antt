@@ -10,7 +10,7 @@ use Rattle.std.proofs.lemmas.Map.Lookups.{CmpEqualImpliesEq, exact_unsigned}
 use Rattle.meetings.specs.contracts.pair.PairOrd.TheImpl as pair_ord
 use Rattle.meetings.specs.contracts.pair.PairOrd.TheImpl.Laws as pair_laws
 use Rattle.meetings.specs.declared.pair.Pair.{Pair}
-use Rattle.traces.proofs.Members.{in_cons, in_head, in_none, in_tail}
+use Rattle.outside.proofs.Members.{in_cons, in_head, in_none, in_tail}
 
 abbrev pub pair_cmp : Pair → Pair → Ordering
 pair_cmp = (pair_ord.ghosts).cmp

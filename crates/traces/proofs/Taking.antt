@@ -10,7 +10,7 @@ use Rattle.traces.specs.Known.{AreOpened, Known, opened, pairs_of}
 use Rattle.traces.specs.declared.all_traces.AllTraces.{AllTraces}
 use Rattle.traces.proofs.Different.{different_push}
 use Rattle.traces.proofs.Growing.{pair_pushed, pairs_push}
-use Rattle.traces.proofs.Members.{in_cons, in_none}
+use Rattle.outside.proofs.Members.{in_cons, in_none}
 use Rattle.traces.proofs.Ticks.{audited_back, contact_back}
 
 opened_more : (start : ℕ) (xs ys : List Known) → AreOpened start xs → AreOpened start ys → AreOpened start (xs ++ ys)

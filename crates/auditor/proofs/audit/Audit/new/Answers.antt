@@ -1,7 +1,8 @@
 use Rattle.std.proofs.Common.{◌≡◌, ℕ, [], List, refl, sym, subst, arith}
 use Rattle.std.specs.List.{AllZip}
 use Rattle.traces.specs.Audited.{AuditNumbers}
-use Rattle.traces.proofs.ForCallers.{begun_within, different_none, in_none}
+use Rattle.outside.proofs.Members.{in_none}
+use Rattle.traces.proofs.ForCallers.{begun_within, different_none}
 use Rattle.auditor.specs.SettledRows.{settled_by}
 use Rattle.audit_rows.specs.Inner.Queues.{StandsFor as Keeps}
 use Rattle.auditor.specs.TraceKeeping.{StandsFor}
