@@ -16,7 +16,7 @@ use Rattle.audit_rows.specs.Inner.Closed.{Closes, IsClosed, IsClosedOf}
 use Rattle.audit_rows.specs.Order.{last_step_of, place_cmp, sort_key_of}
 use Rattle.audit_rows.specs.Rows.{AreRows, IsRow, IsRowOf}
 use Rattle.audit_rows.specs.Tracks.{EndAt, Track, longer, marked, next_step}
-use Rattle.audit_rows.specs.Inner.Queues.{Holds}
+use Rattle.audit_rows.specs.Standing.{Holds}
 use Rattle.audit_rows.proofs.Sorts.{tells_of_something}
 use Rattle.audit_rows.proofs.Stretches.{closed_further}
 use Rattle.audit_rows.proofs.Closing.{newly_closed, now_closed}

@@ -1,14 +1,14 @@
 -- Lemmas for the crates above: the rows of tracks from those of each track, tracks among others, and what later marks leave as it is.
-use Rattle.std.proofs.Common.{◌≡◌, ◌≢◌, ℕ, Bool, map, ◌+◌, ◌<◌, ◌≤◌, List, [], ◌∷◌, ◌++◌, length, refl, sym, ap, subst, arith, ◌⊎◌, inl, inr}
+use Rattle.std.proofs.Common.{◌≡◌, ◌≢◌, ℕ, Bool, map, ◌+◌, ◌<◌, ◌≤◌, List, [], ◌∷◌, ◌++◌, length, sym, subst, arith, ◌⊎◌, inl, inr}
 use Rattle.std.specs.List.{AllPairs, Contains, filter}
 use Rattle.audit_rows.specs.declared.mark.Mark.{Mark}
 use Rattle.audit_rows.specs.declared.row.Row.{Row}
 use Rattle.audit_rows.specs.declared.row_queue.RowQueue.{RowQueue}
 use Rattle.audit_rows.specs.declared.topic.Topic.{Topic}
-use Rattle.audit_rows.specs.Inner.Queues.{StandsFor}
 use Rattle.audit_rows.specs.Order.{InOrder, first_step_of, last_step_of, place_cmp, sort_key_of}
 use Rattle.audit_rows.specs.Rows.{AreRowsBelow, IsRow, IsRowOf}
-use Rattle.audit_rows.specs.Tracks.{AreSettled, Continue, IsNew, IsNextAt, Track, longer, marked, next_step}
+use Rattle.audit_rows.specs.Standing.{QueueStandsFor}
+use Rattle.audit_rows.specs.Tracks.{AreSettled, Continue, IsNew, IsNextAt, Track, next_step}
 use Rattle.audit_rows.proofs.Queues.{given_rows}
 use Rattle.audit_rows.proofs.Fronts.{sorted_filter}
 use Rattle.audit_rows.proofs.Places.{place_total}
@@ -18,8 +18,8 @@ use Rattle.audit_rows.proofs.Stretches.{closed_front, closed_further}
 -- the laws, and that rows below a settled bound are those of whatever the tracks become
 pub use Rattle.audit_rows.proofs.Fronts.{one_list, front_of_all, still_below, from_filter, in_filter}
 pub use Rattle.audit_rows.proofs.Tracks.{settled_by_reach}
--- a mark that repeats the last one
-pub use Rattle.audit_rows.proofs.Repeats.{repeated}
+-- a mark of a track among others, and one that repeats the last
+pub use Rattle.audit_rows.proofs.Repeats.{marked_there, repeated}
 
 -- ---- the rows of tracks are those of each of them
 
@@ -76,14 +76,10 @@ pub row_was : (track : Track) (more : List Mark) (row : Row) → last_step_of ro
 row_was track more row lt h = (closed_front track more row h lt).0
 
 -- what a queue has given so far
-pub given_below : (queue : RowQueue) (tracks : List Track) (bound : ℕ) (given : List Row) → StandsFor queue tracks bound given → AreRowsBelow bound tracks given
+pub given_below : (queue : RowQueue) (tracks : List Track) (bound : ℕ) (given : List Row) → QueueStandsFor queue tracks bound given → AreRowsBelow bound tracks given
 given_below queue tracks bound given h = given_rows queue.pending.entries tracks bound given h.holds
 
 -- ---- a track among others
-
-pub marked_there : (before after : List Track) (track : Track) (mark : Mark) → marked (before ++ track ∷ after) (length before) mark ≡ before ++ longer track mark ∷ after
-marked_there [] after track mark = refl
-marked_there (t ∷ ts) after track mark = ap (λ (us : List Track). t ∷ us) (marked_there ts after track mark)
 
 pub next_there : (before after : List Track) (track : Track) (step : ℕ) → step ≡ next_step track → IsNextAt (before ++ track ∷ after) (length before) step
 next_there [] after track step e = e

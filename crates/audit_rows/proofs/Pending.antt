@@ -10,7 +10,7 @@ use Rattle.std.specs.BTreeMap.{insert_entry}
 use Rattle.audit_rows.specs.declared.sort_key.SortKey.{SortKey}
 use Rattle.audit_rows.specs.declared.row.Row.{Row}
 use Rattle.audit_rows.specs.Order.{InOrder, last_step_of, place_cmp, sort_key_of, topic_of}
-use Rattle.audit_rows.specs.Inner.Queues.{ArePlaced}
+use Rattle.audit_rows.specs.Standing.{ArePlaced}
 use Rattle.audit_rows.proofs.Places.{derived_cmp, derived_is, same_place}
 use Rattle.outside.proofs.Members.{in_cons, in_head, in_none, in_tail}
 

@@ -9,7 +9,8 @@ use Rattle.std.proofs.lemmas.List.Elements.{Contains-push_cases, recursion_from_
 use Rattle.audit_rows.specs.declared.sort_key.SortKey.{SortKey}
 use Rattle.audit_rows.specs.declared.row.Row.{Row}
 use Rattle.audit_rows.specs.Order.{last_step_of, place_cmp, sort_key_of}
-use Rattle.audit_rows.specs.Inner.Queues.{ArePlaced, IsPopping, IsPopped}
+use Rattle.audit_rows.specs.Inner.Queues.{IsPopping, IsPopped}
+use Rattle.audit_rows.specs.Standing.{ArePlaced}
 use Rattle.audit_rows.proofs.Places.{derived_cmp, derived_is, not_later}
 use Rattle.outside.proofs.Members.{in_none}
 use Rattle.audit_rows.proofs.StrictOrder.{all_at}

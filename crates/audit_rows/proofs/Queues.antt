@@ -17,7 +17,8 @@ use Rattle.audit_rows.specs.Inner.Closed.{AreClosedRows, Closes, IsClosed}
 use Rattle.audit_rows.specs.Order.{last_step_of, place_cmp, sort_key_of}
 use Rattle.audit_rows.specs.Rows.{AreRowsBelow}
 use Rattle.audit_rows.specs.Tracks.{AreSettled, IsNew, IsNextAt, Track, begun, longer, marked, next_step}
-use Rattle.audit_rows.specs.Inner.Queues.{Holds, IsPopped}
+use Rattle.audit_rows.specs.Inner.Queues.{IsPopped}
+use Rattle.audit_rows.specs.Standing.{Holds}
 use Rattle.audit_rows.proofs.StrictOrder.{sorted_front, sorted_append}
 use Rattle.audit_rows.proofs.Places.{earlier_first}
 use Rattle.audit_rows.proofs.Tracks.{closed_is_row, settled_is_closed, own_topics_marked, settled_marked, own_topics_begun, settled_begun, closed_begun, closed_unbegun, zip_marked, stands_at, closed_before, closed_still, closed_now, ends_late, place_free}

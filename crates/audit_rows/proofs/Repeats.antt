@@ -9,9 +9,9 @@ use Rattle.audit_rows.specs.declared.row_queue.RowQueue.{RowQueue}
 use Rattle.audit_rows.specs.declared.stretch.Opened.{Opened}
 use Rattle.audit_rows.specs.Inner.Closed.{Closes}
 use Rattle.audit_rows.specs.Inner.Lanes.{Stands}
-use Rattle.audit_rows.specs.Inner.Queues.{Holds, StandsFor}
 use Rattle.audit_rows.specs.Inner.Sorts.{sort_of}
 use Rattle.audit_rows.specs.Rows.{TellsOf}
+use Rattle.audit_rows.specs.Standing.{Holds, QueueStandsFor}
 use Rattle.audit_rows.specs.Stretches.{mark_at}
 use Rattle.audit_rows.specs.Tracks.{Repeats, Track, longer, marked}
 use Rattle.audit_rows.proofs.Closing.{latest_of, none_yet, stands_still, stays}
@@ -47,15 +47,15 @@ there : (before after : List Track) (track : Track) → slice_get (before ++ tra
 there [] after track = refl
 there (t ∷ ts) after track = there ts after track
 
-marked_at : (before after : List Track) (track : Track) (mark : Mark) → marked (before ++ track ∷ after) (length before) mark ≡ before ++ longer track mark ∷ after
-marked_at [] after track mark = refl
-marked_at (t ∷ ts) after track mark = ap (λ (us : List Track). t ∷ us) (marked_at ts after track mark)
+pub marked_there : (before after : List Track) (track : Track) (mark : Mark) → marked (before ++ track ∷ after) (length before) mark ≡ before ++ longer track mark ∷ after
+marked_there [] after track mark = refl
+marked_there (t ∷ ts) after track mark = ap (λ (us : List Track). t ∷ us) (marked_there ts after track mark)
 
 -- The queue stands for the tracks with the mark too.
 pub repeated : (queue : RowQueue) (before after : List Track) (track : Track) (mark : Mark) (bound : ℕ) (given : List Row) → Repeats track mark
-    → StandsFor queue (before ++ track ∷ after) bound given → StandsFor queue (before ++ longer track mark ∷ after) bound given
+    → QueueStandsFor queue (before ++ track ∷ after) bound given → QueueStandsFor queue (before ++ longer track mark ∷ after) bound given
 repeated queue before after track mark bound given r h = record {
   lanes = zip_still queue.lanes.items before after track mark r h.lanes;
-  holds = subst (λ (ts : List Track). Holds queue.pending.entries ts bound given) (marked_at before after track mark)
+  holds = subst (λ (ts : List Track). Holds queue.pending.entries ts bound given) (marked_there before after track mark)
       (quiet queue.pending.entries (before ++ track ∷ after) bound given (length before) mark track None h.holds (there before after track) (closes_none track mark r) refl);
 }

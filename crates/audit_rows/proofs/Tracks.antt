@@ -7,9 +7,10 @@ use Rattle.audit_rows.specs.declared.mark.Mark.{Mark}
 use Rattle.audit_rows.specs.declared.topic.Topic.{Topic}
 use Rattle.audit_rows.specs.declared.row.Row.{Row}
 use Rattle.audit_rows.specs.declared.lane.Lane.{Lane}
-use Rattle.audit_rows.specs.Inner.Closed.{Closes, HaveOwnTopics, IsClosed}
+use Rattle.audit_rows.specs.Inner.Closed.{Closes, IsClosed}
 use Rattle.audit_rows.specs.Order.{last_step_of, topic_of}
 use Rattle.audit_rows.specs.Rows.{IsRow, IsRowOf}
+use Rattle.audit_rows.specs.Standing.{HaveOwnTopics}
 use Rattle.audit_rows.specs.Tracks.{AreSettled, Continue, IsNew, Track, begun, longer, marked, next_step}
 use Rattle.audit_rows.specs.Inner.Lanes.{Stands}
 use Rattle.audit_rows.proofs.Stretches.{closed_further, closed_front}

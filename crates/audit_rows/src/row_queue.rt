@@ -4,9 +4,10 @@ ghost use Rattle.std.specs.List.{AllZip, slice_get};
 ghost use Rattle.std.specs.Map.{values_of};
 ghost use Rattle.audit_rows.specs.declared.row.Row.{Row};
 ghost use Rattle.audit_rows.specs.Inner.Lanes.{Stands};
-ghost use Rattle.audit_rows.specs.Inner.Queues.{ArePlaced, Holds, IsPopped, StandsFor};
+ghost use Rattle.audit_rows.specs.Inner.Queues.{IsPopped};
 ghost use Rattle.audit_rows.specs.MarkCounts.{IsCountOf};
 ghost use Rattle.audit_rows.specs.Rows.{AreRows, AreRowsBelow};
+ghost use Rattle.audit_rows.specs.Standing.{ArePlaced, Holds, QueueStandsFor};
 ghost use Rattle.audit_rows.specs.Tracks.{AreSettled, EndAt, IsNew, IsNextAt, Track, begun, marked};
 
 use crate::counts::MarkCounts;
@@ -77,7 +78,7 @@ pub struct RowQueue {
 impl RowQueue {
     /// No tracks yet. This takes no memory.
     pub fn new(alloc: Global) -> RowQueue
-        ensures { StandsFor result [] 0 [] }
+        ensures { QueueStandsFor result [] 0 [] }
     {
         RowQueue {
             alloc,
@@ -89,10 +90,10 @@ impl RowQueue {
     /// Begins a track and gives its index: how many were begun before it. No other track may be of its topic, and it may begin
     /// at no step below the bound of the rows that were handed out.
     pub fn begin(&mut self, topic: Topic) -> Result<usize, Memory>
-        ensures index { IfOk result (λ index. (tracks : List Track) (bound : ℕ) (given : List Row) → StandsFor self.old tracks bound given
+        ensures index { IfOk result (λ index. (tracks : List Track) (bound : ℕ) (given : List Row) → QueueStandsFor self.old tracks bound given
             → index ≡ length tracks) }
-        ensures stands { OnOk result ((tracks : List Track) (bound first : ℕ) (given : List Row) → StandsFor self.old tracks bound given
-            → IsNew topic tracks → bound ≤ first → StandsFor self.new (tracks ++ begun topic first ∷ []) bound given) }
+        ensures stands { OnOk result ((tracks : List Track) (bound first : ℕ) (given : List Row) → QueueStandsFor self.old tracks bound given
+            → IsNew topic tracks → bound ≤ first → QueueStandsFor self.new (tracks ++ begun topic first ∷ []) bound given) }
     {
         let index = self.lanes.len();
         self.lanes.push(Lane::new(topic))?;
@@ -102,8 +103,8 @@ impl RowQueue {
     /// Takes the next mark, which is for the step, of the track at the index. Where there is no such track it does nothing.
     #[inline(always)]
     pub fn mark(&mut self, index: usize, step: u32, mark: Mark) -> Result<(), Memory>
-        ensures { OnOk result ((tracks : List Track) (bound : ℕ) (given : List Row) → StandsFor self.old tracks bound given
-            → IsNextAt tracks index step → StandsFor self.new (marked tracks index mark) bound given) }
+        ensures { OnOk result ((tracks : List Track) (bound : ℕ) (given : List Row) → QueueStandsFor self.old tracks bound given
+            → IsNextAt tracks index step → QueueStandsFor self.new (marked tracks index mark) bound given) }
     {
         let Some(lane) = self.lanes.get_mut(index) else {
             return Ok(());
@@ -116,9 +117,9 @@ impl RowQueue {
 
     /// Hands out the further rows that end below the bound, up to which the tracks must be settled. The bound may not sink.
     pub fn rows_below(&mut self, bound: u32) -> Result<Vec<Row>, Memory>
-        ensures stands { IfOk result (λ rows. (tracks : List Track) (old : ℕ) (given : List Row) → StandsFor self.old tracks old given
-            → old ≤ bound → AreSettled bound tracks → StandsFor self.new tracks bound (given ++ rows.items)) }
-        ensures rows { IfOk result (λ rows. (tracks : List Track) (old : ℕ) (given : List Row) → StandsFor self.old tracks old given
+        ensures stands { IfOk result (λ rows. (tracks : List Track) (old : ℕ) (given : List Row) → QueueStandsFor self.old tracks old given
+            → old ≤ bound → AreSettled bound tracks → QueueStandsFor self.new tracks bound (given ++ rows.items)) }
+        ensures rows { IfOk result (λ rows. (tracks : List Track) (old : ℕ) (given : List Row) → QueueStandsFor self.old tracks old given
             → old ≤ bound → AreSettled bound tracks → AreRowsBelow bound tracks (given ++ rows.items)) }
     {
         pop_below(self.alloc, &mut self.pending, bound)
@@ -126,7 +127,7 @@ impl RowQueue {
 
     /// How many tracks there are.
     pub fn track_count(&self) -> usize
-        ensures { (tracks : List Track) (bound : ℕ) (given : List Row) → StandsFor self.now tracks bound given → result ≡ length tracks }
+        ensures { (tracks : List Track) (bound : ℕ) (given : List Row) → QueueStandsFor self.now tracks bound given → result ≡ length tracks }
     {
         self.lanes.len()
     }
@@ -134,7 +135,7 @@ impl RowQueue {
     /// What the marks of the track at the index are of, how many it has of each sort and how many stretches of broken ones, where the
     /// next mark of each track would be for the step. `None` where there is no such track.
     pub fn counts(&self, index: usize, end: u32) -> Option<(Topic, MarkCounts)>
-        ensures { (tracks : List Track) (bound : ℕ) (given : List Row) → StandsFor self.now tracks bound given → EndAt end tracks
+        ensures { (tracks : List Track) (bound : ℕ) (given : List Row) → QueueStandsFor self.now tracks bound given → EndAt end tracks
             → IsCountOf result (slice_get tracks index) }
     {
         let lane = self.lanes.get(index)?;
@@ -143,7 +144,7 @@ impl RowQueue {
 
     /// Ends all tracks, whose next marks would be for the step, and hands out the rows that are left.
     pub fn finish(mut self, end: u32) -> Result<Vec<Row>, Memory>
-        ensures { IfOk result (λ rows. (tracks : List Track) (bound : ℕ) (given : List Row) → StandsFor self tracks bound given
+        ensures { IfOk result (λ rows. (tracks : List Track) (bound : ℕ) (given : List Row) → QueueStandsFor self tracks bound given
             → EndAt end tracks → AreRows tracks (given ++ rows.items)) }
     {
         end_all(&self.lanes, end, &mut self.pending)?;

@@ -22,7 +22,7 @@ use Rattle.traces.specs.Audited.{AuditNumbers}
 use Rattle.traces.specs.Known.{Known, watched}
 use Rattle.auditor.specs.AuditTracks.{IsMeetingMark}
 use Rattle.auditor.specs.ValueMarks.{mark_of}
-use Rattle.audit_rows.specs.Inner.Queues.{StandsFor as Keeps}
+use Rattle.audit_rows.specs.Standing.{QueueStandsFor}
 use Rattle.auditor.specs.TraceKeeping.{AreRuleMarksSoFar, AreRuleTracks, AreTracksSoFar, IsRuleTrack, StandsFor, Steps}
 use Rattle.auditor.specs.SettledRows.{formulas_of}
 use Rattle.audit_rows.specs.declared.row_queue.RowQueue.{RowQueue}
@@ -106,7 +106,7 @@ record Rest (known : Known) (seen : Option PairStep) (row : Atom → Verdict) (m
     (trees : List FormulaTree) : Type 0 where
   later : List Track
   tracks : AreRuleTracks AreRuleMarksSoFar (watched known seen row) rule trees later
-  keeps : Keeps marks (before ++ (later ++ after)) bound given
+  keeps : QueueStandsFor marks (before ++ (later ++ after)) bound given
 
 module _ (known : Known) (seen : Option PairStep) (row : Atom → Verdict) (marks : RowQueue) (bound : ℕ) (given : List Row) (after : List Track) where
   one_more : (rule : ℕ) (tree : FormulaTree) (track : Track) (s : Still known.trace row tree) → IsRuleTrack AreRuleMarksSoFar known rule tree track
@@ -119,21 +119,21 @@ module _ (known : Known) (seen : Option PairStep) (row : Atom → Verdict) (mark
       (omega arith, s.now)).1
 
   all_rest : (before : List Track) (rule : ℕ) (trees : List FormulaTree) (tracks : List Track) → AllStill known.trace row trees
-      → AreRuleTracks AreRuleMarksSoFar known rule trees tracks → Keeps marks (before ++ (tracks ++ after)) bound given
+      → AreRuleTracks AreRuleMarksSoFar known rule trees tracks → QueueStandsFor marks (before ++ (tracks ++ after)) bound given
       → Rest known seen row marks bound given before after rule trees
   all_rest before rule [] [] s h k = record { later = []; tracks = tt; keeps = k }
   all_rest before rule [] (track ∷ tracks) s h k = absurd h
   all_rest before rule (tree ∷ trees) [] s h k = absurd h
   all_rest before rule (tree ∷ trees) (track ∷ tracks) s h k =
       let now = longer track (mark_of s.0.value) in
-      let kept : Keeps marks (before ++ (now ∷ (tracks ++ after))) bound given =
+      let kept : QueueStandsFor marks (before ++ (now ∷ (tracks ++ after))) bound given =
       repeated marks before (tracks ++ after) track (mark_of s.0.value) bound given (repeats known.trace row tree track s.0 h.0.marks) k in
       let rest = all_rest (before ++ now ∷ []) (rule + 1) trees tracks s.1 h.1
-      (subst (λ (ts : List Track). Keeps marks ts bound given) (sym (append_assoc before (now ∷ []) (tracks ++ after))) kept) in
+      (subst (λ (ts : List Track). QueueStandsFor marks ts bound given) (sym (append_assoc before (now ∷ []) (tracks ++ after))) kept) in
       record {
         later = now ∷ rest.later;
         tracks = (one_more rule tree track s.0 h.0, rest.tracks);
-        keeps = subst (λ (ts : List Track). Keeps marks ts bound given) (append_assoc before (now ∷ []) (rest.later ++ after)) rest.keeps;
+        keeps = subst (λ (ts : List Track). QueueStandsFor marks ts bound given) (append_assoc before (now ∷ []) (rest.later ++ after)) rest.keeps;
       }
 
 -- ---- the step
@@ -145,22 +145,22 @@ module _ (program : Program) (numbers : AuditNumbers) (trace : AuditTrace) (know
     (reach : greatest_reach (formulas_of numbers) < length known.trace) where
   pub rested : (first : ℕ) (marks now : RowQueue) → MarksMeeting numbers known first mark marks now
       → (before mine after : List Track) (bound : ℕ) (given : List Row) → AreTracksSoFar numbers known mine → first ≡ length before
-      → Keeps marks (before ++ mine ++ after) bound given
+      → QueueStandsFor marks (before ++ mine ++ after) bound given
       → Steps program numbers trace known seen row now before after bound given
   rested first marks now meets before [] after bound given tracks e keeps = absurd tracks
   rested first marks now meets before (meeting ∷ mine) after bound given tracks e keeps =
       let (of_meeting, of_rules) = tracks in
       let then = longer meeting mark in
-      let now_kept : Keeps now (before ++ then ∷ (mine ++ after)) bound given =
+      let now_kept : QueueStandsFor now (before ++ then ∷ (mine ++ after)) bound given =
       meets.keeps bound before (mine ++ after) meeting given e of_meeting
-      (subst (λ (ts : List Track). Keeps marks ts bound given) (append_assoc before (meeting ∷ mine) after) keeps) in
+      (subst (λ (ts : List Track). QueueStandsFor marks ts bound given) (append_assoc before (meeting ∷ mine) after) keeps) in
       let rest = all_rest known seen row now bound given after (before ++ then ∷ []) 0 (formulas_of numbers) mine
       (all_still program old trace.values (formulas_of numbers) known.trace row was stands.values same reach) of_rules
-      (subst (λ (ts : List Track). Keeps now ts bound given) (sym (append_assoc before (then ∷ []) (mine ++ after))) now_kept) in
+      (subst (λ (ts : List Track). QueueStandsFor now ts bound given) (sym (append_assoc before (then ∷ []) (mine ++ after))) now_kept) in
       record {
         stands = stands;
         mine = then ∷ rest.later;
         tracks = (meeting_longer program numbers trace known seen row mark stands is_mark meeting of_meeting, rest.tracks);
-        keeps = subst (λ (ts : List Track). Keeps now ts bound given)
+        keeps = subst (λ (ts : List Track). QueueStandsFor now ts bound given)
             (append_assoc before (then ∷ []) (rest.later ++ after) ∙ sym (append_assoc before (then ∷ rest.later) after)) rest.keeps;
       }

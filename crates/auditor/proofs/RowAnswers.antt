@@ -9,7 +9,7 @@ use Rattle.audit_rows.specs.declared.row.Row.{Row}
 use Rattle.audit_rows.proofs.ForCallers.{marked_there, next_there}
 use Rattle.auditor.specs.ValueMarks.{mark_of}
 use Rattle.auditor.specs.Inner.RowAnswers.{Answer, AreAnswers, AwaitAll, Awaits, IsAnswer, MarksRule, MarksRules, answered, answered_all}
-use Rattle.audit_rows.specs.Inner.Queues.{StandsFor as Keeps}
+use Rattle.audit_rows.specs.Standing.{QueueStandsFor}
 use Rattle.audit_rows.specs.declared.row_queue.RowQueue.{RowQueue}
 use Rattle.auditor.specs.declared.trace.AuditTrace.{AuditTrace}
 
@@ -17,8 +17,8 @@ use Rattle.auditor.specs.declared.trace.AuditTrace.{AuditTrace}
 
 -- what marking the track with a value's mark says
 abbrev pub MarkedBy : RowQueue → RowQueue → ℕ → ℕ → Verdict → Type 0
-MarkedBy old new index step value = (tracks : List Track) (bound : ℕ) (given : List Row) → Keeps old tracks bound given
-    → IsNextAt tracks index step → Keeps new (marked tracks index (mark_of value)) bound given
+MarkedBy old new index step value = (tracks : List Track) (bound : ℕ) (given : List Row) → QueueStandsFor old tracks bound given
+    → IsNextAt tracks index step → QueueStandsFor new (marked tracks index (mark_of value)) bound given
 
 module _ (program : Program) (trace : AuditTrace) (index rule : ℕ) (old new : RowQueue) where
   pub with_mark : (position : ℕ) (value : Verdict) → IsAnswer program trace.values rule (Some (position, value))
@@ -27,10 +27,10 @@ module _ (program : Program) (trace : AuditTrace) (index rule : ℕ) (old new : 
     answer = Some (position, value);
     is = is;
     keeps = λ bound before track after given e awaits keeps.
-        let there : Keeps new (marked (before ++ track ∷ after) index (mark_of value)) bound given =
+        let there : QueueStandsFor new (marked (before ++ track ∷ after) index (mark_of value)) bound given =
         by (before ++ track ∷ after) bound given keeps
         (subst (λ (i : ℕ). IsNextAt (before ++ track ∷ after) i (trace.start + position)) (sym e) (next_there before after track (trace.start + position) awaits)) in
-        subst (λ (tracks : List Track). Keeps new tracks bound given)
+        subst (λ (tracks : List Track). QueueStandsFor new tracks bound given)
         (ap (λ (i : ℕ). marked (before ++ track ∷ after) i (mark_of value)) e ∙ marked_there before after track (mark_of value)) there;
   }
 
@@ -38,7 +38,7 @@ module _ (program : Program) (trace : AuditTrace) (index rule : ℕ) (old new : 
   with_none same is = record {
     answer = None;
     is = is;
-    keeps = λ bound before track after given e awaits keeps. subst (λ (m : RowQueue). Keeps m (before ++ track ∷ after) bound given) same keeps;
+    keeps = λ bound before track after given e awaits keeps. subst (λ (m : RowQueue). QueueStandsFor m (before ++ track ∷ after) bound given) same keeps;
   }
 
 -- ---- one rule more
@@ -112,14 +112,14 @@ module _ (program : Program) (trace : AuditTrace) (first : ℕ) where
             let done = answered_all so_far.answers l.front in
             let regrouped : before ++ (mine ++ after) ≡ before ++ (l.front ++ l.track ∷ after) =
             ap (λ (ts : List Track). before ++ (ts ++ after)) l.is ∙ ap (λ (ts : List Track). before ++ ts) (append_assoc l.front (l.track ∷ []) after) in
-            let now_kept : Keeps now (before ++ (done ++ l.track ∷ after)) bound given =
+            let now_kept : QueueStandsFor now (before ++ (done ++ l.track ∷ after)) bound given =
             so_far.keeps bound before l.front (l.track ∷ after) given e l.await
-            (subst (λ (ts : List Track). Keeps old ts bound given) regrouped keeps) in
+            (subst (λ (ts : List Track). QueueStandsFor old ts bound given) regrouped keeps) in
             let there : first + n ≡ length (before ++ done) = (let m = l.many in omega (arith, length-append before done)) in
-            let new_kept : Keeps new ((before ++ done) ++ answered one.answer l.track ∷ after) bound given =
+            let new_kept : QueueStandsFor new ((before ++ done) ++ answered one.answer l.track ∷ after) bound given =
             one.keeps bound (before ++ done) l.track after given there l.awaits
-            (subst (λ (ts : List Track). Keeps now ts bound given) (sym (append_assoc before done (l.track ∷ after))) now_kept) in
-            subst (λ (ts : List Track). Keeps new ts bound given)
+            (subst (λ (ts : List Track). QueueStandsFor now ts bound given) (sym (append_assoc before done (l.track ∷ after))) now_kept) in
+            subst (λ (ts : List Track). QueueStandsFor new ts bound given)
             (append_assoc before done (answered one.answer l.track ∷ after)
             ∙ ap (λ (ts : List Track). before ++ ts) (sym (append_assoc done (answered one.answer l.track ∷ []) after))
             ∙ ap (λ (ts : List Track). before ++ (ts ++ after)) (sym l.marks))

@@ -16,11 +16,11 @@ use Rattle.audit_rows.specs.declared.row.Row.TheVariants as row
 use Rattle.audit_rows.specs.declared.sort_key.SortKey.{SortKey}
 use Rattle.audit_rows.specs.declared.topic.Topic.{Topic}
 use Rattle.audit_rows.specs.declared.topic.Topic.TheVariants as topic
-use Rattle.audit_rows.specs.Inner.Closed.{HaveOwnTopics}
 use Rattle.audit_rows.specs.MarkCounts.{broken_stretches, ends_broken, is_broken}
 use Rattle.audit_rows.specs.Order.{sort_key_of}
 use Rattle.audit_rows.specs.Rows.{AreRows, IsRowOf}
 use Rattle.audit_rows.specs.Stretches.{mark_at}
+use Rattle.audit_rows.specs.Standing.{HaveOwnTopics}
 use Rattle.audit_rows.specs.Tracks.{IsNew, Track}
 use Rattle.audit_rows.proofs.ForCallers.{different_keys, from_filter, in_filter, in_rows, ordered_filter, row_in}
 use Rattle.auditor.specs.RuleCounts.{is_run_of}

@@ -9,7 +9,7 @@ use Rattle.traces.specs.Known.{AreKnown, Known}
 use Rattle.auditor.specs.AuditRows.{AreAuditRowsBelow}
 use Rattle.auditor.specs.Inner.AuditKeeping.{AreAllTracks}
 use Rattle.auditor.specs.SettledRows.{settled_by}
-use Rattle.audit_rows.specs.Inner.Queues.{StandsFor as Keeps}
+use Rattle.audit_rows.specs.Standing.{QueueStandsFor}
 use Rattle.auditor.specs.SettledRows.{formulas_of}
 use Rattle.audit_rows.specs.declared.row_queue.RowQueue.{RowQueue}
 use Rattle.auditor.proofs.NextTick.{settled}
@@ -37,9 +37,9 @@ module _ (numbers : AuditNumbers) (ticks : List Sighting) (seen : Sighting) wher
         subst (λ (b : ℕ). AreAuditRowsBelow numbers (ticks ++ seen ∷ []) b rows) is
         (audit_rows_below numbers (ticks ++ seen ∷ []) knowns are (have_rows numbers (ticks ++ seen ∷ []) knowns are) tracks bound rows all (all_settled tracks all) below)
 
-    pub kept_on : (marks : RowQueue) (tracks : List Track) (rows : List Row) → Keeps marks tracks bound rows
-        → Keeps marks tracks (settled_by numbers (length (ticks ++ seen ∷ []) - 1)) rows
+    pub kept_on : (marks : RowQueue) (tracks : List Track) (rows : List Row) → QueueStandsFor marks tracks bound rows
+        → QueueStandsFor marks tracks (settled_by numbers (length (ticks ++ seen ∷ []) - 1)) rows
     kept_on marks tracks rows keeps =
         let e = counted in
         let at : bound ≡ settled_by numbers (length (ticks ++ seen ∷ []) - 1) = omega arith in
-        subst (λ (b : ℕ). Keeps marks tracks b rows) at keeps
+        subst (λ (b : ℕ). QueueStandsFor marks tracks b rows) at keeps

@@ -11,6 +11,7 @@ use Rattle.encounters.specs.declared.pair_step.PairStep.{PairStep}
 use Rattle.meetings.specs.Atoms.{AreAtomRows}
 use Rattle.meetings.specs.declared.pair.Pair.{Pair}
 use Rattle.audit_rows.specs.Stretches.{mark_at}
+use Rattle.audit_rows.specs.Standing.{HaveOwnTopics}
 use Rattle.audit_rows.specs.Tracks.{Track}
 use Rattle.audit_rows.specs.declared.mark.Mark.{Mark}
 use Rattle.audit_rows.specs.declared.row.Row.{Row}
@@ -24,7 +25,6 @@ use Rattle.auditor.specs.Inner.AuditKeeping.{AreTracksOfAll}
 use Rattle.auditor.specs.Inner.TracesKept.{AreEnded}
 use Rattle.auditor.specs.RuleCounts.{told}
 use Rattle.audit_rows.specs.MarkCounts.{is_any, is_broken, is_nothing, is_undecided, passing}
-use Rattle.audit_rows.specs.Inner.Closed.{HaveOwnTopics}
 use Rattle.audit_rows.specs.Rows.{AreRows}
 use Rattle.auditor.proofs.RuleRuns.{runs_counted}
 use Rattle.auditor.specs.Tallies.{Tallies, counted, is_of_rule, of_rule}

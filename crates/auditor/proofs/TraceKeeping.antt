@@ -18,7 +18,7 @@ use Rattle.traces.specs.Audited.{AuditNumbers}
 use Rattle.traces.specs.Known.{Known, watched}
 use Rattle.auditor.specs.AuditTracks.{IsMeetingMark}
 use Rattle.auditor.specs.Inner.RowAnswers.{AwaitAll, MarksRules, answered_all}
-use Rattle.audit_rows.specs.Inner.Queues.{StandsFor as Keeps}
+use Rattle.audit_rows.specs.Standing.{QueueStandsFor}
 use Rattle.auditor.specs.TraceKeeping.{AreRuleMarksSoFar, AreTracks, AreTracksSoFar, HasTracksOf, IsMeetingTrack, StandsFor, Steps}
 use Rattle.auditor.specs.SettledRows.{formulas_of}
 use Rattle.audit_rows.specs.declared.row_queue.RowQueue.{RowQueue}
@@ -28,29 +28,29 @@ use Rattle.auditor.proofs.TraceTracks.{AreRuleMarksPast, all_brought, answers_al
 -- Behind a trace's meeting the marks of its rules are marked.
 behind_meeting : (program : Program) (trace : AuditTrace) (first : ℕ) (old new : RowQueue) (marks : MarksRules program trace (first + 1) (count_of program) old new)
     (bound : ℕ) (before : List Track) (meeting : Track) (mine after : List Track) (given : List Row) → first ≡ length before
-    → AwaitAll trace.start marks.answers mine → Keeps old (before ++ meeting ∷ (mine ++ after)) bound given
-    → Keeps new (before ++ meeting ∷ answered_all marks.answers mine ++ after) bound given
+    → AwaitAll trace.start marks.answers mine → QueueStandsFor old (before ++ meeting ∷ (mine ++ after)) bound given
+    → QueueStandsFor new (before ++ meeting ∷ answered_all marks.answers mine ++ after) bound given
 behind_meeting program trace first old new marks bound before meeting mine after given e await keeps =
     let there : first + 1 ≡ length (before ++ meeting ∷ []) = omega (arith, length-append before (meeting ∷ [])) in
     let done = answered_all marks.answers mine in
-    subst (λ (ts : List Track). Keeps new ts bound given) (append_assoc before (meeting ∷ []) (done ++ after) ∙ sym (append_assoc before (meeting ∷ done) after))
+    subst (λ (ts : List Track). QueueStandsFor new ts bound given) (append_assoc before (meeting ∷ []) (done ++ after) ∙ sym (append_assoc before (meeting ∷ done) after))
     (marks.keeps bound (before ++ meeting ∷ []) mine after given there await
-    (subst (λ (ts : List Track). Keeps old ts bound given) (sym (append_assoc before (meeting ∷ []) (mine ++ after))) keeps))
+    (subst (λ (ts : List Track). QueueStandsFor old ts bound given) (sym (append_assoc before (meeting ∷ []) (mine ++ after))) keeps))
 
 -- ---- a step
 
 -- The meeting's track, where it is the one at the index, has one mark more.
 pub record MarksMeeting (numbers : AuditNumbers) (known : Known) (first : ℕ) (mark : Mark) (old new : RowQueue) : Type 0 where
   pub keeps : (bound : ℕ) (before after : List Track) (track : Track) (given : List Row) → first ≡ length before → IsMeetingTrack numbers known track
-      → Keeps old (before ++ track ∷ after) bound given → Keeps new (before ++ longer track mark ∷ after) bound given
+      → QueueStandsFor old (before ++ track ∷ after) bound given → QueueStandsFor new (before ++ longer track mark ∷ after) bound given
 
 -- So it has where the mark is taken, or is left out since the vessels were apart and are.
 pub meeting_marked : (numbers : AuditNumbers) (known : Known) (seen : Option PairStep) (mark : Mark) (was is : EngagementState) (apart : Bool) (first step : ℕ) (old new : RowQueue)
     → step ≡ known.start + length known.steps → IsStateAfter numbers.detect known.steps was → IsStateAfter numbers.detect (known.steps ++ seen ∷ []) is
     → IsMeetingMark numbers.detect (known.steps ++ seen ∷ []) (length known.steps) mark
     → (apart ≡ true → was ≡ Apart) → (apart ≡ true → is ≡ Apart) → (apart ≡ true → known.start < step)
-    → ((bound : ℕ) (before after : List Track) (track : Track) (given : List Row) → Keeps old (before ++ track ∷ after) bound given → first ≡ length before
-    → step ≡ next_step track → (apart ≡ true → Repeats track mark) → Keeps new (before ++ longer track mark ∷ after) bound given)
+    → ((bound : ℕ) (before after : List Track) (track : Track) (given : List Row) → QueueStandsFor old (before ++ track ∷ after) bound given → first ≡ length before
+    → step ≡ next_step track → (apart ≡ true → Repeats track mark) → QueueStandsFor new (before ++ longer track mark ∷ after) bound given)
     → MarksMeeting numbers known first mark old new
 meeting_marked numbers known seen mark was is apart first step old new at before_is after_is is_mark was_apart is_apart later by = record {
   keeps = λ bound before after track given e meeting keeps.
@@ -83,14 +83,14 @@ module _ (program : Program) (numbers : AuditNumbers) (trace : AuditTrace) (know
   pub stepped : (first : ℕ) (old now new : RowQueue) → MarksMeeting numbers known first mark old now
       → MarksRules program trace (first + 1) (count_of program) now new
       → (before mine after : List Track) (bound : ℕ) (given : List Row) → AreTracksSoFar numbers known mine → first ≡ length before
-      → Keeps old (before ++ mine ++ after) bound given
+      → QueueStandsFor old (before ++ mine ++ after) bound given
       → Steps program numbers trace known seen row new before after bound given
   stepped first old now new meets marks before [] after bound given tracks e keeps = absurd tracks
   stepped first old now new meets marks before (meeting ∷ mine) after bound given tracks e keeps =
       let (of_meeting, of_rules) = tracks in
-      let now_kept : Keeps now (before ++ longer meeting mark ∷ (mine ++ after)) bound given =
+      let now_kept : QueueStandsFor now (before ++ longer meeting mark ∷ (mine ++ after)) bound given =
       meets.keeps bound before (mine ++ after) meeting given e of_meeting
-      (subst (λ (ts : List Track). Keeps old ts bound given) (append_assoc before (meeting ∷ mine) after) keeps) in
+      (subst (λ (ts : List Track). QueueStandsFor old ts bound given) (append_assoc before (meeting ∷ mine) after) keeps) in
       let of_count = stands.values.of.count in
       let many : length marks.answers ≡ length (formulas_of numbers) = marks.many ∙ of_count in
       let answers = answers_all program trace.values (formulas_of numbers) (λ answer tree. IsFed answer tree (known.trace ++ row ∷ []))
@@ -112,10 +112,10 @@ module _ (program : Program) (numbers : AuditNumbers) (trace : AuditTrace) (know
 pub record HasTracksPast (past : ℕ) (numbers : AuditNumbers) (known : Known) (marks : RowQueue) (before after : List Track) (bound : ℕ) (given : List Row) : Type 0 where
   pub mine : List Track
   pub tracks : AreTracks (AreRuleMarksPast past) numbers known mine
-  pub keeps : Keeps marks (before ++ mine ++ after) bound given
+  pub keeps : QueueStandsFor marks (before ++ mine ++ after) bound given
 
 module _ (numbers : AuditNumbers) (known : Known) (marks : RowQueue) (before after : List Track) (bound : ℕ) (given : List Row) where
-  pub at_end : (mine : List Track) → AreTracksSoFar numbers known mine → Keeps marks (before ++ mine ++ after) bound given
+  pub at_end : (mine : List Track) → AreTracksSoFar numbers known mine → QueueStandsFor marks (before ++ mine ++ after) bound given
       → HasTracksPast 0 numbers known marks before after bound given
   at_end [] tracks keeps = absurd tracks
   at_end (meeting ∷ mine) tracks keeps = record {
@@ -128,7 +128,7 @@ module _ (numbers : AuditNumbers) (known : Known) (marks : RowQueue) (before aft
       → HasTracksOf numbers known marks before after bound given
   at_last past e h = more h.mine h.tracks h.keeps
     where
-      more : (mine : List Track) → AreTracks (AreRuleMarksPast past) numbers known mine → Keeps marks (before ++ mine ++ after) bound given
+      more : (mine : List Track) → AreTracks (AreRuleMarksPast past) numbers known mine → QueueStandsFor marks (before ++ mine ++ after) bound given
           → HasTracksOf numbers known marks before after bound given
       more [] tracks keeps = absurd tracks
       more (meeting ∷ mine) tracks keeps = record {
@@ -144,7 +144,7 @@ module _ (program : Program) (numbers : AuditNumbers) (trace : AuditTrace) (know
       → HasTracksPast past numbers known old before after bound given → HasTracksPast (past + 1) numbers known new before after bound given
   one_past before after bound given e h = more h.mine h.tracks h.keeps
     where
-      more : (mine : List Track) → AreTracks (AreRuleMarksPast past) numbers known mine → Keeps old (before ++ mine ++ after) bound given
+      more : (mine : List Track) → AreTracks (AreRuleMarksPast past) numbers known mine → QueueStandsFor old (before ++ mine ++ after) bound given
           → HasTracksPast (past + 1) numbers known new before after bound given
       more [] tracks keeps = absurd tracks
       more (meeting ∷ mine) tracks keeps =
@@ -161,5 +161,5 @@ module _ (program : Program) (numbers : AuditNumbers) (trace : AuditTrace) (know
             tracks = (tracks.0, brought);
             keeps = behind_meeting program trace first old new marks bound before meeting mine after given e
                 (subst (λ (start : ℕ). AwaitAll start marks.answers mine) (sym start) await)
-                (subst (λ (ts : List Track). Keeps old ts bound given) (append_assoc before (meeting ∷ mine) after) keeps);
+                (subst (λ (ts : List Track). QueueStandsFor old ts bound given) (append_assoc before (meeting ∷ mine) after) keeps);
           }

@@ -26,7 +26,7 @@ use Rattle.outside.proofs.Members.{in_head, in_tail}
 use Rattle.traces.proofs.ForCallers.{different_pairs, known_count, zip_at, zip_length, zip_push, zip_set}
 use Rattle.auditor.specs.Inner.AuditKeeping.{AreAllTracks, AreTracksOfAll}
 use Rattle.auditor.specs.Inner.TracesKept.{AreFinished, AreStepped, Holds, IsAtStep}
-use Rattle.audit_rows.specs.Inner.Queues.{StandsFor as Keeps}
+use Rattle.audit_rows.specs.Standing.{QueueStandsFor}
 use Rattle.auditor.specs.TraceKeeping.{AreRuleMarksSoFar, AreRuleMarksWhole, AreRuleTracks, AreTracks, AreTracksSoFar, HasTracksOf, IsNextRow, StandsFor, Steps}
 use Rattle.auditor.specs.SettledRows.{formulas_of}
 use Rattle.audit_rows.specs.declared.row_queue.RowQueue.{RowQueue}
@@ -70,7 +70,7 @@ module _ (program : Program) (numbers : AuditNumbers) (ticks : List Sighting) (s
     pub done_tracks : AreAllTracks numbers done mine
     pub rest_tracks : AreAllTracks numbers rest others
     pub first_is : first ≡ length mine
-    pub keeps : Keeps marks (mine ++ others) bound given
+    pub keeps : QueueStandsFor marks (mine ++ others) bound given
 
   pub under_way_none : (kept : AllTraces) (values : List AuditTrace) (marks : RowQueue) → TracesStandFor kept numbers ticks knowns → Holds program values marks numbers knowns bound given
       → ((known : Known) → Contains knowns known → IsAtStep step known) → ((known : Known) → Contains knowns known → length known.steps < 2 ^ 31) → IsUnderWay kept values marks 0 0
@@ -138,7 +138,7 @@ module _ (program : Program) (numbers : AuditNumbers) (ticks : List Sighting) (s
   StepsIt trace after next marks marks' first =
       (numbers : AuditNumbers) (known : Known) (seen : Option PairStep) (front mine back : List Track) (bound : ℕ) (given : List Row) → StandsFor program numbers trace known
       → step ≡ known.start + length known.steps → IsNextRow numbers known seen next → AreTracksSoFar numbers known mine → first ≡ length front
-      → Keeps marks (front ++ mine ++ back) bound given → Steps program numbers after known seen (answer_of next.row.now) marks' front back bound given
+      → QueueStandsFor marks (front ++ mine ++ back) bound given → Steps program numbers after known seen (answer_of next.row.now) marks' front back bound given
 
   module _ (kept kept' : AllTraces) (values : List AuditTrace) (marks marks' : RowQueue) (first index tracks : ℕ) (d after : AuditTrace) (next : NextRow)
       (is : IsProgramOf program (formulas_of numbers)) (many : tracks ≡ count_of program + 1) (within : index < length values)
@@ -146,15 +146,15 @@ module _ (program : Program) (numbers : AuditNumbers) (ticks : List Sighting) (s
     by_rest : (front rest done : List Known) (mine others : List Track) → knowns ≡ front ++ rest → length done ≡ index → AllZip (IsFollowed numbers (last_sighting ticks) seen) front done
         → ((known : Known) → Contains rest known → IsAtStep step known) → ((known : Known) → Contains rest known → length known.steps < 2 ^ 31)
         → TracesStandFor kept numbers ticks (done ++ rest) → AllZip (StandsFor program numbers) values (done ++ rest) → AreAllTracks numbers done mine → AreAllTracks numbers rest others
-        → first ≡ length mine → Keeps marks (mine ++ others) bound given → IsUnderWay kept' (set values index after) marks' (first + tracks) (index + 1)
+        → first ≡ length mine → QueueStandsFor marks (mine ++ others) bound given → IsUnderWay kept' (set values index after) marks' (first + tracks) (index + 1)
     by_rest front [] done mine others parted count followed at short traces stand all all_rest is_first keeps =
         let many_traces = zip_length (StandsFor program numbers) values (done ++ []) stand in
         absurd (omega (arith, length-append done []))
     by_rest front (k ∷ ks) done mine others parted count followed at short traces stand all (its, more, rest_all) is_first keeps =
         let step_seen : Option PairStep = step_of k.pair (last_sighting ticks) seen in
         let old : StandsFor program numbers (get_or values index d) k = subst (λ (n : ℕ). StandsFor program numbers (get_or values n d) k) count (zip_at (StandsFor program numbers) values done k ks d stand) in
-        let before_keeps : Keeps marks (mine ++ its ++ more) bound given =
-        subst (λ (ts : List Track). Keeps marks ts bound given) (ap (λ (ts : List Track). mine ++ ts) rest_all.0.whole ∙ sym (append_assoc mine its more)) keeps in
+        let before_keeps : QueueStandsFor marks (mine ++ its ++ more) bound given =
+        subst (λ (ts : List Track). QueueStandsFor marks ts bound given) (ap (λ (ts : List Track). mine ++ ts) rest_all.0.whole ∙ sym (append_assoc mine its more)) keeps in
         let row = gives done k ks traces (sym count) (short k (in_head k ks)) in
         let s = it numbers k step_seen mine its more bound given old (at k (in_head k ks)).0 row.0 rest_all.1 is_first before_keeps in
         let after_known : Known = watched k step_seen (answer_of next.row.now) in
@@ -188,7 +188,7 @@ module _ (program : Program) (numbers : AuditNumbers) (ticks : List Sighting) (s
   all_by_rest : (kept : AllTraces) (values : List AuditTrace) (marks : RowQueue) (index : ℕ) (front rest done : List Known) (mine others : List Track) → knowns ≡ front ++ rest → length done ≡ index
       → AllZip (IsFollowed numbers (last_sighting ticks) seen) front done → TracesStandFor kept numbers ticks (done ++ rest)
       → AllZip (StandsFor program numbers) values (done ++ rest) → AreAllTracks numbers done mine → AreAllTracks numbers rest others
-      → Keeps marks (mine ++ others) bound given → length values ≤ index → AreStepped program numbers ticks seen kept values knowns marks bound given
+      → QueueStandsFor marks (mine ++ others) bound given → length values ≤ index → AreStepped program numbers ticks seen kept values knowns marks bound given
   all_by_rest kept values marks index front (k ∷ ks) done mine others parted count followed traces stand all all_rest keeps past =
       let many_traces = zip_length (StandsFor program numbers) values (done ++ k ∷ ks) stand in
       absurd (omega (arith, length-append done (k ∷ ks)))
@@ -200,7 +200,7 @@ module _ (program : Program) (numbers : AuditNumbers) (ticks : List Sighting) (s
       stand = subst (λ (ys : List Known). AllZip (StandsFor program numbers) values ys) (append-nil done) stand;
       tracks = mine;
       are_tracks = all;
-      keeps = subst (λ (ts : List Track). Keeps marks ts bound given) (ap (λ (ts : List Track). mine ++ ts) all_rest ∙ append-nil mine) keeps;
+      keeps = subst (λ (ts : List Track). QueueStandsFor marks ts bound given) (ap (λ (ts : List Track). mine ++ ts) all_rest ∙ append-nil mine) keeps;
     };
   }
 
@@ -282,7 +282,7 @@ module _ (program : Program) (numbers : AuditNumbers) (knowns : List Known) (bou
     pub done_tracks : AreTracksOfAll AreRuleMarksWhole numbers front mine
     pub rest_tracks : AreAllTracks numbers rest others
     pub first_is : first ≡ length mine
-    pub keeps : Keeps marks (mine ++ others) bound given
+    pub keeps : QueueStandsFor marks (mine ++ others) bound given
 
   pub ending_none : (traces : List AuditTrace) (marks : RowQueue) → Holds program traces marks numbers knowns bound given → IsEnding traces marks 0 0
   ending_none traces marks h = record {
@@ -301,20 +301,20 @@ module _ (program : Program) (numbers : AuditNumbers) (knowns : List Known) (bou
   abbrev pub EndsIt : AuditTrace → RowQueue → RowQueue → ℕ → Type 0
   EndsIt trace marks marks' first =
       (numbers : AuditNumbers) (known : Known) (before mine after : List Track) (bound : ℕ) (given : List Row) → StandsFor program numbers trace known → AreTracksSoFar numbers known mine → first ≡ length before
-      → Keeps marks (before ++ mine ++ after) bound given → HasTracksOf numbers known marks' before after bound given
+      → QueueStandsFor marks (before ++ mine ++ after) bound given → HasTracksOf numbers known marks' before after bound given
 
   module _ (traces : List AuditTrace) (marks marks' : RowQueue) (first index tracks : ℕ) (d after : AuditTrace) (is : IsProgramOf program (formulas_of numbers)) (many : tracks ≡ count_of program + 1)
       (within : index < length traces) (it : EndsIt (get_or traces index d) marks marks' first) where
     ends_rest : (front rest : List Known) (mine others : List Track) → knowns ≡ front ++ rest → AllZip (StandsFor program numbers) (drop index traces) rest
         → AreTracksOfAll AreRuleMarksWhole numbers front mine → AreAllTracks numbers rest others
-        → first ≡ length mine → Keeps marks (mine ++ others) bound given → IsEnding (set traces index after) marks' (first + tracks) (index + 1)
+        → first ≡ length mine → QueueStandsFor marks (mine ++ others) bound given → IsEnding (set traces index after) marks' (first + tracks) (index + 1)
     ends_rest front [] mine others parted stand all all_rest is_first keeps =
         absurd (subst (λ (xs : List AuditTrace). AllZip (StandsFor program numbers) xs []) (drop_more traces index d within) stand)
     ends_rest front (k ∷ ks) mine others parted stand all (its, more, rest_all) is_first keeps =
         let z : AllZip (StandsFor program numbers) (get_or traces index d ∷ drop (index + 1) traces) (k ∷ ks) =
         subst (λ (xs : List AuditTrace). AllZip (StandsFor program numbers) xs (k ∷ ks)) (drop_more traces index d within) stand in
-        let before_keeps : Keeps marks (mine ++ its ++ more) bound given =
-        subst (λ (ts : List Track). Keeps marks ts bound given) (ap (λ (ts : List Track). mine ++ ts) rest_all.0.whole ∙ sym (append_assoc mine its more)) keeps in
+        let before_keeps : QueueStandsFor marks (mine ++ its ++ more) bound given =
+        subst (λ (ts : List Track). QueueStandsFor marks ts bound given) (ap (λ (ts : List Track). mine ++ ts) rest_all.0.whole ∙ sym (append_assoc mine its more)) keeps in
         let s = it numbers k mine its more bound given z.0 rest_all.1 is_first before_keeps in
         let length_mine : length s.mine ≡ length numbers.rules + 1 = tracks_length AreRuleMarksWhole numbers k s.mine s.tracks in
         let of_program : count_of program ≡ length numbers.rules = program_length program numbers is in
@@ -335,14 +335,14 @@ module _ (program : Program) (numbers : AuditNumbers) (knowns : List Known) (bou
     ending_more e = ends_rest e.front e.rest e.mine e.others e.parted e.stand e.done_tracks e.rest_tracks e.first_is e.keeps
 
   all_ended : (traces : List AuditTrace) (marks : RowQueue) (index : ℕ) (front rest : List Known) (mine others : List Track) → knowns ≡ front ++ rest → AllZip (StandsFor program numbers) (drop index traces) rest
-      → AreTracksOfAll AreRuleMarksWhole numbers front mine → AreAllTracks numbers rest others → Keeps marks (mine ++ others) bound given
+      → AreTracksOfAll AreRuleMarksWhole numbers front mine → AreAllTracks numbers rest others → QueueStandsFor marks (mine ++ others) bound given
       → length traces ≤ index → AreFinished numbers knowns marks bound given
   all_ended traces marks index front (k ∷ ks) mine others parted stand all all_rest keeps past =
       absurd (subst (λ (xs : List AuditTrace). AllZip (StandsFor program numbers) xs (k ∷ ks)) (drop_all index traces past) stand)
   all_ended traces marks index front [] mine others parted stand all all_rest keeps past = record {
     tracks = mine;
     are_tracks = subst (λ (xs : List Known). AreTracksOfAll AreRuleMarksWhole numbers xs mine) (sym (parted ∙ append-nil front)) all;
-    keeps = subst (λ (ts : List Track). Keeps marks ts bound given) (ap (λ (ts : List Track). mine ++ ts) all_rest ∙ append-nil mine) keeps;
+    keeps = subst (λ (ts : List Track). QueueStandsFor marks ts bound given) (ap (λ (ts : List Track). mine ++ ts) all_rest ∙ append-nil mine) keeps;
   }
 
   pub ending_all : (traces : List AuditTrace) (marks : RowQueue) (first index : ℕ) → IsEnding traces marks first index → length traces ≤ index → AreFinished numbers knowns marks bound given

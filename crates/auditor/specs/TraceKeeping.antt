@@ -22,7 +22,7 @@ use Rattle.auditor.specs.SettledRows.{formulas_of}
 use Rattle.auditor.specs.AuditTracks.{IsMeetingMark}
 use Rattle.auditor.specs.ValueMarks.{mark_of}
 use Rattle.audit_rows.specs.declared.row.Row.{Row}
-use Rattle.audit_rows.specs.Inner.Queues.{StandsFor as QueueStandsFor}
+use Rattle.audit_rows.specs.Standing.{QueueStandsFor}
 use Rattle.audit_rows.specs.declared.row_queue.RowQueue.{RowQueue}
 use Rattle.auditor.specs.declared.trace.AuditTrace.{AuditTrace}
 use Rattle.auditor.specs.declared.trace.NextRow.{NextRow}

@@ -1,6 +1,6 @@
 //! What each rule comes to, counted track by track.
 ghost use Rattle.std.specs.Prelude.{◌≡◌, ◌==◌, [], ℕ, List, length, IfOk};
-ghost use Rattle.audit_rows.specs.Inner.Queues.{StandsFor};
+ghost use Rattle.audit_rows.specs.Standing.{QueueStandsFor};
 ghost use Rattle.audit_rows.specs.Tracks.{EndAt, Track};
 ghost use Rattle.audit_rows.specs.declared.row.Row.{Row};
 ghost use Rattle.auditor.specs.Inner.TrackCounts.{AddsTrack};
@@ -33,7 +33,7 @@ fn take_rule(totals: &mut [Total], rule: usize, counts: MarkCounts)
 /// Counts all tracks, whose next marks would be for the step.
 fn take_tracks(totals: &mut [Total], queue: &RowQueue, end: u32)
     ensures as_many { length totals.new ≡ length totals.old }
-    ensures tallies { (rules bound : ℕ) (tracks : List Track) (given : List Row) → StandsFor queue.now tracks bound given → EndAt end tracks
+    ensures tallies { (rules bound : ℕ) (tracks : List Track) (given : List Row) → QueueStandsFor queue.now tracks bound given → EndAt end tracks
         → AreTallies totals.old rules [] → AreTallies totals.new rules tracks }
 {
     for index in 0..queue.track_count() {
@@ -50,7 +50,7 @@ pub fn totals_of(
     rules: usize,
     end: u32,
 ) -> Result<Vec<Total>, Memory>
-    ensures { IfOk result (λ totals. (tracks : List Track) (bound : ℕ) (given : List Row) → StandsFor queue.now tracks bound given → EndAt end tracks
+    ensures { IfOk result (λ totals. (tracks : List Track) (bound : ℕ) (given : List Row) → QueueStandsFor queue.now tracks bound given → EndAt end tracks
         → AreTallies totals.items rules tracks) }
 {
     let mut totals = vec![in alloc; Total::default(); rules]?;

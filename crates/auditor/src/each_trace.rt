@@ -10,7 +10,7 @@ ghost use Rattle.traces.specs.Known.{AreKnown, AreOpened, Known, opened, pairs_o
 ghost use Rattle.traces.specs.Standing.{IsSound, StandsFor as TracesStandFor, given_of, last_tick_of, latest_sighting, traces_of};
 ghost use Rattle.auditor.specs.Inner.AuditKeeping.{AreAllTracks};
 ghost use Rattle.auditor.specs.Inner.TracesKept.{AreFinished, AreStepped, Holds, IsReady};
-ghost use Rattle.audit_rows.specs.Inner.Queues.{StandsFor as QueueStandsFor};
+ghost use Rattle.audit_rows.specs.Standing.{QueueStandsFor};
 ghost use Rattle.auditor.specs.Tallies.{IsUnknown, begun_tracks};
 ghost use Rattle.auditor.specs.TraceKeeping.{StandsFor};
 ghost use Rattle.auditor.specs.SettledRows.{formulas_of};

@@ -7,7 +7,7 @@ ghost use Rattle.encounters.specs.declared.pair_step.PairStep.{PairStep};
 ghost use Rattle.audit_rows.specs.Tracks.{Repeats, Track, longer, next_step};
 ghost use Rattle.audit_rows.specs.declared.row.Row.{Row};
 ghost use Rattle.auditor.specs.AuditTracks.{IsMeetingMark};
-ghost use Rattle.audit_rows.specs.Inner.Queues.{StandsFor as Keeps};
+ghost use Rattle.audit_rows.specs.Standing.{QueueStandsFor};
 ghost use Rattle.auditor.specs.ValueMarks.{mark_of};
 
 use audit_rows::{Mark, RowQueue};
@@ -55,8 +55,8 @@ fn mark_or_repeat(
     repeats: bool,
 ) -> Result<(), Memory>
     ensures { OnOk result ((bound : ℕ) (before after : List Track) (track : Track) (given : List Row)
-        → Keeps queue.old (before ++ track ∷ after) bound given → index ≡ length before → step ≡ next_step track
-        → (repeats ≡ true → Repeats track mark) → Keeps queue.new (before ++ longer track mark ∷ after) bound given) }
+        → QueueStandsFor queue.old (before ++ track ∷ after) bound given → index ≡ length before → step ≡ next_step track
+        → (repeats ≡ true → Repeats track mark) → QueueStandsFor queue.new (before ++ longer track mark ∷ after) bound given) }
 {
     if repeats {
         return Ok(());
@@ -191,7 +191,7 @@ impl AuditTrace {
         ensures steps { steps_of self.new ≡ steps_of self.old + 1 }
         ensures stands { OnOk result ((numbers : AuditNumbers) (known : Known) (seen : Option PairStep) (before mine after : List Track) (bound : ℕ) (given : List Row)
             → StandsFor program.now numbers self.old known → step ≡ known.start + length known.steps → IsNextRow numbers known seen next.entry
-            → AreTracksSoFar numbers known mine → first ≡ length before → Keeps queue.old (before ++ mine ++ after) bound given
+            → AreTracksSoFar numbers known mine → first ≡ length before → QueueStandsFor queue.old (before ++ mine ++ after) bound given
             → Steps program.now numbers self.new known seen (answer_of next.entry.row.now) queue.new before after bound given) }
     {
         let NextRow { seen, row, was, is } = next;
@@ -216,7 +216,7 @@ impl AuditTrace {
         requires room { first + count_of program.now + 1 < 2 ^ 64 }
         ensures { OnOk result ((numbers : AuditNumbers) (known : Known) (before mine after : List Track) (bound : ℕ) (given : List Row)
             → StandsFor program.now numbers self.old known → AreTracksSoFar numbers known mine → first ≡ length before
-            → Keeps queue.old (before ++ mine ++ after) bound given
+            → QueueStandsFor queue.old (before ++ mine ++ after) bound given
             → HasTracksOf numbers known queue.new before after bound given) }
     {
         for _ in 0..program.reach() {

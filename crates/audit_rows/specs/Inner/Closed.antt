@@ -5,7 +5,7 @@ use Rattle.audit_rows.specs.declared.mark.Mark.{Mark}
 use Rattle.audit_rows.specs.declared.row.Row.{Row}
 use Rattle.audit_rows.specs.Order.{InOrder, last_step_of}
 use Rattle.audit_rows.specs.Rows.{IsRowOf}
-use Rattle.audit_rows.specs.Tracks.{Track, IsNew, longer, next_step}
+use Rattle.audit_rows.specs.Tracks.{Track, longer, next_step}
 
 -- A row of the track behind which a mark stands already.
 abbrev pub IsClosedOf : Track → Row → Type 0
@@ -24,8 +24,3 @@ pub record AreClosedRows (tracks : List Track) (rows : List Row) : Type 0 where
 pub record Closes (track : Track) (mark : Mark) (closed : Option Row) : Type 0 where
   pub rows : (row : Row) → IsClosedOf (longer track mark) row ↔ (IsClosedOf track row ⊎ (closed ≡ Some row))
   pub ended : (row : Row) → closed ≡ Some row → IsRowOf track row × (last_step_of row + 1 ≡ next_step track)
-
--- No two tracks are of one topic.
-abbrev pub HaveOwnTopics : List Track → Type 0
-HaveOwnTopics [] = Unit {0}
-HaveOwnTopics (track ∷ tracks) = IsNew track.topic tracks × HaveOwnTopics tracks

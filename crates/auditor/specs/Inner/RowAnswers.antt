@@ -9,7 +9,7 @@ use Rattle.mtl_monitor.specs.declared.trace_state.TraceState.{TraceState}
 use Rattle.audit_rows.specs.Tracks.{Track, longer, next_step}
 use Rattle.audit_rows.specs.declared.row.Row.{Row}
 use Rattle.auditor.specs.ValueMarks.{mark_of}
-use Rattle.audit_rows.specs.Inner.Queues.{StandsFor as QueueStandsFor}
+use Rattle.audit_rows.specs.Standing.{QueueStandsFor}
 use Rattle.audit_rows.specs.declared.row_queue.RowQueue.{RowQueue}
 use Rattle.auditor.specs.declared.trace.AuditTrace.{AuditTrace}
 

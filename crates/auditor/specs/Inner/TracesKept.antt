@@ -10,8 +10,7 @@ use Rattle.traces.specs.Known.{IsFollowed, Known}
 use Rattle.traces.specs.Standing as traces
 use Rattle.traces.specs.declared.all_traces.AllTraces.{AllTraces}
 use Rattle.auditor.specs.Inner.AuditKeeping.{AreAllTracks, AreTracksOfAll}
-use Rattle.audit_rows.specs.Inner.Closed.{HaveOwnTopics}
-use Rattle.audit_rows.specs.Inner.Queues.{StandsFor as QueueStandsFor}
+use Rattle.audit_rows.specs.Standing.{HaveOwnTopics, QueueStandsFor}
 use Rattle.auditor.specs.Tallies.{AreTallies}
 use Rattle.auditor.specs.TraceKeeping.{AreRuleMarksWhole, StandsFor}
 use Rattle.auditor.specs.SettledRows.{formulas_of}

@@ -1,7 +1,7 @@
 use Rattle.std.proofs.Common.{◌+◌, List, subst, sym, arith}
 use Rattle.audit_rows.specs.declared.sort_key.SortKey.{SortKey}
 use Rattle.audit_rows.specs.declared.row.Row.{Row}
-use Rattle.audit_rows.specs.Inner.Queues.{Holds}
+use Rattle.audit_rows.specs.Standing.{Holds}
 use Rattle.audit_rows.proofs.Pending.{entries_after, keys_in_order}
 use Rattle.audit_rows.proofs.Ending.{ended, end_quiet, end_closing, rows_of_ended, as_many}
 use Rattle.audit_rows.proofs.row_queue.end_all.Goals as goal

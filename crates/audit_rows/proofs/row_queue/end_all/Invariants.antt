@@ -3,7 +3,7 @@ use Rattle.std.specs.List.{AllZip}
 use Rattle.audit_rows.specs.declared.row.Row.{Row}
 use Rattle.audit_rows.specs.Tracks.{EndAt, Track}
 use Rattle.audit_rows.specs.Inner.Lanes.{Stands}
-use Rattle.audit_rows.specs.Inner.Queues.{Holds}
+use Rattle.audit_rows.specs.Standing.{Holds}
 use Rattle.audit_rows.proofs.Ending.{ended}
 use Rattle.audit_rows.proofs.row_queue.end_all.Given as goal
 

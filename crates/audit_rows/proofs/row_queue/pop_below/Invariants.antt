@@ -1,5 +1,6 @@
 use Rattle.std.proofs.Common.{length}
-use Rattle.audit_rows.specs.Inner.Queues.{ArePlaced, IsPopping}
+use Rattle.audit_rows.specs.Inner.Queues.{IsPopping}
+use Rattle.audit_rows.specs.Standing.{ArePlaced}
 use Rattle.audit_rows.proofs.row_queue.pop_below.Given as goal
 
 abbrev pub invariant-loop-place : goal.invariant-loop-place

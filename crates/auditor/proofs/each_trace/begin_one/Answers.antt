@@ -8,7 +8,7 @@ use Rattle.auditor.specs.Inner.TracesKept.{IsReady}
 use Rattle.auditor.specs.Tallies.{begun_tracks}
 use Rattle.auditor.specs.TraceKeeping.{AreRuleMarksSoFar, StandsFor}
 use Rattle.auditor.specs.declared.trace.AuditTrace.{AuditTrace}
-use Rattle.audit_rows.specs.Inner.Queues.{StandsFor as Keeps}
+use Rattle.audit_rows.specs.Standing.{QueueStandsFor}
 use Rattle.auditor.proofs.UnderWay.{program_length}
 use Rattle.auditor.proofs.Growing.{opened_tracks, tracks_push, unknown}
 use Rattle.auditor.proofs.each_trace.begin_one.Goals as goal
@@ -37,7 +37,7 @@ returns-clause-holds c = λ numbers knowns bound given is h new le.
       tracks = h.tracks ++ begun_tracks pair start (length numbers.rules);
       are_tracks = tracks_push AreRuleMarksSoFar numbers knowns (opened pair start) h.tracks (begun_tracks pair start (length numbers.rules)) h.are_tracks
           (opened_tracks numbers pair start);
-      keeps = subst (λ (n : ℕ). Keeps c.begin_tracks.new.queue (h.tracks ++ begun_tracks pair start n) bound given)
+      keeps = subst (λ (n : ℕ). QueueStandsFor c.begin_tracks.new.queue (h.tracks ++ begun_tracks pair start n) bound given)
           (c.formula_count.ensures.count ∙ program_length program numbers is)
           (c.in_ok-begin_tracks.ensures start bound h.tracks given h.keeps (unknown numbers knowns h.tracks pair h.are_tracks new) le);
     }

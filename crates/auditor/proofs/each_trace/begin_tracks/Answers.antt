@@ -1,6 +1,6 @@
 use Rattle.std.proofs.Common.{◌≡◌, ◌++◌, ℕ, List, arith, refl, subst}
 use Rattle.audit_rows.specs.declared.topic.Topic.TheVariants.{Meeting}
-use Rattle.audit_rows.specs.Inner.Queues.{StandsFor}
+use Rattle.audit_rows.specs.Standing.{QueueStandsFor}
 use Rattle.audit_rows.specs.Tracks.{Track}
 use Rattle.auditor.specs.Tallies.{begun_tracks}
 use Rattle.auditor.proofs.Begun.{begun_more, new_of_pair, new_rule}
@@ -14,10 +14,10 @@ loop-rule-preserved c = λ start bound tracks given h new le.
     let pair = c.args.pair in
     let rule = c.loop-rule.rule in
     let so_far = c.loop-rule.invariant start bound tracks given h new le in
-    subst (λ (ts : List Track). StandsFor c.begin-in-loop-rule.new.self ts bound given) (begun_more pair tracks start rule)
+    subst (λ (ts : List Track). QueueStandsFor c.begin-in-loop-rule.new.self ts bound given) (begun_more pair tracks start rule)
     (c.in_ok-begin-2.ensures.stands (tracks ++ begun_tracks pair start rule) bound start given so_far (new_rule pair tracks start rule new) le)
 
 pub returns : goal.returns
 returns c = λ start bound tracks given h new le.
     let all : c.loop-rule.rule ≡ c.args.rules = omega arith in
-    subst (λ (n : ℕ). StandsFor c.loop-rule.queue (tracks ++ begun_tracks c.args.pair start n) bound given) all (c.loop-rule.invariant start bound tracks given h new le)
+    subst (λ (n : ℕ). QueueStandsFor c.loop-rule.queue (tracks ++ begun_tracks c.args.pair start n) bound given) all (c.loop-rule.invariant start bound tracks given h new le)

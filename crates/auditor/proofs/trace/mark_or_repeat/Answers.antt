@@ -1,5 +1,5 @@
 use Rattle.std.proofs.Common.{◌++◌, ◌∷◌, ℕ, List, ap, subst, sym, ◌∙◌}
-use Rattle.audit_rows.specs.Inner.Queues.{StandsFor as Keeps}
+use Rattle.audit_rows.specs.Standing.{QueueStandsFor}
 use Rattle.audit_rows.specs.Tracks.{IsNextAt, Track, marked}
 use Rattle.audit_rows.proofs.ForCallers.{marked_there, next_there, repeated}
 use Rattle.std.proofs.lemmas.Result.{on_ok_weaker}
@@ -13,7 +13,7 @@ pub returns : goal.returns
 returns c = on_ok_weaker c.mark.result
     (λ by bound before after track given keeps e next repeats.
     let all = before ++ track ∷ after in
-    subst (λ (ts : List Track). Keeps c.mark.new.self ts bound given)
+    subst (λ (ts : List Track). QueueStandsFor c.mark.new.self ts bound given)
     (ap (λ (i : ℕ). marked all i c.args.mark) e ∙ marked_there before after track c.args.mark)
     (by all bound given keeps (subst (λ (i : ℕ). IsNextAt all i c.args.step) (sym e) (next_there before after track c.args.step next))))
     c.mark.ensures

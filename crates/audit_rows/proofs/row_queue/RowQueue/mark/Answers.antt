@@ -2,7 +2,7 @@ use Rattle.std.proofs.Common.{◌≡◌, ◌<◌, ◌≤◌, List, length, refl,
 use Rattle.std.specs.Vec.{vec_len}
 use Rattle.audit_rows.specs.declared.sort_key.SortKey.{SortKey}
 use Rattle.audit_rows.specs.declared.row.Row.{Row}
-use Rattle.audit_rows.specs.Inner.Queues.{Holds, StandsFor}
+use Rattle.audit_rows.specs.Standing.{Holds, QueueStandsFor}
 use Rattle.audit_rows.specs.Tracks.{Track, marked}
 use Rattle.audit_rows.proofs.Ending.{as_many}
 use Rattle.audit_rows.proofs.Pending.{entries_after, keys_in_order}
@@ -18,7 +18,7 @@ returns-in_default c = λ tracks bound given h next.
     let as_long : vec_len c.args.self.now.lanes ≡ length c.args.self.now.lanes.items = search rules in
     let many = as_many c.args.self.now.lanes.items tracks h.lanes in
     let beyond = not_below c.args.index (vec_len c.args.self.now.lanes) (λ lt. let never = c.in_default.ensures.variant.1 lt in absurd (cc)) in
-    subst (λ (ts : List Track). StandsFor c.args.self.now ts bound given) (sym (none_marked tracks c.args.index c.args.mark (omega arith))) h
+    subst (λ (ts : List Track). QueueStandsFor c.args.self.now ts bound given) (sym (none_marked tracks c.args.index c.args.mark (omega arith))) h
 
 pub returns-in_default-push : goal.returns-in_default-push
 returns-in_default-push c = λ tracks bound given h next.

@@ -4,7 +4,7 @@ use Rattle.traces.specs.Audited.{AuditNumbers}
 use Rattle.outside.proofs.Members.{in_none}
 use Rattle.traces.proofs.ForCallers.{begun_within, different_none}
 use Rattle.auditor.specs.SettledRows.{settled_by}
-use Rattle.audit_rows.specs.Inner.Queues.{StandsFor as Keeps}
+use Rattle.audit_rows.specs.Standing.{QueueStandsFor}
 use Rattle.auditor.specs.TraceKeeping.{StandsFor}
 use Rattle.auditor.specs.declared.trace.AuditTrace.{AuditTrace}
 use Rattle.auditor.proofs.audit.Audit.new.Goals as goal
@@ -34,6 +34,6 @@ returns-clause-stands c =
         stand = subst (λ (vs : List AuditTrace). AllZip (StandsFor c.in_ok-program.program numbers) vs []) (sym c.new-2.ensures.items) tt;
         tracks = [];
         are_tracks = refl;
-        keeps = subst (λ (b : ℕ). Keeps c.new-3.result [] b []) none c.new-3.ensures;
+        keeps = subst (λ (b : ℕ). QueueStandsFor c.new-3.result [] b []) none c.new-3.ensures;
       };
     }

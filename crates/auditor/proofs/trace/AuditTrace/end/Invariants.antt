@@ -6,7 +6,7 @@ use Rattle.audit_rows.specs.Tracks.{Track}
 use Rattle.audit_rows.specs.declared.row.Row.{Row}
 use Rattle.traces.specs.Audited.{AuditNumbers}
 use Rattle.traces.specs.Known.{Known}
-use Rattle.audit_rows.specs.Inner.Queues.{StandsFor as Keeps}
+use Rattle.audit_rows.specs.Standing.{QueueStandsFor}
 use Rattle.auditor.specs.TraceKeeping.{AreTracksSoFar, StandsFor}
 use Rattle.auditor.proofs.TraceKeeping.{HasTracksPast}
 use Rattle.auditor.proofs.trace.AuditTrace.end.Given as goal
@@ -21,6 +21,6 @@ invariant-loop l =
       follows : (formulas : List FormulaTree) (rows : Trace) → Follows l.program l.fn.self.values formulas rows
           → Follows l.program l.self.values formulas rows ⊎ Closes l.program l.self.values formulas rows;
       tracks : (numbers : AuditNumbers) (known : Known) (before mine after : List Track) (bound : ℕ) (given : List Row) → StandsFor l.program numbers l.fn.self known
-          → AreTracksSoFar numbers known mine → l.first ≡ length before → Keeps l.fn.queue (before ++ mine ++ after) bound given
+          → AreTracksSoFar numbers known mine → l.first ≡ length before → QueueStandsFor l.fn.queue (before ++ mine ++ after) bound given
           → HasTracksPast l.counter numbers known l.queue before after bound given;
     }
