@@ -13,4 +13,3 @@ mod Queues
 mod Ending
 mod Fronts
 mod Repeats
-mod Results

@@ -40,15 +40,14 @@ fn pop_below(
     Ok(rows)
 }
 
-/// Takes all rows off.
-fn pop_all(alloc: Global, pending: &mut BTreeMap<SortKey, Row>) -> Result<Vec<Row>, Memory>
-    ensures { IfOk result (λ rows. rows.items ≡ values_of pending.old.entries) }
+/// Takes all rows off, and puts them behind others.
+fn pop_all(pending: &mut BTreeMap<SortKey, Row>, rows: &mut Vec<Row>) -> Result<(), Memory>
+    ensures { OnOk result (rows.new.items ≡ rows.old.items ++ values_of pending.old.entries) }
 {
-    let mut rows = Vec::new(alloc);
     while let Some((_, row)) = pending.pop_first() {
         rows.push(row)?;
     }
-    Ok(rows)
+    Ok(())
 }
 
 /// Adds the rows that the end of all tracks closes.
@@ -143,11 +142,22 @@ impl RowQueue {
     }
 
     /// Ends all tracks, whose next marks would be for the step, and hands out the rows that are left.
-    pub fn finish(mut self, end: u32) -> Result<Vec<Row>, Memory>
+    pub fn finish(self, end: u32) -> Result<Vec<Row>, Memory>
         ensures { IfOk result (λ rows. (tracks : List Track) (bound : ℕ) (given : List Row) → QueueStandsFor self tracks bound given
             → EndAt end tracks → AreRows tracks (given ++ rows.items)) }
     {
+        let mut rows = Vec::new(self.alloc);
+        self.finish_into(end, &mut rows)?;
+        Ok(rows)
+    }
+
+    /// Ends all tracks, whose next marks would be for the step, and puts the rows that are left behind others.
+    pub fn finish_into(mut self, end: u32, rows: &mut Vec<Row>) -> Result<(), Memory>
+        ensures { OnOk result ((rest : List Row) × (rows.new.items ≡ rows.old.items ++ rest)
+            × ((tracks : List Track) (bound : ℕ) (given : List Row) → QueueStandsFor self tracks bound given → EndAt end tracks
+            → AreRows tracks (given ++ rest))) }
+    {
         end_all(&self.lanes, end, &mut self.pending)?;
-        pop_all(self.alloc, &mut self.pending)
+        pop_all(&mut self.pending, rows)
     }
 }

@@ -1,13 +1,16 @@
 -- What an audit stands for: its numbers, the vessels seen at the ticks that it was given, and the rows that it has given.
-use Rattle.std.specs.Prelude.{ℕ, ◌≡◌, ◌+◌, ◌-◌, ◌≤◌, List, length, All}
+use Rattle.std.specs.Prelude.{ℕ, ◌≡◌, ◌+◌, ◌-◌, ◌≤◌, ◌++◌, List, length, All}
 use Rattle.mtl_monitor.specs.Following.{IsProgramOf, count_of}
 use Rattle.audit_rows.specs.declared.row.Row.{Row}
 use Rattle.traces.specs.Audited.{AuditNumbers, Sighting}
 use Rattle.traces.specs.Known.{AreKnown, Known}
 use Rattle.traces.specs.Standing as followed
+use Rattle.auditor.specs.AuditRows.{AreAuditRows}
+use Rattle.auditor.specs.AuditTotals.{AreTotals}
 use Rattle.auditor.specs.Inner.TracesKept.{Holds, IsReady}
 use Rattle.auditor.specs.SettledRows.{formulas_of, settled_by}
 use Rattle.auditor.specs.declared.audit.Audit.{Audit}
+use Rattle.auditor.specs.declared.total.Total.{Total}
 
 -- ---- what the audit is asked
 
@@ -38,3 +41,12 @@ pub record StandsFor (audit : Audit) (numbers : AuditNumbers) (ticks : List Sigh
   pub are_known : AreKnown numbers ticks knowns
   pub traces : followed.StandsFor audit.traces numbers ticks knowns
   pub holds : Holds audit.program audit.values.items audit.queue numbers knowns (settled_by numbers (length ticks - 1)) given
+
+-- It has ended with these totals, and put the rows that were not given behind others.
+pub record HasEnded (audit : Audit) (before after : List Row) (totals : List Total) : Type 0 where
+  pub rest : List Row
+  pub behind : after ≡ before ++ rest
+  pub are_rows : (numbers : AuditNumbers) (ticks : List Sighting) (given : List Row) → StandsFor audit numbers ticks given
+      → AreAuditRows numbers ticks (given ++ rest)
+  pub are_totals : (numbers : AuditNumbers) (ticks : List Sighting) (given : List Row) → StandsFor audit numbers ticks given
+      → AreTotals numbers ticks (given ++ rest) totals

@@ -10,7 +10,7 @@ ghost use Rattle.traces.specs.declared.all_traces.TheConstants.{MOST_TRACES};
 ghost use Rattle.traces.specs.declared.fault.TickFault.TheVariants.{TooManyPairs};
 ghost use Rattle.auditor.specs.AuditRows.{AreAuditRows, AreAuditRowsBelow};
 ghost use Rattle.auditor.specs.AuditTotals.{AreTotals};
-ghost use Rattle.auditor.specs.Standing.{IsSound, StandsFor, given_of, last_tick_of, latest_sighting};
+ghost use Rattle.auditor.specs.Standing.{HasEnded, IsSound, StandsFor, given_of, last_tick_of, latest_sighting};
 ghost use Rattle.auditor.specs.SettledRows.{settled_by};
 
 use crate::counting::totals_of;
@@ -135,6 +135,17 @@ impl Audit {
         ensures totals { IfOk result (λ end. (numbers : AuditNumbers) (ticks : List Sighting) (given : List Row) → StandsFor self numbers ticks given
             → AreTotals numbers ticks (given ++ end.rows.items) end.totals.items) }
     {
+        let mut rows = Vec::new(self.alloc);
+        let totals = self.end_into(&mut rows)?;
+        Ok(AuditEnd { rows, totals })
+    }
+
+    /// The same where the rows that were not given yet are put behind others, so that no second list of them is made.
+    pub fn end_into(self, rows: &mut Vec<Row>) -> Result<Vec<Total>, Memory>
+        requires sound { IsSound self }
+        requires all { given_of self ≡ last_tick_of self + 1 }
+        ensures { IfOk result (λ totals. HasEnded self rows.old.items rows.new.items totals.items) }
+    {
         let Audit {
             alloc,
             program,
@@ -145,7 +156,7 @@ impl Audit {
         end_each(&mut values, &program, &mut queue)?;
         let end = traces.last_tick();
         let totals = totals_of(alloc, &queue, program.formula_count(), end)?;
-        let rows = queue.finish(end)?;
-        Ok(AuditEnd { rows, totals })
+        queue.finish_into(end, rows)?;
+        Ok(totals)
     }
 }

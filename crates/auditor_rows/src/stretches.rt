@@ -140,6 +140,26 @@ fn a_row_comes_at_its_bound(rt: HostRuntime) -> Result<(), Fail> {
 }
 
 #[test]
+fn rows_that_are_left_stand_behind_those_before(rt: HostRuntime) -> Result<(), Fail> {
+    let mut queue = RowQueue::new(rt.alloc());
+    let index = queue.begin(Topic::Verdict(PAIR, 0))?;
+    give(
+        &mut queue,
+        index,
+        &[Mark::Broken, Mark::Undecided, Mark::Nothing, Mark::Broken],
+    )?;
+    let mut rows = queue.rows_below(1)?;
+    queue.finish_into(4, &mut rows)?;
+    let all = [
+        verdict(PAIR, 0, false, 0, 0),
+        verdict(PAIR, 0, true, 1, 1),
+        verdict(PAIR, 0, false, 3, 3),
+    ];
+    is(&rt, &rows[..], &all[..]);
+    Ok(())
+}
+
+#[test]
 fn counts_of_a_track(rt: HostRuntime) -> Result<(), Fail> {
     let mut queue = RowQueue::new(rt.alloc());
     let topic = Topic::Verdict(PAIR, 0);

@@ -129,11 +129,7 @@ impl SettledAudit {
             → HaveMoreThan MOST_TRACES (audit_numbers scenario.now) (sighted scenario.now (sent scenario.now (lines ++ more))) → ⊥) }
     {
         let mut rows = self.finish(scenario, judge)?;
-        let end = self.audit.end()?;
-        add(&mut rows, end.rows)?;
-        Ok(AuditEnd {
-            rows,
-            totals: end.totals,
-        })
+        let totals = self.audit.end_into(&mut rows)?;
+        Ok(AuditEnd { rows, totals })
     }
 }

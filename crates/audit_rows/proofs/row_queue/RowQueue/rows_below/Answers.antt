@@ -1,13 +1,13 @@
-use Rattle.audit_rows.proofs.Results.{on_ok}
+use Rattle.std.proofs.lemmas.Result.{IfOk-weaker}
 use Rattle.audit_rows.proofs.Queues.{popped, given_rows}
 use Rattle.audit_rows.proofs.row_queue.RowQueue.rows_below.Goals as goal
 
 pub returns-clause-stands : goal.returns-clause-stands
-returns-clause-stands c = on_ok c.pop_below.result _ _ (λ rows p tracks old given h le settled. record {
+returns-clause-stands c = IfOk-weaker c.pop_below.result _ _ (λ rows p tracks old given h le settled. record {
   lanes = h.lanes;
   holds = popped _ _ tracks old c.args.bound given rows.items h.holds le settled (p h.holds.placed);
 }) c.pop_below.ensures
 
 pub returns-clause-rows : goal.returns-clause-rows
 returns-clause-rows c =
-    on_ok c.pop_below.result _ _ (λ rows p tracks old given h le settled. given_rows _ tracks c.args.bound _ (popped _ _ tracks old c.args.bound given rows.items h.holds le settled (p h.holds.placed))) c.pop_below.ensures
+    IfOk-weaker c.pop_below.result _ _ (λ rows p tracks old given h le settled. given_rows _ tracks c.args.bound _ (popped _ _ tracks old c.args.bound given rows.items h.holds le settled (p h.holds.placed))) c.pop_below.ensures

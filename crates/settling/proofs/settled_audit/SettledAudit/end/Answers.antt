@@ -30,14 +30,14 @@ returns-in_err-rows-clause-many c = λ told lines more given stands judged.
     let err : c.finish.result ≡ Err audit_fault.TooManyPairs = c.in_err-rows.was ∙ ap (λ (e : AuditFault). Err e) fault in
     c.finish.ensures.many err (lines ++ more) given judged (audited_with_more c.args.scenario.now c.args.self lines more given stands)
 
-pub end-requires-clause-sound : goal.end-requires-clause-sound
-end-requires-clause-sound c =
+pub end_into-requires-clause-sound : goal.end_into-requires-clause-sound
+end_into-requires-clause-sound c =
     let log = c.requires.one_log in
     (c.in_ok-rows.ensures.audited (log.lines ++ log.more) log.given log.judged
     (audited_with_more c.args.scenario.now c.args.self log.lines log.more log.given log.stands)).sound
 
-pub end-requires-clause-all : goal.end-requires-clause-all
-end-requires-clause-all c =
+pub end_into-requires-clause-all : goal.end_into-requires-clause-all
+end_into-requires-clause-all c =
     let log = c.requires.one_log in
     let up = c.in_ok-rows.ensures.audited (log.lines ++ log.more) log.given log.judged
     (audited_with_more c.args.scenario.now c.args.self log.lines log.more log.given log.stands) in
@@ -50,9 +50,9 @@ returns-clause-rows c = λ lines more given stands judged.
     let rows = c.in_ok-rows.rows.items in
     let up = c.in_ok-rows.ensures.audited (lines ++ more) given judged (audited_with_more scenario c.args.self lines more given stands) in
     let whole = subst (λ (k : ℕ). AuditStandsFor c.finish.new.self.audit numbers (seen_first scenario (sent scenario (lines ++ more)) k) (given ++ rows)) c.in_ok-rows.ensures.all up.stands in
+    let ended = c.in_ok-totals.ensures in
     subst (AreAuditRows numbers (sighted scenario (sent scenario (lines ++ more))))
-    (append_assoc given rows c.in_ok-end.end.rows.items ∙ ap (λ (l : List Row). given ++ l) (sym c.in_ok-add.ensures))
-    (c.in_ok-end.ensures.rows numbers _ (given ++ rows) whole)
+    (append_assoc given rows ended.rest ∙ ap (λ (l : List Row). given ++ l) (sym ended.behind)) (ended.are_rows numbers _ (given ++ rows) whole)
 
 pub returns-clause-totals : goal.returns-clause-totals
 returns-clause-totals c = λ lines more given stands judged.
@@ -61,9 +61,9 @@ returns-clause-totals c = λ lines more given stands judged.
     let rows = c.in_ok-rows.rows.items in
     let up = c.in_ok-rows.ensures.audited (lines ++ more) given judged (audited_with_more scenario c.args.self lines more given stands) in
     let whole = subst (λ (k : ℕ). AuditStandsFor c.finish.new.self.audit numbers (seen_first scenario (sent scenario (lines ++ more)) k) (given ++ rows)) c.in_ok-rows.ensures.all up.stands in
-    subst (λ (l : List Row). AreTotals numbers (sighted scenario (sent scenario (lines ++ more))) l c.in_ok-end.end.totals.items)
-    (append_assoc given rows c.in_ok-end.end.rows.items ∙ ap (λ (l : List Row). given ++ l) (sym c.in_ok-add.ensures))
-    (c.in_ok-end.ensures.totals numbers _ (given ++ rows) whole)
+    let ended = c.in_ok-totals.ensures in
+    subst (λ (l : List Row). AreTotals numbers (sighted scenario (sent scenario (lines ++ more))) l c.in_ok-totals.totals.items)
+    (append_assoc given rows ended.rest ∙ ap (λ (l : List Row). given ++ l) (sym ended.behind)) (ended.are_totals numbers _ (given ++ rows) whole)
 
 pub returns-clause-few : goal.returns-clause-few
 returns-clause-few c = λ lines more given stands judged many.
