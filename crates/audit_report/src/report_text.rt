@@ -112,7 +112,8 @@ impl ReportText {
         ])
     }
 
-    fn write_meeting(
+    /// Writes the row of a meeting: the kind of the engagement at its first step, its first and its last step, and the least distance.
+    pub fn write_meeting(
         &mut self,
         pair: Pair,
         kind: Class,
@@ -139,7 +140,8 @@ impl ReportText {
         ])
     }
 
-    fn write_verdict(
+    /// Writes the row of a stretch at which the rule of this name is broken, or stays undecided: its first and its last step.
+    pub fn write_verdict(
         &mut self,
         pair: Pair,
         name: &[u8],

@@ -11,7 +11,6 @@ use Rattle.audit_rows.specs.declared.row.Row.TheVariants.{Meeting, Verdict}
 use Rattle.audit_rows.specs.declared.topic.Topic.{Topic}
 use Rattle.audit_rows.specs.declared.mark.Mark.{Mark}
 use Rattle.audit_report.specs.CsvRows.{row_of}
-use Rattle.audit_report.specs.ReportRows.{Fields}
 use Rattle.audit_report.specs.ReportTexts.{HasText}
 use Rattle.audit_report.specs.declared.report_text.ReportText.{ReportText}
 use Rattle.auditor.specs.AuditTracks.{AreMarksOf}
@@ -62,12 +61,11 @@ rows_on rules front given rows =
     ∙ ap (λ (l : List ℕ). front ++ l) (sym (flat_map-append (λ (r : Row). row_of (stretch_fields rules r)) given rows))
 
 -- the rows of the first stretches, and one more
-pub one_stretch_on : (text : ReportText) (front : List ℕ) (rules : List NamedTree) (rows : List Row) (k : ℕ) (d : Row) → k < length rows → (fields : Fields)
-    → fields ≡ stretch_fields rules (get_or rows k d)
-    → HasText text ((front ++ stretch_rows rules (take k rows)) ++ row_of fields) → HasText text (front ++ stretch_rows rules (take (k + 1) rows))
-one_stretch_on text front rules rows k d lt fields is has =
+pub one_stretch_on : (text : ReportText) (front : List ℕ) (rules : List NamedTree) (rows : List Row) (k : ℕ) (d : Row) → k < length rows
+    → HasText text ((front ++ stretch_rows rules (take k rows)) ++ row_of (stretch_fields rules (get_or rows k d)))
+    → HasText text (front ++ stretch_rows rules (take (k + 1) rows))
+one_stretch_on text front rules rows k d lt has =
     let f : Row → List ℕ = λ r. row_of (stretch_fields rules r) in
     subst (HasText text)
-    (append_assoc front (stretch_rows rules (take k rows)) (row_of fields)
-    ∙ ap (λ (l : List ℕ). front ++ l) (ap (λ (fs : Fields). stretch_rows rules (take k rows) ++ row_of fs) is ∙ rows_push f rows k d lt))
+    (append_assoc front (stretch_rows rules (take k rows)) (f (get_or rows k d)) ∙ ap (λ (l : List ℕ). front ++ l) (rows_push f rows k d lt))
     has

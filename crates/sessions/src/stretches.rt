@@ -1,19 +1,20 @@
 //! The rows of the stretches that an audit finds.
 ghost use Rattle.std.specs.Prelude.{◌≡◌, ◌++◌, ℕ, List, OnOk};
-ghost use Rattle.audit_report.specs.ReportRows.{row_fields};
+ghost use Rattle.audit_report.specs.CsvRows.{row_of};
 ghost use Rattle.audit_report.specs.ReportTexts.{HasText};
 ghost use Rattle.sessions.specs.AuditReport.{stretch_fields, stretch_rows};
 ghost use Rattle.sessions.specs.Inner.AuditWriting.{AreOfRules, IsOfRules};
 
-use audit_report::{ReportRow, ReportText};
+use audit_report::ReportText;
 use auditor::Row;
 use outside::Memory;
 use rule_set::RuleSet;
 
-/// The row of a stretch.
-fn row_of<'a>(rules: &'a RuleSet, row: &Row) -> ReportRow<'a>
+/// Writes the row of a stretch.
+fn write_stretch(text: &mut ReportText, rules: &RuleSet, row: &Row) -> Result<(), Memory>
     requires { IsOfRules rules.now row.now }
-    ensures { row_fields result ≡ stretch_fields rules.now row.now }
+    ensures { OnOk result ((front : List ℕ) → HasText text.old front
+        → HasText text.new (front ++ row_of (stretch_fields rules.now row.now))) }
 {
     match *row {
         Row::Meeting {
@@ -22,26 +23,14 @@ fn row_of<'a>(rules: &'a RuleSet, row: &Row) -> ReportRow<'a>
             first,
             last,
             least,
-        } => ReportRow::Meeting {
-            pair,
-            kind,
-            first,
-            last,
-            least,
-        },
+        } => text.write_meeting(pair, kind, first, last, least),
         Row::Verdict {
             pair,
             rule,
             undecided,
             first,
             last,
-        } => ReportRow::Verdict {
-            pair,
-            name: rules.name(rule as usize),
-            undecided,
-            first,
-            last,
-        },
+        } => text.write_verdict(pair, rules.name(rule as usize), undecided, first, last),
     }
 }
 
@@ -56,7 +45,7 @@ pub(crate) fn write_stretches(
         → HasText text.new (front ++ stretch_rows rules.now rows.now)) }
 {
     for row in rows {
-        text.write(&row_of(rules, row))?;
+        write_stretch(text, rules, row)?;
     }
     Ok(())
 }

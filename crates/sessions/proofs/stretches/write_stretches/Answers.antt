@@ -8,8 +8,8 @@ use Rattle.sessions.proofs.stretches.write_stretches.Goals as goal
 
 pub loop-row-preserved : goal.loop-row-preserved
 loop-row-preserved c = λ front has.
-    one_stretch_on c.write.new.self front c.args.rules.now c.args.rows.now c.loop-row.row-index _ c.loop-row-test.true _ c.row_of.ensures
-    (c.in_ok-write.ensures _ (c.loop-row.invariant front has))
+    one_stretch_on c.write_stretch.new.text front c.args.rules.now c.args.rows.now c.loop-row.row-index _ c.loop-row-test.true
+    (c.in_ok-write_stretch.ensures _ (c.loop-row.invariant front has))
 
 pub returns : goal.returns
 returns c = λ front has.
