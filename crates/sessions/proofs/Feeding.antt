@@ -23,7 +23,7 @@ use Rattle.log_lines.specs.declared.streamed.StreamedLines.{StreamedLines}
 use Rattle.command_line.specs.declared.mode.Mode.{Mode}
 use Rattle.sessions.specs.Feeding.{Refuses, TookPiece, UnlessMemory}
 use Rattle.sessions.specs.Modes.{needs_own}
-use Rattle.sessions.specs.Refusals.{HasManySettled, IsStopped, IsUnrefused}
+use Rattle.sessions.specs.Refusals.{HasManySettled, IsStopped}
 use Rattle.sessions.specs.Standing.{StandsFor, keeping_by, mode_by, mode_of, session_scenario}
 use Rattle.sessions.specs.Inner.Working.{GoesOn, IsDone, Works}
 use Rattle.sessions.specs.declared.session.Session.{Session}

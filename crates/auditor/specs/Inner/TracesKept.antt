@@ -13,7 +13,6 @@ use Rattle.auditor.specs.Inner.AuditKeeping.{AreAllTracks, AreTracksOfAll}
 use Rattle.audit_rows.specs.Standing.{HaveOwnTopics, QueueStandsFor}
 use Rattle.auditor.specs.Tallies.{AreTallies}
 use Rattle.auditor.specs.TraceKeeping.{AreRuleMarksWhole, StandsFor}
-use Rattle.auditor.specs.SettledRows.{formulas_of}
 use Rattle.auditor.specs.TraceKeeping as trace
 use Rattle.audit_rows.specs.declared.row_queue.RowQueue.{RowQueue}
 use Rattle.auditor.specs.declared.total.Total.{Total}
