@@ -1,14 +1,11 @@
 -- The first good entry of a prefix: the first reason towards the first target that has one.
-use Rattle.std.proofs.Common.{◌≡◌, ◌∙◌, ℕ, ◌<◌, ◌≤◌, ◌⊎◌, inl, inr, List, length, take, get_or, sym, ap, subst, arith, ◌^◌}
-use Rattle.std.specs.Prelude.{Option, Bool, true, false, AllPairs, IsSomeAnd, pos, neg_ℤ, ◌*ℤ◌, int_le, unsigned_abs, if◌then◌else◌, slice_index}
+use Rattle.std.proofs.Common.{◌≡◌, ◌∙◌, ℕ, ◌<◌, ◌≤◌, ◌⊎◌, inl, inr, List, length, take, get_or, sym, ap, subst, arith, Some, None}
+use Rattle.std.specs.Prelude.{Option, AllPairs, IsSomeAnd, slice_index}
 use Rattle.std.proofs.lemmas.Bool.{cases_lt}
 use Rattle.std.proofs.lemmas.List.{get_or-take, length-take-le}
-use Rattle.closest_approach.specs.Separation.{nearest_of}
 use Rattle.closest_approach.specs.declared.nearest.Moment.{Moment}
 use Rattle.encounters.specs.declared.pair_step.PairStep.{PairStep}
-use Rattle.fixed_geometry.specs.Plane.{dot_of, norm2_of}
 use Rattle.meetings.specs.Traces.{step_at}
-use Rattle.motion.specs.Steps.{RelativeMove}
 use Rattle.mtl_formulas.specs.FormulaTree.{FormulaTree}
 use Rattle.situations.specs.Domains.{moment_of, Enters, IsEntry as IsDomainEntry, IsInsideAt}
 use Rattle.situations.specs.FailingPlans.{BreaksAt, EntersAt, EntersDomain, FailsBy, FailsTowards}
@@ -19,27 +16,13 @@ use Rattle.situations.specs.declared.reasons.BrokenRule.{BrokenRule}
 use Rattle.situations.specs.declared.reasons.DomainEntry.{DomainEntry}
 use Rattle.situations.specs.declared.situation.Situation.{Situation}
 use Rattle.situations.specs.declared.situation.Target.{Target}
-use Rattle.situations.proofs.FirstBroken.{rule_there}
-use Rattle.situations.proofs.ForCallers.{and_weaker, fails_too, rule_reason, same_step, shared, some_at, some_here}
+use Rattle.situations.proofs.ForCallers.{and_weaker, fails_too, rule_reason, rule_there, same_step, shared, some_at, some_here}
 use Rattle.refutations.specs.CanonicalLists.{IsEarlier, IsFirstGood, TellsMoment}
 use Rattle.refutations.specs.GoodEntries.{Holds, HoldsFor, IsInsideIn, IsInstant}
 use Rattle.refutations.specs.Inner.Walks.{IsFirstTowards}
 use Rattle.refutations.specs.declared.entry.Reason.{Reason}
 use Rattle.refutations.specs.declared.entry.Reason.TheVariants.{Domain, Rule}
 use Rattle.refutations.proofs.HeldReasons.{alike, has_reason, reasons_agree}
-
--- ---- the moment of an entry has small numbers
-
-b_small : (t u : Bool) (n a : ℕ) → n < 2 ^ 60
-    → (if t then record { a = 0; b = 1 } else (if u then record { a = 1; b = 1 } else (let moment : Moment = record { a = a; b = n } in moment))).b < 2 ^ 60
-b_small true u n a h = omega arith
-b_small false true n a h = omega arith
-b_small false false n a h = h
-
-pub nearest_small : (step : RelativeMove) (l : ℕ) → pos l ≡ norm2_of step.w → l ≤ 2 ^ 53 → (nearest_of step 1).b < 2 ^ 60
-unfolding nearest_of
-nearest_small step l e small =
-    b_small (int_le (pos 0) (dot_of step.p step.w)) (int_le (pos 1 *ℤ norm2_of step.w) (neg_ℤ (dot_of step.p step.w))) (unsigned_abs (norm2_of step.w)) (unsigned_abs (dot_of step.p step.w)) (let same : l ≡ unsigned_abs (norm2_of step.w) = ap unsigned_abs e in omega arith)
 
 -- ---- the first reason towards a target
 
@@ -49,12 +32,17 @@ module _ (s : Situation) (X : List ℕ) (last : ℕ) (T : Target) where
       and_weaker (λ (pair : PairStep). IsInsideAt s T pair moment.a moment.b) (Enters s T) (step_at (own_at s X) (target_at s T) step)
       (λ pair inside. record { a = moment.a; b = moment.b; within = h.instant.within; some = h.instant.some; inside = inside }) h.inside
 
-  pub entry_first : (entry : DomainEntry) → IsFirstEntry s X last T entry → IsInstant entry.moment → IsFirstTowards s X last T (Domain entry.step entry.moment)
-  entry_first entry h instant = record {
+  -- the moment of an entry is an instant of the step
+  instant_of : (o : Option PairStep) (moment : Moment) → IsSomeAnd o (λ pair. IsDomainEntry s T pair moment) → IsInstant moment
+  instant_of None moment h = absurd h
+  instant_of (Some pair) moment h = record { within = h.within; some = h.some; small = h.small }
+
+  pub entry_first : (entry : DomainEntry) → IsFirstEntry s X last T entry → IsFirstTowards s X last T (Domain entry.step entry.moment)
+  entry_first entry h = record {
     holds = record {
       from_now = h.from_now;
       planned = h.planned;
-      instant = instant;
+      instant = instant_of (step_at (own_at s X) (target_at s T) entry.step) entry.moment h.enters;
       inside = and_weaker (λ (pair : PairStep). IsDomainEntry s T pair entry.moment) (λ (pair : PairStep). IsInsideAt s T pair entry.moment.a entry.moment.b)
           (step_at (own_at s X) (target_at s T) entry.step) (λ pair is. is.inside) h.enters;
     };

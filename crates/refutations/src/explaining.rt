@@ -1,66 +1,24 @@
 //! The canonical list: a walk over the prefixes.
 ghost use Rattle.std.specs.Prelude.{◌≡◌, ◌+◌, ◌*◌, ◌-◌, ◌^◌, ◌≤◌, ◌<◌, ◌↔◌, false, take, All, IfOk, IfSome, IsNone, IsTrue, MatchOption};
-ghost use Rattle.encounters.specs.Directions.{HaveDirections};
-ghost use Rattle.closest_approach.specs.declared.nearest.Moment.{Moment};
 ghost use Rattle.lattice.specs.Grids.{choices_of, plans_of};
 ghost use Rattle.lattice.specs.PlanNumbers.{IsPlan};
-ghost use Rattle.situations.specs.Domains.{IsEntry as IsDomainEntry};
 ghost use Rattle.situations.specs.FailingPlans.{FailsTowards};
 ghost use Rattle.situations.specs.LeastPlans.{numbered};
 ghost use Rattle.situations.specs.Prefixes.{PrefixFails};
-ghost use Rattle.situations.specs.Reasons.{IsFirstEntry};
 ghost use Rattle.situations.specs.Situations.{end_of, now_of, IsSituation, IsTarget};
 ghost use Rattle.refutations.specs.CanonicalLists.{IsCanonical, IsFirstGood, SomePlanPasses};
-ghost use Rattle.refutations.specs.GoodEntries.{IsInstant};
 ghost use Rattle.refutations.specs.Inner.Walks.{first_extension, IsFirstTowards, IsWalkedTo, NoneIsShorter};
 ghost use Rattle.refutations.specs.RightLists.{IsEntry, IsRight};
 
 use crate::entry::{Reason, WhyEntry};
 use crate::goodness::horizon;
-use crate::instants::nearest_is_small;
 use crate::laws::{a_right_list_refutes, plans_agree_on_reasons};
 use crate::prefix::Prefix;
-use encounters::PairStep;
-use hull_domains::enters;
 use lattice::Plan;
 use outside::Memory;
 use situations::laws::failing_has_a_reason;
-use situations::{DomainEntry, Situation, Target};
+use situations::{Situation, Target};
 use std::alloc::Global;
-
-/// The moment that tells of an entry into a domain has small numbers.
-fn moment_is_small(situation: &Situation, target: &Target, pair: &PairStep)
-    requires target { IsTarget situation.now target.now }
-    requires heads { HaveDirections pair.now }
-    ensures { (moment : Moment) → IsDomainEntry situation.now target.now pair.now moment → moment.b < 2 ^ 60 }
-{
-    match (&situation.shape, pair.b.direction) {
-        (Some(shape), Some(direction)) => {
-            let _entry = enters(&pair.step, direction, shape);
-        }
-        _ => nearest_is_small(&pair.step),
-    }
-}
-
-/// The same of a first entry.
-fn entry_is_small(
-    situation: &Situation,
-    plan: &Plan,
-    target: &Target,
-    until: u32,
-    entry: DomainEntry,
-)
-    requires situation { IsSituation situation.now }
-    requires plan { IsPlan (choices_of situation.now.lattice) situation.now.lattice.legs plan.now }
-    requires target { IsTarget situation.now target.now }
-    requires until { until ≤ end_of situation.now }
-    requires entry { IsFirstEntry situation.now plan.now until target.now entry }
-    ensures { IsInstant entry.moment }
-{
-    if let Some(pair) = situation.step_at(plan, target, entry.step) {
-        moment_is_small(situation, target, &pair);
-    }
-}
 
 /// The first reason towards a target under a plan, up to a horizon.
 fn first_towards(
@@ -78,7 +36,6 @@ fn first_towards(
     ensures { IfOk result (λ found. MatchOption found (¬ FailsTowards situation.now plan.now until target.now) (IsFirstTowards situation.now plan.now until target.now)) }
 {
     if let Some(entry) = situation.entered(plan, target, until) {
-        entry_is_small(situation, plan, target, until, entry);
         return Ok(Some(Reason::Domain {
             step: entry.step,
             moment: entry.moment,

@@ -13,7 +13,6 @@ ghost use Rattle.refutations.specs.RightLists.{IsEntry, KnowsRule};
 use crate::entry::{Reason, WhyEntry};
 use crate::instants::is_nearer;
 use crate::laws::plans_agree_on_reasons;
-use crate::planned_trace::breaks_at;
 use closest_approach::Moment;
 use encounters::PairStep;
 use hull_domains::inside;
@@ -107,15 +106,9 @@ fn holds(
         Reason::Domain { step, moment } => Ok(is_inside_in(
             situation, plan, target, until, step, &moment,
         )),
-        Reason::Rule { index, step } => breaks_at(
-            alloc,
-            situation,
-            plan,
-            target,
-            until,
-            index as usize,
-            step,
-        ),
+        Reason::Rule { index, step } => {
+            situation.breaks_at(alloc, plan, target, until, index as usize, step)
+        }
     }
 }
 

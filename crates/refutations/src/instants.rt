@@ -1,7 +1,7 @@
 //! Whether two vessels are nearer than a radius at one instant of a step, exactly and within 128 bits.
 ghost use Rattle.std.specs.Prelude.{◌≡◌, pos, ◌+◌, ◌*◌, ◌<◌, ◌≤◌, ◌^◌, ◌↔◌, ◌+ℤ◌, ◌*ℤ◌, IsTrue, unsigned_abs};
 ghost use Rattle.fixed_geometry.specs.Plane.{dot_of, norm2_of, turn_of};
-ghost use Rattle.closest_approach.specs.Separation.{nearest_of, IsNearer};
+ghost use Rattle.closest_approach.specs.Separation.{IsNearer};
 
 use closest_approach::Moment;
 use fixed_geometry::{dot, norm2, turn};
@@ -119,11 +119,4 @@ pub(crate) fn is_nearer(step: &Step, r: u64, moment: Moment) -> bool
         return false;
     }
     is_square_below(along_at(step, moment), u128::from(moment.b), reach - aside2)
-}
-
-/// The moment of least distance of a step is told by small numbers. This does no work that is kept.
-pub(crate) fn nearest_is_small(step: &Step)
-    ensures { (nearest_of step.now 1).b < 2 ^ 60 }
-{
-    let _length2 = length2(step);
 }

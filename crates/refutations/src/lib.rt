@@ -12,7 +12,6 @@ mod explaining;
 mod goodness;
 mod instants;
 pub mod laws;
-mod planned_trace;
 mod prefix;
 
 pub use check_list::check;

@@ -1,6 +1,7 @@
 -- Own ship is inside a domain at the moment that tells of it, or at no instant.
-use Rattle.std.proofs.Common.{◌≡◌, ◌∙◌, ℕ, ◌^◌, ◌<◌, ◌≤◌, List, refl, sym, subst₂, Some, None}
-use Rattle.std.specs.Prelude.{Option, IfSome, IsNone, IsTrue, MatchOption, ◌↔◌, is_some, ℤ}
+use Rattle.std.proofs.Common.{◌≡◌, ◌∙◌, ℕ, ◌^◌, ◌<◌, ◌≤◌, List, refl, ap, arith, sym, subst, subst₂, Some, None}
+use Rattle.std.specs.Prelude.{Option, IfSome, IsNone, IsTrue, MatchOption, ◌↔◌, is_some, ℤ, Bool, true, false, pos, neg_ℤ, ◌*ℤ◌, int_le, unsigned_abs, if◌then◌else◌}
+use Rattle.fixed_geometry.specs.Plane.{dot_of, norm2_of}
 use Rattle.closest_approach.specs.Separation.{IsNearer, IsSeparated, nearest_of}
 use Rattle.closest_approach.specs.declared.nearest.Moment.{Moment}
 use Rattle.closest_approach.proofs.Decision.{not_nearer}
@@ -33,6 +34,20 @@ circle_moment step (Some shape) (Some d) circle = absurd (circle shape d refl re
 circle_moment step (Some shape) None circle = refl
 circle_moment step None direction circle = refl
 
+-- ---- the moment of least distance has small numbers
+
+b_small : (t u : Bool) (n a : ℕ) → n < 2 ^ 60
+    → (if t then record { a = 0; b = 1 } else (if u then record { a = 1; b = 1 } else (let moment : Moment = record { a = a; b = n } in moment))).b < 2 ^ 60
+b_small true u n a h = omega arith
+b_small false true n a h = omega arith
+b_small false false n a h = h
+
+pub nearest_small : (step : RelativeMove) (l : ℕ) → pos l ≡ norm2_of step.w → l ≤ 2 ^ 53 → (nearest_of step 1).b < 2 ^ 60
+unfolding nearest_of
+nearest_small step l e small =
+    b_small (int_le (pos 0) (dot_of step.p step.w)) (int_le (pos 1 *ℤ norm2_of step.w) (neg_ℤ (dot_of step.p step.w))) (unsigned_abs (norm2_of step.w)) (unsigned_abs (dot_of step.p step.w))
+    (let same : l ≡ unsigned_abs (norm2_of step.w) = ap unsigned_abs e in omega arith)
+
 -- ---- what the tests of a shape and of a circle tell
 
 module _ (s : Situation) (T : Target) (pair : PairStep) where
@@ -51,17 +66,18 @@ module _ (s : Situation) (T : Target) (pair : PairStep) where
         → MatchOption o (¬ Enters s T pair) (IsEntry s T pair)
     entry_by_shape None none is instant inside = λ h. none.0 refl h.a h.b h.within h.some (in_shape h.a h.b h.inside)
     entry_by_shape (Some moment) none is instant inside =
-        record { is = is ∙ shape_moment; within = instant.0; some = instant.1; inside = shaped moment.a moment.b inside }
+        record { is = is ∙ shape_moment; within = instant.0; some = instant.1; small = instant.2; inside = shaped moment.a moment.b inside }
 
-  pub entry_by_circle : IsCircle s.shape pair.b.direction → (o : Option Moment) → (IsNone o ↔ IsSeparated pair.step T.domain.radius) → IfSome o (λ moment. moment ≡ nearest_of pair.step 1)
+  pub entry_by_circle : IsCircle s.shape pair.b.direction → (nearest_of pair.step 1).b < 2 ^ 60 → (o : Option Moment) → (IsNone o ↔ IsSeparated pair.step T.domain.radius) → IfSome o (λ moment. moment ≡ nearest_of pair.step 1)
       → IfSome o (λ moment. (moment.a ≤ moment.b) × (0 < moment.b)) → IfSome o (λ moment. IsNearer pair.step T.domain.radius moment.a moment.b)
       → MatchOption o (¬ Enters s T pair) (IsEntry s T pair)
-  entry_by_circle circle None none is instant inside =
+  entry_by_circle circle small None none is instant inside =
       λ h. not_nearer pair.step T.domain.radius h.a h.b (none.0 refl) h.within h.some (in_circle T.domain.radius pair.step h.a h.b s.shape pair.b.direction circle h.inside)
-  entry_by_circle circle (Some moment) none is instant inside = record {
+  entry_by_circle circle small (Some moment) none is instant inside = record {
     is = is ∙ sym (circle_moment pair.step s.shape pair.b.direction circle);
     within = instant.0;
     some = instant.1;
+    small = subst (λ (m : Moment). m.b < 2 ^ 60) (sym is) small;
     inside = of_circle T.domain.radius pair.step moment.a moment.b s.shape pair.b.direction circle inside;
   }
 

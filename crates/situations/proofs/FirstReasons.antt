@@ -30,6 +30,9 @@ found_where_some A P (Some x) b e f h = (λ t. f x h, λ a. cc)
 pub second_alone : (A B : Type 0) (b c : Bool) → IsTrue b ↔ A → b ≡ false → IsTrue c ↔ B → IsTrue c ↔ (A ⊎ B)
 second_alone A B b c h e k = (λ t. inr (k.0 t), λ either. elim either [ inl a ↦ (let t = h.1 a in cc) | inr x ↦ k.1 x ])
 
+pub through : {A P Q : Type 0} → A ↔ P → P ↔ Q → A ↔ Q
+through f g = (λ a. g.0 (f.0 a), λ q. f.1 (g.1 q))
+
 -- ---- from a position to its step, and back
 
 module _ (s : Situation) (X : List ℕ) (T : Target) (at : ℕ) where
@@ -75,6 +78,14 @@ module _ (s : Situation) (X : List ℕ) (T : Target) (at : ℕ) where
           omega arith,
           subst (λ (i : ℕ). IsNewlyBrokenHere (now_of s - i) rows f (step - i)) same (h.breaks rows (subst (λ (i : ℕ). AreTraceRows s X at T i rows) (sym same) are)),
         )
+
+    -- A step that is not before the trace is one of its positions, and the formula is newly broken there exactly where its rows say so.
+    pub broken_there : (f : FormulaTree) (step : ℕ) → start ≤ step → IsNewlyBrokenHere (now_of s - start) rows f (step - start) ↔ BreaksAt s X at T f step
+    broken_there f step le = (
+      λ h. (let e : start + (step - start) ≡ step = omega arith in
+          subst (λ (k : ℕ). BreaksAt s X at T f k) e (breaks_at f (step - start) h)),
+      λ h. (broken_at f step h).1,
+    )
 
     pub rule_broken_at : (step rule : ℕ) → RuleBreaksAt s X at T step rule → (start ≤ step) × IsRuleBroken s.rules (now_of s - start) rows (step - start) rule
     rule_broken_at step rule h =

@@ -42,9 +42,10 @@ moment_by None direction step = nearest_of step 1
 abbrev pub moment_of : Situation → Target → PairStep → Moment
 moment_of situation target pair = moment_by situation.shape pair.b.direction pair.step
 
--- It is an instant of the step at which she is inside.
+-- It is an instant of the step at which she is inside, told by numbers that can be reckoned with.
 pub record IsEntry (situation : Situation) (target : Target) (pair : PairStep) (moment : Moment) : Type 0 where
   pub is : moment ≡ moment_of situation target pair
   pub within : moment.a ≤ moment.b
   pub some : 0 < moment.b
+  pub small : moment.b < 2 ^ 60
   pub inside : IsInsideAt situation target pair moment.a moment.b

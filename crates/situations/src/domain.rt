@@ -1,13 +1,16 @@
 //! The domain of a target.
+ghost use Rattle.std.specs.Prelude.{◌≡◌, ◌≤◌, ◌^◌, ◌↔◌, IsTrue, MatchOption, pos};
 ghost use Rattle.encounters.specs.Directions.{HaveDirections};
-ghost use Rattle.std.specs.Prelude.{◌↔◌, IsTrue, MatchOption};
+ghost use Rattle.fixed_geometry.specs.Plane.{norm2_of};
 ghost use Rattle.situations.specs.Domains.{Enters, IsEntry};
 ghost use Rattle.situations.specs.Situations.{IsTarget};
 
 use crate::situation::{Situation, Target};
 use closest_approach::{Moment, entry};
 use encounters::PairStep;
+use fixed_geometry::norm2;
 use hull_domains::enters;
+use motion::Step;
 
 /// The water round a target that own ship is to stay out of: a circle. It yields to the situation's shape where there is one and the target
 /// has a direction.
@@ -17,9 +20,17 @@ pub struct Domain {
     pub radius: u64,
 }
 
+/// The square of the change of the displacement. It is the denominator of the moment of least distance between the ends of a step.
+fn change2(step: &Step) -> u128
+    ensures value { pos result ≡ norm2_of step.now.w }
+    ensures small { result ≤ 2 ^ 53 }
+{
+    norm2(step.w())
+}
+
 impl Situation {
-    /// A moment of a step of both at which own ship is inside the target's domain: for a shape one between the crossings of its edges, for a
-    /// circle that of least distance. `None` where she is inside at no instant of the step.
+    /// A moment of a step of both at which own ship is inside the target's domain, told by numbers below 2^60: for a shape one between the
+    /// crossings of its edges, for a circle that of least distance. `None` where she is inside at no instant of the step.
     pub fn entry(&self, target: &Target, pair: &PairStep) -> Option<Moment>
         requires target { IsTarget self.now target.now }
         requires heads { HaveDirections pair.now }
@@ -27,7 +38,10 @@ impl Situation {
     {
         match (&self.shape, pair.b.direction) {
             (Some(shape), Some(direction)) => enters(&pair.step, direction, shape),
-            _ => entry(&pair.step, target.domain.radius),
+            _ => {
+                let _change2 = change2(&pair.step);
+                entry(&pair.step, target.domain.radius)
+            }
         }
     }
 

@@ -9,8 +9,9 @@ ghost use Rattle.mtl_formulas.specs.FormulaMeasures.{IsValid};
 ghost use Rattle.mtl_formulas.specs.FormulaTree.{tree_of};
 ghost use Rattle.mtl_formulas.specs.declared.verdict.Verdict.TheVariants.{No};
 ghost use Rattle.mtl_monitor.specs.Traces.{value_in};
+ghost use Rattle.rule_set.specs.NamedTrees.{rule_at};
 ghost use Rattle.situations.specs.Domains.{IsEntry};
-ghost use Rattle.situations.specs.FailingPlans.{AreTraceRows, BeginsAt, BreaksARule, EntersAt, EntersDomain, IsNewlyBrokenHere};
+ghost use Rattle.situations.specs.FailingPlans.{AreTraceRows, BeginsAt, BreaksARule, BreaksAt, EntersAt, EntersDomain, IsNewlyBrokenHere};
 ghost use Rattle.situations.specs.Inner.FirstBroken.{IsFirstOfAll, IsFirstThere, IsRuleBroken};
 ghost use Rattle.situations.specs.Situations.{end_of, now_of, own_at, target_at, IsSituation, IsTarget};
 
@@ -36,7 +37,7 @@ pub struct BrokenRule {
 pub struct DomainEntry {
     /// The tick at which the step begins.
     pub step: u32,
-    /// An instant of the step at which she is inside: that of least distance.
+    /// An instant of the step at which she is inside, told by numbers below 2^60: for a circle that of least distance.
     pub moment: Moment,
 }
 
@@ -62,9 +63,10 @@ fn is_newly_broken(formula: &Formula, rows: &[AtomRow], cut: usize, position: us
     requires cut { cut ≤ length rows.now }
     ensures { IsTrue result ↔ IsNewlyBrokenHere cut (map answer_of rows.now) (tree_of formula.now) position }
 {
-    let broken = is_broken(formula, rows, position);
-    let already = is_broken(formula, &rows[..cut], position);
-    broken && !already
+    if !is_broken(formula, rows, position) {
+        return false;
+    }
+    !is_broken(formula, &rows[..cut], position)
 }
 
 impl Situation {
@@ -113,6 +115,21 @@ impl Situation {
         Ok(rows)
     }
 
+    /// Whether the rule with an index is newly broken at a position of a trace that has these rows. The cut keeps those of the steps before now.
+    pub fn is_newly_broken_in(
+        &self,
+        rows: &[AtomRow],
+        cut: usize,
+        rule: usize,
+        position: usize,
+    ) -> bool
+        requires cut { cut ≤ length rows.now }
+        requires known { rule < length self.now.rules }
+        ensures { IsTrue result ↔ IsNewlyBrokenHere cut (map answer_of rows.now) (rule_at self.now.rules rule).tree position }
+    {
+        is_newly_broken(self.rules.formula(rule), rows, cut, position)
+    }
+
     /// The first rule that is newly broken at a position of a trace.
     fn first_rule(&self, rows: &[AtomRow], cut: usize, position: usize) -> Option<usize>
         requires { cut ≤ length rows.now }
@@ -120,7 +137,7 @@ impl Situation {
             (IsFirstThere self.now.rules cut (map answer_of rows.now) position) }
     {
         for rule in 0..self.rules.len() {
-            if is_newly_broken(self.rules.formula(rule), rows, cut, position) {
+            if self.is_newly_broken_in(rows, cut, rule, position) {
                 return Some(rule);
             }
         }
@@ -169,6 +186,39 @@ impl Situation {
             })),
             None => Ok(None),
         }
+    }
+
+    /// Whether the rule with an index is newly broken at the position of the step that begins at a tick.
+    pub fn breaks_at(
+        &self,
+        alloc: Global,
+        plan: &Plan,
+        target: &Target,
+        until: u32,
+        rule: usize,
+        step: u32,
+    ) -> Result<bool, Memory>
+        requires situation { IsSituation self.now }
+        requires plan { IsPlan (choices_of self.now.lattice) self.now.lattice.legs plan.now }
+        requires target { IsTarget self.now target.now }
+        requires from_now { now_of self.now ≤ until }
+        requires until { until ≤ end_of self.now }
+        requires known { rule < length self.now.rules }
+        ensures { IfOk result (λ breaks. IsTrue breaks ↔ BreaksAt self.now plan.now until target.now (rule_at self.now.rules rule).tree step) }
+    {
+        if step >= until {
+            return Ok(false);
+        }
+        let Some(start) = self.trace_start(plan, target, until) else {
+            return Ok(false);
+        };
+        if step < start {
+            return Ok(false);
+        }
+        let rows = self.trace_rows(alloc, plan, target, start, until)?;
+        let cut = self.now().saturating_sub(start) as usize;
+        let position = (step - start) as usize;
+        Ok(self.is_newly_broken_in(&rows, cut, rule, position))
     }
 
     /// The moment that tells of own ship in the target's domain in a step, if she enters it there.

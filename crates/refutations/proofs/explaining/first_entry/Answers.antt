@@ -1,8 +1,7 @@
 use Rattle.std.proofs.Common.{◌≡◌, ◌∙◌, ◌<◌, List, arith, rules, length, take, get_or, ap, subst, refl}
 use Rattle.situations.specs.FailingPlans.{FailsTowards}
 use Rattle.situations.specs.declared.situation.Target.{Target}
-use Rattle.situations.proofs.FlatList.{none_so_far_of}
-use Rattle.situations.proofs.ForCallers.{none_some}
+use Rattle.situations.proofs.ForCallers.{none_so_far_of, none_some}
 use Rattle.refutations.proofs.FirstEntries.{first_good_at, passes_at}
 use Rattle.refutations.proofs.explaining.first_entry.Goals as goal
 

@@ -3,7 +3,7 @@ use Rattle.refutations.proofs.FirstEntries.{broken_first, entry_first}
 use Rattle.refutations.proofs.explaining.first_towards.Goals as goal
 
 pub returns-in-Some : goal.returns-in-Some
-returns-in-Some c = entry_first c.args.situation.now c.args.plan.now c.args.until c.args.target.now c.in-Some.entry c.in-Some.ensures c.entry_is_small.ensures
+returns-in-Some c = entry_first c.args.situation.now c.args.plan.now c.args.until c.args.target.now c.in-Some.entry c.in-Some.ensures
 
 pub overflow_cast-result : goal.overflow_cast-result
 overflow_cast-result c =

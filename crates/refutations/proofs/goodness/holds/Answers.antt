@@ -1,5 +1,6 @@
 use Rattle.std.proofs.lemmas.Result.{IfOk-weaker}
-use Rattle.refutations.proofs.BrokenRules.{back, rule_breaks_there, through}
+use Rattle.situations.proofs.ForCallers.{through}
+use Rattle.refutations.proofs.BrokenRules.{back, rule_breaks_there}
 use Rattle.refutations.proofs.goodness.holds.Goals as goal
 
 pub returns-in-Rule : goal.returns-in-Rule

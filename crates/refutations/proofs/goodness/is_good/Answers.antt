@@ -1,8 +1,7 @@
 use Rattle.std.proofs.Common.{◌≡◌, ◌∙◌, ◌<◌, ℕ, List, arith, length, take, get_or, ap, sym, subst}
 use Rattle.situations.specs.Prefixes.{reached}
 use Rattle.situations.specs.declared.situation.Target.{Target}
-use Rattle.situations.proofs.FlatList.{none_so_far_of}
-use Rattle.situations.proofs.ForCallers.{none_some}
+use Rattle.situations.proofs.ForCallers.{none_so_far_of, none_some}
 use Rattle.refutations.specs.GoodEntries.{Holds, HoldsFor}
 use Rattle.refutations.proofs.goodness.is_good.Goals as goal
 

@@ -13,7 +13,7 @@ newly : (b : Bool) (cut : ℕ) (rows : Trace) (f : FormulaTree) (position : ℕ)
 newly true cut rows f position broken h = (λ t. cc, λ p. absurd (p.not_before (h.0 refl)))
 newly false cut rows f position broken h = (λ t. record { broken = broken; not_before = λ was. let t = h.1 was in cc }, λ p. refl)
 
-pub returns-then-broken : goal.returns-then-broken
-returns-then-broken c =
-    newly c.is_broken-already.result c.args.cut (map answer_of c.args.rows.now) (tree_of c.args.formula.now) c.args.position
-    (c.is_broken-broken.ensures.0 c.if-broken.true) (rw (← take-map answer_of c.args.cut c.args.rows.now) at c.is_broken-already.ensures)
+pub returns : goal.returns
+returns c =
+    newly c.is_broken-2.result c.args.cut (map answer_of c.args.rows.now) (tree_of c.args.formula.now) c.args.position
+    (c.is_broken.ensures.0 c.if-not-is_broken.false) (rw (← take-map answer_of c.args.cut c.args.rows.now) at c.is_broken-2.ensures)
