@@ -73,7 +73,7 @@ impl ReportText {
     /// Writes a row of these fields. A writer over memory fails for want of memory alone; the text may then only be dropped.
     #[tactic(auto, unfolding(crate::specs::CsvRows::row_of))]
     #[inline(always)]
-    fn write_fields(&mut self, fields: &[&[u8]]) -> Result<(), Memory>
+    pub fn write_fields(&mut self, fields: &[&[u8]]) -> Result<(), Memory>
         ensures { OnOk result ((text : List ℕ) → HasText self.old text
             → HasText self.new (text ++ row_of (map (λ field. field.now) fields.now))) }
     {

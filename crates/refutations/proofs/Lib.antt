@@ -5,3 +5,5 @@ pub mod Blocks
 pub mod BrokenRules
 pub mod FirstEntries
 pub mod Walking
+pub mod WrittenChoices
+pub mod ToldEntries

@@ -1,2 +1,3 @@
 -- Definitions that no public clause cites.
 pub mod Walks
+pub mod Readings

@@ -3,11 +3,13 @@
 //! A list of entries says of every plan of own ship why it fails. An entry is a prefix of plans, the choices of their first legs, with a target and a
 //! reason: own ship is inside the target's domain at an instant of a step, or a rule is newly broken at a step. It is good where its reason holds in what
 //! the prefix tells of the trace, and then every plan that extends the prefix fails for that reason. [`explain`] gives the canonical list where no plan
-//! passes, and [`check`] judges any list with no search.
+//! passes, and [`check`] judges any list with no search. [`entry_bytes`] writes an entry as a row, and [`read_entry`] reads it.
 #![tactic(auto)]
 
 mod check_list;
 mod entry;
+mod entry_reading;
+mod entry_row;
 mod explaining;
 mod goodness;
 mod instants;
@@ -16,5 +18,7 @@ mod prefix;
 
 pub use check_list::check;
 pub use entry::{Checked, Reason, WhyEntry};
+pub use entry_reading::read_entry;
+pub use entry_row::entry_bytes;
 pub use explaining::explain;
 pub use prefix::Prefix;
