@@ -7,3 +7,4 @@ pub mod FirstEntries
 pub mod Walking
 pub mod WrittenChoices
 pub mod ToldEntries
+pub mod FoundTargets

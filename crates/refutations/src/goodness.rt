@@ -1,5 +1,5 @@
 //! Whether an entry is good.
-ghost use Rattle.std.specs.Prelude.{◌≡◌, ◌≤◌, ◌<◌, ◌↔◌, length, take, IfOk, IsTrue};
+ghost use Rattle.std.specs.Prelude.{ℕ, ◌≡◌, ◌≢◌, ◌≤◌, ◌<◌, ◌↔◌, length, get_or, take, AllPairs, IfOk, IsTrue, MatchOption};
 ghost use Rattle.std.specs.Int.Digits.{AllBelowBase};
 ghost use Rattle.encounters.specs.Directions.{HaveDirections};
 ghost use Rattle.lattice.specs.Grids.{choices_of};
@@ -7,6 +7,7 @@ ghost use Rattle.lattice.specs.PlanNumbers.{IsPlan};
 ghost use Rattle.situations.specs.Domains.{IsInsideAt};
 ghost use Rattle.situations.specs.Prefixes.{reached};
 ghost use Rattle.situations.specs.Situations.{end_of, now_of, IsSituation, IsTarget};
+ghost use Rattle.situations.specs.declared.situation.Target.{Target};
 ghost use Rattle.refutations.specs.GoodEntries.{Holds, IsGood, IsInsideIn, IsInsideThen, IsInstant};
 ghost use Rattle.refutations.specs.RightLists.{IsEntry, KnowsRule};
 
@@ -140,28 +141,27 @@ pub(crate) fn first_plan(situation: &Situation, prefix: &[u16]) -> Plan
     situation.lattice.plan(first)
 }
 
-/// Whether an entry's target is this one, and its reason holds towards her under a plan up to a horizon.
-fn is_good_towards(
-    alloc: Global,
-    situation: &Situation,
-    plan: &Plan,
-    target: &Target,
-    until: u32,
-    entry: &WhyEntry,
-) -> Result<bool, Memory>
-    requires situation { IsSituation situation.now }
-    requires plan { IsPlan (choices_of situation.now.lattice) situation.now.lattice.legs plan.now }
-    requires target { IsTarget situation.now target.now }
-    requires from_now { now_of situation.now ≤ until }
-    requires until { until ≤ end_of situation.now }
-    requires known { KnowsRule situation.now entry.now.reason }
-    ensures { IfOk result (λ good. IsTrue good
-        ↔ ((target.now.mmsi ≡ entry.now.target) × Holds situation.now plan.now until target.now entry.now.reason)) }
+/// The index of the target with an MMSI, in whose order they are.
+fn index_of(targets: &[Target], mmsi: u32) -> Option<usize>
+    requires { AllPairs (λ (a b : Target). a.mmsi < b.mmsi) targets.now }
+    ensures { MatchOption result ((k : ℕ) (d : Target) → k < length targets.now → (get_or targets.now k d).mmsi ≢ mmsi)
+        (λ k. (k < length targets.now) × ((d : Target) → (get_or targets.now k d).mmsi ≡ mmsi)) }
 {
-    if target.mmsi != entry.target {
-        return Ok(false);
+    let mut low = 0;
+    let mut high = targets.len();
+    while low < high {
+        let middle = low + (high - low) / 2;
+        let found = targets[middle].mmsi;
+        if found == mmsi {
+            return Some(middle);
+        }
+        if found < mmsi {
+            low = middle + 1;
+        } else {
+            high = middle;
+        }
     }
-    holds(alloc, situation, plan, target, until, entry.reason)
+    None
 }
 
 /// Whether an entry is good.
@@ -178,10 +178,9 @@ pub(crate) fn is_good(
     let prefix = entry.prefix.choices();
     let until = horizon(situation, prefix.len());
     let plan = first_plan(situation, prefix);
-    for target in situation.targets.as_slice() {
-        if is_good_towards(alloc, situation, &plan, target, until, entry)? {
-            return Ok(true);
-        }
+    let targets = situation.targets.as_slice();
+    match index_of(targets, entry.target) {
+        Some(k) => holds(alloc, situation, &plan, &targets[k], until, entry.reason),
+        None => Ok(false),
     }
-    Ok(false)
 }
