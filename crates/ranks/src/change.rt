@@ -1,0 +1,11 @@
+//! A change of a vessel's rank by ship type.
+use crate::rank::Rank;
+
+/// From this time on the vessel's ship type gives her this rank, up to her next change. Before her first she is `Power`.
+#[derive(Clone, Copy, Debug, PartialEq, Eq)]
+pub struct Change {
+    /// In seconds since the Unix epoch.
+    pub time: u64,
+    /// Her rank where her status leaves it to the type.
+    pub rank: Rank,
+}

@@ -1,0 +1,102 @@
+//! The ranks of vessels.
+ghost use Rattle.std.specs.Prelude.{◌≡◌, ◌<◌, ◌++◌, ◌∷◌, [], List, IsSome, OnErr, OnOk};
+ghost use Rattle.std.specs.List.{AllPairs};
+ghost use Rattle.std.specs.List.Sorted.{IsNonDecreasingBy};
+ghost use Rattle.ranks.specs.Standing.{AreChangesOf, StandsFor, changes_of};
+ghost use Rattle.ranks.specs.VesselRanks.{Note, rank_at, rank_by_type, report_at};
+
+use crate::change::Change;
+use crate::changes::Changes;
+use crate::rank::Rank;
+use crate::reading::{last_report, rank_of_kind, rank_of_status};
+use outside::Memory;
+use std::alloc::Global;
+use std::collections::BTreeMap;
+use std::marker::Model;
+use tracks::Accepted;
+
+/// The ship types that vessels told of themselves, as far as they count for ranks. It is seen as the changes of each vessel's rank
+/// by ship type, which stand for the list of what was noted so far.
+#[derive(Drop)]
+pub struct Ranks {
+    alloc: Global,
+    /// The vessels whose type once made them other than `Power`.
+    vessels: BTreeMap<u32, Changes>,
+}
+
+impl Model for Ranks {
+    ghost use Rattle.std.specs.Prelude.{ℕ, List};
+    ghost use Rattle.ranks.specs.declared.change.Change.{Change};
+
+    ghost Value = { List (ℕ × List Change) };
+
+    ghost view = { λ r. r.vessels.entries };
+}
+
+impl Ranks {
+    /// Nothing was noted yet. This takes no memory.
+    pub fn new(alloc: Global) -> Ranks
+        ensures { StandsFor result [] }
+    {
+        Ranks {
+            alloc,
+            vessels: BTreeMap::new(alloc),
+        }
+    }
+
+    /// Takes the ship type that the next line with ship data tells of a vessel, and the line's time. Where there is no memory, all is
+    /// as before.
+    pub fn note(&mut self, mmsi: u32, time: u64, kind: u8) -> Result<(), Memory>
+        ensures stands { OnOk result ((noted : List Note) → StandsFor self.old noted
+            → StandsFor self.new (noted ++ record { mmsi = mmsi; time = time; kind = kind } ∷ [])) }
+        ensures same { OnErr result (self.new ≡ self.old) }
+    {
+        let rank = rank_of_kind(kind);
+        if let Some(changes) = self.vessels.get_mut(&mmsi) {
+            return changes.note(time, rank);
+        }
+        if rank == Rank::Power {
+            return Ok(());
+        }
+        let mut changes = Changes::new(self.alloc);
+        changes.note(time, rank)?;
+        self.vessels.insert(mmsi, changes)?;
+        Ok(())
+    }
+
+    /// What is kept of a vessel, in the order of times. Each is a change of her rank by ship type, so that lines which tell what is known
+    /// take no memory.
+    pub fn changes(&self, mmsi: u32) -> &[Change]
+        ensures kept { result.now ≡ changes_of self.now mmsi }
+        ensures order { AllPairs (λ earlier later. earlier.time < later.time) result.now }
+        ensures alone { (noted : List Note) → StandsFor self.now noted → AreChangesOf (rank_by_type noted mmsi) result.now }
+    {
+        match self.vessels.get(&mmsi) {
+            None => &[],
+            Some(changes) => changes.all(),
+        }
+    }
+
+    /// The rank that her ship type gives a vessel at a time.
+    fn by_type(&self, mmsi: u32, time: u64) -> Rank
+        ensures { (noted : List Note) → StandsFor self.now noted → result ≡ rank_by_type noted mmsi time }
+    {
+        match self.vessels.get(&mmsi) {
+            None => Rank::Power,
+            Some(changes) => changes.at(time),
+        }
+    }
+
+    /// The rank of a vessel at a time, by her accepted reports, of which one must have come by then, in the order of their times. This
+    /// takes no memory.
+    pub fn rank(&self, mmsi: u32, points: &[Accepted], time: u64) -> Rank
+        requires order { IsNonDecreasingBy (λ point. point.time) points.now }
+        requires begun { IsSome (report_at points.now time) }
+        ensures { (noted : List Note) → StandsFor self.now noted → result ≡ rank_at noted mmsi points.now time }
+    {
+        match rank_of_status(last_report(points, time).report.status) {
+            Some(rank) => rank,
+            None => self.by_type(mmsi, time),
+        }
+    }
+}
