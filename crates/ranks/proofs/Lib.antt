@@ -1,3 +1,5 @@
-pub mod Search
+pub mod Fronts
+pub mod Reports
+pub mod KeptChanges
 pub mod Noted
 pub mod Giving

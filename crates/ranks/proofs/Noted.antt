@@ -10,7 +10,7 @@ use Rattle.std.proofs.lemmas.List.{append-nil}
 use Rattle.std.proofs.lemmas.List.Elements.{filter-append}
 use Rattle.tracks.proofs.Lasts.{last_or-push}
 use Rattle.ranks.specs.VesselRanks.{Note, rank_by_note, rank_by_type, rank_in, ranks_by_kind}
-use Rattle.ranks.specs.Standing.{StandsFor, changes_of, rank_after}
+use Rattle.ranks.specs.Standing.{StandsFor, changes_of, rank_after, rank_until}
 use Rattle.ranks.specs.declared.change.Change.{Change}
 use Rattle.ranks.specs.declared.rank.Rank.{Rank}
 use Rattle.ranks.specs.declared.rank.Rank.TheVariants.{Power}
@@ -93,6 +93,13 @@ stands_same vessels note none power noted stands mmsi time =
       | inr not ↦ stands mmsi time
           ∙ sym (rank_by_type-push noted note mmsi time ∙ ap (λ (b : Bool). if b then rank_in ranks_by_kind note.kind else rank_by_type noted mmsi time) not)
     ]
+
+-- The type of such a vessel tells the rank that she had only where it makes her `Power`.
+pub power_as_before : (vessels now : List (ℕ × List Change)) (mmsi time kind : ℕ) → vessels ≡ now → found vessels mmsi ≡ None
+    → rank_until (changes_of now mmsi) time ≡ rank_in ranks_by_kind kind → rank_in ranks_by_kind kind ≡ Power
+power_as_before vessels now mmsi time kind view none same =
+    sym same ∙ ap (λ (held : List (ℕ × List Change)). rank_until (changes_of held mmsi) time) (sym view)
+    ∙ ap (λ (changes : List Change). rank_until changes time) (none_found vessels mmsi none)
 
 pub nothing_noted : StandsFor [] []
 unfolding rank_by_type

@@ -1,5 +1,5 @@
 -- What the kept changes of ranks stand for.
-use Rattle.std.specs.Prelude.{ℕ, ◌≡◌, ◌≢◌, ◌+◌, ◌==◌, nat_le, List, [], Contains, filter, Option, Some, None, unwrap_or}
+use Rattle.std.specs.Prelude.{ℕ, ◌≡◌, ◌≢◌, ◌+◌, ◌==◌, nat_le, nat_lt, List, [], Contains, filter, Option, Some, None, unwrap_or}
 use Rattle.std.specs.List.{last_or}
 use Rattle.std.specs.Map.{lookup}
 use Rattle.ranks.specs.VesselRanks.{Note, rank_by_type}
@@ -15,6 +15,10 @@ rank_since (Some change) = change.rank
 -- the rank after the last change whose time is at most this
 abbrev pub rank_after : List Change → ℕ → Rank
 rank_after changes time = rank_since (last_or None (filter (λ change. nat_le change.time time) changes))
+
+-- the rank before a time, after the last change that is earlier
+abbrev pub rank_until : List Change → ℕ → Rank
+rank_until changes time = rank_since (last_or None (filter (λ change. nat_lt change.time time) changes))
 
 -- what is kept of a vessel among vessels by their identities, nothing where she is not among them
 abbrev pub changes_of : List (ℕ × List Change) → ℕ → List Change

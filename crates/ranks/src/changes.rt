@@ -1,9 +1,9 @@
 //! The changes of one vessel's rank by ship type.
-ghost use Rattle.std.specs.Prelude.{◌≡◌, ◌≤◌, ◌<◌, [], ℕ, length, None, OnErr, OnOk, if◌then◌else◌, nat_le};
+ghost use Rattle.std.specs.Prelude.{◌≡◌, ◌≤◌, ◌<◌, [], ℕ, length, IsOk, None, OnErr, OnOk, if◌then◌else◌, nat_le};
 ghost use Rattle.std.specs.List.{last_or};
 ghost use Rattle.std.specs.List.Sorted.{IsPartitionPoint};
 ghost use Rattle.ranks.specs.Inner.ChangeOrder.{AreChanges};
-ghost use Rattle.ranks.specs.Standing.{rank_after, rank_since};
+ghost use Rattle.ranks.specs.Standing.{rank_after, rank_since, rank_until};
 ghost use Rattle.ranks.specs.declared.change.Change.{Change};
 
 use crate::change::Change;
@@ -84,11 +84,12 @@ impl Changes {
         last_rank(&self.changes[..come])
     }
 
-    /// Takes that from the time on the rank is this one, whatever was told before of this time and later ones. Where there is no
-    /// memory, all is as before.
+    /// Takes that from the time on the rank is this one, whatever was told before of this time and later ones. Where it was this one
+    /// before, this takes no memory. Where there is no memory, all is as before.
     pub(crate) fn note(&mut self, time: u64, rank: Rank) -> Result<(), Memory>
         ensures ok { OnOk result ((t : ℕ) → rank_after self.new t ≡ (if nat_le time t then rank else rank_after self.old t)) }
         ensures err { OnErr result (self.new ≡ self.old) }
+        ensures known { rank_until self.old time ≡ rank → IsOk result }
     {
         let stay = changes_before(&self.changes, time);
         if last_rank(&self.changes[..stay]) == rank {

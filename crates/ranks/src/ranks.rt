@@ -1,9 +1,9 @@
 //! The ranks of vessels.
-ghost use Rattle.std.specs.Prelude.{◌≡◌, ◌<◌, ◌++◌, ◌∷◌, [], List, IsSome, OnErr, OnOk};
+ghost use Rattle.std.specs.Prelude.{◌≡◌, ◌<◌, ◌++◌, ◌∷◌, [], List, IsOk, IsSome, OnErr, OnOk};
 ghost use Rattle.std.specs.List.{AllPairs};
 ghost use Rattle.std.specs.List.Sorted.{IsNonDecreasingBy};
-ghost use Rattle.ranks.specs.Standing.{AreChangesOf, StandsFor, changes_of};
-ghost use Rattle.ranks.specs.VesselRanks.{Note, rank_at, rank_by_type, report_at};
+ghost use Rattle.ranks.specs.Standing.{AreChangesOf, StandsFor, changes_of, rank_until};
+ghost use Rattle.ranks.specs.VesselRanks.{Note, rank_at, rank_by_type, rank_in, ranks_by_kind, report_at};
 
 use crate::change::Change;
 use crate::changes::Changes;
@@ -44,12 +44,13 @@ impl Ranks {
         }
     }
 
-    /// Takes the ship type that the next line with ship data tells of a vessel, and the line's time. Where there is no memory, all is
-    /// as before.
+    /// Takes the ship type that the next line with ship data tells of a vessel, and the line's time. Where the type gives her the rank that
+    /// she had by type before that time, this takes no memory. Where there is no memory, all is as before.
     pub fn note(&mut self, mmsi: u32, time: u64, kind: u8) -> Result<(), Memory>
         ensures stands { OnOk result ((noted : List Note) → StandsFor self.old noted
             → StandsFor self.new (noted ++ record { mmsi = mmsi; time = time; kind = kind } ∷ [])) }
         ensures same { OnErr result (self.new ≡ self.old) }
+        ensures known { rank_until (changes_of self.old mmsi) time ≡ rank_in ranks_by_kind kind → IsOk result }
     {
         let rank = rank_of_kind(kind);
         if let Some(changes) = self.vessels.get_mut(&mmsi) {
@@ -64,8 +65,7 @@ impl Ranks {
         Ok(())
     }
 
-    /// What is kept of a vessel, in the order of times. Each is a change of her rank by ship type, so that lines which tell what is known
-    /// take no memory.
+    /// What is kept of a vessel, in the order of times. Each is a change of her rank by ship type.
     pub fn changes(&self, mmsi: u32) -> &[Change]
         ensures kept { result.now ≡ changes_of self.now mmsi }
         ensures order { AllPairs (λ earlier later. earlier.time < later.time) result.now }

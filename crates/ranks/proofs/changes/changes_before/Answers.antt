@@ -1,6 +1,6 @@
 use Rattle.std.proofs.Common.{ltb, ltb-true, ltb-false, rules}
 use Rattle.std.proofs.lemmas.List.Sorted.{IsPartitionPoint-from_clause, IsPartitionedBy-ltb}
-use Rattle.ranks.proofs.Search.{in_order}
+use Rattle.ranks.proofs.KeptChanges.{in_order}
 use Rattle.ranks.proofs.changes.changes_before.Goals as goal
 
 pub returns-clause-parts : goal.returns-clause-parts

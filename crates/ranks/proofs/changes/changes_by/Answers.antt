@@ -1,6 +1,6 @@
 use Rattle.std.proofs.Common.{leb, leb-true, leb-false, rules}
 use Rattle.std.proofs.lemmas.List.Sorted.{IsPartitionPoint-from_clause, IsPartitionedBy-leb}
-use Rattle.ranks.proofs.Search.{in_order}
+use Rattle.ranks.proofs.KeptChanges.{in_order}
 use Rattle.ranks.proofs.changes.changes_by.Goals as goal
 
 pub returns-clause-parts : goal.returns-clause-parts

@@ -1,4 +1,4 @@
-use Rattle.ranks.proofs.Search.{one_has_come, report_here}
+use Rattle.ranks.proofs.Reports.{one_has_come, report_here}
 use Rattle.ranks.proofs.reading.last_report.Goals as goal
 
 pub overflow_sub-result : goal.overflow_sub-result

@@ -2,7 +2,7 @@ use Rattle.std.proofs.Common.{◌∙◌, ap}
 use Rattle.std.specs.Prelude.{List}
 use Rattle.ranks.specs.Standing.{rank_after}
 use Rattle.ranks.specs.declared.change.Change.{Change}
-use Rattle.ranks.proofs.Search.{rank_by_front}
+use Rattle.ranks.proofs.KeptChanges.{rank_by_front}
 use Rattle.ranks.proofs.changes.Changes.at.Goals as goal
 
 pub returns : goal.returns

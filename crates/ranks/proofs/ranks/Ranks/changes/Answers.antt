@@ -3,7 +3,7 @@ use Rattle.ranks.specs.Standing.{StandsFor, changes_of, rank_after}
 use Rattle.ranks.specs.VesselRanks.{Note, rank_by_type}
 use Rattle.ranks.specs.declared.change.Change.{Change}
 use Rattle.ranks.proofs.Noted.{changes_found, found}
-use Rattle.ranks.proofs.Search.{each_changes}
+use Rattle.ranks.proofs.KeptChanges.{each_changes}
 use Rattle.ranks.proofs.ranks.Ranks.changes.Goals as goal
 
 -- They tell her rank by ship type.

@@ -4,14 +4,14 @@ use Rattle.std.specs.Ordering.{is_eq, nat_cmp}
 use Rattle.std.specs.Prelude.{nat_le, if◌then◌else◌}
 use Rattle.std.proofs.lemmas.Map.Steps.{set_value_same}
 use Rattle.std.proofs.lemmas.Result.{on_err_weaker, on_ok_weaker}
-use denote.Enum.Bare.{same_true}
-use Rattle.ranks.specs.Standing.{StandsFor, changes_of, rank_after}
+use denote.Enum.Bare.{same_false, same_true}
+use Rattle.ranks.specs.Standing.{StandsFor, changes_of, rank_after, rank_until}
 use Rattle.ranks.specs.VesselRanks.{Note, rank_in, ranks_by_kind}
 use Rattle.ranks.specs.contracts.rank.Rank.{the_type}
 use Rattle.ranks.specs.declared.change.Change.{Change}
 use Rattle.ranks.specs.declared.rank.Rank.{Rank}
 use Rattle.ranks.specs.declared.rank.Rank.TheVariants.{Power}
-use Rattle.ranks.proofs.Noted.{changes_found, found, none_found, stands_more, stands_same}
+use Rattle.ranks.proofs.Noted.{changes_found, found, none_found, power_as_before, stands_more, stands_same}
 use Rattle.ranks.proofs.ranks.Ranks.note.Goals as goal
 
 pub returns-in-Some-clause-stands : goal.returns-in-Some-clause-stands
@@ -58,3 +58,20 @@ returns-clause-stands c = λ noted stands.
     ∙ ap (λ (rank : Rank). if nat_le c.args.time t then rank else rank_after c.new-changes.result t) c.rank_of_kind-rank.ensures
     ∙ ap (λ (changes : List Change). if nat_le c.args.time t then rank_in ranks_by_kind c.args.kind else rank_after changes t) before)
     noted (subst (λ (vessels : List (ℕ × List Change)). StandsFor vessels noted) (sym c.self.view_is) stands)
+
+pub returns-in-Some-clause-known : goal.returns-in-Some-clause-known
+returns-in-Some-clause-known c = λ same.
+    let old : List (ℕ × List Change) = c.self.inside.vessels.entries in
+    let known : found old c.args.mmsi ≡ Some c.in-Some.changes.now = sym c.in-Some.ensures.value in
+    c.note.ensures.known (sym (ap (λ (changes : List Change). rank_until changes c.args.time) (changes_found old c.args.mmsi c.in-Some.changes.now known))
+    ∙ ap (λ (vessels : List (ℕ × List Change)). rank_until (changes_of vessels c.args.mmsi) c.args.time) c.self.view_is ∙ same ∙ sym c.rank_of_kind-rank.ensures)
+
+pub returns-in_err-note-clause-known : goal.returns-in_err-note-clause-known
+returns-in_err-note-clause-known c = λ same.
+    absurd (same_false the_type _ _ (sym c.if-eq.ensures) (c.rank_of_kind-rank.ensures
+    ∙ power_as_before c.self.inside.vessels.entries c.args.self.now c.args.mmsi c.args.time c.args.kind c.self.view_is (sym c.in_default.ensures.value) same))
+
+pub returns-in_err-insert-clause-known : goal.returns-in_err-insert-clause-known
+returns-in_err-insert-clause-known c = λ same.
+    absurd (same_false the_type _ _ (sym c.if-eq.ensures) (c.rank_of_kind-rank.ensures
+    ∙ power_as_before c.self.inside.vessels.entries c.args.self.now c.args.mmsi c.args.time c.args.kind c.self.view_is (sym c.in_default.ensures.value) same))

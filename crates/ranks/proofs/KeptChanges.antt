@@ -1,8 +1,7 @@
--- Fronts of a list that a test divides.
-use Rattle.std.proofs.Common.{◌≡◌, ◌≢◌, ◌∙◌, ℕ, zero, suc, ◌+◌, ◌-◌, ◌<◌, ◌≤◌, inl, inr, Bool, true, false, cond, List, [], ◌∷◌, ◌++◌, length, take, get_or, Some, None, refl, ap, subst, sym, arith}
-use native.Mathlib.Numerals.{unary_clauses}
-use Rattle.std.specs.Prelude.{Contains, IsSome, Option, nat_le, if◌then◌else◌}
-use Rattle.std.specs.List.{All, AllPairs, filter, insert, last_or}
+-- What is kept of one vessel: its order, what a note makes of it, and what it tells.
+use Rattle.std.proofs.Common.{◌≡◌, ◌≢◌, ◌∙◌, ℕ, zero, suc, ◌+◌, ◌<◌, ◌≤◌, inl, inr, Bool, true, List, [], ◌∷◌, ◌++◌, length, take, get_or, Some, None, refl, ap, subst, sym, arith}
+use Rattle.std.specs.Prelude.{Contains, Option, nat_le, nat_lt, if◌then◌else◌}
+use Rattle.std.specs.List.{All, AllPairs, filter, last_or}
 use Rattle.std.specs.List.Sorted.{IsNonDecreasingBy, IsPartitionPoint}
 use Rattle.std.proofs.Math.Nat.{eq-or-lt_of_le}
 use Rattle.std.proofs.lemmas.Bool.{cases_Bool}
@@ -10,50 +9,14 @@ use Rattle.std.proofs.lemmas.Bool.Decides.{nat_tests}
 use Rattle.std.proofs.lemmas.List.{append-nil}
 use Rattle.std.proofs.lemmas.List.Elements.{filter-append}
 use Rattle.std.proofs.lemmas.List.Quantifiers.{all_pairs_push}
-use Rattle.motion.proofs.LastPassing.{filter_none, last_passing}
-use Rattle.tracks.specs.declared.accepted.Accepted.{Accepted}
+use Rattle.motion.proofs.LastPassing.{filter_none}
 use Rattle.tracks.proofs.Lasts.{last_or-push}
 use Rattle.ranks.specs.Inner.ChangeOrder.{AreChanges, Differ}
-use Rattle.ranks.specs.Standing.{rank_after, rank_since}
-use Rattle.ranks.specs.VesselRanks.{report_at}
+use Rattle.ranks.specs.Standing.{rank_after, rank_since, rank_until}
 use Rattle.ranks.specs.declared.change.Change.{Change}
 use Rattle.ranks.specs.declared.rank.Rank.{Rank}
 use Rattle.ranks.specs.declared.rank.Rank.TheVariants.{Power}
-
--- ---- fronts
-
--- None passes from an index on.
-pub filter_take : {X : Type 0} (p : X → Bool) (xs : List X) (i : ℕ) → ((k : ℕ) (d : X) → i ≤ k → k < length xs → p (get_or xs k d) ≡ false)
-    → filter p (take i xs) ≡ filter p xs
-filter_take p xs zero none = sym (filter_none p xs (λ k d lt. none k d (omega arith) lt))
-filter_take p [] (suc i) none = refl
-filter_take p (x ∷ xs) (suc i) none =
-    let rest : filter p (take i xs) ≡ filter p xs = filter_take p xs i (λ k d le lt. none (suc k) d (omega arith) (omega arith)) in
-    ap (λ ys. cond (p x) (x ∷ ys) ys) rest
-
--- All before an index pass.
-pub filter_front : {X : Type 0} (p : X → Bool) (xs : List X) (i : ℕ) → i ≤ length xs → ((k : ℕ) (d : X) → 0 ≤ k → k < i → p (get_or xs k d) ≡ true)
-    → filter p (take i xs) ≡ take i xs
-filter_front p xs zero le all = refl
-filter_front p [] (suc i) le all = absurd (omega arith)
-filter_front p (x ∷ xs) (suc i) le all =
-    let here : p x ≡ true = all 0 x (omega arith) (omega arith) in
-    let rest : filter p (take i xs) ≡ take i xs = filter_front p xs i (omega arith) (λ k d z lt. all (suc k) d (omega arith) (omega arith)) in
-    rw here (ap (λ ys. x ∷ ys) rest)
-
-insert_front : {X : Type 0} (xs : List X) (i : ℕ) (x : X) → i ≤ length xs → take (suc i) (insert xs i x) ≡ take i xs ++ x ∷ []
-insert_front xs zero x le = refl
-insert_front [] (suc i) x le = absurd (omega arith)
-insert_front (y ∷ ys) (suc i) x le = ap (λ zs. y ∷ zs) (insert_front ys i x (omega arith))
-
-pub take-insert : {X : Type 0} (xs : List X) (i : ℕ) (x : X) → i ≤ length xs → take (i + 1) (insert xs i x) ≡ take i xs ++ x ∷ []
-take-insert xs i x le = simp unary_clauses (insert_front xs i x le)
-
-get_or-take : {X : Type 0} (xs : List X) (i k : ℕ) (d : X) → k < length (take i xs) → (get_or (take i xs) k d ≡ get_or xs k d) × (k < length xs) × (k < i)
-get_or-take xs zero k d lt = absurd (omega arith)
-get_or-take [] (suc i) k d lt = absurd (omega arith)
-get_or-take (x ∷ xs) (suc i) zero d lt = (refl, omega arith, omega arith)
-get_or-take (x ∷ xs) (suc i) (suc k) d lt = let rest = get_or-take xs i k d (omega arith) in (rest.0, let l = rest.1 in omega arith, let l = rest.2 in omega arith)
+use Rattle.ranks.proofs.Fronts.{IsBy, filter_front, filter_take, front_by, within_front}
 
 -- ---- the order of changes
 
@@ -66,8 +29,8 @@ in_order changes h i j d le within =
 
 take_pairs : {X : Type 0} (R : X → X → Type 0) (xs : List X) (n : ℕ) → AllPairs R xs → AllPairs R (take n xs)
 take_pairs R xs n h i j d lt within =
-    let second = get_or-take xs n j d within in
-    let first = get_or-take xs n i d (omega arith) in
+    let second = within_front xs n j d within in
+    let first = within_front xs n i d (omega arith) in
     rw (first.0, second.0) (h i j d lt second.1)
 
 take_differ : (before : Rank) (changes : List Change) (n : ℕ) → Differ before changes → Differ before (take n changes)
@@ -104,7 +67,7 @@ more_changes changes time i rank h parts le ne =
     }
   where
     earlier : (k : ℕ) (d : Change) → k < length (take i changes) → (get_or (take i changes) k d).time < time
-    earlier k d lt = let at = get_or-take changes i k d lt in rw at.0 (parts.0 k d (omega arith) at.2)
+    earlier k d lt = let at = within_front changes i k d lt in rw at.0 (parts.0 k d (omega arith) at.2)
 
 -- Up to a time the front tells all, and from it on its last change counts.
 front_up_to : (changes : List Change) (time i t : ℕ) → IsBefore changes time i → t < time → filter (by t) (take i changes) ≡ filter (by t) changes
@@ -139,37 +102,19 @@ more_tells changes time i rank parts le t =
           ∙ append-nil (filter (by t) (take i changes)) ∙ front_up_to changes time i t parts at)))
     ]
 
--- ---- look-ups
-
-abbrev pub IsBy : {X : Type 0} → (X → ℕ) → List X → ℕ → ℕ → Type 0
-IsBy {X} number xs time i = IsPartitionPoint (λ (x : X). number x ≤ time) (λ (x : X). time < number x) xs i
-
--- What has come by a time is a front.
-pub front_by : {X : Type 0} (number : X → ℕ) (xs : List X) (time i : ℕ) → IsBy number xs time i → i ≤ length xs → take i xs ≡ filter (λ x. nat_le (number x) time) xs
-front_by {X} number xs time i parts le =
-    let p : X → Bool = λ x. nat_le (number x) time in
-    let front : filter p (take i xs) ≡ take i xs = filter_front p xs i le (λ k d z lt. let before = parts.0 k d z lt in grind (arith, nat_tests)) in
-    let all : filter p (take i xs) ≡ filter p xs = filter_take p xs i (λ k d from within. let after = parts.1 k d from within in grind (arith, nat_tests)) in
-    sym front ∙ all
+-- ---- what they tell
 
 pub rank_by_front : (changes : List Change) (time i : ℕ) → IsBy (λ change. change.time) changes time i → i ≤ length changes
     → rank_since (last_or None (take i changes)) ≡ rank_after changes time
 rank_by_front changes time i parts le = ap (λ cs. rank_since (last_or None cs)) (front_by (λ change. change.time) changes time i parts le)
 
-pub one_has_come : (points : List Accepted) (time i : ℕ) → IsBy (λ point. point.time) points time i → i ≤ length points → IsSome (report_at points time) → 1 ≤ i
-one_has_come points time zero parts le some = let none : report_at points time ≡ None = ap (λ (reports : List Accepted). last_or None reports) (sym (front_by (λ point. point.time) points time 0 parts le)) in
-    absurd (nothing (subst (λ (report : Option Accepted). IsSome report) none some))
-  where
-    nothing : IsSome {T = Accepted} None → ⊥
-    nothing h = cc
-one_has_come points time (suc i) parts le some = omega arith
-
-pub report_here : (points : List Accepted) (time i : ℕ) (d : Accepted) → IsBy (λ point. point.time) points time i → i ≤ length points → 1 ≤ i
-    → Some (get_or points (i - 1) d) ≡ report_at points time
-report_here points time i d parts le some =
-    let here = parts.0 (i - 1) d (omega arith) (omega arith) in
-    sym (last_passing (λ point. nat_le point.time time) points (i - 1) d (omega arith) (grind (arith, nat_tests))
-    (λ k e lt within. let after = parts.1 k e (omega arith) within in grind (arith, nat_tests)))
+-- The front before a time tells the rank up to it.
+pub rank_before : (changes : List Change) (time i : ℕ) → IsBefore changes time i → i ≤ length changes → rank_since (last_or None (take i changes)) ≡ rank_until changes time
+rank_before changes time i parts le =
+    let earlier : Change → Bool = λ change. nat_lt change.time time in
+    let front : filter earlier (take i changes) ≡ take i changes = filter_front earlier changes i le (λ k d z lt. let before = parts.0 k d z lt in grind (arith, nat_tests)) in
+    let all : filter earlier (take i changes) ≡ filter earlier changes = filter_take earlier changes i (λ k d from within. let after = parts.1 k d from within in grind (arith, nat_tests)) in
+    ap (λ cs. rank_since (last_or None cs)) (sym front ∙ all)
 
 -- ---- each is a change
 
