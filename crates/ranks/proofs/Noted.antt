@@ -1,5 +1,5 @@
 -- One more note.
-use Rattle.std.proofs.Common.{◌≡◌, ◌∙◌, inl, inr, ℕ, Bool, true, false, cond, List, [], ◌∷◌, ◌++◌, Some, None, refl, ap, subst, sym, arith}
+use Rattle.std.proofs.Common.{◌≡◌, ◌∙◌, ◌<◌, inl, inr, ℕ, Bool, true, false, cond, List, [], ◌∷◌, ◌++◌, Some, None, refl, ap, subst, sym, arith}
 use Rattle.std.specs.Prelude.{Option, ◌==◌, ◌&&◌, nat_le, nat_lt, nat_eq, unwrap_or, if◌then◌else◌}
 use Rattle.std.specs.Map.{lookup}
 use Rattle.std.specs.Ordering.{is_eq, nat_cmp}
@@ -29,6 +29,12 @@ rank_by_type-push noted note mmsi time =
       | inr fails ↦ (let last : filter p (note ∷ []) ≡ [] = rw fails refl in
           rw fails (ap (λ notes. rank_by_note (last_or None notes)) (parted ∙ ap (λ notes. filter p noted ++ notes) last ∙ append-nil (filter p noted))))
     ]
+
+-- A note changes nothing before its time.
+pub past_stays : (noted : List Note) (note : Note) (mmsi time : ℕ) → time < note.time → rank_by_type (noted ++ note ∷ []) mmsi time ≡ rank_by_type noted mmsi time
+past_stays noted note mmsi time lt =
+    let not : (note.mmsi == mmsi && nat_le note.time time) ≡ false = grind (arith, nat_tests) in
+    rank_by_type-push noted note mmsi time ∙ ap (λ (b : Bool). if b then rank_in ranks_by_kind note.kind else rank_by_type noted mmsi time) not
 
 -- ---- the changes of one vessel among all
 

@@ -11,6 +11,7 @@
 
 mod change;
 mod changes;
+pub mod laws;
 mod rank;
 mod ranks;
 mod reading;
