@@ -31,7 +31,7 @@ use Rattle.tracks.proofs.OneList.{judged_placed}
 -- ---- accepted reports come later and later
 
 -- each is later than the one before it
-abbrev Rises : Option Accepted → List Accepted → Type 0
+abbrev pub Rises : Option Accepted → List Accepted → Type 0
 Rises o [] = Unit {0}
 Rises o (x ∷ xs) = IfSome o (λ a. a.time < x.time) × Rises (Some x) xs
 
@@ -53,7 +53,7 @@ judged_later numbers (Some latest) now accepted e =
     let at : placed numbers.reference now ≡ Ok accepted = judged_placed numbers (Some latest) now accepted e in
     after_later numbers latest accepted accepted (ap (judged_at numbers (Some latest)) (sym at) ∙ e)
 
-accepted_rises : (numbers : JudgingNumbers) (reports : List Reported) (latest : Option Accepted) → Rises latest (accepted_after numbers reports latest)
+pub accepted_rises : (numbers : JudgingNumbers) (reports : List Reported) (latest : Option Accepted) → Rises latest (accepted_after numbers reports latest)
 unfolding accepted_after
 accepted_rises numbers [] latest = tt
 accepted_rises numbers (now ∷ reports) latest =

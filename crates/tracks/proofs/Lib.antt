@@ -11,4 +11,5 @@ pub mod Settled
 pub mod EqualReports
 pub mod Seen
 pub mod LatestReport
+pub mod ReportsInOrder
 pub mod ForCallers

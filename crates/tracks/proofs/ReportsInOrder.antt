@@ -1,0 +1,105 @@
+-- Accepted reports stand in the order of their times, and a vessel that is seen has reported by then.
+use Rattle.std.proofs.Common.{◌≡◌, ℕ, zero, suc, ◌+◌, ◌<◌, ◌⊎◌, inl, inr, true, false, cond, nat_le, List, [], ◌∷◌, length, get_or, Some, None, refl, ap, arith}
+use Rattle.std.specs.Prelude.{IsSome, Option}
+use Rattle.std.specs.List.{All, cons_option, filter, last_or}
+use Rattle.std.specs.List.Sorted.{IsNonDecreasingBy}
+use Rattle.std.proofs.Math.Nat.{eq-or-lt_of_le}
+use Rattle.std.proofs.lemmas.Bool.{cases_Bool}
+use Rattle.std.proofs.lemmas.Bool.Decides.{nat_tests}
+use Rattle.std.proofs.lemmas.List.Elements.{All-cons, All-head, All-nil, All-tail}
+use Rattle.motion.specs.TickStates.{holds, state_at}
+use Rattle.motion.specs.declared.leg.Leg.{Leg}
+use Rattle.motion.specs.declared.leg.TickState.{TickState}
+use Rattle.motion.proofs.LastPassing.{filter_none}
+use Rattle.tracks.specs.AcceptedReports.{JudgingNumbers}
+use Rattle.tracks.specs.JoinedReports.{joined, leg_between, legs_between, legs_from}
+use Rattle.tracks.specs.VesselsHeld.{Sent, accepted_of, legs_of}
+use Rattle.tracks.specs.declared.accepted.Accepted.{Accepted}
+use Rattle.tracks.proofs.LatestReport.{Rises, accepted_rises}
+
+-- ---- by indices
+
+all_later : (x : Accepted) (xs : List Accepted) → Rises (Some x) xs → (k : ℕ) (d : Accepted) → k < length xs → x.time < (get_or xs k d).time
+all_later x [] h k d lt = absurd (omega arith)
+all_later x (y ∷ ys) h zero d lt = h.0
+all_later x (y ∷ ys) h (suc k) d lt =
+    let next : x.time < y.time = h.0 in
+    let rest : y.time < (get_or ys k d).time = all_later y ys h.1 k d (omega arith) in
+    omega arith
+
+rises_lt : (o : Option Accepted) (xs : List Accepted) → Rises o xs → (i j : ℕ) (d : Accepted) → i < j → j < length xs → (get_or xs i d).time < (get_or xs j d).time
+rises_lt o [] h i j d lt within = absurd (omega arith)
+rises_lt o (x ∷ xs) h i zero d lt within = absurd (omega arith)
+rises_lt o (x ∷ xs) h zero (suc j) d lt within = all_later x xs h.1 j d (omega arith)
+rises_lt o (x ∷ xs) h (suc i) (suc j) d lt within = rises_lt (Some x) xs h.1 i j d (omega arith) (omega arith)
+
+in_order : (xs : List Accepted) → Rises None xs → IsNonDecreasingBy (λ (report : Accepted). report.time) xs
+in_order xs h i j d le within =
+    elim (eq-or-lt_of_le le) [
+      | inl same ↦ (let e : (get_or xs i d).time ≡ (get_or xs j d).time = ap (λ (k : ℕ). (get_or xs k d).time) same in omega arith)
+      | inr before ↦ (let lt : (get_or xs i d).time < (get_or xs j d).time = rises_lt None xs h i j d before within in omega arith)
+    ]
+
+pub accepted_in_order : (numbers : JudgingNumbers) (sent : List Sent) (mmsi : ℕ) → IsNonDecreasingBy (λ (report : Accepted). report.time) (accepted_of numbers sent mmsi)
+unfolding accepted_of
+accepted_in_order numbers sent mmsi = in_order _ (accepted_rises numbers _ None)
+
+-- ---- when legs begin
+
+one_begins : (gap t : ℕ) (from to : Accepted) (legs : List Leg) → t < from.time → All (λ leg. t < leg.t1) legs → All (λ leg. t < leg.t1) (cons_option (joined gap from to) legs)
+one_begins gap t from to legs lt all =
+    elim (nat_le to.time (from.time + gap)) as (λ b. All (λ leg. t < leg.t1) (cons_option (cond b (Some (leg_between from to)) None) legs)) [
+      | true ↦ All-cons (λ leg. t < leg.t1) (leg_between from to) legs lt all
+      | false ↦ all
+    ]
+
+-- No leg begins before the first report.
+legs_begin : (gap t : ℕ) (from : Accepted) (xs : List Accepted) → t < from.time → All (λ (x : Accepted). t < x.time) xs → All (λ leg. t < leg.t1) (legs_from gap from xs)
+unfolding legs_from
+legs_begin gap t from [] lt all = All-nil (λ leg. t < leg.t1)
+legs_begin gap t from (x ∷ xs) lt all =
+    one_begins gap t from x (legs_from gap x xs) lt
+    (legs_begin gap t x xs (All-head (λ (x : Accepted). t < x.time) x xs all) (All-tail (λ (x : Accepted). t < x.time) x xs all))
+
+all_begin : (gap t : ℕ) (xs : List Accepted) → All (λ (x : Accepted). t < x.time) xs → All (λ leg. t < leg.t1) (legs_between gap xs)
+all_begin gap t [] all = All-nil (λ leg. t < leg.t1)
+all_begin gap t (x ∷ xs) all = legs_begin gap t x xs (All-head (λ (x : Accepted). t < x.time) x xs all) (All-tail (λ (x : Accepted). t < x.time) x xs all)
+
+unbegun : (t : ℕ) (leg : Leg) → t < leg.t1 → holds t leg ≡ false
+unbegun t leg lt = grind (arith, nat_tests)
+
+none_seen : (t : ℕ) (legs : List Leg) → All (λ leg. t < leg.t1) legs → state_at t legs ≡ None
+unfolding state_at
+none_seen t legs all = rw (filter_none (holds t) legs (λ k d within. unbegun t (get_or legs k d) (all k d within))) refl
+
+-- ---- the reports by a time
+
+some_last : (x : Accepted) (xs : List Accepted) → IsSome (last_or (Some x) xs)
+some_last x [] = refl
+some_last x (y ∷ ys) = some_last y ys
+
+-- Some report has come by the time, or all are later.
+some_or_later : (t : ℕ) (xs : List Accepted) → IsSome (last_or None (filter (λ (x : Accepted). nat_le x.time t) xs)) ⊎ All (λ (x : Accepted). t < x.time) xs
+some_or_later t [] = inr (All-nil (λ (x : Accepted). t < x.time))
+some_or_later t (x ∷ xs) =
+    elim (cases_Bool (nat_le x.time t)) [
+      | inl come ↦ inl (rw come (some_last x (filter (λ (y : Accepted). nat_le y.time t) xs)))
+      | inr not ↦ (let later : t < x.time = grind (arith, nat_tests) in
+          elim (some_or_later t xs) [
+            | inl some ↦ inl (rw not some)
+            | inr all ↦ inr (All-cons (λ (y : Accepted). t < y.time) x xs later all)
+          ])
+    ]
+
+reported_by : (gap t : ℕ) (xs : List Accepted) (state : TickState) → state_at t (legs_between gap xs) ≡ Some state
+    → IsSome (last_or None (filter (λ (x : Accepted). nat_le x.time t) xs))
+reported_by gap t xs state seen =
+    elim (some_or_later t xs) [
+      | inl some ↦ some
+      | inr all ↦ (let none : state_at t (legs_between gap xs) ≡ None = none_seen t (legs_between gap xs) (all_begin gap t xs all) in cc)
+    ]
+
+pub seen_has_reported : (numbers : JudgingNumbers) (sent : List Sent) (mmsi t : ℕ) (state : TickState) → state_at t (legs_of numbers sent mmsi) ≡ Some state
+    → IsSome (last_or None (filter (λ (report : Accepted). nat_le report.time t) (accepted_of numbers sent mmsi)))
+unfolding legs_of
+seen_has_reported numbers sent mmsi t state seen = reported_by numbers.gap t (accepted_of numbers sent mmsi) state seen
