@@ -1,4 +1,5 @@
--- Lemmas for the crates above: the vessels held, in their order.
+-- Lemmas for the crates above: the vessels held, in their order; and her reports in theirs, as far as they have come by a time.
+pub use Rattle.tracks.proofs.ReportsInOrder.{accepted_in_order, past_reports_stay, seen_has_reported}
 use Rattle.std.proofs.Common.{◌≡◌, ℕ, ◌+◌, ◌<◌, List, get_or, Some, true, arith}
 use Rattle.std.specs.Prelude.{slice_get}
 use Rattle.std.specs.List.{All, AllPairs}

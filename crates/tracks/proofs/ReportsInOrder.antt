@@ -1,20 +1,25 @@
 -- Accepted reports stand in the order of their times, and a vessel that is seen has reported by then.
-use Rattle.std.proofs.Common.{◌≡◌, ℕ, zero, suc, ◌+◌, ◌<◌, ◌⊎◌, inl, inr, true, false, cond, nat_le, List, [], ◌∷◌, length, get_or, Some, None, refl, ap, arith}
+use Rattle.std.proofs.Common.{◌≡◌, ℕ, zero, suc, ◌+◌, ◌<◌, ◌⊎◌, inl, inr, Bool, true, false, cond, nat_le, List, [], ◌∷◌, ◌++◌, length, get_or, Some, None, refl, ap, sym, arith, ◌∙◌}
 use Rattle.std.specs.Prelude.{IsSome, Option}
 use Rattle.std.specs.List.{All, cons_option, filter, last_or}
 use Rattle.std.specs.List.Sorted.{IsNonDecreasingBy}
 use Rattle.std.proofs.Math.Nat.{eq-or-lt_of_le}
 use Rattle.std.proofs.lemmas.Bool.{cases_Bool}
 use Rattle.std.proofs.lemmas.Bool.Decides.{nat_tests}
-use Rattle.std.proofs.lemmas.List.Elements.{All-cons, All-head, All-nil, All-tail}
+use Rattle.std.proofs.lemmas.List.{append-nil}
+use Rattle.std.proofs.lemmas.List.Elements.{filter-append, All-cons, All-head, All-nil, All-tail}
 use Rattle.motion.specs.TickStates.{holds, state_at}
 use Rattle.motion.specs.declared.leg.Leg.{Leg}
 use Rattle.motion.specs.declared.leg.TickState.{TickState}
 use Rattle.motion.proofs.LastPassing.{filter_none}
 use Rattle.tracks.specs.AcceptedReports.{JudgingNumbers}
 use Rattle.tracks.specs.JoinedReports.{joined, leg_between, legs_between, legs_from}
-use Rattle.tracks.specs.VesselsHeld.{Sent, accepted_of, legs_of}
+use Rattle.tracks.specs.VesselsHeld.{Sent, accepted_of, legs_of, report_in, reported_in, sender_of}
 use Rattle.tracks.specs.declared.accepted.Accepted.{Accepted}
+use Rattle.tracks.specs.Inner.Keeping.{accepted_in, points_with}
+use Rattle.tracks.proofs.Holding.{same_or_other}
+use Rattle.tracks.proofs.Messages.{accepted_of-other, accepted_of-own}
+use Rattle.tracks.proofs.Settled.{reported_time}
 use Rattle.tracks.proofs.LatestReport.{Rises, accepted_rises}
 
 -- ---- by indices
@@ -103,3 +108,31 @@ pub seen_has_reported : (numbers : JudgingNumbers) (sent : List Sent) (mmsi t : 
     → IsSome (last_or None (filter (λ (report : Accepted). nat_le report.time t) (accepted_of numbers sent mmsi)))
 unfolding legs_of
 seen_has_reported numbers sent mmsi t state seen = reported_by numbers.gap t (accepted_of numbers sent mmsi) state seen
+
+-- ---- a later message
+
+past_points : (t : ℕ) (xs : List Accepted) (o : Option Accepted) → ((accepted : Accepted) → o ≡ Some accepted → t < accepted.time)
+    → filter (λ (x : Accepted). nat_le x.time t) (points_with xs o) ≡ filter (λ (x : Accepted). nat_le x.time t) xs
+past_points t xs None later = refl
+past_points t xs (Some accepted) later =
+    let p : Accepted → Bool = λ x. nat_le x.time t in
+    let after : t < accepted.time = later accepted refl in
+    let not : p accepted ≡ false = grind (arith, nat_tests) in
+    let none : filter p (accepted ∷ []) ≡ [] = rw not refl in
+    filter-append p xs (accepted ∷ []) ∙ ap (λ (ys : List Accepted). filter p xs ++ ys) none ∙ append-nil (filter p xs)
+
+-- The reports that have come by a time stay, whatever message comes later.
+pub past_reports_stay : (numbers : JudgingNumbers) (sent : List Sent) (one : Sent) (mmsi t : ℕ) → t < one.time
+    → filter (λ (report : Accepted). nat_le report.time t) (accepted_of numbers (sent ++ one ∷ []) mmsi)
+    ≡ filter (λ (report : Accepted). nat_le report.time t) (accepted_of numbers sent mmsi)
+past_reports_stay numbers sent one mmsi t lt =
+    elim (same_or_other mmsi (sender_of one.message)) [
+      | inl same ↦ ap (filter (λ (report : Accepted). nat_le report.time t)) (accepted_of-own numbers sent one mmsi (sym same))
+          ∙ past_points t (accepted_of numbers sent mmsi) (accepted_in numbers (last_or None (accepted_of numbers sent mmsi)) (reported_in one)) later
+      | inr other ↦ ap (filter (λ (report : Accepted). nat_le report.time t)) (accepted_of-other numbers sent one mmsi other)
+    ]
+  where
+    later : (accepted : Accepted) → accepted_in numbers (last_or None (accepted_of numbers sent mmsi)) (reported_in one) ≡ Some accepted → t < accepted.time
+    later accepted is =
+        let time = reported_time numbers (last_or None (accepted_of numbers sent mmsi)) (report_in one.message) one.time accepted is in
+        omega arith

@@ -49,7 +49,7 @@ by_some : (r : Result Accepted ReportCause) (accepted : Accepted) → accepted_b
 by_some (Ok x) accepted e = cc
 by_some (Err cause) accepted e = cc
 
-reported_time : (numbers : JudgingNumbers) (latest : Option Accepted) (o : Option PositionReport) (time : ℕ) (accepted : Accepted)
+pub reported_time : (numbers : JudgingNumbers) (latest : Option Accepted) (o : Option PositionReport) (time : ℕ) (accepted : Accepted)
     → accepted_in numbers latest (option_map (λ report. record { report = report; time = time }) o) ≡ Some accepted → accepted.time ≡ time
 reported_time numbers latest None time accepted e = cc
 reported_time numbers latest (Some report) time accepted e =
