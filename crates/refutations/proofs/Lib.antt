@@ -7,4 +7,6 @@ pub mod FirstEntries
 pub mod Walking
 pub mod WrittenChoices
 pub mod ToldEntries
+pub mod OneList
+pub mod ForCallers
 pub mod FoundTargets

@@ -1,9 +1,8 @@
 -- What the fields of a row tell: at most one entry.
-use Rattle.std.proofs.Common.{ℕ, zero, suc, ◌≡◌, ◌≢◌, ◌∙◌, ◌+◌, ◌-◌, ◌≤◌, ◌<◌, ◌^◌, false, true, List, [], ◌∷◌, ◌++◌, length, take, take_all, get_or, Some, None, refl, arith, ap, ap₂, sym, subst, ◌==◌}
-use Rattle.std.specs.Prelude.{codes, bytes_eq, not, Option, Bool, IsUtf8}
+use Rattle.std.proofs.Common.{ℕ, zero, suc, ◌≡◌, ◌≢◌, ◌∙◌, ◌-◌, ◌≤◌, ◌<◌, ◌^◌, false, true, List, [], ◌∷◌, ◌++◌, length, take, take_all, Some, None, refl, arith, ap, ap₂, sym, subst, ◌==◌}
+use Rattle.std.specs.Prelude.{codes, bytes_eq, not, Bool, IsUtf8}
 use Rattle.csv.specs.Records.{field_at}
 use Rattle.std.specs.Fmt.{decimal}
-use Rattle.std.specs.Int.Digits.{AllBelowBase}
 use Rattle.std.proofs.lemmas.Bool.{or_parts}
 use Rattle.std.proofs.lemmas.Bool.Decides.{Decides-eqb, not_from_Decides}
 use Rattle.std.proofs.lemmas.Fmt.{decimal_injective, decimal_nonempty, IsAscii-decimal}
@@ -16,7 +15,7 @@ use Rattle.rule_set.specs.NamedTrees.{has_rule, rule_at, NamedTree, RulesHaveDif
 use Rattle.situations.specs.declared.situation.Situation.{Situation}
 use Rattle.refutations.specs.EntryRows.{choices_text, entry_fields, reason_fields, FitsReason, IsEntryOf}
 use Rattle.refutations.specs.Inner.Readings.{AreChoicesIn, IsMomentIn, IsNumberIn, IsReasonIn}
-use Rattle.refutations.specs.RightLists.{IsEntry, KnowsRule}
+use Rattle.refutations.specs.RightLists.{KnowsRule}
 use Rattle.refutations.specs.declared.entry.Reason.{Reason}
 use Rattle.refutations.specs.declared.entry.Reason.TheVariants.{Domain, Rule}
 use Rattle.refutations.specs.declared.entry.WhyEntry.{WhyEntry}

@@ -3,18 +3,19 @@ use Rattle.std.proofs.Common.{ℕ, zero, suc, ◌≡◌, ◌∙◌, ◌+◌, ◌
 use Rattle.std.specs.Prelude.{slice_get, All, IsSomeAnd, ◌↔◌}
 use Rattle.std.proofs.lemmas.List.{take-append-le, take-take}
 use Rattle.std.proofs.lemmas.List.Elements.{All-from_get_or}
-use Rattle.std.proofs.Math.Nat.{pow-suc, mul-le-mul_right}
+use Rattle.std.proofs.Math.Nat.{one-le-pow, pow-suc, mul-le-mul_right}
+use Rattle.std.proofs.lemmas.Int.Digits.{number_lt}
 use Rattle.std.proofs.Math.Seq.{take-append_seam, take-length}
 use Rattle.lattice.specs.Grids.{choices_of, plans_of}
 use Rattle.lattice.specs.PlanNumbers.{plan_of, number_of}
-use Rattle.lattice.proofs.Digits.{length-plan_of, number_plan_of, plan_push}
+use Rattle.lattice.proofs.Digits.{block_within, length-plan_of, number_plan_of, plan_push}
 use Rattle.situations.specs.FailingPlans.{FailsBy, Some_}
 use Rattle.situations.specs.LeastPlans.{numbered}
 use Rattle.situations.specs.Prefixes.{reached, PrefixFails}
 use Rattle.situations.specs.Reasons.{HasReason}
 use Rattle.situations.specs.declared.situation.Situation.{Situation}
 use Rattle.situations.proofs.ForCallers.{first_plan_begins, reached_end}
-use Rattle.refutations.specs.CanonicalLists.{IsCanonicalFor, IsFirstGood, SomePlanPasses}
+use Rattle.refutations.specs.CanonicalLists.{IsCanonical, IsCanonicalFor, IsFirstGood, SomePlanPasses}
 use Rattle.refutations.specs.GoodEntries.{IsGood}
 use Rattle.refutations.specs.Inner.Walks.{first_extension, IsNext, IsWalkedTo, NoneIsShorter}
 use Rattle.refutations.specs.RightLists.{behind, ends_from, first_of, IsEntry, IsRight}
@@ -171,3 +172,24 @@ module _ (s : Situation) where
   pub walked_entries : (xs : List WhyEntry) (end : ℕ) → IsWalkedTo s xs end → All (IsEntry s) xs
   walked_entries [] end h = λ k d lt. absurd (omega arith)
   walked_entries (x ∷ xs) end h = All-from_get_or (IsEntry s) (x ∷ xs) x (λ k lt. ((there (IsNext s (take k (x ∷ xs))) (x ∷ xs) k (h.each k lt)).1 x).is)
+
+  first_known : 1 ≤ choices_of s.lattice → (entry : WhyEntry) → IsEntry s entry → first_of s entry < plans_of s.lattice
+  first_known some entry is =
+      let c = choices_of s.lattice in
+      let k = length entry.prefix in
+      let left = one-le-pow (s.lattice.legs - k) c (omega arith) in
+      let within = block_within c k s.lattice.legs (number_of c entry.prefix) is.few (number_lt c entry.prefix is.below) in
+      omega (arith, within, left)
+
+  uncovered_by : 1 ≤ choices_of s.lattice → (before xs : List WhyEntry) (k : ℕ) → IsSomeAnd (slice_get xs k) (IsNext s before) → ends_from s 0 before < plans_of s.lattice
+  uncovered_by some before [] k h = absurd h
+  uncovered_by some before (x ∷ xs) zero h = let first = first_known some x h.is in subst (λ (n : ℕ). n < plans_of s.lattice) h.begins first
+  uncovered_by some before (x ∷ xs) (suc k) h = uncovered_by some before xs k h
+
+  pub walked_canonical : 1 ≤ choices_of s.lattice → (xs : List WhyEntry) → IsWalkedTo s xs (plans_of s.lattice) → IsCanonical s xs
+  walked_canonical some xs h = record {
+    uncovered = λ k lt. uncovered_by some (take k xs) xs k (h.each k lt);
+    each = λ k lt. next_weaker (λ entry. IsEntry s entry × IsCanonicalFor s (numbered s (ends_from s 0 (take k xs))) entry) (take k xs) xs k
+        (λ entry next. (next.is, next.canonical)) (h.each k lt);
+    whole = h.ends;
+  }

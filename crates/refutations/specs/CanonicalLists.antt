@@ -45,15 +45,12 @@ pub record IsCanonicalFor (situation : Situation) (plan : List ℕ) (entry : Why
       → ¬ IsGood situation other
   pub first : IsFirstGood situation entry
 
--- Each entry is an entry of the situation, and the canonical one of the least plan that no entry before it covers.
-pub record IsCanonicalUpTo (situation : Situation) (entries : List WhyEntry) (end : ℕ) : Type 0 where
+-- While some plan is not covered by the entries before it, each entry is the canonical one of the least such plan; together they cover all plans.
+pub record IsCanonical (situation : Situation) (entries : List WhyEntry) : Type 0 where
+  pub uncovered : (k : ℕ) → k < length entries → ends_from situation 0 (take k entries) < plans_of situation.lattice
   pub each : (k : ℕ) → k < length entries → IsSomeAnd (slice_get entries k)
       (λ entry. IsEntry situation entry × IsCanonicalFor situation (numbered situation (ends_from situation 0 (take k entries))) entry)
-  pub ends : ends_from situation 0 entries ≡ end
-
--- together they cover all plans
-abbrev pub IsCanonical : Situation → List WhyEntry → Type 0
-IsCanonical situation entries = IsCanonicalUpTo situation entries (plans_of situation.lattice)
+  pub whole : ends_from situation 0 entries ≡ plans_of situation.lattice
 
 -- Some plan does not fail.
 pub record SomePlanPasses (situation : Situation) : Type 0 where

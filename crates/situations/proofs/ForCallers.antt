@@ -7,3 +7,4 @@ pub use Rattle.situations.proofs.Entries.{entry_enters}
 pub use Rattle.situations.proofs.FirstReasons.{and_weaker, breaks_at, broken_at, broken_there, entry_reason, rule_reason, through}
 pub use Rattle.situations.proofs.Agreeing.{breaks_at_too, enters_at_too, entries_agree, failing_reason, rule_breaks_too, rules_agree}
 pub use Rattle.situations.proofs.Blocks.{all_so_far, first_plan_begins, first_plan_numbered, least_of, one_block, plan_in_block, prefix_lasts, reached_end, same_front, shared, small_place, some_plan, told_within}
+pub use Rattle.situations.proofs.Situated.{situation_in_order}

@@ -26,12 +26,13 @@ use Rattle.scenario.specs.declared.values.Scenario.{Scenario}
 use Rattle.tracks.specs.AcceptedReports.{JudgingNumbers}
 use Rattle.tracks.specs.VesselsHeld.{Sent, legs_of}
 use Rattle.situations.specs.NearVessels.{point_now}
-use Rattle.situations.specs.PlanSituations.{past_of, target_of}
+use Rattle.situations.specs.PlanSituations.{past_of, situation_of, target_of, targets_near, vessels_near}
 use Rattle.situations.specs.Inner.Facts.{IsFresh, IsKnownBelow, IsSized, IsTargetOver, told_at}
 use Rattle.situations.specs.declared.near.Near.{Near}
 use Rattle.situations.proofs.TickLists.{sighting_made}
 use Rattle.situations.proofs.Moving.{known_from}
-use Rattle.situations.proofs.Nearness.{IsBefore}
+use Rattle.situations.specs.declared.readiness.Ready.{Ready}
+use Rattle.situations.proofs.Nearness.{IsBefore, near_in_order, others_in_order}
 use Rattle.situations.proofs.Tracking.{heads, placed}
 
 -- ---- own ship's states
@@ -96,6 +97,13 @@ pub in_order : (numbers : JudgingNumbers) (messages : List Sent) (scenario : Sce
 in_order numbers messages scenario own near targets h is =
     subst (AllPairs (λ (a b : Target). a.mmsi < b.mmsi)) (sym is)
     (targets_in_order (target_of numbers messages scenario.window own) near (number_of_target numbers messages scenario own) h)
+
+-- The targets of a situation are in the order of their MMSIs.
+pub situation_in_order : (numbers : JudgingNumbers) (messages : List Sent) (scenario : Scenario) (own : OwnPart) (ready : Ready)
+    → AllPairs (λ (a b : Target). a.mmsi < b.mmsi) (situation_of numbers messages scenario own ready).targets
+unfolding situation_of vessels_near
+situation_in_order numbers messages scenario own ready =
+    in_order numbers messages scenario own (targets_near numbers messages scenario own ready) _ (others_in_order own.mmsi _ (near_in_order numbers messages _ _ _)) refl
 
 -- ---- the situation
 

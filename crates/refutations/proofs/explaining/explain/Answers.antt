@@ -1,7 +1,7 @@
 use Rattle.std.proofs.Common.{ℕ, ◌≡◌, ◌∙◌, ◌*◌, ◌-◌, ◌^◌, arith, ap, subst}
 use Rattle.lattice.specs.Grids.{choices_of, plans_of}
 use Rattle.refutations.specs.Inner.Walks.{first_extension, IsWalkedTo}
-use Rattle.refutations.proofs.Walking.{walked_entries, walked_right}
+use Rattle.refutations.proofs.Walking.{walked_canonical, walked_entries, walked_right}
 use Rattle.refutations.proofs.explaining.explain.Goals as goal
 
 walked : (c : goal.Then-branch) → IsWalkedTo c.args.situation.now c.explore.new.list.items (plans_of c.args.situation.now.lattice)
@@ -22,3 +22,6 @@ returns-then-branch-clause-none c =
 
 pub returns-then-branch-clause-entries : goal.returns-then-branch-clause-entries
 returns-then-branch-clause-entries c = walked_entries c.args.situation.now c.explore.new.list.items (plans_of c.args.situation.now.lattice) (walked c)
+
+pub returns-then-branch-clause-list : goal.returns-then-branch-clause-list
+returns-then-branch-clause-list c = walked_canonical c.args.situation.now c.requires.some_choice c.explore.new.list.items (walked c)

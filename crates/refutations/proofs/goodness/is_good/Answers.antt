@@ -1,12 +1,12 @@
-use Rattle.std.proofs.Common.{◌≡◌, ◌∙◌, ◌<◌, ℕ, List, Bool, length, take, get_or, ap, sym, subst}
-use Rattle.std.specs.Prelude.{IsTrue, AllPairs, ◌↔◌}
+use Rattle.std.proofs.Common.{◌≡◌, ◌∙◌, ◌<◌, ℕ, List, length, take, get_or, ap, subst}
+use Rattle.std.specs.Prelude.{IsTrue, ◌↔◌}
 use Rattle.std.proofs.lemmas.Result.{IfOk-weaker}
 use Rattle.situations.specs.Prefixes.{reached}
 use Rattle.situations.specs.declared.situation.Target.{Target}
 use Rattle.situations.proofs.ForCallers.{through}
 use Rattle.refutations.specs.GoodEntries.{Holds, HoldsFor}
 use Rattle.refutations.proofs.BrokenRules.{back}
-use Rattle.refutations.proofs.FoundTargets.{no_target, only_target}
+use Rattle.refutations.proofs.FoundTargets.{only_target}
 use Rattle.refutations.proofs.goodness.is_good.Goals as goal
 
 pub returns-in-Some : goal.returns-in-Some
