@@ -14,7 +14,7 @@ use Rattle.sessions.specs.Refusals.{IsStopped, IsUnrefused}
 use Rattle.sessions.specs.SettledText.{IsSettledText}
 use Rattle.sessions.specs.declared.session_fault.SessionFault.{SessionFault}
 use Rattle.sessions.specs.declared.session_fault.SessionFault.TheVariants as why
-use Rattle.colregs_program.specs.AskedScenarios.{log_of}
+use Rattle.colregs_program.specs.AskedScenarios.{log_of, task_of}
 use Rattle.colregs_program.specs.Answers.{EndsWith, IsReadBy, StopsWith}
 use Rattle.colregs_program.specs.LogAnswers.{GainsFront, GainsPart, GainsSettled, IsAnswered, IsStoppedBy, answer_of}
 use Rattle.colregs_program.specs.Inner.Streaming.{Ends, LogCount, ReportCause, Stops, StreamCause}
@@ -64,11 +64,11 @@ module _ (request : Request) (scenario : Scenario) (given log contents contents'
 -- ---- a log that is read
 
 pub cause_of_read : (request : Request) (scenario : Scenario) (left left' contents contents' : Option (List ℕ)) (because : StreamFault) → IsTrue (reads_log request.mode)
-    → StreamCause request.mode scenario left left' contents contents' because → ReportCause request scenario left left' contents contents' because
+    → StreamCause (task_of request) scenario left left' contents contents' because → ReportCause request scenario left left' contents contents' because
 cause_of_read request scenario left left' contents contents' fault.NotRead reads cause = (reads, cause)
 cause_of_read request scenario left left' contents contents' fault.NotWritten reads (inl part) = inl (reads, part)
 cause_of_read request scenario left left' contents contents' fault.NotWritten reads (inr end) =
-    let part = of_log request scenario left left contents contents' (log_read request scenario left reads) (λ log. GainsPart request.mode scenario log contents contents') end.1 in
+    let part = of_log request scenario left left contents contents' (log_read request scenario left reads) (λ log. GainsPart (task_of request) scenario log contents contents') end.1 in
     inr ((λ r. end.0), part)
 cause_of_read request scenario left left' contents contents' (fault.Unreported why.Vessels) reads (inl stops) =
     inl (stops_with request scenario left left contents contents' (log_read request scenario left reads) why.Vessels stops)
@@ -105,12 +105,12 @@ module _ (request : Request) (scenario : Scenario) (given : Option (List ℕ)) (
   unread left reads = cc (reads, makes)
 
   pub cause_of_made : (given' left' contents contents' : Option (List ℕ)) (because : StreamFault) → (because ≡ fault.NotRead → ⊥)
-      → StreamCause request.mode scenario (Some made) left' contents contents' because → ReportCause request scenario given given' contents contents' because
+      → StreamCause (task_of request) scenario (Some made) left' contents contents' because → ReportCause request scenario given given' contents contents' because
   cause_of_made given' left' contents contents' fault.NotRead read cause = absurd (read refl)
   cause_of_made given' left' contents contents' fault.NotWritten read (inl part) =
       absurd (nothing_in_part contents contents' part.text (nothing_settled request.mode scenario part.front part.text (drills request.mode makes is) part.settled) part.part)
   cause_of_made given' left' contents contents' fault.NotWritten read (inr end) =
-      inr (unread given', of_log request scenario given (Some made) contents contents' log_is (λ log. GainsPart request.mode scenario log contents contents') end.1)
+      inr (unread given', of_log request scenario given (Some made) contents contents' log_is (λ log. GainsPart (task_of request) scenario log contents contents') end.1)
   cause_of_made given' left' contents contents' (fault.Unreported why.Vessels) read (inl stops) =
       inl (stops_with request scenario given (Some made) contents contents' log_is why.Vessels stops)
   cause_of_made given' left' contents contents' (fault.Unreported why.Vessels) read (inr ends) =
@@ -136,7 +136,7 @@ not_read (fault.Unreported because) count is = cc is
 
 pub made_cause : (request : Request) (scenario : Scenario) (given : Option (List ℕ)) (makes : reads_log request.mode ≡ false) (is : IsTrue (reports request.mode)) (made : List ℕ)
     → made ≡ drill_log_of scenario request.options.seed → (given' left' contents contents' : Option (List ℕ)) (r : Result Bool StreamFault)
-    → IfErr r (StreamCause request.mode scenario (Some made) left' contents contents') → MatchResult r (λ _. zero ≡ zero) (LogCount 0 0)
+    → IfErr r (StreamCause (task_of request) scenario (Some made) left' contents contents') → MatchResult r (λ _. zero ≡ zero) (LogCount 0 0)
     → IfErr r (ReportCause request scenario given given' contents contents')
 made_cause request scenario given makes is made same given' left' contents contents' (Ok none) cause count = tt
 made_cause request scenario given makes is made same given' left' contents contents' (Err because) cause count =

@@ -283,31 +283,31 @@ module _ (scenario : Scenario) (seed : ℕ) (in_range : IsWindow scenario.window
       → IsTrue (is_of_drill (fault.Unreported because))
   ended_so because left' contents contents' ends = drill_only because (Err because) refl (drill_comes_to (Err because) (inr (ends.ends.0, ends.ends.1)))
 
-  drill_cause : (left' contents contents' : Option (List ℕ)) (because : StreamFault) → (because ≡ fault.NotRead → ⊥) → StreamCause mode.Drill scenario (Some made) left' contents contents' because
+  drill_cause : (asked : Bool) (left' contents contents' : Option (List ℕ)) (because : StreamFault) → (because ≡ fault.NotRead → ⊥) → StreamCause (record { mode = mode.Drill; why = asked }) scenario (Some made) left' contents contents' because
       → IsTrue (is_of_drill because)
-  drill_cause left' contents contents' fault.NotRead read cause = absurd (read refl)
-  drill_cause left' contents contents' fault.NotWritten read cause = refl
-  drill_cause left' contents contents' (fault.Unreported why.Vessels) read (inl stops) = stopped_so why.Vessels contents contents' stops
-  drill_cause left' contents contents' (fault.Unreported why.Vessels) read (inr ends) = ended_so why.Vessels left' contents contents' ends
-  drill_cause left' contents contents' (fault.Unreported why.Pairs) read (inl stops) = stopped_so why.Pairs contents contents' stops
-  drill_cause left' contents contents' (fault.Unreported why.Pairs) read (inr ends) = ended_so why.Pairs left' contents contents' ends
-  drill_cause left' contents contents' (fault.Unreported why.LogBytes) read cause = refl
-  drill_cause left' contents contents' (fault.Unreported (why.Own lack)) read cause = ended_so (why.Own lack) left' contents contents' cause.0
-  drill_cause left' contents contents' (fault.Unreported why.Targets) read cause = ended_so why.Targets left' contents contents' cause.0
-  drill_cause left' contents contents' (fault.Unreported why.Memory) read cause = refl
+  drill_cause asked left' contents contents' fault.NotRead read cause = absurd (read refl)
+  drill_cause asked left' contents contents' fault.NotWritten read cause = refl
+  drill_cause asked left' contents contents' (fault.Unreported why.Vessels) read (inl stops) = stopped_so why.Vessels contents contents' stops
+  drill_cause asked left' contents contents' (fault.Unreported why.Vessels) read (inr ends) = ended_so why.Vessels left' contents contents' ends
+  drill_cause asked left' contents contents' (fault.Unreported why.Pairs) read (inl stops) = stopped_so why.Pairs contents contents' stops
+  drill_cause asked left' contents contents' (fault.Unreported why.Pairs) read (inr ends) = ended_so why.Pairs left' contents contents' ends
+  drill_cause asked left' contents contents' (fault.Unreported why.LogBytes) read cause = refl
+  drill_cause asked left' contents contents' (fault.Unreported (why.Own lack)) read cause = ended_so (why.Own lack) left' contents contents' cause.0
+  drill_cause asked left' contents contents' (fault.Unreported why.Targets) read cause = ended_so why.Targets left' contents contents' cause.0
+  drill_cause asked left' contents contents' (fault.Unreported why.Memory) read cause = refl
 
-  pub drill_faults : (m : Mode) → m ≡ mode.Drill → (left' contents contents' : Option (List ℕ)) (because : StreamFault) → (because ≡ fault.NotRead → ⊥)
-      → StreamCause m scenario (Some made) left' contents contents' because → IsTrue (is_of_drill because)
-  drill_faults m is left' contents contents' because read cause =
-      drill_cause left' contents contents' because read (subst (λ (n : Mode). StreamCause n scenario (Some made) left' contents contents' because) is cause)
+  pub drill_faults : (m : Mode) → m ≡ mode.Drill → (asked : Bool) (left' contents contents' : Option (List ℕ)) (because : StreamFault) → (because ≡ fault.NotRead → ⊥)
+      → StreamCause (record { mode = m; why = asked }) scenario (Some made) left' contents contents' because → IsTrue (is_of_drill because)
+  drill_faults m is asked left' contents contents' because read cause =
+      drill_cause asked left' contents contents' because read (subst (λ (n : Mode). StreamCause (record { mode = n; why = asked }) scenario (Some made) left' contents contents' because) is cause)
 
-  pub drill_reports : (m : Mode) → m ≡ mode.Drill → (none : Bool) (contents contents' : Option (List ℕ)) → Reports m scenario made none contents contents' → none ≡ false
-  drill_reports m is none contents contents' reports =
+  pub drill_reports : (m : Mode) → m ≡ mode.Drill → (asked none : Bool) (contents contents' : Option (List ℕ)) → Reports (record { mode = m; why = asked }) scenario made none contents contents' → none ≡ false
+  drill_reports m is asked none contents contents' reports =
       elim (drill_comes_to (Ok none) (subst (λ (n : Mode). IsMet n scenario made (Ok none)) is reports.met)) [ inl same ↦ cc same | inr same ↦ cc same ]
 
-  pub drill_result : (m : Mode) → reads_log m ≡ false → IsTrue (reports m) → (left' contents contents' : Option (List ℕ)) (r : Result Bool StreamFault)
-      → IfOk r (λ none. IfSome (Some made) (λ bytes. Reports m scenario bytes none contents contents')) → IfErr r (StreamCause m scenario (Some made) left' contents contents')
+  pub drill_result : (m : Mode) → reads_log m ≡ false → IsTrue (reports m) → (asked : Bool) (left' contents contents' : Option (List ℕ)) (r : Result Bool StreamFault)
+      → IfOk r (λ none. IfSome (Some made) (λ bytes. Reports (record { mode = m; why = asked }) scenario bytes none contents contents')) → IfErr r (StreamCause (record { mode = m; why = asked }) scenario (Some made) left' contents contents')
       → MatchResult r (λ _. zero ≡ zero) (LogCount 0 0) → MatchResult r (λ none. none ≡ false) (λ because. IsTrue (is_of_drill because))
-  drill_result m makes is left' contents contents' (Ok none) reported cause count = drill_reports m (drills m makes is) none contents contents' reported
-  drill_result m makes is left' contents contents' (Err because) reported cause count =
-      drill_faults m (drills m makes is) left' contents contents' because (not_read because count) cause
+  drill_result m makes is asked left' contents contents' (Ok none) reported cause count = drill_reports m (drills m makes is) asked none contents contents' reported
+  drill_result m makes is asked left' contents contents' (Err because) reported cause count =
+      drill_faults m (drills m makes is) asked left' contents contents' because (not_read because count) cause

@@ -1,5 +1,5 @@
 -- The report on a log without an inert line: the same but for one count.
-use Rattle.std.proofs.Common.{◌≡◌, ℕ, ◌+◌, ◌-◌, ◌<◌, ◌==◌, Bool, true, false, cond, List, ◌∷◌, ◌++◌, count_by, Ok, refl, ap, sym, subst, ◌∙◌, arith, append_assoc, if◌then◌else◌}
+use Rattle.std.proofs.Common.{◌≡◌, ℕ, ◌+◌, ◌-◌, ◌<◌, ◌==◌, Bool, true, false, cond, List, [], ◌∷◌, ◌++◌, count_by, Ok, refl, ap, sym, subst, ◌∙◌, arith, append_assoc, append-nil, if◌then◌else◌}
 use Rattle.std.proofs.lemmas.Bool.Decides.{nat_tests}
 use Rattle.std.proofs.lemmas.Grind.{flat_map-append}
 use Rattle.std.proofs.lemmas.List.Sums.{sum_by-append, sum_by-cons}
@@ -21,9 +21,9 @@ use Rattle.situations.specs.PlanSituations.{own_readiness, situation_of, vessels
 use Rattle.scenario.specs.declared.values.Scenario.{Scenario}
 use Rattle.sessions.specs.AuditReport.{IsAuditReport, rows_behind, sightings_of, stretch_rows, total_rows, vessel_rows}
 use Rattle.sessions.specs.DrillReport.{IsDrillReport, drill_text}
-use Rattle.sessions.specs.Endings.{IsEnding}
+use Rattle.sessions.specs.Endings.{IsReport}
 use Rattle.sessions.specs.OutcomeRows.{count_rows}
-use Rattle.sessions.specs.PlanReport.{IsManoeuvre, IsPlanReport, manoeuvre_rows, log_messages, near_rows, plan_text}
+use Rattle.sessions.specs.PlanReport.{AreReasons, IsManoeuvre, IsPlanReport, manoeuvre_rows, log_messages, near_rows, plan_text}
 use Rattle.sessions.specs.PointsReport.{point_rows, points_report, rows_of_line}
 use Rattle.settled_ticks.specs.Sightings.{sighted}
 use Rattle.settling.specs.ScenarioAudit.{audit_numbers}
@@ -87,17 +87,24 @@ module _ (scenario : Scenario) (log less : List ℕ) (front : List (List ℕ)) (
   points_same = ap point_rows with_line ∙ flat_map-append rows_of_line before (judged.Without (line_outcome cause) ∷ after)
       ∙ sym (flat_map-append rows_of_line before after) ∙ ap point_rows (sym without_line)
 
-  -- Rows that are the same, and the counts behind them.
-  one_count : (rows text other : List ℕ) → text ≡ rows ++ count_rows (judged_lines scenario (lines_of log))
-      → other ≡ rows ++ count_rows (judged_lines scenario (lines_of less)) → HasOneFewer (line_outcome cause) text other
-  one_count rows text other is is_other = record {
+  -- Rows that are the same, the counts behind them, and reasons that are the same.
+  one_count_among : (rows reasons text other : List ℕ) → text ≡ rows ++ count_rows (judged_lines scenario (lines_of log)) ++ reasons
+      → other ≡ rows ++ count_rows (judged_lines scenario (lines_of less)) ++ reasons → HasOneFewer (line_outcome cause) text other
+  one_count_among rows reasons text other is is_other = record {
     rows = rows;
     count = λ o. count_of o (before ++ judged.Without (line_outcome cause) ∷ after);
+    reasons = reasons;
     some = counts_some (line_outcome cause) before after;
-    is = is ∙ ap (λ lines. rows ++ count_rows lines) with_line;
-    is_other = is_other ∙ ap (λ lines. rows ++ count_rows lines) without_line
-        ∙ ap (λ count. rows ++ rows_of_counts count) (sym (counts_fewer (line_outcome cause) before after));
+    is = is ∙ ap (λ lines. rows ++ count_rows lines ++ reasons) with_line;
+    is_other = is_other ∙ ap (λ lines. rows ++ count_rows lines ++ reasons) without_line
+        ∙ ap (λ count. rows ++ rows_of_counts count ++ reasons) (sym (counts_fewer (line_outcome cause) before after));
   }
+
+  one_count : (rows text other : List ℕ) → text ≡ rows ++ count_rows (judged_lines scenario (lines_of log))
+      → other ≡ rows ++ count_rows (judged_lines scenario (lines_of less)) → HasOneFewer (line_outcome cause) text other
+  one_count rows text other is is_other =
+      one_count_among rows [] text other (is ∙ sym (append-nil (rows ++ count_rows (judged_lines scenario (lines_of log)))))
+      (is_other ∙ sym (append-nil (rows ++ count_rows (judged_lines scenario (lines_of less)))))
 
   of_points : (text : List ℕ) → text ≡ points_report scenario log → (other : List ℕ) × (other ≡ points_report scenario less) × HasOneFewer (line_outcome cause) text other
   unfolding points_report
@@ -144,16 +151,16 @@ module _ (scenario : Scenario) (log less : List ℕ) (front : List (List ℕ)) (
     one_count (total_rows scenario.rules report.totals) text (drill_text scenario less report.totals) report.is refl,
   )
 
-  of_plan : (text : List ℕ) → IsPlanReport scenario log text
-      → (other : List ℕ) × IsPlanReport scenario less other × HasOneFewer (line_outcome cause) text other
+  of_plan : (why : Bool) (text : List ℕ) → IsPlanReport why scenario log text
+      → (other : List ℕ) × IsPlanReport why scenario less other × HasOneFewer (line_outcome cause) text other
   unfolding plan_text
-  of_plan text report =
+  of_plan why text report =
       let own = report.own in
       let ready = report.ready in
       let numbers = numbers_of scenario in
       let rows : List Sent → List ℕ = λ messages. near_rows numbers messages (vessels_near numbers messages scenario own ready)
       ++ manoeuvre_rows scenario.window.ticks own.lattice ready report.manoeuvre in (
-        plan_text scenario less own ready report.manoeuvre,
+        plan_text scenario less own ready report.manoeuvre ++ report.reasons,
         record {
           own = own;
           ready = ready;
@@ -163,16 +170,18 @@ module _ (scenario : Scenario) (log less : List ℕ) (front : List (List ℕ)) (
           };
           manoeuvre = report.manoeuvre;
           is_first = subst (λ (messages : List Sent). IsManoeuvre (situation_of numbers messages scenario own ready) report.manoeuvre) messages_same report.is_first;
+          reasons = report.reasons;
+          are_reasons = subst (λ (messages : List Sent). AreReasons why (situation_of numbers messages scenario own ready) report.manoeuvre report.reasons) messages_same report.are_reasons;
           is = refl;
         },
-        one_count (rows (log_messages scenario less)) text (plan_text scenario less own ready report.manoeuvre)
-            (report.is ∙ ap (λ messages. rows messages ++ count_rows (judged_lines scenario (lines_of log))) messages_same) refl,
+        one_count_among (rows (log_messages scenario less)) report.reasons text (plan_text scenario less own ready report.manoeuvre ++ report.reasons)
+            (report.is ∙ ap (λ messages. rows messages ++ count_rows (judged_lines scenario (lines_of log)) ++ report.reasons) messages_same) refl,
       )
 
-  pub of_mode : (m : Mode) (text : List ℕ) → IsEnding m scenario log text
-      → (other : List ℕ) × IsEnding m scenario less other × HasOneFewer (line_outcome cause) text other
-  of_mode mode.Points text report = of_points text report
-  of_mode mode.Audit text report = of_audit text report
-  of_mode mode.Plan text report = of_plan text report
-  of_mode mode.Drill text report = of_drill text report
-  of_mode mode.Migrate text report = absurd report
+  pub of_mode : (m : Mode) (why : Bool) (text : List ℕ) → IsReport m why scenario log text
+      → (other : List ℕ) × IsReport m why scenario less other × HasOneFewer (line_outcome cause) text other
+  of_mode mode.Points why text report = of_points text report
+  of_mode mode.Audit why text report = of_audit text report
+  of_mode mode.Plan why text report = of_plan why text report
+  of_mode mode.Drill why text report = of_drill text report
+  of_mode mode.Migrate why text report = absurd report

@@ -1,5 +1,5 @@
 -- Why a migration is refused is what the bytes under the name call for.
-use Rattle.std.proofs.Common.{ℕ, ◌≡◌, ◌≤◌, ◌<◌, ◌⊎◌, inl, inr, length, Option, None, Some, Result, Ok, Err, Vec, refl, ap, sym, subst, arith}
+use Rattle.std.proofs.Common.{ℕ, ◌≡◌, ◌<◌, ◌⊎◌, inl, inr, length, Option, None, Some, Result, Ok, Err, Vec, refl, ap, sym, subst, arith}
 use Rattle.std.specs.declared.alloc.Global.{Global}
 use Rattle.outside.specs.Shelves.{Fetches, Files}
 use Rattle.outside.specs.declared.shelf.Fetched.TheVariants as fetched
@@ -17,7 +17,6 @@ use Rattle.colregs_program.specs.Inner.SetUps.{SetUpCause, answer_of, set_up_fau
 use Rattle.colregs_program.specs.declared.set_up.SetUpFault.TheVariants as fault
 use Rattle.colregs_program.specs.declared.status.Status.{Status}
 use Rattle.colregs_program.specs.declared.status.Status.TheVariants as status
-use Rattle.colregs_program.specs.declared.status.Which.TheVariants as which
 use Rattle.colregs_program.proofs.SettingUp.{of_found}
 
 -- A migration that failed answers what is due, or found no memory.

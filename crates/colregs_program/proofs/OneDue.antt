@@ -3,9 +3,7 @@ use Rattle.std.proofs.lemmas.Bool.{cases_lt}
 use Rattle.std.proofs.Common.{ℕ, ◌≡◌, ◌≤◌, ◌<◌, ◌⊎◌, ◌∙◌, inl, inr, Bool, true, false, IsTrue, List, length, Option, None, Some, Result, Ok, Err, refl, ap, sym, subst, arith}
 use Rattle.outside.specs.Shelves.{Files, IsMissing, content_of}
 use Rattle.command_line.specs.Requests.{AskFor, AskForNothing}
-use Rattle.command_line.specs.declared.mode.Mode.{Mode}
 use Rattle.command_line.specs.declared.request.Request.{Request}
-use Rattle.scenario.specs.Migration.{IsNotMigrated}
 use Rattle.scenario.specs.ScenarioReading.{IsRefused, Means}
 use Rattle.scenario.specs.declared.values.Scenario.{Scenario}
 use Rattle.scenario.proofs.ForCallers.{has_one_reading, meant_or_refused, one_meaning, one_reason, one_refusal}

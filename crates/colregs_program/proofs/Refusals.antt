@@ -20,7 +20,7 @@ use Rattle.command_line.specs.declared.mode.Mode.{Mode}
 use Rattle.command_line.specs.declared.mode.Mode.TheVariants as mode
 use Rattle.command_line.specs.declared.request.Request.{Request}
 use Rattle.command_line.proofs.Asked.{one_asked}
-use Rattle.colregs_program.specs.AskedScenarios.{log_of}
+use Rattle.colregs_program.specs.AskedScenarios.{log_of, task_of}
 use Rattle.colregs_program.specs.FaultLines.{is_made}
 use Rattle.colregs_program.specs.Inner.SetUps as set_up
 use Rattle.colregs_program.specs.Inner.Streaming.{LogCount, OutCount, ReportCause, is_of_drill, stream_status}
@@ -210,15 +210,15 @@ module _ (request : Request) (scenario : Scenario) (left left' contents contents
 
   -- ---- a report
 
-  pub reported_met : (none : Bool) → IfSome (log_of request scenario left) (λ bytes. Reports request.mode scenario bytes none contents contents') → MetIn request scenario left (finished none)
+  pub reported_met : (none : Bool) → IfSome (log_of request scenario left) (λ bytes. Reports (task_of request) scenario bytes none contents contents') → MetIn request scenario left (finished none)
   reported_met none reports =
-      if_some (λ bytes. Reports request.mode scenario bytes none contents contents') (λ bytes. IsAnswered request.mode scenario bytes (finished none)) (log_of request scenario left)
+      if_some (λ bytes. Reports (task_of request) scenario bytes none contents contents') (λ bytes. IsAnswered request.mode scenario bytes (finished none)) (log_of request scenario left)
       (λ bytes reported. record { came = Ok none; met = reported.met; is = refl }) reports
 
-  pub reported_so : (none : Bool) (answer : Status) → answer ≡ finished none → IfSome (log_of request scenario left) (λ bytes. Reports request.mode scenario bytes none contents contents')
-      → IfSome (log_of request scenario left) (λ bytes. IsAnswered request.mode scenario bytes answer × GainsReport request.mode scenario bytes contents contents')
+  pub reported_so : (none : Bool) (answer : Status) → answer ≡ finished none → IfSome (log_of request scenario left) (λ bytes. Reports (task_of request) scenario bytes none contents contents')
+      → IfSome (log_of request scenario left) (λ bytes. IsAnswered request.mode scenario bytes answer × GainsReport (task_of request) scenario bytes contents contents')
   reported_so none answer is reports =
-      if_some (λ bytes. Reports request.mode scenario bytes none contents contents') (λ bytes. IsAnswered request.mode scenario bytes answer × GainsReport request.mode scenario bytes contents contents')
+      if_some (λ bytes. Reports (task_of request) scenario bytes none contents contents') (λ bytes. IsAnswered request.mode scenario bytes answer × GainsReport (task_of request) scenario bytes contents contents')
       (log_of request scenario left) (λ bytes reported. (record { came = Ok none; met = reported.met; is = is }, reported.gains)) reports
 
   -- ---- what is told of a log

@@ -5,7 +5,6 @@ use Rattle.std.specs.Io.KnownBytes.{Appends, Consumes, IsAtEnd, Keeps}
 use Rattle.std.proofs.KnownBytes.{Appends-nil, Appends-trans, Consumes-trans}
 use Rattle.std.proofs.Math.Seq.{take-append-add}
 use Rattle.std.proofs.lemmas.List.{take-append-drop}
-use Rattle.log_lines.specs.GrowingLog.{ended_lines}
 use Rattle.outside.specs.Streams.{AppendsPart}
 use Rattle.scenario.specs.declared.values.Scenario.{Scenario}
 use Rattle.command_line.specs.declared.mode.Mode.{Mode}
@@ -178,14 +177,14 @@ whole_at_end (Some log) (Some rest) fed P taken end holds =
     let whole : log ≡ fed = taken ∙ ap (λ (l : List ℕ). fed ++ l) end ∙ append-nil fed in
     subst P (sym whole) holds
 
-module _ (session : Session) (first left contents now : Option (List ℕ)) (end : IsAtEnd left) (has : HasWritten session first left contents now) where
+module _ (session : Session) (asked : Bool) (first left contents now : Option (List ℕ)) (end : IsAtEnd left) (has : HasWritten session first left contents now) where
   pub report_written : (now' : Option (List ℕ)) (rest : List ℕ) (none : Bool)
-      → ((fed given : List ℕ) → StandsFor session fed given → IsEnding (mode_of session) (session_scenario session) fed (given ++ rest))
+      → ((fed given : List ℕ) → StandsFor session fed given → IsEnding (record { mode = mode_of session; why = asked }) (session_scenario session) fed (given ++ rest))
       → ((fed given : List ℕ) → StandsFor session fed given → IsAnswerTo (mode_of session) (session_scenario session) fed (Ok none))
       → Appends now now' rest
-      → IfSome first (λ log. Reports (mode_of session) (session_scenario session) log none contents now')
+      → IfSome first (λ log. Reports (record { mode = mode_of session; why = asked }) (session_scenario session) log none contents now')
   report_written now' rest none ending answer put =
-      whole_at_end first left has.fed (λ log. Reports (mode_of session) (session_scenario session) log none contents now') has.taken end (record {
+      whole_at_end first left has.fed (λ log. Reports (record { mode = mode_of session; why = asked }) (session_scenario session) log none contents now') has.taken end (record {
         met = inr (has.stands.unrefused, answer has.fed has.given has.stands);
         gains = record {
           text = has.given ++ rest;
@@ -195,11 +194,11 @@ module _ (session : Session) (first left contents now : Option (List ℕ)) (end 
       })
 
   pub report_part : (now' : Option (List ℕ)) (rest : List ℕ) (none : Bool)
-      → ((fed given : List ℕ) → StandsFor session fed given → IsEnding (mode_of session) (session_scenario session) fed (given ++ rest))
+      → ((fed given : List ℕ) → StandsFor session fed given → IsEnding (record { mode = mode_of session; why = asked }) (session_scenario session) fed (given ++ rest))
       → ((fed given : List ℕ) → StandsFor session fed given → IsAnswerTo (mode_of session) (session_scenario session) fed (Ok none))
-      → AppendsPart now now' rest → IfSome first (λ log. GainsPart (mode_of session) (session_scenario session) log contents now')
+      → AppendsPart now now' rest → IfSome first (λ log. GainsPart (record { mode = mode_of session; why = asked }) (session_scenario session) log contents now')
   report_part now' rest none ending answer part =
-      whole_at_end first left has.fed (λ log. GainsPart (mode_of session) (session_scenario session) log contents now') has.taken end (record {
+      whole_at_end first left has.fed (λ log. GainsPart (record { mode = mode_of session; why = asked }) (session_scenario session) log contents now') has.taken end (record {
         none = none;
         met = inr (has.stands.unrefused, answer has.fed has.given has.stands);
         text = has.given ++ rest;
@@ -239,7 +238,7 @@ module _ (session : Session) (first left contents now : Option (List ℕ)) (end 
 
   pub end_cause : (because : SessionFault)
       → UnlessMemory because ((fed given : List ℕ) → StandsFor session fed given → IsAnswerTo (mode_of session) (session_scenario session) fed (Err because))
-      → StreamCause (mode_of session) (session_scenario session) first left contents now (fault.Unreported because)
+      → StreamCause (record { mode = mode_of session; why = asked }) (session_scenario session) first left contents now (fault.Unreported because)
   end_cause why.Vessels answer = inr (ended why.Vessels answer)
   end_cause why.Pairs answer = inr (ended why.Pairs answer)
   end_cause why.LogBytes answer = absurd (bytes_not_at_end (mode_of session) (session_scenario session) has.fed (answer has.fed has.given has.stands))
@@ -306,20 +305,20 @@ module _ (session : Session) (used : IsInUse session) (piece : List ℕ) (now no
 pub block_cause : (session : Session) (used : IsInUse session) (first left left' contents now now' : Option (List ℕ)) (piece : List ℕ) (because : StreamFault)
     → HasWritten session first left contents now → Consumes left left' piece
     → ((fed given : List ℕ) → StandsFor session fed given → length piece ≤ ((session_scenario session).log.max_bytes - length fed) + 1)
-    → PieceCause session piece now now' because → StreamCause (mode_of session) (session_scenario session) first left' contents now' because
-block_cause session used first left left' contents now now' piece fault.NotRead has taken few cause = absurd cause
-block_cause session used first left left' contents now now' piece fault.NotWritten has taken few cause = inl (cause first left left' contents has taken)
-block_cause session used first left left' contents now now' piece (fault.Unreported why.Vessels) has taken few cause = inl (cause first left left' contents has taken)
-block_cause session used first left left' contents now now' piece (fault.Unreported why.Pairs) has taken few cause = inl (cause first left left' contents has taken)
-block_cause session used first left left' contents now now' piece (fault.Unreported why.LogBytes) has taken few cause =
+    → PieceCause session piece now now' because → (asked : Bool) → StreamCause (record { mode = mode_of session; why = asked }) (session_scenario session) first left' contents now' because
+block_cause session used first left left' contents now now' piece fault.NotRead has taken few cause asked = absurd cause
+block_cause session used first left left' contents now now' piece fault.NotWritten has taken few cause asked = inl (cause first left left' contents has taken)
+block_cause session used first left left' contents now now' piece (fault.Unreported why.Vessels) has taken few cause asked = inl (cause first left left' contents has taken)
+block_cause session used first left left' contents now now' piece (fault.Unreported why.Pairs) has taken few cause asked = inl (cause first left left' contents has taken)
+block_cause session used first left left' contents now now' piece (fault.Unreported why.LogBytes) has taken few cause asked =
     let over = cause.1 has.fed has.given has.stands in
     let within = few has.fed has.given has.stands in
     let short = has.stands.unrefused.short in
     let long = length-append has.fed piece in
     (record { piece = has.fed ++ piece; long = omega (arith, over, within, short, long); taken = Consumes-trans first left left' has.fed piece has.taken taken }, cause.0 first left left' contents has taken)
-block_cause session used first left left' contents now now' piece (fault.Unreported (why.Own lack)) has taken few cause = absurd cause
-block_cause session used first left left' contents now now' piece (fault.Unreported why.Targets) has taken few cause = absurd cause
-block_cause session used first left left' contents now now' piece (fault.Unreported why.Memory) has taken few cause = cause first left left' contents has taken
+block_cause session used first left left' contents now now' piece (fault.Unreported (why.Own lack)) has taken few cause asked = absurd cause
+block_cause session used first left left' contents now now' piece (fault.Unreported why.Targets) has taken few cause asked = absurd cause
+block_cause session used first left left' contents now now' piece (fault.Unreported why.Memory) has taken few cause asked = cause first left left' contents has taken
 
 -- ---- before the first byte
 
@@ -343,17 +342,19 @@ for_itself m scenario none =
       | false ↦ λ unneeded. ap (λ (own : Option OwnPart). record scenario { own = own }) (sym (unneeded refl))
     ] none
 
-pub cause_by : (m m' : Mode) (scenario scenario' : Scenario) (left left' contents contents' : Option (List ℕ)) (because : StreamFault) → m ≡ m' → scenario ≡ scenario'
-    → StreamCause m scenario left left' contents contents' because → StreamCause m' scenario' left left' contents contents' because
-cause_by m m' scenario scenario' left left' contents contents' because same_mode same_scenario cause =
-    subst (λ (n : Mode). StreamCause n scenario' left left' contents contents' because) same_mode
-    (subst (λ (s : Scenario). StreamCause m s left left' contents contents' because) same_scenario cause)
+pub cause_by : (m m' : Mode) (asked : Bool) (scenario scenario' : Scenario) (left left' contents contents' : Option (List ℕ)) (because : StreamFault) → m ≡ m' → scenario ≡ scenario'
+    → StreamCause (record { mode = m; why = asked }) scenario left left' contents contents' because
+    → StreamCause (record { mode = m'; why = asked }) scenario' left left' contents contents' because
+cause_by m m' asked scenario scenario' left left' contents contents' because same_mode same_scenario cause =
+    subst (λ (n : Mode). StreamCause (record { mode = n; why = asked }) scenario' left left' contents contents' because) same_mode
+    (subst (λ (s : Scenario). StreamCause (record { mode = m; why = asked }) s left left' contents contents' because) same_scenario cause)
 
-pub reports_by : (m m' : Mode) (scenario scenario' : Scenario) (left contents contents' : Option (List ℕ)) (none : Bool) → m ≡ m' → scenario ≡ scenario'
-    → IfSome left (λ log. Reports m scenario log none contents contents') → IfSome left (λ log. Reports m' scenario' log none contents contents')
-reports_by m m' scenario scenario' left contents contents' none same_mode same_scenario reports =
-    subst (λ (n : Mode). IfSome left (λ log. Reports n scenario' log none contents contents')) same_mode
-    (subst (λ (s : Scenario). IfSome left (λ log. Reports m s log none contents contents')) same_scenario reports)
+pub reports_by : (m m' : Mode) (asked : Bool) (scenario scenario' : Scenario) (left contents contents' : Option (List ℕ)) (none : Bool) → m ≡ m' → scenario ≡ scenario'
+    → IfSome left (λ log. Reports (record { mode = m; why = asked }) scenario log none contents contents')
+    → IfSome left (λ log. Reports (record { mode = m'; why = asked }) scenario' log none contents contents')
+reports_by m m' asked scenario scenario' left contents contents' none same_mode same_scenario reports =
+    subst (λ (n : Mode). IfSome left (λ log. Reports (record { mode = n; why = asked }) scenario' log none contents contents')) same_mode
+    (subst (λ (s : Scenario). IfSome left (λ log. Reports (record { mode = m; why = asked }) s log none contents contents')) same_scenario reports)
 
 -- Nothing is read at the end.
 pub count_stays : {A : Type 0} (r : Result A StreamFault) (before now : ℕ) → now ≡ before → IfErr r (λ because. because ≢ fault.NotRead)

@@ -14,7 +14,7 @@ use Rattle.scenario_keys.specs.declared.cause.Cause.{Cause}
 use Rattle.scenario.specs.declared.values.Scenario.{Scenario}
 use Rattle.colregs_program.specs.LogAnswers.{GainsPart, IsAnswered, IsStoppedBy, GainsSettled, LeavesPart}
 use Rattle.colregs_program.specs.Stages.{is_at_end, is_before_log, is_in_log, stage_of}
-use Rattle.colregs_program.specs.AskedScenarios.{log_of, with_options}
+use Rattle.colregs_program.specs.AskedScenarios.{log_of, task_of, with_options}
 use Rattle.sessions.specs.Modes.{needs_own, reads_log, reports}
 use Rattle.traces.specs.declared.all_traces.TheConstants.{MOST_TRACES}
 use Rattle.situations.specs.PlanSituations.{greatest_targets}
@@ -90,7 +90,7 @@ pub record EndsWith (request : Request) (scenario : Scenario) (given left conten
 abbrev pub WritesPart : Request → Scenario → Option (List ℕ) → Option (List ℕ) → Option (List ℕ) → Option (List ℕ) → Type 0
 WritesPart request scenario given left contents contents' =
     (IsTrue (reads_log request.mode) × LeavesPart request.mode scenario given left contents contents')
-    ⊎ (IsReadBy request.mode left × IfSome (log_of request scenario given) (λ bytes. GainsPart request.mode scenario bytes contents contents'))
+    ⊎ (IsReadBy request.mode left × IfSome (log_of request scenario given) (λ bytes. GainsPart (task_of request) scenario bytes contents contents'))
 
 -- The words ask for a report on a log, the shelf tells a scenario under the request's name, and its log is told.
 pub record IsReady (words : List (List ℕ)) (files : Option Files) (given : Option (List ℕ))

@@ -24,7 +24,7 @@ pub record IsInert (scenario : Scenario) (before : List (List ℕ)) (line : List
   pub unstamped : stamp_of line ≡ None
   pub dropped : outcome_of (judged_line scenario before line) ≡ line_outcome cause
 
--- so many lines came to each outcome, as rows that end a report
+-- so many lines came to each outcome, as rows of a report
 abbrev pub rows_of_counts : (LineOutcome → ℕ) → List ℕ
 rows_of_counts count = flat_map (λ outcome. row_of (count_fields outcome (count outcome))) all_outcomes
 
@@ -32,10 +32,11 @@ rows_of_counts count = flat_map (λ outcome. row_of (count_fields outcome (count
 abbrev pub one_fewer : LineOutcome → (LineOutcome → ℕ) → LineOutcome → ℕ
 one_fewer fewer count outcome = if outcome_index fewer == outcome_index outcome then count outcome - 1 else count outcome
 
--- The second text is the first but for the count of an outcome, which is smaller by one.
+-- The second text is the first but for the count of an outcome, which is smaller by one. Behind the counts stands at most why every plan fails.
 pub record HasOneFewer (outcome : LineOutcome) (text other : List ℕ) : Type 0 where
   pub rows : List ℕ
   pub count : LineOutcome → ℕ
+  pub reasons : List ℕ
   pub some : 0 < count outcome
-  pub is : text ≡ rows ++ rows_of_counts count
-  pub is_other : other ≡ rows ++ rows_of_counts (one_fewer outcome count)
+  pub is : text ≡ rows ++ rows_of_counts count ++ reasons
+  pub is_other : other ≡ rows ++ rows_of_counts (one_fewer outcome count) ++ reasons

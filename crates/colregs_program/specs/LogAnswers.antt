@@ -10,6 +10,7 @@ use Rattle.sessions.specs.Endings.{Came, IsEnding}
 use Rattle.sessions.specs.Refusals.{IsMet, IsStopped, IsUnrefused}
 use Rattle.sessions.specs.SettledText.{IsSettledText}
 use Rattle.sessions.specs.declared.session_fault.SessionFault.{SessionFault}
+use Rattle.sessions.specs.declared.task.Task.{Task}
 use Rattle.sessions.specs.declared.session_fault.SessionFault.TheVariants as fault
 use Rattle.traces.specs.declared.all_traces.TheConstants.{MOST_TRACES}
 use Rattle.colregs_program.specs.Stages.{is_at_finish, stage_of}
@@ -49,9 +50,9 @@ pub record IsAnswered (mode : Mode) (scenario : Scenario) (log : List ℕ) (answ
 -- ---- what is left in the sink
 
 -- The sink gained the report on the log.
-pub record GainsReport (mode : Mode) (scenario : Scenario) (log : List ℕ) (contents contents' : Option (List ℕ)) : Type 0 where
+pub record GainsReport (task : Task) (scenario : Scenario) (log : List ℕ) (contents contents' : Option (List ℕ)) : Type 0 where
   pub text : List ℕ
-  pub is : IsEnding mode scenario log text
+  pub is : IsEnding task scenario log text
   pub gained : Appends contents contents' text
 
 -- No refusal is met in the bytes, and the sink gained what they settle.
@@ -93,14 +94,14 @@ pub record LeavesPart (mode : Mode) (scenario : Scenario) (left left' contents c
   pub part : AppendsPart contents contents' text
 
 -- The sink gained a proper front of the report on the log.
-pub record GainsPart (mode : Mode) (scenario : Scenario) (log : List ℕ) (contents contents' : Option (List ℕ)) : Type 0 where
+pub record GainsPart (task : Task) (scenario : Scenario) (log : List ℕ) (contents contents' : Option (List ℕ)) : Type 0 where
   pub none : Bool
-  pub met : IsMet mode scenario log (Ok none)
+  pub met : IsMet task.mode scenario log (Ok none)
   pub text : List ℕ
-  pub is : IsEnding mode scenario log text
+  pub is : IsEnding task scenario log text
   pub part : AppendsPart contents contents' text
 
 -- The log comes to a report, and the sink gained it.
-pub record Reports (mode : Mode) (scenario : Scenario) (log : List ℕ) (none : Bool) (contents contents' : Option (List ℕ)) : Type 0 where
-  pub met : IsMet mode scenario log (Ok none)
-  pub gains : GainsReport mode scenario log contents contents'
+pub record Reports (task : Task) (scenario : Scenario) (log : List ℕ) (none : Bool) (contents contents' : Option (List ℕ)) : Type 0 where
+  pub met : IsMet task.mode scenario log (Ok none)
+  pub gains : GainsReport task scenario log contents contents'

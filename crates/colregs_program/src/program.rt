@@ -13,7 +13,7 @@ ghost use Rattle.command_line.specs.declared.mode.Mode.TheVariants.{Drill, Migra
 ghost use Rattle.command_line.specs.declared.request.Request.{Request};
 ghost use Rattle.sessions.specs.Modes.{reads_log};
 ghost use Rattle.colregs_program.specs.Answers.{EndsWith, greatest_scenario, HoldsUnder, IsBeforeLog, IsDue, IsOfDrill, IsOfMigration, IsReadBy, IsRefusedBy, Migrates, Requested, Runs, StopsWith, TellsLimit, WritesNothing, WritesPart};
-ghost use Rattle.colregs_program.specs.AskedScenarios.{log_of};
+ghost use Rattle.colregs_program.specs.AskedScenarios.{log_of, task_of};
 ghost use Rattle.colregs_program.specs.FaultLines.{fault_line};
 ghost use Rattle.colregs_program.specs.LogAnswers.{GainsFront, GainsReport, IsAnswered, IsFinished, LeavesSettled};
 ghost use Rattle.colregs_program.specs.Told.{Gains};
@@ -59,7 +59,7 @@ pub fn run<H: Shelf, S: Source, K: Sink, E: Sink>(
     // A finished migration wrote the same scenario in version 2.
     ensures headline { IsTrue (IsFinished result) → Runs words.now (H.files shelf.old) (λ request. IsReadBy request.mode (S.left log.new))
         (λ request scenario. IfSome (log_of request scenario (S.left log.old)) (λ bytes. IsAnswered request.mode scenario bytes result
-        × GainsReport request.mode scenario bytes (K.contents out.old) (K.contents out.new)))
+        × GainsReport (task_of request) scenario bytes (K.contents out.old) (K.contents out.new)))
         ⊎ ((result ≡ Status.Done) × Migrates words.now (H.files shelf.old) (λ text. Appends (K.contents out.old) (K.contents out.new) text)) }
 
     // Completeness: the answer that words, shelf and log call for comes, where no call fails. Memory alone is free.

@@ -4,7 +4,7 @@ ghost use Rattle.std.specs.Io.KnownBytes.{Keeps};
 ghost use Rattle.scenario.specs.ScenarioValues.{IsInRange};
 ghost use Rattle.sessions.specs.Modes.{needs_own, reads_log, reports};
 ghost use Rattle.colregs_program.specs.Answers.{IsReadBy};
-ghost use Rattle.colregs_program.specs.AskedScenarios.{log_of};
+ghost use Rattle.colregs_program.specs.AskedScenarios.{log_of, task_of};
 ghost use Rattle.colregs_program.specs.LogAnswers.{Reports};
 ghost use Rattle.colregs_program.specs.Inner.Streaming.{LogCount, OutCount, ReportCause, is_of_drill};
 
@@ -14,7 +14,7 @@ use drill_log::drill_log;
 use log_lines::laws::ended_lines_stay;
 use outside::{PlainSource, Sink, Source};
 use scenario::Scenario;
-use sessions::reads_log;
+use sessions::{Task, reads_log};
 use std::alloc::Global;
 
 /// Writes the report that a request asks for. Tells whether it is one without a manoeuvre.
@@ -31,7 +31,7 @@ pub(crate) fn report_on<S: Source, K: Sink>(
     requires unneeded { needs_own request.now.mode ≡ false → scenario.own ≡ None }
     requires seed { request.now.options.seed ≤ 999999 }
     ensures report { IfOk result (λ none. IfSome (log_of request.now scenario (S.left log.old)) (λ bytes.
-        Reports request.now.mode scenario bytes none (K.contents out.old) (K.contents out.new))) }
+        Reports (task_of request.now) scenario bytes none (K.contents out.old) (K.contents out.new))) }
     ensures end { OnOk result (IsReadBy request.now.mode (S.left log.new)) }
     ensures untouched { reads_log request.now.mode ≡ false → Keeps (S.left log.old) (S.left log.new) × (S.faults log.new ≡ S.faults log.old) }
     ensures cause { IfErr result (ReportCause request.now scenario (S.left log.old) (S.left log.new) (K.contents out.old) (K.contents out.new)) }
@@ -39,11 +39,15 @@ pub(crate) fn report_on<S: Source, K: Sink>(
     ensures log_faults { MatchResult result (λ _. S.faults log.new ≡ S.faults log.old) (LogCount (S.faults log.old) (S.faults log.new)) }
     ensures out_faults { MatchResult result (λ _. K.faults out.new ≡ K.faults out.old) (OutCount (K.faults out.old) (K.faults out.new)) }
 {
+    let task = Task {
+        mode: request.mode,
+        why: request.options.why,
+    };
     if reads_log(request.mode) {
-        return write_report(alloc, scenario, request.mode, log, out);
+        return write_report(alloc, scenario, task, log, out);
     }
     ended_lines_stay();
     let made = drill_log(alloc, &scenario, request.options.seed)?;
     let mut source = PlainSource::new(made, BLOCK);
-    write_report(alloc, scenario, request.mode, &mut source, out)
+    write_report(alloc, scenario, task, &mut source, out)
 }

@@ -1,5 +1,5 @@
 //! A log that is read block by block, and what it decides, written as it is decided.
-ghost use Rattle.std.specs.Prelude.{◌≡◌, ◌≢◌, ◌+◌, ◌-◌, ◌<◌, ◌≤◌, [], ℕ, length, IfErr, IfOk, IfSome, IsSome, IsTrue, MatchResult, None, Ok, OnOk, List, true, false, vec_len};
+ghost use Rattle.std.specs.Prelude.{◌≡◌, ◌≢◌, ◌+◌, ◌-◌, ◌<◌, ◌≤◌, [], ℕ, Bool, length, IfErr, IfOk, IfSome, IsSome, IsTrue, MatchResult, None, Ok, OnOk, List, true, false, vec_len};
 ghost use Rattle.std.specs.declared.option.Option.{Option};
 ghost use Rattle.std.specs.Io.KnownBytes.{Appends, IsAtEnd};
 ghost use Rattle.audit_report.specs.ReportTexts.{HasText};
@@ -13,7 +13,7 @@ ghost use Rattle.colregs_program.specs.declared.streaming.StreamFault.TheVariant
 use audit_report::ReportText;
 use outside::{Memory, Sink, Source, Taken, put_all};
 use scenario::Scenario;
-use sessions::{Mode, Session, SessionFault};
+use sessions::{Session, SessionFault, Task};
 use std::alloc::{AllocError, Global};
 
 /// How many bytes are read at a time.
@@ -149,8 +149,8 @@ fn write_block<S: Source, K: Sink>(
     ensures written { OnOk result ((first contents : Option (List ℕ)) → HasWritten session.old first (S.left log.old) contents (K.contents out.old)
         → HasWritten session.new first (S.left log.new) contents (K.contents out.new)) }
     ensures end { result ≡ Ok false → IsAtEnd (S.left log.new) }
-    ensures cause { IfErr result (λ fault. (first contents : Option (List ℕ)) → HasWritten session.old first (S.left log.old) contents (K.contents out.old)
-        → StreamCause (mode_of session.old) (session_scenario session.old) first (S.left log.new) contents (K.contents out.new) fault) }
+    ensures cause { IfErr result (λ fault. (why : Bool) (first contents : Option (List ℕ)) → HasWritten session.old first (S.left log.old) contents (K.contents out.old)
+        → StreamCause (record { mode = mode_of session.old; why = why }) (session_scenario session.old) first (S.left log.new) contents (K.contents out.new) fault) }
     ensures log_faults { MatchResult result (λ _. S.faults log.new ≡ S.faults log.old) (LogCount (S.faults log.old) (S.faults log.new)) }
     ensures out_faults { MatchResult result (λ _. K.faults out.new ≡ K.faults out.old) (OutCount (K.faults out.old) (K.faults out.new)) }
 {
@@ -166,17 +166,18 @@ fn write_block<S: Source, K: Sink>(
     }
 }
 
-/// Writes the rest of the report at the log's end, and tells whether it is one without a manoeuvre.
-fn write_end<K: Sink>(session: Session, out: &mut K) -> Result<bool, StreamFault>
+/// Writes the rest of the report at the log's end, which says with `why` why every plan fails, if every plan does. Tells whether it is one without a
+/// manoeuvre.
+fn write_end<K: Sink>(session: Session, why: bool, out: &mut K) -> Result<bool, StreamFault>
     requires { IsInUse session }
     ensures report { IfOk result (λ none. (first left contents : Option (List ℕ)) → IsAtEnd left → HasWritten session first left contents (K.contents out.old)
-        → IfSome first (λ bytes. Reports (mode_of session) (session_scenario session) bytes none contents (K.contents out.new))) }
+        → IfSome first (λ bytes. Reports (record { mode = mode_of session; why = why }) (session_scenario session) bytes none contents (K.contents out.new))) }
     ensures cause { IfErr result (λ fault. (first left contents : Option (List ℕ)) → IsAtEnd left → HasWritten session first left contents (K.contents out.old)
-        → StreamCause (mode_of session) (session_scenario session) first left contents (K.contents out.new) fault) }
+        → StreamCause (record { mode = mode_of session; why = why }) (session_scenario session) first left contents (K.contents out.new) fault) }
     ensures no_read { IfErr result (λ fault. fault ≢ NotRead) }
     ensures faults { MatchResult result (λ _. K.faults out.new ≡ K.faults out.old) (OutCount (K.faults out.old) (K.faults out.new)) }
 {
-    let ending = session.end()?;
+    let ending = session.finish(why)?;
     if !put_all(out, ending.bytes.as_slice()) {
         return Err(StreamFault::NotWritten);
     }
@@ -195,7 +196,8 @@ fn feed_log<S: Source, K: Sink>(
     ensures scenario { session_scenario session.new ≡ session_scenario session.old }
     ensures written { OnOk result (HasWritten session.new (S.left log.old) (S.left log.new) (K.contents out.old) (K.contents out.new)) }
     ensures end { OnOk result (IsAtEnd (S.left log.new)) }
-    ensures cause { IfErr result (StreamCause (mode_of session.old) (session_scenario session.old) (S.left log.old) (S.left log.new) (K.contents out.old) (K.contents out.new)) }
+    ensures cause { IfErr result (λ fault. (why : Bool) → StreamCause (record { mode = mode_of session.old; why = why }) (session_scenario session.old)
+        (S.left log.old) (S.left log.new) (K.contents out.old) (K.contents out.new) fault) }
     ensures log_faults { MatchResult result (λ _. S.faults log.new ≡ S.faults log.old) (LogCount (S.faults log.old) (S.faults log.new)) }
     ensures out_faults { MatchResult result (λ _. K.faults out.new ≡ K.faults out.old) (OutCount (K.faults out.old) (K.faults out.new)) }
 {
@@ -208,21 +210,21 @@ fn feed_log<S: Source, K: Sink>(
 pub(crate) fn write_report<S: Source, K: Sink>(
     alloc: Global,
     scenario: Scenario,
-    mode: Mode,
+    task: Task,
     log: &mut S,
     out: &mut K,
 ) -> Result<bool, StreamFault>
     requires in_range { IsInRange scenario }
-    requires own { IsTrue (needs_own mode) → IsSome scenario.own }
-    requires unneeded { needs_own mode ≡ false → scenario.own ≡ None }
-    requires reports { IsTrue (reports mode) }
-    ensures report { IfOk result (λ none. IfSome (S.left log.old) (λ bytes. Reports mode scenario bytes none (K.contents out.old) (K.contents out.new))) }
+    requires own { IsTrue (needs_own task.mode) → IsSome scenario.own }
+    requires unneeded { needs_own task.mode ≡ false → scenario.own ≡ None }
+    requires reports { IsTrue (reports task.mode) }
+    ensures report { IfOk result (λ none. IfSome (S.left log.old) (λ bytes. Reports task scenario bytes none (K.contents out.old) (K.contents out.new))) }
     ensures end { OnOk result (IsAtEnd (S.left log.new)) }
-    ensures cause { IfErr result (StreamCause mode scenario (S.left log.old) (S.left log.new) (K.contents out.old) (K.contents out.new)) }
+    ensures cause { IfErr result (StreamCause task scenario (S.left log.old) (S.left log.new) (K.contents out.old) (K.contents out.new)) }
     ensures log_faults { MatchResult result (λ _. S.faults log.new ≡ S.faults log.old) (LogCount (S.faults log.old) (S.faults log.new)) }
     ensures out_faults { MatchResult result (λ _. K.faults out.new ≡ K.faults out.old) (OutCount (K.faults out.old) (K.faults out.new)) }
 {
-    let mut session = Session::new(alloc, scenario, mode)?;
+    let mut session = Session::new(alloc, scenario, task.mode)?;
     feed_log(alloc, &mut session, log, out)?;
-    write_end(session, out)
+    write_end(session, task.why, out)
 }

@@ -131,7 +131,7 @@ fn seed<'a>(alloc: Global) -> Arg<'a>
     .default_value("1")
 }
 
-/// Whether the report says why there is no plan. It has no effect yet, so help does not list it.
+/// Whether the report says why there is no plan.
 fn why<'a>(alloc: Global) -> Arg<'a>
     ensures { rule_of result ≡ setting_rule why }
 {
@@ -140,7 +140,6 @@ fn why<'a>(alloc: Global) -> Arg<'a>
         "why",
         "Say of each plan why it fails, where every plan does",
     )
-    .hide(true)
 }
 
 /// The file with the rows that say so. It has no effect yet, so help does not list it.

@@ -76,7 +76,7 @@ const HEAD_ON_NOW: &[u8] = b"\\c:1700000000*5F\\!AIVDM,1,1,,A,15P5TL0P2l00001wwH
 \\c:1700000000*5F\\!AIVDM,1,1,,A,177KQJ0P2lOwwtp00W4725`00000,0*31
 ";
 
-const REPORTS: [Row; 11] = [
+const REPORTS: [Row; 12] = [
     Row {
         shows: "a log without its last line feed",
         edits: &[ABOUT_SEATTLE],
@@ -163,6 +163,24 @@ none,1,,,,,
 lines,empty,0,,,,
 ",
             b"lines,point,2,,,,\n",
+        ),
+        ..NOTHING
+    },
+    // She comes nearer than 300 metres in step 18, and is nearest at its end.
+    Row {
+        shows: "why every plan fails",
+        words: &["plan", "scenario.toml", "--why"],
+        edits: &[ONE_TICK, OWN, ("[0, 300, 600]", "[0]")],
+        log: &[HEAD_ON_NOW],
+        status: Status::NoManoeuvre,
+        number: 1,
+        out: Written::Ends(
+            b"vessel,369190000,,0,0,1,0
+vessel,477553000,,0,0,1,0
+none,1,,,,,
+lines,empty,0,,,,
+",
+            b"lines,point,2,,,,\nwhy,0,477553000,domain,18,1,1\n",
         ),
         ..NOTHING
     },

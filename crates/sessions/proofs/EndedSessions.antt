@@ -1,5 +1,5 @@
 -- A session that ends.
-use Rattle.std.proofs.Common.{ℕ, ◌≡◌, ◌+◌, ◌<◌, ◌^◌, List, [], ◌++◌, length, IsTrue, Ok, Err, refl, ap, sym, subst, arith}
+use Rattle.std.proofs.Common.{ℕ, ◌≡◌, ◌+◌, ◌<◌, ◌^◌, Bool, List, [], ◌++◌, length, IsTrue, Ok, Err, refl, ap, sym, subst, arith}
 use Rattle.std.specs.Prelude.{IsSome}
 use Rattle.std.specs.Option.{option_to_list}
 use Rattle.audit_rows.specs.declared.row.Row.{Row}
@@ -17,7 +17,7 @@ use Rattle.sessions.specs.Feeding.{UnlessMemory}
 use Rattle.sessions.specs.Modes.{needs_own}
 use Rattle.sessions.specs.PointsReport.{point_rows}
 use Rattle.sessions.specs.PlanReport.{IsPlanReport}
-use Rattle.sessions.specs.Endings.{IsAnswerTo, IsEnding}
+use Rattle.sessions.specs.Endings.{IsAnswerTo, IsEnding, IsReport}
 use Rattle.sessions.specs.Standing.{IsInUse, StandsFor, mode_by, mode_of, session_scenario}
 use Rattle.sessions.specs.Inner.Working.{IsDone}
 use Rattle.sessions.specs.Inner.Faults.{EndCause}
@@ -111,11 +111,12 @@ plan_own self is used = used.stands.own (subst (λ (w : Work). IsTrue (needs_own
 
 -- ---- what the end gives
 
-pub report_is : (self : Session) (m : Mode) (ending made : Ending) (fed given : List ℕ) → mode_of self ≡ m → ending ≡ made → IsEnding m self.scenario fed (given ++ made.bytes.items)
-    → IsEnding (mode_of self) (session_scenario self) fed (given ++ ending.bytes.items)
-report_is self m ending made fed given mode_is is report =
-    subst (λ (n : Mode). IsEnding n self.scenario fed (given ++ ending.bytes.items)) (sym mode_is)
-    (subst (λ (e : Ending). IsEnding m self.scenario fed (given ++ e.bytes.items)) (sym is) report)
+pub report_is : (self : Session) (m : Mode) (why : Bool) (ending made : Ending) (fed given : List ℕ) → mode_of self ≡ m → ending ≡ made
+    → IsReport m why self.scenario fed (given ++ made.bytes.items)
+    → IsEnding (record { mode = mode_of self; why = why }) (session_scenario self) fed (given ++ ending.bytes.items)
+report_is self m why ending made fed given mode_is is report =
+    subst (λ (n : Mode). IsReport n why self.scenario fed (given ++ ending.bytes.items)) (sym mode_is)
+    (subst (λ (e : Ending). IsReport m why self.scenario fed (given ++ e.bytes.items)) (sym is) report)
 
 pub answer_is : (self : Session) (m : Mode) (ending made : Ending) (fed : List ℕ) → mode_of self ≡ m → ending ≡ made → IsAnswerTo m self.scenario fed (Ok made.none)
     → IsAnswerTo (mode_of self) (session_scenario self) fed (Ok ending.none)
@@ -145,18 +146,18 @@ drill_refused self audit judge because is judges cause =
     cause_is self mode.Drill because fed (ap mode_by is) (cause fed of.0)
     ))
 
-module _ (self : Session) (judge : Judge) (is : self.work ≡ work.Plan) (judges : JudgeOf self judge) where
+module _ (self : Session) (why : Bool) (judge : Judge) (is : self.work ≡ work.Plan) (judges : JudgeOf self judge) where
   pub plan_refused : (because : SessionFault) → ((log : List ℕ) → JudgeStandsFor judge self.scenario (lines_of log) → EndCause mode.Plan self.scenario log because) → Refusal self because
   plan_refused because cause =
       all_causes because self (λ fed. IsAnswerTo (mode_of self) (session_scenario self) fed (Err because))
       (λ fed given stands. cause_is self mode.Plan because fed (ap mode_by is) (cause fed (ended_judge self judge judges fed given stands)))
 
-  pub plan_report : (ending : Ending) → ((log : List ℕ) → JudgeStandsFor judge self.scenario (lines_of log) → IsPlanReport self.scenario log ending.bytes.items)
-      → (fed given : List ℕ) → StandsFor self fed given → IsEnding (mode_of self) (session_scenario self) fed (given ++ ending.bytes.items)
+  pub plan_report : (ending : Ending) → ((log : List ℕ) → JudgeStandsFor judge self.scenario (lines_of log) → IsPlanReport why self.scenario log ending.bytes.items)
+      → (fed given : List ℕ) → StandsFor self fed given → IsEnding (record { mode = mode_of self; why = why }) (session_scenario self) fed (given ++ ending.bytes.items)
   plan_report ending report fed given stands =
       let nothing = plan_given self is fed given stands in
-      report_is self mode.Plan ending ending fed given (ap mode_by is) refl
-      (subst (λ (g : List ℕ). IsEnding mode.Plan self.scenario fed (g ++ ending.bytes.items)) (sym nothing) (report fed (ended_judge self judge judges fed given stands)))
+      report_is self mode.Plan why ending ending fed given (ap mode_by is) refl
+      (subst (λ (g : List ℕ). IsReport mode.Plan why self.scenario fed (g ++ ending.bytes.items)) (sym nothing) (report fed (ended_judge self judge judges fed given stands)))
 
   pub plan_answered : (ending : Ending) → ((log : List ℕ) → JudgeStandsFor judge self.scenario (lines_of log) → IsAnswerTo mode.Plan self.scenario log (Ok ending.none))
       → (fed given : List ℕ) → StandsFor self fed given → IsAnswerTo (mode_of self) (session_scenario self) fed (Ok ending.none)

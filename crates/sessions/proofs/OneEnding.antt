@@ -1,16 +1,25 @@
 -- There is one report.
-use Rattle.std.proofs.Common.{ℕ, ◌≡◌, List, ◌++◌, sym, ap, ap₂, subst, subst₂, ◌∙◌}
+use Rattle.std.proofs.Common.{ℕ, ◌≡◌, ◌<◌, Bool, true, false, List, ◌++◌, Option, Some, None, sym, ap, ap₂, subst, subst₂, ◌∙◌}
+use Rattle.std.specs.Prelude.{flat_map}
+use Rattle.std.specs.List.{AllPairs}
 use Rattle.audit_rows.specs.declared.row.Row.{Row}
 use Rattle.auditor.specs.declared.total.Total.{Total}
 use Rattle.auditor.specs.AuditTotals.{AreTotals}
 use Rattle.auditor.proofs.ForCallers.{one_list_of_rows, one_list_of_totals}
 use Rattle.scenario.specs.declared.values.Scenario.{Scenario}
 use Rattle.sessions.specs.AuditReport.{IsAuditReport, rows_behind, sightings_of, stretch_rows}
+use Rattle.log_lines.specs.JudgedLines.{numbers_of}
+use Rattle.refutations.specs.EntryRows.{entry_text}
+use Rattle.refutations.proofs.ForCallers.{one_list}
+use Rattle.situations.proofs.ForCallers.{situation_in_order}
+use Rattle.situations.specs.declared.situation.Situation.{Situation}
+use Rattle.situations.specs.declared.situation.Target.{Target}
 use Rattle.situations.specs.declared.readiness.Ready.{Ready}
 use Rattle.scenario.specs.declared.own_part.OwnPart.{OwnPart}
 use Rattle.sessions.specs.DrillReport.{IsDrillReport, drill_text}
-use Rattle.sessions.specs.Endings.{IsEnding}
-use Rattle.sessions.specs.PlanReport.{IsManoeuvre, IsOwn, IsPlanReport, plan_text, situation_on}
+use Rattle.sessions.specs.Endings.{IsEnding, IsReport}
+use Rattle.sessions.specs.declared.task.Task.{Task}
+use Rattle.sessions.specs.PlanReport.{AreReasons, IsManoeuvre, IsOwn, IsPlanReport, log_messages, plan_text, situation_on}
 use Rattle.sessions.proofs.OneManoeuvre.{one_manoeuvre}
 use Rattle.command_line.specs.declared.mode.Mode.{Mode}
 use Rattle.command_line.specs.declared.mode.Mode.TheVariants as mode
@@ -43,22 +52,39 @@ one_own scenario log own own' ready ready' a b = cc (a.needed, b.needed)
 one_ready : (scenario : Scenario) (log : List ℕ) (own : OwnPart) (ready ready' : Ready) → IsOwn scenario log own ready → IsOwn scenario log own ready' → ready ≡ ready'
 one_ready scenario log own ready ready' a b = cc (a.is_ready, b.is_ready)
 
-one_plan_report : (scenario : Scenario) (log text other : List ℕ) → IsPlanReport scenario log text → IsPlanReport scenario log other → text ≡ other
-one_plan_report scenario log text other a b =
+-- Why every plan fails is told by one text.
+one_reasons : (why : Bool) (s : Situation) → AllPairs (λ (a b : Target). a.mmsi < b.mmsi) s.targets → (manoeuvre : Option (List ℕ)) (text other : List ℕ)
+    → AreReasons why s manoeuvre text → AreReasons why s manoeuvre other → text ≡ other
+one_reasons false s order manoeuvre text other a b = a ∙ sym b
+one_reasons true s order (Some plan) text other a b = a ∙ sym b
+one_reasons true s order None text other (entries, canonical, is) (entries', canonical', is') =
+    is ∙ (ap (flat_map (entry_text s)) (one_list s order entries entries' canonical canonical') ∙ sym is')
+
+one_plan_report : (why : Bool) (scenario : Scenario) (log text other : List ℕ) → IsPlanReport why scenario log text → IsPlanReport why scenario log other → text ≡ other
+one_plan_report why scenario log text other a b =
     let own : a.own ≡ b.own = one_own scenario log a.own b.own a.ready b.ready a.is_own b.is_own in
     let b-own : IsOwn scenario log a.own b.ready = subst (λ (o : OwnPart). IsOwn scenario log o b.ready) (sym own) b.is_own in
     let ready : a.ready ≡ b.ready = one_ready scenario log a.own a.ready b.ready a.is_own b-own in
     let first : IsManoeuvre (situation_on scenario log a.own a.ready) b.manoeuvre =
     subst₂ (λ (o : OwnPart) (r : Ready). IsManoeuvre (situation_on scenario log o r) b.manoeuvre) (sym own) (sym ready) b.is_first in
     let manoeuvre : a.manoeuvre ≡ b.manoeuvre = one_manoeuvre (situation_on scenario log a.own a.ready) a.manoeuvre b.manoeuvre a.is_first first in
+    let told : AreReasons why (situation_on scenario log a.own a.ready) b.manoeuvre b.reasons =
+    subst₂ (λ (o : OwnPart) (r : Ready). AreReasons why (situation_on scenario log o r) b.manoeuvre b.reasons) (sym own) (sym ready) b.are_reasons in
+    let same : AreReasons why (situation_on scenario log a.own a.ready) a.manoeuvre b.reasons =
+    subst (λ (m : Option (List ℕ)). AreReasons why (situation_on scenario log a.own a.ready) m b.reasons) (sym manoeuvre) told in
+    let order = situation_in_order (numbers_of scenario) (log_messages scenario log) scenario a.own a.ready in
+    let reasons : a.reasons ≡ b.reasons = one_reasons why (situation_on scenario log a.own a.ready) order a.manoeuvre a.reasons b.reasons a.are_reasons same in
     a.is
-    ∙ ap (plan_text scenario log a.own a.ready) manoeuvre
-    ∙ ap₂ (λ (o : OwnPart) (r : Ready). plan_text scenario log o r b.manoeuvre) own ready
-    ∙ sym b.is
+    ∙ (ap₂ (λ (m : Option (List ℕ)) (r : List ℕ). plan_text scenario log a.own a.ready m ++ r) manoeuvre reasons
+    ∙ (ap₂ (λ (o : OwnPart) (r : Ready). plan_text scenario log o r b.manoeuvre ++ b.reasons) own ready
+    ∙ sym b.is))
 
-pub one_ending : (mode : Mode) (scenario : Scenario) (log text other : List ℕ) → IsEnding mode scenario log text → IsEnding mode scenario log other → text ≡ other
-one_ending mode.Points scenario log text other a b = a ∙ sym b
-one_ending mode.Audit scenario log text other a b = one_audit_report scenario log text other a b
-one_ending mode.Plan scenario log text other a b = one_plan_report scenario log text other a b
-one_ending mode.Drill scenario log text other a b = one_drill_report scenario log text other a b
-one_ending mode.Migrate scenario log text other a b = absurd a
+one_report : (m : Mode) (why : Bool) (scenario : Scenario) (log text other : List ℕ) → IsReport m why scenario log text → IsReport m why scenario log other → text ≡ other
+one_report mode.Points why scenario log text other a b = a ∙ sym b
+one_report mode.Audit why scenario log text other a b = one_audit_report scenario log text other a b
+one_report mode.Plan why scenario log text other a b = one_plan_report why scenario log text other a b
+one_report mode.Drill why scenario log text other a b = one_drill_report scenario log text other a b
+one_report mode.Migrate why scenario log text other a b = absurd a
+
+pub one_ending : (task : Task) (scenario : Scenario) (log text other : List ℕ) → IsEnding task scenario log text → IsEnding task scenario log other → text ≡ other
+one_ending task = one_report task.mode task.why

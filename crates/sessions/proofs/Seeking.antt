@@ -1,6 +1,6 @@
 -- What was sought for own ship, and what is told of it.
-use Rattle.std.proofs.Common.{ℕ, ◌≡◌, ◌∙◌, ◌++◌, ◌<◌, ◌≤◌, List, length, refl, ap, ap₂, sym, subst, subst₂, append_assoc, arith, Bool, true, false}
-use Rattle.std.specs.Prelude.{Option, None, Some, Result, Ok, Err, IfSome, IsSome, is_none, is_some, not}
+use Rattle.std.proofs.Common.{ℕ, ◌≡◌, ◌∙◌, ◌++◌, ◌<◌, ◌≤◌, List, [], length, refl, ap, ap₂, sym, subst, subst₂, append_assoc, arith, Bool, true, false}
+use Rattle.std.specs.Prelude.{Option, None, Some, Result, Ok, Err, IfSome, IsSome, flat_map, is_none, is_some, not}
 use Rattle.audit_report.specs.ReportTexts.{HasText}
 use Rattle.audit_report.specs.declared.report_text.ReportText.{ReportText}
 use Rattle.log_lines.specs.JudgedLines.{is_crowded, numbers_of}
@@ -20,9 +20,12 @@ use Rattle.scenario.specs.declared.own_part.OwnPart.{OwnPart}
 use Rattle.scenario.specs.declared.values.Scenario.{Scenario}
 use Rattle.tracks.specs.VesselsHeld.{Sent}
 use Rattle.sessions.specs.Endings.{MeetsTargetLimit, HasNoManoeuvre, IsAnswerTo, lack_of, lack_where, unready_of}
-use Rattle.sessions.specs.PlanReport.{IsManoeuvre, IsOwn, manoeuvre_rows, log_messages, near_rows, situation_on}
+use Rattle.refutations.specs.CanonicalLists.{IsCanonical}
+use Rattle.refutations.specs.EntryRows.{entry_text}
+use Rattle.refutations.specs.declared.entry.WhyEntry.{WhyEntry}
+use Rattle.sessions.specs.PlanReport.{AreReasons, IsManoeuvre, IsOwn, manoeuvre_rows, log_messages, near_rows, situation_on}
 use Rattle.sessions.specs.Inner.Faults.{EndCause, preparing_fault}
-use Rattle.sessions.specs.Inner.PlanWriting.{IsSought, SoughtCause}
+use Rattle.sessions.specs.Inner.PlanWriting.{AreReasonsWhere, IsSought, SoughtCause}
 use Rattle.command_line.specs.declared.mode.Mode.TheVariants as mode
 use Rattle.sessions.proofs.Meeting.{a_manoeuvre, no_manoeuvre, own_unready, too_many_targets}
 use Rattle.sessions.proofs.OneManoeuvre.{each_fails}
@@ -68,13 +71,13 @@ module _ (scenario : Scenario) (log : List ℕ) (calm : is_crowded scenario (lin
 pub record IsWritten (scenario : Scenario) (messages : List Sent) (front : List ℕ) (text : ReportText) (prepared : Prepared) (lattice : Grid) (plan : Option (List ℕ)) : Type 0 where
   pub has : HasText text ((front ++ near_rows (numbers_of scenario) messages prepared.near.items) ++ manoeuvre_rows scenario.window.ticks lattice prepared.ready plan)
 
-pub sought : (scenario : Scenario) (messages : List Sent) (front : List ℕ) (text : ReportText) (prepared : Prepared) (lattice : Grid) (plan told : Option (List ℕ)) (none : Bool)
-    → IsSome scenario.own → IfSome scenario.own (λ own. IsPrepared (numbers_of scenario) messages scenario own prepared) → IsManoeuvre prepared.situation plan
+pub sought : (scenario : Scenario) (messages : List Sent) (front : List ℕ) (text : ReportText) (prepared : Prepared) (searched : Situation) (lattice : Grid) (plan told : Option (List ℕ)) (none : Bool)
+    → searched ≡ prepared.situation → IsSome scenario.own → IfSome scenario.own (λ own. IsPrepared (numbers_of scenario) messages scenario own prepared) → IsManoeuvre prepared.situation plan
     → lattice ≡ prepared.situation.lattice → told ≡ plan → none ≡ is_none plan
     → HasText text ((front ++ near_rows (numbers_of scenario) messages prepared.near.items) ++ manoeuvre_rows scenario.window.ticks lattice prepared.ready told)
-    → IsSought scenario messages text front none
+    → IsSought scenario messages text front searched none
 unfolding situation_of
-sought scenario messages front text prepared lattice plan told none some is first grid same is_none_of has =
+sought scenario messages front text prepared searched lattice plan told none searched-is some is first grid same is_none_of has =
     let found = own_of scenario.own (λ own. IsPrepared (numbers_of scenario) messages scenario own prepared) some is in
     let own = found.own in
     let h = found.holds in
@@ -90,6 +93,7 @@ sought scenario messages front text prepared lattice plan told none some is firs
       ready = prepared.ready;
       needed = found.is;
       is_ready = h.is_ready;
+      is_of = searched-is ∙ h.situation;
       few = h.few;
       manoeuvre = plan;
       is_first = subst (λ (s : Situation). IsManoeuvre s plan) h.situation first;
@@ -130,11 +134,43 @@ module _ (scenario : Scenario) (log : List ℕ) (calm : is_crowded scenario (lin
       subst (λ (b : Bool). IsAnswerTo mode.Plan scenario log (Ok b)) (sym told)
       (a_manoeuvre scenario log calm ready-is (few_targets own ready is few) (some_manoeuvre own ready plan is first))
 
-  pub plan_answer : (text : ReportText) (front : List ℕ) (none : Bool) → IsSought scenario (log_messages scenario log) text front none → IsAnswerTo mode.Plan scenario log (Ok none)
-  plan_answer text front none h = answer_by h.own h.ready h.manoeuvre none (record { needed = h.needed; is_ready = h.is_ready }) h.few h.is_first h.told
+  pub plan_answer : (text : ReportText) (front : List ℕ) (searched : Situation) (none : Bool) → IsSought scenario (log_messages scenario log) text front searched none
+      → IsAnswerTo mode.Plan scenario log (Ok none)
+  plan_answer text front searched none h = answer_by h.own h.ready h.manoeuvre none (record { needed = h.needed; is_ready = h.is_ready }) h.few h.is_first h.told
 
 pub none_is : {A : Type 0} (o : Option A) (b : Bool) → is_some o ≡ not b → b ≡ is_none o
 none_is None true e = refl
 none_is None false e = cc e
 none_is (Some x) true e = cc e
 none_is (Some x) false e = refl
+
+-- where nothing was found, every plan fails
+pub all_fail : (s searched : Situation) (plan : Option (List ℕ)) (none : Bool) → searched ≡ s → none ≡ is_none plan → none ≡ true → IsManoeuvre s plan → AllFail searched
+all_fail s searched None none is told given all = subst AllFail (sym is) all
+all_fail s searched (Some plan) none is told given least = cc (told, given)
+
+-- ---- why every plan fails
+
+pub not_asked : (why none : Bool) (s : Situation) → why ≡ false → AreReasonsWhere why none s []
+not_asked false none s is = refl
+not_asked true none s is = cc is
+
+pub one_found : (why none : Bool) (s : Situation) → none ≡ false → AreReasonsWhere why none s []
+one_found false none s is = refl
+one_found true false s is = refl
+one_found true true s is = cc is
+
+pub all_told : (why none : Bool) (s : Situation) (entries : List WhyEntry) → why ≡ true → none ≡ true → IsCanonical s entries
+    → AreReasonsWhere why none s (flat_map (entry_text s) entries)
+all_told false none s entries asked found canonical = cc asked
+all_told true false s entries asked found canonical = cc found
+all_told true true s entries asked found canonical = (entries, canonical, refl)
+
+pub are_reasons : (why none : Bool) (s searched : Situation) (manoeuvre : Option (List ℕ)) (reasons : List ℕ) → searched ≡ s → none ≡ is_none manoeuvre
+    → AreReasonsWhere why none searched reasons → AreReasons why s manoeuvre reasons
+are_reasons false none s searched manoeuvre reasons is told nothing = nothing
+are_reasons true false s searched None reasons is told nothing = cc told
+are_reasons true false s searched (Some plan) reasons is told nothing = nothing
+are_reasons true true s searched None reasons is told (entries, canonical, rows) =
+    (entries, subst (λ (x : Situation). IsCanonical x entries) is canonical, rows ∙ ap (λ (x : Situation). flat_map (entry_text x) entries) is)
+are_reasons true true s searched (Some plan) reasons is told all = cc told

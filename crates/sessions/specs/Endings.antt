@@ -17,17 +17,22 @@ use Rattle.sessions.specs.PointsReport.{points_report}
 use Rattle.command_line.specs.declared.mode.Mode.{Mode}
 use Rattle.command_line.specs.declared.mode.Mode.TheVariants as mode
 use Rattle.sessions.specs.declared.session_fault.SessionFault.{SessionFault}
+use Rattle.sessions.specs.declared.task.Task.{Task}
 use Rattle.sessions.specs.declared.session_fault.SessionFault.TheVariants as fault
 use Rattle.traces.specs.declared.all_traces.TheConstants.{MOST_TRACES}
 use Rattle.settling.specs.ScenarioAudit.{audit_numbers}
 
--- The text is the mode's report on a log.
-abbrev pub IsEnding : Mode → Scenario → List ℕ → List ℕ → Type 0
-IsEnding mode.Points scenario log text = text ≡ points_report scenario log
-IsEnding mode.Audit scenario log text = IsAuditReport scenario log text
-IsEnding mode.Plan scenario log text = IsPlanReport scenario log text
-IsEnding mode.Drill scenario log text = IsDrillReport scenario log text
-IsEnding mode.Migrate scenario log text = ⊥
+-- The text is a mode's report, which says why every plan fails where that is asked for.
+abbrev pub IsReport : Mode → Bool → Scenario → List ℕ → List ℕ → Type 0
+IsReport mode.Points why scenario log text = text ≡ points_report scenario log
+IsReport mode.Audit why scenario log text = IsAuditReport scenario log text
+IsReport mode.Plan why scenario log text = IsPlanReport why scenario log text
+IsReport mode.Drill why scenario log text = IsDrillReport scenario log text
+IsReport mode.Migrate why scenario log text = ⊥
+
+-- The text is the report on a log that a task asks for.
+abbrev pub IsEnding : Task → Scenario → List ℕ → List ℕ → Type 0
+IsEnding task = IsReport task.mode task.why
 
 -- ---- what stands in the way of a report
 

@@ -1,6 +1,6 @@
--- The report of `plan`: own ship and the vessels near her, the legs of the first plan that does not fail or that there is none, and then
--- how many lines came to each outcome.
-use Rattle.std.specs.Prelude.{ℕ, ◌≡◌, ◌+◌, ◌*◌, nat_lt, flat_map, List, ◌++◌, Option, Some, None, MatchOption, Ok, slice_index, if◌then◌else◌}
+-- The report of `plan`: own ship and the vessels near her, the legs of the first plan that does not fail or that there is none, how many
+-- lines came to each outcome, and then, where that is asked for, why every plan fails.
+use Rattle.std.specs.Prelude.{ℕ, ◌≡◌, ◌+◌, ◌*◌, nat_lt, Bool, true, flat_map, List, [], ◌++◌, Option, Some, None, MatchOption, Ok, slice_index, if◌then◌else◌}
 use Rattle.std.specs.List.{range_with_len}
 use Rattle.audit_report.specs.CsvRows.{row_of}
 use Rattle.audit_report.specs.ReportRows.{Fields, no_plan_fields, plan_fields}
@@ -10,6 +10,9 @@ use Rattle.log_lines.specs.SentLines.{sent}
 use Rattle.lattice.specs.Grids.{Grid, choices_of, plans_of, positions_of}
 use Rattle.lattice.specs.OwnMotion.{ordered_course, ordered_speed}
 use Rattle.lattice.specs.PlanNumbers.{number_of}
+use Rattle.refutations.specs.CanonicalLists.{IsCanonical}
+use Rattle.refutations.specs.EntryRows.{entry_text}
+use Rattle.refutations.specs.declared.entry.WhyEntry.{WhyEntry}
 use Rattle.situations.specs.PlanSituations.{own_readiness, situation_of, vessels_near}
 use Rattle.situations.specs.declared.near.Near.{Near}
 use Rattle.situations.specs.declared.readiness.Ready.{Ready}
@@ -65,6 +68,11 @@ abbrev pub manoeuvre_rows : ℕ → Grid → Ready → Option (List ℕ) → Lis
 manoeuvre_rows now lattice ready None = row_of (no_plan_fields (plans_of lattice))
 manoeuvre_rows now lattice ready (Some plan) = leg_rows now lattice ready plan
 
+-- Why every plan fails, where that is asked for and every plan does: the rows of the canonical list of entries.
+abbrev pub AreReasons : Bool → Situation → Option (List ℕ) → List ℕ → Type 0
+AreReasons true situation None text = (entries : List WhyEntry) × IsCanonical situation entries × (text ≡ flat_map (entry_text situation) entries)
+AreReasons _ situation manoeuvre text = text ≡ []
+
 -- ---- the report
 
 -- The first plan that does not fail, or none where every plan fails.
@@ -78,11 +86,13 @@ plan_text scenario log own ready manoeuvre =
     ++ manoeuvre_rows scenario.window.ticks own.lattice ready manoeuvre
     ++ count_rows (judged_lines scenario (lines_of log))
 
--- The text is the report on a log.
-pub record IsPlanReport (scenario : Scenario) (log text : List ℕ) : Type 0 where
+-- The text is the report on a log, which says why every plan fails where that is asked for.
+pub record IsPlanReport (why : Bool) (scenario : Scenario) (log text : List ℕ) : Type 0 where
   pub own : OwnPart
   pub ready : Ready
   pub is_own : IsOwn scenario log own ready
   pub manoeuvre : Option (List ℕ)
   pub is_first : IsManoeuvre (situation_on scenario log own ready) manoeuvre
-  pub is : text ≡ plan_text scenario log own ready manoeuvre
+  pub reasons : List ℕ
+  pub are_reasons : AreReasons why (situation_on scenario log own ready) manoeuvre reasons
+  pub is : text ≡ plan_text scenario log own ready manoeuvre ++ reasons

@@ -2,6 +2,7 @@
 ghost use Rattle.std.specs.Prelude.{◌≡◌, ◌++◌, ℕ, List};
 ghost use Rattle.scenario.specs.declared.values.Scenario.{Scenario};
 ghost use Rattle.sessions.specs.Endings.{Came, IsEnding};
+ghost use Rattle.sessions.specs.declared.task.Task.{Task};
 ghost use Rattle.sessions.specs.Refusals.{IsMet};
 ghost use Rattle.sessions.specs.SettledText.{IsSettledText};
 ghost use Rattle.command_line.specs.declared.mode.Mode.{Mode};
@@ -14,8 +15,8 @@ use settling::laws::{
 
 /// A request has at most one report on a log.
 pub fn one_ending()
-    ensures { (mode : Mode) (scenario : Scenario) (log text other : List ℕ) →
-        IsEnding mode scenario log text → IsEnding mode scenario log other → text ≡ other }
+    ensures { (task : Task) (scenario : Scenario) (log text other : List ℕ) →
+        IsEnding task scenario log text → IsEnding task scenario log other → text ≡ other }
 {}
 
 /// A log comes to one thing at most.
@@ -44,8 +45,8 @@ pub fn one_settled_text()
 pub fn settled_bytes_stay()
     ensures longer { (mode : Mode) (scenario : Scenario) (front more text later : List ℕ) → IsSettledText mode scenario front text →
         IsSettledText mode scenario (front ++ more) later → (rest : List ℕ) × (later ≡ text ++ rest) }
-    ensures report { (mode : Mode) (scenario : Scenario) (front more text report : List ℕ) → IsSettledText mode scenario front text →
-        IsEnding mode scenario (front ++ more) report → (rest : List ℕ) × (report ≡ text ++ rest) }
+    ensures report { (task : Task) (scenario : Scenario) (front more text report : List ℕ) → IsSettledText task.mode scenario front text →
+        IsEnding task scenario (front ++ more) report → (rest : List ℕ) × (report ≡ text ++ rest) }
 {
     ended_lines_stay();
     decided_rows_are_a_front();

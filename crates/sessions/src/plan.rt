@@ -12,6 +12,7 @@ ghost use Rattle.tracks.specs.AcceptedReports.{JudgingNumbers};
 ghost use Rattle.tracks.specs.Standing.{StandsFor as BookStandsFor};
 ghost use Rattle.tracks.specs.VesselsHeld.{Sent, is_held};
 ghost use Rattle.tracks.specs.declared.keeping.Keeping.TheVariants.{Tracks};
+ghost use Rattle.situations.specs.LeastPlans.{AllFail};
 ghost use Rattle.situations.specs.Situations.{IsSituation};
 ghost use Rattle.situations.specs.declared.near.Near.{Near};
 ghost use Rattle.planner.specs.Searches.{searched_situation};
@@ -23,6 +24,7 @@ ghost use Rattle.command_line.specs.declared.mode.Mode.TheVariants as mode;
 
 use crate::ending::Ending;
 use crate::outcome_rows::{all_outcomes, write_counts};
+use crate::reasons::add_reasons;
 use crate::session_fault::SessionFault;
 use crate::vessels::write_vessel_of;
 use audit_report::{ReportRow, ReportText};
@@ -125,6 +127,7 @@ impl PlannedLegs<'_> {
 fn sought(alloc: Global, situation: Situation) -> Result<(Search, Option<Plan>), Memory>
     requires { IsSituation situation }
     ensures situation { IfOk result (λ found. searched_situation found.0 ≡ situation) }
+    ensures sound { IfOk result (λ found. IsSituation (searched_situation found.0)) }
     ensures manoeuvre { IfOk result (λ found. IsManoeuvre situation found.1) }
 {
     let mut search = Search::new(alloc, situation)?;
@@ -154,19 +157,30 @@ fn write_sought(
     legs.write(text, plan)
 }
 
-/// Prepares own ship's situation, seeks a plan in it and writes what was found; tells whether there is none.
+/// What a search for own ship found.
+#[derive(Drop)]
+struct PlanFound {
+    /// The search, which keeps her situation.
+    search: Search,
+    /// Every plan of hers fails.
+    none: bool,
+}
+
+/// Prepares own ship's situation, seeks a plan in it and writes what was found.
 fn write_search(
     alloc: Global,
     scenario: Scenario,
     book: &Book,
     text: &mut ReportText,
-) -> Result<bool, PrepareFault>
+) -> Result<PlanFound, PrepareFault>
     requires in_range { IsInRange scenario }
     requires own { IsSome scenario.own }
     requires keeping { book.now.keeping ≡ Tracks }
     requires stands { (messages : List Sent) × BookStandsFor book.now (numbers_of scenario) messages }
-    ensures sought { IfOk result (λ none. (messages : List Sent) (front : List ℕ) → BookStandsFor book.now (numbers_of scenario) messages
-        → HasText text.old front → IsSought scenario messages text.new front none) }
+    ensures situation { IfOk result (λ found. IsSituation (searched_situation found.search)) }
+    ensures fail { IfOk result (λ found. found.none ≡ true → AllFail (searched_situation found.search)) }
+    ensures sought { IfOk result (λ found. (messages : List Sent) (front : List ℕ) → BookStandsFor book.now (numbers_of scenario) messages
+        → HasText text.old front → IsSought scenario messages text.new front (searched_situation found.search) found.none) }
     ensures cause { IfErr result (λ fault. (messages : List Sent) → BookStandsFor book.now (numbers_of scenario) messages → SoughtCause scenario messages fault) }
 {
     let begin = scenario.window.ticks;
@@ -178,29 +192,31 @@ fn write_search(
         ready: prepared.ready,
     };
     write_sought(text, book, &prepared.near, &legs, plan.as_ref())?;
-    Ok(plan.is_none())
+    let none = plan.is_none();
+    Ok(PlanFound { search, none })
 }
 
-/// The report, of which nothing was given before.
+/// The report, of which nothing was given before. With `why` it says why every plan fails, if every plan does.
 pub(crate) fn end_plan(
     alloc: Global,
     scenario: Scenario,
     judge: &Judge,
+    why: bool,
 ) -> Result<Ending, SessionFault>
     requires in_range { IsInRange scenario }
     requires own { IsSome scenario.own }
     requires keeping { keeping_of judge.now ≡ Tracks }
     requires at_end { (log : List ℕ) × JudgeStandsFor judge.now scenario (lines_of log) }
-    ensures report { IfOk result (λ ending. (log : List ℕ) → JudgeStandsFor judge.now scenario (lines_of log) → IsPlanReport scenario log ending.bytes.items) }
+    ensures report { IfOk result (λ ending. (log : List ℕ) → JudgeStandsFor judge.now scenario (lines_of log) → IsPlanReport why scenario log ending.bytes.items) }
     ensures answer { IfOk result (λ ending. (log : List ℕ) → JudgeStandsFor judge.now scenario (lines_of log)
         → IsAnswerTo mode.Plan scenario log (Ok ending.none)) }
     ensures cause { IfErr result (λ why. (log : List ℕ) → JudgeStandsFor judge.now scenario (lines_of log) → EndCause mode.Plan scenario log why) }
 {
     let mut text = ReportText::new(alloc);
-    let none = write_search(alloc, scenario, judge.book(), &mut text)?;
+    let found = write_search(alloc, scenario, judge.book(), &mut text)?;
     write_counts(&mut text, judge.counts(), all_outcomes())?;
-    Ok(Ending {
-        bytes: text.into_bytes()?,
-        none,
-    })
+    let mut bytes = text.into_bytes()?;
+    let none = found.none;
+    add_reasons(alloc, found.search.situation(), why, none, &mut bytes)?;
+    Ok(Ending { bytes, none })
 }

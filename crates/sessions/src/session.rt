@@ -1,5 +1,5 @@
 //! A report on a log that comes in pieces.
-ghost use Rattle.std.specs.Prelude.{◌≡◌, ◌≤◌, ◌<◌, ◌+◌, ◌-◌, ◌++◌, [], ℕ, List, IfErr, IfOk, IsSome, IsTrue, OnOk, Err, Ok, length, take};
+ghost use Rattle.std.specs.Prelude.{◌≡◌, ◌≤◌, ◌<◌, ◌+◌, ◌-◌, ◌++◌, [], ℕ, List, false, IfErr, IfOk, IsSome, IsTrue, OnOk, Err, Ok, length, take};
 ghost use Rattle.audit_report.specs.ReportTexts.{HasText};
 ghost use Rattle.scenario.specs.ScenarioValues.{IsInRange};
 ghost use Rattle.sessions.specs.Endings.{IsAnswerTo, IsEnding};
@@ -166,7 +166,20 @@ impl Session {
     pub fn end(self) -> Result<Ending, SessionFault>
         requires in_use { IsInUse self }
         ensures report { IfOk result (λ ending. (fed given : List ℕ) → StandsFor self fed given
-            → IsEnding (mode_of self) (session_scenario self) fed (given ++ ending.bytes.items)) }
+            → IsEnding (record { mode = mode_of self; why = false }) (session_scenario self) fed (given ++ ending.bytes.items)) }
+        ensures answer { IfOk result (λ ending. (fed given : List ℕ) → StandsFor self fed given
+            → IsAnswerTo (mode_of self) (session_scenario self) fed (Ok ending.none)) }
+        ensures refused { IfErr result (λ why. UnlessMemory why ((fed given : List ℕ) → StandsFor self fed given
+            → IsAnswerTo (mode_of self) (session_scenario self) fed (Err why))) }
+    {
+        self.finish(false)
+    }
+
+    /// Ends the log, and gives the rest of the report. With `why` the report of a plan says why every plan fails, if every plan does.
+    pub fn finish(self, why: bool) -> Result<Ending, SessionFault>
+        requires in_use { IsInUse self }
+        ensures report { IfOk result (λ ending. (fed given : List ℕ) → StandsFor self fed given
+            → IsEnding (record { mode = mode_of self; why = why }) (session_scenario self) fed (given ++ ending.bytes.items)) }
         ensures answer { IfOk result (λ ending. (fed given : List ℕ) → StandsFor self fed given
             → IsAnswerTo (mode_of self) (session_scenario self) fed (Ok ending.none)) }
         ensures refused { IfErr result (λ why. UnlessMemory why ((fed given : List ℕ) → StandsFor self fed given
@@ -187,7 +200,7 @@ impl Session {
                 let rest = end_audit(alloc, &scenario, audit, judge)?;
                 Ok(Ending::without_search(rest))
             }
-            Work::Plan => end_plan(alloc, scenario, judge),
+            Work::Plan => end_plan(alloc, scenario, judge, why),
             Work::Drill(audit) => {
                 let rest = end_drill(alloc, &scenario, audit, judge)?;
                 Ok(Ending::without_search(rest))

@@ -16,6 +16,7 @@ use Rattle.sessions.specs.Refusals.{IsStopped, IsUnrefused}
 use Rattle.sessions.specs.Standing.{StandsFor, mode_of, session_scenario}
 use Rattle.sessions.specs.declared.session.Session.{Session}
 use Rattle.sessions.specs.declared.session_fault.SessionFault.{SessionFault}
+use Rattle.sessions.specs.declared.task.Task.{Task}
 use Rattle.sessions.specs.declared.session_fault.SessionFault.TheVariants as why
 use Rattle.colregs_program.specs.LogAnswers.{GainsFront, GainsPart, GainsSettled, LeavesPart, LeavesSettled, answer_of, answer_without}
 use Rattle.colregs_program.specs.AskedScenarios.{log_of}
@@ -88,21 +89,21 @@ PieceCause session piece now now' (fault.Unreported (why.Own lack)) = ⊥
 PieceCause session piece now now' (fault.Unreported why.Targets) = ⊥
 
 -- what a fault says of what was taken of a log from its beginning, and of what the sink gained
-abbrev pub StreamCause : Mode → Scenario → Option (List ℕ) → Option (List ℕ) → Option (List ℕ) → Option (List ℕ) → StreamFault → Type 0
-StreamCause mode scenario left left' contents contents' fault.NotRead = LeavesSettled mode scenario left left' contents contents'
-StreamCause mode scenario left left' contents contents' fault.NotWritten =
-    LeavesPart mode scenario left left' contents contents' ⊎ (IsAtEnd left' × IfSome left (λ log. GainsPart mode scenario log contents contents'))
-StreamCause mode scenario left left' contents contents' (fault.Unreported why.Vessels) =
-    Stops mode scenario left contents contents' why.Vessels ⊎ Ends mode scenario left left' contents contents' why.Vessels
-StreamCause mode scenario left left' contents contents' (fault.Unreported why.Pairs) =
-    Stops mode scenario left contents contents' why.Pairs ⊎ Ends mode scenario left left' contents contents' why.Pairs
-StreamCause mode scenario left left' contents contents' (fault.Unreported why.LogBytes) =
-    StopsAt scenario.log.max_bytes 0 left left' read.TooLong × Stops mode scenario left contents contents' why.LogBytes
-StreamCause mode scenario left left' contents contents' (fault.Unreported (why.Own lack)) =
-    Ends mode scenario left left' contents contents' (why.Own lack) × Keeps contents contents'
-StreamCause mode scenario left left' contents contents' (fault.Unreported why.Targets) =
-    Ends mode scenario left left' contents contents' why.Targets × Keeps contents contents'
-StreamCause mode scenario left left' contents contents' (fault.Unreported why.Memory) = IfSome left (λ log. GainsFront mode scenario log contents contents')
+abbrev pub StreamCause : Task → Scenario → Option (List ℕ) → Option (List ℕ) → Option (List ℕ) → Option (List ℕ) → StreamFault → Type 0
+StreamCause task scenario left left' contents contents' fault.NotRead = LeavesSettled task.mode scenario left left' contents contents'
+StreamCause task scenario left left' contents contents' fault.NotWritten =
+    LeavesPart task.mode scenario left left' contents contents' ⊎ (IsAtEnd left' × IfSome left (λ log. GainsPart task scenario log contents contents'))
+StreamCause task scenario left left' contents contents' (fault.Unreported why.Vessels) =
+    Stops task.mode scenario left contents contents' why.Vessels ⊎ Ends task.mode scenario left left' contents contents' why.Vessels
+StreamCause task scenario left left' contents contents' (fault.Unreported why.Pairs) =
+    Stops task.mode scenario left contents contents' why.Pairs ⊎ Ends task.mode scenario left left' contents contents' why.Pairs
+StreamCause task scenario left left' contents contents' (fault.Unreported why.LogBytes) =
+    StopsAt scenario.log.max_bytes 0 left left' read.TooLong × Stops task.mode scenario left contents contents' why.LogBytes
+StreamCause task scenario left left' contents contents' (fault.Unreported (why.Own lack)) =
+    Ends task.mode scenario left left' contents contents' (why.Own lack) × Keeps contents contents'
+StreamCause task scenario left left' contents contents' (fault.Unreported why.Targets) =
+    Ends task.mode scenario left left' contents contents' why.Targets × Keeps contents contents'
+StreamCause task scenario left left' contents contents' (fault.Unreported why.Memory) = IfSome left (λ log. GainsFront task.mode scenario log contents contents')
 
 -- what it does to the counts of faults of the log and of the sink
 abbrev pub LogCount : ℕ → ℕ → StreamFault → Type 0

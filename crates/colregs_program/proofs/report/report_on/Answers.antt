@@ -24,4 +24,4 @@ returns-clause-cause g c =
 pub returns-clause-drill : goal.returns-clause-drill
 returns-clause-drill g c = λ makes.
     drill_result c.args.scenario c.args.request.now.options.seed c.requires.in_range.window c.ended_lines_stay.ensures.all c.new-source.result.left (c.new-source.ensures.left ∙ c.in_ok-made.ensures)
-    c.args.request.now.mode makes c.requires.reports _ _ _ c.write_report-2.result c.write_report-2.ensures.report c.write_report-2.ensures.cause c.write_report-2.ensures.log_faults
+    c.args.request.now.mode makes c.requires.reports c.args.request.now.options.why _ _ _ c.write_report-2.result c.write_report-2.ensures.report c.write_report-2.ensures.cause c.write_report-2.ensures.log_faults

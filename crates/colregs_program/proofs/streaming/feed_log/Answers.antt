@@ -7,8 +7,8 @@ use Rattle.colregs_program.proofs.streaming.feed_log.Goals as goal
 
 pub returns-in_err-block-clause-cause : goal.returns-in_err-block-clause-cause
 returns-in_err-block-clause-cause g c =
-    err_cause c.from_residual.result _ _ c.from_residual.ensures.1
-    (none_begun (mode_of c.args.session.now) (session_scenario c.args.session.now) (g.S.Source.left c.args.log.now) (g.K.Sink.contents c.args.out.now))
+    err_cause c.from_residual.result _ _ c.from_residual.ensures.1 (λ asked.
+    none_begun (mode_of c.args.session.now) (session_scenario c.args.session.now) (g.S.Source.left c.args.log.now) (g.K.Sink.contents c.args.out.now))
 
 pub loop-block-init : goal.loop-block-init
 loop-block-init g c = record {
@@ -23,7 +23,8 @@ loop-block-init g c = record {
 pub returns-in_err-write_block-clause-cause : goal.returns-in_err-write_block-clause-cause
 returns-in_err-write_block-clause-cause g c =
     err_cause c.from_residual-in_err-write_block.result c.in_err-write_block.field-0.0 _ c.from_residual-in_err-write_block.ensures.1
-    (cause_by _ _ _ _ _ _ _ _ c.in_err-write_block.field-0.0 c.loop-block.invariant.mode c.loop-block.invariant.scenario (c.in_err-write_block.ensures.cause _ _ c.loop-block.invariant.written))
+    (λ asked. cause_by _ _ asked _ _ _ _ _ _ c.in_err-write_block.field-0.0 c.loop-block.invariant.mode c.loop-block.invariant.scenario
+    (c.in_err-write_block.ensures.cause asked _ _ c.loop-block.invariant.written))
 
 pub loop-block-smaller : goal.loop-block-smaller
 loop-block-smaller g c =

@@ -1,4 +1,5 @@
-use Rattle.std.proofs.Common.{[], ◌∙◌}
+use Rattle.std.proofs.Common.{[], List, ℕ, ◌++◌, ◌∙◌, ap, subst, sym}
+use Rattle.situations.specs.LeastPlans.{AllFail}
 use Rattle.outside.proofs.ForCallers.{err_cause}
 use Rattle.log_lines.specs.JudgedLines.{judged_lines, numbers_of}
 use Rattle.log_lines.specs.LogLines.{lines_of}
@@ -7,7 +8,7 @@ use Rattle.situations.specs.PlanSituations.{vessels_near}
 use Rattle.sessions.specs.PlanReport.{manoeuvre_rows, near_rows, plan_text}
 use Rattle.sessions.proofs.OutcomeRows.{count_rows-from_counts}
 use Rattle.sessions.proofs.PlanText.{three_parts}
-use Rattle.sessions.proofs.Seeking.{plan_answer, plan_cause}
+use Rattle.sessions.proofs.Seeking.{are_reasons, plan_answer, plan_cause}
 use Rattle.sessions.proofs.plan.end_plan.Goals as goal
 
 pub write_search-requires-clause-stands : goal.write_search-requires-clause-stands
@@ -15,17 +16,17 @@ write_search-requires-clause-stands c =
     let log = c.requires.at_end in
     (sent c.args.scenario (lines_of log.0), c.book.ensures.stands c.args.scenario (lines_of log.0) log.1)
 
-pub returns-in_err-none-clause-cause : goal.returns-in_err-none-clause-cause
-returns-in_err-none-clause-cause c =
+pub returns-in_err-found-clause-cause : goal.returns-in_err-found-clause-cause
+returns-in_err-found-clause-cause c =
     err_cause _ _ _ c.from_residual.ensures.1 (λ log stands.
-    plan_cause c.args.scenario log stands.calm c.requires.own c.in_err-none.field-0.0
-    (c.in_err-none.ensures.cause (sent c.args.scenario (lines_of log)) (c.book.ensures.stands c.args.scenario (lines_of log) stands)))
+    plan_cause c.args.scenario log stands.calm c.requires.own c.in_err-found.field-0.0
+    (c.in_err-found.ensures.cause (sent c.args.scenario (lines_of log)) (c.book.ensures.stands c.args.scenario (lines_of log) stands)))
 
 pub returns-clause-answer : goal.returns-clause-answer
 returns-clause-answer c = λ log stands.
     let scenario = c.args.scenario in
-    plan_answer scenario log stands.calm c.write_search.new.text [] c.in_ok-none.none
-    (c.in_ok-none.ensures.sought (sent scenario (lines_of log)) [] (c.book.ensures.stands scenario (lines_of log) stands) c.new-text.ensures)
+    plan_answer scenario log stands.calm c.write_search.new.text [] _ c.in_ok-found.found.none
+    (c.in_ok-found.ensures.sought (sent scenario (lines_of log)) [] (c.book.ensures.stands scenario (lines_of log) stands) c.new-text.ensures)
 
 pub returns-clause-report : goal.returns-clause-report
 unfolding plan_text
@@ -33,16 +34,22 @@ returns-clause-report c = λ log stands.
     let scenario = c.args.scenario in
     let lines = lines_of log in
     let messages = sent scenario lines in
-    let found = c.in_ok-none.ensures.sought messages [] (c.book.ensures.stands scenario lines stands) c.new-text.ensures in
+    let found = c.in_ok-found.ensures.sought messages [] (c.book.ensures.stands scenario lines stands) c.new-text.ensures in
     let counts = c.in_ok-write_counts.ensures _ found.has in
     let outcomes = count_rows-from_counts c.counts.result.now (judged_lines scenario lines) c.all_outcomes.result.now c.all_outcomes.ensures (c.counts.ensures scenario lines stands) in
+    let (reasons, are, added) = c.in_ok-add_reasons.ensures in
     record {
       own = found.own;
       ready = found.ready;
       is_own = record { needed = found.needed; is_ready = found.is_ready };
       manoeuvre = found.manoeuvre;
       is_first = found.is_first;
-      is = c.in_ok-into_bytes.ensures _ counts
+      reasons = reasons;
+      are_reasons = are_reasons c.args.why c.in_ok-found.found.none _ _ found.manoeuvre reasons (c.situation.ensures ∙ found.is_of) found.told are;
+      is = added ∙ ap (λ (t : List ℕ). t ++ reasons) (c.in_ok-bytes.ensures _ counts
           ∙ three_parts (near_rows (numbers_of scenario) messages (vessels_near (numbers_of scenario) messages scenario found.own found.ready))
-          (manoeuvre_rows scenario.window.ticks found.own.lattice found.ready found.manoeuvre) _ _ outcomes;
+          (manoeuvre_rows scenario.window.ticks found.own.lattice found.ready found.manoeuvre) _ _ outcomes);
     }
+
+pub add_reasons-requires-clause-fail : goal.add_reasons-requires-clause-fail
+add_reasons-requires-clause-fail c = λ none. subst AllFail (sym c.situation.ensures) (c.in_ok-found.ensures.fail none)

@@ -2,12 +2,12 @@ use Rattle.std.proofs.Common.{ℕ, List, ◌++◌, Err, ap, sym, subst, ◌∙�
 use Rattle.std.proofs.lemmas.Result.{IfOk-weaker, IfErr-weaker}
 use Rattle.outside.proofs.ForCallers.{err_cause}
 use Rattle.command_line.specs.declared.mode.Mode.TheVariants as mode
-use Rattle.sessions.specs.Endings.{IsEnding}
+use Rattle.sessions.specs.Endings.{IsReport}
 use Rattle.sessions.specs.Standing.{mode_by}
 use Rattle.sessions.proofs.EndedSessions.{Refusal, answer_is, audit_here, audit_of, audit_refused, drill_here, drill_of, drill_refused, ended_judge, plan_answered, plan_own, plan_refused, plan_report, points_of, report_is}
 use Rattle.sessions.proofs.Feeding.{vessels_refused}
 use Rattle.sessions.proofs.Meeting.{crowded_answer, points_done}
-use Rattle.sessions.proofs.session.Session.end.Goals as goal
+use Rattle.sessions.proofs.session.Session.finish.Goals as goal
 
 pub returns-in_err-ended-clause-refused : goal.returns-in_err-ended-clause-refused
 returns-in_err-ended-clause-refused c =
@@ -39,7 +39,7 @@ returns-in_err-rest-in-Drill-clause-refused c =
 pub returns-in_ok-end_points-in-Points-clause-report : goal.returns-in_ok-end_points-in-Points-clause-report
 returns-in_ok-end_points-in-Points-clause-report c = λ fed given stands.
     let of = points_of c.args.self c.in_ok-ended.ended c.in-Points.is c.in_ok-ended.ensures.judged c.in_ok-ended.ensures.stands fed given stands in
-    report_is c.args.self mode.Points c.without_search.result _ fed given (ap mode_by c.in-Points.is) c.without_search.ensures
+    report_is c.args.self mode.Points c.args.why c.without_search.result _ fed given (ap mode_by c.in-Points.is) c.without_search.ensures
     (ap (λ (g : List ℕ). g ++ c.in_ok-end_points-in-Points.field-0.items) of.1 ∙ c.in_ok-end_points-in-Points.ensures c.args.self.scenario fed of.0)
 
 pub returns-in_ok-end_points-in-Points-clause-answer : goal.returns-in_ok-end_points-in-Points-clause-answer
@@ -50,8 +50,8 @@ returns-in_ok-end_points-in-Points-clause-answer c = λ fed given stands.
 pub returns-in_ok-rest-in-Audit-clause-report : goal.returns-in_ok-rest-in-Audit-clause-report
 returns-in_ok-rest-in-Audit-clause-report c = λ fed given stands.
     let of = audit_of c.args.self c.in-Audit.audit c.in_ok-ended.ended.judge c.in-Audit.is c.in_ok-ended.ensures.stands fed given stands in
-    report_is c.args.self mode.Audit c.without_search-in-Audit.result _ fed given (ap mode_by c.in-Audit.is) c.without_search-in-Audit.ensures
-    (subst (λ (g : List ℕ). IsEnding mode.Audit c.args.self.scenario fed (g ++ c.in_ok-rest-in-Audit.rest.items)) (sym of.2) (c.in_ok-rest-in-Audit.ensures.report fed of.0 of.1))
+    report_is c.args.self mode.Audit c.args.why c.without_search-in-Audit.result _ fed given (ap mode_by c.in-Audit.is) c.without_search-in-Audit.ensures
+    (subst (λ (g : List ℕ). IsReport mode.Audit c.args.why c.args.self.scenario fed (g ++ c.in_ok-rest-in-Audit.rest.items)) (sym of.2) (c.in_ok-rest-in-Audit.ensures.report fed of.0 of.1))
 
 pub returns-in_ok-rest-in-Audit-clause-answer : goal.returns-in_ok-rest-in-Audit-clause-answer
 returns-in_ok-rest-in-Audit-clause-answer c = λ fed given stands.
@@ -61,8 +61,8 @@ returns-in_ok-rest-in-Audit-clause-answer c = λ fed given stands.
 pub returns-in_ok-rest-in-Drill-clause-report : goal.returns-in_ok-rest-in-Drill-clause-report
 returns-in_ok-rest-in-Drill-clause-report c = λ fed given stands.
     let of = drill_of c.args.self c.in-Drill.audit c.in_ok-ended.ended.judge c.in-Drill.is c.in_ok-ended.ensures.stands fed given stands in
-    report_is c.args.self mode.Drill c.without_search-in-Drill.result _ fed given (ap mode_by c.in-Drill.is) c.without_search-in-Drill.ensures
-    (subst (λ (g : List ℕ). IsEnding mode.Drill c.args.self.scenario fed (g ++ c.in_ok-rest-in-Drill.rest.items)) (sym of.1) (c.in_ok-rest-in-Drill.ensures.report fed of.0))
+    report_is c.args.self mode.Drill c.args.why c.without_search-in-Drill.result _ fed given (ap mode_by c.in-Drill.is) c.without_search-in-Drill.ensures
+    (subst (λ (g : List ℕ). IsReport mode.Drill c.args.why c.args.self.scenario fed (g ++ c.in_ok-rest-in-Drill.rest.items)) (sym of.1) (c.in_ok-rest-in-Drill.ensures.report fed of.0))
 
 pub returns-in_ok-rest-in-Drill-clause-answer : goal.returns-in_ok-rest-in-Drill-clause-answer
 returns-in_ok-rest-in-Drill-clause-answer c = λ fed given stands.
@@ -71,12 +71,12 @@ returns-in_ok-rest-in-Drill-clause-answer c = λ fed given stands.
 
 pub returns-in-Plan-clause-report : goal.returns-in-Plan-clause-report
 returns-in-Plan-clause-report c =
-    IfOk-weaker c.end_plan.result _ _ (λ ending report. plan_report c.args.self c.in_ok-ended.ended.judge c.in-Plan.is c.in_ok-ended.ensures.stands ending report) c.end_plan.ensures.report
+    IfOk-weaker c.end_plan.result _ _ (λ ending report. plan_report c.args.self c.args.why c.in_ok-ended.ended.judge c.in-Plan.is c.in_ok-ended.ensures.stands ending report) c.end_plan.ensures.report
 
 pub returns-in-Plan-clause-answer : goal.returns-in-Plan-clause-answer
 returns-in-Plan-clause-answer c =
-    IfOk-weaker c.end_plan.result _ _ (λ ending answer. plan_answered c.args.self c.in_ok-ended.ended.judge c.in-Plan.is c.in_ok-ended.ensures.stands ending answer) c.end_plan.ensures.answer
+    IfOk-weaker c.end_plan.result _ _ (λ ending answer. plan_answered c.args.self c.args.why c.in_ok-ended.ended.judge c.in-Plan.is c.in_ok-ended.ensures.stands ending answer) c.end_plan.ensures.answer
 
 pub returns-in-Plan-clause-refused : goal.returns-in-Plan-clause-refused
 returns-in-Plan-clause-refused c =
-    IfErr-weaker c.end_plan.result _ _ (λ why cause. plan_refused c.args.self c.in_ok-ended.ended.judge c.in-Plan.is c.in_ok-ended.ensures.stands why cause) c.end_plan.ensures.cause
+    IfErr-weaker c.end_plan.result _ _ (λ why cause. plan_refused c.args.self c.args.why c.in_ok-ended.ended.judge c.in-Plan.is c.in_ok-ended.ensures.stands why cause) c.end_plan.ensures.cause
