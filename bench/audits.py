@@ -155,9 +155,9 @@ def make(seed):
     return text, text_of(draw, lines)
 
 
-def run(program, mode, folder, log):
+def run(program, mode, folder, log, options):
     """The status, and what went to standard output and to standard error."""
-    done = subprocess.run([program, mode, "scenario.toml"], input=log.encode(), cwd=folder, stdout=subprocess.PIPE, stderr=subprocess.PIPE)
+    done = subprocess.run([program, mode, "scenario.toml", *options], input=log.encode(), cwd=folder, stdout=subprocess.PIPE, stderr=subprocess.PIPE)
     return done.returncode, done.stdout, done.stderr
 
 
@@ -178,7 +178,7 @@ def words(description, kept, *flags):
     return parser.parse_args()
 
 
-def compared(args, mode, make):
+def compared(args, mode, make, *options):
     """Each seed with what both programs made of its files; these are kept where the two differ, in status, report or the line of a fault."""
     program, other = os.path.abspath(args.program), os.path.abspath(args.other)
     for seed in range(args.first, args.first + args.count):
@@ -188,7 +188,7 @@ def compared(args, mode, make):
         for name, content in (("scenario.toml", text), ("log", log)):
             with open(os.path.join(folder, name), "w") as out:
                 out.write(content)
-        mine, theirs = run(program, mode, folder, log), run(other, mode, folder, log)
+        mine, theirs = run(program, mode, folder, log, options), run(other, mode, folder, log, options)
         if mine == theirs:
             for name in ("log", "scenario.toml"):
                 os.remove(os.path.join(folder, name))

@@ -1,11 +1,12 @@
 #!/usr/bin/env python3
-"""Makes scenarios and logs, plans by two programs on each, and compares what they write: plans.py PROGRAM OTHER [--first SEED] [--count N] [--shapes]
+"""Makes scenarios and logs, plans by two programs on each, and compares what they write: plans.py PROGRAM OTHER [--first SEED] [--count N] [--shapes] [--why]
 
 Both programs take `plan SCENARIO` and a log on standard input. Each seed makes one scenario and one log. Own ship is about to meet other
 vessels: they cross from either side, come from ahead, are overtaken or overtake, run beside her or lie still; some alter before now, some
 are predicted to alter, and some are lost. The length of a vessel is told by a message 5, 19 or 24, or by none. The plans are from one to
 some thousands, of one to eight legs; own ship may be slow to turn; and in some seeds she is not ready, too many vessels are near, or the
-scenario is refused. With --shapes domains are shapes of six vertices, and a few of these are refused; all else is as without. Where the statuses or what the programs wrote differ, the seed is told and its files are kept in the folder `--keep`.
+scenario is refused. With --shapes domains are shapes of six vertices, and a few of these are refused; all else is as without. With --why
+both are asked why every plan fails, and the plans are fewer. Where the statuses or what the programs wrote differ, the seed is told and its files are kept in the folder `--keep`.
 """
 import math
 import random
@@ -193,9 +194,12 @@ def choice(report):
 
 
 def main():
-    args = words(__doc__, "plans-kept", "--shapes")
+    global POSITIONS
+    args = words(__doc__, "plans-kept", "--shapes", "--why")
+    if args.why:
+        POSITIONS = 1000000
     same, statuses, choices = 0, {}, {}
-    for _, mine, theirs in compared(args, "plan", shaped if args.shapes else make):
+    for _, mine, theirs in compared(args, "plan", shaped if args.shapes else make, *["--why"] * args.why):
         same += mine == theirs
         statuses[mine[0]] = statuses.get(mine[0], 0) + 1
         choices[choice(mine[1])] = choices.get(choice(mine[1]), 0) + 1
