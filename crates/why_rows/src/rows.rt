@@ -1,0 +1,151 @@
+//! What is told of two vessels head on, and what a check tells of rows about them.
+ghost use Rattle.std.specs.Prelude.{◌<◌, ◌^◌, All, IfOk, IfSome, length};
+ghost use Rattle.situations.specs.Situations.{IsSituation};
+ghost use Rattle.refutations.specs.RightLists.{IsEntry};
+
+use crate::compared::{is, is_true};
+use crate::head_on::situation_with;
+use csv::{ByteRecord, ReaderBuilder};
+use outside::Memory;
+use refutations::{Checked, WhyEntry, check, entry_bytes, explain, read_entry};
+use situations::Situation;
+use std::alloc::Global;
+use std::test::Fail;
+
+/// The entries that rows tell, four at most. `None` where one of the rows tells no entry.
+fn entries_in(
+    alloc: Global,
+    situation: &Situation,
+    text: &[u8],
+) -> Result<Option<Vec<WhyEntry>>, Memory>
+    ensures entries { IfOk result (λ found. IfSome found (λ list. All (IsEntry situation.now) list.items)) }
+    ensures few { IfOk result (λ found. IfSome found (λ list. length list.items < 2 ^ 31)) }
+{
+    let mut reader = ReaderBuilder::new()
+        .has_headers(false)
+        .flexible(true)
+        .from_reader(alloc, text);
+    let mut row = ByteRecord::new(alloc);
+    let mut list = Vec::new(alloc);
+    for _k in 0..4_usize {
+        let Ok(true) = reader.read_byte_record(&mut row) else {
+            return Ok(Some(list));
+        };
+        let Some(entry) = read_entry(alloc, situation, &row) else {
+            return Ok(None);
+        };
+        list.push(entry)?;
+    }
+    Ok(Some(list))
+}
+
+/// What a check tells of rows. `None` where one of them tells no entry.
+fn judged(alloc: Global, situation: &Situation, text: &[u8]) -> Result<Option<Checked>, Memory>
+    requires { IsSituation situation.now }
+{
+    match entries_in(alloc, situation, text)? {
+        Some(list) => Ok(Some(check(alloc, situation, &list)?)),
+        None => Ok(None),
+    }
+}
+
+/// The text of the rows of the canonical list, or nothing where some plan does not fail.
+fn told(alloc: Global, situation: &Situation) -> Result<Vec<u8>, Memory>
+    requires { IsSituation situation.now }
+{
+    let mut text = Vec::new(alloc);
+    let Some(list) = explain(alloc, situation)? else {
+        return Ok(text);
+    };
+    for entry in &list {
+        let row = entry_bytes(alloc, situation, entry)?;
+        text.extend_from_slice(&row)?;
+    }
+    Ok(text)
+}
+
+/// Own ship is nearer than 300 metres in the steps from tick 18 to tick 21, and the rule named `domain` is broken from 19 on.
+#[test]
+fn the_canonical_list_is_told_and_right(rt: HostRuntime) -> Result<(), Fail> {
+    let alloc = rt.alloc();
+    let tables = [
+        ("[0]", b"why,0,477553000,domain,18,1,1\n".as_slice()),
+        (
+            "[0, 10]",
+            b"why,0,477553000,domain,18,1,1\nwhy,1,477553000,domain,18,1,1\n".as_slice(),
+        ),
+        ("[0, 600]", b"".as_slice()),
+    ];
+    for (courses, rows) in tables {
+        let found = situation_with(alloc, courses)?;
+        is_true(&rt, found.is_some());
+        if let Some(situation) = found {
+            let text = told(alloc, &situation)?;
+            is(&rt, text.as_slice(), rows);
+            let right = judged(alloc, &situation, &text)? == Some(Checked::Right);
+            is(&rt, right, !rows.is_empty());
+        }
+    }
+    Ok(())
+}
+
+#[test]
+fn rows_about_one_plan(rt: HostRuntime) -> Result<(), Fail> {
+    let alloc = rt.alloc();
+    let right = Some(Checked::Right);
+    let bad = Some(Checked::Bad(0));
+    let rows = [
+        (b"".as_slice(), bad),
+        (b"why,0,477553000,domain,17,1,1".as_slice(), bad),
+        (b"why,0,477553000,domain,18,2,2".as_slice(), right),
+        (b"why,0,477553000,domain,18,1,4".as_slice(), bad),
+        (b"why,0,477553000,domain,18,2,1".as_slice(), bad),
+        (b"why,0,477553000,domain,21,0,1".as_slice(), right),
+        (b"why,0,477553000,domain,22,0,1".as_slice(), bad),
+        (b"why,0,477553000,domain,18,,".as_slice(), bad),
+        (b"why,0,477553000,domain,19,,".as_slice(), right),
+        (b"why,0,477553000,domain,21,,".as_slice(), right),
+        (b"why,0,477553000,domain,22,,".as_slice(), bad),
+        (b"why,0,477553000,r14a,0,,".as_slice(), right),
+        (b"why,0,477553000,r14a,1,,".as_slice(), bad),
+        (b"why,0,477553001,domain,18,1,1".as_slice(), bad),
+        (
+            b"\"why\",\"0\",\"477553000\",\"r14a\",\"0\",\"\",\"\"".as_slice(),
+            right,
+        ),
+        (b"why,00,477553000,domain,18,1,1".as_slice(), None),
+        (b"why,0,477553000,domain,018,1,1".as_slice(), None),
+        (b"why,1,477553000,domain,18,1,1".as_slice(), None),
+        (b"why,0.0,477553000,domain,18,1,1".as_slice(), None),
+        (b"why,0,477553000,r99,0,,".as_slice(), None),
+        (b"why,0,477553000,domain,18,1,".as_slice(), None),
+    ];
+    if let Some(situation) = situation_with(alloc, "[0]")? {
+        for (text, expected) in rows {
+            is(&rt, judged(alloc, &situation, text)?, expected);
+        }
+    }
+    Ok(())
+}
+
+#[test]
+fn rows_about_two_plans(rt: HostRuntime) -> Result<(), Fail> {
+    let alloc = rt.alloc();
+    let rows = [
+        (
+            b"why,1,477553000,domain,18,1,1\nwhy,0,477553000,domain,18,1,1\n".as_slice(),
+            Checked::Bad(0),
+        ),
+        (
+            b"why,0,477553000,domain,18,1,1\nwhy,0,477553000,domain,18,1,1\n".as_slice(),
+            Checked::Bad(1),
+        ),
+        (b"why,0,477553000,r14a,0,,\n".as_slice(), Checked::Bad(1)),
+    ];
+    if let Some(situation) = situation_with(alloc, "[0, 10]")? {
+        for (text, expected) in rows {
+            is(&rt, judged(alloc, &situation, text)?, Some(expected));
+        }
+    }
+    Ok(())
+}
