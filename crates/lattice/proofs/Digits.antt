@@ -21,7 +21,7 @@ unfolding plan_of
 length-plan_of b zero n = refl
 length-plan_of b (suc k) n = omega (arith, length-append (plan_of b k (n / b)) (n % b ∷ []), length-plan_of b k (n / b))
 
-below_push : (b : ℕ) (ds : List ℕ) (d : ℕ) → AllBelowBase b ds → d < b → AllBelowBase b (ds ++ d ∷ [])
+pub below_push : (b : ℕ) (ds : List ℕ) (d : ℕ) → AllBelowBase b ds → d < b → AllBelowBase b (ds ++ d ∷ [])
 below_push b [] d h lt = (lt, tt)
 below_push b (x ∷ ds) d h lt = (h.0, below_push b ds d h.1 lt)
 

@@ -14,7 +14,8 @@ use crate::verdict::Verdict;
 /// The value of a formula at position `i` of the trace `rows`, whose position 0 is the first row: metric temporal logic
 /// after Koymans (1990), read with three values. At the trace's end and beyond every formula is `Open`.
 ///
-/// Each operator over an interval asks its operands anew at each position of the interval.
+/// Each operator over an interval asks its operands anew at each position of the interval. The second operand of `&`, `|` and `->` is asked only
+/// where the first one leaves the value open to it.
 #[cycle(evaluation)]
 pub fn value<A: Atoms>(formula: &Formula, rows: &[A], i: usize) -> Verdict
     requires { IsValid (tree_of formula.now) }
@@ -26,9 +27,18 @@ pub fn value<A: Atoms>(formula: &Formula, rows: &[A], i: usize) -> Verdict
     match &formula.root {
         Root::Leaf(atom) => rows[i].value(*atom),
         Root::Negated(a) => value(a, rows, i).negated(),
-        Root::Pair(PairKind::And, a, b) => value(a, rows, i).and(value(b, rows, i)),
-        Root::Pair(PairKind::Or, a, b) => value(a, rows, i).or(value(b, rows, i)),
-        Root::Pair(PairKind::Implies, a, b) => value(a, rows, i).negated().or(value(b, rows, i)),
+        Root::Pair(PairKind::And, a, b) => match value(a, rows, i) {
+            Verdict::No => Verdict::No,
+            first => first.and(value(b, rows, i)),
+        },
+        Root::Pair(PairKind::Or, a, b) => match value(a, rows, i) {
+            Verdict::Yes => Verdict::Yes,
+            first => first.or(value(b, rows, i)),
+        },
+        Root::Pair(PairKind::Implies, a, b) => match value(a, rows, i) {
+            Verdict::No => Verdict::Yes,
+            first => first.negated().or(value(b, rows, i)),
+        },
         Root::Span(SpanKind::F, lower, upper, a) => greatest_ahead(a, rows, i, *lower, *upper),
         Root::Span(SpanKind::G, lower, upper, a) => least_ahead(a, rows, i, *lower, *upper + 1),
         Root::Span(SpanKind::O, lower, upper, a) => greatest_back(a, rows, i, *lower, *upper),

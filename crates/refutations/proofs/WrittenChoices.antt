@@ -8,6 +8,7 @@ use Rattle.std.proofs.lemmas.Str.Parse.{digit_at}
 use Rattle.std.specs.Fmt.{decimal}
 use Rattle.std.specs.Int.Digits.{AllBelowBase}
 use Rattle.std.specs.List.{join_with_byte, slice_split}
+use Rattle.lattice.proofs.Digits.{below_push}
 use Rattle.refutations.specs.EntryRows.{choices_text}
 use Rattle.refutations.specs.Inner.Readings.{AreChoicesIn}
 
@@ -140,8 +141,4 @@ numbers_more read new choice part parts is told =
     ∙ (append_assoc (map decimal read) (decimal choice ∷ []) parts ∙ ap (λ (p : List ℕ). map decimal read ++ p ∷ parts) told))
 
 pub below_more : (base : ℕ) (read new : List ℕ) (choice : ℕ) → new ≡ read ++ choice ∷ [] → AllBelowBase base read → choice < base → AllBelowBase base new
-below_more base read new choice is below lt = subst (AllBelowBase base) (sym is) (all read below)
-  where
-    all : (cs : List ℕ) → AllBelowBase base cs → AllBelowBase base (cs ++ choice ∷ [])
-    all [] h = (lt, tt)
-    all (c ∷ cs) h = (h.0, all cs h.1)
+below_more base read new choice is below lt = subst (AllBelowBase base) (sym is) (below_push base read choice below lt)
