@@ -1,10 +1,10 @@
 -- Own ship is inside a domain at the moment that tells of it, or at no instant.
-use Rattle.std.proofs.Common.{◌≡◌, ◌∙◌, ℕ, ◌^◌, ◌<◌, ◌≤◌, List, refl, ap, arith, sym, subst, subst₂, Some, None}
-use Rattle.std.specs.Prelude.{Option, IfSome, IsNone, IsTrue, MatchOption, ◌↔◌, is_some, ℤ, Bool, true, false, pos, neg_ℤ, ◌*ℤ◌, int_le, unsigned_abs, if◌then◌else◌}
+use Rattle.std.proofs.Common.{◌≡◌, ◌∙◌, ℕ, ◌^◌, ◌<◌, ◌≤◌, List, refl, ap, arith, sym, subst₂, Some, None}
+use Rattle.std.specs.Prelude.{Option, IfSome, IsNone, IsTrue, MatchOption, ◌↔◌, is_some, ℤ, Bool, true, false, pos, neg_ℤ, ◌*ℤ◌, int_le, unsigned_abs, if◌then◌else◌, not}
 use Rattle.fixed_geometry.specs.Plane.{dot_of, norm2_of}
 use Rattle.closest_approach.specs.Separation.{IsNearer, IsSeparated, nearest_of}
 use Rattle.closest_approach.specs.declared.nearest.Moment.{Moment}
-use Rattle.closest_approach.proofs.Decision.{not_nearer}
+use Rattle.closest_approach.proofs.Decision.{in_step, nearer_where_not, not_nearer}
 use Rattle.encounters.specs.declared.pair_step.PairStep.{PairStep}
 use Rattle.hull_domains.specs.Crossings.{entry_moment}
 use Rattle.hull_domains.specs.Domains.{IsInside, StaysOutside}
@@ -68,18 +68,35 @@ module _ (s : Situation) (T : Target) (pair : PairStep) where
     entry_by_shape (Some moment) none is instant inside =
         record { is = is ∙ shape_moment; within = instant.0; some = instant.1; small = instant.2; inside = shaped moment.a moment.b inside }
 
-  pub entry_by_circle : IsCircle s.shape pair.b.direction → (nearest_of pair.step 1).b < 2 ^ 60 → (o : Option Moment) → (IsNone o ↔ IsSeparated pair.step T.domain.radius) → IfSome o (λ moment. moment ≡ nearest_of pair.step 1)
+  pub entry_by_circle : IsCircle s.shape pair.b.direction → (o : Option Moment) → IfSome o (λ moment. moment.b < 2 ^ 60) → (IsNone o ↔ IsSeparated pair.step T.domain.radius) → IfSome o (λ moment. moment ≡ nearest_of pair.step 1)
       → IfSome o (λ moment. (moment.a ≤ moment.b) × (0 < moment.b)) → IfSome o (λ moment. IsNearer pair.step T.domain.radius moment.a moment.b)
       → MatchOption o (¬ Enters s T pair) (IsEntry s T pair)
-  entry_by_circle circle small None none is instant inside =
+  entry_by_circle circle None small none is instant inside =
       λ h. not_nearer pair.step T.domain.radius h.a h.b (none.0 refl) h.within h.some (in_circle T.domain.radius pair.step h.a h.b s.shape pair.b.direction circle h.inside)
-  entry_by_circle circle small (Some moment) none is instant inside = record {
+  entry_by_circle circle (Some moment) small none is instant inside = record {
     is = is ∙ sym (circle_moment pair.step s.shape pair.b.direction circle);
     within = instant.0;
     some = instant.1;
-    small = subst (λ (m : Moment). m.b < 2 ^ 60) (sym is) small;
+    small = small;
     inside = of_circle T.domain.radius pair.step moment.a moment.b s.shape pair.b.direction circle inside;
   }
+
+  pub entered_circle : IsCircle s.shape pair.b.direction → (apart : Bool) → (IsTrue apart ↔ IsSeparated pair.step T.domain.radius) → IsTrue (not apart) ↔ Enters s T pair
+  entered_circle circle true exact =
+      (λ t. cc, λ h. absurd (not_nearer pair.step T.domain.radius h.a h.b (exact.0 refl) h.within h.some (in_circle T.domain.radius pair.step h.a h.b s.shape pair.b.direction circle h.inside)))
+  entered_circle circle false exact =
+      let moment = nearest_of pair.step 1 in
+      let near : IsSeparated pair.step T.domain.radius → ⊥ = λ separated. (let impossible : IsTrue false = exact.1 separated in cc) in
+      let within = in_step pair.step moment refl in (
+        λ t. (record {
+          a = moment.a;
+          b = moment.b;
+          within = within.0;
+          some = within.1;
+          inside = of_circle T.domain.radius pair.step moment.a moment.b s.shape pair.b.direction circle (nearer_where_not pair.step T.domain.radius near);
+        }),
+        λ h. refl,
+      )
 
   pub entry_enters : (moment : Moment) → IsEntry s T pair moment → Enters s T pair
   entry_enters moment h = record { a = moment.a; b = moment.b; within = h.within; some = h.some; inside = h.inside }

@@ -1,12 +1,13 @@
 //! The domain of a target.
-ghost use Rattle.std.specs.Prelude.{◌≡◌, ◌≤◌, ◌^◌, ◌↔◌, IsTrue, MatchOption, pos};
+ghost use Rattle.std.specs.Prelude.{◌≡◌, ◌≤◌, ◌<◌, ◌^◌, ◌↔◌, IfSome, IsNone, IsTrue, MatchOption, pos};
+ghost use Rattle.closest_approach.specs.Separation.{IsNearer, IsSeparated, nearest_of};
 ghost use Rattle.encounters.specs.Directions.{HaveDirections};
 ghost use Rattle.fixed_geometry.specs.Plane.{norm2_of};
 ghost use Rattle.situations.specs.Domains.{Enters, IsEntry};
 ghost use Rattle.situations.specs.Situations.{IsTarget};
 
 use crate::situation::{Situation, Target};
-use closest_approach::{Moment, entry};
+use closest_approach::{Moment, entry, separated};
 use encounters::PairStep;
 use fixed_geometry::norm2;
 use hull_domains::enters;
@@ -28,6 +29,21 @@ fn change2(step: &Step) -> u128
     norm2(step.w())
 }
 
+/// The moment of least distance of a step, if the vessels are nearer than the radius at some instant of it. Its numbers are below 2^60, which is
+/// looked at only where there is one.
+fn nearest_within(step: &Step, radius: u64) -> Option<Moment>
+    requires { radius < 2 ^ 31 }
+    ensures none { IsNone result ↔ IsSeparated step.now radius }
+    ensures moment { IfSome result (λ moment. moment ≡ nearest_of step.now 1) }
+    ensures instant { IfSome result (λ moment. (moment.a ≤ moment.b) × (0 < moment.b)) }
+    ensures nearer { IfSome result (λ moment. IsNearer step.now radius moment.a moment.b) }
+    ensures small { IfSome result (λ moment. moment.b < 2 ^ 60) }
+{
+    let moment = entry(step, radius)?;
+    let _change2 = change2(step);
+    Some(moment)
+}
+
 impl Situation {
     /// A moment of a step of both at which own ship is inside the target's domain, told by numbers below 2^60: for a shape one between the
     /// crossings of its edges, for a circle that of least distance. `None` where she is inside at no instant of the step.
@@ -38,19 +54,19 @@ impl Situation {
     {
         match (&self.shape, pair.b.direction) {
             (Some(shape), Some(direction)) => enters(&pair.step, direction, shape),
-            _ => {
-                let _change2 = change2(&pair.step);
-                entry(&pair.step, target.domain.radius)
-            }
+            _ => nearest_within(&pair.step, target.domain.radius),
         }
     }
 
-    /// Whether own ship enters a target's domain in a step of both.
+    /// Whether own ship enters a target's domain in a step of both. The search asks this at each step, so no moment is made.
     pub fn enters(&self, target: &Target, pair: &PairStep) -> bool
         requires target { IsTarget self.now target.now }
         requires heads { HaveDirections pair.now }
         ensures { IsTrue result ↔ Enters self.now target.now pair.now }
     {
-        self.entry(target, pair).is_some()
+        match (&self.shape, pair.b.direction) {
+            (Some(shape), Some(direction)) => enters(&pair.step, direction, shape).is_some(),
+            _ => !separated(&pair.step, target.domain.radius),
+        }
     }
 }

@@ -1,8 +1,7 @@
 //! Why a plan fails towards a target. Each reason is asked up to a horizon, any tick from now to the last planned one: the planned trace is cut
 //! there, and a prefix of legs has the one up to which it tells the steps.
 ghost use Rattle.std.specs.Prelude.{ℕ, ◌≡◌, ◌+◌, ◌-◌, ◌≤◌, ◌<◌, ◌↔◌, length, map, IfOk, IfSome, IsSome, IsSomeAnd, IsTrue, MatchOption};
-ghost use Rattle.encounters.specs.Directions.{HaveDirections};
-ghost use Rattle.lattice.specs.Grids.{choices_of, positions_of};
+ghost use Rattle.lattice.specs.Grids.{choices_of};
 ghost use Rattle.lattice.specs.PlanNumbers.{IsPlan};
 ghost use Rattle.meetings.specs.Answers.{answer_of};
 ghost use Rattle.meetings.specs.Traces.{IsContactAt, step_at};
@@ -14,15 +13,12 @@ ghost use Rattle.rule_set.specs.NamedTrees.{rule_at};
 ghost use Rattle.situations.specs.Domains.{IsEntry};
 ghost use Rattle.situations.specs.FailingPlans.{AreTraceRows, BeginsAt, BreaksARule, BreaksAt, EntersAt, EntersDomain, IsNewlyBrokenHere};
 ghost use Rattle.situations.specs.Inner.FirstBroken.{IsFirstOfAll, IsFirstThere, IsRuleBroken};
-ghost use Rattle.situations.specs.Paths.{IsPath, IsTrack};
 ghost use Rattle.situations.specs.Situations.{end_of, now_of, own_at, target_at, IsSituation, IsTarget};
 
 use crate::situation::{Situation, Target};
 use closest_approach::Moment;
-use encounters::PairStep;
 use lattice::Plan;
 use meetings::{AtomRow, Follower};
-use motion::TickState;
 use mtl_formulas::{Formula, Verdict, value};
 use outside::Memory;
 use std::alloc::Global;
@@ -94,48 +90,6 @@ impl Situation {
         None
     }
 
-    /// Own ship's states under a plan from now up to a horizon, each found from the one before.
-    fn path_up_to(&self, alloc: Global, plan: &Plan, until: u32) -> Result<Vec<TickState>, Memory>
-        requires situation { IsSituation self.now }
-        requires plan { IsPlan (choices_of self.now.lattice) self.now.lattice.legs plan.now }
-        requires from_now { now_of self.now ≤ until }
-        requires until { until ≤ end_of self.now }
-        ensures count { IfOk result (λ path. now_of self.now + length path.items ≡ until + 1) }
-        ensures path { IfOk result (λ path. IsPath self.now plan.now 0 path.items) }
-        ensures track { IfOk result (λ path. IsTrack path.items) }
-    {
-        let count = (until - self.now()) as usize + 1;
-        let mut path = vec![in alloc; self.start; count]?;
-        self.fill_path(plan, 0, self.own_after(plan, 0), &mut path);
-        Ok(path)
-    }
-
-    /// The step of both from a tick to the next, by own ship's path from now on.
-    fn step_along(
-        &self,
-        plan: &Plan,
-        path: &[TickState],
-        target: &Target,
-        k: u32,
-    ) -> Option<PairStep>
-        requires situation { IsSituation self.now }
-        requires plan { IsPlan (choices_of self.now.lattice) self.now.lattice.legs plan.now }
-        requires path { IsPath self.now plan.now 0 path.now }
-        requires track { IsTrack path.now }
-        requires planned { length path.now ≤ positions_of self.now.lattice + 1 }
-        requires target { IsTarget self.now target.now }
-        requires within { k + 1 < now_of self.now + length path.now }
-        ensures value { result ≡ step_at (own_at self.now plan.now) (target_at self.now target.now) k }
-        ensures heads { IfSome result HaveDirections }
-    {
-        let now = self.now();
-        if k < now {
-            self.step_at(plan, target, k)
-        } else {
-            self.step_on(path, target, 0, (k - now) as usize)
-        }
-    }
-
     /// The rows of that trace.
     fn trace_rows(
         &self,
@@ -149,16 +103,14 @@ impl Situation {
         requires plan { IsPlan (choices_of self.now.lattice) self.now.lattice.legs plan.now }
         requires target { IsTarget self.now target.now }
         requires start { start < until }
-        requires from_now { now_of self.now ≤ until }
         requires until { until ≤ end_of self.now }
         ensures rows { IfOk result (λ rows. AreTraceRows self.now plan.now until target.now start (map answer_of rows.items)) }
         ensures count { IfOk result (λ rows. length rows.items ≡ until - start) }
     {
-        let path = self.path_up_to(alloc, plan, until)?;
         let mut follower = Follower::new(self.detect, self.act, self.tick);
         let mut rows = Vec::new(alloc);
         for k in start..until {
-            rows.push(follower.step(self.step_along(plan, &path, target, k).as_ref()))?;
+            rows.push(follower.step(self.step_at(plan, target, k).as_ref()))?;
         }
         Ok(rows)
     }

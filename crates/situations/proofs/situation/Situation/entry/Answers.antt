@@ -1,5 +1,5 @@
 use Rattle.std.proofs.Common.{sym}
-use Rattle.situations.proofs.Entries.{entry_by_circle, entry_by_shape, nearest_small}
+use Rattle.situations.proofs.Entries.{entry_by_circle, entry_by_shape}
 use Rattle.situations.proofs.situation.Situation.entry.Goals as goal
 use Rattle.situations.proofs.situation.Situation.entry.Goals.{in_default-via-in-Some+in_default, in_default-via-in_default}
 
@@ -12,5 +12,4 @@ pub returns-in_default : goal.returns-in_default
 returns-in_default c =
     entry_by_circle c.args.self.now c.args.target.now c.args.pair.now
     (λ vertices direction has heads. elim c.in_default.branch [ in_default-via-in-Some+in_default w ↦ cc | in_default-via-in_default w ↦ cc ])
-    (nearest_small c.args.pair.now.step c.change2-change2.result c.change2-change2.ensures.value c.change2-change2.ensures.small)
-    c.entry.result c.entry.ensures.none c.entry.ensures.moment c.entry.ensures.instant c.entry.ensures.nearer
+    c.nearest_within.result c.nearest_within.ensures.small c.nearest_within.ensures.none c.nearest_within.ensures.moment c.nearest_within.ensures.instant c.nearest_within.ensures.nearer
