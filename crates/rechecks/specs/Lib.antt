@@ -1,0 +1,2 @@
+pub mod CheckedRows
+pub mod Inner

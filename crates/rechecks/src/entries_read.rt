@@ -1,0 +1,70 @@
+//! The entries that the rows of a text tell.
+ghost use Rattle.std.specs.Prelude.{ℕ, ◌≡◌, ◌≢◌, ◌+◌, ◌≤◌, ◌<◌, ◌^◌, All, false, length, true, IfOk};
+ghost use Rattle.audit_report.specs.ReportRows.{Fields};
+ghost use Rattle.csv.specs.Records.{fields_of};
+ghost use Rattle.refutations.specs.RightLists.{IsEntry};
+ghost use Rattle.rechecks.specs.CheckedRows.{why_rows};
+ghost use Rattle.rechecks.specs.Inner.ReadRows.{AreRead, TakesRow};
+
+use crate::text_rows::{is_why, read_row};
+use csv::{ByteRecord, ReaderBuilder};
+use outside::Memory;
+use refutations::{WhyEntry, read_entry};
+use situations::Situation;
+use std::alloc::Global;
+
+/// The entries of the rows `why` of a text: of all, or up to the first row that tells none.
+#[derive(Drop)]
+pub(crate) struct EntriesRead {
+    pub(crate) entries: Vec<WhyEntry>,
+    pub(crate) all: bool,
+}
+
+/// Adds the entry that a row `why` tells, and passes over a row of another kind. `false` where a row `why` tells no entry.
+fn take_row(
+    alloc: Global,
+    situation: &Situation,
+    row: &ByteRecord,
+    entries: &mut Vec<WhyEntry>,
+) -> Result<bool, Memory>
+    ensures { IfOk result (λ taken. TakesRow situation.now (fields_of row.now) entries.old.items entries.new.items taken) }
+{
+    if !is_why(row) {
+        return Ok(true);
+    }
+    let Some(entry) = read_entry(alloc, situation, row) else {
+        return Ok(false);
+    };
+    entries.push(entry)?;
+    Ok(true)
+}
+
+/// Reads them. A text has no more rows than bytes, and one more turn finds its end.
+pub(crate) fn read_entries(
+    alloc: Global,
+    situation: &Situation,
+    text: &[u8],
+) -> Result<EntriesRead, Memory>
+    requires { length text.now ≤ 2 ^ 24 }
+    ensures read { IfOk result (λ read. AreRead situation.now (why_rows text.now) read.entries.items read.all) }
+    ensures few { IfOk result (λ read. length read.entries.items < 2 ^ 31) }
+{
+    let mut reader = ReaderBuilder::new()
+        .has_headers(false)
+        .flexible(true)
+        .from_reader(alloc, text);
+    let mut row = ByteRecord::new(alloc);
+    let mut entries = Vec::new(alloc);
+    for _turn in 0..text.len() + 1 {
+        if !read_row(&mut reader, &mut row)? {
+            return Ok(EntriesRead { entries, all: true });
+        }
+        if !take_row(alloc, situation, &row, &mut entries)? {
+            return Ok(EntriesRead {
+                entries,
+                all: false,
+            });
+        }
+    }
+    Ok(EntriesRead { entries, all: true })
+}
