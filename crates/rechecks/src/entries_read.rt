@@ -1,8 +1,6 @@
 //! The entries that the rows of a text tell.
-ghost use Rattle.std.specs.Prelude.{ℕ, ◌≡◌, ◌≢◌, ◌+◌, ◌≤◌, ◌<◌, ◌^◌, All, false, length, true, IfOk};
-ghost use Rattle.audit_report.specs.ReportRows.{Fields};
+ghost use Rattle.std.specs.Prelude.{◌≤◌, ◌<◌, ◌^◌, length, IfOk};
 ghost use Rattle.csv.specs.Records.{fields_of};
-ghost use Rattle.refutations.specs.RightLists.{IsEntry};
 ghost use Rattle.rechecks.specs.CheckedRows.{why_rows};
 ghost use Rattle.rechecks.specs.Inner.ReadRows.{AreRead, TakesRow};
 
