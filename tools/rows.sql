@@ -23,4 +23,10 @@ create view total as select f1 as rule, cast(f2 as integer) as positions, cast(f
 create view plan as select cast(f1 as integer) as number, cast(f2 as integer) as leg, f3 / 10.0 as course, f4 / 10.0 as speed,
   cast(f5 as integer) as first, cast(f6 as integer) as last from rows where kind = 'plan';
 
+create view "none" as select cast(f1 as integer) as plans from rows where kind = 'none';
+
+-- the instant is a part of the step, from 0 to 1
+create view why as select f1 as choices, cast(f2 as integer) as target, f3 as reason, cast(f4 as integer) as step,
+  cast(nullif(f5, '') as real) / cast(nullif(f6, '') as real) as instant from rows where kind = 'why';
+
 create view lines as select f1 as outcome, cast(f2 as integer) as count from rows where kind = 'lines';

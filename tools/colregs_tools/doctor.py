@@ -45,8 +45,8 @@ class Patient:
         self.vessels = {int(fields[1]): fields for fields in self.rows("vessel")}
         self.sentences = sum(count for name, count in self.counts.items() if name not in NO_SENTENCE)
 
-    def run(self, mode):
-        return Run(self.program, mode, self.scenario, self.log, self.options)
+    def run(self, mode, *options):
+        return Run(self.program, mode, self.scenario, self.log, [*self.options, *options])
 
     @functools.cached_property
     def kinds(self):
@@ -98,7 +98,8 @@ def other_report(patient):
     if mode is None:
         yield Finding("no whole report", "the report has no rows `lines`, with which each report ends")
         return
-    fresh = {"audit": patient.audit, "points": patient.points}.get(mode) or patient.run(mode)
+    asked = ["--why"] if b"\nwhy," in patient.report else []
+    fresh = {"audit": patient.audit, "points": patient.points}.get(mode) or patient.run(mode, *asked)
     if fresh.status not in (0, 1):
         yield refusal(mode, fresh)
     elif fresh.text != patient.report:

@@ -19,7 +19,7 @@ from .packing import Fault
 FIELDS = 7
 OUTCOMES = 21           # a whole report counts the lines by as many outcomes
 NEAR = 0.5              # metres by which a least distance that is reckoned here may differ from the report's
-KINDS = ("point", "meeting", "verdict", "vessel", "total", "plan", "none", "lines")
+KINDS = ("point", "meeting", "verdict", "vessel", "total", "plan", "none", "lines", "why")
 NONE = -1               # stands for a speed or a course that a report does not tell
 
 

@@ -168,6 +168,16 @@ class WrongUses(InFolder):
                 self.assertIn(old, GIVING)
                 self.assertIn(name, self.names(GIVING.replace(old, new), GIVING_LOG, plan))
 
+    def test_a_report_that_says_why_there_is_no_plan_is_written_again(self):
+        hemmed = GIVING.replace("courses = [0, 150, 300, 450, 600]", "courses = [0]").replace("speeds = [0, -40]", "speeds = [0]")
+        scenario, log = self.write("hemmed.toml", hemmed), example("giving_way.log")
+        with open(log, "rb") as source:
+            done = subprocess.run([PROGRAM, "plan", scenario, "--why"], stdin=source, capture_output=True)
+        self.assertEqual(done.returncode, 1)
+        report = done.stdout.decode()
+        self.assertIn("\nwhy,", report)
+        self.assertEqual(self.names(hemmed, GIVING_LOG, report), [])
+
     def test_the_status_says_whether_something_is_amiss(self):
         wrong = self.write("wrong.toml", TOML.replace("watch = 4000", "watch = 3"))
         status, out, _ = self.tool("colregs-doctor", "--program", PROGRAM, wrong, example("crossing.log"))
