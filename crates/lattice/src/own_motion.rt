@@ -109,6 +109,7 @@ impl Lattice {
     }
 
     /// The same at each tick from this one on, where she has got so far.
+    #[inline(always)]
     fn fill(
         &self,
         plan: &Plan,
@@ -161,6 +162,7 @@ impl Lattice {
 
     /// Own ship's states at the ticks from `first` on, as many as the path holds, each as `own_motion` gives it: each is found from
     /// the one before. `reached` is as `motion_after` gives it for `first` steps.
+    #[inline(always)]
     pub fn fill_motion(
         &self,
         start: &TickState,

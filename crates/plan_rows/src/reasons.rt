@@ -39,7 +39,7 @@ fn reasons_by(
     let plan = situation.lattice.plan(0);
     Ok(Some(Why {
         until,
-        entry: situation.entered(&plan, target, until),
+        entry: situation.entered(alloc, &plan, target, until)?,
         broken: situation.newly_broken(alloc, &plan, target, until)?,
     }))
 }

@@ -88,6 +88,13 @@ module _ (s : Situation) where
       here (λ (e : WhyEntry). IsGood s e × (first_of s e ≡ ends_from s 0 (take k xs))) xs k entry lt
       (subst (λ (e : WhyEntry). IsGood s e × (first_of s e ≡ ends_from s 0 (take k xs))) is (good, first ∙ covered))
 
+  pub unsound_here : (xs : List WhyEntry) (k begin : ℕ) (entry : WhyEntry) → entry ≡ get_or xs k entry → begin ≡ ends_from s 0 (take k xs)
+      → ¬ (IsGood s entry × (first_of s entry ≡ begin)) → ¬ IsSoundAt s xs k
+  unsound_here xs k begin entry is covered none sound =
+      let at = there (λ (e : WhyEntry). IsGood s e × (first_of s e ≡ ends_from s 0 (take k xs))) xs k sound in
+      let facts = at.1 entry in
+      none (subst (λ (e : WhyEntry). IsGood s e × (first_of s e ≡ begin)) (sym is) (facts.0, facts.1 ∙ sym covered))
+
   pub ends_here : (xs : List WhyEntry) (k end : ℕ) (entry : WhyEntry) → k < length xs → entry ≡ get_or xs k entry → behind s entry ≡ end
       → end ≡ ends_from s 0 (take (k + 1) xs)
   ends_here xs k end entry lt is ends =

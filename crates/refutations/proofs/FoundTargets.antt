@@ -7,6 +7,10 @@ use Rattle.situations.specs.FailingPlans.{Some_}
 use Rattle.situations.specs.declared.situation.Target.{Target}
 use Rattle.situations.proofs.ForCallers.{some_at, some_here}
 
+pub element : {X : Type 0} (xs : List X) (k : ℕ) → k < length xs → X
+element [] k lt = absurd (omega arith)
+element (x ∷ xs) k lt = x
+
 module _ (xs : List Target) (mmsi : ℕ) (ascending : AllPairs (λ (a b : Target). a.mmsi < b.mmsi) xs) where
   -- ---- what a comparison with the one in the middle tells of those on either side
 

@@ -10,3 +10,4 @@ pub mod ToldEntries
 pub mod OneList
 pub mod ForCallers
 pub mod FoundTargets
+pub mod Replays

@@ -1,3 +1,4 @@
 -- Definitions that no public clause cites.
 pub mod Walks
 pub mod Readings
+pub mod Replays

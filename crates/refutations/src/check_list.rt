@@ -1,14 +1,16 @@
 //! The check of a list of entries.
-ghost use Rattle.std.specs.Prelude.{◌≡◌, ◌^◌, ◌<◌, ◌↔◌, All, IfOk, MatchOption, length};
+ghost use Rattle.std.specs.Prelude.{◌≡◌, ◌^◌, ◌<◌, ◌↔◌, All, IfOk, MatchOption, OnOk, length};
 ghost use Rattle.situations.specs.LeastPlans.{AllFail};
 ghost use Rattle.situations.specs.Situations.{IsSituation};
 ghost use Rattle.refutations.specs.GoodEntries.{IsGood};
+ghost use Rattle.refutations.specs.Inner.Replays.{situation_in, IsReplay};
 ghost use Rattle.refutations.specs.RightLists.{behind, first_of, IsEntry, IsRight, Tells};
 ghost use Rattle.refutations.specs.declared.entry.Checked.TheVariants as Checked;
 
 use crate::entry::{Checked, WhyEntry};
 use crate::goodness::is_good;
 use crate::laws::a_right_list_refutes;
+use crate::replay::Replay;
 use outside::Memory;
 use situations::Situation;
 use std::alloc::Global;
@@ -17,19 +19,24 @@ use std::alloc::Global;
 fn sound_end(
     alloc: Global,
     situation: &Situation,
+    replay: &mut Replay<'_>,
     entry: &WhyEntry,
     begin: u32,
 ) -> Result<Option<u32>, Memory>
     requires situation { IsSituation situation.now }
+    requires replay { IsReplay replay.old }
+    requires same { situation_in replay.old.course ≡ situation.now }
     requires entry { IsEntry situation.now entry.now }
-    ensures { IfOk result (λ end. MatchOption end (¬ (IsGood situation.now entry.now × (first_of situation.now entry.now ≡ begin)))
+    ensures replay { OnOk result (IsReplay replay.new) }
+    ensures same { situation_in replay.new.course ≡ situation.now }
+    ensures end { IfOk result (λ end. MatchOption end (¬ (IsGood situation.now entry.now × (first_of situation.now entry.now ≡ begin)))
         (λ end. IsGood situation.now entry.now × (first_of situation.now entry.now ≡ begin) × (behind situation.now entry.now ≡ end))) }
 {
     let (first, behind) = situation.lattice.block(entry.prefix.choices());
     if first != begin {
         return Ok(None);
     }
-    if is_good(alloc, situation, entry)? {
+    if is_good(alloc, situation, replay, entry)? {
         Ok(Some(behind))
     } else {
         Ok(None)
@@ -47,9 +54,10 @@ pub fn check(alloc: Global, situation: &Situation, entries: &[WhyEntry]) -> Resu
     ensures refutes { IfOk result (λ checked. checked ≡ Checked.Right → AllFail situation.now) }
 {
     a_right_list_refutes(situation);
+    let mut replay = Replay::new(alloc, situation)?;
     let mut covered = 0;
     for k in 0..entries.len() {
-        let Some(end) = sound_end(alloc, situation, &entries[k], covered)? else {
+        let Some(end) = sound_end(alloc, situation, &mut replay, &entries[k], covered)? else {
             return Ok(Checked::Bad(k as u32));
         };
         covered = end;

@@ -35,7 +35,8 @@ fn first_towards(
     requires until { until ≤ end_of situation.now }
     ensures { IfOk result (λ found. MatchOption found (¬ FailsTowards situation.now plan.now until target.now) (IsFirstTowards situation.now plan.now until target.now)) }
 {
-    if let Some(entry) = situation.entered(plan, target, until) {
+    let entered = situation.entered(alloc, plan, target, until)?;
+    if let Some(entry) = entered {
         return Ok(Some(Reason::Domain {
             step: entry.step,
             moment: entry.moment,

@@ -1,5 +1,5 @@
 //! Whether an entry is good.
-ghost use Rattle.std.specs.Prelude.{ℕ, ◌≡◌, ◌≢◌, ◌≤◌, ◌<◌, ◌↔◌, length, get_or, take, AllPairs, IfOk, IsTrue, MatchOption};
+ghost use Rattle.std.specs.Prelude.{ℕ, ◌≡◌, ◌≢◌, ◌≤◌, ◌<◌, ◌↔◌, length, get_or, take, AllPairs, IfOk, IsTrue, MatchOption, OnOk};
 ghost use Rattle.std.specs.Int.Digits.{AllBelowBase};
 ghost use Rattle.encounters.specs.Directions.{HaveDirections};
 ghost use Rattle.lattice.specs.Grids.{choices_of};
@@ -9,11 +9,14 @@ ghost use Rattle.situations.specs.Prefixes.{reached};
 ghost use Rattle.situations.specs.Situations.{end_of, now_of, IsSituation, IsTarget};
 ghost use Rattle.situations.specs.declared.situation.Target.{Target};
 ghost use Rattle.refutations.specs.GoodEntries.{Holds, IsGood, IsInsideIn, IsInsideThen, IsInstant};
+ghost use Rattle.refutations.specs.Inner.Replays.{situation_in, IsCourse, IsReplay};
 ghost use Rattle.refutations.specs.RightLists.{IsEntry, KnowsRule};
 
+use crate::course::Course;
 use crate::entry::{Reason, WhyEntry};
 use crate::instants::is_nearer;
 use crate::laws::plans_agree_on_reasons;
+use crate::replay::Replay;
 use closest_approach::Moment;
 use encounters::PairStep;
 use hull_domains::inside;
@@ -45,70 +48,63 @@ fn is_inside(situation: &Situation, target: &Target, pair: &PairStep, moment: &M
 }
 
 /// Whether she is at an instant of the step that begins at a tick.
-fn is_inside_then(
-    situation: &Situation,
-    plan: &Plan,
-    target: &Target,
-    step: u32,
-    moment: &Moment,
-) -> bool
-    requires situation { IsSituation situation.now }
-    requires plan { IsPlan (choices_of situation.now.lattice) situation.now.lattice.legs plan.now }
-    requires target { IsTarget situation.now target.now }
-    requires planned { step < end_of situation.now }
+fn is_inside_then(course: &Course<'_>, target: &Target, step: u32, moment: &Moment) -> bool
+    requires course { IsCourse course.now }
+    requires target { IsTarget (situation_in course.now) target.now }
+    requires planned { step < end_of (situation_in course.now) }
     requires instant { IsInstant moment.now }
-    ensures { IsTrue result ↔ IsInsideThen situation.now plan.now target.now step moment.now }
+    ensures { IsTrue result ↔ IsInsideThen (situation_in course.now) course.now.plan target.now step moment.now }
 {
-    match situation.step_at(plan, target, step) {
-        Some(pair) => is_inside(situation, target, &pair, moment),
+    match course.step_at(target, step) {
+        Some(pair) => is_inside(course.situation, target, &pair, moment),
         None => false,
     }
 }
 
 /// Whether the step is one from now up to a horizon, the moment an instant of it, and she is inside then.
 fn is_inside_in(
-    situation: &Situation,
-    plan: &Plan,
+    course: &Course<'_>,
     target: &Target,
     until: u32,
     step: u32,
     moment: &Moment,
 ) -> bool
-    requires situation { IsSituation situation.now }
-    requires plan { IsPlan (choices_of situation.now.lattice) situation.now.lattice.legs plan.now }
-    requires target { IsTarget situation.now target.now }
-    requires until { until ≤ end_of situation.now }
-    ensures { IsTrue result ↔ IsInsideIn situation.now plan.now until target.now step moment.now }
+    requires course { IsCourse course.now }
+    requires target { IsTarget (situation_in course.now) target.now }
+    requires until { until ≤ end_of (situation_in course.now) }
+    ensures { IsTrue result ↔ IsInsideIn (situation_in course.now) course.now.plan until target.now step moment.now }
 {
-    if step < situation.now() || step >= until || !is_instant(moment) {
+    if step < course.situation.now() || step >= until || !is_instant(moment) {
         return false;
     }
-    is_inside_then(situation, plan, target, step, moment)
+    is_inside_then(course, target, step, moment)
 }
 
-/// Whether a reason holds towards a target under a plan, up to a horizon.
+/// Whether a reason holds under the latest plan towards the target with an index, up to a horizon.
 fn holds(
     alloc: Global,
-    situation: &Situation,
-    plan: &Plan,
-    target: &Target,
+    replay: &mut Replay<'_>,
+    target: usize,
     until: u32,
     reason: Reason,
 ) -> Result<bool, Memory>
-    requires situation { IsSituation situation.now }
-    requires plan { IsPlan (choices_of situation.now.lattice) situation.now.lattice.legs plan.now }
-    requires target { IsTarget situation.now target.now }
-    requires from_now { now_of situation.now ≤ until }
-    requires until { until ≤ end_of situation.now }
-    requires known { KnowsRule situation.now reason }
-    ensures { IfOk result (λ holds. IsTrue holds ↔ Holds situation.now plan.now until target.now reason) }
+    requires replay { IsReplay replay.old }
+    requires target { target < length (situation_in replay.old.course).targets }
+    requires from_now { now_of (situation_in replay.old.course) ≤ until }
+    requires until { until ≤ end_of (situation_in replay.old.course) }
+    requires known { KnowsRule (situation_in replay.old.course) reason }
+    ensures replay { OnOk result (IsReplay replay.new) }
+    ensures course { replay.new.course ≡ replay.old.course }
+    ensures holds { IfOk result (λ holds. (d : Target) → IsTrue holds
+        ↔ Holds (situation_in replay.old.course) replay.old.course.plan until (get_or (situation_in replay.old.course).targets target d) reason) }
 {
     match reason {
-        Reason::Domain { step, moment } => Ok(is_inside_in(
-            situation, plan, target, until, step, &moment,
-        )),
+        Reason::Domain { step, moment } => {
+            let towards = &replay.course.situation.targets.as_slice()[target];
+            Ok(is_inside_in(&replay.course, towards, until, step, &moment))
+        }
         Reason::Rule { index, step } => {
-            situation.breaks_at(alloc, plan, target, until, index as usize, step)
+            replay.breaks_at(alloc, target, until, index as usize, step)
         }
     }
 }
@@ -168,19 +164,23 @@ fn index_of(targets: &[Target], mmsi: u32) -> Option<usize>
 pub(crate) fn is_good(
     alloc: Global,
     situation: &Situation,
+    replay: &mut Replay<'_>,
     entry: &WhyEntry,
 ) -> Result<bool, Memory>
     requires situation { IsSituation situation.now }
+    requires replay { IsReplay replay.old }
+    requires same { situation_in replay.old.course ≡ situation.now }
     requires entry { IsEntry situation.now entry.now }
-    ensures { IfOk result (λ good. IsTrue good ↔ IsGood situation.now entry.now) }
+    ensures replay { OnOk result (IsReplay replay.new) }
+    ensures same { situation_in replay.new.course ≡ situation.now }
+    ensures good { IfOk result (λ good. IsTrue good ↔ IsGood situation.now entry.now) }
 {
     plans_agree_on_reasons(situation);
     let prefix = entry.prefix.choices();
     let until = horizon(situation, prefix.len());
-    let plan = first_plan(situation, prefix);
-    let targets = situation.targets.as_slice();
-    match index_of(targets, entry.target) {
-        Some(k) => holds(alloc, situation, &plan, &targets[k], until, entry.reason),
-        None => Ok(false),
-    }
+    let Some(target) = index_of(situation.targets.as_slice(), entry.target) else {
+        return Ok(false);
+    };
+    replay.turn_to(first_plan(situation, prefix));
+    holds(alloc, replay, target, until, entry.reason)
 }

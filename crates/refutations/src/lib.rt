@@ -7,6 +7,7 @@
 #![tactic(auto)]
 
 mod check_list;
+mod course;
 mod entry;
 mod entry_reading;
 mod entry_row;
@@ -15,6 +16,8 @@ mod goodness;
 mod instants;
 pub mod laws;
 mod prefix;
+mod replay;
+mod trace_so_far;
 
 pub use check_list::check;
 pub use entry::{Checked, Reason, WhyEntry};

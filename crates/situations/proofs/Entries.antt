@@ -18,6 +18,10 @@ use Rattle.situations.specs.declared.situation.Target.{Target}
 abbrev pub IsCircle : Option (List (ℤ × ℤ)) → Option ℕ → Type 0
 IsCircle shape direction = (vertices : List (ℤ × ℤ)) (d : ℕ) → shape ≡ Some vertices → direction ≡ Some d → ⊥
 
+pub without_shape : (shape : Option (List (ℤ × ℤ))) (direction : Option ℕ) → is_some shape ≡ false → IsCircle shape direction
+without_shape None direction e = λ vertices d has heads. cc
+without_shape (Some shape) direction e = λ vertices d has heads. cc
+
 module _ (radius : ℕ) (step : RelativeMove) (a b : ℕ) where
   in_circle : (shape : Option (List (ℤ × ℤ))) (direction : Option ℕ) → IsCircle shape direction → IsInsideBy shape direction radius step a b → IsNearer step radius a b
   in_circle (Some shape) (Some d) circle h = absurd (circle shape d refl refl)

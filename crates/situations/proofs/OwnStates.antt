@@ -2,10 +2,11 @@
 use Rattle.std.proofs.Common.{◌≡◌, ◌∙◌, ℕ, ◌+◌, ◌-◌, ◌*◌, ◌^◌, ◌<◌, ◌≤◌, inl, inr, List, length, get_or, Bool, refl, sym, ap, subst, arith, Some, None}
 use Rattle.std.specs.Prelude.{Option, IfSome, IsSome, IsTrue, unwrap_or}
 use Rattle.std.proofs.lemmas.Bool.{cases_lt}
+use Rattle.encounters.specs.declared.pair_step.PairStep.{PairStep}
 use Rattle.fixed_geometry.specs.Sizes.{IsBelow, IsWithin}
 use Rattle.fixed_geometry.specs.declared.point.Point.{Point}
 use Rattle.lattice.specs.OwnMotion.{own_state, point_after}
-use Rattle.meetings.specs.Traces.{AreInContact, IsContact, IsShortMove}
+use Rattle.meetings.specs.Traces.{AreInContact, IsContact, IsShortMove, step_at, step_between}
 use Rattle.motion.specs.Displacement.{displacement}
 use Rattle.motion.specs.declared.leg.TickState.{TickState}
 use Rattle.situations.specs.Paths.{IsPath}
@@ -66,6 +67,10 @@ pub own_on_path : (s : Situation) (plan : List ℕ) (first : ℕ) (path : List T
 own_on_path s plan first path j d lt is =
     let ahead : now_of s + first + j - now_of s ≡ first + j = omega arith in
     own_from s plan (now_of s + first + j) (omega arith) ∙ (ap (λ (k : ℕ). Some (planned_state s plan k)) ahead ∙ ap (λ (state : TickState). Some state) (sym (is j d lt)))
+
+pub step_by : (a b : ℕ → Option TickState) (k : ℕ) (own other own_next other_next : TickState) (result : Option PairStep) → a k ≡ Some own → b k ≡ Some other → a (k + 1) ≡ Some own_next
+    → b (k + 1) ≡ Some other_next → result ≡ step_between (Some own) (Some other) (Some own_next) (Some other_next) → result ≡ step_at a b k
+step_by a b k own other own_next other_next result e f g h is = rw (e, f, g, h) is
 
 pub contact_by : (watch : ℕ) (o p : Option TickState) (a b : TickState) (t : Bool) → o ≡ Some a → p ≡ Some b → (IsTrue t → IsContact watch a b) × (IsContact watch a b → IsTrue t)
     → (IsTrue t → AreInContact watch o p) × (AreInContact watch o p → IsTrue t)

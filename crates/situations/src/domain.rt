@@ -58,15 +58,26 @@ impl Situation {
         }
     }
 
-    /// Whether own ship enters a target's domain in a step of both. The search asks this at each step, so no moment is made.
+    /// Whether own ship enters a target's domain in a step of both, where domains have a shape. It stands apart, so that the search's loop over
+    /// steps keeps none of a moment's places.
+    #[inline(never)]
+    fn enters_shape(&self, target: &Target, pair: PairStep) -> bool
+        requires target { IsTarget self.now target.now }
+        requires heads { HaveDirections pair }
+        ensures { IsTrue result ↔ Enters self.now target.now pair }
+    {
+        self.entry(target, &pair).is_some()
+    }
+
+    /// Whether she enters it. The search asks this at each step: for a circle no moment is made.
     pub fn enters(&self, target: &Target, pair: &PairStep) -> bool
         requires target { IsTarget self.now target.now }
         requires heads { HaveDirections pair.now }
         ensures { IsTrue result ↔ Enters self.now target.now pair.now }
     {
-        match (&self.shape, pair.b.direction) {
-            (Some(shape), Some(direction)) => enters(&pair.step, direction, shape).is_some(),
-            _ => !separated(&pair.step, target.domain.radius),
+        if self.shape.is_some() {
+            return self.enters_shape(target, *pair);
         }
+        !separated(&pair.step, target.domain.radius)
     }
 }

@@ -20,7 +20,8 @@ impl Situation {
         ensures { IfOk result (λ fails. IsTrue fails ↔ FailsTowards self.now plan.now (end_of self.now) target.now) }
     {
         let end = self.end();
-        if self.entered(plan, target, end).is_some() {
+        let entry = self.entered(alloc, plan, target, end)?;
+        if entry.is_some() {
             return Ok(true);
         }
         let broken = self.newly_broken(alloc, plan, target, end)?;

@@ -27,6 +27,7 @@ impl Situation {
     }
 
     /// Fills in own ship's states under a plan at the ticks from this one on, counted from now. `own` is where she is there.
+    #[inline(always)]
     pub fn fill_path(&self, plan: &Plan, first: u32, own: UnderWay, path: &mut [TickState])
         requires situation { IsSituation self.now }
         requires plan { IsPlan (choices_of self.now.lattice) self.now.lattice.legs plan.now }
@@ -42,6 +43,7 @@ impl Situation {
     }
 
     /// The step of a path that begins at a tick, counted from now, and of a target, so many ticks later.
+    #[inline(always)]
     pub fn step_on(
         &self,
         path: &[TickState],
@@ -58,15 +60,42 @@ impl Situation {
             → result ≡ step_at (own_at self.now plan) (target_at self.now target.now) (now_of self.now + first + j) }
         ensures heads { IfSome result HaveDirections }
     {
-        let k = self.now() + first + j as u32;
-        let other = self.target_at(target, k);
-        let other_next = self.target_at(target, k + 1);
+        let ahead = first + j as u32;
+        let other = self.target_ahead(target, ahead);
+        let other_next = self.target_ahead(target, ahead + 1);
         step_between(
             Some(&path[j]),
-            other.as_ref(),
+            Some(&other),
             Some(&path[j + 1]),
-            other_next.as_ref(),
+            Some(&other_next),
         )
+    }
+
+    /// The step of both from a tick to the next, by own ship's path from now on. The search does not ask this: it stands apart, so that hers stays as it is.
+    #[inline(never)]
+    pub fn step_along(
+        &self,
+        plan: &Plan,
+        path: &[TickState],
+        target: &Target,
+        k: u32,
+    ) -> Option<PairStep>
+        requires situation { IsSituation self.now }
+        requires plan { IsPlan (choices_of self.now.lattice) self.now.lattice.legs plan.now }
+        requires path { IsPath self.now plan.now 0 path.now }
+        requires track { IsTrack path.now }
+        requires planned { length path.now ≤ positions_of self.now.lattice + 1 }
+        requires target { IsTarget self.now target.now }
+        requires within { k + 1 < now_of self.now + length path.now }
+        ensures value { result ≡ step_at (own_at self.now plan.now) (target_at self.now target.now) k }
+        ensures heads { IfSome result HaveDirections }
+    {
+        let now = self.now();
+        if k < now {
+            self.step_at(plan, target, k)
+        } else {
+            self.step_on(path, target, 0, (k - now) as usize)
+        }
     }
 
     /// Whether both are in contact there.
@@ -79,10 +108,8 @@ impl Situation {
         ensures { (plan : List ℕ) → IsPath self.now plan first path.now
             → (IsTrue result ↔ IsContactAt (own_at self.now plan) (target_at self.now target.now) self.now.detect.watch (now_of self.now + first + j)) }
     {
-        match self.target_at(target, self.now() + first + j as u32) {
-            Some(other) => contact(&path[j], &other, self.detect.watch),
-            None => false,
-        }
+        let other = self.target_ahead(target, first + j as u32);
+        contact(&path[j], &other, self.detect.watch)
     }
 
     /// Whether own ship enters the target's domain in that step.

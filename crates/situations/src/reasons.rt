@@ -1,7 +1,7 @@
 //! Why a plan fails towards a target. Each reason is asked up to a horizon, any tick from now to the last planned one: the planned trace is cut
 //! there, and a prefix of legs has the one up to which it tells the steps.
 ghost use Rattle.std.specs.Prelude.{ℕ, ◌≡◌, ◌+◌, ◌-◌, ◌≤◌, ◌<◌, ◌↔◌, length, map, IfOk, IfSome, IsSome, IsSomeAnd, IsTrue, MatchOption};
-ghost use Rattle.lattice.specs.Grids.{choices_of};
+ghost use Rattle.lattice.specs.Grids.{choices_of, positions_of};
 ghost use Rattle.lattice.specs.PlanNumbers.{IsPlan};
 ghost use Rattle.meetings.specs.Answers.{answer_of};
 ghost use Rattle.meetings.specs.Traces.{IsContactAt, step_at};
@@ -13,12 +13,14 @@ ghost use Rattle.rule_set.specs.NamedTrees.{rule_at};
 ghost use Rattle.situations.specs.Domains.{IsEntry};
 ghost use Rattle.situations.specs.FailingPlans.{AreTraceRows, BeginsAt, BreaksARule, BreaksAt, EntersAt, EntersDomain, IsNewlyBrokenHere};
 ghost use Rattle.situations.specs.Inner.FirstBroken.{IsFirstOfAll, IsFirstThere, IsRuleBroken};
+ghost use Rattle.situations.specs.Paths.{IsPath, IsTrack};
 ghost use Rattle.situations.specs.Situations.{end_of, now_of, own_at, target_at, IsSituation, IsTarget};
 
 use crate::situation::{Situation, Target};
 use closest_approach::Moment;
 use lattice::Plan;
 use meetings::{AtomRow, Follower};
+use motion::TickState;
 use mtl_formulas::{Formula, Verdict, value};
 use outside::Memory;
 use std::alloc::Global;
@@ -73,7 +75,7 @@ impl Situation {
     ghost use Rattle.situations.specs.Reasons.{IsFirstBroken, IsFirstEntry};
 
     /// The tick at which the planned trace towards a target begins, if there is one up to the horizon.
-    fn trace_start(&self, plan: &Plan, target: &Target, until: u32) -> Option<u32>
+    pub fn trace_start(&self, plan: &Plan, target: &Target, until: u32) -> Option<u32>
         requires situation { IsSituation self.now }
         requires plan { IsPlan (choices_of self.now.lattice) self.now.lattice.legs plan.now }
         requires target { IsTarget self.now target.now }
@@ -90,6 +92,23 @@ impl Situation {
         None
     }
 
+    /// Own ship's states under a plan from now up to a horizon, each found from the one before.
+    #[inline(never)]
+    fn path_up_to(&self, alloc: Global, plan: &Plan, until: u32) -> Result<Vec<TickState>, Memory>
+        requires situation { IsSituation self.now }
+        requires plan { IsPlan (choices_of self.now.lattice) self.now.lattice.legs plan.now }
+        requires from_now { now_of self.now ≤ until }
+        requires until { until ≤ end_of self.now }
+        ensures count { IfOk result (λ path. now_of self.now + length path.items ≡ until + 1) }
+        ensures path { IfOk result (λ path. IsPath self.now plan.now 0 path.items) }
+        ensures track { IfOk result (λ path. IsTrack path.items) }
+    {
+        let count = (until - self.now()) as usize + 1;
+        let mut path = vec![in alloc; self.start; count]?;
+        self.fill_path(plan, 0, self.own_after(plan, 0), &mut path);
+        Ok(path)
+    }
+
     /// The rows of that trace.
     fn trace_rows(
         &self,
@@ -103,14 +122,16 @@ impl Situation {
         requires plan { IsPlan (choices_of self.now.lattice) self.now.lattice.legs plan.now }
         requires target { IsTarget self.now target.now }
         requires start { start < until }
+        requires from_now { now_of self.now ≤ until }
         requires until { until ≤ end_of self.now }
         ensures rows { IfOk result (λ rows. AreTraceRows self.now plan.now until target.now start (map answer_of rows.items)) }
         ensures count { IfOk result (λ rows. length rows.items ≡ until - start) }
     {
+        let path = self.path_up_to(alloc, plan, until)?;
         let mut follower = Follower::new(self.detect, self.act, self.tick);
         let mut rows = Vec::new(alloc);
         for k in start..until {
-            rows.push(follower.step(self.step_at(plan, target, k).as_ref()))?;
+            rows.push(follower.step(self.step_along(plan, &path, target, k).as_ref()))?;
         }
         Ok(rows)
     }
@@ -188,66 +209,49 @@ impl Situation {
         }
     }
 
-    /// Whether the rule with an index is newly broken at the position of the step that begins at a tick.
-    pub fn breaks_at(
+    /// The moment that tells of own ship in the target's domain in a step, by her path from now on, if she enters it there.
+    fn entry_at(
+        &self,
+        plan: &Plan,
+        path: &[TickState],
+        target: &Target,
+        step: u32,
+    ) -> Option<Moment>
+        requires situation { IsSituation self.now }
+        requires plan { IsPlan (choices_of self.now.lattice) self.now.lattice.legs plan.now }
+        requires path { IsPath self.now plan.now 0 path.now }
+        requires track { IsTrack path.now }
+        requires planned { length path.now ≤ positions_of self.now.lattice + 1 }
+        requires target { IsTarget self.now target.now }
+        requires within { step + 1 < now_of self.now + length path.now }
+        ensures { MatchOption result (¬ EntersAt self.now plan.now target.now step)
+            (λ moment. IsSomeAnd (step_at (own_at self.now plan.now) (target_at self.now target.now) step) (λ pair. IsEntry self.now target.now pair moment)) }
+    {
+        let pair = self.step_along(plan, path, target, step)?;
+        self.entry(target, &pair)
+    }
+
+    /// The first step from now on in which own ship enters a target's domain. `None` exactly where there is none.
+    pub fn entered(
         &self,
         alloc: Global,
         plan: &Plan,
         target: &Target,
         until: u32,
-        rule: usize,
-        step: u32,
-    ) -> Result<bool, Memory>
+    ) -> Result<Option<DomainEntry>, Memory>
         requires situation { IsSituation self.now }
         requires plan { IsPlan (choices_of self.now.lattice) self.now.lattice.legs plan.now }
         requires target { IsTarget self.now target.now }
         requires from_now { now_of self.now ≤ until }
         requires until { until ≤ end_of self.now }
-        requires known { rule < length self.now.rules }
-        ensures { IfOk result (λ breaks. IsTrue breaks ↔ BreaksAt self.now plan.now until target.now (rule_at self.now.rules rule).tree step) }
+        ensures { IfOk result (λ found. MatchOption found (¬ EntersDomain self.now plan.now until target.now) (IsFirstEntry self.now plan.now until target.now)) }
     {
-        if step >= until {
-            return Ok(false);
-        }
-        let Some(start) = self.trace_start(plan, target, until) else {
-            return Ok(false);
-        };
-        if step < start {
-            return Ok(false);
-        }
-        let rows = self.trace_rows(alloc, plan, target, start, until)?;
-        let cut = self.now().saturating_sub(start) as usize;
-        let position = (step - start) as usize;
-        Ok(self.is_newly_broken_in(&rows, cut, rule, position))
-    }
-
-    /// The moment that tells of own ship in the target's domain in a step, if she enters it there.
-    fn entry_at(&self, plan: &Plan, target: &Target, step: u32) -> Option<Moment>
-        requires situation { IsSituation self.now }
-        requires plan { IsPlan (choices_of self.now.lattice) self.now.lattice.legs plan.now }
-        requires target { IsTarget self.now target.now }
-        requires planned { step < end_of self.now }
-        ensures { MatchOption result (¬ EntersAt self.now plan.now target.now step)
-            (λ moment. IsSomeAnd (step_at (own_at self.now plan.now) (target_at self.now target.now) step) (λ pair. IsEntry self.now target.now pair moment)) }
-    {
-        let pair = self.step_at(plan, target, step)?;
-        self.entry(target, &pair)
-    }
-
-    /// The first step from now on in which own ship enters a target's domain. `None` exactly where there is none.
-    pub fn entered(&self, plan: &Plan, target: &Target, until: u32) -> Option<DomainEntry>
-        requires situation { IsSituation self.now }
-        requires plan { IsPlan (choices_of self.now.lattice) self.now.lattice.legs plan.now }
-        requires target { IsTarget self.now target.now }
-        requires from_now { now_of self.now ≤ until }
-        requires until { until ≤ end_of self.now }
-        ensures { MatchOption result (¬ EntersDomain self.now plan.now until target.now) (IsFirstEntry self.now plan.now until target.now) }
-    {
+        let path = self.path_up_to(alloc, plan, until)?;
         for step in self.now()..until {
-            if let Some(moment) = self.entry_at(plan, target, step) {
-                return Some(DomainEntry { step, moment });
+            if let Some(moment) = self.entry_at(plan, path.as_slice(), target, step) {
+                return Ok(Some(DomainEntry { step, moment }));
             }
         }
-        None
+        Ok(None)
     }
 }

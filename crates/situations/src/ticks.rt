@@ -1,5 +1,5 @@
 //! Own ship and a target, tick by tick.
-ghost use Rattle.std.specs.Prelude.{ℕ, ◌≡◌, ◌+◌, ◌≤◌, ◌<◌, ◌^◌, ◌↔◌, IfSome, IsTrue};
+ghost use Rattle.std.specs.Prelude.{ℕ, ◌≡◌, ◌+◌, ◌≤◌, ◌<◌, ◌^◌, ◌↔◌, IfSome, IsTrue, Some};
 ghost use Rattle.encounters.specs.Directions.{HasDirection, HaveDirections};
 ghost use Rattle.fixed_geometry.specs.Sizes.{IsBelow};
 ghost use Rattle.motion.specs.Displacement.{displacement};
@@ -65,6 +65,15 @@ impl Situation {
         }
     }
 
+    /// A target's state so many ticks after now.
+    pub(crate) fn target_ahead(&self, target: &Target, k: u32) -> TickState
+        requires target { IsTarget self.now target.now }
+        requires planned { k ≤ positions_of self.now.lattice }
+        ensures { target_at self.now target.now (now_of self.now + k) ≡ Some result }
+    {
+        target.ahead.as_slice()[k as usize]
+    }
+
     /// A target's state at a tick.
     pub fn target_at(&self, target: &Target, k: u32) -> Option<TickState>
         requires situation { IsSituation self.now }
@@ -76,7 +85,7 @@ impl Situation {
         if k < now {
             target.past.as_slice()[k as usize]
         } else {
-            Some(target.ahead.as_slice()[(k - now) as usize])
+            Some(self.target_ahead(target, k - now))
         }
     }
 

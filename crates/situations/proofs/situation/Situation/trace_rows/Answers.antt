@@ -25,7 +25,7 @@ loop-k-preserved c =
     let le = c.loop-k.auto.k in
     let count = steps_from-length a b c.args.start (k - c.args.start) in
     let short : length steps < 2 ^ 31 = omega arith in
-    let seen : option_copied c.as_ref.result ≡ step_at a b k = c.as_ref.ensures.value ∙ c.step_at.ensures.value in
+    let seen : option_copied c.as_ref.result ≡ step_at a b k = c.as_ref.ensures.value ∙ c.step_along.ensures.value in
     let follows = c.step.ensures.follows (terms_of s) steps short c.loop-k.invariant.follows in
     let row = c.step.ensures.row (terms_of s) steps short c.loop-k.invariant.follows in
     record {
