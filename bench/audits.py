@@ -1,9 +1,10 @@
 #!/usr/bin/env python3
-"""Makes scenarios and logs, runs two programs on each, and compares what they write: audits.py PROGRAM OTHER [--first SEED] [--count N]
+"""Makes scenarios and logs, runs two programs on each, and compares what they write: audits.py PROGRAM OTHER [--first SEED] [--count N] [--ranks]
 
 Both programs take `audit SCENARIO` and a log on standard input. Each seed makes one scenario and one log: a fleet whose vessels meet
 head on, cross, overtake or pass, of which some alter course, slow down, are lost for a while or tell of themselves, with damaged lines
-between; numbers, formulas and subjects of the scenario's own; and a window that may cut the log at either end. Where the statuses or
+between; numbers, formulas and subjects of the scenario's own; and a window that may cut the log at either end. With `--ranks` ranks count: vessels
+have statuses, which may change, and tell ship types, some of them late. Where the statuses or
 what the programs wrote differ, the seed is told and its files are kept in the folder `--keep`.
 """
 import argparse
@@ -14,12 +15,14 @@ import subprocess
 import sys
 
 from harbour import damage
-from sentences import armour, extended, position_report, sentence, tagged, voyage
+from sentences import armour, extended, hull_part, position_report, sentence, tagged, voyage
 
 START = 1700000000
 ATOMS = ["true", "false", "seen", "risk", "engaged", "begin", "overtaking", "overtaken", "head_on", "crossing_gives",
          "crossing_stands", "passing", "unclassified", "opening", "other_on_port", "ahead", "alters", "apparent",
          "to_starboard", "to_port", "other_apparent"]
+STATUSES = [0, 0, 1, 2, 3, 7, 7, 8, 15, 15, 15]
+TYPES = [0, 30, 30, 31, 36, 36, 60, 70]
 NAMES = ["ALPHA", "BRAVO, OF HULL", "CHARLIE \"C\"", "DELTA", "ECHO-9", "FOX"]
 
 
@@ -28,7 +31,7 @@ def bounds(draw, tick):
     return "[%d,%d]" % (lower, lower + draw.choice([0, 1, 2, 5, 9]) * tick)
 
 
-def formula(draw, tick, depth):
+def formula(draw, tick, depth, atoms=ATOMS):
     if depth == 0:
         kind = draw.randrange(10)
         if kind == 0:
@@ -37,20 +40,20 @@ def formula(draw, tick, depth):
             return "close(%d)" % draw.choice([100, 300, 1500])
         if kind == 2:
             return "age(%d)" % (draw.randrange(6) * tick)
-        return draw.choice(ATOMS)
+        return draw.choice(atoms)
     kind = draw.randrange(8)
     if kind == 0:
-        return "!" + formula(draw, tick, depth - 1)
+        return "!" + formula(draw, tick, depth - 1, atoms)
     if kind <= 3:
-        return "(%s %s %s)" % (formula(draw, tick, depth - 1), draw.choice(["&", "|", "->"]), formula(draw, tick, depth - 1))
+        return "(%s %s %s)" % (formula(draw, tick, depth - 1, atoms), draw.choice(["&", "|", "->"]), formula(draw, tick, depth - 1, atoms))
     if kind <= 6:
-        return "%s%s %s" % (draw.choice("FGOH"), bounds(draw, tick), formula(draw, tick, depth - 1))
-    return "(%s %s%s %s)" % (formula(draw, tick, depth - 1), draw.choice("US"), bounds(draw, tick), formula(draw, tick, depth - 1))
+        return "%s%s %s" % (draw.choice("FGOH"), bounds(draw, tick), formula(draw, tick, depth - 1, atoms))
+    return "(%s %s%s %s)" % (formula(draw, tick, depth - 1, atoms), draw.choice("US"), bounds(draw, tick), formula(draw, tick, depth - 1, atoms))
 
 
-def formulas(draw, tick):
+def formulas(draw, tick, atoms):
     for k in range(draw.choice([0, 0, 1, 2, 5])):
-        yield from ["[[formula]]", 'name = "u%d"' % (k + 1), 'text = "%s"' % formula(draw, tick, draw.randrange(1, 4))]
+        yield from ["[[formula]]", 'name = "u%d"' % (k + 1), 'text = "%s"' % formula(draw, tick, draw.randrange(1, 4), atoms)]
 
 
 def keys(draw, fleet, start, tick, ticks):
@@ -80,11 +83,11 @@ def keys(draw, fleet, start, tick, ticks):
     return lines
 
 
-def scenario(draw, fleet, span):
+def scenario(draw, fleet, span, atoms=ATOMS):
     tick = draw.choice([1, 2, 5, 7, 10, 10, 15, 30, 60])
     ticks = max(1, min(400, draw.choice([span, span, span // 2, span * 2]) // tick))
     start = START + draw.choice([0, 0, 0, -60, 37, span // 3])
-    return "\n".join(keys(draw, fleet, start, tick, ticks) + list(formulas(draw, tick))) + "\n"
+    return "\n".join(keys(draw, fleet, start, tick, ticks) + list(formulas(draw, tick, atoms))) + "\n"
 
 
 def meeting_fleet(draw, span):
@@ -102,6 +105,27 @@ def meeting_fleet(draw, span):
             "lost": (span * draw.uniform(0.2, 0.8), draw.choice([40, 120, 700])) if draw.random() < 0.3 else None,
             "heading": draw.random() < 0.8, "voyage": draw.random() < 0.5,
         }
+
+
+def status_of(vessel, elapsed):
+    """The navigational status that she tells: 0 where ranks do not count."""
+    if "statuses" not in vessel:
+        return 0
+    first, second, changes = vessel["statuses"]
+    return first if elapsed < changes else second
+
+
+def told_types(draw, fleet, span):
+    """Ship types, each told at any time, and some by lines that come later than others with later times."""
+    for vessel in fleet:
+        for _ in range(draw.choice([0, 1, 1, 2, 3])):
+            at = draw.randrange(0, span)
+            if draw.random() < 0.5:
+                payload, fill = armour(hull_part(vessel["mmsi"], draw.choice(TYPES), 40, 10, 5, 5))
+                yield at, [tagged(START + at, sentence(1, 1, "", "A", payload, fill))]
+            else:
+                payload, fill = armour(voyage(vessel["mmsi"], draw.choice(NAMES), draw.choice(TYPES), 60, 20, 10, 12))
+                yield at, [tagged(START + at, sentence(2, 1, at % 10, "A", payload[:56], 0)), sentence(2, 2, at % 10, "A", payload[56:], fill)]
 
 
 def reports(draw, vessel, span, latitude):
@@ -122,7 +146,7 @@ def reports(draw, vessel, span, latitude):
         east = round(x / 1852 * 10000 / math.cos(math.radians(latitude / 600000)))
         heading = course // 10 if vessel["heading"] else 511
         bits = position_report(vessel["kind"], vessel["mmsi"], north, east, speed if draw.random() < 0.97 else 1023,
-                               course if draw.random() < 0.97 else 3600, heading, elapsed % 60)
+                               course if draw.random() < 0.97 else 3600, heading, elapsed % 60, status_of(vessel, elapsed))
         payload, fill = armour(extended(bits, *vessel["ship"]) if "ship" in vessel else bits)
         yield elapsed, [tagged(START + elapsed, sentence(1, 1, "", "AB"[elapsed % 2], payload, fill))]
 
@@ -152,6 +176,18 @@ def make(seed):
     lines = [entry for vessel in fleet for entry in reports(draw, vessel, span, latitude_of(text))] + list(voyages(draw, fleet))
     if draw.random() < 0.5:
         lines += list(damage())
+    return text, text_of(draw, lines)
+
+
+def make_ranked(seed):
+    """The same, where ranks count."""
+    draw = random.Random(seed)
+    span = draw.choice([200, 400, 900, 1500])
+    fleet = list(meeting_fleet(draw, span))
+    for vessel in fleet:
+        vessel["statuses"] = (draw.choice(STATUSES), draw.choice(STATUSES), draw.choice([span, span, span * draw.random()]))
+    text = scenario(draw, fleet, span, ATOMS + ["rank_gives", "rank_stands", "both_power"]).replace("[rules]\n", "[rules]\nranks = 1\n")
+    lines = [entry for vessel in fleet for entry in reports(draw, vessel, span, latitude_of(text))] + list(told_types(draw, fleet, span))
     return text, text_of(draw, lines)
 
 
@@ -199,9 +235,9 @@ def compared(args, mode, make, *options):
 
 
 def main():
-    args = words(__doc__, "audits-kept")
+    args = words(__doc__, "audits-kept", "--ranks")
     same, statuses, kinds = 0, {}, {}
-    for _, mine, theirs in compared(args, "audit", make):
+    for _, mine, theirs in compared(args, "audit", make_ranked if args.ranks else make):
         same += mine == theirs
         statuses[mine[0]] = statuses.get(mine[0], 0) + 1
         for row in mine[1].decode().split("\n"):

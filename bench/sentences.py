@@ -30,12 +30,12 @@ def tagged(time, text):
     return "\\%s*%s\\%s" % (block, total(block), text)
 
 
-def position_report(kind, mmsi, latitude, longitude, sog, cog, heading, second):
+def position_report(kind, mmsi, latitude, longitude, sog, cog, heading, second, status=0):
     if kind == 18:
         fields = [(18, 6), (0, 2), (mmsi, 30), (0, 8), (sog, 10), (0, 1), (longitude, 28), (latitude, 27), (cog, 12),
                   (heading, 9), (second, 6), (0, 29)]
     else:
-        fields = [(kind, 6), (0, 2), (mmsi, 30), (0, 4), (128, 8), (sog, 10), (0, 1), (longitude, 28), (latitude, 27),
+        fields = [(kind, 6), (0, 2), (mmsi, 30), (status, 4), (128, 8), (sog, 10), (0, 1), (longitude, 28), (latitude, 27),
                   (cog, 12), (heading, 9), (second, 6), (0, 25)]
     return "".join(bits(value, width) for value, width in fields)
 

@@ -16,6 +16,7 @@ RULES = {
     "r17a": ("#3f7d20", "Rule 17(a): stands on until free to act"),
     "r17b": ("#b2182b", "Rule 17(b): acts in extremis"),
     "r17c": ("#01665e", "Rule 17(c): does not alter to port"),
+    "r18": ("#6a51a3", "Rule 18: keeps out of the way by rank"),
 }
 DUTIES = {
     "r8b": "Rule 8(b): an alteration of course or speed is large enough to be readily apparent to the other vessel",
@@ -29,6 +30,7 @@ DUTIES = {
     "r17a": "Rule 17(a): the vessel that stands on keeps her course and speed, until she may act",
     "r17b": "Rule 17(b): the vessel that stands on acts when the other alone can no longer avoid collision",
     "r17c": "Rule 17(c): in a crossing, the vessel that stands on does not alter to port for one on her own port side",
+    "r18": "Rule 18: a vessel keeps out of the way of one that is less able to manoeuvre",
 }
 ENCOUNTERS = {
     "overtaking": "overtakes", "overtaken": "is overtaken", "head_on": "meets head-on", "crossing_gives": "crosses, gives way",

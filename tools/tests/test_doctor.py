@@ -192,7 +192,7 @@ class WrongUses(InFolder):
 class Keys(unittest.TestCase):
     def test_the_keys_are_those_of_the_page(self):
         known = keys.units()
-        self.assertEqual(len(known), 55 - 2)                 # rows 0 to 54, less the text as a whole and the weight of all formulas
+        self.assertEqual(len(known), 56 - 2)                 # rows 0 to 55, less the text as a whole and the weight of all formulas
         some = ("detect.watch", "act.apparent_turn", "rules.safe_other", "rules.te")
         self.assertEqual([known[key] for key in some], ["m", "1/10 degree", "m", "s"])
 

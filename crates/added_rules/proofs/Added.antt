@@ -1,4 +1,4 @@
--- The formulas that stand behind the eleven rules, table by table.
+-- The formulas that stand behind the rules of the COLREGs 1972, table by table.
 use Rattle.std.proofs.Common.{◌≡◌, ℕ, zero, suc, ◌+◌, ◌≤◌, ◌<◌, nat_le, Bool, true, not, ◌&&◌, ◌||◌, if◌then◌else◌, List, [], ◌∷◌, ◌++◌, map, length, take, drop, Option, Some, None, All, refl, ap, sym, ◌∙◌, subst, arith}
 use Rattle.std.specs.Prelude.{bytes_eq, codes, slice_index_or}
 use Rattle.std.specs.List.{list_any}
@@ -8,8 +8,10 @@ use Rattle.std.proofs.lemmas.List.Elements.{All-cons}
 use Rattle.toml.specs.Data.{Data, as_str}
 use Rattle.toml.specs.View.{view}
 use Rattle.toml.specs.declared.value.Value.{Value}
-use Rattle.rule_set.specs.NamedTrees.{NamedTree, has_rule, rules_of}
+use Rattle.rule_set.specs.NamedTrees.{NamedTree, has_rule, rules_by}
 use Rattle.rule_set.specs.declared.numbers.RuleNumbers.{RuleNumbers}
+use Rattle.rule_set.specs.declared.ranking.Ranking.{Ranking}
+use Rattle.rule_set.specs.declared.ranking.Ranking.TheVariants.{Ignored, Counted}
 use Rattle.scenario_keys.specs.FirstFaults.{with_before, IsFound}
 use Rattle.scenario_keys.specs.declared.key.Key.{Key}
 use Rattle.scenario_keys.specs.declared.cause.Cause.{Cause}
@@ -35,11 +37,17 @@ many_added tick [] (rule ∷ added) h = absurd h
 many_added tick (here ∷ tables) [] h = absurd h
 many_added tick (here ∷ tables) (rule ∷ added) h = let e = many_added tick tables added h.1 in omega arith
 
-pub many_rules : (tick : ℕ) (numbers : RuleNumbers) (tables : List Data) (rules : List NamedTree) → AreScenarioRules tick numbers tables rules → length rules ≡ 11 + length tables
-many_rules tick numbers tables rules h =
+few_by : (ranks : Ranking) (tick : ℕ) (numbers : RuleNumbers) → length (rules_by ranks tick numbers) ≤ 12
+few_by Ignored tick numbers = omega arith
+few_by Counted tick numbers = omega arith
+
+pub few_rules : (ranks : Ranking) (tick : ℕ) (numbers : RuleNumbers) (tables : List Data) (rules : List NamedTree) → AreScenarioRules ranks tick numbers tables rules →
+    length rules ≤ 12 + length tables
+few_rules ranks tick numbers tables rules h =
     let e = ap length h.order in
-    let f = length-append (rules_of tick numbers) h.added in
+    let f = length-append (rules_by ranks tick numbers) h.added in
     let g = many_added tick tables h.added h.are_added in
+    let few = few_by ranks tick numbers in
     omega arith
 
 one_more_added : (tick : ℕ) (tables : List Data) (here : Data) (added : List NamedTree) (rule : NamedTree) → AreAdded tick tables added → IsAdded tick here rule →
@@ -55,16 +63,17 @@ held_names : (rules : List NamedTree) (name : List ℕ) → has_rule rules name 
 held_names [] name = refl
 held_names (rule ∷ rules) name = ap (λ b. bytes_eq rule.name name || b) (held_names rules name)
 
-rule_names_are : (tick : ℕ) (numbers : RuleNumbers) → map (λ (rule : NamedTree). rule.name) (rules_of tick numbers) ≡ rule_names
-rule_names_are tick numbers = refl
+rule_names_are : (ranks : Ranking) (tick : ℕ) (numbers : RuleNumbers) → map (λ (rule : NamedTree). rule.name) (rules_by ranks tick numbers) ≡ rule_names ranks
+rule_names_are Ignored tick numbers = refl
+rule_names_are Counted tick numbers = refl
 
-held_taken : (tick : ℕ) (numbers : RuleNumbers) (tables : List Data) (rules : List NamedTree) → AreScenarioRules tick numbers tables rules →
-    (name : List ℕ) → has_rule rules name ≡ is_name_taken tables name
-held_taken tick numbers tables rules h name =
-    let e : map (λ (rule : NamedTree). rule.name) rules ≡ rule_names ++ map formula_name_in tables =
-    ap (map (λ (rule : NamedTree). rule.name)) h.order ∙ map-append (λ (rule : NamedTree). rule.name) (rules_of tick numbers) h.added
-    ∙ ap (λ l. l ++ map (λ (rule : NamedTree). rule.name) h.added) (rule_names_are tick numbers)
-    ∙ ap (λ l. rule_names ++ l) (names_added tick tables h.added h.are_added) in
+held_taken : (ranks : Ranking) (tick : ℕ) (numbers : RuleNumbers) (tables : List Data) (rules : List NamedTree) → AreScenarioRules ranks tick numbers tables rules →
+    (name : List ℕ) → has_rule rules name ≡ is_name_taken ranks tables name
+held_taken ranks tick numbers tables rules h name =
+    let e : map (λ (rule : NamedTree). rule.name) rules ≡ rule_names ranks ++ map formula_name_in tables =
+    ap (map (λ (rule : NamedTree). rule.name)) h.order ∙ map-append (λ (rule : NamedTree). rule.name) (rules_by ranks tick numbers) h.added
+    ∙ ap (λ l. l ++ map (λ (rule : NamedTree). rule.name) h.added) (rule_names_are ranks tick numbers)
+    ∙ ap (λ l. rule_names ranks ++ l) (names_added tick tables h.added h.are_added) in
     held_names rules name ∙ ap (list_any (λ taken. bytes_eq taken name)) e
 
 same_new_cause : (t u : List ℕ → Bool) → ((name : List ℕ) → t name ≡ u name) → (found : Option (List ℕ)) → new_name_cause t found ≡ new_name_cause u found
@@ -97,43 +106,43 @@ with_before-append front (x ∷ a) b =
 
 -- the table at which the tests stand: it has no fault, or it has the first
 
-pub one_more_table : (tick : ℕ) (numbers : RuleNumbers) (tables : List Data) (here : Data) (rules after : List NamedTree) (item : ℕ) →
-    Stands tick numbers tables rules item → Adds tick here rules after → IsFaultBy (has_rule rules) tick item here None →
-    Stands tick numbers (tables ++ here ∷ []) after (item + 1)
-one_more_table tick numbers tables here rules after item h adds none =
+pub one_more_table : (ranks : Ranking) (tick : ℕ) (numbers : RuleNumbers) (tables : List Data) (here : Data) (rules after : List NamedTree) (item : ℕ) →
+    Stands ranks tick numbers tables rules item → Adds tick here rules after → IsFaultBy (has_rule rules) tick item here None →
+    Stands ranks tick numbers (tables ++ here ∷ []) after (item + 1)
+one_more_table ranks tick numbers tables here rules after item h adds none =
     let many = length-append tables (here ∷ []) in
     let at = h.item in
-    let passes : IsTableFault tick (tables, here) None =
-    subst (λ (n : ℕ). IsFaultBy (is_name_taken tables) tick n here None) at
-    (same_fault (has_rule rules) (is_name_taken tables) tick item here None (held_taken tick numbers tables rules h.rules) none) in
+    let passes : IsTableFault ranks tick (tables, here) None =
+    subst (λ (n : ℕ). IsFaultBy (is_name_taken ranks tables) tick n here None) at
+    (same_fault (has_rule rules) (is_name_taken ranks tables) tick item here None (held_taken ranks tick numbers tables rules h.rules) none) in
     record {
       item = omega arith;
       rules = record {
         added = h.rules.added ++ adds.rule ∷ [];
-        order = adds.behind ∙ ap (λ l. l ++ adds.rule ∷ []) h.rules.order ∙ append_assoc (rules_of tick numbers) h.rules.added (adds.rule ∷ []);
+        order = adds.behind ∙ ap (λ l. l ++ adds.rule ∷ []) h.rules.order ∙ append_assoc (rules_by ranks tick numbers) h.rules.added (adds.rule ∷ []);
         are_added = one_more_added tick tables here h.rules.added adds.rule h.rules.are_added adds.added;
       };
-      faultless = subst (λ l. All (λ pair. IsTableFault tick pair None) l) (sym (with_before-append [] tables (here ∷ [])))
-          (all_append (λ pair. IsTableFault tick pair None) (with_before [] tables) ((tables, here) ∷ []) h.faultless
-          (All-cons (λ pair. IsTableFault tick pair None) (tables, here) [] passes (all_none (λ pair. IsTableFault tick pair None))));
+      faultless = subst (λ l. All (λ pair. IsTableFault ranks tick pair None) l) (sym (with_before-append [] tables (here ∷ [])))
+          (all_append (λ pair. IsTableFault ranks tick pair None) (with_before [] tables) ((tables, here) ∷ []) h.faultless
+          (All-cons (λ pair. IsTableFault ranks tick pair None) (tables, here) [] passes (all_none (λ pair. IsTableFault ranks tick pair None))));
     }
   where
     append_assoc : {A : Type 0} (a b c : List A) → (a ++ b) ++ c ≡ a ++ (b ++ c)
     append_assoc [] b c = refl
     append_assoc (x ∷ a) b c = ap (λ l. x ∷ l) (append_assoc a b c)
 
-pub fault_here : (tick : ℕ) (numbers : RuleNumbers) (all tables : List Data) (here : Data) (behind : List Data) (rules : List NamedTree) (item : ℕ) (told : Key × Cause) →
-    all ≡ tables ++ here ∷ behind → Stands tick numbers tables rules item → IsFaultBy (has_rule rules) tick item here (Some told) →
-    IsFormulaFault tick all (Some told)
-fault_here tick numbers all tables here behind rules item told e h fault =
+pub fault_here : (ranks : Ranking) (tick : ℕ) (numbers : RuleNumbers) (all tables : List Data) (here : Data) (behind : List Data) (rules : List NamedTree) (item : ℕ) (told : Key × Cause) →
+    all ≡ tables ++ here ∷ behind → Stands ranks tick numbers tables rules item → IsFaultBy (has_rule rules) tick item here (Some told) →
+    IsFormulaFault ranks tick all (Some told)
+fault_here ranks tick numbers all tables here behind rules item told e h fault =
     let at = h.item in
-    let fails : IsTableFault tick (tables, here) (Some told) =
-    subst (λ (n : ℕ). IsFaultBy (is_name_taken tables) tick n here (Some told)) at
-    (same_fault (has_rule rules) (is_name_taken tables) tick item here (Some told) (held_taken tick numbers tables rules h.rules) fault) in
-    subst (λ (l : List Data). IsFormulaFault tick l (Some told)) (sym e)
-    (subst (λ l. IsFound (IsTableFault tick) l (Some told)) (sym (with_before-append [] tables (here ∷ behind)))
-    (first_behind (IsTableFault tick) (with_before [] tables) ((tables, here) ∷ with_before (tables ++ here ∷ []) behind) told h.faultless
-    (first_here (IsTableFault tick) (tables, here) (with_before (tables ++ here ∷ []) behind) told fails)))
+    let fails : IsTableFault ranks tick (tables, here) (Some told) =
+    subst (λ (n : ℕ). IsFaultBy (is_name_taken ranks tables) tick n here (Some told)) at
+    (same_fault (has_rule rules) (is_name_taken ranks tables) tick item here (Some told) (held_taken ranks tick numbers tables rules h.rules) fault) in
+    subst (λ (l : List Data). IsFormulaFault ranks tick l (Some told)) (sym e)
+    (subst (λ l. IsFound (IsTableFault ranks tick) l (Some told)) (sym (with_before-append [] tables (here ∷ behind)))
+    (first_behind (IsTableFault ranks tick) (with_before [] tables) ((tables, here) ∷ with_before (tables ++ here ∷ []) behind) told h.faultless
+    (first_here (IsTableFault ranks tick) (tables, here) (with_before (tables ++ here ∷ []) behind) told fails)))
 
 -- the same of the values of an array
 

@@ -5,8 +5,9 @@ use Rattle.toml.specs.Data.{Data, as_str}
 use Rattle.mtl_formulas.specs.FormulaTree.{FormulaTree}
 use Rattle.mtl_formulas.specs.FormulaReading.{Meaning, tree, syntax_fault, number_fault, size_fault, IsMeaning}
 use Rattle.mtl_formulas.proofs.ForCallers.{one_meaning_each}
-use Rattle.rule_set.specs.NamedTrees.{NamedTree, rule_named, rules_of}
+use Rattle.rule_set.specs.NamedTrees.{NamedTree, rule_named, rules_by}
 use Rattle.rule_set.specs.declared.numbers.RuleNumbers.{RuleNumbers}
+use Rattle.rule_set.specs.declared.ranking.Ranking.{Ranking}
 use Rattle.scenario_keys.specs.FirstFaults.{with_before}
 use Rattle.scenario_keys.specs.KeyValues.{member_at}
 use Rattle.scenario_keys.specs.ToldFaults.{fault_at, fault_by, fault_by_at}
@@ -40,12 +41,12 @@ some_text_fault : (tick item : ℕ) (why : Option Cause) (text : Option Data) �
 some_text_fault tick item (Some why) text = (fault_at 32 item why, refl)
 some_text_fault tick item None text = let some = some_text_cause tick text in (fault_by_at 33 item some.0, (some.0, some.1, refl))
 
-some_table_fault : (tick : ℕ) (pair : List Data × Data) → (told : Option (Key × Cause)) × IsTableFault tick pair told
-some_table_fault tick (before, here) =
-    some_text_fault tick (length before) (name_cause (is_name_taken before) (member_at (codes "name") here)) (member_at (codes "text") here)
+some_table_fault : (ranks : Ranking) (tick : ℕ) (pair : List Data × Data) → (told : Option (Key × Cause)) × IsTableFault ranks tick pair told
+some_table_fault ranks tick (before, here) =
+    some_text_fault tick (length before) (name_cause (is_name_taken ranks before) (member_at (codes "name") here)) (member_at (codes "text") here)
 
-pub some_formula_fault : (tick : ℕ) (tables : List Data) → (told : Option (Key × Cause)) × IsFormulaFault tick tables told
-some_formula_fault tick tables = some_found (IsTableFault tick) (with_before [] tables) (λ k pair lt. some_table_fault tick (get_or (with_before [] tables) k pair))
+pub some_formula_fault : (ranks : Ranking) (tick : ℕ) (tables : List Data) → (told : Option (Key × Cause)) × IsFormulaFault ranks tick tables told
+some_formula_fault ranks tick tables = some_found (IsTableFault ranks tick) (with_before [] tables) (λ k pair lt. some_table_fault ranks tick (get_or (with_before [] tables) k pair))
 
 -- ---- the rules of tables without a fault
 
@@ -78,21 +79,21 @@ tree_of_table : (tick item : ℕ) (why : Option Cause) (text : Option Data) → 
 tree_of_table tick item (Some why) text none = cc none
 tree_of_table tick item None text (why, because, none) = tree_of_text tick text why because (none_by item why none)
 
-some_added : (tick : ℕ) (before tables : List Data) → All (λ pair. IsTableFault tick pair None) (with_before before tables) → (added : List NamedTree) × AreAdded tick tables added
-some_added tick before [] all = ([], tt)
-some_added tick before (here ∷ tables) all =
+some_added : (ranks : Ranking) (tick : ℕ) (before tables : List Data) → All (λ pair. IsTableFault ranks tick pair None) (with_before before tables) → (added : List NamedTree) × AreAdded tick tables added
+some_added ranks tick before [] all = ([], tt)
+some_added ranks tick before (here ∷ tables) all =
     let rest = with_before (before ++ here ∷ []) tables in
-    let read = tree_of_table tick (length before) (name_cause (is_name_taken before) (member_at (codes "name") here)) (member_at (codes "text") here)
-    (all_head (λ pair. IsTableFault tick pair None) (before, here) rest all) in
-    let more = some_added tick (before ++ here ∷ []) tables (all_tail (λ pair. IsTableFault tick pair None) (before, here) rest all) in
+    let read = tree_of_table tick (length before) (name_cause (is_name_taken ranks before) (member_at (codes "name") here)) (member_at (codes "text") here)
+    (all_head (λ pair. IsTableFault ranks tick pair None) (before, here) rest all) in
+    let more = some_added ranks tick (before ++ here ∷ []) tables (all_tail (λ pair. IsTableFault ranks tick pair None) (before, here) rest all) in
     (rule_named (formula_name_in here) read.0 ∷ more.0, (record { name = refl; meaning = read.1 }, more.1))
 
-pub some_rules : (tick : ℕ) (numbers : RuleNumbers) (tables : List Data) → IsFormulaFault tick tables None → (rules : List NamedTree) × AreScenarioRules tick numbers tables rules
-some_rules tick numbers tables none =
-    let added = some_added tick [] tables none in
-    (rules_of tick numbers ++ added.0, record { added = added.0; order = refl; are_added = added.1 })
+pub some_rules : (ranks : Ranking) (tick : ℕ) (numbers : RuleNumbers) (tables : List Data) → IsFormulaFault ranks tick tables None → (rules : List NamedTree) × AreScenarioRules ranks tick numbers tables rules
+some_rules ranks tick numbers tables none =
+    let added = some_added ranks tick [] tables none in
+    (rules_by ranks tick numbers ++ added.0, record { added = added.0; order = refl; are_added = added.1 })
 
-pub some_weight_fault : (tick : ℕ) (numbers : RuleNumbers) (tables : List Data) → IsFormulaFault tick tables None → (told : Option (Key × Cause)) × IsWeightFault tick numbers tables told
-some_weight_fault tick numbers tables none =
-    let rules = some_rules tick numbers tables none in
+pub some_weight_fault : (ranks : Ranking) (tick : ℕ) (numbers : RuleNumbers) (tables : List Data) → IsFormulaFault ranks tick tables None → (told : Option (Key × Cause)) × IsWeightFault ranks tick numbers tables told
+some_weight_fault ranks tick numbers tables none =
+    let rules = some_rules ranks tick numbers tables none in
     (fault_by 34 (weight_cause (total_weight rules.0)), (rules.0, rules.1, refl))

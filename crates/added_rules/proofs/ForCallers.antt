@@ -6,8 +6,9 @@ use Rattle.toml.specs.Data.{Data, as_str}
 use Rattle.mtl_formulas.specs.FormulaTree.{FormulaTree}
 use Rattle.mtl_formulas.specs.FormulaReading.{tree}
 use Rattle.mtl_formulas.proofs.Meanings.{one_meaning}
-use Rattle.rule_set.specs.NamedTrees.{NamedTree, rule_named, rules_of}
+use Rattle.rule_set.specs.NamedTrees.{NamedTree, rule_named, rules_by}
 use Rattle.rule_set.specs.declared.numbers.RuleNumbers.{RuleNumbers}
+use Rattle.rule_set.specs.declared.ranking.Ranking.{Ranking}
 use Rattle.scenario_keys.specs.FirstFaults.{with_before}
 use Rattle.scenario_keys.specs.ToldFaults.{fault_by, fault_by_at}
 use Rattle.scenario_keys.specs.declared.key.Key.{Key}
@@ -41,12 +42,12 @@ one_text_fault tick item None text a b h k =
     let (w, q, f) = k in
     e ∙ ap (fault_by_at 33 item) (one_text_cause tick text v w p q) ∙ sym f
 
-one_table_fault : (tick : ℕ) (pair : List Data × Data) (a b : Option (Key × Cause)) → IsTableFault tick pair a → IsTableFault tick pair b → a ≡ b
-one_table_fault tick (before, here) a b h k =
-    one_text_fault tick (length before) (name_cause (is_name_taken before) (member_at (codes "name") here)) (member_at (codes "text") here) a b h k
+one_table_fault : (ranks : Ranking) (tick : ℕ) (pair : List Data × Data) (a b : Option (Key × Cause)) → IsTableFault ranks tick pair a → IsTableFault ranks tick pair b → a ≡ b
+one_table_fault ranks tick (before, here) a b h k =
+    one_text_fault tick (length before) (name_cause (is_name_taken ranks before) (member_at (codes "name") here)) (member_at (codes "text") here) a b h k
 
-pub one_formula_fault : (tick : ℕ) (tables : List Data) (a b : Option (Key × Cause)) → IsFormulaFault tick tables a → IsFormulaFault tick tables b → a ≡ b
-one_formula_fault tick tables a b h k = one_found (IsTableFault tick) (one_table_fault tick) (with_before [] tables) a b h k
+pub one_formula_fault : (ranks : Ranking) (tick : ℕ) (tables : List Data) (a b : Option (Key × Cause)) → IsFormulaFault ranks tick tables a → IsFormulaFault ranks tick tables b → a ≡ b
+one_formula_fault ranks tick tables a b h k = one_found (IsTableFault ranks tick) (one_table_fault ranks tick) (with_before [] tables) a b h k
 
 same_rule : (a b : NamedTree) → a.name ≡ b.name → a.tree ≡ b.tree → a ≡ b
 same_rule a b e f = λ i. rule_named (e i) (f i)
@@ -65,12 +66,12 @@ one_added tick (here ∷ tables) (r ∷ a) (s ∷ b) h k =
     let f = one_added tick tables a b h.1 k.1 in
     ap (λ l. r ∷ l) f ∙ ap (λ x. x ∷ b) e
 
-pub one_rules : (tick : ℕ) (numbers : RuleNumbers) (tables : List Data) (a b : List NamedTree) → AreScenarioRules tick numbers tables a → AreScenarioRules tick numbers tables b → a ≡ b
-one_rules tick numbers tables a b h k =
-    h.order ∙ ap (λ l. rules_of tick numbers ++ l) (one_added tick tables h.added k.added h.are_added k.are_added) ∙ sym k.order
+pub one_rules : (ranks : Ranking) (tick : ℕ) (numbers : RuleNumbers) (tables : List Data) (a b : List NamedTree) → AreScenarioRules ranks tick numbers tables a → AreScenarioRules ranks tick numbers tables b → a ≡ b
+one_rules ranks tick numbers tables a b h k =
+    h.order ∙ ap (λ l. rules_by ranks tick numbers ++ l) (one_added tick tables h.added k.added h.are_added k.are_added) ∙ sym k.order
 
-pub one_weight_fault : (tick : ℕ) (numbers : RuleNumbers) (tables : List Data) (a b : Option (Key × Cause)) → IsWeightFault tick numbers tables a → IsWeightFault tick numbers tables b → a ≡ b
-one_weight_fault tick numbers tables a b h k =
+pub one_weight_fault : (ranks : Ranking) (tick : ℕ) (numbers : RuleNumbers) (tables : List Data) (a b : Option (Key × Cause)) → IsWeightFault ranks tick numbers tables a → IsWeightFault ranks tick numbers tables b → a ≡ b
+one_weight_fault ranks tick numbers tables a b h k =
     let (r, p, e) = h in
     let (s, q, f) = k in
-    e ∙ ap (λ rules. fault_by 34 (weight_cause (total_weight rules))) (one_rules tick numbers tables r s p q) ∙ sym f
+    e ∙ ap (λ rules. fault_by 34 (weight_cause (total_weight rules))) (one_rules ranks tick numbers tables r s p q) ∙ sym f

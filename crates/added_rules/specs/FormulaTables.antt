@@ -4,6 +4,8 @@ use Rattle.std.specs.Char.{is_ascii_digit}
 use Rattle.std.specs.List.{list_all, list_any}
 use Rattle.toml.specs.Data.{Data, as_str}
 use Rattle.mtl_formulas.specs.FormulaReading.{Meaning, tree, syntax_fault, number_fault, size_fault, IsMeaning}
+use Rattle.rule_set.specs.declared.ranking.Ranking.{Ranking}
+use Rattle.rule_set.specs.declared.ranking.Ranking.TheVariants.{Ignored, Counted}
 use Rattle.scenario_keys.specs.KeyValues.{member_at}
 use Rattle.scenario_keys.specs.FirstFaults.{with_before, IsFound}
 use Rattle.scenario_keys.specs.ToldFaults.{fault_at, fault_by_at}
@@ -42,15 +44,20 @@ begins_small (first ∷ rest) = is_small_letter first
 abbrev pub is_rule_name : List ℕ → Bool
 is_rule_name name = nat_le (length name) 16 && (begins_small name && list_all is_name_byte name)
 
--- the names of the eleven rules
-abbrev pub rule_names : List (List ℕ)
-rule_names =
+-- the names of the eleven rules that stand without ranks and with them
+abbrev pub eleven_names : List (List ℕ)
+eleven_names =
     codes "r8b" ∷ codes "r8d" ∷ codes "r13" ∷ codes "r14a" ∷ codes "r14b" ∷ codes "r14p" ∷ codes "r15" ∷ codes "r16" ∷ codes "r17a"
     ∷ codes "r17b" ∷ codes "r17c" ∷ []
 
+-- the names of the rules without ranks, or with them
+abbrev pub rule_names : Ranking → List (List ℕ)
+rule_names Ignored = eleven_names
+rule_names Counted = eleven_names ++ codes "r18" ∷ []
+
 -- whether a rule has the name, or a formula of the tables before
-abbrev pub is_name_taken : List Data → List ℕ → Bool
-is_name_taken before name = list_any (λ taken. bytes_eq taken name) (rule_names ++ map formula_name_in before)
+abbrev pub is_name_taken : Ranking → List Data → List ℕ → Bool
+is_name_taken ranks before name = list_any (λ taken. bytes_eq taken name) (rule_names ranks ++ map formula_name_in before)
 
 -- the fault of a name, where these names are taken
 
@@ -97,9 +104,9 @@ abbrev pub IsFaultBy : (List ℕ → Bool) → ℕ → ℕ → Data → Option (
 IsFaultBy taken tick item here told =
     IsTextFault tick item (name_cause taken (member_at (codes "name") here)) (member_at (codes "text") here) told
 
-abbrev pub IsTableFault : ℕ → List Data × Data → Option (Key × Cause) → Type 0
-IsTableFault tick (before, here) told = IsFaultBy (is_name_taken before) tick (length before) here told
+abbrev pub IsTableFault : Ranking → ℕ → List Data × Data → Option (Key × Cause) → Type 0
+IsTableFault ranks tick (before, here) told = IsFaultBy (is_name_taken ranks before) tick (length before) here told
 
 -- what the tests of all tables find, the first fault or none
-abbrev pub IsFormulaFault : ℕ → List Data → Option (Key × Cause) → Type 0
-IsFormulaFault tick tables told = IsFound (IsTableFault tick) (with_before [] tables) told
+abbrev pub IsFormulaFault : Ranking → ℕ → List Data → Option (Key × Cause) → Type 0
+IsFormulaFault ranks tick tables told = IsFound (IsTableFault ranks tick) (with_before [] tables) told

@@ -3,6 +3,7 @@ use Rattle.std.specs.Prelude.{◌≡◌, ℕ, List, [], ◌∷◌, ◌++◌, len
 use Rattle.toml.specs.Data.{Data}
 use Rattle.rule_set.specs.NamedTrees.{NamedTree}
 use Rattle.rule_set.specs.declared.numbers.RuleNumbers.{RuleNumbers}
+use Rattle.rule_set.specs.declared.ranking.Ranking.{Ranking}
 use Rattle.added_rules.specs.FormulaTables.{IsFormulaFault}
 use Rattle.added_rules.specs.ScenarioRules.{AreScenarioRules, IsAdded}
 
@@ -13,7 +14,7 @@ pub record Adds (tick : ℕ) (table : Data) (before after : List NamedTree) : Ty
   pub added : IsAdded tick table rule
 
 -- The rules are those of the tables that were looked at, which have no fault.
-pub record Stands (tick : ℕ) (numbers : RuleNumbers) (tables : List Data) (held : List NamedTree) (index : ℕ) : Type 0 where
+pub record Stands (ranks : Ranking) (tick : ℕ) (numbers : RuleNumbers) (tables : List Data) (held : List NamedTree) (index : ℕ) : Type 0 where
   pub item : index ≡ length tables
-  pub rules : AreScenarioRules tick numbers tables held
-  pub faultless : IsFormulaFault tick tables None
+  pub rules : AreScenarioRules ranks tick numbers tables held
+  pub faultless : IsFormulaFault ranks tick tables None

@@ -1,10 +1,12 @@
--- The rules of a scenario: the eleven of the COLREGs 1972, and behind them the formulas of its tables; and how much they weigh.
-use Rattle.std.specs.Prelude.{◌≡◌, ◌≤◌, ℕ, nat_le, if◌then◌else◌, List, [], ◌∷◌, ◌++◌, length, sum_by, Option, Some, None}
+-- The rules of a scenario: those of the COLREGs 1972, eleven or with ranks twelve, and behind them the formulas of its tables; and how
+-- much they weigh.
+use Rattle.std.specs.Prelude.{◌≡◌, ◌≤◌, ℕ, nat_le, if◌then◌else◌, List, [], ◌∷◌, ◌++◌, sum_by, Option, Some, None}
 use Rattle.toml.specs.Data.{Data}
 use Rattle.mtl_formulas.specs.FormulaMeasures.{weight_of}
 use Rattle.mtl_formulas.specs.FormulaReading.{tree, IsMeaning}
-use Rattle.rule_set.specs.NamedTrees.{NamedTree, rules_of, AreRules}
+use Rattle.rule_set.specs.NamedTrees.{NamedTree, rules_by, AreRules}
 use Rattle.rule_set.specs.declared.numbers.RuleNumbers.{RuleNumbers}
+use Rattle.rule_set.specs.declared.ranking.Ranking.{Ranking}
 use Rattle.scenario_keys.specs.ToldFaults.{fault_by}
 use Rattle.scenario_keys.specs.declared.key.Key.{Key}
 use Rattle.scenario_keys.specs.declared.cause.Cause.{Cause}
@@ -22,9 +24,9 @@ AreAdded tick [] [] = Unit {0}
 AreAdded tick (here ∷ tables) (rule ∷ rules) = IsAdded tick here rule × AreAdded tick tables rules
 AreAdded tick _ _ = ⊥
 
-pub record AreScenarioRules (tick : ℕ) (numbers : RuleNumbers) (tables : List Data) (rules : List NamedTree) : Type 0 where
+pub record AreScenarioRules (ranks : Ranking) (tick : ℕ) (numbers : RuleNumbers) (tables : List Data) (rules : List NamedTree) : Type 0 where
   pub added : List NamedTree
-  pub order : rules ≡ rules_of tick numbers ++ added
+  pub order : rules ≡ rules_by ranks tick numbers ++ added
   pub are_added : AreAdded tick tables added
 
 -- how much rules weigh together, of which a monitor's memory is made
@@ -39,12 +41,11 @@ greatest_weight = 65536
 abbrev pub weight_cause : ℕ → Option Cause
 weight_cause weight = if nat_le weight greatest_weight then None else Some cause.Product
 
-abbrev pub IsWeightFault : ℕ → RuleNumbers → List Data → Option (Key × Cause) → Type 0
-IsWeightFault tick numbers tables told =
-    (rules : List NamedTree) × AreScenarioRules tick numbers tables rules × (told ≡ fault_by 34 (weight_cause (total_weight rules)))
+abbrev pub IsWeightFault : Ranking → ℕ → RuleNumbers → List Data → Option (Key × Cause) → Type 0
+IsWeightFault ranks tick numbers tables told =
+    (rules : List NamedTree) × AreScenarioRules ranks tick numbers tables rules × (told ≡ fault_by 34 (weight_cause (total_weight rules)))
 
--- The rules are right: at most 16, with different names, each a valid formula, and light enough together.
+-- The rules are right: not too many, with different names, each a valid formula, and light enough together.
 pub record AreLightRules (rules : List NamedTree) : Type 0 where
   pub right : AreRules rules
-  pub few : length rules ≤ 16
   pub light : total_weight rules ≤ greatest_weight

@@ -1,5 +1,5 @@
-//! The rules of a scenario: the eleven of the COLREGs 1972 with its numbers, and behind them the formulas of its tables; or the
-//! first fault of these.
+//! The rules of a scenario: those of the COLREGs 1972 with its numbers, eleven or with ranks twelve, and behind them the formulas of its
+//! tables; or the first fault of these.
 #![tactic(auto)]
 
 mod formula_names;

@@ -2,7 +2,7 @@
 ghost use Rattle.std.specs.Prelude.{◌≡◌, ◌⊎◌, ◌≤◌, ◌<◌, nat_le, length, map, IfErr, IfOk, OnOk, Some, None};
 ghost use Rattle.toml.specs.View.{view};
 ghost use Rattle.mtl_formulas.specs.FormulaText.{IsTick};
-ghost use Rattle.rule_set.specs.NamedTrees.{has_rule, AreRules};
+ghost use Rattle.rule_set.specs.NamedTrees.{has_rule, rules_by, AreRules};
 ghost use Rattle.rule_set.specs.RuleTrees.{AreRuleNumbers};
 ghost use Rattle.scenario_keys.specs.ToldFaults.{IfFault};
 ghost use Rattle.added_rules.specs.FormulaTables.{IsFaultBy, IsFormulaFault};
@@ -12,7 +12,8 @@ ghost use Rattle.added_rules.specs.Inner.{Adds};
 use crate::formula_names::name_in;
 use crate::formula_texts::formula_in;
 use mtl_formulas::weight;
-use rule_set::{RuleNumbers, RuleSet};
+use outside::Memory;
+use rule_set::{Ranking, RuleNumbers, RuleSet};
 use scenario_keys::{Cause, Key, ScenarioFault, member};
 use std::alloc::Global;
 use toml::Value;
@@ -45,20 +46,37 @@ fn add_table(
     }
 }
 
-/// The eleven rules, and behind them the formulas of these tables, or the first fault of a table.
+/// The rules of the COLREGs 1972 without ranks, or with them.
+fn rules_by(
+    alloc: Global,
+    ranks: Ranking,
+    numbers: &RuleNumbers,
+    tick: u32,
+) -> Result<RuleSet, Memory>
+    requires { AreRuleNumbers tick numbers.now }
+    ensures { IfOk result (λ set. set ≡ rules_by ranks tick numbers.now) }
+{
+    match ranks {
+        Ranking::Ignored => RuleSet::new(alloc, numbers, tick),
+        Ranking::Counted => RuleSet::new_ranked(alloc, numbers, tick),
+    }
+}
+
+/// These rules, and behind them the formulas of these tables, or the first fault of a table.
 fn all_rules(
     alloc: Global,
+    ranks: Ranking,
     numbers: &RuleNumbers,
     tick: u32,
     tables: &[Value],
 ) -> Result<RuleSet, ScenarioFault>
     requires numbers { AreRuleNumbers tick numbers.now }
     requires few { length tables.now ≤ 5 }
-    ensures rules { IfOk result (AreScenarioRules tick numbers.now (map view tables.now)) }
-    ensures faultless { OnOk result (IsFormulaFault tick (map view tables.now) None) }
-    ensures fault { IfErr result (IfFault (λ told. IsFormulaFault tick (map view tables.now) (Some told))) }
+    ensures rules { IfOk result (AreScenarioRules ranks tick numbers.now (map view tables.now)) }
+    ensures faultless { OnOk result (IsFormulaFault ranks tick (map view tables.now) None) }
+    ensures fault { IfErr result (IfFault (λ told. IsFormulaFault ranks tick (map view tables.now) (Some told))) }
 {
-    let mut rules = RuleSet::new(alloc, numbers, tick)?;
+    let mut rules = rules_by(alloc, ranks, numbers, tick)?;
     let mut item = 0;
     for table in tables {
         add_table(alloc, &mut rules, tick, item, table)?;
@@ -83,25 +101,26 @@ fn are_light(rules: &RuleSet) -> bool
     true
 }
 
-/// The rules of a scenario: the eleven of the COLREGs 1972 with these numbers, at a tick of so many seconds, and behind them the
-/// formulas of at most five tables, each with a `name` and a `text`. Or the first fault: table by table that of its name and
-/// then that of its text, and last that all rules weigh more than 65,536 together.
+/// The rules of a scenario: those of the COLREGs 1972 with these numbers, at a tick of so many seconds, eleven or with ranks twelve, and
+/// behind them the formulas of at most five tables, each with a `name` and a `text`. Or the first fault: table by table that of its
+/// name and then that of its text, and last that all rules weigh more than 65,536 together.
 pub fn rules_with(
     alloc: Global,
+    ranks: Ranking,
     numbers: &RuleNumbers,
     tick: u32,
     tables: &[Value],
 ) -> Result<RuleSet, ScenarioFault>
     requires numbers { AreRuleNumbers tick numbers.now }
     requires few { length tables.now ≤ 5 }
-    ensures rules { IfOk result (AreScenarioRules tick numbers.now (map view tables.now)) }
+    ensures rules { IfOk result (AreScenarioRules ranks tick numbers.now (map view tables.now)) }
     ensures light { IfOk result AreLightRules }
-    ensures faultless { OnOk result (IsFormulaFault tick (map view tables.now) None) }
-    ensures weighed { OnOk result (IsWeightFault tick numbers.now (map view tables.now) None) }
-    ensures fault { IfErr result (IfFault (λ told. IsFormulaFault tick (map view tables.now) (Some told)
-        ⊎ (IsFormulaFault tick (map view tables.now) None × IsWeightFault tick numbers.now (map view tables.now) (Some told)))) }
+    ensures faultless { OnOk result (IsFormulaFault ranks tick (map view tables.now) None) }
+    ensures weighed { OnOk result (IsWeightFault ranks tick numbers.now (map view tables.now) None) }
+    ensures fault { IfErr result (IfFault (λ told. IsFormulaFault ranks tick (map view tables.now) (Some told)
+        ⊎ (IsFormulaFault ranks tick (map view tables.now) None × IsWeightFault ranks tick numbers.now (map view tables.now) (Some told)))) }
 {
-    let rules = all_rules(alloc, numbers, tick, tables)?;
+    let rules = all_rules(alloc, ranks, numbers, tick, tables)?;
     if !are_light(&rules) {
         return Err(ScenarioFault::Fault(Key { row: 34, item: 0 }, Cause::Product));
     }

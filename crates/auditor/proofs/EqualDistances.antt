@@ -18,9 +18,10 @@ use Rattle.encounters.specs.Engagement.{seen_at}
 use Rattle.encounters.specs.declared.engagement_state.EngagementState.{EngagementState}
 use Rattle.encounters.specs.declared.engagement_state.EngagementState.TheVariants.{Apart, Engaged}
 use Rattle.encounters.specs.declared.pair_step.PairStep.{PairStep}
-use Rattle.meetings.specs.Atoms.{AreAnswers, AreAtomRows, IsAtomRow, Tells}
+use Rattle.meetings.specs.Atoms.{AreAnswers, AreRankedRows, IsRankedRow, Tells}
 use Rattle.meetings.specs.SinceBeginning.{age_of, kind_of}
-use Rattle.meetings.specs.Ranks.{both_power_driven}
+use Rattle.meetings.specs.Ranks.{beginning_at}
+use Rattle.meetings.specs.declared.by_rank.ByRank.{ByRank}
 use Rattle.meetings.specs.Terms.{Terms}
 
 -- ---- by the verdicts of the atoms
@@ -97,31 +98,31 @@ atom_of class.Unclassified = atom.Unclassified
 
 module _ (terms : Terms) where
   -- The atom of a kind tells whether they are engaged with that kind.
-  of_kind : (state : EngagementState) (seen : Option PairStep) (answers : Atom → Verdict) → AreAnswers terms both_power_driven state seen answers
+  of_kind : (by_rank : ByRank) (state : EngagementState) (seen : Option PairStep) (answers : Atom → Verdict) → AreAnswers terms by_rank state seen answers
       → (kind : Class) → Tells (kind_of state ≡ Some kind) (answers (atom_of kind))
-  of_kind state seen answers values class.Overtaking = values atom.Overtaking
-  of_kind state seen answers values class.Overtaken = values atom.Overtaken
-  of_kind state seen answers values class.HeadOn = values atom.HeadOn
-  of_kind state seen answers values class.CrossingGives = values atom.CrossingGives
-  of_kind state seen answers values class.CrossingStands = values atom.CrossingStands
-  of_kind state seen answers values class.Passing = values atom.Passing
-  of_kind state seen answers values class.Unclassified = values atom.Unclassified
+  of_kind by_rank state seen answers values class.Overtaking = values atom.Overtaking
+  of_kind by_rank state seen answers values class.Overtaken = values atom.Overtaken
+  of_kind by_rank state seen answers values class.HeadOn = values atom.HeadOn
+  of_kind by_rank state seen answers values class.CrossingGives = values atom.CrossingGives
+  of_kind by_rank state seen answers values class.CrossingStands = values atom.CrossingStands
+  of_kind by_rank state seen answers values class.Passing = values atom.Passing
+  of_kind by_rank state seen answers values class.Unclassified = values atom.Unclassified
 
-  by_state : (state : EngagementState) (seen : Option PairStep) (answers : Atom → Verdict) → AreAnswers terms both_power_driven state seen answers
+  by_state : (by_rank : ByRank) (state : EngagementState) (seen : Option PairStep) (answers : Atom → Verdict) → AreAnswers terms by_rank state seen answers
       → (clear : Verdict) → at_four (answers atom.Engaged) (λ kind. answers (atom_of kind)) clear ≡ implied (answers atom.Engaged) clear
-  by_state Apart seen answers values clear =
+  by_state by_rank Apart seen answers values clear =
       let engaged : answers atom.Engaged ≡ No = no_of (IsSome (age_of Apart)) (answers atom.Engaged) (values atom.Engaged) (λ some. cc) in
       subst (λ (v : Verdict). at_four v (λ (kind : Class). answers (atom_of kind)) clear ≡ implied v clear) (sym engaged) refl
-  by_state (Engaged own age a b) seen answers values clear =
+  by_state by_rank (Engaged own age a b) seen answers values clear =
       let engaged : answers atom.Engaged ≡ Yes = yes_of (IsSome (Some age)) (answers atom.Engaged) (values atom.Engaged) refl in
       let kinds : (λ (kind : Class). answers (atom_of kind)) ≡ only own =
-      fun_ext (λ kind. is_only own kind (answers (atom_of kind)) (of_kind (Engaged own age a b) seen answers values kind)) in
+      fun_ext (λ kind. is_only own kind (answers (atom_of kind)) (of_kind by_rank (Engaged own age a b) seen answers values kind)) in
       subst (λ (v : Verdict). at_four v (λ (kind : Class). answers (atom_of kind)) clear ≡ implied v clear) (sym engaged)
       (subst (λ (f : Class → Verdict). at_four Yes f clear ≡ clear) (sym kinds) (clear_alone own clear))
 
   -- ---- at a position of a trace
 
-  module _ (steps : List (Option PairStep)) (trace : Trace) (metres i : ℕ) (rows : AreAtomRows terms steps trace) where
+  module _ (steps : List (Option PairStep)) (trace : Trace) (metres i : ℕ) (ranks : ℕ → ByRank) (rows : AreRankedRows terms ranks steps trace) where
     abbrev answered : Atom → Option (Atom → Verdict) → Verdict
     answered a o = answer_at (λ row. row) trace a o
 
@@ -133,9 +134,9 @@ module _ (terms : Terms) where
         let in_trace : i < length trace = slice_get_within trace i answers some in
         let count = rows.count in
         let within : i < length steps = omega arith in
-        let row : IsAtomRow terms steps i answers =
-        subst (λ (o : Option (Atom → Verdict)). IsSomeAnd o (IsAtomRow terms steps i)) some (rows.each i within) in
-        by_state row.state (seen_at steps i) answers row.values (answers (atom.Clear metres))
+        let row : IsRankedRow terms ranks steps i answers =
+        subst (λ (o : Option (Atom → Verdict)). IsSomeAnd o (IsRankedRow terms ranks steps i)) some (rows.each i within) in
+        by_state (ranks (beginning_at i row.state)) row.state (seen_at steps i) answers row.values (answers (atom.Clear metres))
 
     pub equal_distances : value_in trace (passes_safely (PerKind metres metres metres metres)) i ≡ value_in trace (passes_safely (One metres)) i
     equal_distances = by_row (slice_get trace i) refl

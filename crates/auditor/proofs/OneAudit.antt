@@ -6,13 +6,12 @@ use Rattle.std.proofs.lemmas.Option.{slice_get-get_or}
 use Rattle.mtl_formulas.specs.declared.verdict.Verdict.TheVariants.{No, Open, Yes}
 use Rattle.rule_set.specs.NamedTrees.{rule_at}
 use Rattle.meetings.specs.declared.pair.Pair.{Pair}
-use Rattle.meetings.specs.Ranks.{all_power_driven}
 use Rattle.meetings.proofs.ForCallers.{one_list as one_trace}
 use Rattle.audit_rows.specs.Rows.{IsRow, IsRowOf}
 use Rattle.audit_rows.specs.Tracks.{Track}
 use Rattle.audit_rows.specs.declared.row.Row.{Row}
 use Rattle.audit_rows.proofs.ForCallers.{one_list}
-use Rattle.traces.specs.Audited.{AuditNumbers, Sighting, terms_of, trace_steps}
+use Rattle.traces.specs.Audited.{AuditNumbers, Sighting, terms_of, trace_ranks, trace_steps}
 use Rattle.auditor.specs.AuditTracks.{IsTraceOf}
 use Rattle.auditor.specs.RuleCounts.{told}
 use Rattle.auditor.specs.declared.total.Total.{Total}
@@ -60,7 +59,7 @@ module _ (numbers : AuditNumbers) (ticks : List Sighting) where
       let begun : t.start ≡ other.start = one_beginning numbers ticks other.pair t.start other.start here.begins k.begins in
       let there : IsTraceOf numbers ticks other.pair other.start t.trace = subst (λ (n : ℕ). IsTraceOf numbers ticks other.pair n t.trace) begun here in
       let answers : t.trace ≡ other.trace =
-      one_trace (terms_of numbers) all_power_driven (trace_steps numbers ticks other.pair other.start) t.trace other.trace there.rows k.rows in
+      one_trace (terms_of numbers) (trace_ranks ticks other.pair other.start) (trace_steps numbers ticks other.pair other.start) t.trace other.trace there.rows k.rows in
       λ i. record { pair = e i; start = begun i; trace = answers i }
 
   traced_too : (traces others : List Traced) → AreTraces numbers ticks traces → AreTraces numbers ticks others → (t : Traced) → Contains traces t → Contains others t

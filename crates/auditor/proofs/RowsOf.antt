@@ -43,7 +43,7 @@ settled_at bound (t ∷ ts) track s i =
 closed : (bound last first next count : ℕ) → bound ≤ first + (count - 1) → first ≤ last → next ≡ first + count → last < bound → last + 1 < next
 closed bound last first next count b f n lt = omega arith
 
-module _ (numbers : AuditNumbers) (ticks : List Sighting) (knowns : List Known) (are : AreKnown numbers ticks knowns) (rows_of : HaveRows numbers knowns) (tracks : List Track) where
+module _ (numbers : AuditNumbers) (ticks : List Sighting) (knowns : List Known) (are : AreKnown numbers ticks knowns) (rows_of : HaveRows numbers ticks knowns) (tracks : List Track) where
   pub audit_rows_below : (bound : ℕ) (rows : List Row) → AreTracksOfAll AreRuleMarksSoFar numbers knowns tracks → AreSettled bound tracks → AreRowsBelow bound tracks rows → AreAuditRowsBelow numbers ticks bound rows
   audit_rows_below bound rows all settled h = record {
     each = λ row. (
@@ -97,7 +97,7 @@ unfolding with_marks
 same_track track more e =
     ap (λ (ms : List Mark). with_marks track (track.marks ++ ms)) e ∙ ap (λ (ms : List Mark). with_marks track ms) (append-nil track.marks)
 
-module _ (numbers : AuditNumbers) (ticks : List Sighting) (knowns : List Known) (are : AreKnown numbers ticks knowns) (rows_of : HaveRows numbers knowns) (tracks : List Track) where
+module _ (numbers : AuditNumbers) (ticks : List Sighting) (knowns : List Known) (are : AreKnown numbers ticks knowns) (rows_of : HaveRows numbers ticks knowns) (tracks : List Track) where
   pub audit_rows : (rows : List Row) → AreTracksOfAll AreRuleMarksWhole numbers knowns tracks → AreRows tracks rows → AreAuditRows numbers ticks rows
   audit_rows rows all h = record {
     each = λ row. (

@@ -8,7 +8,7 @@ use Rattle.mtl_formulas.specs.declared.verdict.Verdict.TheVariants.{No, Open, Ye
 use Rattle.mtl_monitor.specs.Traces.{value_in}
 use Rattle.rule_set.specs.NamedTrees.{NamedTree, rule_at}
 use Rattle.encounters.specs.declared.pair_step.PairStep.{PairStep}
-use Rattle.meetings.specs.Atoms.{AreAtomRows}
+use Rattle.meetings.specs.Atoms.{AreRankedRows}
 use Rattle.meetings.specs.declared.pair.Pair.{Pair}
 use Rattle.audit_rows.specs.Stretches.{mark_at}
 use Rattle.audit_rows.specs.Standing.{HaveOwnTopics}
@@ -17,7 +17,7 @@ use Rattle.audit_rows.specs.declared.mark.Mark.{Mark}
 use Rattle.audit_rows.specs.declared.row.Row.{Row}
 use Rattle.audit_rows.specs.declared.topic.Topic.{Topic}
 use Rattle.audit_rows.specs.declared.topic.Topic.TheVariants as topic
-use Rattle.traces.specs.Audited.{AuditNumbers, Sighting, terms_of}
+use Rattle.traces.specs.Audited.{AuditNumbers, Sighting, terms_of, trace_ranks}
 use Rattle.traces.specs.Known.{AreKnown, Known, pairs_of}
 use Rattle.auditor.specs.AuditTotals.{AreTotals, AreTraces, IsTotal, Traced, is_value, positions_with}
 use Rattle.auditor.specs.AuditTracks.{IsTraceOf}
@@ -43,13 +43,13 @@ same_pairs : (knowns : List Known) → map (λ (t : Traced). t.pair) (map traced
 same_pairs [] = refl
 same_pairs (k ∷ ks) = ap (λ (ps : List Pair). k.pair ∷ ps) (same_pairs ks)
 
-pub are_traces : (numbers : AuditNumbers) (ticks : List Sighting) (knowns : List Known) → AreKnown numbers ticks knowns → HaveRows numbers knowns → AreTraces numbers ticks (map traced knowns)
+pub are_traces : (numbers : AuditNumbers) (ticks : List Sighting) (knowns : List Known) → AreKnown numbers ticks knowns → HaveRows numbers ticks knowns → AreTraces numbers ticks (map traced knowns)
 are_traces numbers ticks knowns are rows = record {
   each = λ t i. (let (known, j, e) = from_map traced knowns t i in
       let is = are.each known j in
       let of : IsTraceOf numbers ticks known.pair known.start known.trace = record {
         begins = is.begins;
-        rows = subst (λ (s : List (Option PairStep)). AreAtomRows (terms_of numbers) s known.trace) is.steps (rows known j);
+        rows = subst (λ (s : List (Option PairStep)). AreRankedRows (terms_of numbers) (trace_ranks ticks known.pair known.start) s known.trace) is.steps (rows known j);
       } in
       subst (λ (u : Traced). IsTraceOf numbers ticks u.pair u.start u.trace) e of);
   all = λ pair start begins. subst (λ (ps : List Pair). Contains ps pair) (sym (same_pairs knowns)) (are.all pair start begins);
@@ -184,7 +184,7 @@ some_still : {X : Type 0} (P Q : X → Type 0) (o : Option X) → ((x : X) → P
 some_still P Q None f h = h
 some_still P Q (Some x) f h = f x h
 
-pub are_totals : (numbers : AuditNumbers) (ticks : List Sighting) (knowns : List Known) (rows : List Row) (totals : List Total) → AreKnown numbers ticks knowns → HaveRows numbers knowns
+pub are_totals : (numbers : AuditNumbers) (ticks : List Sighting) (knowns : List Known) (rows : List Row) (totals : List Total) → AreKnown numbers ticks knowns → HaveRows numbers ticks knowns
     → AreEnded numbers knowns rows totals → AreTotals numbers ticks rows totals
 are_totals numbers ticks knowns rows totals are rows_of ended = record {
   traces = map traced knowns;

@@ -7,9 +7,8 @@ use Rattle.mtl_formulas.specs.FormulaTree.{FormulaTree}
 use Rattle.mtl_monitor.specs.Traces.{Trace}
 use Rattle.rule_set.specs.NamedTrees.{NamedTree, rule_at}
 use Rattle.encounters.specs.declared.pair_step.PairStep.{PairStep}
-use Rattle.meetings.specs.Atoms.{AreAtomRows}
+use Rattle.meetings.specs.Atoms.{AreRankedRows}
 use Rattle.meetings.specs.declared.pair.Pair.{Pair}
-use Rattle.meetings.specs.Ranks.{all_power_driven}
 use Rattle.meetings.proofs.ForCallers.{one_list as one_trace}
 use Rattle.audit_rows.specs.Tracks.{Track}
 use Rattle.audit_rows.specs.declared.mark.Mark.{Mark}
@@ -17,7 +16,7 @@ use Rattle.audit_rows.specs.declared.topic.Topic.{Topic}
 use Rattle.audit_rows.specs.declared.topic.Topic.TheVariants.{Meeting, Verdict}
 use Rattle.outside.proofs.Members.{in_cons, in_head, in_none, in_tail}
 use Rattle.traces.proofs.ForCallers.{from_map, one_beginning}
-use Rattle.traces.specs.Audited.{Begins, AuditNumbers, Sighting, terms_of, trace_steps}
+use Rattle.traces.specs.Audited.{Begins, AuditNumbers, Sighting, terms_of, trace_ranks, trace_steps}
 use Rattle.traces.specs.Known.{AreKnown, IsKnown, Known}
 use Rattle.auditor.specs.AuditTracks.{AreMarksOf, AreMeetingMarks, AreRuleMarks, IsTrack}
 use Rattle.auditor.specs.Inner.AuditKeeping.{AreTracksOfAll}
@@ -124,10 +123,11 @@ module _ (AreMarks : FormulaTree → Trace → List Mark → Type 0) (numbers : 
       ]
 
 -- what is kept of each trace is its answers to the atoms
-abbrev pub HaveRows : AuditNumbers → List Known → Type 0
-HaveRows numbers knowns = (known : Known) → Contains knowns known → AreAtomRows (terms_of numbers) known.steps known.trace
+abbrev pub HaveRows : AuditNumbers → List Sighting → List Known → Type 0
+HaveRows numbers ticks knowns =
+    (known : Known) → Contains knowns known → AreRankedRows (terms_of numbers) (trace_ranks ticks known.pair known.start) known.steps known.trace
 
-pub have_rows : (numbers : AuditNumbers) (ticks : List Sighting) (knowns : List Known) → AreKnown numbers ticks knowns → HaveRows numbers knowns
+pub have_rows : (numbers : AuditNumbers) (ticks : List Sighting) (knowns : List Known) → AreKnown numbers ticks knowns → HaveRows numbers ticks knowns
 have_rows numbers ticks knowns are known i = (are.each known i).rows
 
 module _ (Rest : List Mark → Type 0) (AreMarks : FormulaTree → Trace → List Mark → Type 0) (none : Rest [])
@@ -159,7 +159,7 @@ module _ (Rest : List Mark → Type 0) (AreMarks : FormulaTree → Trace → Lis
             (is_track track (Meeting known.pair) known.start track.marks h.topic h.first all);
       }
 
-  rule_becomes : (known : Known) (track : Track) → IsKnown numbers ticks known → AreAtomRows (terms_of numbers) known.steps known.trace
+  rule_becomes : (known : Known) (track : Track) → IsKnown numbers ticks known → AreRankedRows (terms_of numbers) (trace_ranks ticks known.pair known.start) known.steps known.trace
       → RuleFound AreMarks numbers known 0 numbers.rules track → Becomes track
   rule_becomes known track is rows f =
       let h = f.is in
@@ -172,14 +172,14 @@ module _ (Rest : List Mark → Type 0) (AreMarks : FormulaTree → Trace → Lis
         trace = known.trace;
         of = record {
           begins = is.begins;
-          rows = subst (λ (s : List (Option PairStep)). AreAtomRows (terms_of numbers) s known.trace) is.steps rows;
+          rows = subst (λ (s : List (Option PairStep)). AreRankedRows (terms_of numbers) (trace_ranks ticks known.pair known.start) s known.trace) is.steps rows;
         };
         count = whole.count;
         each = whole.each;
       } in
       record { more = g.more; rest = g.rest; is = is_track track (Verdict known.pair f.index) known.start (track.marks ++ g.more) topic h.first all }
 
-  one_becomes : (known : Known) (mine : List Track) (track : Track) → IsKnown numbers ticks known → AreAtomRows (terms_of numbers) known.steps known.trace
+  one_becomes : (known : Known) (mine : List Track) (track : Track) → IsKnown numbers ticks known → AreRankedRows (terms_of numbers) (trace_ranks ticks known.pair known.start) known.steps known.trace
       → AreTracks AreMarks numbers known mine → Contains mine track → Becomes track
   one_becomes known [] track is rows h i = absurd h
   one_becomes known (meeting ∷ rules) track is rows h i =
@@ -188,7 +188,7 @@ module _ (Rest : List Mark → Type 0) (AreMarks : FormulaTree → Trace → Lis
         | inr later ↦ rule_becomes known track is rows (found_rule AreMarks numbers known 0 numbers.rules rules track h.1 later)
       ]
 
-  module _ (knowns : List Known) (are : AreKnown numbers ticks knowns) (rows : HaveRows numbers knowns) (tracks : List Track) (all : AreTracksOfAll AreMarks numbers knowns tracks) where
+  module _ (knowns : List Known) (are : AreKnown numbers ticks knowns) (rows : HaveRows numbers ticks knowns) (tracks : List Track) (all : AreTracksOfAll AreMarks numbers knowns tracks) where
     pub becomes : (track : Track) → Contains tracks track → Becomes track
     becomes track i =
         let f = found_trace AreMarks numbers knowns tracks track all i in
@@ -252,9 +252,12 @@ module _ (Rest : List Mark → Type 0) (AreMarks : FormulaTree → Trace → Lis
         let topic : p.track.topic ≡ Verdict pair rule = is.topic ∙ (ap (λ (n : ℕ). Verdict known.pair n) at ∙ ap (λ (q : Pair). Verdict q rule) e) in
         let tree : FormulaTree = (rule_at numbers.rules rule).tree in
         let n = go_on tree known.trace p.track.marks is.marks in
-        let mine_rows : AreAtomRows (terms_of numbers) (trace_steps numbers ticks pair start) known.trace =
-        subst (λ (s : List (Option PairStep)). AreAtomRows (terms_of numbers) s known.trace) g (rows known i) in
-        let same : known.trace ≡ h.trace = one_trace (terms_of numbers) all_power_driven (trace_steps numbers ticks pair start) known.trace h.trace mine_rows h.of.rows in
+        let steps = trace_steps numbers ticks pair start in
+        let mine_rows : AreRankedRows (terms_of numbers) (trace_ranks ticks pair start) steps known.trace =
+        subst (λ (q : Pair). AreRankedRows (terms_of numbers) (trace_ranks ticks q start) steps known.trace) e
+        (subst (λ (n : ℕ). AreRankedRows (terms_of numbers) (trace_ranks ticks known.pair n) steps known.trace) f
+        (subst (λ (s : List (Option PairStep)). AreRankedRows (terms_of numbers) (trace_ranks ticks known.pair known.start) s known.trace) g (rows known i))) in
+        let same : known.trace ≡ h.trace = one_trace (terms_of numbers) (trace_ranks ticks pair start) steps known.trace h.trace mine_rows h.of.rows in
         let whole : AreRuleMarksWhole tree h.trace (p.track.marks ++ n.more) = subst (λ (r : Trace). AreRuleMarksWhole tree r (p.track.marks ++ n.more)) same n.whole in
         let marks_are : p.track.marks ++ n.more ≡ marks = same_rule_marks tree h.trace (p.track.marks ++ n.more) marks whole (record { count = h.count; each = h.each }) in
         record {

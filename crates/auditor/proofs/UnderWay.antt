@@ -1,5 +1,5 @@
 -- As one trace after the other takes its step, or ends.
-use Rattle.std.proofs.Common.{◌≡◌, ◌≢◌, ℕ, suc, ◌+◌, ◌<◌, ◌≤◌, ◌^◌, List, [], ◌∷◌, ◌++◌, length, length-append, get_or, set, drop, map, append_assoc, append-nil, refl, sym, ap, subst, ◌∙◌, arith}
+use Rattle.std.proofs.Common.{◌≡◌, ◌≢◌, ℕ, suc, ◌+◌, ◌-◌, ◌<◌, ◌≤◌, ◌^◌, List, [], ◌∷◌, ◌++◌, length, length-append, get_or, set, drop, map, append_assoc, append-nil, refl, sym, ap, subst, ◌∙◌, arith}
 use Rattle.std.specs.Prelude.{Option}
 use Rattle.std.specs.List.{AllPairs, AllZip, Contains}
 use Rattle.std.specs.Option.{option_copied}
@@ -12,15 +12,16 @@ use Rattle.mtl_monitor.specs.Traces.{Trace}
 use Rattle.mtl_monitor.specs.Following.{IsProgramOf, count_of}
 use Rattle.mtl_monitor.specs.declared.program.Program.{Program}
 use Rattle.meetings.specs.Answers.{answer_of}
-use Rattle.meetings.specs.Atoms.{IsAtomRow}
+use Rattle.meetings.specs.Atoms.{IsRankedRow}
+use Rattle.meetings.specs.declared.by_rank.ByRank.{ByRank}
 use Rattle.meetings.specs.declared.pair.Pair.{Pair}
 use Rattle.rule_set.specs.NamedTrees.{NamedTree}
 use Rattle.audit_rows.specs.Tracks.{Track}
 use Rattle.audit_rows.specs.declared.mark.Mark.{Mark}
 use Rattle.audit_rows.specs.declared.row.Row.{Row}
-use Rattle.traces.specs.Audited.{AuditNumbers, Sighting, last_sighting, step_of, terms_of}
-use Rattle.traces.specs.Known.{AreOpened, IsFollowed, Known, opened, pairs_of, watched}
-use Rattle.traces.specs.Standing.{StandsFor as TracesStandFor, latest_sighting, traces_of}
+use Rattle.traces.specs.Audited.{AuditNumbers, SeenVessels, Sighting, step_of, terms_of, trace_ranks}
+use Rattle.traces.specs.Known.{AreOpened, IsFollowed, IsUpTo, Known, next_step_of, opened, pairs_of, watched}
+use Rattle.traces.specs.Standing.{StandsFor as TracesStandFor, latest_vessels, traces_of}
 use Rattle.traces.specs.declared.all_traces.AllTraces.{AllTraces}
 use Rattle.outside.proofs.Members.{in_head, in_tail}
 use Rattle.traces.proofs.ForCallers.{different_pairs, known_count, zip_at, zip_length, zip_push, zip_set}
@@ -52,7 +53,7 @@ program_length program numbers is = is.of.count ∙ length-map numbers.rules (λ
 
 -- ---- steps
 
-module _ (program : Program) (numbers : AuditNumbers) (ticks : List Sighting) (seen : Sighting) (step : ℕ) (knowns : List Known) (bound : ℕ) (given : List Row) where
+module _ (program : Program) (numbers : AuditNumbers) (ticks : List Sighting) (seen : SeenVessels) (step : ℕ) (knowns : List Known) (bound : ℕ) (given : List Row) where
   -- The first traces have taken their step, and the others have not.
   pub record IsUnderWay (kept : AllTraces) (values : List AuditTrace) (marks : RowQueue) (first index : ℕ) : Type 0 where
     pub front : List Known
@@ -60,7 +61,7 @@ module _ (program : Program) (numbers : AuditNumbers) (ticks : List Sighting) (s
     pub done : List Known
     pub parted : knowns ≡ front ++ rest
     pub count : length done ≡ index
-    pub followed : AllZip (IsFollowed numbers (last_sighting ticks) seen) front done
+    pub followed : AllZip (IsFollowed numbers ticks seen) front done
     pub at : (known : Known) → Contains rest known → IsAtStep step known
     pub short : (known : Known) → Contains rest known → length known.steps < 2 ^ 31
     pub traces : TracesStandFor kept numbers ticks (done ++ rest)
@@ -96,9 +97,9 @@ module _ (program : Program) (numbers : AuditNumbers) (ticks : List Sighting) (s
   -- what the next row of a trace is, and what the trace then stands for
   abbrev pub GivesRow : AllTraces → AllTraces → ℕ → NextRow → Type 0
   GivesRow kept kept' index next =
-      (front : List Known) (known : Known) (back : List Known) → TracesStandFor kept numbers ticks (front ++ known ∷ back) → index ≡ length front → length known.steps < 2 ^ 31
-      → IsNextRow numbers known (step_of known.pair (last_sighting ticks) seen) next
-      × TracesStandFor kept' numbers ticks (front ++ watched known (step_of known.pair (last_sighting ticks) seen) (answer_of next.row.now) ∷ back)
+      (front : List Known) (known : Known) (back : List Known) → TracesStandFor kept numbers ticks (front ++ known ∷ back) → index ≡ length front → length known.steps < 2 ^ 31 → IsUpTo ticks known
+      → IsNextRow numbers (trace_ranks ticks known.pair known.start) known (next_step_of ticks seen known) next
+      × TracesStandFor kept' numbers ticks (front ++ watched known (next_step_of ticks seen known) (answer_of next.row.now) ∷ back)
 
   -- what a call says of the trace at an index, whatever the traces stand for
   abbrev pub Says : AllTraces → ℕ → (AuditNumbers → List Sighting → List Known → Known → List Known → Type 0) → Type 0
@@ -109,26 +110,26 @@ module _ (program : Program) (numbers : AuditNumbers) (ticks : List Sighting) (s
   -- as the calls say it, one after the other, by the vessels seen at the latest tick
   pub gives_row : (kept middle kept' : AllTraces) (index : ℕ) (taken : Option PairStep) (next : NextRow) → option_copied next.seen ≡ taken
       → Says kept index (λ numbers ticks front known back. IsStateAfter numbers.detect known.steps next.was.now)
-      → Says kept index (λ numbers ticks front known back. taken ≡ step_of known.pair (latest_sighting kept) seen)
+      → Says kept index (λ numbers ticks front known back. taken ≡ step_of known.pair (latest_vessels kept) seen)
       → Says kept index (λ numbers ticks front known back. TracesStandFor middle numbers ticks (front ++ known ∷ back))
-      → Says middle index (λ numbers ticks front known back. length known.steps < 2 ^ 31
-      → IsAtomRow (terms_of numbers) (known.steps ++ option_copied next.seen ∷ []) (length known.steps) (answer_of next.row.now))
-      → Says middle index (λ numbers ticks front known back. length known.steps < 2 ^ 31
+      → Says middle index (λ numbers ticks front known back. length known.steps < 2 ^ 31 → IsUpTo ticks known
+      → IsRankedRow (terms_of numbers) (trace_ranks ticks known.pair known.start) (known.steps ++ option_copied next.seen ∷ []) (length known.steps) (answer_of next.row.now))
+      → Says middle index (λ numbers ticks front known back. length known.steps < 2 ^ 31 → IsUpTo ticks known
       → TracesStandFor kept' numbers ticks (front ++ watched known (option_copied next.seen) (answer_of next.row.now) ∷ back))
       → Says kept' index (λ numbers ticks front known back. IsStateAfter numbers.detect known.steps next.is.now)
       → GivesRow kept kept' index next
-  gives_row kept middle kept' index taken next same was is_step stands row took is front known back h e short =
-      let here : option_copied next.seen ≡ step_of known.pair (last_sighting ticks) seen =
-      same ∙ is_step numbers ticks front known back h e ∙ ap (λ (s : Sighting). step_of known.pair s seen) h.latest in
+  gives_row kept middle kept' index taken next same was is_step stands row took is front known back h e short up =
+      let here : option_copied next.seen ≡ next_step_of ticks seen known =
+      same ∙ is_step numbers ticks front known back h e ∙ ap (λ (s : Sighting). step_of known.pair s.vessels seen) h.latest in
       let now = stands numbers ticks front known back h e in
-      let after = took numbers ticks front known back now e short in (
+      let after = took numbers ticks front known back now e short up in (
         record {
           seen = here;
           was = was numbers ticks front known back h e;
           is = subst (λ (o : Option PairStep). IsStateAfter numbers.detect (known.steps ++ o ∷ []) next.is.now) here
               (is numbers ticks front (watched known (option_copied next.seen) (answer_of next.row.now)) back after e);
-          row = subst (λ (o : Option PairStep). IsAtomRow (terms_of numbers) (known.steps ++ o ∷ []) (length known.steps) (answer_of next.row.now)) here
-              (row numbers ticks front known back now e short);
+          row = subst (λ (o : Option PairStep). IsRankedRow (terms_of numbers) (trace_ranks ticks known.pair known.start) (known.steps ++ o ∷ []) (length known.steps) (answer_of next.row.now)) here
+              (row numbers ticks front known back now e short up);
         },
         subst (λ (o : Option PairStep). TracesStandFor kept' numbers ticks (front ++ watched known o (answer_of next.row.now) ∷ back)) here after,
       )
@@ -136,14 +137,14 @@ module _ (program : Program) (numbers : AuditNumbers) (ticks : List Sighting) (s
   -- what the step of a trace comes to
   abbrev pub StepsIt : AuditTrace → AuditTrace → NextRow → RowQueue → RowQueue → ℕ → Type 0
   StepsIt trace after next marks marks' first =
-      (numbers : AuditNumbers) (known : Known) (seen : Option PairStep) (front mine back : List Track) (bound : ℕ) (given : List Row) → StandsFor program numbers trace known
-      → step ≡ known.start + length known.steps → IsNextRow numbers known seen next → AreTracksSoFar numbers known mine → first ≡ length front
+      (numbers : AuditNumbers) (ranks : ℕ → ByRank) (known : Known) (seen : Option PairStep) (front mine back : List Track) (bound : ℕ) (given : List Row)
+      → StandsFor program numbers trace known → step ≡ known.start + length known.steps → IsNextRow numbers ranks known seen next → AreTracksSoFar numbers known mine → first ≡ length front
       → QueueStandsFor marks (front ++ mine ++ back) bound given → Steps program numbers after known seen (answer_of next.row.now) marks' front back bound given
 
   module _ (kept kept' : AllTraces) (values : List AuditTrace) (marks marks' : RowQueue) (first index tracks : ℕ) (d after : AuditTrace) (next : NextRow)
-      (is : IsProgramOf program (formulas_of numbers)) (many : tracks ≡ count_of program + 1) (within : index < length values)
+      (is : IsProgramOf program (formulas_of numbers)) (latest : step ≡ length ticks - 1) (many : tracks ≡ count_of program + 1) (within : index < length values)
       (it : StepsIt (get_or values index d) after next marks marks' first) (gives : GivesRow kept kept' index next) where
-    by_rest : (front rest done : List Known) (mine others : List Track) → knowns ≡ front ++ rest → length done ≡ index → AllZip (IsFollowed numbers (last_sighting ticks) seen) front done
+    by_rest : (front rest done : List Known) (mine others : List Track) → knowns ≡ front ++ rest → length done ≡ index → AllZip (IsFollowed numbers ticks seen) front done
         → ((known : Known) → Contains rest known → IsAtStep step known) → ((known : Known) → Contains rest known → length known.steps < 2 ^ 31)
         → TracesStandFor kept numbers ticks (done ++ rest) → AllZip (StandsFor program numbers) values (done ++ rest) → AreAllTracks numbers done mine → AreAllTracks numbers rest others
         → first ≡ length mine → QueueStandsFor marks (mine ++ others) bound given → IsUnderWay kept' (set values index after) marks' (first + tracks) (index + 1)
@@ -151,12 +152,12 @@ module _ (program : Program) (numbers : AuditNumbers) (ticks : List Sighting) (s
         let many_traces = zip_length (StandsFor program numbers) values (done ++ []) stand in
         absurd (omega (arith, length-append done []))
     by_rest front (k ∷ ks) done mine others parted count followed at short traces stand all (its, more, rest_all) is_first keeps =
-        let step_seen : Option PairStep = step_of k.pair (last_sighting ticks) seen in
+        let step_seen : Option PairStep = next_step_of ticks seen k in
         let old : StandsFor program numbers (get_or values index d) k = subst (λ (n : ℕ). StandsFor program numbers (get_or values n d) k) count (zip_at (StandsFor program numbers) values done k ks d stand) in
         let before_keeps : QueueStandsFor marks (mine ++ its ++ more) bound given =
         subst (λ (ts : List Track). QueueStandsFor marks ts bound given) (ap (λ (ts : List Track). mine ++ ts) rest_all.0.whole ∙ sym (append_assoc mine its more)) keeps in
-        let row = gives done k ks traces (sym count) (short k (in_head k ks)) in
-        let s = it numbers k step_seen mine its more bound given old (at k (in_head k ks)).0 row.0 rest_all.1 is_first before_keeps in
+        let row = gives done k ks traces (sym count) (short k (in_head k ks)) (sym (at k (in_head k ks)).0 ∙ latest) in
+        let s = it numbers (trace_ranks ticks k.pair k.start) k step_seen mine its more bound given old (at k (in_head k ks)).0 row.0 rest_all.1 is_first before_keeps in
         let after_known : Known = watched k step_seen (answer_of next.row.now) in
         let length_mine : length s.mine ≡ length numbers.rules + 1 = tracks_length AreRuleMarksSoFar numbers after_known s.mine s.tracks in
         let of_program : count_of program ≡ length numbers.rules = program_length program numbers is in
@@ -166,7 +167,7 @@ module _ (program : Program) (numbers : AuditNumbers) (ticks : List Sighting) (s
           done = done ++ after_known ∷ [];
           parted = parted ∙ sym (append_assoc front (k ∷ []) ks);
           count = omega (arith, length-append done (after_known ∷ []));
-          followed = zip_push (IsFollowed numbers (last_sighting ticks) seen) front done k after_known followed (record { answers = answer_of next.row.now; is = refl; row = row.0.row });
+          followed = zip_push (IsFollowed numbers ticks seen) front done k after_known followed (record { answers = answer_of next.row.now; is = refl; row = row.0.row });
           at = λ known i. at known (in_tail k ks known i);
           short = λ known i. short known (in_tail k ks known i);
           traces = subst (λ (ys : List Known). TracesStandFor kept' numbers ticks ys) (sym (append_assoc done (after_known ∷ []) ks)) row.1;
@@ -186,7 +187,7 @@ module _ (program : Program) (numbers : AuditNumbers) (ticks : List Sighting) (s
 
   -- all have taken it
   all_by_rest : (kept : AllTraces) (values : List AuditTrace) (marks : RowQueue) (index : ℕ) (front rest done : List Known) (mine others : List Track) → knowns ≡ front ++ rest → length done ≡ index
-      → AllZip (IsFollowed numbers (last_sighting ticks) seen) front done → TracesStandFor kept numbers ticks (done ++ rest)
+      → AllZip (IsFollowed numbers ticks seen) front done → TracesStandFor kept numbers ticks (done ++ rest)
       → AllZip (StandsFor program numbers) values (done ++ rest) → AreAllTracks numbers done mine → AreAllTracks numbers rest others
       → QueueStandsFor marks (mine ++ others) bound given → length values ≤ index → AreStepped program numbers ticks seen kept values knowns marks bound given
   all_by_rest kept values marks index front (k ∷ ks) done mine others parted count followed traces stand all all_rest keeps past =
@@ -194,7 +195,7 @@ module _ (program : Program) (numbers : AuditNumbers) (ticks : List Sighting) (s
       absurd (omega (arith, length-append done (k ∷ ks)))
   all_by_rest kept values marks index front [] done mine others parted count followed traces stand all all_rest keeps past = record {
     after = done;
-    followed = subst (λ (xs : List Known). AllZip (IsFollowed numbers (last_sighting ticks) seen) xs done) (sym (parted ∙ append-nil front)) followed;
+    followed = subst (λ (xs : List Known). AllZip (IsFollowed numbers ticks seen) xs done) (sym (parted ∙ append-nil front)) followed;
     stands = subst (λ (ys : List Known). TracesStandFor kept numbers ticks ys) (append-nil done) traces;
     holds = record {
       stand = subst (λ (ys : List Known). AllZip (StandsFor program numbers) values ys) (append-nil done) stand;

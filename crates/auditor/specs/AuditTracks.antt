@@ -9,7 +9,7 @@ use Rattle.encounters.specs.declared.detect.Detect.{Detect}
 use Rattle.encounters.specs.declared.engagement_state.EngagementState.{EngagementState}
 use Rattle.encounters.specs.declared.pair_step.PairStep.{PairStep}
 use Rattle.motion.specs.Steps.{RelativeMove}
-use Rattle.meetings.specs.Atoms.{AreAtomRows}
+use Rattle.meetings.specs.Atoms.{AreRankedRows}
 use Rattle.meetings.specs.SinceBeginning.{kind_of}
 use Rattle.meetings.specs.declared.pair.Pair.{Pair}
 use Rattle.audit_rows.specs.Stretches.{mark_at}
@@ -19,7 +19,7 @@ use Rattle.audit_rows.specs.declared.mark.Mark.TheVariants.{Nothing, Broken, Und
 use Rattle.audit_rows.specs.declared.topic.Topic.{Topic}
 use Rattle.audit_rows.specs.declared.topic.Topic.TheVariants.{Meeting, Verdict as OfVerdict}
 use Rattle.auditor.specs.ValueMarks.{mark_of}
-use Rattle.traces.specs.Audited.{Begins, AuditNumbers, Sighting, terms_of, trace_steps}
+use Rattle.traces.specs.Audited.{Begins, AuditNumbers, Sighting, terms_of, trace_ranks, trace_steps}
 
 -- ---- a position of a trace with these steps
 
@@ -48,10 +48,10 @@ module _ (numbers : AuditNumbers) (ticks : List Sighting) where
     pub count : length marks ≡ length (trace_steps numbers ticks pair start)
     pub each : (i : ℕ) → i < length marks → IsMeetingMark numbers.detect (trace_steps numbers ticks pair start) i (mark_at marks i)
 
-  -- what each step of the trace answers to the atoms
+  -- what each step of the trace answers to the atoms, by the ranks at the tick at which the engagement there began
   pub record IsTraceOf (pair : Pair) (start : ℕ) (trace : Trace) : Type 0 where
     pub begins : Begins numbers ticks pair start
-    pub rows : AreAtomRows (terms_of numbers) (trace_steps numbers ticks pair start) trace
+    pub rows : AreRankedRows (terms_of numbers) (trace_ranks ticks pair start) (trace_steps numbers ticks pair start) trace
 
   -- the marks of a rule, one for each step of the trace: the values of its formula there
   pub record AreRuleMarks (pair : Pair) (rule start : ℕ) (marks : List Mark) : Type 0 where

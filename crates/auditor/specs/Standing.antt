@@ -2,7 +2,7 @@
 use Rattle.std.specs.Prelude.{ℕ, ◌≡◌, ◌-◌, ◌≤◌, ◌++◌, List, length, All}
 use Rattle.mtl_monitor.specs.Following.{IsProgramOf, count_of}
 use Rattle.audit_rows.specs.declared.row.Row.{Row}
-use Rattle.traces.specs.Audited.{AuditNumbers, Sighting}
+use Rattle.traces.specs.Audited.{AuditNumbers, SeenVessels, Sighting}
 use Rattle.traces.specs.Known.{AreKnown, Known}
 use Rattle.traces.specs.Standing as followed
 use Rattle.auditor.specs.AuditRows.{AreAuditRows}
@@ -22,8 +22,8 @@ abbrev pub last_tick_of : Audit → ℕ
 last_tick_of audit = followed.last_tick_of audit.traces
 
 -- the vessels seen at the latest tick
-abbrev pub latest_sighting : Audit → Sighting
-latest_sighting audit = followed.latest_sighting audit.traces
+abbrev pub latest_vessels : Audit → SeenVessels
+latest_vessels audit = followed.latest_vessels audit.traces
 
 -- ---- what each call finds and leaves, whatever it stands for
 

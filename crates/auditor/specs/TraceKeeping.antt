@@ -11,7 +11,8 @@ use Rattle.mtl_monitor.specs.declared.program.Program.{Program}
 use Rattle.encounters.specs.Standing.{IsStateAfter}
 use Rattle.encounters.specs.declared.pair_step.PairStep.{PairStep}
 use Rattle.meetings.specs.Answers.{answer_of}
-use Rattle.meetings.specs.Atoms.{IsAtomRow}
+use Rattle.meetings.specs.Atoms.{IsRankedRow}
+use Rattle.meetings.specs.declared.by_rank.ByRank.{ByRank}
 use Rattle.audit_rows.specs.Stretches.{mark_at}
 use Rattle.audit_rows.specs.Tracks.{Track}
 use Rattle.audit_rows.specs.declared.mark.Mark.{Mark}
@@ -91,12 +92,13 @@ pub record StandsFor (program : Program) (numbers : AuditNumbers) (trace : Audit
 
 -- ---- what a step and the end come to, among the tracks of other traces
 
--- The row is that of this step of the trace, with the state of the engagement before the step and at it.
-pub record IsNextRow (numbers : AuditNumbers) (known : Known) (step : Option PairStep) (next : NextRow) : Type 0 where
+-- The row is that of this step of the trace, where the ranks say this at its steps, with the state of the engagement before the step
+-- and at it.
+pub record IsNextRow (numbers : AuditNumbers) (ranks : ℕ → ByRank) (known : Known) (step : Option PairStep) (next : NextRow) : Type 0 where
   pub seen : option_copied next.seen ≡ step
   pub was : IsStateAfter numbers.detect known.steps next.was.now
   pub is : IsStateAfter numbers.detect (known.steps ++ step ∷ []) next.is.now
-  pub row : IsAtomRow (terms_of numbers) (known.steps ++ step ∷ []) (length known.steps) (answer_of next.row.now)
+  pub row : IsRankedRow (terms_of numbers) ranks (known.steps ++ step ∷ []) (length known.steps) (answer_of next.row.now)
 
 -- With the next step and its answers the trace has these tracks.
 pub record Steps (program : Program) (numbers : AuditNumbers) (trace : AuditTrace) (known : Known) (seen : Option PairStep) (answers : Atom → Verdict) (queue : RowQueue)

@@ -4,13 +4,13 @@ ghost use Rattle.encounters.specs.Risk.{IsDetect};
 ghost use Rattle.mtl_monitor.specs.Following.{IsProgramOf, count_of};
 ghost use Rattle.rule_set.specs.NamedTrees.{NamedTree};
 ghost use Rattle.audit_rows.specs.declared.row.Row.{Row};
-ghost use Rattle.traces.specs.Audited.{AreAscending, ArePlaced, MoveLittle, AuditNumbers, Sighting};
+ghost use Rattle.traces.specs.Audited.{AreAscending, ArePlaced, MoveLittle, AuditNumbers, Sighting, unranked};
 ghost use Rattle.traces.specs.ManyTraces.{HaveMoreThan};
 ghost use Rattle.traces.specs.declared.all_traces.TheConstants.{MOST_TRACES};
 ghost use Rattle.traces.specs.declared.fault.TickFault.TheVariants.{TooManyPairs};
 ghost use Rattle.auditor.specs.AuditRows.{AreAuditRows, AreAuditRowsBelow};
 ghost use Rattle.auditor.specs.AuditTotals.{AreTotals};
-ghost use Rattle.auditor.specs.Standing.{HasEnded, IsSound, StandsFor, given_of, last_tick_of, latest_sighting};
+ghost use Rattle.auditor.specs.Standing.{HasEnded, IsSound, StandsFor, given_of, last_tick_of, latest_vessels};
 ghost use Rattle.auditor.specs.SettledRows.{settled_by};
 
 use crate::counting::totals_of;
@@ -22,6 +22,7 @@ use encounters::{Act, Detect};
 use motion::TickState;
 use mtl_monitor::Program;
 use outside::Memory;
+use ranks::Rank;
 use rule_program::program_of;
 use rule_set::RuleSet;
 use scenario::Window;
@@ -81,28 +82,57 @@ impl Audit {
         })
     }
 
-    /// Takes the next tick, of whose vessels these are seen, in the order of their MMSIs, and gives the further rows of the
-    /// report: after call `k`, counted from 0, all rows whose last step is at most `k - R - 2` were given, where `R` is the greatest
-    /// reach of a rule's formula. After an `Err` the audit may only be dropped.
+    /// Takes the next tick, of whose vessels these are seen, in the order of their MMSIs, where ranks do not count, and gives the further
+    /// rows of the report: after call `k`, counted from 0, all rows whose last step is at most `k - R - 2` were given, where `R` is the
+    /// greatest reach of a rule's formula. After an `Err` the audit may only be dropped.
     pub fn step(&mut self, seen: &[(u32, TickState)]) -> Result<Vec<Row>, TickFault>
         requires sound { IsSound self.old }
         requires ascending { AreAscending seen.now }
         requires placed { ArePlaced seen.now }
-        requires moves { MoveLittle (latest_sighting self.old) seen.now }
+        requires moves { MoveLittle (latest_vessels self.old) seen.now }
         requires more { given_of self.old ≤ last_tick_of self.old }
         ensures sound { OnOk result (IsSound self.new) }
         ensures given { OnOk result (given_of self.new ≡ given_of self.old + 1) }
         ensures last_tick { OnOk result (last_tick_of self.new ≡ last_tick_of self.old) }
-        ensures latest { OnOk result (latest_sighting self.new ≡ seen.now) }
+        ensures latest { OnOk result (latest_vessels self.new ≡ seen.now) }
         ensures stands { IfOk result (λ rows. (numbers : AuditNumbers) (ticks : List Sighting) (given : List Row) → StandsFor self.old numbers ticks given
-            → StandsFor self.new numbers (ticks ++ seen.now ∷ []) (given ++ rows.items)) }
+            → StandsFor self.new numbers (ticks ++ unranked seen.now ∷ []) (given ++ rows.items)) }
         ensures rows { IfOk result (λ rows. (numbers : AuditNumbers) (ticks : List Sighting) (given : List Row) → StandsFor self.old numbers ticks given
-            → AreAuditRowsBelow numbers (ticks ++ seen.now ∷ []) (settled_by numbers (length ticks)) (given ++ rows.items)) }
+            → AreAuditRowsBelow numbers (ticks ++ unranked seen.now ∷ []) (settled_by numbers (length ticks)) (given ++ rows.items)) }
         // The limit is met exactly where the tick begins a 4097th trace; memory may run out before.
         ensures many { result ≡ Err TooManyPairs → (numbers : AuditNumbers) (ticks : List Sighting) (given : List Row) → StandsFor self.old numbers ticks given
-            → HaveMoreThan MOST_TRACES numbers (ticks ++ seen.now ∷ []) }
+            → HaveMoreThan MOST_TRACES numbers (ticks ++ unranked seen.now ∷ []) }
         ensures few { OnOk result ((numbers : AuditNumbers) (ticks : List Sighting) (given : List Row) → StandsFor self.old numbers ticks given
-            → HaveMoreThan MOST_TRACES numbers (ticks ++ seen.now ∷ []) → ⊥) }
+            → HaveMoreThan MOST_TRACES numbers (ticks ++ unranked seen.now ∷ []) → ⊥) }
+    {
+        self.step_ranked(seen, &[])
+    }
+
+    /// The same where ranks count: they are those of the vessels seen, in the same order. A vessel of which none is given is
+    /// power-driven.
+    pub fn step_ranked(
+        &mut self,
+        seen: &[(u32, TickState)],
+        ranks: &[Rank],
+    ) -> Result<Vec<Row>, TickFault>
+        requires sound { IsSound self.old }
+        requires ascending { AreAscending seen.now }
+        requires placed { ArePlaced seen.now }
+        requires moves { MoveLittle (latest_vessels self.old) seen.now }
+        requires more { given_of self.old ≤ last_tick_of self.old }
+        ensures sound { OnOk result (IsSound self.new) }
+        ensures given { OnOk result (given_of self.new ≡ given_of self.old + 1) }
+        ensures last_tick { OnOk result (last_tick_of self.new ≡ last_tick_of self.old) }
+        ensures latest { OnOk result (latest_vessels self.new ≡ seen.now) }
+        ensures stands { IfOk result (λ rows. (numbers : AuditNumbers) (ticks : List Sighting) (given : List Row) → StandsFor self.old numbers ticks given
+            → StandsFor self.new numbers (ticks ++ record { vessels = seen.now; ranks = ranks.now } ∷ []) (given ++ rows.items)) }
+        ensures rows { IfOk result (λ rows. (numbers : AuditNumbers) (ticks : List Sighting) (given : List Row) → StandsFor self.old numbers ticks given
+            → AreAuditRowsBelow numbers (ticks ++ record { vessels = seen.now; ranks = ranks.now } ∷ []) (settled_by numbers (length ticks)) (given ++ rows.items)) }
+        // The limit is met exactly where the tick begins a 4097th trace; memory may run out before.
+        ensures many { result ≡ Err TooManyPairs → (numbers : AuditNumbers) (ticks : List Sighting) (given : List Row) → StandsFor self.old numbers ticks given
+            → HaveMoreThan MOST_TRACES numbers (ticks ++ record { vessels = seen.now; ranks = ranks.now } ∷ []) }
+        ensures few { OnOk result ((numbers : AuditNumbers) (ticks : List Sighting) (given : List Row) → StandsFor self.old numbers ticks given
+            → HaveMoreThan MOST_TRACES numbers (ticks ++ record { vessels = seen.now; ranks = ranks.now } ∷ []) → ⊥) }
     {
         let given = self.traces.given();
         follow_each(
@@ -113,7 +143,7 @@ impl Audit {
             seen,
             given.saturating_sub(1),
         )?;
-        self.traces.tick(seen)?;
+        self.traces.tick(seen, ranks)?;
         begin_each(
             self.alloc,
             &self.traces,

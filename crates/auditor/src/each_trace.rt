@@ -7,7 +7,7 @@ ghost use Rattle.audit_rows.specs.Tracks.{Track};
 ghost use Rattle.audit_rows.specs.declared.row.Row.{Row};
 ghost use Rattle.traces.specs.Audited.{AreAscending, ArePlaced, AuditNumbers, MoveLittle, Sighting};
 ghost use Rattle.traces.specs.Known.{AreKnown, AreOpened, Known, opened, pairs_of};
-ghost use Rattle.traces.specs.Standing.{IsSound, StandsFor as TracesStandFor, given_of, last_tick_of, latest_sighting, traces_of};
+ghost use Rattle.traces.specs.Standing.{IsSound, StandsFor as TracesStandFor, given_of, last_tick_of, latest_vessels, traces_of};
 ghost use Rattle.auditor.specs.Inner.AuditKeeping.{AreAllTracks};
 ghost use Rattle.auditor.specs.Inner.TracesKept.{AreFinished, AreStepped, Holds, IsReady};
 ghost use Rattle.audit_rows.specs.Standing.{QueueStandsFor};
@@ -37,7 +37,7 @@ pub(crate) fn follow_each(
     requires sound { IsSound traces.old }
     requires ascending { AreAscending seen.now }
     requires placed { ArePlaced seen.now }
-    requires moves { MoveLittle (latest_sighting traces.old) seen.now }
+    requires moves { MoveLittle (latest_vessels traces.old) seen.now }
     requires many { length values.old ≡ traces_of traces.old }
     requires few { given_of traces.old ≤ 20000 }
     requires ready { All (IsReady program.now (given_of traces.old)) values.old }

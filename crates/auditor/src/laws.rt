@@ -1,8 +1,9 @@
 //! Laws of an audit's rows and totals, and of the rules' values over traces, which stand over the definitions alone.
 ghost use Rattle.std.specs.Prelude.{ℕ, ◌≡◌, List, Option};
 ghost use Rattle.encounters.specs.declared.pair_step.PairStep.{PairStep};
-ghost use Rattle.meetings.specs.Atoms.{AreAtomRows};
+ghost use Rattle.meetings.specs.Atoms.{AreRankedRows};
 ghost use Rattle.meetings.specs.Terms.{Terms};
+ghost use Rattle.meetings.specs.declared.by_rank.ByRank.{ByRank};
 ghost use Rattle.mtl_monitor.specs.Traces.{Trace, value_in};
 ghost use Rattle.rule_set.specs.RuleTrees.{passes_safely};
 ghost use Rattle.rule_set.specs.declared.numbers.Safe.TheVariants.{One, PerKind};
@@ -27,7 +28,7 @@ pub fn one_list_of_totals()
 /// Passing at a safe distance (Rule 8(d)) with four equal distances, one per kind of encounter, is the same at every position
 /// as with that one distance.
 pub fn equal_distances_are_one()
-    ensures { (terms : Terms) (steps : List (Option PairStep)) (trace : Trace) (metres i : ℕ) →
-        AreAtomRows terms steps trace →
+    ensures { (terms : Terms) (ranks : ℕ → ByRank) (steps : List (Option PairStep)) (trace : Trace) (metres i : ℕ) →
+        AreRankedRows terms ranks steps trace →
         value_in trace (passes_safely (PerKind metres metres metres metres)) i ≡ value_in trace (passes_safely (One metres)) i }
 {}

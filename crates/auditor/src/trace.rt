@@ -89,6 +89,7 @@ impl AuditTrace {
     ghost use Rattle.std.specs.Prelude.{◌+◌, ◌≤◌, IfOk};
     ghost use Rattle.encounters.specs.declared.engagement_state.EngagementState.TheVariants.{Apart};
     ghost use Rattle.meetings.specs.Answers.{answer_of};
+    ghost use Rattle.meetings.specs.declared.by_rank.ByRank.{ByRank};
     ghost use Rattle.meetings.specs.declared.pair.Pair.{Pair};
     ghost use Rattle.mtl_formulas.specs.FormulaTree.{FormulaTree};
     ghost use Rattle.mtl_monitor.specs.Following.{Fits, IsProgramOf, count_of, fed_of};
@@ -189,8 +190,8 @@ impl AuditTrace {
         requires room { first + count_of program.now + 1 < 2 ^ 64 }
         ensures ready { IsReady program.now self.new }
         ensures steps { steps_of self.new ≡ steps_of self.old + 1 }
-        ensures stands { OnOk result ((numbers : AuditNumbers) (known : Known) (seen : Option PairStep) (before mine after : List Track) (bound : ℕ) (given : List Row)
-            → StandsFor program.now numbers self.old known → step ≡ known.start + length known.steps → IsNextRow numbers known seen next.entry
+        ensures stands { OnOk result ((numbers : AuditNumbers) (ranks : ℕ → ByRank) (known : Known) (seen : Option PairStep) (before mine after : List Track) (bound : ℕ) (given : List Row)
+            → StandsFor program.now numbers self.old known → step ≡ known.start + length known.steps → IsNextRow numbers ranks known seen next.entry
             → AreTracksSoFar numbers known mine → first ≡ length before → QueueStandsFor queue.old (before ++ mine ++ after) bound given
             → Steps program.now numbers self.new known seen (answer_of next.entry.row.now) queue.new before after bound given) }
     {

@@ -6,15 +6,15 @@ use Rattle.std.specs.List.{All}
 use Rattle.encounters.specs.Directions.{HasDirection}
 use Rattle.fixed_geometry.specs.Sizes.{IsBelow}
 use Rattle.motion.specs.declared.leg.TickState.{TickState}
-use Rattle.traces.specs.Audited.{Sighting, AreAscending, ArePlaced}
+use Rattle.traces.specs.Audited.{SeenVessels, AreAscending, ArePlaced}
 
 last_or_earlier : (k n : ℕ) → k + 1 < n + 1 → (k + 1 ≡ n) ⊎ (k + 1 < n)
 last_or_earlier k n lt = grind arith
 
-mmsi_at : (seen : Sighting) (k : ℕ) (d : ℕ × TickState) → k < length seen → get_or (map (λ (vessel : ℕ × TickState). vessel.0) seen) k 0 ≡ (get_or seen k d).0
+mmsi_at : (seen : SeenVessels) (k : ℕ) (d : ℕ × TickState) → k < length seen → get_or (map (λ (vessel : ℕ × TickState). vessel.0) seen) k 0 ≡ (get_or seen k d).0
 mmsi_at seen k d lt = get_or-map (λ (vessel : ℕ × TickState). vessel.0) seen k d 0 lt
 
-pub still_ascending : (seen : Sighting) (v : ℕ × TickState) → AreAscending seen → All (λ (vessel : ℕ × TickState). vessel.0 < v.0) seen → AreAscending (seen ++ v ∷ [])
+pub still_ascending : (seen : SeenVessels) (v : ℕ × TickState) → AreAscending seen → All (λ (vessel : ℕ × TickState). vessel.0 < v.0) seen → AreAscending (seen ++ v ∷ [])
 still_ascending seen v up all k lt =
     let long : length (seen ++ v ∷ []) ≡ length seen + 1 = length_push seen v in
     let as_long = length-map (seen ++ v ∷ []) (λ (vessel : ℕ × TickState). vessel.0) in
@@ -33,10 +33,10 @@ still_ascending seen v up all k lt =
           omega arith)
     ]
 
-pub all_less : (seen : Sighting) (v : ℕ × TickState) (m n : ℕ) → m ≤ n → v.0 < n → All (λ (vessel : ℕ × TickState). vessel.0 < m) seen → All (λ (vessel : ℕ × TickState). vessel.0 < n) (seen ++ v ∷ [])
+pub all_less : (seen : SeenVessels) (v : ℕ × TickState) (m n : ℕ) → m ≤ n → v.0 < n → All (λ (vessel : ℕ × TickState). vessel.0 < m) seen → All (λ (vessel : ℕ × TickState). vessel.0 < n) (seen ++ v ∷ [])
 all_less seen v m n le lt all =
     All-push (λ (vessel : ℕ × TickState). vessel.0 < n) seen v
     (All-weaker (λ (vessel : ℕ × TickState). vessel.0 < m) (λ (vessel : ℕ × TickState). vessel.0 < n) (λ w less. omega arith) seen all) lt
 
-pub still_placed : (seen : Sighting) (v : ℕ × TickState) → ArePlaced seen → IsBelow (2 ^ 33) v.1.point × HasDirection v.1 → ArePlaced (seen ++ v ∷ [])
+pub still_placed : (seen : SeenVessels) (v : ℕ × TickState) → ArePlaced seen → IsBelow (2 ^ 33) v.1.point × HasDirection v.1 → ArePlaced (seen ++ v ∷ [])
 still_placed seen v placed here = All-push (λ (vessel : ℕ × TickState). IsBelow (2 ^ 33) vessel.1.point × HasDirection vessel.1) seen v placed here

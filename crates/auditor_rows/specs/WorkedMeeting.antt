@@ -1,9 +1,19 @@
--- The worked head-on meeting: the two vessels at a tick.
+-- The worked meetings: the two vessels at a tick.
 use Rattle.std.specs.Prelude.{ℕ, ◌*◌, [], ◌∷◌, Some, pos, neg_ℤ, ◌-ℤ◌}
-use Rattle.traces.specs.Audited.{Sighting}
+use Rattle.motion.specs.declared.leg.TickState.{TickState}
+use Rattle.traces.specs.Audited.{SeenVessels}
 
-abbrev pub head_on_at : ℕ → Sighting
+abbrev pub own_at : ℕ → TickState
+own_at k = record { point = record { x = pos 0; y = pos (926000 * k) -ℤ pos 18520000 }; direction = Some 0; speed = Some 180 }
+
+abbrev pub two_vessels : TickState → TickState → SeenVessels
+two_vessels own other = (369190000, own) ∷ (477553000, other) ∷ []
+
+-- The other comes the contrary way.
+abbrev pub head_on_at : ℕ → SeenVessels
 head_on_at k =
-    (369190000, record { point = record { x = pos 0; y = pos (926000 * k) -ℤ pos 18520000 }; direction = Some 0; speed = Some 180 })
-    ∷ (477553000, record { point = record { x = neg_ℤ (pos 185200); y = pos 18520000 -ℤ pos (926000 * k) }; direction = Some 1800; speed = Some 180 })
-    ∷ []
+    two_vessels (own_at k) (record { point = record { x = neg_ℤ (pos 185200); y = pos 18520000 -ℤ pos (926000 * k) }; direction = Some 1800; speed = Some 180 })
+
+-- The other lies still and heads the same way.
+abbrev pub overtaking_at : ℕ → SeenVessels
+overtaking_at k = two_vessels (own_at k) (record { point = record { x = neg_ℤ (pos 185200); y = pos 0 }; direction = Some 0; speed = Some 0 })

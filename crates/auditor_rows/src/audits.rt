@@ -2,7 +2,7 @@
 ghost use Rattle.std.specs.Prelude.{ℤ, ◌≡◌, ◌+◌, ◌*◌, ◌<◌, ◌≤◌, ◌-ℤ◌, pos, [], IfOk, OnOk};
 ghost use Rattle.traces.specs.Audited.{AreAscending, ArePlaced, MoveLittle};
 ghost use Rattle.auditor_rows.specs.WorkedMeeting.{head_on_at};
-ghost use Rattle.auditor.specs.Standing.{IsSound, given_of, last_tick_of, latest_sighting};
+ghost use Rattle.auditor.specs.Standing.{IsSound, given_of, last_tick_of, latest_vessels};
 
 use crate::compared::{is, is_true};
 use audit_rows::Row;
@@ -36,7 +36,7 @@ pub(crate) const ACT: Act = Act {
     apparent_speed: 50,
 };
 
-const NUMBERS: RuleNumbers = RuleNumbers {
+pub(crate) const NUMBERS: RuleNumbers = RuleNumbers {
     safe: Safe::One(200),
     overtake: 200,
     close: 300,
@@ -57,7 +57,7 @@ fn audit(alloc: Global, ticks: u32) -> Result<Audit, Fail>
     ensures sound { IfOk result (λ audit. IsSound audit) }
     ensures none { IfOk result (λ audit. given_of audit ≡ 0) }
     ensures last { IfOk result (λ audit. last_tick_of audit ≡ ticks) }
-    ensures latest { IfOk result (λ audit. latest_sighting audit ≡ []) }
+    ensures latest { IfOk result (λ audit. latest_vessels audit ≡ []) }
 {
     let rules = RuleSet::new(alloc, &NUMBERS, 10)?;
     let window = Window {
@@ -69,7 +69,7 @@ fn audit(alloc: Global, ticks: u32) -> Result<Audit, Fail>
 }
 
 /// How far north of the middle the first vessel is at a tick.
-fn north(k: u32) -> i64
+pub(crate) fn north(k: u32) -> i64
     requires { k ≤ 40 }
     ensures { result ≡ pos (926000 * k) -ℤ pos 18520000 }
 {
@@ -118,11 +118,11 @@ fn take(audit: &mut Audit, k: u32, rows: &mut Vec<(u32, Row)>) -> Result<(), Fai
     requires at { given_of audit.old ≡ k }
     requires within { k ≤ last_tick_of audit.old }
     requires small { k ≤ 40 }
-    requires moves { MoveLittle (latest_sighting audit.old) (head_on_at k) }
+    requires moves { MoveLittle (latest_vessels audit.old) (head_on_at k) }
     ensures sound { OnOk result (IsSound audit.new) }
     ensures at { OnOk result (given_of audit.new ≡ k + 1) }
     ensures last { OnOk result (last_tick_of audit.new ≡ last_tick_of audit.old) }
-    ensures moves { OnOk result (MoveLittle (latest_sighting audit.new) (head_on_at (k + 1))) }
+    ensures moves { OnOk result (MoveLittle (latest_vessels audit.new) (head_on_at (k + 1))) }
 {
     let seen = head_on(k);
     let given = audit.step(&seen)?;
@@ -145,7 +145,14 @@ fn audited(alloc: Global, ticks: u32) -> Result<(Vec<(u32, Row)>, AuditEnd), Fai
     Ok((rows, end))
 }
 
-fn verdict(subject: u32, other: u32, rule: u32, undecided: bool, first: u32, last: u32) -> Row {
+pub(crate) fn verdict(
+    subject: u32,
+    other: u32,
+    rule: u32,
+    undecided: bool,
+    first: u32,
+    last: u32,
+) -> Row {
     Row::Verdict {
         pair: Pair { subject, other },
         rule,
@@ -155,7 +162,7 @@ fn verdict(subject: u32, other: u32, rule: u32, undecided: bool, first: u32, las
     }
 }
 
-fn meeting(subject: u32, other: u32, last: u32, least: u64) -> Row {
+pub(crate) fn meeting(subject: u32, other: u32, last: u32, least: u64) -> Row {
     Row::Meeting {
         pair: Pair { subject, other },
         kind: Class::HeadOn,

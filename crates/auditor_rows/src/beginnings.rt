@@ -1,7 +1,7 @@
 //! When traces begin, and what their next steps bring.
 ghost use Rattle.std.specs.Prelude.{◌≤◌, IfOk, OnOk};
 ghost use Rattle.traces.specs.Audited.{MoveLittle};
-ghost use Rattle.traces.specs.Standing.{IsSound, latest_sighting};
+ghost use Rattle.traces.specs.Standing.{IsSound, latest_vessels};
 ghost use Rattle.auditor_rows.specs.WorkedMeeting.{head_on_at};
 
 use crate::audits::{ACT, DETECT, OTHER, OWN, head_on};
@@ -17,11 +17,11 @@ use traces::AllTraces;
 fn begun(alloc: Global, last_tick: u32) -> Result<AllTraces, Fail>
     requires { last_tick ≤ 40 }
     ensures sound { IfOk result (λ traces. IsSound traces) }
-    ensures moves { IfOk result (λ traces. MoveLittle (latest_sighting traces) (head_on_at 1)) }
+    ensures moves { IfOk result (λ traces. MoveLittle (latest_vessels traces) (head_on_at 1)) }
 {
     let mut traces = AllTraces::new(alloc, DETECT, ACT, &[], 10, last_tick)?;
     let seen = head_on(0);
-    traces.tick(&seen)?;
+    traces.tick(&seen, &[])?;
     Ok(traces)
 }
 
@@ -46,7 +46,7 @@ fn state_at(traces: &AllTraces, index: usize) -> Option<EngagementState> {
 /// Takes the step to the second tick, where there is a trace of this index, and tells whether both vessels are seen at it.
 fn take_first_step(traces: &mut AllTraces, index: usize) -> bool
     requires sound { IsSound traces.old }
-    requires moves { MoveLittle (latest_sighting traces.old) (head_on_at 1) }
+    requires moves { MoveLittle (latest_vessels traces.old) (head_on_at 1) }
 {
     let seen = head_on(1);
     if index < traces.len() {

@@ -12,6 +12,8 @@ mod contacts;
 #[cfg(test)]
 mod marks;
 #[cfg(test)]
+mod ranked;
+#[cfg(test)]
 mod row_texts;
 #[cfg(test)]
 mod stretches;

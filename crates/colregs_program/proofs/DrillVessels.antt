@@ -27,15 +27,14 @@ use Rattle.motion.specs.declared.leg.Leg.{Leg}
 use Rattle.motion.specs.declared.leg.TickState.{TickState}
 use Rattle.meetings.specs.Traces.{AreInContact}
 use Rattle.meetings.specs.declared.pair.Pair.{Pair}
-use Rattle.traces.specs.Audited.{Begins, AuditNumbers, Sighting, seen_state_at, state_in}
+use Rattle.traces.specs.Audited.{Begins, AuditNumbers, SeenVessels, Sighting, seen_state_at, sighting_at, state_in}
 use Rattle.traces.specs.ManyTraces.{HaveMoreThan}
-use Rattle.scenario.specs.Ticks.{time_of_tick}
 use Rattle.command_line.specs.declared.mode.Mode.{Mode}
 use Rattle.command_line.specs.declared.mode.Mode.TheVariants as mode
 use Rattle.sessions.specs.AuditReport.{sightings_of}
 use Rattle.colregs_program.proofs.DrillLines.{InFleet, IsFleetLine, fleet_lines}
 use Rattle.colregs_program.proofs.FewDifferent.{few_between}
-use Rattle.settled_ticks.specs.Sightings.{sighted}
+use Rattle.settled_ticks.specs.Sightings.{sighted, sighting_by}
 use Rattle.settling.specs.ScenarioAudit.{audit_numbers}
 use Rattle.std.proofs.lemmas.List.{take-append-drop}
 use Rattle.log_lines.specs.GrowingLog.{ended_lines}
@@ -43,9 +42,11 @@ use Rattle.sessions.specs.Modes.{reads_log, reports}
 use Rattle.colregs_program.proofs.AskedLogs.{drills, not_read}
 use Rattle.std.specs.Prelude.{IfErr, MatchResult}
 use Rattle.sessions.specs.AuditReport.{sightings_of}
-use Rattle.sessions.specs.Endings.{Came, HasManyTraces, IsAnswerTo}
+use Rattle.sessions.specs.Endings.{Came, HasManyTraces, IsAnswerOf}
 use Rattle.sessions.specs.Refusals.{IsMet, IsLogRefused, IsStopped}
 use Rattle.sessions.specs.declared.session_fault.SessionFault.{SessionFault}
+use Rattle.sessions.specs.Tasks.{Task, task_by}
+use Rattle.sessions.specs.declared.asked.Asked.{Asked}
 use Rattle.sessions.specs.declared.session_fault.SessionFault.TheVariants as why
 use Rattle.traces.specs.declared.all_traces.TheConstants.{MOST_TRACES}
 use Rattle.colregs_program.specs.LogAnswers.{Reports}
@@ -129,8 +130,11 @@ not_crowded scenario lines all =
 
 -- ---- the traces
 
-abbrev AreOfFleet : Sighting → Type 0
+abbrev AreOfFleet : SeenVessels → Type 0
 AreOfFleet seen = All (λ (vessel : ℕ × TickState). InFleet vessel.0) seen
+
+abbrev SightsFleet : Sighting → Type 0
+SightsFleet sighting = AreOfFleet sighting.vessels
 
 sightings_so : (time : ℕ) (legs : ℕ → List Leg) (held : List ℕ) → All InFleet held → AreOfFleet (filter_map (seen_vessel time legs) held)
 sightings_so time legs [] all = All-nil (λ (vessel : ℕ × TickState). InFleet vessel.0)
@@ -148,7 +152,7 @@ seen_so numbers messages time of = sightings_so time (legs_of numbers messages) 
 is_hers : (m n : ℕ) → (m == n) ≡ true → m ≡ n
 is_hers m n h = grind (arith, nat_tests)
 
-state_so : (mmsi : ℕ) (seen : Sighting) (state : TickState) → AreOfFleet seen → state_in mmsi seen ≡ Some state → InFleet mmsi
+state_so : (mmsi : ℕ) (seen : SeenVessels) (state : TickState) → AreOfFleet seen → state_in mmsi seen ≡ Some state → InFleet mmsi
 state_so mmsi [] state all is = cc is
 state_so mmsi (vessel ∷ more) state all is =
     cases (vessel.0 == mmsi) refl (λ e. state_so mmsi more state (All-tail (λ (v : ℕ × TickState). InFleet v.0) vessel more all) e)
@@ -157,10 +161,10 @@ state_so mmsi (vessel ∷ more) state all is =
     cases true h later = subst InFleet (is_hers vessel.0 mmsi h) (All-head (λ (v : ℕ × TickState). InFleet v.0) vessel more all)
     cases false h later = later (rw h at is)
 
-tick_so : (ticks : List Sighting) (k : ℕ) → All AreOfFleet ticks → AreOfFleet (get_or ticks k [])
+tick_so : (ticks : List Sighting) (k : ℕ) → All SightsFleet ticks → SightsFleet (sighting_at ticks k)
 tick_so [] k all = All-nil (λ (vessel : ℕ × TickState). InFleet vessel.0)
-tick_so (seen ∷ more) zero all = All-head AreOfFleet seen more all
-tick_so (seen ∷ more) (suc k) all = tick_so more k (All-tail AreOfFleet seen more all)
+tick_so (seen ∷ more) zero all = All-head SightsFleet seen more all
+tick_so (seen ∷ more) (suc k) all = tick_so more k (All-tail SightsFleet seen more all)
 
 both_seen : (watch : ℕ) (a b : Option TickState) → AreInContact watch a b → ((s : TickState) × (a ≡ Some s)) × ((s : TickState) × (b ≡ Some s))
 both_seen watch (Some a) (Some b) contact = ((a, refl), (b, refl))
@@ -170,11 +174,11 @@ both_seen watch None b contact = absurd contact
 abbrev IsFleetPair : Pair → Type 0
 IsFleetPair pair = InFleet pair.subject × InFleet pair.other
 
-pair_so : (numbers : AuditNumbers) (ticks : List Sighting) → All AreOfFleet ticks → (pair : Pair) (start : ℕ) → Begins numbers ticks pair start → IsFleetPair pair
+pair_so : (numbers : AuditNumbers) (ticks : List Sighting) → All SightsFleet ticks → (pair : Pair) (start : ℕ) → Begins numbers ticks pair start → IsFleetPair pair
 pair_so numbers ticks all pair start begins =
     let seen = tick_so ticks start all in
     let (subject, other) = both_seen numbers.detect.watch (seen_state_at ticks pair.subject start) (seen_state_at ticks pair.other start) begins.begins.contact in
-    (state_so pair.subject (get_or ticks start []) subject.0 seen subject.1, state_so pair.other (get_or ticks start []) other.0 seen other.1)
+    (state_so pair.subject (sighting_at ticks start).vessels subject.0 seen subject.1, state_so pair.other (sighting_at ticks start).vessels other.0 seen other.1)
 
 -- a number for each pair
 abbrev code : Pair → ℕ
@@ -203,7 +207,7 @@ few_pairs pairs once all =
     coded : (p : Pair) → IsFleetPair p → (8200000041 ≤ code p) × (code p < 8200000041 + 1600)
     coded p of = (omega (arith, of.0.0, of.1.0), omega (arith, of.0.1, of.1.1))
 
-few_traces : (numbers : AuditNumbers) (ticks : List Sighting) → All AreOfFleet ticks → HaveMoreThan MOST_TRACES numbers ticks → ⊥
+few_traces : (numbers : AuditNumbers) (ticks : List Sighting) → All SightsFleet ticks → HaveMoreThan MOST_TRACES numbers ticks → ⊥
 few_traces numbers ticks all many =
     let few = few_pairs many.pairs many.once
     (All-weaker (λ pair. (start : ℕ) × Begins numbers ticks pair start) IsFleetPair (λ pair begins. pair_so numbers ticks all pair begins.0 begins.1) many.pairs many.begin) in
@@ -216,12 +220,12 @@ module _ (scenario : Scenario) (seed : ℕ) (in_range : IsWindow scenario.window
   log = drill_log_of scenario seed
 
   few_in_drill : HasManyTraces mode.Drill scenario log → ⊥
-  unfolding sightings_of
+  unfolding sightings_of sighting_by
   few_in_drill many =
       let messages = sent scenario (lines_of log) in
       let of = sent_so scenario (lines_of log) (fleet_lines scenario seed in_range) in
       few_traces (audit_numbers scenario) (sighted scenario messages)
-      (All-map AreOfFleet (λ k. seen_of (numbers_of scenario) messages (time_of_tick scenario.window k)) (range_with_len 0 (scenario.window.ticks + 1)) (λ k d lt. seen_so (numbers_of scenario) messages _ of))
+      (All-map SightsFleet (sighting_by scenario messages) (range_with_len 0 (scenario.window.ticks + 1)) (λ k d lt. seen_so (numbers_of scenario) messages _ of))
       many
 
   -- no front of it is refused but for its bytes, and its end comes to a report
@@ -242,26 +246,30 @@ module _ (scenario : Scenario) (seed : ℕ) (in_range : IsWindow scenario.window
   no_refusal stay place came (inr (short, inr (calm, inl (many, is)))) = absurd many
   no_refusal stay place came (inr (short, inr (calm, inr (few, none)))) = absurd none
 
-  at_its_end : (came : Came) → IsAnswerTo mode.Drill scenario log came → came ≡ Ok false
+  at_its_end : (came : Came) → IsAnswerOf mode.Drill [] scenario log came → came ≡ Ok false
   at_its_end came (inl (crowded, is)) = let calm = not_crowded scenario (lines_of log) (fleet_lines scenario seed in_range) in cc (crowded, calm)
   at_its_end came (inr (calm, inl (many, is))) = absurd (few_in_drill many)
   at_its_end came (inr (calm, inr (few, inl (many, is)))) = absurd many
   at_its_end came (inr (calm, inr (few, inr (own, inl (none, is))))) = absurd none
-  at_its_end came (inr (calm, inr (few, inr (own, inr (some, is))))) = is
+  at_its_end came (inr (calm, inr (few, inr (own, inr (some, inl (k, bad, is)))))) = absurd bad
+  at_its_end came (inr (calm, inr (few, inr (own, inr (some, inr (good, is)))))) = is
 
 -- ---- of a drill's log
 
 module _ (scenario : Scenario) (seed : ℕ) (in_range : IsWindow scenario.window) (stay : (l more : List ℕ) → (lines : List (List ℕ)) × (lines_of (l ++ more) ≡ ended_lines l ++ lines))
     (made : List ℕ) (same : made ≡ drill_log_of scenario seed) where
+  abbrev drilled : Bool → List ℕ → Task
+  drilled says rows = record { mode = mode.Drill; why = says; rows = rows }
+
   -- what it comes to
-  pub drill_comes_to : (came : Came) → IsMet mode.Drill scenario made came → (came ≡ Err why.LogBytes) ⊎ (came ≡ Ok false)
-  drill_comes_to came met = go (subst (λ (l : List ℕ). IsMet mode.Drill scenario l came) same met)
+  pub drill_comes_to : (says : Bool) (rows : List ℕ) (came : Came) → IsMet (drilled says rows) scenario made came → (came ≡ Err why.LogBytes) ⊎ (came ≡ Ok false)
+  drill_comes_to says rows came met = go (subst (λ (l : List ℕ). IsMet (drilled says rows) scenario l came) same met)
     where
-      go : IsMet mode.Drill scenario (drill_log_of scenario seed) came → (came ≡ Err why.LogBytes) ⊎ (came ≡ Ok false)
+      go : IsMet (drilled says rows) scenario (drill_log_of scenario seed) came → (came ≡ Err why.LogBytes) ⊎ (came ≡ Ok false)
       go (inl (place, at)) = inl (no_refusal scenario seed in_range stay place came at.here)
       go (inr (un, answer)) = inr (at_its_end scenario seed in_range came answer)
 
-  met_where_stopped : (because : SessionFault) (text : List ℕ) → IsStopped mode.Drill scenario made because text → IsMet mode.Drill scenario made (Err because)
+  met_where_stopped : (because : SessionFault) (text : List ℕ) → IsStopped mode.Drill scenario made because text → IsMet (drilled false []) scenario made (Err because)
   met_where_stopped because text stop = inl (stop.place, stop.refused)
 
   drill_only : (b : SessionFault) (came : Came) → came ≡ Err b → (came ≡ Err why.LogBytes) ⊎ (came ≡ Ok false) → IsTrue (is_of_drill (fault.Unreported b))
@@ -275,38 +283,41 @@ module _ (scenario : Scenario) (seed : ℕ) (in_range : IsWindow scenario.window
   drill_only (why.Own lack) came is (inr same) = cc (is, same)
   drill_only why.Targets came is (inl same) = cc (is, same)
   drill_only why.Targets came is (inr same) = cc (is, same)
+  drill_only (why.Entry index) came is (inl same) = cc (is, same)
+  drill_only (why.Entry index) came is (inr same) = cc (is, same)
 
   stopped_so : (because : SessionFault) (contents contents' : Option (List ℕ)) → Stops mode.Drill scenario (Some made) contents contents' because → IsTrue (is_of_drill (fault.Unreported because))
-  stopped_so because contents contents' stops = drill_only because (Err because) refl (drill_comes_to (Err because) (met_where_stopped because stops.stops.0 stops.stops.1))
+  stopped_so because contents contents' stops = drill_only because (Err because) refl (drill_comes_to false [] (Err because) (met_where_stopped because stops.stops.0 stops.stops.1))
 
-  ended_so : (because : SessionFault) (left' contents contents' : Option (List ℕ)) → Ends mode.Drill scenario (Some made) left' contents contents' because
+  ended_so : (asked : Asked) (because : SessionFault) (left' contents contents' : Option (List ℕ)) → Ends (task_by mode.Drill asked) scenario (Some made) left' contents contents' because
       → IsTrue (is_of_drill (fault.Unreported because))
-  ended_so because left' contents contents' ends = drill_only because (Err because) refl (drill_comes_to (Err because) (inr (ends.ends.0, ends.ends.1)))
+  ended_so asked because left' contents contents' ends = drill_only because (Err because) refl (drill_comes_to asked.why asked.rows.now (Err because) (inr (ends.ends.0, ends.ends.1)))
 
-  drill_cause : (asked : Bool) (left' contents contents' : Option (List ℕ)) (because : StreamFault) → (because ≡ fault.NotRead → ⊥) → StreamCause (record { mode = mode.Drill; why = asked }) scenario (Some made) left' contents contents' because
+  drill_cause : (asked : Asked) (left' contents contents' : Option (List ℕ)) (because : StreamFault) → (because ≡ fault.NotRead → ⊥) → StreamCause (task_by mode.Drill asked) scenario (Some made) left' contents contents' because
       → IsTrue (is_of_drill because)
   drill_cause asked left' contents contents' fault.NotRead read cause = absurd (read refl)
   drill_cause asked left' contents contents' fault.NotWritten read cause = refl
   drill_cause asked left' contents contents' (fault.Unreported why.Vessels) read (inl stops) = stopped_so why.Vessels contents contents' stops
-  drill_cause asked left' contents contents' (fault.Unreported why.Vessels) read (inr ends) = ended_so why.Vessels left' contents contents' ends
+  drill_cause asked left' contents contents' (fault.Unreported why.Vessels) read (inr ends) = ended_so asked why.Vessels left' contents contents' ends
   drill_cause asked left' contents contents' (fault.Unreported why.Pairs) read (inl stops) = stopped_so why.Pairs contents contents' stops
-  drill_cause asked left' contents contents' (fault.Unreported why.Pairs) read (inr ends) = ended_so why.Pairs left' contents contents' ends
+  drill_cause asked left' contents contents' (fault.Unreported why.Pairs) read (inr ends) = ended_so asked why.Pairs left' contents contents' ends
   drill_cause asked left' contents contents' (fault.Unreported why.LogBytes) read cause = refl
-  drill_cause asked left' contents contents' (fault.Unreported (why.Own lack)) read cause = ended_so (why.Own lack) left' contents contents' cause.0
-  drill_cause asked left' contents contents' (fault.Unreported why.Targets) read cause = ended_so why.Targets left' contents contents' cause.0
+  drill_cause asked left' contents contents' (fault.Unreported (why.Own lack)) read cause = ended_so asked (why.Own lack) left' contents contents' cause.0
+  drill_cause asked left' contents contents' (fault.Unreported why.Targets) read cause = ended_so asked why.Targets left' contents contents' cause.0
+  drill_cause asked left' contents contents' (fault.Unreported (why.Entry index)) read cause = ended_so asked (why.Entry index) left' contents contents' cause.0
   drill_cause asked left' contents contents' (fault.Unreported why.Memory) read cause = refl
 
-  pub drill_faults : (m : Mode) → m ≡ mode.Drill → (asked : Bool) (left' contents contents' : Option (List ℕ)) (because : StreamFault) → (because ≡ fault.NotRead → ⊥)
-      → StreamCause (record { mode = m; why = asked }) scenario (Some made) left' contents contents' because → IsTrue (is_of_drill because)
+  pub drill_faults : (m : Mode) → m ≡ mode.Drill → (asked : Asked) (left' contents contents' : Option (List ℕ)) (because : StreamFault) → (because ≡ fault.NotRead → ⊥)
+      → StreamCause (task_by m asked) scenario (Some made) left' contents contents' because → IsTrue (is_of_drill because)
   drill_faults m is asked left' contents contents' because read cause =
-      drill_cause asked left' contents contents' because read (subst (λ (n : Mode). StreamCause (record { mode = n; why = asked }) scenario (Some made) left' contents contents' because) is cause)
+      drill_cause asked left' contents contents' because read (subst (λ (n : Mode). StreamCause (task_by n asked) scenario (Some made) left' contents contents' because) is cause)
 
-  pub drill_reports : (m : Mode) → m ≡ mode.Drill → (asked none : Bool) (contents contents' : Option (List ℕ)) → Reports (record { mode = m; why = asked }) scenario made none contents contents' → none ≡ false
+  pub drill_reports : (m : Mode) → m ≡ mode.Drill → (asked : Asked) (none : Bool) (contents contents' : Option (List ℕ)) → Reports (task_by m asked) scenario made none contents contents' → none ≡ false
   drill_reports m is asked none contents contents' reports =
-      elim (drill_comes_to (Ok none) (subst (λ (n : Mode). IsMet n scenario made (Ok none)) is reports.met)) [ inl same ↦ cc same | inr same ↦ cc same ]
+      elim (drill_comes_to asked.why asked.rows.now (Ok none) (subst (λ (n : Mode). IsMet (task_by n asked) scenario made (Ok none)) is reports.met)) [ inl same ↦ cc same | inr same ↦ cc same ]
 
-  pub drill_result : (m : Mode) → reads_log m ≡ false → IsTrue (reports m) → (asked : Bool) (left' contents contents' : Option (List ℕ)) (r : Result Bool StreamFault)
-      → IfOk r (λ none. IfSome (Some made) (λ bytes. Reports (record { mode = m; why = asked }) scenario bytes none contents contents')) → IfErr r (StreamCause (record { mode = m; why = asked }) scenario (Some made) left' contents contents')
+  pub drill_result : (m : Mode) → reads_log m ≡ false → IsTrue (reports m) → (asked : Asked) (left' contents contents' : Option (List ℕ)) (r : Result Bool StreamFault)
+      → IfOk r (λ none. IfSome (Some made) (λ bytes. Reports (task_by m asked) scenario bytes none contents contents')) → IfErr r (StreamCause (task_by m asked) scenario (Some made) left' contents contents')
       → MatchResult r (λ _. zero ≡ zero) (LogCount 0 0) → MatchResult r (λ none. none ≡ false) (λ because. IsTrue (is_of_drill because))
   drill_result m makes is asked left' contents contents' (Ok none) reported cause count = drill_reports m (drills m makes is) asked none contents contents' reported
   drill_result m makes is asked left' contents contents' (Err because) reported cause count =

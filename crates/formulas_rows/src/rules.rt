@@ -196,7 +196,10 @@ fn a_distance_per_kind_has_a_part_each(rt: HostRuntime) -> Result<(), Fail> {
         1,
         b"r8d",
         b"(((((engaged & head_on) -> clear(100)) & ((engaged & (overtaking | overtaken)) -> clear(200))) & ((engaged & (crossing_gives | crossing_stands)) -> clear(300))) & ((engaged & (passing | unclassified)) -> clear(400)))",
-    )
+    )?;
+    let ranked = RuleSet::new_ranked(alloc, &PER_KIND, TICK)?;
+    let last = b"((engaged & rank_gives) -> clear(400))";
+    is_printed(&rt, alloc, &ranked, 11, b"r18", last)
 }
 
 fn all_weigh(set: &RuleSet) -> u64 {
@@ -216,6 +219,9 @@ fn the_rules_have_their_weights(rt: HostRuntime) -> Result<(), Fail> {
     // The rule of the safe distance has 29 nodes in place of 3.
     let set = RuleSet::new(alloc, &PER_KIND, TICK)?;
     is(&rt, all_weigh(&set), 535);
+    // With ranks 16 more for r14a, 32 for r16, 4 for r17a, 12 for r17b, 2 each for r14b, r14p, r15 and r17c, and 5 for r18.
+    let set = RuleSet::new_ranked(alloc, &NUMBERS, TICK)?;
+    is(&rt, all_weigh(&set), 586);
     Ok(())
 }
 

@@ -13,13 +13,15 @@ use Rattle.scenario.specs.declared.values.Scenario.{Scenario}
 use Rattle.tracks.specs.AcceptedReports.{JudgingNumbers}
 use Rattle.tracks.specs.Standing.{StandsFor as BookStandsFor}
 use Rattle.tracks.specs.VesselsHeld.{Sent, held_of}
+use Rattle.tracks.specs.declared.keeping.Keeping.{Keeping}
 use Rattle.log_lines.specs.JudgedLines.{greatest_held, held_behind, judged_line, judged_lines, numbers_of, outcome_of}
 use Rattle.log_lines.specs.LineOutcomes.{outcome_index}
 use Rattle.log_lines.specs.LineTimes.{clock_of, stamp_of, time_of}
 use Rattle.log_lines.specs.SentLines.{heard, heard_of, heard_in, heard_unless, sent, sent_decoded, sent_heard, sent_joined, sent_of, untimely}
-use Rattle.log_lines.specs.Standing.{AreCounts, StandsFor}
+use Rattle.log_lines.specs.ShipTypes.{AreNoted, counts_ranks}
+use Rattle.log_lines.specs.Standing.{AreCounts, StandsFor, keeping_of}
 use Rattle.log_lines.specs.StaticReports.{told_of}
-use Rattle.log_lines.specs.Inner.JudgeState.{Enters, GoesOn, heard_by, held_with}
+use Rattle.log_lines.specs.Inner.JudgeState.{Enters, GoesOn, Keeps, heard_by, held_with, listed}
 use Rattle.log_lines.specs.Inner.Times.{KeepsTimes, nearest_of, times_behind, untimely_by}
 use Rattle.log_lines.specs.declared.judge.Judge.{Judge}
 use Rattle.log_lines.specs.declared.judged.Judged.{Judged}
@@ -42,16 +44,13 @@ few_unless n calm = decide (nat_lt greatest_held n) refl
 
 -- ---- a line without a message
 
-pub Enters-none : (numbers : JudgingNumbers) (judge : Judge) (came : LineOutcome) (before : List Sent) → judge.told ≡ None → BookStandsFor judge.book numbers before
-    → length (held_of numbers before) ≤ greatest_held → Enters numbers judge (judged.Without came) before (Err came)
-Enters-none numbers judge came before untold stands few =
-    let same : before ++ [] ≡ before = append-nil before in
-    record {
-      is = refl;
-      told = untold;
-      book = subst (BookStandsFor judge.book numbers) (sym same) stands;
-      few = subst (λ (l : List Sent). length (held_of numbers l) ≤ greatest_held) (sym same) few;
-    }
+pub Enters-none : (numbers : JudgingNumbers) (ranked : Bool) (judge : Judge) (came : LineOutcome) (before : List Sent) → judge.told ≡ None
+    → Keeps judge.book judge.ranks numbers ranked before → Enters numbers ranked judge (judged.Without came) before (Err came)
+Enters-none numbers ranked judge came before untold keeps = record {
+  is = refl;
+  told = untold;
+  keeps = subst (Keeps judge.book judge.ranks numbers ranked) (sym (append-nil before)) keeps;
+}
 
 -- ---- what a sentence that is in time comes to
 
@@ -62,13 +61,13 @@ sends : (taken : List Taken) (next : Taken) (joined_now : Joined) (to : Result S
     → to ≡ sent_heard taken (Ok next)
 sends taken next joined_now to joins is = sym is ∙ ap (sent_joined next.time) joins
 
-pub GoesOn-message : (numbers : JudgingNumbers) (judge : Judge) (came : Judged) (taken : List Taken) (messages : List Sent) (next : Taken) (joined_now : Joined) (decoded : Decoded)
+pub GoesOn-message : (numbers : JudgingNumbers) (ranked : Bool) (judge : Judge) (came : Judged) (taken : List Taken) (messages : List Sent) (next : Taken) (joined_now : Joined) (decoded : Decoded)
     → joined_now ≡ joined_of taken next → sent_joined next.time joined_now ≡ sent_decoded next.time decoded
-    → JoinerStandsFor judge.joiner (after taken next) → Enters numbers judge came messages (sent_decoded next.time decoded)
-    → GoesOn numbers judge came taken messages (Ok next)
-GoesOn-message numbers judge came taken messages next joined_now decoded joins is stands enters = record {
+    → JoinerStandsFor judge.joiner (after taken next) → Enters numbers ranked judge came messages (sent_decoded next.time decoded)
+    → GoesOn numbers ranked judge came taken messages (Ok next)
+GoesOn-message numbers ranked judge came taken messages next joined_now decoded joins is stands enters = record {
   joiner = stands;
-  enters = subst (Enters numbers judge came messages) (sends taken next joined_now (sent_decoded next.time decoded) joins is) enters;
+  enters = subst (Enters numbers ranked judge came messages) (sends taken next joined_now (sent_decoded next.time decoded) joins is) enters;
 }
 
 pub crowded_message : (numbers : JudgingNumbers) (taken : List Taken) (messages : List Sent) (next : Taken) (joined_now : Joined) (decoded : Decoded)
@@ -77,22 +76,22 @@ pub crowded_message : (numbers : JudgingNumbers) (taken : List Taken) (messages 
 crowded_message numbers taken messages next joined_now decoded joins is more =
     subst (λ (r : Result Sent LineOutcome). greatest_held < held_with numbers messages r) (sends taken next joined_now (sent_decoded next.time decoded) joins is) more
 
-pub GoesOn-silent : (numbers : JudgingNumbers) (judge : Judge) (came : LineOutcome) (taken : List Taken) (messages : List Sent) (next : Taken) (joined_now : Joined)
+pub GoesOn-silent : (numbers : JudgingNumbers) (ranked : Bool) (judge : Judge) (came : LineOutcome) (taken : List Taken) (messages : List Sent) (next : Taken) (joined_now : Joined)
     → joined_now ≡ joined_of taken next → sent_joined next.time joined_now ≡ Err came → judge.told ≡ None
-    → JoinerStandsFor judge.joiner (after taken next) → BookStandsFor judge.book numbers messages → length (held_of numbers messages) ≤ greatest_held
-    → GoesOn numbers judge (judged.Without came) taken messages (Ok next)
-GoesOn-silent numbers judge came taken messages next joined_now joins is untold stands book few = record {
+    → JoinerStandsFor judge.joiner (after taken next) → Keeps judge.book judge.ranks numbers ranked messages
+    → GoesOn numbers ranked judge (judged.Without came) taken messages (Ok next)
+GoesOn-silent numbers ranked judge came taken messages next joined_now joins is untold stands keeps = record {
   joiner = stands;
-  enters = subst (Enters numbers judge (judged.Without came) messages) (sends taken next joined_now (Err came) joins is) (Enters-none numbers judge came messages untold book few);
+  enters = subst (Enters numbers ranked judge (judged.Without came) messages) (sends taken next joined_now (Err came) joins is) (Enters-none numbers ranked judge came messages untold keeps);
 }
 
 -- a line on which nothing is heard
-pub GoesOn-unheard : (numbers : JudgingNumbers) (judge : Judge) (came : LineOutcome) (taken : List Taken) (messages : List Sent) → judge.told ≡ None
-    → JoinerStandsFor judge.joiner taken → BookStandsFor judge.book numbers messages → length (held_of numbers messages) ≤ greatest_held
-    → GoesOn numbers judge (judged.Without came) taken messages (Err came)
-GoesOn-unheard numbers judge came taken messages untold stands book few = record {
+pub GoesOn-unheard : (numbers : JudgingNumbers) (ranked : Bool) (judge : Judge) (came : LineOutcome) (taken : List Taken) (messages : List Sent) → judge.told ≡ None
+    → JoinerStandsFor judge.joiner taken → Keeps judge.book judge.ranks numbers ranked messages
+    → GoesOn numbers ranked judge (judged.Without came) taken messages (Err came)
+GoesOn-unheard numbers ranked judge came taken messages untold stands keeps = record {
   joiner = subst (JoinerStandsFor judge.joiner) (sym (append-nil taken)) stands;
-  enters = Enters-none numbers judge came messages untold book few;
+  enters = Enters-none numbers ranked judge came messages untold keeps;
 }
 
 -- ---- the whole line
@@ -121,16 +120,19 @@ pub record Judges (old noted : Judge) (came : Judged) (line : List ℕ) : Type 0
   pub body : Result SentenceFields LineCause
   pub timed : time ≡ unwrap_or (nearest_of (stamp_of line) old.times.nearest) old.times.window.start
   pub said : body ≡ (reading_of line).body
-  pub on : (numbers : JudgingNumbers) (taken : List Taken) (messages : List Sent) → JoinerStandsFor old.joiner taken → BookStandsFor old.book numbers messages
-      → length (held_of numbers messages) ≤ greatest_held → GoesOn numbers noted came taken messages (heard_by old.times time body)
+  pub kept : keeping_of noted ≡ keeping_of old
+  pub on : (numbers : JudgingNumbers) (ranked : Bool) (taken : List Taken) (messages : List Sent) → JoinerStandsFor old.joiner taken
+      → Keeps old.book old.ranks numbers ranked messages → GoesOn numbers ranked noted came taken messages (heard_by old.times time body)
 
--- so the joiner and the book go on
+-- so the joiner, the book and the ship types go on
 goes_on : (old noted : Judge) (came : Judged) (line : List ℕ) (scenario : Scenario) (before : List (List ℕ)) → StandsFor old scenario before → Judges old noted came line
-    → GoesOn (numbers_of scenario) noted came (heard scenario before) (sent scenario before) (heard_of scenario before line)
+    → GoesOn (numbers_of scenario) (counts_ranks (keeping_of old) scenario) noted came (heard scenario before) (sent scenario before) (heard_of scenario before line)
 goes_on old noted came line scenario before stands judges =
-    let on = judges.on (numbers_of scenario) (heard scenario before) (sent scenario before) stands.joiner stands.book stands.few in
+    let ranked = counts_ranks (keeping_of old) scenario in
+    let keeps : Keeps old.book old.ranks (numbers_of scenario) ranked (sent scenario before) = record { book = stands.book; few = stands.few; notes = stands.notes } in
+    let on = judges.on (numbers_of scenario) ranked (heard scenario before) (sent scenario before) stands.joiner keeps in
     let here = heard_is old.times scenario before line judges.time judges.body stands.times judges.timed judges.said in
-    subst (GoesOn (numbers_of scenario) noted came (heard scenario before) (sent scenario before)) here on
+    subst (GoesOn (numbers_of scenario) ranked noted came (heard scenario before) (sent scenario before)) here on
 
 pub judged_is : (old noted : Judge) (came : Judged) (line : List ℕ) (scenario : Scenario) (before : List (List ℕ)) → StandsFor old scenario before → Judges old noted came line
     → came ≡ judged_line scenario before line
@@ -152,7 +154,7 @@ counted counts came = slice_set counts (outcome_index (outcome_of came)) (min (s
 
 pub stands_on : (old noted new : Judge) (came : Judged) (line : List ℕ) (scenario : Scenario) (before : List (List ℕ)) → length before + 1 < 2 ^ 64
     → StandsFor old scenario before → Judges old noted came line
-    → new ≡ record { times = times_behind old.times (stamp_of line); joiner = noted.joiner; book = noted.book; told = noted.told; counts = counted old.counts came }
+    → new ≡ record { times = times_behind old.times (stamp_of line); joiner = noted.joiner; book = noted.book; told = noted.told; ranks = noted.ranks; counts = counted old.counts came }
     → StandsFor new scenario (before ++ line ∷ [])
 unfolding sent_of held_behind told_of
 stands_on old noted new came line scenario before few stands judges is =
@@ -162,12 +164,17 @@ stands_on old noted new came line scenario before few stands judges is =
     let counts = AreCounts-push old.counts (judged_lines scenario before) came (omega (arith, few, judged-length scenario before)) stands.counts in
     let judged_more : judged_lines scenario before ++ came ∷ [] ≡ judged_lines scenario lines =
     ap (λ (j : Judged). judged_lines scenario before ++ j ∷ []) came_is ∙ sym (judged-push scenario before line) in
-    let held : held_behind scenario before line ≤ greatest_held = subst (λ n. n ≤ greatest_held) (held_same scenario before line) on.enters.few in
+    let held : held_behind scenario before line ≤ greatest_held = subst (λ n. n ≤ greatest_held) (held_same scenario before line) on.enters.keeps.few in
+    let noted_more : AreNoted (counts_ranks (keeping_of noted) scenario) noted.ranks (sent scenario lines) =
+    subst (AreNoted (counts_ranks (keeping_of noted) scenario) noted.ranks) (sym (sent-push scenario before line))
+    (subst (λ (keeping : Keeping). AreNoted (counts_ranks keeping scenario) noted.ranks (sent scenario before ++ listed (sent_of scenario before line))) (sym judges.kept)
+    on.enters.keeps.notes) in
     subst (λ (judge : Judge). StandsFor judge scenario lines) (sym is) (record {
       times = KeepsTimes-push old.times scenario before line stands.times;
       joiner = subst (JoinerStandsFor noted.joiner) (sym (heard-push scenario before line)) on.joiner;
-      book = subst (BookStandsFor noted.book (numbers_of scenario)) (sym (sent-push scenario before line)) on.enters.book;
+      book = subst (BookStandsFor noted.book (numbers_of scenario)) (sym (sent-push scenario before line)) on.enters.keeps.book;
       few = held;
+      notes = noted_more;
       calm = calm-push scenario before line stands.calm held;
       told = on.enters.told ∙ sym (told-push scenario before line);
       counts = subst (AreCounts (counted old.counts came)) judged_more counts;
@@ -189,7 +196,8 @@ judges_long old line long = record {
   body = Err line_cause.Long;
   timed = refl;
   said = sym (ap (λ (content : LineContent). content.body) (long_is_dropped line long));
-  on = λ numbers taken messages joiner book few. GoesOn-unheard numbers (record old { told = None }) outcome.Long taken messages refl joiner book few;
+  kept = refl;
+  on = λ numbers ranked taken messages joiner keeps. GoesOn-unheard numbers ranked (record old { told = None }) outcome.Long taken messages refl joiner keeps;
 }
 
 -- ---- a line that makes more vessels held
@@ -208,15 +216,16 @@ crowded_by old line scenario before time body stands timed said more =
 
 -- the record that counting makes, in the words of the lemma above
 pub new_is : (old noted new : Judge) (came : Judged) (line : List ℕ) (times : LineTimes) (stamp : Option ℕ) (outcome : LineOutcome)
-    → noted ≡ record old { joiner = noted.joiner; book = noted.book; told = noted.told } → times ≡ times_behind noted.times stamp → stamp ≡ stamp_of line → outcome ≡ outcome_of came
+    → noted ≡ record old { joiner = noted.joiner; book = noted.book; told = noted.told; ranks = noted.ranks } → times ≡ times_behind noted.times stamp → stamp ≡ stamp_of line → outcome ≡ outcome_of came
     → new ≡ record {
       times = times;
       joiner = noted.joiner;
       book = noted.book;
       told = noted.told;
+      ranks = noted.ranks;
       counts = slice_set noted.counts (outcome_index outcome) (min (slice_index noted.counts (outcome_index outcome) + 1) (2 ^ 64 - 1));
     }
-    → new ≡ record { times = times_behind old.times (stamp_of line); joiner = noted.joiner; book = noted.book; told = noted.told; counts = counted old.counts came }
+    → new ≡ record { times = times_behind old.times (stamp_of line); joiner = noted.joiner; book = noted.book; told = noted.told; ranks = noted.ranks; counts = counted old.counts came }
 new_is old noted new came line times stamp outcome same passed stamped told is =
     let kept : noted.times ≡ old.times = ap (λ (j : Judge). j.times) same in
     let counts : noted.counts ≡ old.counts = ap (λ (j : Judge). j.counts) same in
@@ -226,5 +235,6 @@ new_is old noted new came line times stamp outcome same passed stamped told is =
       joiner = noted.joiner;
       book = noted.book;
       told = noted.told;
+      ranks = noted.ranks;
       counts = slice_set (counts i) (outcome_index (told i)) (min (slice_index (counts i) (outcome_index (told i)) + 1) (2 ^ 64 - 1));
     })

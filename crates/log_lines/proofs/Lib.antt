@@ -4,6 +4,7 @@ mod GoingOn
 mod OneOutcome
 mod Parts
 mod Positions
+mod Noting
 mod Pushing
 mod Streaming
 mod Timing

@@ -7,5 +7,6 @@ pub mod EachLine
 pub mod LineTimes
 pub mod SentLines
 pub mod StaticReports
+pub mod ShipTypes
 pub mod Standing
 pub mod Inner

@@ -11,6 +11,7 @@ use Rattle.log_lines.specs.GrowingLog.{ended_lines, open_part}
 use Rattle.log_lines.specs.JudgedLines.{greatest_held, is_crowded, judged_lines, numbers_of, outcome_of}
 use Rattle.log_lines.specs.LineOutcomes.{outcome_index}
 use Rattle.log_lines.specs.SentLines.{heard, sent}
+use Rattle.log_lines.specs.ShipTypes.{AreNoted, counts_ranks}
 use Rattle.log_lines.specs.StaticReports.{told_of}
 use Rattle.log_lines.specs.Inner.Times.{KeepsTimes}
 use Rattle.log_lines.specs.declared.judged.Judged.{Judged}
@@ -43,6 +44,7 @@ pub record StandsFor (judge : Judge) (scenario : Scenario) (lines : List (List �
   pub joiner : JoinerStandsFor judge.joiner (heard scenario lines)
   pub book : BookStandsFor judge.book (numbers_of scenario) (sent scenario lines)
   pub few : length (held_of (numbers_of scenario) (sent scenario lines)) ≤ greatest_held
+  pub notes : AreNoted (counts_ranks (keeping_of judge) scenario) judge.ranks (sent scenario lines)
   pub calm : is_crowded scenario lines ≡ false
   pub told : judge.told ≡ last_told scenario lines
   pub counts : AreCounts judge.counts (judged_lines scenario lines)

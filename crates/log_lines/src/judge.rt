@@ -1,6 +1,6 @@
 //! Judging a log's lines one after the other.
-ghost use Rattle.std.specs.Prelude.{◌≡◌, ◌≤◌, ◌<◌, ◌+◌, ◌^◌, ◌++◌, ◌∷◌, [], ◌↔◌, List, ℕ, IfOk, IfSome, None, OnOk, Ok, Err, length, slice_index};
-ghost use Rattle.std.specs.Option.{option_to_list};
+ghost use Rattle.std.specs.Prelude.{◌≡◌, ◌≤◌, ◌<◌, ◌+◌, ◌^◌, ◌++◌, ◌∷◌, [], ◌↔◌, Bool, List, ℕ, IfOk, IfSome, None, OnOk, Ok, Err, length, slice_index};
+ghost use Rattle.std.specs.Option.{option_copied, option_to_list};
 ghost use Rattle.aivdm.specs.FragmentJoining.{Taken};
 ghost use Rattle.aivdm.specs.OpenMessages.{StandsFor as JoinerStandsFor};
 ghost use Rattle.aivdm.specs.Sentences.{IfSentence, IsSentence, body_seen, fields_seen};
@@ -17,14 +17,17 @@ ghost use Rattle.tracks.specs.declared.entry.BookFault.TheVariants.{TooManyVesse
 ghost use Rattle.log_lines.specs.JudgedLines.{greatest_held, held_behind, judged_entry, judged_line, judged_lines, numbers_of};
 ghost use Rattle.log_lines.specs.LineTimes.{clock_of};
 ghost use Rattle.log_lines.specs.SentLines.{sent, sent_decoded, sent_heard};
+ghost use Rattle.log_lines.specs.ShipTypes.{AreNoted, counts_ranks};
 ghost use Rattle.log_lines.specs.StaticReports.{static_reports, told_of};
 
 use crate::judged::Judged;
 use crate::line_times::LineTimes;
 use crate::outcome::LineOutcome;
+use crate::ship_types::{no_ship_types, note};
 use crate::told_static::{ToldStatic, static_told};
 use ais_messages::{Decoded, Message, PositionReport, decode, position};
 use aivdm::{Body, Joined, Joiner, Sentence, SentenceRoom, read_line};
+use ranks::Ranks;
 use scenario::Scenario;
 use std::alloc::Global;
 use tracks::{Accepted, Book, BookFault, Entry, Keeping};
@@ -85,6 +88,8 @@ pub struct Judge {
     book: Book,
     /// What the last line tells of a vessel's static data.
     told: Option<ToldStatic>,
+    /// The ship types that vessels told, where ranks count.
+    ranks: Option<Ranks>,
     /// How many lines came to each outcome, by its index.
     counts: [u64; 21],
 }
@@ -93,7 +98,7 @@ impl Judge {
     ghost use Rattle.std.specs.Prelude.{◌-◌, min, slice_set};
     ghost use Rattle.log_lines.specs.LineOutcomes.{outcome_index};
     ghost use Rattle.log_lines.specs.Standing.{AreCounts, StandsFor, keeping_of};
-    ghost use Rattle.log_lines.specs.Inner.JudgeState.{Enters, GoesOn, heard_by, held_with};
+    ghost use Rattle.log_lines.specs.Inner.JudgeState.{Enters, GoesOn, Keeps, heard_by, held_with};
 
     /// A judge by the numbers of a scenario, to whom no line came yet, and whose book keeps so much of each vessel. This takes no
     /// memory.
@@ -113,6 +118,7 @@ impl Judge {
                 scenario.log.max_speed,
             ),
             told: None,
+            ranks: no_ship_types(alloc, keeping, scenario),
             counts: [0; 21],
         }
     }
@@ -144,6 +150,14 @@ impl Judge {
         self.told
     }
 
+    /// The ship types that the lines so far tell, where ranks count.
+    pub fn ranks(&self) -> Option<&Ranks>
+        ensures { (scenario : Scenario) (lines : List (List ℕ)) → StandsFor self.now scenario lines
+            → AreNoted (counts_ranks (keeping_of self.now) scenario) (option_copied result) (sent scenario lines) }
+    {
+        self.ranks.as_ref()
+    }
+
     /// The clock behind the lines so far.
     pub fn clock(&self) -> Option<u64>
         ensures { (scenario : Scenario) (lines : List (List ℕ)) → StandsFor self.now scenario lines
@@ -167,15 +181,17 @@ impl Judge {
     fn judge_message(&mut self, message: &Message, time: u64) -> Result<Judged, BookFault>
         requires message { IsMessage message.now }
         requires untold { self.old.told ≡ None }
-        ensures judged { IfOk result (λ judged. (numbers : JudgingNumbers) (before : List Sent) → BookStandsFor self.old.book numbers before
-            → Enters numbers self.new judged before (Ok (record { message = message.now; time = time }))) }
+        ensures judged { IfOk result (λ judged. (numbers : JudgingNumbers) (ranked : Bool) (before : List Sent)
+            → Keeps self.old.book self.old.ranks numbers ranked before
+            → Enters numbers ranked self.new judged before (Ok (record { message = message.now; time = time }))) }
         ensures crowded { result ≡ Err TooManyVessels → (numbers : JudgingNumbers) (before : List Sent) → BookStandsFor self.old.book numbers before
             → greatest_held < held_with numbers before (Ok (record { message = message.now; time = time })) }
-        ensures same { self.new ≡ record self.old { book = self.new.book; told = self.new.told } }
+        ensures same { self.new ≡ record self.old { book = self.new.book; told = self.new.told; ranks = self.new.ranks } }
         ensures keeping { keeping_of self.new ≡ keeping_of self.old }
     {
         let entry = self.book.take(message, time)?;
         self.told = static_told(message, time);
+        note(&mut self.ranks, self.told)?;
         Ok(judged(message, time, entry))
     }
 
@@ -183,12 +199,12 @@ impl Judge {
     fn judge_decoded(&mut self, decoded: &Decoded, time: u64) -> Result<Judged, BookFault>
         requires message { IfMessage decoded.now IsMessage }
         requires untold { self.old.told ≡ None }
-        ensures judged { IfOk result (λ judged. (numbers : JudgingNumbers) (before : List Sent) → BookStandsFor self.old.book numbers before
-            → length (held_of numbers before) ≤ greatest_held
-            → Enters numbers self.new judged before (sent_decoded time decoded.now)) }
+        ensures judged { IfOk result (λ judged. (numbers : JudgingNumbers) (ranked : Bool) (before : List Sent)
+            → Keeps self.old.book self.old.ranks numbers ranked before
+            → Enters numbers ranked self.new judged before (sent_decoded time decoded.now)) }
         ensures crowded { result ≡ Err TooManyVessels → (numbers : JudgingNumbers) (before : List Sent) → BookStandsFor self.old.book numbers before
             → greatest_held < held_with numbers before (sent_decoded time decoded.now) }
-        ensures same { self.new ≡ record self.old { book = self.new.book; told = self.new.told } }
+        ensures same { self.new ≡ record self.old { book = self.new.book; told = self.new.told; ranks = self.new.ranks } }
         ensures keeping { keeping_of self.new ≡ keeping_of self.old }
     {
         match decoded {
@@ -202,11 +218,12 @@ impl Judge {
     fn judge_report(&mut self, report: &PositionReport, time: u64) -> Result<Judged, BookFault>
         requires report { IsReport report.now }
         requires untold { self.old.told ≡ None }
-        ensures judged { IfOk result (λ judged. (numbers : JudgingNumbers) (before : List Sent) → BookStandsFor self.old.book numbers before
-            → Enters numbers self.new judged before (Ok (record { message = Position report.now; time = time }))) }
+        ensures judged { IfOk result (λ judged. (numbers : JudgingNumbers) (ranked : Bool) (before : List Sent)
+            → Keeps self.old.book self.old.ranks numbers ranked before
+            → Enters numbers ranked self.new judged before (Ok (record { message = Position report.now; time = time }))) }
         ensures crowded { result ≡ Err TooManyVessels → (numbers : JudgingNumbers) (before : List Sent) → BookStandsFor self.old.book numbers before
             → greatest_held < held_with numbers before (Ok (record { message = Position report.now; time = time })) }
-        ensures same { self.new ≡ record self.old { book = self.new.book; told = self.new.told } }
+        ensures same { self.new ≡ record self.old { book = self.new.book; told = self.new.told; ranks = self.new.ranks } }
         ensures keeping { keeping_of self.new ≡ keeping_of self.old }
     {
         let entry = self.book.take_report(report, time)?;
@@ -223,13 +240,13 @@ impl Judge {
     ) -> Result<Judged, BookFault>
         requires sentence { IsSentence (fields_seen sentence.now) }
         requires untold { self.old.told ≡ None }
-        ensures judged { IfOk result (λ judged. (numbers : JudgingNumbers) (taken : List Taken) (messages : List Sent) → JoinerStandsFor self.old.joiner taken
-            → BookStandsFor self.old.book numbers messages → length (held_of numbers messages) ≤ greatest_held
-            → GoesOn numbers self.new judged taken messages (Ok (record { sentence = fields_seen sentence.now; time = time }))) }
+        ensures judged { IfOk result (λ judged. (numbers : JudgingNumbers) (ranked : Bool) (taken : List Taken) (messages : List Sent)
+            → JoinerStandsFor self.old.joiner taken → Keeps self.old.book self.old.ranks numbers ranked messages
+            → GoesOn numbers ranked self.new judged taken messages (Ok (record { sentence = fields_seen sentence.now; time = time }))) }
         ensures crowded { result ≡ Err TooManyVessels → (numbers : JudgingNumbers) (taken : List Taken) (messages : List Sent)
             → JoinerStandsFor self.old.joiner taken → BookStandsFor self.old.book numbers messages
             → greatest_held < held_with numbers messages (sent_heard taken (Ok (record { sentence = fields_seen sentence.now; time = time }))) }
-        ensures same { self.new ≡ record self.old { joiner = self.new.joiner; book = self.new.book; told = self.new.told } }
+        ensures same { self.new ≡ record self.old { joiner = self.new.joiner; book = self.new.book; told = self.new.told; ranks = self.new.ranks } }
         ensures keeping { keeping_of self.new ≡ keeping_of self.old }
     {
         match report_of(room, sentence) {
@@ -243,13 +260,13 @@ impl Judge {
     fn judge_part(&mut self, sentence: &Sentence<'_>, time: u64) -> Result<Judged, BookFault>
         requires sentence { IsSentence (fields_seen sentence.now) }
         requires untold { self.old.told ≡ None }
-        ensures judged { IfOk result (λ judged. (numbers : JudgingNumbers) (taken : List Taken) (messages : List Sent) → JoinerStandsFor self.old.joiner taken
-            → BookStandsFor self.old.book numbers messages → length (held_of numbers messages) ≤ greatest_held
-            → GoesOn numbers self.new judged taken messages (Ok (record { sentence = fields_seen sentence.now; time = time }))) }
+        ensures judged { IfOk result (λ judged. (numbers : JudgingNumbers) (ranked : Bool) (taken : List Taken) (messages : List Sent)
+            → JoinerStandsFor self.old.joiner taken → Keeps self.old.book self.old.ranks numbers ranked messages
+            → GoesOn numbers ranked self.new judged taken messages (Ok (record { sentence = fields_seen sentence.now; time = time }))) }
         ensures crowded { result ≡ Err TooManyVessels → (numbers : JudgingNumbers) (taken : List Taken) (messages : List Sent)
             → JoinerStandsFor self.old.joiner taken → BookStandsFor self.old.book numbers messages
             → greatest_held < held_with numbers messages (sent_heard taken (Ok (record { sentence = fields_seen sentence.now; time = time }))) }
-        ensures same { self.new ≡ record self.old { joiner = self.new.joiner; book = self.new.book; told = self.new.told } }
+        ensures same { self.new ≡ record self.old { joiner = self.new.joiner; book = self.new.book; told = self.new.told; ranks = self.new.ranks } }
         ensures keeping { keeping_of self.new ≡ keeping_of self.old }
     {
         match self.joiner.take(sentence, time)? {
@@ -269,13 +286,13 @@ impl Judge {
     ) -> Result<Judged, BookFault>
         requires sentence { IfSentence body.now (λ s. IsSentence (fields_seen s)) }
         requires untold { self.old.told ≡ None }
-        ensures judged { IfOk result (λ judged. (numbers : JudgingNumbers) (taken : List Taken) (messages : List Sent) → JoinerStandsFor self.old.joiner taken
-            → BookStandsFor self.old.book numbers messages → length (held_of numbers messages) ≤ greatest_held
-            → GoesOn numbers self.new judged taken messages (heard_by self.old.times time (body_seen body.now))) }
+        ensures judged { IfOk result (λ judged. (numbers : JudgingNumbers) (ranked : Bool) (taken : List Taken) (messages : List Sent)
+            → JoinerStandsFor self.old.joiner taken → Keeps self.old.book self.old.ranks numbers ranked messages
+            → GoesOn numbers ranked self.new judged taken messages (heard_by self.old.times time (body_seen body.now))) }
         ensures crowded { result ≡ Err TooManyVessels → (numbers : JudgingNumbers) (taken : List Taken) (messages : List Sent)
             → JoinerStandsFor self.old.joiner taken → BookStandsFor self.old.book numbers messages
             → greatest_held < held_with numbers messages (sent_heard taken (heard_by self.old.times time (body_seen body.now))) }
-        ensures same { self.new ≡ record self.old { joiner = self.new.joiner; book = self.new.book; told = self.new.told } }
+        ensures same { self.new ≡ record self.old { joiner = self.new.joiner; book = self.new.book; told = self.new.told; ranks = self.new.ranks } }
         ensures keeping { keeping_of self.new ≡ keeping_of self.old }
     {
         match body {

@@ -2,7 +2,7 @@
 //!
 //! A log is cut into lines, and each line comes to exactly one outcome: it is dropped for a cause, it is a part of a message, or its
 //! message is judged by the messages before it. The judge takes the lines one after the other and keeps what was heard: the times,
-//! the open messages, and the book of vessels.
+//! the open messages, the book of vessels, and where ranks count the ship types that vessels told.
 //!
 //! A log comes in pieces, and a line in any number of them. `StreamedLines` gives the judge each line as its line feed comes, and the
 //! open one at the log's end. `OpenLine` keeps what stands behind the last line feed, and of a line that is too long no more than tells
@@ -16,6 +16,7 @@ mod line_feeds;
 mod line_times;
 mod open_line;
 mod outcome;
+mod ship_types;
 mod streamed;
 mod told_static;
 

@@ -1,5 +1,5 @@
 -- Lemmas for the crates above: the steps of two vessels one after the other, and rows as steps come.
-use Rattle.std.proofs.Common.{◌≡◌, ℕ, zero, suc, ◌+◌, ◌-◌, ◌<◌, ◌⊎◌, inl, inr, List, [], ◌∷◌, ◌++◌, length, length-append, refl, sym, ap, ap₂, subst, ◌∙◌, arith, take, length-take}
+use Rattle.std.proofs.Common.{◌≡◌, ℕ, zero, suc, ◌+◌, ◌-◌, ◌≤◌, ◌<◌, ◌⊎◌, inl, inr, List, [], ◌∷◌, ◌++◌, length, length-append, refl, sym, ap, ap₂, subst, ◌∙◌, arith, take, length-take}
 use Rattle.std.specs.Prelude.{Option, None, Some, slice_get, IsSomeAnd, IfSome}
 use Rattle.motion.specs.declared.leg.TickState.{TickState}
 use Rattle.mtl_formulas.specs.declared.atom.Atom.{Atom}
@@ -13,10 +13,12 @@ use Rattle.encounters.specs.declared.engagement_state.EngagementState.{Engagemen
 use Rattle.encounters.specs.declared.engagement_state.EngagementState.TheVariants.{Apart, Engaged}
 use Rattle.encounters.specs.Engagement.{IsState}
 use Rattle.meetings.specs.Atoms.{AreAnswers, AreRankedRows, IsRankedRow}
-use Rattle.meetings.specs.Ranks.{beginning_at}
+use Rattle.meetings.specs.Ranks.{all_power_driven, beginning_at}
+use Rattle.meetings.specs.Standing.{Following, Follows, FollowsRanked}
 use Rattle.meetings.specs.Terms.{Terms}
 use Rattle.meetings.specs.Traces.{AreInContact, BeginsTrace, step_at, step_between, steps_from}
 use Rattle.meetings.specs.declared.by_rank.ByRank.{ByRank}
+use Rattle.meetings.proofs.Beginnings.{begun_by, some_steps}
 pub use Rattle.meetings.proofs.Rows.{one_list, one_value, same_answers}
 
 -- ---- steps
@@ -83,6 +85,42 @@ begun_behind : (detect : Detect) (steps : List (Option PairStep)) (n i : ℕ) (s
     → n + beginning_at i state ≡ beginning_at (n + i) state
 begun_behind detect steps n i Apart h = refl
 begun_behind detect steps n i (Engaged kind age a b) h = let since = h.since in omega arith
+
+-- Only what the ranks say up to the step counts for its row.
+module _ (terms : Terms) (ranks others : ℕ → ByRank) (steps : List (Option PairStep)) where
+  pub row_same_ranks : (i : ℕ) (answers : Atom → Verdict) → ((k : ℕ) → k ≤ i → ranks k ≡ others k) → IsRankedRow terms ranks steps i answers
+      → IsRankedRow terms others steps i answers
+  row_same_ranks i answers same row = record {
+    state = row.state;
+    is_state = row.is_state;
+    values = subst (λ (r : ByRank). AreAnswers terms r row.state (seen_at steps i) answers) (same (beginning_at i row.state) (begun_by i row.state)) row.values;
+  }
+
+  pub rows_same_ranks : (rows : List (Atom → Verdict)) → ((k : ℕ) → k < length steps → ranks k ≡ others k) → AreRankedRows terms ranks steps rows
+      → AreRankedRows terms others steps rows
+  rows_same_ranks rows same h = record { count = h.count; each = λ i lt. row_of (slice_get rows i) i lt (h.each i lt) }
+    where
+      row_of : (o : Option (Atom → Verdict)) (i : ℕ) → i < length steps → IsSomeAnd o (IsRankedRow terms ranks steps i)
+          → IsSomeAnd o (IsRankedRow terms others steps i)
+      row_of None i lt h = h
+      row_of (Some x) i lt h = row_same_ranks i x (λ k le. same k (omega arith)) h
+
+  pub follows_same_ranks : (following : Following) → ((k : ℕ) → k < length steps → ranks k ≡ others k) → FollowsRanked following terms ranks steps
+      → FollowsRanked following terms others steps
+  follows_same_ranks following same h = record {
+    by_act = h.by_act;
+    by_tick = h.by_tick;
+    engagement = h.engagement;
+    begun = λ some.
+        let latest = following.engagement.latest in
+        let first = some_steps terms.detect steps latest h.engagement.after some in
+        let by = begun_by (length steps - 1) latest in
+        h.begun some ∙ same (beginning_at (length steps - 1) latest) (omega arith);
+  }
+
+-- Of no steps a follower follows them whatever the ranks.
+pub follows_none : (following : Following) (terms : Terms) (ranks : ℕ → ByRank) → Follows following terms [] → FollowsRanked following terms ranks []
+follows_none following terms ranks h = follows_same_ranks terms all_power_driven ranks [] following (λ k lt. absurd (omega arith)) h
 
 module _ (terms : Terms) (ranks : ℕ → ByRank) where
   pub row_over_more : (steps more : List (Option PairStep)) (i : ℕ) (answers : Atom → Verdict) → i < length steps

@@ -3,3 +3,4 @@ pub mod SeparatedByEnds
 pub mod Values
 pub mod Rows
 pub mod SomeRows
+pub mod Beginnings

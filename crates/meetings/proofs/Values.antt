@@ -1,5 +1,5 @@
 -- What a row answers by what it keeps are the atoms' values.
-use Rattle.std.proofs.Common.{◌≡◌, ℕ, zero, suc, ◌*◌, ◌≤◌, IsTrue, refl, sym, ap, ◌∙◌, arith}
+use Rattle.std.proofs.Common.{◌≡◌, ℕ, zero, suc, ◌*◌, ◌≤◌, IsTrue, refl, sym, ap, subst, ◌∙◌, arith}
 use Rattle.std.specs.Prelude.{Bool, true, false, ◌&&◌, ◌==◌, not, ◌↔◌, Option, None, Some, IsSomeAnd, IsSome, is_some, nat_le}
 use Rattle.std.proofs.lemmas.Int.{ints}
 use Rattle.std.proofs.lemmas.Option.{same_Some}
@@ -7,7 +7,10 @@ use Rattle.fixed_geometry.specs.Bearing.{bearing_of, lies_to_port}
 use Rattle.motion.specs.Steps.{RelativeMove}
 use Rattle.sectors.specs.declared.class.Class.{Class}
 use Rattle.sectors.specs.declared.class.Class.TheVariants as class
+use Rattle.mtl_formulas.specs.declared.atom.Atom.{Atom}
 use Rattle.mtl_formulas.specs.declared.atom.Atom.TheVariants as atom
+use Rattle.mtl_formulas.specs.declared.verdict.Verdict.{Verdict}
+use Rattle.mtl_formulas.specs.declared.verdict.Verdict.TheVariants.{No, Open, Yes}
 use Rattle.encounters.specs.Risk.{HasRisk, IsOpening}
 use Rattle.encounters.specs.declared.detect.Detect.{Detect}
 use Rattle.encounters.specs.declared.engagement_state.EngagementState.{EngagementState}
@@ -214,3 +217,43 @@ module _ (terms : Terms) (before ranks : ByRank) (state : EngagementState) (seen
   ranked atom.ToStarboard = are atom.ToStarboard
   ranked atom.ToPort = are atom.ToPort
   ranked atom.OtherApparent = are atom.OtherApparent
+
+-- Where they are not engaged, the ranks do not count.
+module _ (terms : Terms) (before ranks : ByRank) (seen : Option PairStep) (answers : Atom → Verdict) where
+  unranked : (verdict : Verdict) (counts : Bool) (other : Bool) (Counts : Type 0) → (Counts → ⊥) → Tells (Counts × IsTrue counts) verdict → Tells (Counts × IsTrue other) verdict
+  unranked Yes counts other Counts none h = absurd (none h.0)
+  unranked No counts other Counts none h = λ both. none both.0
+  unranked Open counts other Counts none h = h
+
+  pub apart : AreAnswers terms before Apart seen answers → AreAnswers terms ranks Apart seen answers
+  apart are atom.RankGives = unranked (answers atom.RankGives) before.gives ranks.gives (RankCounts Apart) (λ counts. let engaged = counts.engaged in cc) (are atom.RankGives)
+  apart are atom.RankStands = unranked (answers atom.RankStands) before.stands ranks.stands (RankCounts Apart) (λ counts. let engaged = counts.engaged in cc) (are atom.RankStands)
+  apart are atom.BothPower = unranked (answers atom.BothPower) before.both_power ranks.both_power (IsSome (age_of Apart)) (λ engaged. cc) (are atom.BothPower)
+  apart are atom.Always = are atom.Always
+  apart are atom.Never = are atom.Never
+  apart are atom.Seen = are atom.Seen
+  apart are atom.Risk = are atom.Risk
+  apart are atom.Engaged = are atom.Engaged
+  apart are atom.Begin = are atom.Begin
+  apart are atom.Overtaking = are atom.Overtaking
+  apart are atom.Overtaken = are atom.Overtaken
+  apart are atom.HeadOn = are atom.HeadOn
+  apart are atom.CrossingGives = are atom.CrossingGives
+  apart are atom.CrossingStands = are atom.CrossingStands
+  apart are atom.Passing = are atom.Passing
+  apart are atom.Unclassified = are atom.Unclassified
+  apart are (atom.Age seconds) = are (atom.Age seconds)
+  apart are atom.Opening = are atom.Opening
+  apart are (atom.Clear m) = are (atom.Clear m)
+  apart are (atom.Close m) = are (atom.Close m)
+  apart are atom.OtherOnPort = are atom.OtherOnPort
+  apart are atom.Ahead = are atom.Ahead
+  apart are atom.Alters = are atom.Alters
+  apart are atom.Apparent = are atom.Apparent
+  apart are atom.ToStarboard = are atom.ToStarboard
+  apart are atom.ToPort = are atom.ToPort
+  apart are atom.OtherApparent = are atom.OtherApparent
+
+  pub where_engaged : (state : EngagementState) → (IsSome (age_of state) → before ≡ ranks) → AreAnswers terms before state seen answers → AreAnswers terms ranks state seen answers
+  where_engaged Apart same are = apart are
+  where_engaged (Engaged kind age a b) same are = subst (λ (r : ByRank). AreAnswers terms r (Engaged kind age a b) seen answers) (same refl) are

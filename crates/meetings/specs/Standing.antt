@@ -1,24 +1,33 @@
 -- What a follower and a trace stand for: their numbers and the list of the steps so far.
-use Rattle.std.specs.Prelude.{ℕ, ◌≡◌, List, map, Option}
+use Rattle.std.specs.Prelude.{ℕ, ◌≡◌, ◌-◌, List, length, map, Option, IsSome}
 use Rattle.encounters.specs.Standing as encounters
 use Rattle.encounters.specs.declared.act.Act.{Act}
 use Rattle.encounters.specs.declared.pair_step.PairStep.{PairStep}
 use Rattle.meetings.specs.Answers.{Kept, answer_of}
 use Rattle.meetings.specs.Atoms.{AreAtomRows}
+use Rattle.meetings.specs.Ranks.{all_power_driven, beginning_at}
+use Rattle.meetings.specs.SinceBeginning.{age_of}
 use Rattle.meetings.specs.Terms.{Terms}
+use Rattle.meetings.specs.declared.by_rank.ByRank.{ByRank}
 use Rattle.meetings.specs.declared.pair.Pair.{Pair}
 
--- what a follower keeps: its numbers, and the engagement
+-- what a follower keeps: its numbers, the engagement, and what the ranks say where it began
 pub record Following : Type 0 where
   pub act : Act
   pub tick : ℕ
   pub engagement : encounters.Kept
+  pub by_rank : ByRank
 
--- A follower follows these steps, by these numbers.
-pub record Follows (following : Following) (terms : Terms) (steps : List (Option PairStep)) : Type 0 where
+-- A follower follows these steps, by these numbers and by what the ranks say at each step. Those count where the engagement began.
+pub record FollowsRanked (following : Following) (terms : Terms) (ranks : ℕ → ByRank) (steps : List (Option PairStep)) : Type 0 where
   pub by_act : following.act ≡ terms.act
   pub by_tick : following.tick ≡ terms.tick
   pub engagement : encounters.StandsFor following.engagement terms.detect steps
+  pub begun : IsSome (age_of following.engagement.latest) → following.by_rank ≡ ranks (beginning_at (length steps - 1) following.engagement.latest)
+
+-- the same of vessels whose ranks are not told
+abbrev pub Follows : Following → Terms → List (Option PairStep) → Type 0
+Follows following terms = FollowsRanked following terms all_power_driven
 
 -- what a trace keeps: its pair, what follows the pair, and the rows so far
 pub record Traced : Type 0 where

@@ -15,7 +15,7 @@ ghost use Rattle.meetings.specs.Terms.{Terms};
 ghost use Rattle.meetings.specs.declared.by_rank.ByRank.{ByRank};
 
 use crate::atom_row::{AtomRow, Meeting};
-use crate::by_rank::ByRank;
+use crate::by_rank::{BOTH_POWER_DRIVEN, ByRank};
 use encounters::{Act, Changes, Detect, EngagementState, PairStep, changes_since, risk};
 use motion::Step;
 use mtl_formulas::Verdict;
@@ -84,18 +84,26 @@ fn other_direction(seen: Option<&PairStep>) -> Option<u16>
     seen?.b.direction
 }
 
-/// The row of a step, where it is known whether there is risk.
+/// By what a row is told beside its step: how vessels alter, how many seconds a tick lasts, and what the ranks say where the engagement
+/// began.
+#[derive(Clone, Copy, Debug)]
+pub(crate) struct Telling {
+    pub(crate) act: Act,
+    pub(crate) tick: u32,
+    pub(crate) by_rank: ByRank,
+}
+
+/// The row of a step, where it is known whether there is risk, and what the ranks say where the engagement begins.
 pub(crate) fn row_at(
     state: &EngagementState,
     seen: Option<&PairStep>,
     risk: bool,
-    act: &Act,
-    tick: u32,
+    telling: &Telling,
 ) -> AtomRow
     requires seen { IfSome (option_copied seen) HaveDirections }
     requires since { HaveDirectionsSince state.now }
     ensures { (detect : Detect) → (IsTrue risk ↔ IsSomeAnd (option_copied seen.entry) (λ pair. HasRisk detect pair.step)) →
-        AreAnswers (record { detect = detect; act = act.now; tick = tick }) both_power_driven state.now (option_copied seen.entry) (answer_of result) }
+        AreAnswers (record { detect = detect; act = telling.now.act; tick = telling.now.tick }) telling.now.by_rank state.now (option_copied seen.entry) (answer_of result) }
 {
     AtomRow {
         step: step_of(seen),
@@ -103,13 +111,9 @@ pub(crate) fn row_at(
         other_direction: other_direction(seen),
         risk,
         meeting: meeting_of(state),
-        tick,
-        changes: changes_at(act, state, seen),
-        by_rank: ByRank {
-            gives: false,
-            stands: false,
-            both_power: true,
-        },
+        tick: telling.tick,
+        changes: changes_at(&telling.act, state, seen),
+        by_rank: telling.by_rank,
     }
 }
 
@@ -128,7 +132,12 @@ pub fn atoms_at(
     requires since { HaveDirectionsSince state.now }
     ensures { AreAnswers (record { detect = detect.now; act = act.now; tick = tick }) both_power_driven state.now (option_copied seen.entry) (answer_of result) }
 {
-    row_at(state, seen, has_risk(detect, seen), act, tick)
+    let telling = Telling {
+        act: *act,
+        tick,
+        by_rank: BOTH_POWER_DRIVEN,
+    };
+    row_at(state, seen, has_risk(detect, seen), &telling)
 }
 
 /// The same row with these ranks where the engagement begins: whether A gives way to B by rank (Rule 18), whether B does to A,

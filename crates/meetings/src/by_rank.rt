@@ -10,3 +10,10 @@ pub struct ByRank {
     /// Both are power-driven.
     pub both_power: bool,
 }
+
+/// What they say of two power-driven vessels.
+pub const BOTH_POWER_DRIVEN: ByRank = ByRank {
+    gives: false,
+    stands: false,
+    both_power: true,
+};

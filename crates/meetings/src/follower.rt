@@ -5,22 +5,24 @@ ghost use Rattle.encounters.specs.Directions.{HaveDirections, HaveDirectionsSinc
 ghost use Rattle.encounters.specs.Risk.{IsDetect};
 ghost use Rattle.encounters.specs.Standing.{IsStateAfter};
 ghost use Rattle.encounters.specs.declared.pair_step.PairStep.{PairStep};
-ghost use Rattle.meetings.specs.Atoms.{IsAtomRow};
+ghost use Rattle.meetings.specs.Atoms.{IsAtomRow, IsRankedRow};
 ghost use Rattle.meetings.specs.Answers.{answer_of};
-ghost use Rattle.meetings.specs.Standing.{Follows};
+ghost use Rattle.meetings.specs.Inner.Beginning.{since_beginning};
+ghost use Rattle.meetings.specs.Standing.{Follows, FollowsRanked};
 ghost use Rattle.meetings.specs.Terms.{Terms};
+ghost use Rattle.meetings.specs.declared.by_rank.ByRank.{ByRank};
 
 use crate::atom_row::AtomRow;
-use crate::atoms::row_at;
+use crate::atoms::{Telling, row_at};
+use crate::by_rank::{BOTH_POWER_DRIVEN, ByRank};
 use encounters::{Act, Detect, Engagement, EngagementState, PairStep};
 use std::marker::Model;
 
 /// Follows an ordered pair (A, B) step by step, and gives the row of each. It stands for its numbers and the list of the steps
-/// so far.
+/// so far, with what the vessels' ranks say at each.
 #[derive(Clone, Copy, Debug)]
 pub struct Follower {
-    act: Act,
-    tick: u32,
+    telling: Telling,
     engagement: Engagement,
 }
 
@@ -29,9 +31,19 @@ impl Model for Follower {
 
     ghost Value = { Following };
 
-    ghost view = { λ f. record { act = f.act; tick = f.tick; engagement = f.engagement } };
+    ghost view = { λ f. record { act = f.telling.act; tick = f.telling.tick; engagement = f.engagement; by_rank = f.telling.by_rank } };
 
-    ghost inverse = { λ f. record { act = f.act; tick = f.tick; engagement = f.engagement } };
+    ghost inverse = { λ f. record { telling = record { act = f.act; tick = f.tick; by_rank = f.by_rank }; engagement = f.engagement } };
+}
+
+/// Keeps what the ranks say now, where an engagement begins.
+#[inline(always)]
+fn keep_at_beginning(kept: &mut ByRank, state: &EngagementState, now: &ByRank)
+    ensures { kept.new ≡ since_beginning state.now kept.old now.now }
+{
+    if let EngagementState::Engaged { age: 0, .. } = state {
+        *kept = *now;
+    }
 }
 
 impl Follower {
@@ -41,14 +53,17 @@ impl Follower {
         ensures { Follows result (record { detect = detect; act = act; tick = tick }) [] }
     {
         Follower {
-            act,
-            tick,
+            telling: Telling {
+                act,
+                tick,
+                by_rank: BOTH_POWER_DRIVEN,
+            },
             engagement: Engagement::new(detect),
         }
     }
 
-    /// The row of the next step, which is seen, or is not. Over fewer than 2^31 steps its answers are the atoms' values at
-    /// that step, with both vessels power-driven. Directions are below 3600.
+    /// The row of the next step, which is seen, or is not, of vessels whose ranks are not told. Over fewer than 2^31 steps its answers
+    /// are the atoms' values at that step, with both vessels power-driven. Directions are below 3600.
     #[inline(always)]
     pub fn step(&mut self, seen: Option<&PairStep>) -> AtomRow
         requires { IfSome (option_copied seen) HaveDirections }
@@ -59,14 +74,31 @@ impl Follower {
             → Follows self.old terms steps
             → Follows self.new terms (steps ++ option_copied seen.entry ∷ []) }
     {
+        self.step_ranked(seen, BOTH_POWER_DRIVEN)
+    }
+
+    /// The row of the next step, which is seen, or is not, where the vessels' ranks say this at the step. Over fewer than 2^31 steps its
+    /// answers are the atoms' values at that step, by the ranks at the step at which the engagement began. Directions are below 3600.
+    #[inline(always)]
+    pub fn step_ranked(&mut self, seen: Option<&PairStep>, by_rank: ByRank) -> AtomRow
+        requires { IfSome (option_copied seen) HaveDirections }
+        ensures row { (terms : Terms) (ranks : ℕ → ByRank) (steps : List (Option PairStep)) → length steps < 2 ^ 31
+            → ranks (length steps) ≡ by_rank → FollowsRanked self.old terms ranks steps
+            → IsRankedRow terms ranks (steps ++ option_copied seen.entry ∷ []) (length steps) (answer_of result) }
+        ensures follows { (terms : Terms) (ranks : ℕ → ByRank) (steps : List (Option PairStep)) → length steps < 2 ^ 31
+            → ranks (length steps) ≡ by_rank → FollowsRanked self.old terms ranks steps
+            → FollowsRanked self.new terms ranks (steps ++ option_copied seen.entry ∷ []) }
+    {
         let risk = self.engagement.take(seen);
-        row_at(self.engagement.latest(), seen, risk, &self.act, self.tick)
+        let state = self.engagement.latest();
+        keep_at_beginning(&mut self.telling.by_rank, state, &by_rank);
+        row_at(state, seen, risk, &self.telling)
     }
 
     /// The state of the engagement at the latest step; apart before the first.
     pub fn state(&self) -> EngagementState
-        ensures { (terms : Terms) (steps : List (Option PairStep)) →
-            Follows self.now terms steps → IsStateAfter terms.detect steps result }
+        ensures { (terms : Terms) (ranks : ℕ → ByRank) (steps : List (Option PairStep)) →
+            FollowsRanked self.now terms ranks steps → IsStateAfter terms.detect steps result }
     {
         self.engagement.state()
     }

@@ -21,7 +21,7 @@ mod ticks;
 
 pub use atom_row::AtomRow;
 pub use atoms::{atoms_at, with_ranks};
-pub use by_rank::ByRank;
+pub use by_rank::{BOTH_POWER_DRIVEN, ByRank};
 pub use follower::Follower;
 pub use pair::Pair;
 pub use pair_trace::PairTrace;

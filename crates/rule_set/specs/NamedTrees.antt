@@ -41,6 +41,11 @@ rules_of tick numbers = eleven_rules Ignored tick numbers
 abbrev pub ranked_rules_of : ℕ → RuleNumbers → List NamedTree
 ranked_rules_of tick numbers = eleven_rules Counted tick numbers ++ rule_named (codes "r18") (tree.r18 numbers) ∷ []
 
+-- the rules without ranks or with them
+abbrev pub rules_by : Ranking → ℕ → RuleNumbers → List NamedTree
+rules_by Ignored tick numbers = rules_of tick numbers
+rules_by Counted tick numbers = ranked_rules_of tick numbers
+
 -- the rule at an index below their number
 abbrev pub rule_at : List NamedTree → ℕ → NamedTree
 rule_at rules k = slice_index_or rules k (rule_named [] (leaf Never))

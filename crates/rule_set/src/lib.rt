@@ -13,4 +13,5 @@ mod words;
 
 pub use name::Name;
 pub use numbers::{RuleNumbers, Safe};
+pub use ranking::Ranking;
 pub use rule_set::{MOST_RULES, RuleSet};

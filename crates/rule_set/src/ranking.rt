@@ -2,7 +2,7 @@
 
 /// Whether the rules look at the ranks of vessels (COLREGs Rule 18).
 #[derive(Clone, Copy, Debug, PartialEq, Eq)]
-pub(crate) enum Ranking {
+pub enum Ranking {
     /// They do not.
     Ignored,
     /// They do.

@@ -26,6 +26,7 @@ use Rattle.scenario_keys.specs.declared.key.Key.{Key}
 use Rattle.scenario_keys.specs.declared.cause.Cause.{Cause}
 use Rattle.scenario_keys.specs.declared.cause.Cause.TheVariants as cause
 use Rattle.scenario_keys.proofs.ForCallers.{all_head, all_tail}
+use Rattle.rule_set.specs.declared.ranking.Ranking.{Ranking}
 use Rattle.added_rules.specs.FormulaTables.{is_name_taken, name_cause, formula_name_in, rule_names, string_in, IsFormulaFault, IsTableFault, IsTextFault}
 use Rattle.added_rules.specs.ScenarioRules.{AreAdded, IsAdded}
 use Rattle.predictions.specs.PredictFaults.{changes_cause, predicted_mmsi, predict_fault, ship_cause, table_fault}
@@ -145,16 +146,16 @@ names_kept (here ∷ rest) =
     ap (λ (l : List (List ℕ)). string_in (member_at (codes "name") (formula_kept here)) ∷ l) (names_kept rest)
     ∙ ap (λ (x : Option Data). string_in x ∷ map formula_name_in rest) (name_kept here)
 
-taken_kept : (before : List Data) → is_name_taken (map formula_kept before) ≡ is_name_taken before
-taken_kept before = ap (λ (l : List (List ℕ)). λ (name : List ℕ). list_any (λ taken. bytes_eq taken name) (rule_names ++ l)) (names_kept before)
+taken_kept : (ranks : Ranking) (before : List Data) → is_name_taken ranks (map formula_kept before) ≡ is_name_taken ranks before
+taken_kept ranks before = ap (λ (l : List (List ℕ)). λ (name : List ℕ). list_any (λ taken. bytes_eq taken name) (rule_names ranks ++ l)) (names_kept before)
 
-formula_fault_kept : (tick : ℕ) (before : List Data) (here : Data) → IsTableFault tick (before, here) None → IsTableFault tick (map formula_kept before, formula_kept here) None
-formula_fault_kept tick before here h =
+formula_fault_kept : (ranks : Ranking) (tick : ℕ) (before : List Data) (here : Data) → IsTableFault ranks tick (before, here) None → IsTableFault ranks tick (map formula_kept before, formula_kept here) None
+formula_fault_kept ranks tick before here h =
     let C : ℕ → (List ℕ → Bool) → Option Data → Option Data → Type 0 = λ n taken name text. IsTextFault tick n (name_cause taken name) text None in
-    subst (λ n. C n (is_name_taken (map formula_kept before)) (member_at (codes "name") (formula_kept here)) (member_at (codes "text") (formula_kept here))) (sym (length-map before formula_kept))
-    (subst (λ taken. C (length before) taken (member_at (codes "name") (formula_kept here)) (member_at (codes "text") (formula_kept here))) (sym (taken_kept before))
-    (subst (λ name. C (length before) (is_name_taken before) name (member_at (codes "text") (formula_kept here))) (sym (name_kept here))
-    (subst (λ text. C (length before) (is_name_taken before) (member_at (codes "name") here) text) (sym (text_kept here)) h)))
+    subst (λ n. C n (is_name_taken ranks (map formula_kept before)) (member_at (codes "name") (formula_kept here)) (member_at (codes "text") (formula_kept here))) (sym (length-map before formula_kept))
+    (subst (λ taken. C (length before) taken (member_at (codes "name") (formula_kept here)) (member_at (codes "text") (formula_kept here))) (sym (taken_kept ranks before))
+    (subst (λ name. C (length before) (is_name_taken ranks before) name (member_at (codes "text") (formula_kept here))) (sym (name_kept here))
+    (subst (λ text. C (length before) (is_name_taken ranks before) (member_at (codes "name") here) text) (sym (text_kept here)) h)))
 
 each_kept : (P : List Data × Data → Type 0) (f : Data → Data) → ((before : List Data) (here : Data) → P (before, here) → P (map f before, f here)) →
     (before tables : List Data) → All P (with_before before tables) → All P (with_before (map f before) (map f tables))
@@ -165,8 +166,8 @@ each_kept P f h before (here ∷ rest) all =
     (subst (λ (front : List Data). All P (with_before front (map f rest))) (map-append f before (here ∷ []))
     (each_kept P f h (before ++ here ∷ []) rest (all_tail P (before, here) (with_before (before ++ here ∷ []) rest) all)))
 
-pub formulas_kept : (tick : ℕ) (tables : List Data) → IsFormulaFault tick tables None → IsFormulaFault tick (map formula_kept tables) None
-formulas_kept tick tables h = each_kept (λ pair. IsTableFault tick pair None) formula_kept (formula_fault_kept tick) [] tables h
+pub formulas_kept : (ranks : Ranking) (tick : ℕ) (tables : List Data) → IsFormulaFault ranks tick tables None → IsFormulaFault ranks tick (map formula_kept tables) None
+formulas_kept ranks tick tables h = each_kept (λ pair. IsTableFault ranks tick pair None) formula_kept (formula_fault_kept ranks tick) [] tables h
 
 -- the rules of `formula`
 

@@ -14,5 +14,6 @@ pub mod MovedKeys
 pub mod MigratedDocuments
 pub mod MovedValues
 pub mod MovedFaults
+pub mod RanksRead
 pub mod SameScenario
 pub mod ForCallers

@@ -8,7 +8,7 @@ use Rattle.scenario_keys.specs.declared.fault.ScenarioFault.TheVariants as refus
 use Rattle.scenario_keys.specs.declared.key.Key.{Key}
 use Rattle.scenario.specs.DocumentFaults.{IsFaultless, IsFirstFault}
 use Rattle.scenario.specs.KeyFaults.{is_version_two}
-use Rattle.scenario.specs.Migration.{has_own, HasFirstFault, IsMigrated, IsNotMigrated}
+use Rattle.scenario.specs.Migration.{for_migration, HasFirstFault, IsMigrated, IsNotMigrated}
 use Rattle.scenario.specs.ScenarioReading.{Reads}
 use Rattle.scenario.proofs.Single.{faultless_or_not, one_document, one_fault}
 
@@ -24,12 +24,12 @@ never bytes text key why is (inl h) = h.unread is.document is.reads
 never bytes text key why is (inr (inl h)) = one_version bytes h.document is.document h.reads is.reads h.version_two is.version_one
 never bytes text key why is (inr (inr h)) =
     let same = one_document bytes is.document h.document is.reads h.reads in
-    faultless_or_not (has_own h.document) h.document (key, why) (subst (λ (d : Members). IsFaultless (has_own d) d) same is.faultless) h.first
+    faultless_or_not (for_migration h.document) h.document (key, why) (subst (λ (d : Members). IsFaultless (for_migration d) d) same is.faultless) h.first
 
 same_fault : (bytes : List ℕ) (key other : Key) (cause why : Cause) → HasFirstFault bytes key cause → HasFirstFault bytes other why → (key ≡ other) × (cause ≡ why)
 same_fault bytes key other cause why h k =
     let same = one_document bytes h.document k.document h.reads k.reads in
-    let pair = one_fault (has_own k.document) k.document (key, cause) (other, why) (subst (λ (d : Members). IsFirstFault (has_own d) d (key, cause)) same h.first) k.first in
+    let pair = one_fault (for_migration k.document) k.document (key, cause) (other, why) (subst (λ (d : Members). IsFirstFault (for_migration d) d (key, cause)) same h.first) k.first in
     (ap (λ (p : Key × Cause). p.0) pair, ap (λ (p : Key × Cause). p.1) pair)
 
 pub one_reason : (bytes : List ℕ) (key other : Key) (cause why : Cause) → IsNotMigrated bytes key cause → IsNotMigrated bytes other why → (key ≡ other) × (cause ≡ why)

@@ -22,7 +22,8 @@ use Rattle.scenario.specs.DocumentFaults.{IsFaultless}
 use Rattle.scenario.specs.KeyFaults.{basis_of, counts, fault_in, fault_of, is_version_two, tick_of}
 use Rattle.scenario.specs.PlanFaults.{plans_cause, sizes_of}
 use Rattle.scenario.specs.Shapes.{shape_fault}
-use Rattle.scenario.specs.Migration.{found_at, has_own, is_key, kept, kept_by, new_value}
+use Rattle.scenario.specs.Purposes.{ranking_of}
+use Rattle.scenario.specs.Migration.{for_migration, found_at, has_own, is_key, kept, kept_by, new_value}
 use Rattle.scenario.specs.Inner.PutTogether.{migrated}
 use Rattle.scenario.specs.declared.basis.Basis.{Basis}
 use Rattle.scenario.specs.declared.plan_sizes.PlanSizes.{PlanSizes}
@@ -109,7 +110,7 @@ counted_before need_own document when.InVersionOne one two own second h = ap not
 counted_before need_own document when.InVersionTwo one two own second h = cc
 counted_before need_own document when.ForOwnShip one two own second h = own h
 
-moved_faultless : (need_own : Bool) (document : Members) → is_version_two document ≡ false → IsFaultless (has_own document) document →
+moved_faultless : (need_own : Bool) (document : Members) → is_version_two document ≡ false → IsFaultless (for_migration document) document →
     (need_own ≡ true → has_own document ≡ true) → (here : Row) → IsRow document here → is_moved here ≡ true → NoFault need_own document here
 unfolding fault_of
 moved_faultless need_own document one h own here is moved =
@@ -121,13 +122,13 @@ moved_faultless need_own document one h own here is moved =
     let basis = basis_of (has_own document) document in
     let before = counted_before need_own document here.when one (version_moved document h) own second counted in
     let found = found_at here.table here.name document in
-    let cause = uncaused basis here.number here.name here.kind (table_at here.table document) (key_faultless basis document here is.told (key_plain here.kind key) before) in
+    let cause = uncaused basis here.number here.name here.kind (table_at here.table document) (key_faultless basis (ranking_of (for_migration document) document) document here is.told (key_plain here.kind key) before) in
     let tick = subst (λ n. HasNoCause n here.kind found) (sym (tick_moved document h)) cause in
     let kept_so = kept_uncaused (tick_of (migrated document)) here here.kind found refl tick in
     held_faultless (basis_of need_own (migrated document)) document here key (row_held document here is key before)
     (subst (λ (x : Option Data). HasNoCause (tick_of (migrated document)) here.kind x) (sym (value_moved document here moved before)) kept_so)))
 
-all_moved : (need_own : Bool) (document : Members) → is_version_two document ≡ false → IsFaultless (has_own document) document →
+all_moved : (need_own : Bool) (document : Members) → is_version_two document ≡ false → IsFaultless (for_migration document) document →
     (need_own ≡ true → has_own document ≡ true) → (list : List Row) → All (IsRow document) list → list_all is_moved list ≡ true → All (NoFault need_own document) list
 all_moved need_own document one h own [] rows moved = λ k d lt. absurd (omega arith)
 all_moved need_own document one h own (here ∷ rest) rows moved =
@@ -138,30 +139,30 @@ all_moved need_own document one h own (here ∷ rest) rows moved =
 
 -- the version, and the safe distances
 
-version_faultless : (need_own : Bool) (document : Members) → IsFaultless (has_own document) document → NoFault need_own document (row 1 (codes "") (codes "version") (from_to 1 2))
+version_faultless : (need_own : Bool) (document : Members) → IsFaultless (for_migration document) document → NoFault need_own document (row 1 (codes "") (codes "version") (from_to 1 2))
 unfolding fault_of first_rows new_value
 version_faultless need_own document h =
     let here = row 1 (codes "") (codes "version") (from_to 1 2) in
     held_faultless (basis_of need_own (migrated document)) document here refl (row_held document here ((all_rows document h).0 1 any (omega arith)) refl refl) refl
 
-safe_uncaused : (document : Members) → is_version_two document ≡ false → IsFaultless (has_own document) document →
+safe_uncaused : (document : Members) → is_version_two document ≡ false → IsFaultless (for_migration document) document →
     HasNoCause 1 metres (found_at (codes "rules") (codes "safe") document)
 unfolding first_rows
 safe_uncaused document one h =
     let here = row_in_version_one 22 (codes "rules") (codes "safe") metres in
     let basis = basis_of (has_own document) document in
     uncaused basis 22 (codes "safe") metres (table_at (codes "rules") document)
-    (key_faultless basis document here ((all_rows document h).0 22 any (omega arith)).told refl (ap not one))
+    (key_faultless basis (ranking_of (for_migration document) document) document here ((all_rows document h).0 22 any (omega arith)).told refl (ap not one))
 
-rules_place : (document : Members) → IsFaultless (has_own document) document → (table : Members) × (table_at (codes "rules") document ≡ Ok table)
+rules_place : (document : Members) → IsFaultless (for_migration document) document → (table : Members) × (table_at (codes "rules") document ≡ Ok table)
 unfolding first_rows
 rules_place document h =
     let here = row 23 (codes "rules") (codes "overtake") metres in
     let basis = basis_of (has_own document) document in
-    place_of basis document here (key_faultless basis document here ((all_rows document h).0 27 any (omega arith)).told refl refl)
+    place_of basis document here (key_faultless basis (ranking_of (for_migration document) document) document here ((all_rows document h).0 27 any (omega arith)).told refl refl)
 
 -- each of the safe distances is the old one
-pub safe_moved : (document : Members) → IsFaultless (has_own document) document → (number : ℕ) (name : List ℕ) → IsRow document (row_in_version_two number (codes "rules") name metres) →
+pub safe_moved : (document : Members) → IsFaultless (for_migration document) document → (number : ℕ) (name : List ℕ) → IsRow document (row_in_version_two number (codes "rules") name metres) →
     found_at (codes "rules") name (migrated document) ≡ found_at (codes "rules") (codes "safe") document
 unfolding new_value
 safe_moved document h number name is =
@@ -169,7 +170,7 @@ safe_moved document h number name is =
     let there = held document (row_in_version_two number (codes "rules") name metres) a p (rules_place document h) in
     ap (found_in name) there.is ∙ there.value
 
-safe_faultless : (need_own : Bool) (document : Members) → is_version_two document ≡ false → IsFaultless (has_own document) document →
+safe_faultless : (need_own : Bool) (document : Members) → is_version_two document ≡ false → IsFaultless (for_migration document) document →
     (number : ℕ) (name : List ℕ) → IsRow document (row_in_version_two number (codes "rules") name metres) → NoFault need_own document (row_in_version_two number (codes "rules") name metres)
 unfolding fault_of new_value
 safe_faultless need_own document one h number name is =
@@ -182,7 +183,7 @@ safe_faultless need_own document one h number name is =
 
 -- the keys before those of formulas
 
-pub first_faultless : (need_own : Bool) (document : Members) → is_version_two document ≡ false → IsFaultless (has_own document) document →
+pub first_faultless : (need_own : Bool) (document : Members) → is_version_two document ≡ false → IsFaultless (for_migration document) document →
     (need_own ≡ true → has_own document ≡ true) → All (NoFault need_own document) first_rows
 unfolding first_rows fault_of
 first_faultless need_own document one h own =
@@ -207,7 +208,7 @@ first_faultless need_own document one h own =
 
 -- the keys of own ship
 
-plans_faultless : (need_own : Bool) (document : Members) → IsFaultless (has_own document) document → (need_own ≡ true → has_own document ≡ true) →
+plans_faultless : (need_own : Bool) (document : Members) → IsFaultless (for_migration document) document → (need_own ≡ true → has_own document ≡ true) →
     NoFault need_own document (row_when when.ForOwnShip 44 (codes "") (codes "own") kind.Plans)
 unfolding fault_of own_rows
 plans_faultless need_own document h own =
@@ -216,12 +217,12 @@ plans_faultless need_own document h own =
     (λ e. (
     let basis = basis_of (has_own document) document in
     let was : fault_by 44 (plans_cause (tick_of document) (sizes_of document)) ≡ None =
-    key_faultless basis document here ((all_rows document h).1 9 any (omega arith)).told refl (own e) in
+    key_faultless basis (ranking_of (for_migration document) document) document here ((all_rows document h).1 9 any (omega arith)).told refl (own e) in
     ap (λ n. fault_by 44 (plans_cause n (sizes_of (migrated document)))) (tick_moved document h)
     ∙ ap (λ (s : PlanSizes). fault_by 44 (plans_cause (tick_of document) s)) (sizes_moved document h (own e))
     ∙ was))
 
-predicted_faultless : (need_own : Bool) (document : Members) → IsFaultless (has_own document) document → (need_own ≡ true → has_own document ≡ true) →
+predicted_faultless : (need_own : Bool) (document : Members) → IsFaultless (for_migration document) document → (need_own ≡ true → has_own document ≡ true) →
     NoFault need_own document (row_when when.ForOwnShip 46 (codes "") (codes "predict.mmsi") kind.PredictedShip)
 unfolding fault_of
 predicted_faultless need_own document h own =
@@ -234,9 +235,9 @@ predicted_faultless need_own document h own =
     ∙ ap (λ z. predict_fault (tick_of document) (natural_of z) (list_at (codes "") (codes "predict") (migrated document))) (ship_moved document h (own e))
     ∙ ap (predict_fault (tick_of document) ship) (predicted_moved document h (own e))
     ∙ predictions_fault_kept (tick_of document) ship tables
-    ∙ predict_faultless document (subst (λ (b : Bool). IsFaultless b document) (own e) h)))
+    ∙ predict_faultless (for_migration document) document (own e) h))
 
-pub own_faultless : (need_own : Bool) (document : Members) → is_version_two document ≡ false → IsFaultless (has_own document) document →
+pub own_faultless : (need_own : Bool) (document : Members) → is_version_two document ≡ false → IsFaultless (for_migration document) document →
     (need_own ≡ true → has_own document ≡ true) → All (NoFault need_own document) own_rows
 unfolding own_rows fault_of
 own_faultless need_own document one h own =

@@ -13,9 +13,10 @@ use Rattle.scenario_keys.specs.ScenarioKeys.{first_rows, formula_rows, own_rows,
 use Rattle.scenario_keys.specs.declared.rows.When.{When}
 use Rattle.scenario_keys.specs.declared.rows.When.TheVariants as when
 use Rattle.scenario_keys.proofs.ForCallers.{all_back, all_front, all_head, all_tail}
-use Rattle.scenario.specs.DocumentFaults.{IsFaultless, IsTold}
+use Rattle.scenario.specs.DocumentFaults.{IsFaultless, IsToldFor}
 use Rattle.scenario.specs.KeyFaults.{basis_of, counts, fault_in}
-use Rattle.scenario.specs.Migration.{found_at, has_own, is_key, is_key_at, kept, new_value, new_value_when, table_names}
+use Rattle.scenario.specs.Purposes.{ranking_of}
+use Rattle.scenario.specs.Migration.{for_migration, found_at, has_own, is_key, is_key_at, kept, new_value, new_value_when, table_names}
 use Rattle.scenario.specs.Inner.PutTogether.{keys_of, migrated}
 use Rattle.scenario.specs.declared.basis.Basis.{Basis}
 use Rattle.scenario.proofs.Kept.{key_held, tables_by, IsAlone}
@@ -194,7 +195,7 @@ moved_by document here held moved counted =
 -- all keys of a document of version 1 without a fault
 
 pub record IsRow (document : Members) (here : Row) : Type 0 where
-  pub told : IsTold (basis_of (has_own document) document) document here None
+  pub told : IsToldFor (for_migration document) document here None
   pub known : IsKnown here
 
 both : (P Q : Row → Type 0) (list : List Row) → All P list → All Q list → (R : Row → Type 0) → ((here : Row) → P here → Q here → R here) → All R list
@@ -202,10 +203,10 @@ both P Q [] h k R f = λ i d lt. absurd (omega arith)
 both P Q (here ∷ rest) h k R f =
     All-cons R here rest (f here (all_head P here rest h) (all_head Q here rest k)) (both P Q rest (all_tail P here rest h) (all_tail Q here rest k) R f)
 
-pub all_rows : (document : Members) → IsFaultless (has_own document) document → All (IsRow document) first_rows × All (IsRow document) own_rows
+pub all_rows : (document : Members) → IsFaultless (for_migration document) document → All (IsRow document) first_rows × All (IsRow document) own_rows
 all_rows document h =
-    let P : Row → Type 0 = λ here. IsTold (basis_of (has_own document) document) document here None in
-    let parts = faultless_parts (has_own document) document h in
+    let P : Row → Type 0 = λ here. IsToldFor (for_migration document) document here None in
+    let parts = faultless_parts (for_migration document) document h in
     let join : (here : Row) → P here → IsKnown here → IsRow document here = λ here told known. record { told = told; known = known } in
     let front = all_front IsKnown first_rows (formula_rows ++ own_rows) all_known in
     let back = all_back IsKnown formula_rows own_rows (all_back IsKnown first_rows (formula_rows ++ own_rows) all_known) in
@@ -215,7 +216,7 @@ pub row_held : (document : Members) (here : Row) → IsRow document here → is_
 row_held document here row key counted =
     let basis = basis_of (has_own document) document in
     let (a, p) = row.known key in
-    held document here a p (place_of basis document here (key_faultless basis document here row.told (key_plain here.kind key) counted))
+    held document here a p (place_of basis document here (key_faultless basis (ranking_of (for_migration document) document) document here row.told (key_plain here.kind key) counted))
 
 pub row_moved : (document : Members) (here : Row) → IsRow document here → is_moved here ≡ true → counts (basis_of (has_own document) document) here.when ≡ true → IsMoved document here
 row_moved document here row moved counted =

@@ -7,6 +7,7 @@ use Rattle.std.proofs.lemmas.List.Elements.{All-cons}
 use Rattle.std.proofs.lemmas.Str.{IsUtf8-from_is_utf8, is_utf8-from_IsUtf8}
 use Rattle.toml.specs.Data.{Members}
 use Rattle.toml.specs.Parse.{parse_document}
+use Rattle.rule_set.specs.declared.ranking.Ranking.{Ranking}
 use Rattle.scenario_keys.specs.FirstFaults.{IsFound}
 use Rattle.scenario_keys.specs.ScenarioKeys.{Row, first_rows, formula_rows, own_rows, row, rows}
 use Rattle.scenario_keys.specs.declared.key.Key.{Key}
@@ -17,12 +18,14 @@ use Rattle.scenario_keys.specs.declared.rows.Kind.TheVariants as kind
 use Rattle.scenario_keys.proofs.ForCallers.{all_back, all_front, all_head, all_none, first_here, found_append, some_found}
 use Rattle.added_rules.proofs.ForCallers.{some_formula_fault, some_rules, some_weight_fault}
 use Rattle.added_rules.specs.FormulaTables.{IsFormulaFault}
-use Rattle.scenario.specs.DocumentFaults.{IsFaultless, IsFirstFault, IsTold, IsToldBy}
+use Rattle.scenario.specs.DocumentFaults.{IsFaultless, IsFirstFault, IsToldBy, IsToldFor}
 use Rattle.scenario.specs.KeyFaults.{basis_of, fault_of, tick_of}
+use Rattle.scenario.specs.Purposes.{purpose_by, ranking_of}
 use Rattle.scenario.specs.RuleValues.{AreRulesOf, formula_tables, rule_numbers_of}
 use Rattle.scenario.specs.ScenarioReading.{HasOneReading, IsRefused, Means, Reads}
 use Rattle.scenario.specs.ScenarioValues.{scenario_of, scenario_with}
 use Rattle.scenario.specs.declared.basis.Basis.{Basis}
+use Rattle.scenario.specs.declared.purpose.Purpose.{Purpose}
 use Rattle.scenario.specs.declared.values.Scenario.{Scenario}
 use Rattle.scenario.proofs.Single.{meant_or_refused, one_meaning, one_refusal}
 
@@ -48,28 +51,28 @@ is_plain kind.FormulaName = false
 is_plain kind.Formulas = false
 is_plain _ = true
 
-plain_by : (here : Kind) → is_plain here ≡ true → (basis : Basis) (document : Members) (row : Row) → IsToldBy here basis document row (fault_of basis document row)
-plain_by kind.FormulaName plain basis document row = cc plain
-plain_by kind.Formulas plain basis document row = cc plain
-plain_by (kind.Number of) plain basis document row = refl
-plain_by (kind.Numbers list) plain basis document row = refl
-plain_by (kind.Tables most) plain basis document row = refl
-plain_by kind.Plans plain basis document row = refl
-plain_by kind.Shape plain basis document row = refl
-plain_by kind.Document plain basis document row = refl
-plain_by kind.FormulaText plain basis document row = refl
-plain_by kind.PredictedShip plain basis document row = refl
-plain_by kind.PredictedChanges plain basis document row = refl
+plain_by : (here : Kind) → is_plain here ≡ true → (basis : Basis) (ranks : Ranking) (document : Members) (row : Row) → IsToldBy here basis ranks document row (fault_of basis document row)
+plain_by kind.FormulaName plain basis ranks document row = cc plain
+plain_by kind.Formulas plain basis ranks document row = cc plain
+plain_by (kind.Number of) plain basis ranks document row = refl
+plain_by (kind.Numbers list) plain basis ranks document row = refl
+plain_by (kind.Tables most) plain basis ranks document row = refl
+plain_by kind.Plans plain basis ranks document row = refl
+plain_by kind.Shape plain basis ranks document row = refl
+plain_by kind.Document plain basis ranks document row = refl
+plain_by kind.FormulaText plain basis ranks document row = refl
+plain_by kind.PredictedShip plain basis ranks document row = refl
+plain_by kind.PredictedChanges plain basis ranks document row = refl
 
-module _ (need_own : Bool) (document : Members) where
+module _ (purpose : Purpose) (document : Members) where
   abbrev test : Row → Told → Type 0
-  test = IsTold (basis_of need_own document) document
+  test = IsToldFor purpose document
 
   abbrev Finds : Row → Type 0
   Finds row = (told : Told) × test row told
 
   plain_told : (row : Row) → is_plain row.kind ≡ true → Finds row
-  plain_told row plain = (fault_of (basis_of need_own document) document row, plain_by row.kind plain (basis_of need_own document) document row)
+  plain_told row plain = (fault_of (basis_of purpose.need_own document) document row, plain_by row.kind plain (basis_of purpose.need_own document) (ranking_of purpose document) document row)
 
   plain_all : (list : List Row) → list_all (λ (row : Row). is_plain row.kind) list ≡ true → All Finds list
   plain_all [] plain = all_none Finds
@@ -99,36 +102,36 @@ module _ (need_own : Bool) (document : Members) where
   -- Where a formula has a fault, it is the first of them; and where none has, they have a weight.
   formulas_told : (told : Told) × IsFound test formula_rows told
   unfolding formula_rows
-  formulas_told = by (some_formula_fault (tick_of document) (formula_tables document))
+  formulas_told = by (some_formula_fault (ranking_of purpose document) (tick_of document) (formula_tables document))
     where
-      by : (told : Told) × IsFormulaFault (tick_of document) (formula_tables document) told → (told : Told) × IsFound test formula_rows told
+      by : (told : Told) × IsFormulaFault (ranking_of purpose document) (tick_of document) (formula_tables document) told → (told : Told) × IsFound test formula_rows told
       by (Some fault, is) = (Some fault, first_here test name_row (text_row ∷ weight_row ∷ []) fault is)
       by (None, is) = some_found test formula_rows
           (All-cons Finds name_row (text_row ∷ weight_row ∷ []) (None, is)
           (All-cons Finds text_row (weight_row ∷ []) (plain_told text_row refl)
-          (All-cons Finds weight_row [] (some_weight_fault (tick_of document) (rule_numbers_of document) (formula_tables document) is) (all_none Finds))))
+          (All-cons Finds weight_row [] (some_weight_fault (ranking_of purpose document) (tick_of document) (rule_numbers_of document) (formula_tables document) is) (all_none Finds))))
 
   all_told : (told : Told) × IsFound test rows told
   all_told = found_append test first_rows (formula_rows ++ own_rows) first_told (found_append test formula_rows own_rows formulas_told own_told)
 
   -- ---- what a document comes to
 
-  formulas_faultless : IsFaultless need_own document → IsFormulaFault (tick_of document) (formula_tables document) None
+  formulas_faultless : IsFaultless purpose document → IsFormulaFault (ranking_of purpose document) (tick_of document) (formula_tables document) None
   unfolding IsFaultless formula_rows
   formulas_faultless all =
       all_head (λ here. test here None) name_row (text_row ∷ weight_row ∷ []) (all_front (λ here. test here None) formula_rows own_rows (all_back (λ here. test here None) first_rows (formula_rows ++ own_rows) all))
 
-  values : IsFaultless need_own document → (scenario : Scenario) × AreRulesOf document scenario.rules × (scenario ≡ scenario_of need_own document scenario.rules)
+  values : IsFaultless purpose document → (scenario : Scenario) × AreRulesOf purpose document scenario.rules × (scenario ≡ scenario_of purpose document scenario.rules)
   unfolding scenario_with
   values all =
-      let rules = some_rules (tick_of document) (rule_numbers_of document) (formula_tables document) (formulas_faultless all) in
-      (scenario_of need_own document rules.0, rules.1, refl)
+      let rules = some_rules (ranking_of purpose document) (tick_of document) (rule_numbers_of document) (formula_tables document) (formulas_faultless all) in
+      (scenario_of purpose document rules.0, rules.1, refl)
 
-  pub faultless_or_first : IsFaultless need_own document ⊎ ((found : Key × Cause) × IsFirstFault need_own document found)
+  pub faultless_or_first : IsFaultless purpose document ⊎ ((found : Key × Cause) × IsFirstFault purpose document found)
   unfolding IsFaultless IsFirstFault
   faultless_or_first = by all_told
     where
-      by : (told : Told) × IsFound test rows told → IsFaultless need_own document ⊎ ((found : Key × Cause) × IsFirstFault need_own document found)
+      by : (told : Told) × IsFound test rows told → IsFaultless purpose document ⊎ ((found : Key × Cause) × IsFirstFault purpose document found)
       by (None, all) = inl all
       by (Some found, is) = inr (found, is)
 
@@ -156,8 +159,8 @@ only_refusal need_own bytes key why refused = inr (
 )
 
 of_document : (need_own : Bool) (bytes : List ℕ) (document : Members) → Reads bytes document → HasOneReading need_own bytes
-of_document need_own bytes document reads = elim (faultless_or_first need_own document) [
-  | inl all ↦ (let found = values need_own document all in
+of_document need_own bytes document reads = elim (faultless_or_first (purpose_by need_own) document) [
+  | inl all ↦ (let found = values (purpose_by need_own) document all in
       only_meaning need_own bytes found.0 (record { document = document; reads = reads; faultless = all; rules = found.1; values = found.2 }))
   | inr first ↦ only_refusal need_own bytes first.0.0 first.0.1 (inr (record { document = document; reads = reads; first = first.1 }))
 ]

@@ -26,17 +26,21 @@ use Rattle.scenario_keys.specs.declared.rows.When.TheVariants as when
 use Rattle.scenario_keys.specs.declared.cause.Cause.{Cause}
 use Rattle.scenario_keys.specs.declared.cause.Cause.TheVariants as cause
 use Rattle.scenario_keys.proofs.ForCallers.{all_back, all_front, all_head, all_tail}
+use Rattle.rule_set.specs.declared.ranking.Ranking.{Ranking}
 use Rattle.added_rules.specs.FormulaTables.{is_name_taken, name_cause, new_name_cause, IsFormulaFault, IsStringCause, IsTableFault, IsTextCause, IsTextFault}
 use Rattle.predictions.specs.PredictFaults.{array_cause, changes_cause, list_cause, new_cause, predict_fault, ship_cause, ships, table_fault}
 use Rattle.predictions.specs.PredictFaults as predicted
-use Rattle.scenario.specs.DocumentFaults.{IsFaultless, IsTold}
+use Rattle.scenario.specs.DocumentFaults.{IsFaultless, IsTold, IsToldFor}
+use Rattle.scenario.specs.Inner.NoFaults.{HaveNoFault}
+use Rattle.scenario.specs.Purposes.{ranking_of}
 use Rattle.scenario.specs.KeyFaults.{basis_of, counts, fault_in, fault_of, is_version_two, tick_of}
 use Rattle.scenario.specs.RuleValues.{formula_tables}
 use Rattle.scenario.specs.Shapes.{is_no_integer_list, is_no_vertex, no_shape_fault, shape_array_fault, shape_fault, shape_in, vertices_fault}
 use Rattle.scenario.specs.Inner.WithinBounds.{IsWithin}
-use Rattle.scenario.specs.Migration.{found_at, has_own, is_key, is_key_of, kept, kept_array, kept_by, known_members, member_if, new_value, new_value_when, table_names, two_of}
+use Rattle.scenario.specs.Migration.{for_migration, found_at, has_own, is_key, is_key_of, kept, kept_array, kept_by, known_members, member_if, new_value, new_value_when, table_names, two_of}
 use Rattle.scenario.specs.Inner.PutTogether.{keys_of, migrated, with_found, with_key, with_keys, with_member, with_table, with_tables}
 use Rattle.scenario.specs.declared.basis.Basis.{Basis}
+use Rattle.scenario.specs.declared.purpose.Purpose.{Purpose}
 use Rattle.scenario.proofs.Firsts.{is_plain, plain_told, read_from}
 use Rattle.scenario.proofs.Held.{number_uncaused}
 use Rattle.scenario.proofs.ListsHeld.{elements_held, first_one, first_two, list_uncaused, no_item, no_position, shape_uncaused, tables_uncaused}
@@ -188,14 +192,14 @@ no_text_fault tick index None found h = (refl, untold h.0 h.1 h.2)
     untold None is e = is
     untold (Some why) is e = cc
 
-formula_deep : (tick : ℕ) (before : List Data) (here : Data) → IsTableFault tick (before, here) None → depth (known_members (codes "formula") here) ≤ 3
-formula_deep tick before here h =
-    let (a, b) = no_text_fault tick (length before) (name_cause (is_name_taken before) (member_at (codes "name") here)) (member_at (codes "text") here) h in
-    let c = two_deep 0 (codes "name") (codes "text") here (name_deep (is_name_taken before) (member_at (codes "name") here) a) (text_deep tick (member_at (codes "text") here) b) in
+formula_deep : (ranks : Ranking) (tick : ℕ) (before : List Data) (here : Data) → IsTableFault ranks tick (before, here) None → depth (known_members (codes "formula") here) ≤ 3
+formula_deep ranks tick before here h =
+    let (a, b) = no_text_fault tick (length before) (name_cause (is_name_taken ranks before) (member_at (codes "name") here)) (member_at (codes "text") here) h in
+    let c = two_deep 0 (codes "name") (codes "text") here (name_deep (is_name_taken ranks before) (member_at (codes "name") here) a) (text_deep tick (member_at (codes "text") here) b) in
     omega arith
 
-pub formulas_deep : (tick : ℕ) (tables : List Data) → IsFormulaFault tick tables None → All (λ here. depth (known_members (codes "formula") here) ≤ 3) tables
-formulas_deep tick tables h = each (λ pair. IsTableFault tick pair None) (λ here. depth (known_members (codes "formula") here) ≤ 3) (formula_deep tick) [] tables h
+pub formulas_deep : (ranks : Ranking) (tick : ℕ) (tables : List Data) → IsFormulaFault ranks tick tables None → All (λ here. depth (known_members (codes "formula") here) ≤ 3) tables
+formulas_deep ranks tick tables h = each (λ pair. IsTableFault ranks tick pair None) (λ here. depth (known_members (codes "formula") here) ≤ 3) (formula_deep ranks tick) [] tables h
 
 -- the tables of `predict`
 
@@ -314,34 +318,34 @@ predictions_deep tick own tables h =
 
 -- the parts of a document without a fault
 
-pub faultless_parts : (need_own : Bool) (document : Members) → IsFaultless need_own document →
-    All (λ here. IsTold (basis_of need_own document) document here None) first_rows
-    × All (λ here. IsTold (basis_of need_own document) document here None) formula_rows
-    × All (λ here. IsTold (basis_of need_own document) document here None) own_rows
+pub faultless_parts : (purpose : Purpose) (document : Members) → IsFaultless purpose document →
+    All (λ here. IsToldFor purpose document here None) first_rows
+    × All (λ here. IsToldFor purpose document here None) formula_rows
+    × All (λ here. IsToldFor purpose document here None) own_rows
 unfolding IsFaultless
-faultless_parts need_own document h =
-    let P : Row → Type 0 = λ here. IsTold (basis_of need_own document) document here None in
+faultless_parts purpose document h =
+    let P : Row → Type 0 = λ here. IsToldFor purpose document here None in
     let back = all_back P first_rows (formula_rows ++ own_rows) h in
     (all_front P first_rows (formula_rows ++ own_rows) h, all_front P formula_rows own_rows back, all_back P formula_rows own_rows back)
 
-pub formulas_faultless : (need_own : Bool) (document : Members) → IsFaultless need_own document → IsFormulaFault (tick_of document) (formula_tables document) None
+pub formulas_faultless : (purpose : Purpose) (document : Members) → IsFaultless purpose document → IsFormulaFault (ranking_of purpose document) (tick_of document) (formula_tables document) None
 unfolding formula_rows
-formulas_faultless need_own document h =
-    (faultless_parts need_own document h).1 0 (row 32 (codes "") (codes "formula.name") kind.FormulaName) (omega arith)
+formulas_faultless purpose document h =
+    (faultless_parts purpose document h).1 0 (row 32 (codes "") (codes "formula.name") kind.FormulaName) (omega arith)
 
-pub predict_faultless : (document : Members) → IsFaultless true document →
+pub predict_faultless : (purpose : Purpose) (document : Members) → purpose.need_own ≡ true → IsFaultless purpose document →
     predict_fault (tick_of document) (natural_at (codes "own") (codes "mmsi") document) (list_at (codes "") (codes "predict") document) ≡ None
-predict_faultless document h =
-    let parts = faultless_parts true document h in
-    predict_held document (read_from true document parts.0 parts.2)
+predict_faultless purpose document own h =
+    let parts = faultless_parts purpose document h in
+    predict_held document (subst (λ (b : Bool). HaveNoFault b document) own (read_from purpose.need_own (ranking_of purpose document) document parts.0 parts.2))
 
 -- each key
 
-pub key_faultless : (basis : Basis) (document : Members) (here : Row) → IsTold basis document here None → is_plain here.kind ≡ true → counts basis here.when ≡ true →
+pub key_faultless : (basis : Basis) (ranks : Ranking) (document : Members) (here : Row) → IsTold basis ranks document here None → is_plain here.kind ≡ true → counts basis here.when ≡ true →
     fault_in basis here.number here.name here.kind (table_at here.table document) ≡ None
 unfolding fault_of
-key_faultless basis document here h plain counted =
-    let e = sym (plain_told here.kind basis document here None plain h) in
+key_faultless basis ranks document here h plain counted =
+    let e = sym (plain_told here.kind basis ranks document here None plain h) in
     let by : Bool → Type 0 = λ b. (if b then fault_in basis here.number here.name here.kind (table_at here.table document) else None) ≡ None in
     subst by counted e
 
@@ -372,17 +376,17 @@ abbrev pub is_known_list : Kind → Row → Bool
 is_known_list (kind.Tables most) here = bytes_eq here.table (codes "") && bytes_eq here.name (list_name here.when)
 is_known_list _ here = true
 
-named_deep : (document : Members) → IsFaultless (has_own document) document → (here : When) → counts (basis_of (has_own document) document) here ≡ true →
+named_deep : (document : Members) → IsFaultless (for_migration document) document → (here : When) → counts (basis_of (has_own document) document) here ≡ true →
     All (λ found. depth (known_members (list_name here) found) ≤ 3) (list_at (codes "") (list_name here) document)
 unfolding formula_tables
-named_deep document h when.Always counted = formulas_deep (tick_of document) (formula_tables document) (formulas_faultless (has_own document) document h)
-named_deep document h when.InVersionOne counted = formulas_deep (tick_of document) (formula_tables document) (formulas_faultless (has_own document) document h)
-named_deep document h when.InVersionTwo counted = formulas_deep (tick_of document) (formula_tables document) (formulas_faultless (has_own document) document h)
+named_deep document h when.Always counted = formulas_deep (ranking_of (for_migration document) document) (tick_of document) (formula_tables document) (formulas_faultless (for_migration document) document h)
+named_deep document h when.InVersionOne counted = formulas_deep (ranking_of (for_migration document) document) (tick_of document) (formula_tables document) (formulas_faultless (for_migration document) document h)
+named_deep document h when.InVersionTwo counted = formulas_deep (ranking_of (for_migration document) document) (tick_of document) (formula_tables document) (formulas_faultless (for_migration document) document h)
 named_deep document h when.ForOwnShip counted =
     predictions_deep (tick_of document) (natural_at (codes "own") (codes "mmsi") document) (list_at (codes "") (codes "predict") document)
-    (predict_faultless document (subst (λ (own : Bool). IsFaultless own document) counted h))
+    (predict_faultless (for_migration document) document counted h)
 
-known_list : (document : Members) (here : Row) → IsFaultless (has_own document) document → counts (basis_of (has_own document) document) here.when ≡ true →
+known_list : (document : Members) (here : Row) → IsFaultless (for_migration document) document → counts (basis_of (has_own document) document) here.when ≡ true →
     is_known_list here.kind here ≡ true → IsKnownList document here
 known_list document here h counted known most e =
     let f : bytes_eq here.table (codes "") && bytes_eq here.name (list_name here.when) ≡ true = subst (λ (k : Kind). is_known_list k here ≡ true) e known in
@@ -425,19 +429,19 @@ kept_deep basis document here kind.Formulas e key h known = cc
 kept_deep basis document here kind.PredictedShip e key h known = cc
 kept_deep basis document here kind.PredictedChanges e key h known = cc
 
-counted_deep : (document : Members) (here : Row) → IsFaultless (has_own document) document → IsTold (basis_of (has_own document) document) document here None →
+counted_deep : (document : Members) (here : Row) → IsFaultless (for_migration document) document → IsToldFor (for_migration document) document here None →
     is_key here.kind ≡ true → is_known_list here.kind here ≡ true → counts (basis_of (has_own document) document) here.when ≡ true →
     IsDeep 4 (kept here (found_at here.table here.name document))
 counted_deep document here h told key known counted =
     kept_deep (basis_of (has_own document) document) document here here.kind refl key
-    (key_faultless (basis_of (has_own document) document) document here told (key_plain here.kind key) counted)
+    (key_faultless (basis_of (has_own document) document) (ranking_of (for_migration document) document) document here told (key_plain here.kind key) counted)
     (known_list document here h counted known)
 
-safe_deep : (document : Members) → is_version_two document ≡ false → IsFaultless (has_own document) document → IsDeep 4 (found_at (codes "rules") (codes "safe") document)
+safe_deep : (document : Members) → is_version_two document ≡ false → IsFaultless (for_migration document) document → IsDeep 4 (found_at (codes "rules") (codes "safe") document)
 unfolding first_rows
 safe_deep document one h =
     let here = row_in_version_one 22 (codes "rules") (codes "safe") metres in
-    let told = (faultless_parts (has_own document) document h).0 22 here (omega arith) in
+    let told = (faultless_parts (for_migration document) document h).0 22 here (omega arith) in
     let counted : counts (basis_of (has_own document) document) when.InVersionOne ≡ true = ap not one in
     let deep = counted_deep document here h told refl refl counted in
     let found = found_at (codes "rules") (codes "safe") document in
@@ -451,8 +455,8 @@ own_or_none : (b : Bool) (kept : Option Data) → (b ≡ true → IsDeep 4 kept)
 own_or_none true kept h = h refl
 own_or_none false kept h = tt
 
-value_deep : (document : Members) (here : Row) (moment : When) → here.when ≡ moment → is_version_two document ≡ false → IsFaultless (has_own document) document →
-    IsTold (basis_of (has_own document) document) document here None → is_key here.kind ≡ true → is_known_list here.kind here ≡ true →
+value_deep : (document : Members) (here : Row) (moment : When) → here.when ≡ moment → is_version_two document ≡ false → IsFaultless (for_migration document) document →
+    IsToldFor (for_migration document) document here None → is_key here.kind ≡ true → is_known_list here.kind here ≡ true →
     IsDeep 4 (new_value_when moment here document)
 value_deep document here when.Always e one h told key known =
     number_or_kept (here.number == 1) (kept here (found_at here.table here.name document))
@@ -468,13 +472,13 @@ value_deep document here when.ForOwnShip e one h told key known =
 abbrev pub HasDeepValue : Members → Row → Type 0
 HasDeepValue document here = is_key here.kind ≡ true → IsDeep 4 (new_value document here)
 
-values_deep : (document : Members) → is_version_two document ≡ false → IsFaultless (has_own document) document → (list : List Row) →
-    All (λ here. IsTold (basis_of (has_own document) document) document here None) list → list_all (λ here. is_known_list here.kind here) list ≡ true →
+values_deep : (document : Members) → is_version_two document ≡ false → IsFaultless (for_migration document) document → (list : List Row) →
+    All (λ here. IsToldFor (for_migration document) document here None) list → list_all (λ here. is_known_list here.kind here) list ≡ true →
     All (HasDeepValue document) list
 unfolding new_value
 values_deep document one h [] told known = λ k d lt. absurd (omega arith)
 values_deep document one h (here ∷ rest) told known =
-    let P : Row → Type 0 = λ here. IsTold (basis_of (has_own document) document) document here None in
+    let P : Row → Type 0 = λ here. IsToldFor (for_migration document) document here None in
     let (a, b) = and_parts (is_known_list here.kind here) (list_all (λ here. is_known_list here.kind here) rest) known in
     All-cons (HasDeepValue document) here rest
     (λ key. value_deep document here here.when refl one h (all_head P here rest told) key a)
@@ -507,7 +511,7 @@ tables_put_deep document h (name ∷ names) members k = tables_put_deep document
     put true = let a = h name in no_deeper 5 name (toml.table (keys_of document name)) members (omega arith) k
     put false = k
 
-pub migrated_deep : (document : Members) → is_version_two document ≡ false → IsFaultless (has_own document) document → members_depth (migrated document) ≤ 5
+pub migrated_deep : (document : Members) → is_version_two document ≡ false → IsFaultless (for_migration document) document → members_depth (migrated document) ≤ 5
 unfolding migrated keys_of IsFaultless first_rows formula_rows own_rows
 migrated_deep document one h =
     let deep : (name : List ℕ) → members_depth (keys_of document name) ≤ 4 =

@@ -1,13 +1,15 @@
 -- A document has one meaning: its values, or its first fault.
 use Rattle.std.proofs.Common.{◌≡◌, ◌⊎◌, inl, inr, ℕ, Bool, List, Option, Result, Ok, Err, IfOk, IfErr, refl, ap, sym, ◌∙◌, subst}
 use Rattle.toml.specs.Data.{Members}
+use Rattle.rule_set.specs.declared.ranking.Ranking.{Ranking}
 use Rattle.scenario_keys.specs.ScenarioKeys.{Row, rows}
 use Rattle.scenario_keys.specs.ToldFaults.{IfFault}
 use Rattle.scenario_keys.proofs.ForCallers.{never_both, one_first}
 use Rattle.added_rules.proofs.ForCallers.{one_formula_fault, one_rules, one_weight_fault}
 use Rattle.scenario.specs.KeyFaults.{basis_of, tick_of}
+use Rattle.scenario.specs.Purposes.{purpose_by, ranking_of}
 use Rattle.scenario.specs.RuleValues.{formula_tables, rule_numbers_of, AreRulesOf}
-use Rattle.scenario.specs.DocumentFaults.{IsFaultless, IsFirstFault, IsTold, IsToldBy}
+use Rattle.scenario.specs.DocumentFaults.{IsFaultless, IsFirstFault, IsTold, IsToldBy, IsToldFor}
 use Rattle.scenario.specs.ScenarioValues.{scenario_of}
 use Rattle.scenario.specs.ScenarioReading.{IsRefused, Means, Reads}
 use Rattle.scenario_keys.specs.declared.rows.Kind.{Kind}
@@ -17,35 +19,36 @@ use Rattle.scenario_keys.specs.declared.fault.ScenarioFault.{ScenarioFault}
 use Rattle.scenario_keys.specs.declared.fault.ScenarioFault.TheVariants as refusal
 use Rattle.scenario_keys.specs.declared.key.Key.{Key}
 use Rattle.scenario.specs.declared.basis.Basis.{Basis}
+use Rattle.scenario.specs.declared.purpose.Purpose.{Purpose}
 use Rattle.scenario.specs.declared.values.Scenario.{Scenario}
 
 -- the test of a key finds one thing
 
-one_by : (here : Kind) (basis : Basis) (document : Members) (row : Row) (a b : Option (Key × Cause)) → IsToldBy here basis document row a → IsToldBy here basis document row b → a ≡ b
-one_by kind.FormulaName basis document row a b h k = one_formula_fault (tick_of document) (formula_tables document) a b h k
-one_by kind.Formulas basis document row a b h k = one_weight_fault (tick_of document) (rule_numbers_of document) (formula_tables document) a b h k
-one_by (kind.Number of) basis document row a b h k = h ∙ sym k
-one_by (kind.Numbers list) basis document row a b h k = h ∙ sym k
-one_by (kind.Tables most) basis document row a b h k = h ∙ sym k
-one_by kind.Shape basis document row a b h k = h ∙ sym k
-one_by kind.Plans basis document row a b h k = h ∙ sym k
-one_by kind.Document basis document row a b h k = h ∙ sym k
-one_by kind.FormulaText basis document row a b h k = h ∙ sym k
-one_by kind.PredictedShip basis document row a b h k = h ∙ sym k
-one_by kind.PredictedChanges basis document row a b h k = h ∙ sym k
+one_by : (here : Kind) (basis : Basis) (ranks : Ranking) (document : Members) (row : Row) (a b : Option (Key × Cause)) → IsToldBy here basis ranks document row a → IsToldBy here basis ranks document row b → a ≡ b
+one_by kind.FormulaName basis ranks document row a b h k = one_formula_fault ranks (tick_of document) (formula_tables document) a b h k
+one_by kind.Formulas basis ranks document row a b h k = one_weight_fault ranks (tick_of document) (rule_numbers_of document) (formula_tables document) a b h k
+one_by (kind.Number of) basis ranks document row a b h k = h ∙ sym k
+one_by (kind.Numbers list) basis ranks document row a b h k = h ∙ sym k
+one_by (kind.Tables most) basis ranks document row a b h k = h ∙ sym k
+one_by kind.Shape basis ranks document row a b h k = h ∙ sym k
+one_by kind.Plans basis ranks document row a b h k = h ∙ sym k
+one_by kind.Document basis ranks document row a b h k = h ∙ sym k
+one_by kind.FormulaText basis ranks document row a b h k = h ∙ sym k
+one_by kind.PredictedShip basis ranks document row a b h k = h ∙ sym k
+one_by kind.PredictedChanges basis ranks document row a b h k = h ∙ sym k
 
-one_told : (basis : Basis) (document : Members) (row : Row) (a b : Option (Key × Cause)) → IsTold basis document row a → IsTold basis document row b → a ≡ b
-one_told basis document row a b h k = one_by row.kind basis document row a b h k
+one_told : (basis : Basis) (ranks : Ranking) (document : Members) (row : Row) (a b : Option (Key × Cause)) → IsTold basis ranks document row a → IsTold basis ranks document row b → a ≡ b
+one_told basis ranks document row a b h k = one_by row.kind basis ranks document row a b h k
 
-pub faultless_or_not : (need_own : Bool) (document : Members) (found : Key × Cause) → IsFaultless need_own document → IsFirstFault need_own document found → ⊥
+pub faultless_or_not : (purpose : Purpose) (document : Members) (found : Key × Cause) → IsFaultless purpose document → IsFirstFault purpose document found → ⊥
 unfolding IsFaultless IsFirstFault
-faultless_or_not need_own document found h k =
-    never_both (IsTold (basis_of need_own document) document) (one_told (basis_of need_own document) document) rows found h k
+faultless_or_not purpose document found h k =
+    never_both (IsToldFor purpose document) (one_told (basis_of purpose.need_own document) (ranking_of purpose document) document) rows found h k
 
-pub one_fault : (need_own : Bool) (document : Members) (a b : Key × Cause) → IsFirstFault need_own document a → IsFirstFault need_own document b → a ≡ b
+pub one_fault : (purpose : Purpose) (document : Members) (a b : Key × Cause) → IsFirstFault purpose document a → IsFirstFault purpose document b → a ≡ b
 unfolding IsFirstFault
-one_fault need_own document a b h k =
-    one_first (IsTold (basis_of need_own document) document) (one_told (basis_of need_own document) document) rows a b h k
+one_fault purpose document a b h k =
+    one_first (IsToldFor purpose document) (one_told (basis_of purpose.need_own document) (ranking_of purpose document) document) rows a b h k
 
 -- so do the bytes of a scenario
 
@@ -55,9 +58,9 @@ one_document bytes a b h k = let e = sym h.tree ∙ k.tree in cc
 pub one_meaning : (need_own : Bool) (bytes : List ℕ) (a b : Scenario) → Means need_own bytes a → Means need_own bytes b → a ≡ b
 one_meaning need_own bytes a b h k =
     let same = one_document bytes h.document k.document h.reads k.reads in
-    let rules = one_rules (tick_of k.document) (rule_numbers_of k.document) (formula_tables k.document) a.rules b.rules
-    (subst (λ (d : Members). AreRulesOf d a.rules) same h.rules) k.rules in
-    h.values ∙ ap (λ (d : Members). scenario_of need_own d a.rules) same ∙ ap (scenario_of need_own k.document) rules ∙ sym k.values
+    let rules = one_rules (ranking_of (purpose_by need_own) k.document) (tick_of k.document) (rule_numbers_of k.document) (formula_tables k.document) a.rules b.rules
+    (subst (λ (d : Members). AreRulesOf (purpose_by need_own) d a.rules) same h.rules) k.rules in
+    h.values ∙ ap (λ (d : Members). scenario_of (purpose_by need_own) d a.rules) same ∙ ap (scenario_of (purpose_by need_own) k.document) rules ∙ sym k.values
 
 pub meant_or_refused : (need_own : Bool) (bytes : List ℕ) (scenario : Scenario) (key : Key) (cause : Cause) → Means need_own bytes scenario → IsRefused need_own bytes key cause → ⊥
 meant_or_refused need_own bytes scenario key cause means refused =
@@ -65,7 +68,7 @@ meant_or_refused need_own bytes scenario key cause means refused =
       | inl h ↦ h.unread means.document means.reads
       | inr h ↦ (
           let same = one_document bytes means.document h.document means.reads h.reads in
-          faultless_or_not need_own h.document (key, cause) (subst (λ (d : Members). IsFaultless need_own d) same means.faultless) h.first)
+          faultless_or_not (purpose_by need_own) h.document (key, cause) (subst (λ (d : Members). IsFaultless (purpose_by need_own) d) same means.faultless) h.first)
     ]
 
 pub one_refusal : (need_own : Bool) (bytes : List ℕ) (key other : Key) (cause why : Cause) → IsRefused need_own bytes key cause → IsRefused need_own bytes other why → (key ≡ other) × (cause ≡ why)
@@ -79,7 +82,7 @@ one_refusal need_own bytes key other cause why refused again =
         | inl k ↦ absurd (k.unread h.document h.reads)
         | inr k ↦ (
             let same = one_document bytes h.document k.document h.reads k.reads in
-            let pair = one_fault need_own k.document (key, cause) (other, why) (subst (λ (d : Members). IsFirstFault need_own d (key, cause)) same h.first) k.first in
+            let pair = one_fault (purpose_by need_own) k.document (key, cause) (other, why) (subst (λ (d : Members). IsFirstFault (purpose_by need_own) d (key, cause)) same h.first) k.first in
             (ap (λ (p : Key × Cause). p.0) pair, ap (λ (p : Key × Cause). p.1) pair))
       ]
     ]

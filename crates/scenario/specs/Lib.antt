@@ -1,6 +1,7 @@
 pub mod PlanFaults
 pub mod Shapes
 pub mod KeyFaults
+pub mod Purposes
 pub mod RuleValues
 pub mod DocumentFaults
 pub mod ScenarioValues

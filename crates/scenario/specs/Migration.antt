@@ -5,9 +5,11 @@ use Rattle.toml.specs.Data.{Data, integer, array, Items, Members, no_members, me
 use Rattle.toml.specs.Data as toml
 use Rattle.toml.specs.Text.{IsDocumentText}
 use Rattle.toml.specs.View.{items_of}
-use Rattle.rule_set.specs.NamedTrees.{rules_of, NamedTree}
+use Rattle.rule_set.specs.NamedTrees.{rules_by, NamedTree}
 use Rattle.rule_set.specs.declared.numbers.RuleNumbers.{RuleNumbers}
 use Rattle.rule_set.specs.declared.numbers.Safe.TheVariants as safe
+use Rattle.rule_set.specs.declared.ranking.Ranking.{Ranking}
+use Rattle.rule_set.specs.declared.ranking.Ranking.TheVariants.{Counted}
 use Rattle.added_rules.specs.ScenarioRules.{greatest_weight, total_weight}
 use Rattle.scenario_keys.specs.KeyValues.{found_in, member_at, table_at}
 use Rattle.scenario_keys.specs.ListFaults.{elements}
@@ -21,7 +23,9 @@ use Rattle.scenario_keys.specs.declared.cause.Cause.{Cause}
 use Rattle.scenario_keys.specs.declared.cause.Cause.TheVariants as cause
 use Rattle.scenario.specs.DocumentFaults.{IsFaultless, IsFirstFault}
 use Rattle.scenario.specs.KeyFaults.{is_version_two}
+use Rattle.scenario.specs.Purposes.{are_counted}
 use Rattle.scenario.specs.ScenarioReading.{IsNoToml, IsRefused, Means, Reads}
+use Rattle.scenario.specs.declared.purpose.Purpose.{Purpose}
 use Rattle.scenario.specs.declared.values.Scenario.{Scenario}
 
 -- of a table of `formula` its name and its text, and of one of `predict` its changes and its ship
@@ -57,9 +61,13 @@ kept row (Some found) = Some (kept_by row.kind row.name found)
 abbrev pub found_at : List ℕ → List ℕ → Members → Option Data
 found_at table name document = found_in name (table_at table document)
 
--- whether the document has own ship; her keys count then
+-- whether the document has own ship
 unfoldable pub has_own : Members → Bool
 has_own document = is_some (get_member (codes "own") document)
+
+-- All that the document has counts: her keys, and ranks where it wants them.
+abbrev pub for_migration : Members → Purpose
+for_migration document = record { need_own = has_own document; ranks = Counted }
 
 -- What a key holds in version 2: each of the safe distances what `rules.safe` holds, `version` 2, and any other what it held. The
 -- keys that count for own ship alone are left out where the document has none.
@@ -128,7 +136,7 @@ pub record IsMigrated (bytes text : List ℕ) : Type 0 where
   pub document : Members
   pub reads : Reads bytes document
   pub version_one : is_version_two document ≡ false
-  pub faultless : IsFaultless (has_own document) document
+  pub faultless : IsFaultless (for_migration document) document
   pub after : Members
   pub becomes : IsMigratedDocument document after
   pub printed : IsDocumentText false after text
@@ -142,26 +150,28 @@ pub record IsOfVersionTwo (bytes : List ℕ) (key : Key) (why : Cause) : Type 0 
   pub at : key ≡ record { row = 1; item = 0 }
   pub because : why ≡ cause.Range
 
--- The first fault of the keys of another document, where own ship's keys count if the document has her.
+-- The first fault of the keys of another document, where all that it has counts.
 pub record HasFirstFault (bytes : List ℕ) (key : Key) (why : Cause) : Type 0 where
   pub document : Members
   pub reads : Reads bytes document
   pub version_one : is_version_two document ≡ false
-  pub first : IsFirstFault (has_own document) document (key, why)
+  pub first : IsFirstFault (for_migration document) document (key, why)
 
 abbrev pub IsNotMigrated : List ℕ → Key → Cause → Type 0
 IsNotMigrated bytes key why = IsNoToml bytes key why ⊎ (IsOfVersionTwo bytes key why ⊎ HasFirstFault bytes key why)
 
 -- The second scenario is the first one, but that the rules have the safe distance of the first for each kind of encounter.
 pub record HasSafePerKind (scenario other : Scenario) : Type 0 where
+  pub ranks : Ranking
   pub tick : ℕ
   pub numbers : RuleNumbers
   pub metres : ℕ
   pub added : List NamedTree
+  pub counted : scenario.ranks ≡ are_counted ranks
   pub one : numbers.safe ≡ safe.One metres
-  pub rules : scenario.rules ≡ rules_of tick numbers ++ added
+  pub rules : scenario.rules ≡ rules_by ranks tick numbers ++ added
   pub per_kind :
-      other.rules ≡ rules_of tick (record {
+      other.rules ≡ rules_by ranks tick (record {
         safe = safe.PerKind metres metres metres metres;
         overtake = numbers.overtake;
         close = numbers.close;
@@ -179,6 +189,7 @@ pub record HasSafePerKind (scenario other : Scenario) : Type 0 where
         detect = scenario.detect;
         act = scenario.act;
         rules = other.rules;
+        ranks = scenario.ranks;
         subjects = scenario.subjects;
         own = scenario.own;
       }

@@ -1,4 +1,4 @@
--- The rules of a document: the numbers of the eleven, and the tables of the formulas that it adds.
+-- The rules of a document: the numbers of those of the COLREGs 1972, and the tables of the formulas that it adds.
 use Rattle.std.specs.Prelude.{if◌then◌else◌, codes, List}
 use Rattle.toml.specs.Data.{Data, Members}
 use Rattle.scenario_keys.specs.KeyValues.{list_at, natural_at}
@@ -8,6 +8,8 @@ use Rattle.rule_set.specs.declared.numbers.Safe.{Safe}
 use Rattle.rule_set.specs.declared.numbers.Safe.TheVariants as safe
 use Rattle.added_rules.specs.ScenarioRules.{AreScenarioRules}
 use Rattle.scenario.specs.KeyFaults.{is_version_two, tick_of}
+use Rattle.scenario.specs.Purposes.{ranking_of}
+use Rattle.scenario.specs.declared.purpose.Purpose.{Purpose}
 
 -- the numbers of the rules' formulas, in metres and seconds; the safe distance is one in version 1, and one for each kind of
 -- encounter in version 2
@@ -36,6 +38,6 @@ rule_numbers_of document = record {
 unfoldable pub formula_tables : Members → List Data
 formula_tables document = list_at (codes "") (codes "formula") document
 
--- The rules are the eleven with these numbers, and behind them the formulas of these tables.
-abbrev pub AreRulesOf : Members → List NamedTree → Type 0
-AreRulesOf document rules = AreScenarioRules (tick_of document) (rule_numbers_of document) (formula_tables document) rules
+-- The rules are those of the COLREGs 1972 with these numbers, with ranks or without, and behind them the formulas of these tables.
+abbrev pub AreRulesOf : Purpose → Members → List NamedTree → Type 0
+AreRulesOf purpose document rules = AreScenarioRules (ranking_of purpose document) (tick_of document) (rule_numbers_of document) (formula_tables document) rules

@@ -3,6 +3,7 @@ use Rattle.std.specs.Prelude.{◌≡◌, ◌⊎◌, ℕ, Bool, List, Some, IsUtf
 use Rattle.toml.specs.Data.{Members}
 use Rattle.toml.specs.Parse.{parse_document}
 use Rattle.scenario.specs.DocumentFaults.{IsFaultless, IsFirstFault}
+use Rattle.scenario.specs.Purposes.{purpose_by}
 use Rattle.scenario.specs.RuleValues.{AreRulesOf}
 use Rattle.scenario.specs.ScenarioValues.{scenario_of}
 use Rattle.scenario_keys.specs.declared.key.Key.{Key}
@@ -15,14 +16,14 @@ pub record Reads (bytes : List ℕ) (document : Members) : Type 0 where
   pub text : IsUtf8 bytes
   pub tree : parse_document bytes ≡ Some document
 
--- The bytes mean a scenario, with own ship where she is needed: no key that counts has a fault, and the
--- values are those at the keys.
+-- The bytes mean a scenario, with own ship where she is needed, and else with ranks where they want them: no key that counts has a
+-- fault, and the values are those at the keys.
 pub record Means (need_own : Bool) (bytes : List ℕ) (scenario : Scenario) : Type 0 where
   pub document : Members
   pub reads : Reads bytes document
-  pub faultless : IsFaultless need_own document
-  pub rules : AreRulesOf document scenario.rules
-  pub values : scenario ≡ scenario_of need_own document scenario.rules
+  pub faultless : IsFaultless (purpose_by need_own) document
+  pub rules : AreRulesOf (purpose_by need_own) document scenario.rules
+  pub values : scenario ≡ scenario_of (purpose_by need_own) document scenario.rules
 
 -- The bytes are no TOML document: that is the fault of the first row, `document`.
 pub record IsNoToml (bytes : List ℕ) (key : Key) (why : Cause) : Type 0 where
@@ -34,7 +35,7 @@ pub record IsNoToml (bytes : List ℕ) (key : Key) (why : Cause) : Type 0 where
 pub record IsFaultOfKey (need_own : Bool) (bytes : List ℕ) (key : Key) (why : Cause) : Type 0 where
   pub document : Members
   pub reads : Reads bytes document
-  pub first : IsFirstFault need_own document (key, why)
+  pub first : IsFirstFault (purpose_by need_own) document (key, why)
 
 -- The bytes are refused at a key, for a cause: the first fault in the order of the keys.
 abbrev pub IsRefused : Bool → List ℕ → Key → Cause → Type 0

@@ -5,14 +5,17 @@ use Rattle.ais_messages.specs.ShipIdentities.{IsShip}
 use Rattle.fixed_geometry.specs.Place.{Place}
 use Rattle.scenario_keys.specs.KeyValues.{integers_at, list_at, natural_at, naturals_at, optional_at, whole_at}
 use Rattle.scenario.specs.KeyFaults.{tick_of}
+use Rattle.scenario.specs.Purposes.{are_counted, ranking_of}
 use Rattle.scenario.specs.Shapes.{shape_in}
 use Rattle.lattice.specs.Grids.{Grid, grid, positions_of}
 use Rattle.scenario.specs.declared.own_part.OwnPart.{OwnPart}
+use Rattle.scenario.specs.declared.purpose.Purpose.{Purpose}
 use Rattle.predictions.specs.PredictValues.{predictions_of, ArePredictions}
 use Rattle.encounters.specs.Risk.{IsDetect}
 use Rattle.encounters.specs.declared.act.Act.{Act}
 use Rattle.encounters.specs.declared.detect.Detect.{Detect}
 use Rattle.rule_set.specs.NamedTrees.{NamedTree}
+use Rattle.rule_set.specs.declared.ranking.Ranking.{Ranking}
 use Rattle.added_rules.specs.ScenarioRules.{AreLightRules}
 use Rattle.scenario.specs.declared.values.Window.{Window}
 use Rattle.scenario.specs.declared.values.LogNumbers.{LogNumbers}
@@ -101,22 +104,23 @@ abbrev pub own_where : Bool → Members → Option OwnPart
 own_where false document = None
 own_where true document = Some (own_of document)
 
--- with these rules
-unfoldable pub scenario_with : List NamedTree → Option OwnPart → Members → Scenario
-scenario_with rules own document = record {
+-- with these rules, and with ranks or without
+unfoldable pub scenario_with : List NamedTree → Ranking → Option OwnPart → Members → Scenario
+scenario_with rules ranks own document = record {
   window = window_of document;
   reference = reference_of document;
   log = log_numbers_of document;
   detect = detect_of document;
   act = act_of document;
   rules = rules;
+  ranks = are_counted ranks;
   subjects = naturals_at (codes "") (codes "subjects") document;
   own = own;
 }
 
--- the values of a document without a fault, with these rules, and with own ship where she is needed
-abbrev pub scenario_of : Bool → Members → List NamedTree → Scenario
-scenario_of need_own document rules = scenario_with rules (own_where need_own document) document
+-- the values that a document without a fault has for a purpose, with these rules
+abbrev pub scenario_of : Purpose → Members → List NamedTree → Scenario
+scenario_of purpose document rules = scenario_with rules (ranking_of purpose document) (own_where purpose.need_own document) document
 
 -- Each value is in its key's range. A reference, a lattice and a shape are so by their types.
 

@@ -1,6 +1,7 @@
 //! The first fault of a document's keys but for those of formulas, in the order of their table.
 ghost use Rattle.std.specs.Prelude.{◌≡◌, ◌≤◌, map};
 ghost use Rattle.toml.specs.View.{table_view};
+ghost use Rattle.rule_set.specs.declared.ranking.Ranking.{Ranking};
 ghost use Rattle.scenario_keys.specs.FirstFaults.{IsFound};
 ghost use Rattle.scenario_keys.specs.FirstOf.{first_of};
 ghost use Rattle.scenario_keys.specs.Inner.SeenRows.{seen};
@@ -74,7 +75,7 @@ fn first_among(basis: Basis, document: &Table, rows: &[KeyRow]) -> Option<(Key, 
 /// The first fault of the keys before those of formulas.
 pub(crate) fn first_fault(basis: Basis, document: &Table) -> Option<(Key, Cause)>
     requires { 1 ≤ basis.tick }
-    ensures { IsFound (IsTold basis (table_view document.now)) first_rows result }
+    ensures { (ranks : Ranking) → IsFound (IsTold basis ranks (table_view document.now)) first_rows result }
 {
     first_among(basis, document, first_rows())
 }
@@ -82,7 +83,7 @@ pub(crate) fn first_fault(basis: Basis, document: &Table) -> Option<(Key, Cause)
 /// The first fault of the keys of own ship.
 pub(crate) fn own_fault(basis: Basis, document: &Table) -> Option<(Key, Cause)>
     requires { 1 ≤ basis.tick }
-    ensures { IsFound (IsTold basis (table_view document.now)) own_rows result }
+    ensures { (ranks : Ranking) → IsFound (IsTold basis ranks (table_view document.now)) own_rows result }
 {
     first_among(basis, document, own_rows())
 }

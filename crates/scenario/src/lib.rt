@@ -12,6 +12,7 @@ mod listed;
 mod migration;
 mod own_part;
 mod plan_sizes;
+mod purpose;
 mod reading;
 mod rules;
 mod shapes;

@@ -13,13 +13,15 @@ ghost use Rattle.scenario_keys.specs.ListFaults.{elements};
 ghost use Rattle.scenario_keys.specs.ToldFaults.{IfFault};
 ghost use Rattle.scenario_keys.specs.declared.key.Key.{Key};
 ghost use Rattle.scenario_keys.specs.declared.cause.Cause.{Cause};
-ghost use Rattle.scenario.specs.Migration.{found_at, has_own, kept, kept_by, known_members, new_value, table_names, two_of, IsMigrated, IsNotMigrated, MeansTheSame};
+ghost use Rattle.scenario.specs.Migration.{for_migration, found_at, has_own, kept, kept_by, known_members, new_value, table_names, two_of, IsMigrated, IsNotMigrated, MeansTheSame};
 ghost use Rattle.scenario.specs.Inner.PutTogether.{keys_of, migrated, with_found, with_key, with_keys, with_member, with_table, with_tables};
 ghost use Rattle.scenario.specs.ScenarioReading.{Means, Reads};
 ghost use Rattle.scenario.specs.declared.values.Scenario.{Scenario};
 
 use crate::basis::is_version_two;
+use crate::purpose::Purpose;
 use crate::reading::{document_of, values_of};
+use rule_set::Ranking;
 use scenario_keys::{
     Cause, Key, KeyRow, Kind, ScenarioFault, When, first_rows, found, member, own_rows, value,
 };
@@ -44,6 +46,16 @@ fn has_own(document: &Table) -> bool
     ensures { result ≡ has_own (table_view document.now) }
 {
     value(document, "own").is_some()
+}
+
+/// All that the document has counts: own ship's keys, and ranks where it wants them.
+fn for_migration(document: &Table) -> Purpose
+    ensures { result ≡ for_migration (table_view document.now) }
+{
+    Purpose {
+        need_own: has_own(document),
+        ranks: Ranking::Counted,
+    }
 }
 
 /// Puts a member to those that are there.
@@ -261,7 +273,7 @@ fn text_of(alloc: Global, document: &Table) -> Result<Vec<u8>, ScenarioFault>
 /// The text of version 2 of a document of version 1 without a fault.
 fn migrated_text(alloc: Global, document: &Table) -> Result<Vec<u8>, ScenarioFault>
     requires version_one { is_version_two (table_view document.now) ≡ false }
-    requires faultless { IsFaultless (has_own (table_view document.now)) (table_view document.now) }
+    requires faultless { IsFaultless (for_migration (table_view document.now)) (table_view document.now) }
     ensures printed { IfOk result (λ v. IsDocumentText false (migrated (table_view document.now)) v.items) }
     ensures read_again { IfOk result (λ v. Reads v.items (migrated (table_view document.now))) }
     ensures memory { IfErr result (λ fault. fault ≡ ScenarioFault.Memory) }
@@ -279,16 +291,15 @@ fn migration(alloc: Global, bytes: &[u8]) -> Result<Vec<u8>, ScenarioFault>
     if is_version_two(&document) {
         return Err(ScenarioFault::Fault(Key { row: 1, item: 0 }, Cause::Range));
     }
-    let need_own = has_own(&document);
-    drop(values_of(alloc, &document, need_own)?);
+    drop(values_of(alloc, &document, for_migration(&document))?);
     migrated_text(alloc, &document)
 }
 
 /// Turns a scenario of version 1 into one of version 2 with the same meaning, or tells exactly why it does not: it is of version 2
 /// already, or it has a fault. Memory may run out instead.
 ///
-/// The text holds the known keys alone; comments are gone. Own ship's keys count where the scenario has them, and what is predicted
-/// of other vessels is kept with her alone. Each kind of encounter has the one safe distance that the scenario had. Where this makes
+/// The text holds the known keys alone; comments are gone. Own ship's keys count where the scenario has them, and so do ranks. What is
+/// predicted of other vessels is kept with her alone. Each kind of encounter has the one safe distance that the scenario had. Where this makes
 /// the rules too heavy, the text is refused as `formulas: product`.
 pub fn migrate(alloc: Global, bytes: &[u8]) -> Result<Vec<u8>, ScenarioFault>
     ensures migrated { IfOk result (λ text. IsMigrated bytes.now text.items) }

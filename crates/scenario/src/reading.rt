@@ -12,33 +12,34 @@ ghost use Rattle.scenario.specs.declared.values.Scenario.{Scenario};
 
 use crate::basis::basis_of;
 use crate::first::{first_fault, own_fault};
+use crate::purpose::{Purpose, purpose_by};
 use crate::rules::rules_in;
 use crate::values::{Scenario, scenario_in};
 use scenario_keys::{Cause, Key, ScenarioFault};
 use std::alloc::Global;
 use toml::Table;
 
-/// The values of a document, or its first fault.
+/// The values that a document has for a purpose, or its first fault.
 pub(crate) fn values_of(
     alloc: Global,
     document: &Table,
-    need_own: bool,
+    purpose: Purpose,
 ) -> Result<Scenario, ScenarioFault>
-    ensures faultless { IfOk result (λ _. IsFaultless need_own (table_view document.now)) }
-    ensures rules { IfOk result (λ s. AreRulesOf (table_view document.now) s.rules) }
-    ensures values { IfOk result (λ s. s ≡ scenario_of need_own (table_view document.now) s.rules) }
+    ensures faultless { IfOk result (λ _. IsFaultless purpose (table_view document.now)) }
+    ensures rules { IfOk result (λ s. AreRulesOf purpose (table_view document.now) s.rules) }
+    ensures values { IfOk result (λ s. s ≡ scenario_of purpose (table_view document.now) s.rules) }
     ensures in_range { IfOk result IsInRange }
-    ensures fault { IfErr result (IfFault (IsFirstFault need_own (table_view document.now))) }
+    ensures fault { IfErr result (IfFault (IsFirstFault purpose (table_view document.now))) }
 {
-    let basis = basis_of(document, need_own);
+    let basis = basis_of(document, purpose.need_own);
     if let Some((key, cause)) = first_fault(basis, document) {
         return Err(ScenarioFault::Fault(key, cause));
     }
-    let rules = rules_in(alloc, document)?;
+    let rules = rules_in(alloc, document, purpose)?;
     if let Some((key, cause)) = own_fault(basis, document) {
         return Err(ScenarioFault::Fault(key, cause));
     }
-    Ok(scenario_in(alloc, document, rules, need_own)?)
+    Ok(scenario_in(alloc, document, rules, purpose)?)
 }
 
 /// The document that bytes are.
@@ -60,13 +61,14 @@ fn reading(alloc: Global, bytes: &[u8], need_own: bool) -> Result<Scenario, Scen
     ensures refused { IfErr result (IfFault (λ told. IsRefused need_own bytes.now told.0 told.1)) }
 {
     let document = document_of(alloc, bytes)?;
-    values_of(alloc, &document, need_own)
+    values_of(alloc, &document, purpose_by(need_own))
 }
 
 /// Reads a scenario: its values, each in its range, or exactly the first fault in the order of the table of keys. Memory
 /// may run out instead.
 ///
-/// Own ship is there exactly where she is needed, and only then her keys are looked at.
+/// Own ship is there exactly where she is needed, and only then her keys are looked at. Ranks count exactly where she is not and the
+/// scenario wants them to.
 pub fn read(alloc: Global, bytes: &[u8], need_own: bool) -> Result<Scenario, ScenarioFault>
     ensures values { IfOk result (Means need_own bytes.now) }
     ensures in_range { IfOk result IsInRange }

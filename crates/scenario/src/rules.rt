@@ -9,11 +9,13 @@ ghost use Rattle.added_rules.specs.ScenarioRules.{AreLightRules};
 ghost use Rattle.scenario.specs.DocumentFaults.{IsTold};
 ghost use Rattle.scenario.specs.Inner.NoFaults.{HaveNoFault};
 ghost use Rattle.scenario.specs.KeyFaults.{basis_of, tick_of};
+ghost use Rattle.scenario.specs.Purposes.{ranking_of};
 ghost use Rattle.scenario.specs.RuleValues.{formula_tables, rule_numbers_of, safe_of, AreRulesOf};
 
 use crate::basis::{is_version_two, tick_of};
 use crate::integers::natural;
 use crate::listed::values_at;
+use crate::purpose::{Purpose, ranking_of};
 use added_rules::rules_with;
 use rule_set::{RuleNumbers, RuleSet, Safe};
 use scenario_keys::ScenarioFault;
@@ -66,15 +68,22 @@ fn formula_tables(document: &Table) -> &[Value]
 }
 
 /// The rules of a document without a fault before those of its formulas, or the first fault of these.
-pub(crate) fn rules_in(alloc: Global, document: &Table) -> Result<RuleSet, ScenarioFault>
+pub(crate) fn rules_in(
+    alloc: Global,
+    document: &Table,
+    purpose: Purpose,
+) -> Result<RuleSet, ScenarioFault>
     requires { HaveNoFault false (table_view document.now) }
-    ensures rules { IfOk result (AreRulesOf (table_view document.now)) }
+    ensures rules { IfOk result (AreRulesOf purpose (table_view document.now)) }
     ensures light { IfOk result AreLightRules }
-    ensures faultless { OnOk result ((need_own : Bool) → IsFound (IsTold (basis_of need_own (table_view document.now)) (table_view document.now)) formula_rows None) }
-    ensures fault { IfErr result (IfFault (λ told. (need_own : Bool) → IsFound (IsTold (basis_of need_own (table_view document.now)) (table_view document.now)) formula_rows (Some told))) }
+    ensures faultless { OnOk result ((need_own : Bool)
+        → IsFound (IsTold (basis_of need_own (table_view document.now)) (ranking_of purpose (table_view document.now)) (table_view document.now)) formula_rows None) }
+    ensures fault { IfErr result (IfFault (λ told. (need_own : Bool)
+        → IsFound (IsTold (basis_of need_own (table_view document.now)) (ranking_of purpose (table_view document.now)) (table_view document.now)) formula_rows (Some told))) }
 {
     rules_with(
         alloc,
+        ranking_of(document, purpose),
         &rule_numbers_in(document),
         tick_of(document),
         formula_tables(document),

@@ -13,10 +13,11 @@ use crate::basis::tick_of;
 use crate::integers::{integer, long_natural, natural, optional, short_natural};
 use crate::listed::{ListBounds, naturals};
 use crate::own_part::{OwnPart, own_where};
+use crate::purpose::{Purpose, are_counted, ranking_of};
 use crate::subjects::Subjects;
 use encounters::{Act, Detect};
 use fixed_geometry::Reference;
-use rule_set::RuleSet;
+use rule_set::{Ranking, RuleSet};
 use sectors::Angles;
 use std::alloc::{AllocError, Global};
 use toml::Table;
@@ -70,8 +71,10 @@ pub struct Scenario {
     pub detect: Detect,
     /// What counts as keeping course and speed, and what as a readily apparent alteration.
     pub act: Act,
-    /// The rules: the eleven of the COLREGs with the scenario's numbers, and at most five formulas behind them.
+    /// The rules: those of the COLREGs with the scenario's numbers, eleven or with ranks twelve, and at most five formulas behind them.
     pub rules: RuleSet,
+    /// Whether ranks count (Rule 18).
+    pub ranks: bool,
     /// The vessels whose encounters are audited.
     pub subjects: Subjects,
     /// Own ship, where she is needed.
@@ -225,6 +228,7 @@ fn subjects_in(alloc: Global, document: &Table) -> Result<Subjects, AllocError>
 fn with_lists(
     document: &Table,
     rules: RuleSet,
+    ranks: Ranking,
     subjects: Subjects,
     own: Option<OwnPart>,
 ) -> Scenario
@@ -234,7 +238,7 @@ fn with_lists(
     requires ships { All IsShip subjects }
     requires few { length subjects ≤ 64 }
     requires own { IfSome own (IsOwnPart (tick_of (table_view document.now))) }
-    ensures values { result ≡ scenario_with rules own (table_view document.now) }
+    ensures values { result ≡ scenario_with rules ranks own (table_view document.now) }
     ensures in_range { IsInRange result }
 {
     Scenario {
@@ -244,25 +248,27 @@ fn with_lists(
         detect: detect_in(document),
         act: act_in(document),
         rules,
+        ranks: are_counted(ranks),
         subjects,
         own,
     }
 }
 
-/// The values of a document without a fault, with these rules, and with own ship where she is needed.
+/// The values that a document without a fault has for a purpose, with these rules.
 pub(crate) fn scenario_in(
     alloc: Global,
     document: &Table,
     rules: RuleSet,
-    need_own: bool,
+    purpose: Purpose,
 ) -> Result<Scenario, AllocError>
     requires faultless { HaveNoFault false (table_view document.now) }
-    requires own { HaveNoFault need_own (table_view document.now) }
+    requires own { HaveNoFault purpose.need_own (table_view document.now) }
     requires light { AreLightRules rules }
-    ensures values { IfOk result (λ s. s ≡ scenario_of need_own (table_view document.now) rules) }
+    ensures values { IfOk result (λ s. s ≡ scenario_of purpose (table_view document.now) rules) }
     ensures in_range { IfOk result IsInRange }
 {
     let subjects = subjects_in(alloc, document)?;
-    let own = own_where(alloc, document, need_own)?;
-    Ok(with_lists(document, rules, subjects, own))
+    let own = own_where(alloc, document, purpose.need_own)?;
+    let ranks = ranking_of(document, purpose);
+    Ok(with_lists(document, rules, ranks, subjects, own))
 }

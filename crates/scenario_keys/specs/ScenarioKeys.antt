@@ -105,6 +105,7 @@ first_rows =
     row 27 (codes "rules") (codes "tl") (ticks_to 7200) ∷
     row 28 (codes "rules") (codes "tw") (ticks_to 7200) ∷
     row 29 (codes "rules") (codes "te") (ticks_to 7200) ∷
+    row 55 (codes "rules") (codes "ranks") (optional 0 1 0) ∷
     row 30 (codes "") (codes "subjects") (optional_list 64 200000000 799999999) ∷
     row 31 (codes "") (codes "formula") (kind.Tables 5) ∷
     []

@@ -127,7 +127,7 @@ const SPEEDS: Kind = Kind::Numbers(ListRange {
 });
 
 #[rattlefmt::skip]
-const ROWS: [KeyRow; 55] = [
+const ROWS: [KeyRow; 56] = [
     KeyRow { number: 0, table: "", name: "document", kind: Kind::Document, when: When::Always },
     KeyRow { number: 1, table: "", name: "version", kind: Kind::Number(Range::FromTo(1, 2)), when: When::Always },
     KeyRow { number: 2, table: "window", name: "start", kind: Kind::Number(Range::FromTo(0, 9_999_999_999)), when: When::Always },
@@ -162,6 +162,7 @@ const ROWS: [KeyRow; 55] = [
     KeyRow { number: 27, table: "rules", name: "tl", kind: Kind::Number(Range::TicksTo(7200)), when: When::Always },
     KeyRow { number: 28, table: "rules", name: "tw", kind: Kind::Number(Range::TicksTo(7200)), when: When::Always },
     KeyRow { number: 29, table: "rules", name: "te", kind: Kind::Number(Range::TicksTo(7200)), when: When::Always },
+    KeyRow { number: 55, table: "rules", name: "ranks", kind: Kind::Number(Range::Optional(0, 1, 0)), when: When::Always },
     KeyRow { number: 30, table: "", name: "subjects", kind: SHIPS, when: When::Always },
     KeyRow { number: 31, table: "", name: "formula", kind: Kind::Tables(5), when: When::Always },
     KeyRow { number: 32, table: "", name: "formula.name", kind: Kind::FormulaName, when: When::Always },
@@ -198,7 +199,7 @@ fn key_rows() -> &'static [KeyRow]
 pub fn first_rows() -> &'static [KeyRow]
     ensures { map seen result.now ≡ first_rows }
 {
-    &ROWS[..36]
+    &ROWS[..37]
 }
 
 /// The rows of own ship, which are those behind the rows of formulas.
@@ -206,7 +207,7 @@ pub fn first_rows() -> &'static [KeyRow]
 pub fn own_rows() -> &'static [KeyRow]
     ensures { map seen result.now ≡ own_rows }
 {
-    &ROWS[39..]
+    &ROWS[40..]
 }
 
 fn find_row(rows: &[KeyRow], number: u8) -> Option<&KeyRow>

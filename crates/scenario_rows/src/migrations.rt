@@ -2,7 +2,7 @@
 use crate::compared::{is, is_true};
 use crate::values::{
     ACT, DETECT, LOG, SHAPE, WINDOW, good, is_rule, scenario_of, second_version, with_own,
-    with_predictions, with_shape,
+    with_predictions, with_ranks, with_ranks_and_own, with_shape,
 };
 use hull_domains::Shape;
 use scenario::migrate;
@@ -105,12 +105,24 @@ fn a_shape_is_kept(rt: HostRuntime) -> Result<(), Fail> {
 }
 
 #[test]
+fn ranks_are_kept(rt: HostRuntime) -> Result<(), Fail> {
+    let good = with_ranks(rt.alloc())?;
+    let text = moved(rt.alloc(), good.as_str())?;
+    let scenario = scenario_of(rt.alloc(), text.as_str(), false)?;
+    is(&rt, scenario.ranks, true);
+    let last = "((engaged & rank_gives) -> clear(201))";
+    is_true(&rt, is_rule(rt.alloc(), &scenario.rules, 11, "r18", last)?);
+    Ok(())
+}
+
+#[test]
 fn scenarios_that_are_not_migrated(rt: HostRuntime) -> Result<(), AllocError> {
     let second = second_version(rt.alloc())?;
     let told = moved(rt.alloc(), second.as_str())?;
     is(&rt, told.as_str(), "version: range");
     let first = good(rt.alloc())?;
     let own = with_own(rt.alloc())?;
+    let ranked = with_ranks_and_own(rt.alloc())?;
     for (good, old, new, expected) in [
         (second.as_str(), "tick = 10", "tick = 0", "version: range"),
         (
@@ -139,6 +151,12 @@ fn scenarios_that_are_not_migrated(rt: HostRuntime) -> Result<(), AllocError> {
             "rules.te: multiple",
         ),
         (own.as_str(), "tail = 10\n", "", "own.tail: missing"),
+        (
+            ranked.as_str(),
+            "version = 1",
+            "version = 1\nformula = [{ name = 'r18', text = 'seen' }]",
+            "formula.name[0]: range",
+        ),
     ] {
         let bad = good.replace(rt.alloc(), old, new)?;
         let told = moved(rt.alloc(), bad.as_str())?;

@@ -1,6 +1,8 @@
 //! Scenarios that are refused: each key with each of its causes.
 use crate::compared::is;
-use crate::values::{good, second_version, with_formulas, with_own, with_predictions};
+use crate::values::{
+    good, second_version, with_formulas, with_own, with_predictions, with_ranks, with_ranks_and_own,
+};
 use scenario::read;
 use std::alloc::{AllocError, Global};
 
@@ -15,6 +17,8 @@ enum Faultless {
     WithFormulas,
     WithOwn,
     WithPredictions,
+    WithRanks,
+    WithRanksAndOwn,
 }
 
 impl Faultless {
@@ -25,11 +29,16 @@ impl Faultless {
             Faultless::WithFormulas => with_formulas(alloc),
             Faultless::WithOwn => with_own(alloc),
             Faultless::WithPredictions => with_predictions(alloc),
+            Faultless::WithRanks => with_ranks(alloc),
+            Faultless::WithRanksAndOwn => with_ranks_and_own(alloc),
         }
     }
 
     fn needs_own(self) -> bool {
-        matches!(self, Faultless::WithOwn | Faultless::WithPredictions)
+        matches!(
+            self,
+            Faultless::WithOwn | Faultless::WithPredictions | Faultless::WithRanksAndOwn
+        )
     }
 }
 
@@ -278,6 +287,31 @@ const WEIGHTS: [Case; 2] = [
     ("version = 1", "version = 1\nformula = [{ name = 'a', text = 'F[0,7200] F[0,7200] F[0,7200] F[0,7200] F[0,7200] F[0,7200] F[0,7200] F[0,7200] seen' }, { name = 'b', text = 'F[0,7200] F[0,7200] seen' }, { name = 'c', text = 'F[0,5450] seen' }, { name = 'd', text = '!seen' }]", "formulas: product"),
 ];
 
+/// Faults where ranks count: `r18` is a rule's name, and there are twelve rules to weigh. They weigh 592, and with the first three formulas
+/// 65,534.
+#[rattlefmt::skip]
+const RANKS: [Case; 11] = [
+    ("ranks = 1\n", "ranks = 2\n", "rules.ranks: range"),
+    ("ranks = 1\n", "ranks = -1\n", "rules.ranks: range"),
+    ("ranks = 1\n", "ranks = true\n", "rules.ranks: type"),
+    ("te = 620\nranks = 1\n", "te = 625\nranks = 2\n", "rules.te: multiple"),
+    ("ranks = 1\n", "ranks = 2\n[[subjects]]\n", "rules.ranks: range"),
+    ("version = 1", "version = 1\nformula = [{ name = 'r18', text = 'seen' }]", "formula.name[0]: range"),
+    ("version = 1", "version = 1\nformula = [{ name = 'u', text = 'seen' }, { name = 'r18' }]", "formula.name[1]: range"),
+    ("version = 1", "version = 1\nformula = [{ name = 'r19', text = 'seen' }]", ""),
+    ("ranks = 1\n", "ranks = 0\n[[formula]]\nname = 'r18'\ntext = 'seen'\n", ""),
+    ("version = 1", "version = 1\nformula = [{ name = 'a', text = 'F[0,7200] F[0,7200] F[0,7200] F[0,7200] F[0,7200] F[0,7200] F[0,7200] F[0,7200] seen' }, { name = 'b', text = 'F[0,7200] F[0,7200] seen' }, { name = 'c', text = 'F[0,5190] seen' }, { name = 'd', text = '!seen' }]", ""),
+    ("version = 1", "version = 1\nformula = [{ name = 'a', text = 'F[0,7200] F[0,7200] F[0,7200] F[0,7200] F[0,7200] F[0,7200] F[0,7200] F[0,7200] seen' }, { name = 'b', text = 'F[0,7200] F[0,7200] seen' }, { name = 'c', text = 'F[0,5190] seen' }, { name = 'd', text = 'seen & seen' }]", "formulas: product"),
+];
+
+/// The same where own ship is needed: ranks do not count, but their key is tested.
+#[rattlefmt::skip]
+const RANKS_AND_OWN: [Case; 3] = [
+    ("ranks = 1\n", "ranks = 2\n", "rules.ranks: range"),
+    ("version = 1", "version = 1\nformula = [{ name = 'r18', text = 'seen' }]", ""),
+    ("version = 1", "version = 1\nformula = [{ name = 'a', text = 'F[0,7200] F[0,7200] F[0,7200] F[0,7200] F[0,7200] F[0,7200] F[0,7200] F[0,7200] seen' }, { name = 'b', text = 'F[0,7200] F[0,7200] seen' }, { name = 'c', text = 'F[0,5190] seen' }, { name = 'd', text = 'seen & seen' }]", ""),
+];
+
 /// The good scenario with a formula of one word and so many spaces.
 fn with_spaces(alloc: Global, spaces: usize) -> Result<String, AllocError> {
     let mut text = good(alloc)?;
@@ -494,7 +528,7 @@ fn at_most_64_vessels_are_predicted(rt: HostRuntime) -> Result<(), AllocError> {
 }
 
 /// What the cases of a table show, the scenario whose parts they replace, and the cases.
-const TABLES: [(&str, Faultless, &[Case]); 15] = [
+const TABLES: [(&str, Faultless, &[Case]); 17] = [
     ("the first keys", Faultless::First, &FIRST),
     ("keys of detect", Faultless::First, &DETECT),
     ("keys of act", Faultless::First, &ACT),
@@ -507,6 +541,12 @@ const TABLES: [(&str, Faultless, &[Case]); 15] = [
         &SECOND,
     ),
     ("weights of formulas", Faultless::First, &WEIGHTS),
+    ("ranks", Faultless::WithRanks, &RANKS),
+    (
+        "ranks for own ship",
+        Faultless::WithRanksAndOwn,
+        &RANKS_AND_OWN,
+    ),
     ("the first of two faults", Faultless::First, &ORDER),
     ("keys of version 2", Faultless::Second, &VERSION_TWO),
     ("keys of own ship", Faultless::WithOwn, &OWN),

@@ -196,6 +196,7 @@ fn values_of_a_good_scenario(rt: HostRuntime) -> Result<(), Fail> {
     is(&rt, scenario.detect, DETECT);
     is(&rt, scenario.act, ACT);
     is(&rt, scenario.rules.len(), 11);
+    is(&rt, scenario.ranks, false);
     is_true(
         &rt,
         is_rule(
@@ -243,6 +244,33 @@ fn formulas_stand_behind_the_rules(rt: HostRuntime) -> Result<(), Fail> {
     for (k, name, printed) in [(11, "u1", "(F[0,20] risk & !seen)"), (12, "r18", "seen")] {
         is_true(&rt, is_rule(rt.alloc(), &scenario.rules, k, name, printed)?);
     }
+    Ok(())
+}
+
+/// A scenario whose ranks count where own ship is not needed.
+fn ranked(alloc: Global, text: &str) -> Result<String, AllocError> {
+    text.replace(alloc, "te = 620\n", "te = 620\nranks = 1\n")
+}
+
+pub(crate) fn with_ranks(alloc: Global) -> Result<String, AllocError> {
+    ranked(alloc, good(alloc)?.as_str())
+}
+
+pub(crate) fn with_ranks_and_own(alloc: Global) -> Result<String, AllocError> {
+    ranked(alloc, with_own(alloc)?.as_str())
+}
+
+#[test]
+fn ranks_count_where_own_ship_is_not_needed(rt: HostRuntime) -> Result<(), Fail> {
+    let text = with_ranks_and_own(rt.alloc())?;
+    for (need_own, rules) in [(false, 12), (true, 11)] {
+        let scenario = scenario_of(rt.alloc(), text.as_str(), need_own)?;
+        is(&rt, scenario.ranks, !need_own);
+        is(&rt, scenario.rules.len(), rules);
+    }
+    let scenario = scenario_of(rt.alloc(), text.as_str(), false)?;
+    let last = "((engaged & rank_gives) -> clear(201))";
+    is_true(&rt, is_rule(rt.alloc(), &scenario.rules, 11, "r18", last)?);
     Ok(())
 }
 

@@ -1,4 +1,5 @@
 mod EarlierTicks
 mod SeenStays
 mod MovesLittle
+mod RankedVessels
 pub mod ForCallers

@@ -11,14 +11,15 @@ use Rattle.fixed_geometry.specs.Sizes.{IsBelow}
 use Rattle.motion.specs.Displacement.{displacement}
 use Rattle.motion.specs.declared.leg.TickState.{TickState}
 use Rattle.meetings.specs.Traces.{IsShortMove}
-use Rattle.traces.specs.Audited.{MoveLittle, Sighting, last_sighting, state_in}
+use Rattle.traces.specs.Audited.{MoveLittle, SeenVessels, Sighting, last_sighting, nothing_seen, state_in}
 use Rattle.log_lines.specs.JudgedLines.{numbers_of}
 use Rattle.scenario.specs.ScenarioValues.{IsInRange}
 use Rattle.scenario.specs.Ticks.{time_of_tick}
 use Rattle.scenario.specs.declared.values.Scenario.{Scenario}
-use Rattle.settled_ticks.specs.Sightings.{seen_first}
+use Rattle.settled_ticks.specs.Sightings.{seen_first, sighting_by}
+use Rattle.settled_ticks.proofs.RankedVessels.{vessels_by}
 use Rattle.tracks.specs.AcceptedReports.{JudgingNumbers}
-use Rattle.tracks.specs.SeenVessels.{seen_in, seen_of}
+use Rattle.tracks.specs.SeenVessels.{seen_in}
 use Rattle.tracks.specs.Standing.{BookValue, StandsFor as BookStandsFor}
 use Rattle.tracks.specs.VesselsHeld.{Sent}
 use Rattle.tracks.specs.declared.keeping.Keeping.TheVariants.{Tracks}
@@ -26,14 +27,14 @@ use Rattle.tracks.proofs.Seen.{seen_in-is}
 
 -- ---- from one sighting to the next
 
-here : (v : ℕ × TickState) (vs : Sighting) (mmsi : ℕ) (state : TickState) → v.0 ≡ mmsi → v.1 ≡ state → Contains (v ∷ vs) (mmsi, state)
+here : (v : ℕ × TickState) (vs : SeenVessels) (mmsi : ℕ) (state : TickState) → v.0 ≡ mmsi → v.1 ≡ state → Contains (v ∷ vs) (mmsi, state)
 here v vs mmsi state p q = subst (λ (w : ℕ × TickState). Contains (v ∷ vs) w) (λ i. (p i, q i)) (0, omega arith, refl)
 
-later : (v : ℕ × TickState) (vs : Sighting) (w : ℕ × TickState) → Contains vs w → Contains (v ∷ vs) w
+later : (v : ℕ × TickState) (vs : SeenVessels) (w : ℕ × TickState) → Contains vs w → Contains (v ∷ vs) w
 later v vs w h = (suc h.0, (let lt = h.1 in omega arith), h.2)
 
 -- a vessel whose state there is is among those seen
-among : (seen : Sighting) (mmsi : ℕ) (state : TickState) → state_in mmsi seen ≡ Some state → Contains seen (mmsi, state)
+among : (seen : SeenVessels) (mmsi : ℕ) (state : TickState) → state_in mmsi seen ≡ Some state → Contains seen (mmsi, state)
 among [] mmsi state is = cc is
 among (v ∷ vs) mmsi state is =
     elim (v.0 == mmsi) as (λ (b : Bool). (v.0 == mmsi) ≡ b → option_map (λ (w : ℕ × TickState). w.1) (cond b (Some v) (find (λ (w : ℕ × TickState). w.0 == mmsi) vs)) ≡ Some state
@@ -42,7 +43,7 @@ among (v ∷ vs) mmsi state is =
       | false ↦ λ test found. later v vs (mmsi, state) (among vs mmsi state found)
     ] refl is
 
-little : (earlier now : Sighting)
+little : (earlier now : SeenVessels)
     → ((mmsi : ℕ) (before after : TickState) → Contains earlier (mmsi, before) → Contains now (mmsi, after) → IsBelow (2 ^ 25) (displacement before.point after.point))
     → MoveLittle earlier now
 little earlier now law mmsi = both (state_in mmsi earlier) (state_in mmsi now) refl refl
@@ -53,16 +54,16 @@ little earlier now law mmsi = both (state_in mmsi earlier) (state_in mmsi now) r
     both None b p q = tt
 
 -- None is seen before the first tick.
-little_first : (now : Sighting) → MoveLittle [] now
+little_first : (now : SeenVessels) → MoveLittle [] now
 little_first now mmsi = tt
 
 -- ---- the last of the first ticks
 
 pub first_push : (scenario : Scenario) (messages : List Sent) (k : ℕ)
-    → seen_first scenario messages k ++ seen_of (numbers_of scenario) messages (time_of_tick scenario.window k) ∷ [] ≡ seen_first scenario messages (k + 1)
-first_push scenario messages k = sym (map-range_with_len_more (λ (i : ℕ). seen_of (numbers_of scenario) messages (time_of_tick scenario.window i)) 0 k k (omega arith))
+    → seen_first scenario messages k ++ sighting_by scenario messages k ∷ [] ≡ seen_first scenario messages (k + 1)
+first_push scenario messages k = sym (map-range_with_len_more (sighting_by scenario messages) 0 k k (omega arith))
 
-at_end : (ticks : List Sighting) (seen : Sighting) → get_or (ticks ++ seen ∷ []) (length ticks) [] ≡ seen
+at_end : (ticks : List Sighting) (seen : Sighting) → get_or (ticks ++ seen ∷ []) (length ticks) nothing_seen ≡ seen
 at_end [] seen = refl
 at_end (t ∷ ts) seen = at_end ts seen
 
@@ -70,10 +71,10 @@ last_is : (ticks : List Sighting) (seen : Sighting) → last_sighting (ticks ++ 
 last_is ticks seen =
     let e = length-append ticks (seen ∷ []) in
     let at : length (ticks ++ seen ∷ []) - 1 ≡ length ticks = omega arith in
-    ap (λ (k : ℕ). get_or (ticks ++ seen ∷ []) k []) at ∙ at_end ticks seen
+    ap (λ (k : ℕ). get_or (ticks ++ seen ∷ []) k nothing_seen) at ∙ at_end ticks seen
 
 last_seen : (scenario : Scenario) (messages : List Sent) (k : ℕ)
-    → last_sighting (seen_first scenario messages (suc k)) ≡ seen_of (numbers_of scenario) messages (time_of_tick scenario.window k)
+    → last_sighting (seen_first scenario messages (suc k)) ≡ sighting_by scenario messages k
 last_seen scenario messages k =
     let next : k + 1 ≡ suc k = omega arith in
     ap last_sighting (sym (first_push scenario messages k ∙ ap (seen_first scenario messages) next)) ∙ last_is (seen_first scenario messages k) _
@@ -89,10 +90,10 @@ MovesLittleIn book = (t u mmsi : ℕ) (before after : TickState) → t ≤ u →
     → Contains (seen_in book t) (mmsi, before) → Contains (seen_in book u) (mmsi, after) → IsBelow (2 ^ 25) (displacement before.point after.point)
 
 -- The vessels of the latest tick move little to the next.
-pub moves_on : (book : BookValue) (scenario : Scenario) (messages : List Sent) (next : ℕ) (latest seen : Sighting) → MovesLittleIn book → IsInRange scenario
-    → book.keeping ≡ Tracks → BookStandsFor book (numbers_of scenario) messages → latest ≡ last_sighting (seen_first scenario messages next)
+pub moves_on : (book : BookValue) (scenario : Scenario) (messages : List Sent) (next : ℕ) (latest seen : SeenVessels) → MovesLittleIn book → IsInRange scenario
+    → book.keeping ≡ Tracks → BookStandsFor book (numbers_of scenario) messages → latest ≡ (last_sighting (seen_first scenario messages next)).vessels
     → seen ≡ seen_in book (time_of_tick scenario.window next) → MoveLittle latest seen
-moves_on book scenario messages zero latest seen law range all stands was is = subst (λ (s : Sighting). MoveLittle s seen) (sym was) (little_first seen)
+moves_on book scenario messages zero latest seen law range all stands was is = subst (λ (s : SeenVessels). MoveLittle s seen) (sym was) (little_first seen)
 moves_on book scenario messages (suc k) latest seen law range all stands was is =
     let window = scenario.window in
     let gap : book.numbers.gap ≡ scenario.log.gap = ap (λ (n : JudgingNumbers). n.gap) stands.by in
@@ -100,7 +101,8 @@ moves_on book scenario messages (suc k) latest seen law range all stands was is 
     let minute = range.window.tick_to in
     let next = next_time window.start k window.tick in
     let earlier : latest ≡ seen_in book (time_of_tick window k) =
-    was ∙ last_seen scenario messages k ∙ sym (seen_in-is book (numbers_of scenario) messages (time_of_tick window k) all stands) in
+    was ∙ ap (λ (s : Sighting). s.vessels) (last_seen scenario messages k) ∙ vessels_by scenario messages k
+    ∙ sym (seen_in-is book (numbers_of scenario) messages (time_of_tick window k) all stands) in
     let step = little (seen_in book (time_of_tick window k)) (seen_in book (time_of_tick window (suc k)))
     (λ mmsi before after i j. law (time_of_tick window k) (time_of_tick window (suc k)) mmsi before after (omega (arith, next)) (omega (arith, next, minute)) (omega (arith, next, gap, tick)) i j) in
-    subst (λ (s : Sighting). MoveLittle s seen) (sym earlier) (subst (MoveLittle (seen_in book (time_of_tick window k))) (sym is) step)
+    subst (λ (s : SeenVessels). MoveLittle s seen) (sym earlier) (subst (MoveLittle (seen_in book (time_of_tick window k))) (sym is) step)

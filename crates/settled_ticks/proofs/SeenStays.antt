@@ -1,10 +1,10 @@
 -- What is seen at a settled tick is the same whatever lines follow.
 use Rattle.std.proofs.Common.{◌≡◌, ℕ, ◌+◌, ◌<◌, ◌≤◌, Bool, true, false, nat_lt, nat_eq, List, [], ◌∷◌, ◌++◌, append_assoc, append-nil, if◌then◌else◌, refl, sym, ap, ap₂, ◌∙◌, arith}
 use Rattle.std.specs.Prelude.{IfOk, IsSomeAnd, Option, None, Some, Result, Ok, Err}
-use Rattle.std.specs.List.{cons_option, filter_map}
+use Rattle.std.specs.Prelude.{map}
+use Rattle.std.specs.List.{cons_option, filter_map, last_or}
 use Rattle.std.specs.Option.{option_map}
 use Rattle.std.proofs.lemmas.Bool.Decides.{nat_tests}
-use Rattle.std.proofs.lemmas.List.Elements.{filter_map-append}
 use Rattle.aivdm.specs.FragmentJoining.{Taken, joined_of}
 use Rattle.aivdm.specs.ReadingOf.{reading_of}
 use Rattle.aivdm.specs.Sentences.{SentenceFields}
@@ -16,6 +16,7 @@ use Rattle.ais_messages.specs.declared.message.Decoded.{Decoded}
 use Rattle.ais_messages.specs.declared.message.Decoded.TheVariants as decoded
 use Rattle.motion.specs.TickStates.{state_at}
 use Rattle.motion.specs.declared.leg.TickState.{TickState}
+use Rattle.ranks.specs.VesselRanks.{rank_at, rank_by_report}
 use Rattle.scenario.specs.declared.values.Scenario.{Scenario}
 use Rattle.scenario.specs.Ticks.{time_of_tick}
 use Rattle.tracks.specs.AcceptedReports.{JudgingNumbers}
@@ -25,14 +26,17 @@ use Rattle.tracks.specs.VesselsHeld.{Sent, held_of, is_held, legs_of, sender_of,
 use Rattle.tracks.specs.declared.accepted.Accepted.{Accepted}
 use Rattle.tracks.proofs.Ascending.{with_number-among}
 use Rattle.tracks.proofs.Holding.{held_among, held_of-ascends, held_of-more, held_of-same, is_held-stays, no_points}
+use Rattle.tracks.proofs.ForCallers.{past_reports_stay}
 use Rattle.tracks.proofs.Settled.{past_stays}
-use Rattle.log_lines.specs.EachLine.{each_after, each_line, ok_value}
 use Rattle.log_lines.specs.JudgedLines.{numbers_of}
 use Rattle.log_lines.specs.LineTimes.{clock_of, is_in_window, is_late, time_of}
 use Rattle.log_lines.specs.SentLines.{heard, heard_in, heard_of, heard_unless, sent, sent_decoded, sent_heard, sent_joined, sent_of, untimely}
 use Rattle.log_lines.specs.declared.outcome.LineOutcome.{LineOutcome}
 use Rattle.log_lines.specs.declared.outcome.LineOutcome.TheVariants as outcome
+use Rattle.log_lines.specs.Inner.JudgeState.{listed}
+use Rattle.log_lines.proofs.ForCallers.{sent-push, types_stay}
 use Rattle.settled_ticks.specs.Settled.{IsSettled}
+use Rattle.settled_ticks.specs.Sightings.{seen_ranked, sighting_by, vessel_rank}
 use Rattle.settled_ticks.proofs.EarlierTicks.{settled_ticks_stay}
 
 -- ---- one message more
@@ -84,22 +88,29 @@ module _ (numbers : JudgingNumbers) (messages : List Sent) (one : Sent) (t : ℕ
         same_kept (seen_vessel t (legs_of numbers (messages ++ one ∷ []))) (seen_vessel t (legs_of numbers messages)) same_sighting (held_of numbers (messages ++ one ∷ []))
         ∙ same_vessels (is_held numbers (messages ++ one ∷ []) (sender_of one.message)) (is_held numbers messages (sender_of one.message)) refl refl
 
--- ---- one line more
+-- ---- and their ranks
 
-each_after-push : {A B : Type 0} (f : List A → A → B) (before xs : List A) (y : A)
-    → each_after f before (xs ++ y ∷ []) ≡ each_after f before xs ++ f (before ++ xs) y ∷ []
-unfolding each_after
-each_after-push f before [] y = ap (λ b. f b y ∷ []) (sym (append-nil before))
-each_after-push f before (x ∷ xs) y =
-    ap (λ l. f before x ∷ l) (each_after-push f (before ++ x ∷ []) xs y)
-    ∙ ap (λ b. f before x ∷ each_after f (before ++ x ∷ []) xs ++ f b y ∷ []) (append_assoc before (x ∷ []) xs)
+module _ (scenario : Scenario) (messages : List Sent) (one : Sent) where
+  same_rank : (t : ℕ) (vessel : ℕ × TickState) → t < one.time → vessel_rank scenario (messages ++ one ∷ []) t vessel ≡ vessel_rank scenario messages t vessel
+  unfolding vessel_rank rank_at
+  same_rank t vessel later =
+      let numbers = numbers_of scenario in
+      let reports = past_reports_stay numbers messages one vessel.0 t later in
+      let types = types_stay messages one vessel.0 t later in
+      λ i. rank_by_report (last_or None (reports i)) (types i)
 
-sent-push : (scenario : Scenario) (before : List (List ℕ)) (line : List ℕ)
-    → sent scenario (before ++ line ∷ []) ≡ sent scenario before ++ cons_option (ok_value (sent_of scenario before line)) []
-unfolding sent
-sent-push scenario before line =
-    ap (filter_map ok_value) (each_after-push (sent_of scenario) [] before line)
-    ∙ filter_map-append ok_value (each_line (sent_of scenario) before) (sent_of scenario before line ∷ [])
+  same_sighting_by : (k : ℕ) → time_of_tick scenario.window k + scenario.log.gap < one.time
+      → sighting_by scenario (messages ++ one ∷ []) k ≡ sighting_by scenario messages k
+  unfolding sighting_by
+  same_sighting_by k later =
+      let t = time_of_tick scenario.window k in
+      let numbers = numbers_of scenario in
+      let vessels = seen_of numbers messages t in
+      let rank : (vessel : ℕ × TickState) → vessel_rank scenario (messages ++ one ∷ []) t vessel ≡ vessel_rank scenario messages t vessel =
+      λ vessel. same_rank t vessel (omega arith) in
+      let ranked : seen_ranked scenario (messages ++ one ∷ []) t vessels ≡ seen_ranked scenario messages t vessels =
+      λ i. record { vessels = vessels; ranks = if scenario.ranks then map (λ vessel. rank vessel i) vessels else [] } in
+      ap (seen_ranked scenario (messages ++ one ∷ []) t) (sees_the_same numbers messages one t later) ∙ ranked
 
 -- ---- no message is late
 
@@ -148,43 +159,31 @@ comes_behind (Some clock) t gap slack time past late = let in_time : clock ≤ t
 -- ---- the law
 
 module _ (scenario : Scenario) (i : ℕ) where
-  -- what is seen at the tick by these lines
-  seen_by : List (List ℕ) → List (ℕ × TickState)
-  seen_by lines = seen_of (numbers_of scenario) (sent scenario lines) (time_of_tick scenario.window i)
-
   with_message : (messages : List Sent) (line : Result Sent LineOutcome) → IfOk line (λ one. time_of_tick scenario.window i + scenario.log.gap < one.time)
-      → seen_of (numbers_of scenario) (messages ++ cons_option (ok_value line) []) (time_of_tick scenario.window i)
-      ≡ seen_of (numbers_of scenario) messages (time_of_tick scenario.window i)
-  with_message messages (Ok one) later = sees_the_same (numbers_of scenario) messages one (time_of_tick scenario.window i) later
-  with_message messages (Err came) later =
-      ap (λ (all : List Sent). seen_of (numbers_of scenario) all (time_of_tick scenario.window i)) (append-nil messages)
+      → sighting_by scenario (messages ++ listed line) i ≡ sighting_by scenario messages i
+  with_message messages (Ok one) later = same_sighting_by scenario messages one i later
+  with_message messages (Err came) later = ap (λ (all : List Sent). sighting_by scenario all i) (append-nil messages)
 
   line_behind : (clock : Option ℕ) (line : Result Sent LineOutcome) → IsSomeAnd clock (λ clock. time_of_tick scenario.window i + scenario.log.gap + scenario.log.slack < clock)
       → IfOk line (λ one. is_late scenario.log.slack clock one.time ≡ false) → IfOk line (λ one. time_of_tick scenario.window i + scenario.log.gap < one.time)
   line_behind clock (Ok one) past late = comes_behind clock (time_of_tick scenario.window i) scenario.log.gap scenario.log.slack one.time past late
   line_behind clock (Err came) past late = tt
 
-  line_more : (lines : List (List ℕ)) (line : List ℕ) → IsSettled scenario lines i → seen_by (lines ++ line ∷ []) ≡ seen_by lines
-  unfolding seen_by
+  line_more : (lines : List (List ℕ)) (line : List ℕ) → IsSettled scenario lines i
+      → sighting_by scenario (sent scenario (lines ++ line ∷ [])) i ≡ sighting_by scenario (sent scenario lines) i
   line_more lines line h =
-      ap (λ (messages : List Sent). seen_of (numbers_of scenario) messages (time_of_tick scenario.window i)) (sent-push scenario lines line)
+      ap (λ (messages : List Sent). sighting_by scenario messages i) (sent-push scenario lines line)
       ∙ with_message (sent scenario lines) (sent_of scenario lines line)
       (line_behind (clock_of scenario lines) (sent_of scenario lines line) h.past (sent_in_time scenario lines line))
 
-  lines_more : (lines more : List (List ℕ)) → IsSettled scenario lines i → seen_by (lines ++ more) ≡ seen_by lines
-  lines_more lines [] h = ap seen_by (append-nil lines)
-  lines_more lines (line ∷ more) h =
-      ap seen_by (sym (append_assoc lines (line ∷ []) more))
-      ∙ lines_more (lines ++ line ∷ []) more (settled_ticks_stay scenario lines (line ∷ []) i h)
+  pub stays_seen : (lines more : List (List ℕ)) → IsSettled scenario lines i
+      → sighting_by scenario (sent scenario (lines ++ more)) i ≡ sighting_by scenario (sent scenario lines) i
+  stays_seen lines [] h = ap (λ (all : List (List ℕ)). sighting_by scenario (sent scenario all) i) (append-nil lines)
+  stays_seen lines (line ∷ more) h =
+      ap (λ (all : List (List ℕ)). sighting_by scenario (sent scenario all) i) (sym (append_assoc lines (line ∷ []) more))
+      ∙ stays_seen (lines ++ line ∷ []) more (settled_ticks_stay scenario lines (line ∷ []) i h)
       ∙ line_more lines line h
 
-  pub stays_seen : (lines more : List (List ℕ)) → IsSettled scenario lines i
-      → seen_of (numbers_of scenario) (sent scenario (lines ++ more)) (time_of_tick scenario.window i)
-      ≡ seen_of (numbers_of scenario) (sent scenario lines) (time_of_tick scenario.window i)
-  unfolding seen_by
-  stays_seen lines more h = lines_more lines more h
-
 pub what_is_settled_stays : (scenario : Scenario) (lines more : List (List ℕ)) (i : ℕ) → IsSettled scenario lines i
-    → seen_of (numbers_of scenario) (sent scenario (lines ++ more)) (time_of_tick scenario.window i)
-    ≡ seen_of (numbers_of scenario) (sent scenario lines) (time_of_tick scenario.window i)
+    → sighting_by scenario (sent scenario (lines ++ more)) i ≡ sighting_by scenario (sent scenario lines) i
 what_is_settled_stays scenario lines more i h = stays_seen scenario i lines more h

@@ -1,31 +1,51 @@
 -- What was handed out.
-use Rattle.std.specs.Prelude.{ℕ, ◌≡◌, ◌+◌, ◌≤◌, List}
-use Rattle.traces.specs.Audited.{AreAscending, ArePlaced, MoveLittle, Sighting, last_sighting}
+use Rattle.std.specs.Prelude.{ℕ, ◌≡◌, ◌+◌, ◌≤◌, List, IsSome}
+use Rattle.traces.specs.Audited.{AreAscending, ArePlaced, MoveLittle, SeenVessels, Sighting, last_sighting}
 use Rattle.log_lines.specs.JudgedLines.{numbers_of}
 use Rattle.log_lines.specs.SentLines.{sent}
 use Rattle.log_lines.specs.Standing.{StandsFor as JudgeStandsFor}
 use Rattle.log_lines.specs.declared.judge.Judge.{Judge}
-use Rattle.scenario.specs.Ticks.{time_of_tick}
+use Rattle.ranks.specs.VesselRanks.{report_at}
 use Rattle.scenario.specs.declared.values.Scenario.{Scenario}
-use Rattle.settled_ticks.specs.Sightings.{seen_first}
+use Rattle.settled_ticks.specs.Sightings.{seen_first, sighting_by}
 use Rattle.settled_ticks.specs.declared.settled_ticks.SettledTicks.{SettledTicks}
 use Rattle.tracks.specs.SeenVessels.{seen_of}
+use Rattle.tracks.specs.VesselsHeld.{accepted_of}
 
 -- how many ticks were handed out: the first ones
 abbrev pub handed_out : SettledTicks → ℕ
 handed_out ticks = ticks.next
 
--- the vessels seen at the latest of them
+-- what is seen at the latest of them
 abbrev pub latest_sighting : SettledTicks → Sighting
-latest_sighting ticks = ticks.seen.items
+latest_sighting ticks = record { vessels = ticks.seen.items; ranks = ticks.ranks.items }
 
--- The next tick was handed out, with the vessels that are seen at it by the judge's lines. They have moved little since the tick before.
+-- The judge stands for some lines.
+pub record HasJudged (judge : Judge) (scenario : Scenario) : Type 0 where
+  pub lines : List (List ℕ)
+  pub judged : JudgeStandsFor judge scenario lines
+
+-- By the lines of a judge the vessel has reported at this time.
+pub record HasReported (judge : Judge) (mmsi time : ℕ) : Type 0 where
+  pub scenario : Scenario
+  pub lines : List (List ℕ)
+  pub judged : JudgeStandsFor judge scenario lines
+  pub reported : IsSome (report_at (accepted_of (numbers_of scenario) (sent scenario lines) mmsi) time)
+
+-- They are the vessels that are seen at the time, by the lines of a judge.
+pub record AreSeen (judge : Judge) (vessels : SeenVessels) (time : ℕ) : Type 0 where
+  pub scenario : Scenario
+  pub lines : List (List ℕ)
+  pub judged : JudgeStandsFor judge scenario lines
+  pub seen : vessels ≡ seen_of (numbers_of scenario) (sent scenario lines) time
+
+-- The next tick was handed out, with what is seen at it by the judge's lines. The vessels have moved little since the tick before.
 pub record IsHandedOut (old new : SettledTicks) (scenario : Scenario) (judge : Judge) : Type 0 where
   pub next : handed_out new ≡ handed_out old + 1
   pub within : handed_out old ≤ scenario.window.ticks
-  pub ascending : AreAscending (latest_sighting new)
-  pub placed : ArePlaced (latest_sighting new)
+  pub ascending : AreAscending (latest_sighting new).vessels
+  pub placed : ArePlaced (latest_sighting new).vessels
   pub seen : (lines : List (List ℕ)) → JudgeStandsFor judge scenario lines
-      → latest_sighting new ≡ seen_of (numbers_of scenario) (sent scenario lines) (time_of_tick scenario.window (handed_out old))
+      → latest_sighting new ≡ sighting_by scenario (sent scenario lines) (handed_out old)
   pub moves : (lines : List (List ℕ)) → JudgeStandsFor judge scenario lines
-      → MoveLittle (last_sighting (seen_first scenario (sent scenario lines) (handed_out old))) (latest_sighting new)
+      → MoveLittle (last_sighting (seen_first scenario (sent scenario lines) (handed_out old))).vessels (latest_sighting new).vessels

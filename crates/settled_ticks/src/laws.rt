@@ -1,11 +1,9 @@
 //! Laws of settled ticks, which stand over the definitions alone.
 ghost use Rattle.std.specs.Prelude.{ℕ, ◌≡◌, ◌≤◌, ◌++◌, List};
-ghost use Rattle.log_lines.specs.JudgedLines.{numbers_of};
 ghost use Rattle.log_lines.specs.SentLines.{sent};
-ghost use Rattle.scenario.specs.Ticks.{time_of_tick};
 ghost use Rattle.scenario.specs.declared.values.Scenario.{Scenario};
 ghost use Rattle.settled_ticks.specs.Settled.{IsSettled};
-ghost use Rattle.tracks.specs.SeenVessels.{seen_of};
+ghost use Rattle.settled_ticks.specs.Sightings.{sighting_by};
 
 /// A tick that is settled stays so, whatever lines follow.
 pub fn settled_ticks_stay()
@@ -17,9 +15,8 @@ pub fn settled_ticks_are_first()
     ensures { (scenario : Scenario) (lines : List (List ℕ)) (i j : ℕ) → IsSettled scenario lines i → j ≤ i → IsSettled scenario lines j }
 {}
 
-/// The vessels that are seen at a settled tick, and their states there, are the same whatever lines follow.
+/// The vessels that are seen at a settled tick, their states there and their ranks are the same whatever lines follow.
 pub fn what_is_settled_stays()
     ensures { (scenario : Scenario) (lines more : List (List ℕ)) (i : ℕ) → IsSettled scenario lines i →
-        seen_of (numbers_of scenario) (sent scenario (lines ++ more)) (time_of_tick scenario.window i)
-        ≡ seen_of (numbers_of scenario) (sent scenario lines) (time_of_tick scenario.window i) }
+        sighting_by scenario (sent scenario (lines ++ more)) i ≡ sighting_by scenario (sent scenario lines) i }
 {}

@@ -1,21 +1,20 @@
 //! The ticks of a window, one after the other, as the lines of a log settle them.
 ghost use Rattle.std.specs.Prelude.{◌≡◌, ◌+◌, ◌<◌, ◌≤◌, [], ℕ, List, IfOk, OnOk, true, false};
-ghost use Rattle.log_lines.specs.JudgedLines.{numbers_of};
 ghost use Rattle.log_lines.specs.SentLines.{sent};
 ghost use Rattle.log_lines.specs.Standing.{StandsFor as JudgeStandsFor, keeping_of};
 ghost use Rattle.scenario.specs.ScenarioValues.{IsInRange};
-ghost use Rattle.scenario.specs.Ticks.{time_of_tick};
 ghost use Rattle.settled_ticks.specs.Inner.{is_past};
 ghost use Rattle.settled_ticks.specs.Settled.{IsSettled};
-ghost use Rattle.settled_ticks.specs.Sightings.{seen_first};
-ghost use Rattle.settled_ticks.specs.Standing.{IsHandedOut, handed_out, latest_sighting};
+ghost use Rattle.settled_ticks.specs.Sightings.{seen_first, sighting_by};
+ghost use Rattle.settled_ticks.specs.Standing.{HasJudged, IsHandedOut, handed_out, latest_sighting};
 ghost use Rattle.traces.specs.Audited.{AreAscending, ArePlaced, MoveLittle, last_sighting};
-ghost use Rattle.tracks.specs.SeenVessels.{seen_of};
 ghost use Rattle.tracks.specs.declared.keeping.Keeping.TheVariants.{Tracks};
 
+use crate::vessel_ranks::rank_all;
 use log_lines::Judge;
 use motion::TickState;
 use outside::Memory;
+use ranks::Rank;
 use scenario::Scenario;
 use std::alloc::Global;
 
@@ -36,6 +35,8 @@ pub struct SettledTicks {
     next: u32,
     /// The vessels that are seen at the one before it.
     seen: Vec<(u32, TickState)>,
+    /// Their ranks in the same order, where ranks count; else none.
+    ranks: Vec<Rank>,
 }
 
 impl SettledTicks {
@@ -46,14 +47,22 @@ impl SettledTicks {
         SettledTicks {
             next: 0,
             seen: Vec::new(alloc),
+            ranks: Vec::new(alloc),
         }
     }
 
     /// The vessels that are seen at the tick that was handed out last, in the order of their MMSIs.
     pub fn seen(&self) -> &[(u32, TickState)]
-        ensures { result.now ≡ latest_sighting self.now }
+        ensures { result.now ≡ (latest_sighting self.now).vessels }
     {
         self.seen.as_slice()
+    }
+
+    /// Their ranks there, in the same order, where ranks count; else none.
+    pub fn ranks(&self) -> &[Rank]
+        ensures { result.now ≡ (latest_sighting self.now).ranks }
+    {
+        self.ranks.as_slice()
     }
 
     /// Whether the judge's lines settle the next tick.
@@ -74,18 +83,21 @@ impl SettledTicks {
     fn hand_out(&mut self, scenario: &Scenario, judge: &Judge) -> Result<(), Memory>
         requires in_range { IsInRange scenario.now }
         requires keeping { keeping_of judge.now ≡ Tracks }
+        requires judged { HasJudged judge.now scenario.now }
         requires within { self.old.next ≤ scenario.now.window.ticks }
         ensures next { OnOk result (self.new.next ≡ self.old.next + 1) }
-        ensures ascending { OnOk result (AreAscending (latest_sighting self.new)) }
-        ensures placed { OnOk result (ArePlaced (latest_sighting self.new)) }
+        ensures ascending { OnOk result (AreAscending (latest_sighting self.new).vessels) }
+        ensures placed { OnOk result (ArePlaced (latest_sighting self.new).vessels) }
         ensures seen { OnOk result ((lines : List (List ℕ)) → JudgeStandsFor judge.now scenario.now lines → latest_sighting self.new
-            ≡ seen_of (numbers_of scenario.now) (sent scenario.now lines) (time_of_tick scenario.now.window self.old.next)) }
+            ≡ sighting_by scenario.now (sent scenario.now lines) self.old.next) }
         ensures moves { OnOk result ((lines : List (List ℕ)) → JudgeStandsFor judge.now scenario.now lines
-            → MoveLittle (last_sighting (seen_first scenario.now (sent scenario.now lines) self.old.next)) (latest_sighting self.new)) }
+            → MoveLittle (last_sighting (seen_first scenario.now (sent scenario.now lines) self.old.next)).vessels (latest_sighting self.new).vessels) }
     {
         let book = judge.book();
         book.moves_little();
-        book.look(scenario.window.time(self.next), &mut self.seen)?;
+        let time = scenario.window.time(self.next);
+        book.look(time, &mut self.seen)?;
+        rank_all(judge, &self.seen, time, &mut self.ranks)?;
         self.next += 1;
         Ok(())
     }
@@ -94,6 +106,7 @@ impl SettledTicks {
     pub fn next(&mut self, scenario: &Scenario, judge: &Judge) -> Result<bool, Memory>
         requires in_range { IsInRange scenario.now }
         requires keeping { keeping_of judge.now ≡ Tracks }
+        requires judged { HasJudged judge.now scenario.now }
         ensures handed { IfOk result (λ more. more ≡ true → IsHandedOut self.old self.new scenario.now judge.now) }
         ensures settled { IfOk result (λ more. more ≡ true → (lines : List (List ℕ)) → JudgeStandsFor judge.now scenario.now lines
             → IsSettled scenario.now lines (handed_out self.old)) }
@@ -112,6 +125,7 @@ impl SettledTicks {
     pub fn next_at_end(&mut self, scenario: &Scenario, judge: &Judge) -> Result<bool, Memory>
         requires in_range { IsInRange scenario.now }
         requires keeping { keeping_of judge.now ≡ Tracks }
+        requires judged { HasJudged judge.now scenario.now }
         ensures handed { IfOk result (λ more. more ≡ true → IsHandedOut self.old self.new scenario.now judge.now) }
         ensures same { IfOk result (λ more. more ≡ false → self.new ≡ self.old) }
         ensures all { IfOk result (λ more. more ≡ false → scenario.now.window.ticks < handed_out self.old) }

@@ -6,31 +6,30 @@ use Rattle.std.specs.List.Sorted.{IsStrictlySortedBy}
 use Rattle.std.proofs.lemmas.List.{take-append-drop}
 use Rattle.std.proofs.lemmas.List.FromFn.{take-map-range_with_len}
 use Rattle.audit_rows.specs.declared.row.Row.{Row}
-use Rattle.traces.specs.Audited.{Begins, AuditNumbers, MoveLittle, Sighting}
+use Rattle.ranks.specs.declared.rank.Rank.{Rank}
+use Rattle.traces.specs.Audited.{Begins, AuditNumbers, MoveLittle, SeenVessels, Sighting}
 use Rattle.auditor.specs.AuditRows.{AreAuditRowsBelow}
 use Rattle.traces.specs.ManyTraces.{HaveMoreThan}
-use Rattle.auditor.specs.Standing.{IsSound, StandsFor as AuditStandsFor, given_of, last_tick_of, latest_sighting}
+use Rattle.auditor.specs.Standing.{IsSound, StandsFor as AuditStandsFor, given_of, last_tick_of, latest_vessels}
 use Rattle.auditor.specs.SettledRows.{settled_by}
 use Rattle.auditor.proofs.ForCallers.{more_stay}
-use Rattle.log_lines.specs.JudgedLines.{numbers_of}
 use Rattle.log_lines.specs.SentLines.{sent}
 use Rattle.log_lines.specs.Standing.{StandsFor as JudgeStandsFor}
 use Rattle.log_lines.specs.declared.judge.Judge.{Judge}
 use Rattle.meetings.specs.declared.pair.Pair.{Pair}
-use Rattle.scenario.specs.Ticks.{time_of_tick}
 use Rattle.scenario.specs.declared.values.Scenario.{Scenario}
 use Rattle.settled_ticks.specs.Settled.{IsSettled}
 use Rattle.settling.specs.ManySettled.{HaveManySettled}
 use Rattle.traces.specs.declared.all_traces.TheConstants.{MOST_TRACES}
 use Rattle.settled_ticks.specs.Standing.{IsHandedOut, handed_out, latest_sighting as sighting_of}
-use Rattle.settled_ticks.specs.Sightings.{seen_first}
+use Rattle.settled_ticks.specs.Sightings.{seen_first, sighting_by}
 use Rattle.settling.specs.ScenarioAudit.{audit_numbers}
 use Rattle.settling.specs.Standing.{StandsFor}
 use Rattle.settling.specs.Inner.AuditedTicks.{IsAudited, IsSettling}
 use Rattle.settled_ticks.specs.declared.settled_ticks.SettledTicks.{SettledTicks}
 use Rattle.settling.specs.declared.settled_audit.SettledAudit.{SettledAudit}
 use Rattle.settled_ticks.proofs.ForCallers.{first_push, none_settled, settled_ticks_are_first, settled_ticks_stay, what_is_settled_stays}
-use Rattle.tracks.specs.SeenVessels.{seen_of}
+use Rattle.tracks.specs.VesselsHeld.{Sent}
 
 lt_or_le : (m n : ℕ) → (m < n) ⊎ (n ≤ m)
 lt_or_le m n = grind arith
@@ -68,11 +67,16 @@ before_all audit scenario none sound stands = record {
 
 module _ (scenario : Scenario) (old : SettledAudit) (ticks : SettledTicks) (judge : Judge) (lines : List (List ℕ)) (given : List Row) (up : IsAudited old scenario lines given)
     (handed : IsHandedOut old.ticks ticks scenario judge) where
-  pub moves_then : JudgeStandsFor judge scenario lines → MoveLittle (latest_sighting old.audit) (sighting_of ticks)
-  moves_then judged = subst (λ (s : Sighting). MoveLittle s (sighting_of ticks)) (sym up.stands.traces.latest) (handed.moves lines judged)
+  pub moves_then : JudgeStandsFor judge scenario lines → MoveLittle (latest_vessels old.audit) (sighting_of ticks).vessels
+  moves_then judged = subst (λ (s : Sighting). MoveLittle s.vessels (sighting_of ticks).vessels) (sym up.stands.traces.latest) (handed.moves lines judged)
 
   pub more_then : given_of old.audit ≤ last_tick_of old.audit
   more_then = let next = up.next in let last = up.last in let within = handed.within in omega (arith, next, last, within)
+
+-- what is given to the audit, of the vessels and their ranks
+pub sighting_given : (ticks : SettledTicks) (vessels : SeenVessels) (ranks : List Rank) → vessels ≡ (sighting_of ticks).vessels → ranks ≡ (sighting_of ticks).ranks
+    → record { vessels = vessels; ranks = ranks } ≡ sighting_of ticks
+sighting_given ticks vessels ranks seen told = λ i. record { vessels = seen i; ranks = told i }
 
 module _ (scenario : Scenario) where
   -- Where too many traces begin at the first ticks, they do so at more of them.
@@ -80,8 +84,7 @@ module _ (scenario : Scenario) where
       → HaveMoreThan MOST_TRACES (audit_numbers scenario) (seen_first scenario (sent scenario lines) k)
   many_later lines j k le many =
       let all = seen_first scenario (sent scenario lines) k in
-      let f : ℕ → Sighting = λ i. seen_of (numbers_of scenario) (sent scenario lines) (time_of_tick scenario.window i) in
-      let front : take j all ≡ seen_first scenario (sent scenario lines) j = take-map-range_with_len f 0 k j le in
+      let front : take j all ≡ seen_first scenario (sent scenario lines) j = take-map-range_with_len (sighting_by scenario (sent scenario lines)) 0 k j le in
       subst (HaveMoreThan MOST_TRACES (audit_numbers scenario))
       (ap (λ (l : List Sighting). l ++ drop j all) (sym front) ∙ take-append-drop j all)
       (more_stay MOST_TRACES (audit_numbers scenario) (seen_first scenario (sent scenario lines) j) (drop j all) many)
@@ -90,7 +93,7 @@ module _ (scenario : Scenario) where
 
   pub audited_on : (old new : SettledAudit) (lines : List (List ℕ)) (given rows : List Row) (seen : Sighting) → IsAudited old scenario lines given → (handed_out new.ticks) ≡ (handed_out old.ticks) + 1
       → IsSound new.audit → given_of new.audit ≡ given_of old.audit + 1 → last_tick_of new.audit ≡ last_tick_of old.audit
-      → seen ≡ seen_of (numbers_of scenario) (sent scenario lines) (time_of_tick scenario.window (handed_out old.ticks))
+      → seen ≡ sighting_by scenario (sent scenario lines) (handed_out old.ticks)
       → ((numbers : AuditNumbers) (ticks : List Sighting) (given : List Row) → AuditStandsFor old.audit numbers ticks given → AuditStandsFor new.audit numbers (ticks ++ seen ∷ []) (given ++ rows))
       → ((numbers : AuditNumbers) (ticks : List Sighting) (given : List Row) → AuditStandsFor old.audit numbers ticks given
       → AreAuditRowsBelow numbers (ticks ++ seen ∷ []) (settled_by numbers (length ticks)) (given ++ rows))
@@ -113,7 +116,7 @@ module _ (scenario : Scenario) where
       }
 
   -- This tick begins too many.
-  pub many_now : (old : SettledAudit) (lines : List (List ℕ)) (seen : Sighting) → seen ≡ seen_of (numbers_of scenario) (sent scenario lines) (time_of_tick scenario.window (handed_out old.ticks))
+  pub many_now : (old : SettledAudit) (lines : List (List ℕ)) (seen : Sighting) → seen ≡ sighting_by scenario (sent scenario lines) (handed_out old.ticks)
       → HaveMoreThan MOST_TRACES (audit_numbers scenario) (seen_first scenario (sent scenario lines) (handed_out old.ticks) ++ seen ∷ [])
       → HaveMoreThan MOST_TRACES (audit_numbers scenario) (seen_first scenario (sent scenario lines) ((handed_out old.ticks) + 1))
   many_now old lines seen told many =
@@ -128,7 +131,7 @@ module _ (scenario : Scenario) where
   same_first lines more zero settled = refl
   same_first lines more (suc k) settled =
       let next : k + 1 ≡ suc k = omega arith in
-      let push : (messages : List Rattle.tracks.specs.VesselsHeld.Sent) → seen_first scenario messages (suc k) ≡ seen_first scenario messages k ++ seen_of (numbers_of scenario) messages (time_of_tick scenario.window k) ∷ [] =
+      let push : (messages : List Sent) → seen_first scenario messages (suc k) ≡ seen_first scenario messages k ++ sighting_by scenario messages k ∷ [] =
       λ messages. sym (first_push scenario messages k ∙ ap (seen_first scenario messages) next) in
       push (sent scenario lines)
       ∙ ap₂ (λ (ts : List Sighting) (s : Sighting). ts ++ s ∷ []) (same_first lines more k (λ i lt. settled i (omega arith)))

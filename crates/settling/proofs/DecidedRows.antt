@@ -1,22 +1,19 @@
 -- The rows that the lines so far decide are those of the settled ticks, and a front of the report's.
-use Rattle.std.proofs.Common.{◌≡◌, ℕ, ◌+◌, ◌-◌, ◌<◌, ◌≤◌, List, [], ◌++◌, length, get_or, sym, ◌∙◌, arith}
+use Rattle.std.proofs.Common.{◌≡◌, ℕ, ◌+◌, ◌-◌, ◌<◌, ◌≤◌, List, ◌++◌, length, sym, ◌∙◌, arith}
 use Rattle.std.specs.Prelude.{◌↔◌}
 use Rattle.std.specs.List.{Contains}
 use Rattle.std.proofs.lemmas.List.FromFn.{get_or-map-range_with_len, length-map-range_with_len}
 use Rattle.audit_rows.specs.Order.{InOrder, last_step_of, sort_key_of}
 use Rattle.audit_rows.specs.declared.row.Row.{Row}
-use Rattle.traces.specs.Audited.{Sighting}
+use Rattle.traces.specs.Audited.{nothing_seen, sighting_at}
 use Rattle.auditor.specs.AuditRows.{AreAuditRows, AreAuditRowsBelow, IsAuditRow}
 use Rattle.auditor.specs.SettledRows.{audit_reach, settled_by}
-use Rattle.log_lines.specs.JudgedLines.{numbers_of}
 use Rattle.log_lines.specs.SentLines.{sent}
 use Rattle.scenario.specs.declared.values.Scenario.{Scenario}
-use Rattle.scenario.specs.Ticks.{time_of_tick}
-use Rattle.tracks.specs.SeenVessels.{seen_of}
 use Rattle.tracks.specs.VesselsHeld.{Sent}
 use Rattle.settling.specs.DecidedRows.{AreDecided}
 use Rattle.settled_ticks.specs.Settled.{IsSettled}
-use Rattle.settled_ticks.specs.Sightings.{seen_first, sighted}
+use Rattle.settled_ticks.specs.Sightings.{seen_first, sighted, sighting_by}
 use Rattle.settling.specs.ScenarioAudit.{audit_numbers}
 use Rattle.settling.proofs.Fronts.{front, no_later, same_rows}
 use Rattle.settling.proofs.SameRows.{same_row}
@@ -25,28 +22,21 @@ use Rattle.settled_ticks.proofs.ForCallers.{settled_ticks_are_first, settled_tic
 module _ (scenario : Scenario) where
   -- ---- what is seen at each tick
 
-  seen_at_tick : List Sent → ℕ → Sighting
-  seen_at_tick messages k = seen_of (numbers_of scenario) messages (time_of_tick scenario.window k)
-
   sighted_count : (messages : List Sent) → length (sighted scenario messages) ≡ scenario.window.ticks + 1
-  sighted_count messages = length-map-range_with_len (λ k. seen_of (numbers_of scenario) messages (time_of_tick scenario.window k)) 0 (scenario.window.ticks + 1)
+  sighted_count messages = length-map-range_with_len (sighting_by scenario messages) 0 (scenario.window.ticks + 1)
 
-  sighted_at : (messages : List Sent) (k : ℕ) → k ≤ scenario.window.ticks → get_or (sighted scenario messages) k [] ≡ seen_at_tick messages k
-  unfolding seen_at_tick
+  sighted_at : (messages : List Sent) (k : ℕ) → k ≤ scenario.window.ticks → sighting_at (sighted scenario messages) k ≡ sighting_by scenario messages k
   sighted_at messages k le =
-      get_or-map-range_with_len (λ i. seen_of (numbers_of scenario) messages (time_of_tick scenario.window i)) 0 (scenario.window.ticks + 1) k k [] (omega arith) (omega arith)
+      get_or-map-range_with_len (sighting_by scenario messages) 0 (scenario.window.ticks + 1) k k nothing_seen (omega arith) (omega arith)
 
   first_count : (messages : List Sent) (s : ℕ) → length (seen_first scenario messages s) ≡ s
-  first_count messages s = length-map-range_with_len (λ k. seen_of (numbers_of scenario) messages (time_of_tick scenario.window k)) 0 s
+  first_count messages s = length-map-range_with_len (sighting_by scenario messages) 0 s
 
-  first_at : (messages : List Sent) (s k : ℕ) → k < s → get_or (seen_first scenario messages s) k [] ≡ seen_at_tick messages k
-  unfolding seen_at_tick
-  first_at messages s k lt =
-      get_or-map-range_with_len (λ i. seen_of (numbers_of scenario) messages (time_of_tick scenario.window i)) 0 s k k [] lt (omega arith)
+  first_at : (messages : List Sent) (s k : ℕ) → k < s → sighting_at (seen_first scenario messages s) k ≡ sighting_by scenario messages k
+  first_at messages s k lt = get_or-map-range_with_len (sighting_by scenario messages) 0 s k k nothing_seen lt (omega arith)
 
   settled_seen : (lines more : List (List ℕ)) (k : ℕ) → IsSettled scenario lines k
-      → get_or (sighted scenario (sent scenario (lines ++ more))) k [] ≡ get_or (sighted scenario (sent scenario lines)) k []
-  unfolding seen_at_tick
+      → sighting_at (sighted scenario (sent scenario (lines ++ more))) k ≡ sighting_at (sighted scenario (sent scenario lines)) k
   settled_seen lines more k h =
       sighted_at (sent scenario (lines ++ more)) k h.within ∙ (what_is_settled_stays scenario lines more k h ∙ sym (sighted_at (sent scenario lines) k h.within))
 
@@ -109,7 +99,7 @@ rows_by_settled_ticks scenario lines s rows settled h = record {
 }
   where
     agree : (row : Row) → decided_at scenario row < s → (k : ℕ) → k ≤ decided_at scenario row
-        → get_or (seen_first scenario (sent scenario lines) s) k [] ≡ get_or (sighted scenario (sent scenario lines)) k []
+        → sighting_at (seen_first scenario (sent scenario lines) s) k ≡ sighting_at (sighted scenario (sent scenario lines)) k
     agree row lt k le =
         let within = ((settled (decided_at scenario row)).1 lt).within in
         first_at scenario (sent scenario lines) s k (omega arith) ∙ sym (sighted_at scenario (sent scenario lines) k (omega arith))

@@ -1,5 +1,5 @@
 -- Whether a row is an audit's depends on the ticks alone up to the farthest rule's reach and two behind its last step.
-use Rattle.std.proofs.Common.{◌≡◌, ℕ, zero, suc, ◌+◌, ◌-◌, ◌<◌, ◌≤◌, List, [], ◌∷◌, ◌++◌, length, length-take, get_or, take, drop, map, refl, sym, ap, ap₂, subst, ◌∙◌, arith}
+use Rattle.std.proofs.Common.{◌≡◌, ℕ, zero, suc, ◌+◌, ◌-◌, ◌<◌, ◌≤◌, List, [], ◌∷◌, ◌++◌, length, length-take, take, drop, map, refl, sym, ap, ap₂, subst, ◌∙◌, arith}
 use Rattle.std.specs.Prelude.{Option, None, Some, IsSomeAnd, slice_get}
 use Rattle.std.proofs.lemmas.List.{get_or-take, take-append-drop}
 use Rattle.motion.specs.declared.leg.TickState.{TickState}
@@ -15,13 +15,13 @@ use Rattle.encounters.specs.Engagement.{seen_at}
 use Rattle.encounters.specs.declared.detect.Detect.{Detect}
 use Rattle.encounters.specs.declared.pair_step.PairStep.{PairStep}
 use Rattle.encounters.proofs.ForCallers.{Agree, agree_back, agree_front, engaged_of-agree, engagement_of-agree, seen_at-front}
-use Rattle.meetings.specs.Atoms.{IsAtomRow}
+use Rattle.meetings.specs.Atoms.{IsRankedRow}
 use Rattle.meetings.specs.Terms.{Terms}
 use Rattle.meetings.specs.Traces.{AreInContact, step_at, steps_from}
 use Rattle.meetings.specs.declared.pair.Pair.{Pair}
-use Rattle.meetings.proofs.ForCallers.{row_over_less, row_over_more, same_answers, steps_from-length, steps_from-split}
+use Rattle.meetings.proofs.ForCallers.{row_over_less, row_over_more, row_same_ranks, same_answers, steps_from-length, steps_from-split}
 use Rattle.meetings.proofs.SomeRows.{some_rows}
-use Rattle.meetings.specs.Ranks.{all_power_driven}
+use Rattle.meetings.specs.declared.by_rank.ByRank.{ByRank}
 use Rattle.audit_rows.specs.Order.{first_step_of, last_step_of}
 use Rattle.audit_rows.specs.Rows.{IsRowOf}
 use Rattle.audit_rows.specs.Stretches.{mark_at}
@@ -33,7 +33,8 @@ use Rattle.audit_rows.specs.declared.topic.Topic.{Topic}
 use Rattle.audit_rows.specs.declared.topic.Topic.TheVariants.{Meeting, Verdict as OfVerdict}
 use Rattle.audit_rows.proofs.ForCallers.{row_stays, row_was, row_within}
 use Rattle.auditor.specs.AuditTracks.{AreMarksOf, AreMeetingMarks, AreRuleMarks, IsLeastSeparation, IsMeetingMark, IsTraceOf}
-use Rattle.traces.specs.Audited.{Begins, AuditNumbers, Sighting, seen_state_at, state_in, step_of, terms_of, trace_steps}
+use Rattle.traces.specs.Audited.{Begins, AuditNumbers, Sighting, rank_in, seen_state_at, sighting_at, state_in, step_of, terms_of, trace_ranks, trace_steps}
+use Rattle.traces.specs.PairRanks.{by_rank_of}
 use Rattle.auditor.specs.ValueMarks.{mark_of}
 use Rattle.auditor.specs.AuditRows.{IsAuditRow}
 use Rattle.auditor.specs.SettledRows.{audit_reach}
@@ -69,27 +70,27 @@ steps_agree a b c d i (suc count) same =
     ap₂ (λ (x : Option PairStep) (xs : List (Option PairStep)). x ∷ xs) (same i (omega arith)) (steps_agree a b c d (i + 1) count (λ k lt. same k (omega arith)))
 
 -- Two steps' answers, where the one step's are also the other's.
-same_answered : (terms : Terms) (steps others : List (Option PairStep)) (k : ℕ) (o p : Option (Atom → Verdict))
-    → ((answers : Atom → Verdict) → IsAtomRow terms steps k answers → IsAtomRow terms others k answers)
-    → IsSomeAnd o (IsAtomRow terms steps k) → IsSomeAnd p (IsAtomRow terms others k) → o ≡ p
-same_answered terms steps others k None p too row other = absurd row
-same_answered terms steps others k (Some answers) None too row other = absurd other
-same_answered terms steps others k (Some answers) (Some replies) too row other =
-    ap Some (same_answers terms all_power_driven others k answers replies (too answers row) other)
+same_answered : (terms : Terms) (ranks told : ℕ → ByRank) (steps others : List (Option PairStep)) (k : ℕ) (o p : Option (Atom → Verdict))
+    → ((answers : Atom → Verdict) → IsRankedRow terms ranks steps k answers → IsRankedRow terms told others k answers)
+    → IsSomeAnd o (IsRankedRow terms ranks steps k) → IsSomeAnd p (IsRankedRow terms told others k) → o ≡ p
+same_answered terms ranks told steps others k None p too row other = absurd row
+same_answered terms ranks told steps others k (Some answers) None too row other = absurd other
+same_answered terms ranks told steps others k (Some answers) (Some replies) too row other =
+    ap Some (same_answers terms told others k answers replies (too answers row) other)
 
 -- ---- ticks that agree up to one
 
 module _ (numbers : AuditNumbers) (ticks others : List Sighting) (until : ℕ) (here : until < length ticks) (there : until < length others)
-    (agree : (k : ℕ) → k ≤ until → get_or ticks k [] ≡ get_or others k []) where
+    (agree : (k : ℕ) → k ≤ until → sighting_at ticks k ≡ sighting_at others k) where
   module _ (pair : Pair) (start : ℕ) (begun : start ≤ until) where
     begins_too : Begins numbers ticks pair start → Begins numbers others pair start
     begins_too h = record {
       audited = h.audited;
       begins = record {
         before_end = h.begins.before_end;
-        contact = subst (λ (s : Sighting). AreInContact numbers.detect.watch (state_in pair.subject s) (state_in pair.other s)) (agree start begun) h.begins.contact;
+        contact = subst (λ (s : Sighting). AreInContact numbers.detect.watch (state_in pair.subject s.vessels) (state_in pair.other s.vessels)) (agree start begun) h.begins.contact;
         least = λ i lt near. h.begins.least i lt
-            (subst (λ (s : Sighting). AreInContact numbers.detect.watch (state_in pair.subject s) (state_in pair.other s)) (sym (agree i (omega arith))) near);
+            (subst (λ (s : Sighting). AreInContact numbers.detect.watch (state_in pair.subject s.vessels) (state_in pair.other s.vessels)) (sym (agree i (omega arith))) near);
       };
     }
 
@@ -112,7 +113,7 @@ module _ (numbers : AuditNumbers) (ticks others : List Sighting) (until : ℕ) (
     unfolding front_of
     same_front =
         steps_agree (seen_state_at others pair.subject) (seen_state_at others pair.other) (seen_state_at ticks pair.subject) (seen_state_at ticks pair.other) start (until - start)
-        (λ k lt. ap₂ (λ (s t : Sighting). step_of pair s t) (sym (agree k (omega arith))) (sym (agree (k + 1) (omega arith))))
+        (λ k lt. ap₂ (λ (s t : Sighting). step_of pair s.vessels t.vessels) (sym (agree k (omega arith))) (sym (agree (k + 1) (omega arith))))
 
     split_others : trace_steps numbers others pair start ≡ front_of ticks ++ rest_of others
     split_others = split others there ∙ ap (λ (steps : List (Option PairStep)). steps ++ rest_of others) same_front
@@ -132,21 +133,34 @@ module _ (numbers : AuditNumbers) (ticks others : List Sighting) (until : ℕ) (
         (front_mark numbers.detect (front_of ticks) (rest_of ticks) (rest_of others) i mark (omega arith)
         (subst (λ (steps : List (Option PairStep)). IsMeetingMark numbers.detect steps i mark) (split ticks here) h))
 
-    row_too : (i : ℕ) (answers : Atom → Verdict) → start + i < until → IsAtomRow (terms_of numbers) (trace_steps numbers ticks pair start) i answers
-        → IsAtomRow (terms_of numbers) (trace_steps numbers others pair start) i answers
+    -- what the ranks say at its steps, by these ticks and by the others
+    ranks_here : ℕ → ByRank
+    ranks_here = trace_ranks ticks pair start
+
+    ranks_there : ℕ → ByRank
+    ranks_there = trace_ranks others pair start
+
+    same_ranks : (k : ℕ) → start + k ≤ until → ranks_here k ≡ ranks_there k
+    unfolding ranks_here ranks_there
+    same_ranks k le = ap (λ (s : Sighting). by_rank_of (rank_in pair.subject s) (rank_in pair.other s)) (agree (start + k) le)
+
+    row_too : (i : ℕ) (answers : Atom → Verdict) → start + i < until → IsRankedRow (terms_of numbers) ranks_here (trace_steps numbers ticks pair start) i answers
+        → IsRankedRow (terms_of numbers) ranks_there (trace_steps numbers others pair start) i answers
     row_too i answers lt h =
         let long = front_length in
-        subst (λ (steps : List (Option PairStep)). IsAtomRow (terms_of numbers) steps i answers) (sym split_others)
-        (row_over_more (terms_of numbers) all_power_driven (front_of ticks) (rest_of others) i answers (omega arith)
-        (row_over_less (terms_of numbers) all_power_driven (front_of ticks) (rest_of ticks) i answers (omega arith)
-        (subst (λ (steps : List (Option PairStep)). IsAtomRow (terms_of numbers) steps i answers) (split ticks here) h)))
+        subst (λ (steps : List (Option PairStep)). IsRankedRow (terms_of numbers) ranks_there steps i answers) (sym split_others)
+        (row_over_more (terms_of numbers) ranks_there (front_of ticks) (rest_of others) i answers (omega arith)
+        (row_same_ranks (terms_of numbers) ranks_here ranks_there (front_of ticks) i answers (λ k le. same_ranks k (omega arith))
+        (row_over_less (terms_of numbers) ranks_here (front_of ticks) (rest_of ticks) i answers (omega arith)
+        (subst (λ (steps : List (Option PairStep)). IsRankedRow (terms_of numbers) ranks_here steps i answers) (split ticks here) h))))
 
     answers_too : (trace other : Trace) → IsTraceOf numbers ticks pair start trace → IsTraceOf numbers others pair start other → (k : ℕ) → start + k < until
         → slice_get trace k ≡ slice_get other k
+    unfolding ranks_here ranks_there
     answers_too trace other h g k lt =
         let long = steps_length ticks in
         let other_long = steps_length others in
-        same_answered (terms_of numbers) (trace_steps numbers ticks pair start) (trace_steps numbers others pair start) k
+        same_answered (terms_of numbers) ranks_here ranks_there (trace_steps numbers ticks pair start) (trace_steps numbers others pair start) k
         (slice_get trace k) (slice_get other k) (λ answers row. row_too k answers lt row) (h.rows.each k (omega arith)) (g.rows.each k (omega arith))
 
     value_too : (trace other : Trace) → IsTraceOf numbers ticks pair start trace → IsTraceOf numbers others pair start other → (tree : FormulaTree) (i : ℕ)
@@ -173,7 +187,7 @@ module _ (numbers : AuditNumbers) (ticks others : List Sighting) (until : ℕ) (
         → (rest : List Mark) × AreRuleMarks numbers others pair rule start (take n marks ++ rest)
     rule_too rule marks n le h =
         let tree : FormulaTree = (rule_at numbers.rules rule).tree in
-        let rows = some_rows (terms_of numbers) all_power_driven (trace_steps numbers others pair start) in
+        let rows = some_rows (terms_of numbers) (trace_ranks others pair start) (trace_steps numbers others pair start) in
         let other : Trace = rows.0 in
         let is : IsTraceOf numbers others pair start other = record { begins = begins_too h.of.begins; rows = rows.1 } in
         let count = h.count in
@@ -205,7 +219,7 @@ module _ (numbers : AuditNumbers) (ticks others : List Sighting) (until : ℕ) (
 -- A row of the audit of ticks is one of the audit of other ticks that agree up to the farthest rule's reach and two behind its last step.
 pub same_row : (numbers : AuditNumbers) (ticks others : List Sighting) (row : Row)
     → last_step_of row + audit_reach numbers + 2 < length ticks → last_step_of row + audit_reach numbers + 2 < length others
-    → ((k : ℕ) → k ≤ last_step_of row + audit_reach numbers + 2 → get_or ticks k [] ≡ get_or others k [])
+    → ((k : ℕ) → k ≤ last_step_of row + audit_reach numbers + 2 → sighting_at ticks k ≡ sighting_at others k)
     → IsAuditRow numbers ticks row → IsAuditRow numbers others row
 same_row numbers ticks others row here there agree (track, (is, of)) =
     let until : ℕ = last_step_of row + audit_reach numbers + 2 in

@@ -1,8 +1,8 @@
 //! Laws of decided rows, which stand over the definitions alone.
-ghost use Rattle.std.specs.Prelude.{ℕ, ◌≡◌, ◌+◌, ◌-◌, ◌<◌, ◌≤◌, ◌↔◌, ◌++◌, [], get_or, length, List};
+ghost use Rattle.std.specs.Prelude.{ℕ, ◌≡◌, ◌+◌, ◌-◌, ◌<◌, ◌≤◌, ◌↔◌, ◌++◌, length, List};
 ghost use Rattle.audit_rows.specs.Order.{last_step_of};
 ghost use Rattle.audit_rows.specs.declared.row.Row.{Row};
-ghost use Rattle.traces.specs.Audited.{AuditNumbers, Sighting};
+ghost use Rattle.traces.specs.Audited.{AuditNumbers, Sighting, sighting_at};
 ghost use Rattle.auditor.specs.AuditRows.{AreAuditRows, AreAuditRowsBelow, IsAuditRow};
 ghost use Rattle.auditor.specs.SettledRows.{audit_reach, settled_by};
 ghost use Rattle.log_lines.specs.SentLines.{sent};
@@ -22,7 +22,7 @@ pub fn many_settled_stay()
 pub fn rows_look_so_far_ahead()
     ensures { (numbers : AuditNumbers) (ticks others : List Sighting) (row : Row) →
         last_step_of row + audit_reach numbers + 2 < length ticks → last_step_of row + audit_reach numbers + 2 < length others →
-        ((k : ℕ) → k ≤ last_step_of row + audit_reach numbers + 2 → get_or ticks k [] ≡ get_or others k []) →
+        ((k : ℕ) → k ≤ last_step_of row + audit_reach numbers + 2 → sighting_at ticks k ≡ sighting_at others k) →
         IsAuditRow numbers ticks row → IsAuditRow numbers others row }
 {}
 

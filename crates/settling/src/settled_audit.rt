@@ -82,7 +82,9 @@ impl SettledAudit {
     {
         let mut rows = Vec::new(self.alloc);
         while self.ticks.next(scenario, judge)? {
-            let further = self.audit.step(self.ticks.seen())?;
+            let further = self
+                .audit
+                .step_ranked(self.ticks.seen(), self.ticks.ranks())?;
             add(&mut rows, further)?;
         }
         Ok(rows)
@@ -102,7 +104,9 @@ impl SettledAudit {
     {
         let mut rows = Vec::new(self.alloc);
         while self.ticks.next_at_end(scenario, judge)? {
-            let further = self.audit.step(self.ticks.seen())?;
+            let further = self
+                .audit
+                .step_ranked(self.ticks.seen(), self.ticks.ranks())?;
             add(&mut rows, further)?;
         }
         Ok(rows)

@@ -5,7 +5,7 @@ use Rattle.std.proofs.lemmas.List.{take_more}
 use Rattle.std.proofs.lemmas.List.Elements.{Contains-append_cases}
 use Rattle.meetings.specs.Traces.{AreInContact}
 use Rattle.meetings.specs.declared.pair.Pair.{Pair}
-use Rattle.traces.specs.Audited.{IsAudited, AuditNumbers, Sighting, state_in}
+use Rattle.traces.specs.Audited.{IsAudited, AuditNumbers, SeenVessels, Sighting, state_in}
 use Rattle.traces.specs.Contacts.{AreContacts}
 use Rattle.traces.specs.Inner.TracesKept.{AreBegun, AreTooMany, Grew, HaveBoth, Holds, IsBeginning, IsTaken, MayTake, swapped}
 use Rattle.traces.specs.Known.{Known, pairs_of}
@@ -20,23 +20,24 @@ begins_on old mid new g h = record {
   last_tick = h.last_tick ∙ g.last_tick;
   given = h.given ∙ g.given;
   latest = h.latest ∙ g.latest;
+  ranks = h.ranks ∙ g.ranks;
   more = (let a = g.more in let b = h.more in omega arith);
 }
 
 -- The traces of these pairs have begun.
-pub record AreBegunSo (kept : AllTraces) (numbers : AuditNumbers) (seen : Sighting) (start : ℕ) (before : List Known) (front : List Pair) : Type 0 where
+pub record AreBegunSo (kept : AllTraces) (numbers : AuditNumbers) (ticks : List Sighting) (seen : SeenVessels) (start : ℕ) (before : List Known) (front : List Pair) : Type 0 where
   pub after : List Known
-  pub holds : Holds kept numbers after
+  pub holds : Holds kept numbers ticks after
   pub once : AllPairs ◌≢◌ (pairs_of after)
   pub both : HaveBoth after
   pub grew : Grew numbers seen (pairs_of before) start before after
   pub all : (pair : Pair) → Contains front pair → IsAudited numbers.subjects pair → Contains (pairs_of after) pair
 
-module _ (kept : AllTraces) (numbers : AuditNumbers) (seen : Sighting) (start : ℕ) (before : List Known) where
+module _ (kept : AllTraces) (numbers : AuditNumbers) (ticks : List Sighting) (seen : SeenVessels) (start : ℕ) (before : List Known) where
   -- the next pair may be taken
   pub may_take : (front : List Pair) (pair : Pair) → numbers.subjects ≡ kept.subjects.items → pair.subject < pair.other
       → AreInContact numbers.detect.watch (state_in pair.subject seen) (state_in pair.other seen)
-      → (b : AreBegunSo kept numbers seen start before front) → MayTake kept numbers seen (pairs_of before) b.after pair
+      → (b : AreBegunSo kept numbers ticks seen start before front) → MayTake kept numbers seen (pairs_of before) b.after pair
   may_take front pair of lt near b = record {
     of = of;
     two = λ e. absurd (omega arith);
@@ -47,8 +48,8 @@ module _ (kept : AllTraces) (numbers : AuditNumbers) (seen : Sighting) (start : 
   }
 
   pub begun_more : (next : AllTraces) (pairs : List Pair) (i : ℕ) (d : Pair) → i < length pairs
-      → (b : AreBegunSo kept numbers seen start before (take i pairs)) → IsTaken next numbers seen (pairs_of before) start b.after (get_or pairs i d)
-      → AreBegunSo next numbers seen start before (take (i + 1) pairs)
+      → (b : AreBegunSo kept numbers ticks seen start before (take i pairs)) → IsTaken next numbers ticks seen (pairs_of before) start b.after (get_or pairs i d)
+      → AreBegunSo next numbers ticks seen start before (take (i + 1) pairs)
   begun_more next pairs i d lt b t = record {
     after = t.after;
     holds = t.holds;
@@ -65,7 +66,7 @@ module _ (kept : AllTraces) (numbers : AuditNumbers) (seen : Sighting) (start : 
   }
 
   -- the traces that are too many beside those so far
-  pub too_many : (front : List Pair) (b : AreBegunSo kept numbers seen start before front) → AreTooMany numbers seen (pairs_of before) start b.after → AreTooMany numbers seen (pairs_of before) start before
+  pub too_many : (front : List Pair) (b : AreBegunSo kept numbers ticks seen start before front) → AreTooMany numbers seen (pairs_of before) start b.after → AreTooMany numbers seen (pairs_of before) start before
   too_many front b t = record {
     full = t.full;
     many = t.many;
@@ -79,7 +80,7 @@ module _ (kept : AllTraces) (numbers : AuditNumbers) (seen : Sighting) (start : 
   three : (m n : ℕ) → m ≢ n → (m < n) ⊎ (n < m)
   three m n ne = grind arith
 
-  pub begun_all : (pairs : List Pair) → AreContacts numbers.subjects numbers.detect.watch seen pairs → AreBegunSo kept numbers seen start before pairs → AreBegun kept numbers seen start before
+  pub begun_all : (pairs : List Pair) → AreContacts numbers.subjects numbers.detect.watch seen pairs → AreBegunSo kept numbers ticks seen start before pairs → AreBegun kept numbers ticks seen start before
   begun_all pairs contacts b = record {
     after = b.after;
     holds = b.holds;

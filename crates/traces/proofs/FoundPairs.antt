@@ -9,80 +9,80 @@ use Rattle.fixed_geometry.specs.Sizes.{IsBelow}
 use Rattle.meetings.specs.Traces.{AreInContact, IsContact}
 use Rattle.meetings.specs.declared.pair.Pair.{Pair}
 use Rattle.motion.specs.declared.leg.TickState.{TickState}
-use Rattle.traces.specs.Audited.{Sighting, AreAscending, ArePlaced, state_in}
+use Rattle.traces.specs.Audited.{SeenVessels, AreAscending, ArePlaced, state_in}
 use Rattle.traces.specs.Inner.Pairing.{AreAdded, AreJoined, HasPair, HasPairWith, MakePair}
 use Rattle.traces.proofs.AddedPairs.{IsUnderWay, ended, gone_on}
 use Rattle.traces.proofs.SeenVessels.{present, seen_in}
 
 -- ---- one more vessel
 
-pub cut : (vessels : Sighting) (k : ℕ) (d : ℕ × TickState) → k < length vessels → drop k vessels ≡ get_or vessels k d ∷ drop (k + 1) vessels
+pub cut : (vessels : SeenVessels) (k : ℕ) (d : ℕ × TickState) → k < length vessels → drop k vessels ≡ get_or vessels k d ∷ drop (k + 1) vessels
 cut vessels k d lt = rw (add-one, drop-cons vessels k d)
 
-pub with_next : (watch : ℕ) (v : ℕ × TickState) (others : Sighting) (k : ℕ) (d : ℕ × TickState) (before now after : List Pair) → k < length others
+pub with_next : (watch : ℕ) (v : ℕ × TickState) (others : SeenVessels) (k : ℕ) (d : ℕ × TickState) (before now after : List Pair) → k < length others
     → IsUnderWay before (HasPairWith watch v others) now (HasPairWith watch v (drop k others)) → AreAdded now (MakePair watch v (get_or others k d)) after
     → IsUnderWay before (HasPairWith watch v others) after (HasPairWith watch v (drop (k + 1) others))
 with_next watch v others k d before now after lt way added =
     gone_on before (HasPairWith watch v others) now (HasPairWith watch v (drop k others)) (MakePair watch v (get_or others k d)) (HasPairWith watch v (drop (k + 1) others)) after
-    (λ pair h. subst (λ (xs : Sighting). HasPairWith watch v xs pair) (cut others k d lt) h)
-    (λ pair h. subst (λ (xs : Sighting). HasPairWith watch v xs pair) (sym (cut others k d lt)) h)
+    (λ pair h. subst (λ (xs : SeenVessels). HasPairWith watch v xs pair) (cut others k d lt) h)
+    (λ pair h. subst (λ (xs : SeenVessels). HasPairWith watch v xs pair) (sym (cut others k d lt)) h)
     way added
 
 -- ---- the last vessel
 
-pub with_all : (watch : ℕ) (v : ℕ × TickState) (others : Sighting) (k : ℕ) (before now : List Pair) → length others ≤ k
+pub with_all : (watch : ℕ) (v : ℕ × TickState) (others : SeenVessels) (k : ℕ) (before now : List Pair) → length others ≤ k
     → IsUnderWay before (HasPairWith watch v others) now (HasPairWith watch v (drop k others)) → AreAdded before (HasPairWith watch v others) now
 with_all watch v others k before now le way =
-    ended before (HasPairWith watch v others) now (HasPairWith watch v (drop k others)) way (λ pair h. subst (λ (xs : Sighting). HasPairWith watch v xs pair) (drop_all k others le) h)
+    ended before (HasPairWith watch v others) now (HasPairWith watch v (drop k others)) way (λ pair h. subst (λ (xs : SeenVessels). HasPairWith watch v xs pair) (drop_all k others le) h)
 
 -- ---- two vessels that are among them
 
 -- Two of the vessels are in contact and make the pair, in the order of their MMSIs.
-pub record JoinsTwo (watch : ℕ) (vessels : Sighting) (pair : Pair) : Type 0 where
+pub record JoinsTwo (watch : ℕ) (vessels : SeenVessels) (pair : Pair) : Type 0 where
   pub first : ℕ × TickState
   pub second : ℕ × TickState
   pub has_first : Contains vessels first
   pub has_second : Contains vessels second
   pub joined : AreJoined watch first second pair
 
-pub record JoinsOne (watch : ℕ) (v : ℕ × TickState) (others : Sighting) (pair : Pair) : Type 0 where
+pub record JoinsOne (watch : ℕ) (v : ℕ × TickState) (others : SeenVessels) (pair : Pair) : Type 0 where
   pub one : ℕ × TickState
   pub has : Contains others one
   pub pairs : MakePair watch v one pair
 
-later : (u v : ℕ × TickState) (vessels : Sighting) → Contains vessels v → Contains (u ∷ vessels) v
+later : (u v : ℕ × TickState) (vessels : SeenVessels) → Contains vessels v → Contains (u ∷ vessels) v
 later u v vessels found = (suc found.0, let lt = found.1 in omega arith, found.2)
 
-here : (v : ℕ × TickState) (vessels : Sighting) → Contains (v ∷ vessels) v
+here : (v : ℕ × TickState) (vessels : SeenVessels) → Contains (v ∷ vessels) v
 here v vessels = (0, omega arith, refl)
 
-pub joins_one : (watch : ℕ) (v : ℕ × TickState) (others : Sighting) (pair : Pair) → HasPairWith watch v others pair → JoinsOne watch v others pair
+pub joins_one : (watch : ℕ) (v : ℕ × TickState) (others : SeenVessels) (pair : Pair) → HasPairWith watch v others pair → JoinsOne watch v others pair
 joins_one watch v [] pair h = absurd h
 joins_one watch v (u ∷ others) pair (inl h) = record { one = u; has = here u others; pairs = h }
 joins_one watch v (u ∷ others) pair (inr h) = let rest = joins_one watch v others pair h in record { one = rest.one; has = later u rest.one others rest.has; pairs = rest.pairs }
 
 -- Two of the vessels make a pair, whichever comes first.
-pub in_either_order : (watch : ℕ) (vessels : Sighting) (pair : Pair) (v u : ℕ × TickState) → Contains vessels v → Contains vessels u → MakePair watch v u pair → JoinsTwo watch vessels pair
+pub in_either_order : (watch : ℕ) (vessels : SeenVessels) (pair : Pair) (v u : ℕ × TickState) → Contains vessels v → Contains vessels u → MakePair watch v u pair → JoinsTwo watch vessels pair
 in_either_order watch vessels pair v u has_v has_u (inl joined) = record { first = v; second = u; has_first = has_v; has_second = has_u; joined = joined }
 in_either_order watch vessels pair v u has_v has_u (inr joined) = record { first = u; second = v; has_first = has_u; has_second = has_v; joined = joined }
 
-in_one_order : (watch : ℕ) (v : ℕ × TickState) (others : Sighting) (pair : Pair) (u : ℕ × TickState) → Contains others u → MakePair watch v u pair → JoinsTwo watch (v ∷ others) pair
+in_one_order : (watch : ℕ) (v : ℕ × TickState) (others : SeenVessels) (pair : Pair) (u : ℕ × TickState) → Contains others u → MakePair watch v u pair → JoinsTwo watch (v ∷ others) pair
 in_one_order watch v others pair u has h = in_either_order watch (v ∷ others) pair v u (here v others) (later v u others has) h
 
-pub joins_two : (watch : ℕ) (vessels : Sighting) (pair : Pair) → HasPair watch vessels pair → JoinsTwo watch vessels pair
+pub joins_two : (watch : ℕ) (vessels : SeenVessels) (pair : Pair) → HasPair watch vessels pair → JoinsTwo watch vessels pair
 joins_two watch [] pair h = absurd h
 joins_two watch (v ∷ others) pair (inl h) = let found = joins_one watch v others pair h in in_one_order watch v others pair found.one found.has found.pairs
 joins_two watch (v ∷ others) pair (inr h) =
     let rest = joins_two watch others pair h in
     record { first = rest.first; second = rest.second; has_first = later v rest.first others rest.has_first; has_second = later v rest.second others rest.has_second; joined = rest.joined }
 
-pub has_with : (watch : ℕ) (v : ℕ × TickState) (others : Sighting) (pair : Pair) (k : ℕ) (u : ℕ × TickState) → k < length others → get_or others k u ≡ u → MakePair watch v u pair
+pub has_with : (watch : ℕ) (v : ℕ × TickState) (others : SeenVessels) (pair : Pair) (k : ℕ) (u : ℕ × TickState) → k < length others → get_or others k u ≡ u → MakePair watch v u pair
     → HasPairWith watch v others pair
 has_with watch v [] pair k u lt is h = absurd (omega arith)
 has_with watch v (w ∷ others) pair zero u lt is h = inl (subst (λ (x : ℕ × TickState). MakePair watch v x pair) (sym is) h)
 has_with watch v (w ∷ others) pair (suc k) u lt is h = inr (has_with watch v others pair k u (omega arith) is h)
 
-has_two : (watch : ℕ) (vessels : Sighting) (pair : Pair) (i j : ℕ) (a b : ℕ × TickState) → i < length vessels → j < length vessels
+has_two : (watch : ℕ) (vessels : SeenVessels) (pair : Pair) (i j : ℕ) (a b : ℕ × TickState) → i < length vessels → j < length vessels
     → get_or vessels i a ≡ a → get_or vessels j b ≡ b → AreJoined watch a b pair → HasPair watch vessels pair
 has_two watch [] pair i j a b lt lt' is is' h = absurd (omega arith)
 has_two watch (v ∷ others) pair zero zero a b lt lt' is is' h =
@@ -113,7 +113,7 @@ states watch (Some a) None h = absurd h
 states watch None (Some b) h = absurd h
 states watch None None h = absurd h
 
-pub is_contact : (watch : ℕ) (seen vessels : Sighting) (pair : Pair) → AreAscending seen → IsPermutation seen vessels → JoinsTwo watch vessels pair
+pub is_contact : (watch : ℕ) (seen vessels : SeenVessels) (pair : Pair) → AreAscending seen → IsPermutation seen vessels → JoinsTwo watch vessels pair
     → (pair.subject < pair.other) × AreInContact watch (state_in pair.subject seen) (state_in pair.other seen)
 is_contact watch seen vessels pair up same two =
     let back = IsPermutation-sym seen vessels same in
@@ -124,7 +124,7 @@ is_contact watch seen vessels pair up same two =
     let second = present pair.other seen two.second up (Contains-permutation vessels seen two.second back two.has_second) (sym other) in
     (omega arith, in_contact watch (state_in pair.subject seen) (state_in pair.other seen) two.first.1 two.second.1 first second two.joined.near)
 
-pub is_found : (watch : ℕ) (seen vessels : Sighting) (pair : Pair) → IsPermutation seen vessels → pair.subject < pair.other
+pub is_found : (watch : ℕ) (seen vessels : SeenVessels) (pair : Pair) → IsPermutation seen vessels → pair.subject < pair.other
     → AreInContact watch (state_in pair.subject seen) (state_in pair.other seen) → HasPair watch vessels pair
 is_found watch seen vessels pair same less h =
     let both = states watch (state_in pair.subject seen) (state_in pair.other seen) h in
@@ -133,5 +133,5 @@ is_found watch seen vessels pair same less h =
     has_two watch vessels pair first.0 second.0 (pair.subject, both.a) (pair.other, both.b) first.1 second.1 first.2 second.2
     (record { subject = refl; other = refl; order = less; near = both.near })
 
-pub still_placed : (seen vessels : Sighting) → IsPermutation seen vessels → ArePlaced seen → ArePlaced vessels
+pub still_placed : (seen vessels : SeenVessels) → IsPermutation seen vessels → ArePlaced seen → ArePlaced vessels
 still_placed seen vessels same placed = All-permutation (λ (vessel : ℕ × TickState). IsBelow (2 ^ 33) vessel.1.point × HasDirection vessel.1) seen vessels same placed

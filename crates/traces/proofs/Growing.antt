@@ -4,7 +4,7 @@ use Rattle.std.specs.List.{AllZip, Contains}
 use Rattle.std.proofs.lemmas.List.{map-append}
 use Rattle.std.proofs.lemmas.List.Elements.{Contains-append_left, Contains-append_right, Contains-append_cases}
 use Rattle.meetings.specs.declared.pair.Pair.{Pair}
-use Rattle.traces.specs.Audited.{AuditNumbers, Sighting}
+use Rattle.traces.specs.Audited.{AuditNumbers, SeenVessels, Sighting}
 use Rattle.traces.specs.Inner.TracesKept.{Follows, Holds}
 use Rattle.traces.specs.Known.{IsFollowed, Known, opened, pairs_of}
 use Rattle.traces.specs.declared.all_traces.AllTraces.{AllTraces}
@@ -67,11 +67,11 @@ pair_pushed knowns pair start other = (
 
 -- ---- steps leave the pairs
 
-pub pairs_followed : (numbers : AuditNumbers) (before seen : Sighting) (knowns after : List Known) → AllZip (IsFollowed numbers before seen) knowns after → pairs_of after ≡ pairs_of knowns
-pairs_followed numbers before seen [] [] z = refl
-pairs_followed numbers before seen [] (k ∷ ks) z = absurd z
-pairs_followed numbers before seen (k ∷ ks) [] z = absurd z
-pairs_followed numbers before seen (k ∷ ks) (l ∷ ls) z = ap₂ (λ (p : Pair) (ps : List Pair). p ∷ ps) (ap (λ (m : Known). m.pair) z.0.is) (pairs_followed numbers before seen ks ls z.1)
+pub pairs_followed : (numbers : AuditNumbers) (ticks : List Sighting) (seen : SeenVessels) (knowns after : List Known) → AllZip (IsFollowed numbers ticks seen) knowns after → pairs_of after ≡ pairs_of knowns
+pairs_followed numbers ticks seen [] [] z = refl
+pairs_followed numbers ticks seen [] (k ∷ ks) z = absurd z
+pairs_followed numbers ticks seen (k ∷ ks) [] z = absurd z
+pairs_followed numbers ticks seen (k ∷ ks) (l ∷ ls) z = ap₂ (λ (p : Pair) (ps : List Pair). p ∷ ps) (ap (λ (m : Known). m.pair) z.0.is) (pairs_followed numbers ticks seen ks ls z.1)
 
 -- A trace that takes its step leaves the pairs.
 pub pairs_changed : (front back : List Known) (known after : Known) → after.pair ≡ known.pair → pairs_of (front ++ after ∷ back) ≡ pairs_of (front ++ known ∷ back)
@@ -79,21 +79,21 @@ pairs_changed [] back known after e = ap (λ (p : Pair). p ∷ pairs_of back) e
 pairs_changed (k ∷ ks) back known after e = ap (λ (ps : List Pair). k.pair ∷ ps) (pairs_changed ks back known after e)
 
 -- The trace at an index follows what is known there.
-pub follows_at : (numbers : AuditNumbers) (items : List FollowedTrace) (front : List Known) (known : Known) (back : List Known) (index : ℕ) (trace : FollowedTrace)
-    → trace ≡ get_or items index trace → index ≡ length front → AllZip (Follows numbers) items (front ++ known ∷ back) → Follows numbers trace known
-follows_at numbers items front known back index trace e at z =
-    subst (λ (t : FollowedTrace). Follows numbers t known) (sym e)
-    (subst (λ (n : ℕ). Follows numbers (get_or items n trace) known) (sym at) (zip_at (Follows numbers) items front known back trace z))
+pub follows_at : (numbers : AuditNumbers) (ticks : List Sighting) (items : List FollowedTrace) (front : List Known) (known : Known) (back : List Known) (index : ℕ) (trace : FollowedTrace)
+    → trace ≡ get_or items index trace → index ≡ length front → AllZip (Follows numbers ticks) items (front ++ known ∷ back) → Follows numbers ticks trace known
+follows_at numbers ticks items front known back index trace e at z =
+    subst (λ (t : FollowedTrace). Follows numbers ticks t known) (sym e)
+    (subst (λ (n : ℕ). Follows numbers ticks (get_or items n trace) known) (sym at) (zip_at (Follows numbers ticks) items front known back trace z))
 
 -- Where the trace at an index changes, and its pair does not, the traces stand for the changed ones, and the pairs are theirs.
-pub trace_changed : (kept : AllTraces) (numbers : AuditNumbers) (front back : List Known) (known after : Known) (index : ℕ) (trace : FollowedTrace) → after.pair ≡ known.pair
-    → index ≡ length front → Holds kept numbers (front ++ known ∷ back) → Follows numbers trace after
-    → AllZip (Follows numbers) (set kept.traces.items index trace) (front ++ after ∷ back)
+pub trace_changed : (kept : AllTraces) (numbers : AuditNumbers) (ticks : List Sighting) (front back : List Known) (known after : Known) (index : ℕ) (trace : FollowedTrace) → after.pair ≡ known.pair
+    → index ≡ length front → Holds kept numbers ticks (front ++ known ∷ back) → Follows numbers ticks trace after
+    → AllZip (Follows numbers ticks) (set kept.traces.items index trace) (front ++ after ∷ back)
     × ((pair : Pair) → Contains kept.pairs.keys pair ↔ Contains (pairs_of (front ++ after ∷ back)) pair)
-trace_changed kept numbers front back known after index trace of_pair at h now =
+trace_changed kept numbers ticks front back known after index trace of_pair at h now =
     let same = pairs_changed front back known after of_pair in (
-      subst (λ (n : ℕ). AllZip (Follows numbers) (set kept.traces.items n trace) (front ++ after ∷ back)) (sym at)
-          (zip_set (Follows numbers) kept.traces.items front known back trace after h.traces now),
+      subst (λ (n : ℕ). AllZip (Follows numbers ticks) (set kept.traces.items n trace) (front ++ after ∷ back)) (sym at)
+          (zip_set (Follows numbers ticks) kept.traces.items front known back trace after h.traces now),
       λ pair. (
         λ i. subst (λ (ps : List Pair). Contains ps pair) (sym same) ((h.pairs pair).0 i),
         λ i. (h.pairs pair).1 (subst (λ (ps : List Pair). Contains ps pair) same i),

@@ -13,3 +13,4 @@ mod SightingFacts
 mod AddedPairs
 mod FoundPairs
 mod Reach
+mod ByRanks

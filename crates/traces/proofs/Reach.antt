@@ -13,7 +13,7 @@ use Rattle.std.specs.Ordering.{int_cmp, is_lt}
 use Rattle.meetings.specs.Traces.{IsContact}
 use Rattle.meetings.specs.declared.pair.Pair.{Pair}
 use Rattle.motion.specs.declared.leg.TickState.{TickState}
-use Rattle.traces.specs.Audited.{Sighting}
+use Rattle.traces.specs.Audited.{SeenVessels}
 use Rattle.traces.specs.Inner.Pairing.{AreWestToEast, HasPairWith, MakePair}
 use Rattle.traces.proofs.FoundPairs.{joins_one}
 
@@ -29,7 +29,7 @@ int_lt-false x y h = grind (arith, ints)
 no_less : (x y : ℤ) → is_lt (int_cmp x y) ≡ false → y ≤ℤ x
 no_less x y h = int_lt-false x y (not_less (int_lt x y) (cond (int_lt y x) Greater Equal) h)
 
-pub in_order : (vessels : Sighting) → IsSortedByKey (λ (vessel : ℕ × TickState). vessel.1.point.x) int_cmp vessels → AreWestToEast vessels
+pub in_order : (vessels : SeenVessels) → IsSortedByKey (λ (vessel : ℕ × TickState). vessel.1.point.x) int_cmp vessels → AreWestToEast vessels
 in_order vessels up i j d lt within =
     no_less _ _ (sorted_far (λ (a b : ℕ × TickState). is_lt (int_cmp a.1.point.x b.1.point.x)) (ranks_by int_cmp_total (λ (vessel : ℕ × TickState). vessel.1.point.x)) vessels up i j d (omega arith) within)
 
@@ -63,11 +63,11 @@ too_far watch v u w pair east far (inl joined) = let near = near_x watch v.1 w.1
 too_far watch v u w pair east far (inr joined) = let near = near_x watch w.1 v.1 joined.near in far (omega (arith, ints))
 
 -- those from an index on are no further to the west than the one there
-east_of : (vessels : Sighting) (k m : ℕ) (d : ℕ × TickState) → AreWestToEast vessels → k + m < length vessels → (get_or vessels k d).1.point.x ≤ℤ (get_or vessels (k + m) d).1.point.x
+east_of : (vessels : SeenVessels) (k m : ℕ) (d : ℕ × TickState) → AreWestToEast vessels → k + m < length vessels → (get_or vessels k d).1.point.x ≤ℤ (get_or vessels (k + m) d).1.point.x
 east_of vessels k zero d up lt = let same : k ≡ k + zero = omega arith in let e = ap (λ (j : ℕ). (get_or vessels j d).1.point.x) same in omega (arith, ints)
 east_of vessels k (suc m) d up lt = up k (k + suc m) d (omega arith) lt
 
-pub none_in_reach : (watch : ℕ) (v : ℕ × TickState) (others : Sighting) (k : ℕ) (d : ℕ × TickState) → AreWestToEast others → k < length others
+pub none_in_reach : (watch : ℕ) (v : ℕ × TickState) (others : SeenVessels) (k : ℕ) (d : ℕ × TickState) → AreWestToEast others → k < length others
     → (((get_or others k d).1.point.x -ℤ v.1.point.x) ≤ℤ pos watch → IsTrue false) → (pair : Pair) → ¬ HasPairWith watch v (drop k others) pair
 none_in_reach watch v others k d up lt untrue pair h =
     let far : ¬ (((get_or others k d).1.point.x -ℤ v.1.point.x) ≤ℤ pos watch) = λ near. let e : false ≡ true = untrue near in absurd (cc) in

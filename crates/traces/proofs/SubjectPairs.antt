@@ -10,7 +10,7 @@ use Rattle.std.specs.List.Sorted.{IsPermutation}
 use Rattle.meetings.specs.Traces.{AreInContact}
 use Rattle.meetings.specs.declared.pair.Pair.{Pair}
 use Rattle.motion.specs.declared.leg.TickState.{TickState}
-use Rattle.traces.specs.Audited.{IsAudited, Sighting, AreAscending, state_in}
+use Rattle.traces.specs.Audited.{IsAudited, SeenVessels, AreAscending, state_in}
 use Rattle.traces.specs.Contacts.{AreContacts}
 use Rattle.traces.specs.Inner.Pairing.{AreAdded, AreJoined, HasPair, HasPairOf, HasPairWith, HasSubjectPair}
 use Rattle.traces.proofs.AddedPairs.{IsUnderWay, ended, gone_on, none_added}
@@ -19,7 +19,7 @@ use Rattle.traces.proofs.FoundPairs.{JoinsTwo, cut, has_with, in_either_order, i
 
 -- ---- whether there are subjects
 
-pub no_items : (xs : List ℕ) → (length xs == 0) ≡ true → xs ≡ []
+pub no_items : {X : Type 0} (xs : List X) → (length xs == 0) ≡ true → xs ≡ []
 no_items [] h = refl
 no_items (x ∷ xs) h = let none : suc (length xs) ≡ 0 = grind (arith, nat_tests) in absurd (omega arith)
 
@@ -29,45 +29,45 @@ some_items (x ∷ xs) h e = cc
 
 -- ---- one vessel
 
-pub with_subject : (watch : ℕ) (subjects : List ℕ) (v : ℕ × TickState) (others : Sighting) (before after : List Pair) → Contains subjects v.0
+pub with_subject : (watch : ℕ) (subjects : List ℕ) (v : ℕ × TickState) (others : SeenVessels) (before after : List Pair) → Contains subjects v.0
     → AreAdded before (HasPairWith watch v others) after → AreAdded before (HasPairOf watch subjects v others) after
 with_subject watch subjects v others before after is added = record {
   sound = λ pair h. elim (added.sound pair h) [ inl old ↦ inl old | inr new ↦ inr (record { subject = is; makes = new }) ];
   complete = λ pair h. elim h [ inl old ↦ added.complete pair (inl old) | inr new ↦ added.complete pair (inr new.makes) ];
 }
 
-pub with_other : (watch : ℕ) (subjects : List ℕ) (v : ℕ × TickState) (others : Sighting) (before : List Pair) → ¬ Contains subjects v.0
+pub with_other : (watch : ℕ) (subjects : List ℕ) (v : ℕ × TickState) (others : SeenVessels) (before : List Pair) → ¬ Contains subjects v.0
     → AreAdded before (HasPairOf watch subjects v others) before
 with_other watch subjects v others before not = none_added before (HasPairOf watch subjects v others) (λ pair h. not h.subject)
 
 -- ---- one more vessel, and the last one
 
-pub next_vessel : (watch : ℕ) (subjects : List ℕ) (vessels others : Sighting) (k : ℕ) (d : ℕ × TickState) (now after : List Pair) → k < length vessels
+pub next_vessel : (watch : ℕ) (subjects : List ℕ) (vessels others : SeenVessels) (k : ℕ) (d : ℕ × TickState) (now after : List Pair) → k < length vessels
     → IsUnderWay [] (HasSubjectPair watch subjects vessels others) now (HasSubjectPair watch subjects (drop k vessels) others)
     → AreAdded now (HasPairOf watch subjects (get_or vessels k d) others) after
     → IsUnderWay [] (HasSubjectPair watch subjects vessels others) after (HasSubjectPair watch subjects (drop (k + 1) vessels) others)
 next_vessel watch subjects vessels others k d now after lt way added =
     gone_on [] (HasSubjectPair watch subjects vessels others) now (HasSubjectPair watch subjects (drop k vessels) others) (HasPairOf watch subjects (get_or vessels k d) others)
     (HasSubjectPair watch subjects (drop (k + 1) vessels) others) after
-    (λ pair h. subst (λ (xs : Sighting). HasSubjectPair watch subjects xs others pair) (cut vessels k d lt) h)
-    (λ pair h. subst (λ (xs : Sighting). HasSubjectPair watch subjects xs others pair) (sym (cut vessels k d lt)) h)
+    (λ pair h. subst (λ (xs : SeenVessels). HasSubjectPair watch subjects xs others pair) (cut vessels k d lt) h)
+    (λ pair h. subst (λ (xs : SeenVessels). HasSubjectPair watch subjects xs others pair) (sym (cut vessels k d lt)) h)
     way added
 
-pub all_vessels : (watch : ℕ) (subjects : List ℕ) (vessels others : Sighting) (k : ℕ) (now : List Pair) → length vessels ≤ k
+pub all_vessels : (watch : ℕ) (subjects : List ℕ) (vessels others : SeenVessels) (k : ℕ) (now : List Pair) → length vessels ≤ k
     → IsUnderWay [] (HasSubjectPair watch subjects vessels others) now (HasSubjectPair watch subjects (drop k vessels) others)
     → AreAdded [] (HasSubjectPair watch subjects vessels others) now
 all_vessels watch subjects vessels others k now le way =
     ended [] (HasSubjectPair watch subjects vessels others) now (HasSubjectPair watch subjects (drop k vessels) others) way
-    (λ pair h. subst (λ (xs : Sighting). HasSubjectPair watch subjects xs others pair) (drop_all k vessels le) h)
+    (λ pair h. subst (λ (xs : SeenVessels). HasSubjectPair watch subjects xs others pair) (drop_all k vessels le) h)
 
 -- ---- two vessels, of which one is a subject
 
-record FindsOne (watch : ℕ) (subjects : List ℕ) (vessels others : Sighting) (pair : Pair) : Type 0 where
+record FindsOne (watch : ℕ) (subjects : List ℕ) (vessels others : SeenVessels) (pair : Pair) : Type 0 where
   one : ℕ × TickState
   has : Contains vessels one
   finds : HasPairOf watch subjects one others pair
 
-finds_one : (watch : ℕ) (subjects : List ℕ) (vessels others : Sighting) (pair : Pair) → HasSubjectPair watch subjects vessels others pair → FindsOne watch subjects vessels others pair
+finds_one : (watch : ℕ) (subjects : List ℕ) (vessels others : SeenVessels) (pair : Pair) → HasSubjectPair watch subjects vessels others pair → FindsOne watch subjects vessels others pair
 finds_one watch subjects [] others pair h = absurd h
 finds_one watch subjects (v ∷ vessels) others pair (inl h) = record { one = v; has = (0, omega arith, refl); finds = h }
 finds_one watch subjects (v ∷ vessels) others pair (inr h) =
@@ -75,19 +75,19 @@ finds_one watch subjects (v ∷ vessels) others pair (inr h) =
     let lt = rest.has.1 in
     record { one = rest.one; has = (suc rest.has.0, omega arith, rest.has.2); finds = rest.finds }
 
-found_at : (watch : ℕ) (subjects : List ℕ) (vessels others : Sighting) (pair : Pair) (k : ℕ) (v : ℕ × TickState) → k < length vessels → get_or vessels k v ≡ v
+found_at : (watch : ℕ) (subjects : List ℕ) (vessels others : SeenVessels) (pair : Pair) (k : ℕ) (v : ℕ × TickState) → k < length vessels → get_or vessels k v ≡ v
     → HasPairOf watch subjects v others pair → HasSubjectPair watch subjects vessels others pair
 found_at watch subjects [] others pair k v lt is h = absurd (omega arith)
 found_at watch subjects (w ∷ vessels) others pair zero v lt is h = inl (subst (λ (x : ℕ × TickState). HasPairOf watch subjects x others pair) (sym is) h)
 found_at watch subjects (w ∷ vessels) others pair (suc k) v lt is h = inr (found_at watch subjects vessels others pair k v (omega arith) is h)
 
-joins : (watch : ℕ) (subjects : List ℕ) (vessels : Sighting) (pair : Pair) → HasSubjectPair watch subjects vessels vessels pair → JoinsTwo watch vessels pair
+joins : (watch : ℕ) (subjects : List ℕ) (vessels : SeenVessels) (pair : Pair) → HasSubjectPair watch subjects vessels vessels pair → JoinsTwo watch vessels pair
 joins watch subjects vessels pair h =
     let found = finds_one watch subjects vessels vessels pair h in
     let with = joins_one watch found.one vessels pair found.finds.makes in
     in_either_order watch vessels pair found.one with.one found.has with.has with.pairs
 
-chosen : (watch : ℕ) (subjects : List ℕ) (vessels : Sighting) (pair : Pair) → HasSubjectPair watch subjects vessels vessels pair
+chosen : (watch : ℕ) (subjects : List ℕ) (vessels : SeenVessels) (pair : Pair) → HasSubjectPair watch subjects vessels vessels pair
     → (subjects ≡ []) ⊎ Contains subjects pair.subject ⊎ Contains subjects pair.other
 chosen watch subjects vessels pair h =
     let found = finds_one watch subjects vessels vessels pair h in
@@ -97,7 +97,7 @@ chosen watch subjects vessels pair h =
       | inr joined ↦ inr (inr (subst (Contains subjects) (sym joined.other) found.finds.subject))
     ]
 
-makes_one : (watch : ℕ) (subjects : List ℕ) (seen vessels : Sighting) (pair : Pair) → subjects ≢ [] → IsPermutation seen vessels → pair.subject < pair.other → IsAudited subjects pair
+makes_one : (watch : ℕ) (subjects : List ℕ) (seen vessels : SeenVessels) (pair : Pair) → subjects ≢ [] → IsPermutation seen vessels → pair.subject < pair.other → IsAudited subjects pair
     → AreInContact watch (state_in pair.subject seen) (state_in pair.other seen) → HasSubjectPair watch subjects vessels vessels pair
 makes_one watch subjects seen vessels pair some same less audited h =
     let both = states watch (state_in pair.subject seen) (state_in pair.other seen) h in
@@ -119,7 +119,7 @@ makes_one watch subjects seen vessels pair some same less audited h =
 -- ---- the contacts
 
 -- Where there are no subjects, all that were found are the contacts.
-pub are_all_contacts : (watch : ℕ) (subjects : List ℕ) (seen vessels : Sighting) (pairs : List Pair) → subjects ≡ [] → AreAscending seen → IsPermutation seen vessels
+pub are_all_contacts : (watch : ℕ) (subjects : List ℕ) (seen vessels : SeenVessels) (pairs : List Pair) → subjects ≡ [] → AreAscending seen → IsPermutation seen vessels
     → AreAdded [] (HasPair watch vessels) pairs → AreContacts subjects watch seen pairs
 are_all_contacts watch subjects seen vessels pairs none up same added = record {
   sound = λ k d lt. is_contact watch seen vessels (get_or pairs k d) up same (joins_two watch vessels (get_or pairs k d) (new k d lt));
@@ -135,7 +135,7 @@ are_all_contacts watch subjects seen vessels pairs none up same added = record {
     ]
 
 -- Where there are some, the pairs that were found with one of them are.
-pub are_subject_contacts : (watch : ℕ) (subjects : List ℕ) (seen vessels : Sighting) (pairs : List Pair) → subjects ≢ [] → AreAscending seen → IsPermutation seen vessels
+pub are_subject_contacts : (watch : ℕ) (subjects : List ℕ) (seen vessels : SeenVessels) (pairs : List Pair) → subjects ≢ [] → AreAscending seen → IsPermutation seen vessels
     → AreAdded [] (HasSubjectPair watch subjects vessels vessels) pairs → AreContacts subjects watch seen pairs
 are_subject_contacts watch subjects seen vessels pairs some up same added = record {
   sound = λ k d lt. is_contact watch seen vessels (get_or pairs k d) up same (joins watch subjects vessels (get_or pairs k d) (new k d lt));

@@ -4,7 +4,7 @@ use Rattle.std.specs.List.{AllPairs, Contains}
 use Rattle.std.proofs.lemmas.List.{map-append}
 use Rattle.std.proofs.lemmas.List.Elements.{Contains-append_cases, Contains-append_left}
 use Rattle.meetings.specs.declared.pair.Pair.{Pair}
-use Rattle.traces.specs.Audited.{AuditNumbers, Sighting, state_in}
+use Rattle.traces.specs.Audited.{AuditNumbers, SeenVessels, state_in}
 use Rattle.traces.specs.Inner.TracesKept.{Grew, HaveBoth, IsFresh, MayTake, swapped}
 use Rattle.traces.specs.Known.{AreOpened, Known, opened, pairs_of}
 use Rattle.traces.specs.declared.all_traces.AllTraces.{AllTraces}
@@ -22,7 +22,7 @@ pairs_still before new after whole pair i =
     subst (λ (ks : List Known). Contains (pairs_of ks) pair) (sym whole)
     (subst (λ (ps : List Pair). Contains ps pair) (sym (map-append (λ (k : Known). k.pair) before new)) (Contains-append_left (pairs_of before) (pairs_of new) pair i))
 
-module _ (numbers : AuditNumbers) (seen : Sighting) (old : List Pair) (start : ℕ) where
+module _ (numbers : AuditNumbers) (seen : SeenVessels) (old : List Pair) (start : ℕ) where
   pub grew_none : (knowns : List Known) → Grew numbers seen old start knowns knowns
   grew_none knowns = record { new = []; whole = sym (append-nil knowns); opened = tt; fresh = λ known i. in_none known i }
 

@@ -1,5 +1,5 @@
 -- What a further tick leaves as it was, and what it adds to a trace.
-use Rattle.std.proofs.Common.{◌≡◌, ℕ, ℤ, zero, suc, ◌+◌, ◌-◌, ◌*◌, ◌<◌, ◌≤◌, ◌⊎◌, inl, inr, ◌-ℤ◌, ◌*ℤ◌, ◌+ℤ◌, List, [], ◌∷◌, ◌++◌, length, length-append, get_or, get_or-append-add, refl, sym, ap, ap₂, subst, ◌∙◌, arith}
+use Rattle.std.proofs.Common.{◌≡◌, ℕ, ℤ, zero, suc, ◌+◌, ◌-◌, ◌*◌, ◌<◌, ◌≤◌, ◌⊎◌, inl, inr, ◌-ℤ◌, ◌*ℤ◌, ◌+ℤ◌, List, [], ◌∷◌, ◌++◌, length, length-append, get_or-append-add, refl, sym, ap, ap₂, subst, ◌∙◌, arith}
 use Rattle.std.specs.Prelude.{Option, Some, None, pos, ◌≤ℤ◌}
 use Rattle.std.proofs.lemmas.List.{get_or_append_left, get_or_past}
 use Rattle.fixed_geometry.proofs.ForCallers.{polynomials, diff_of, diff_same}
@@ -8,7 +8,7 @@ use Rattle.encounters.specs.declared.pair_step.PairStep.{PairStep}
 use Rattle.meetings.specs.Traces.{AreInContact, IsContactAt, step_at, steps_from}
 use Rattle.meetings.specs.declared.pair.Pair.{Pair}
 use Rattle.meetings.proofs.ForCallers.{steps_from-last}
-use Rattle.traces.specs.Audited.{Begins, IsAudited, AuditNumbers, Sighting, seen_state_at, state_in, trace_steps, last_sighting, step_of}
+use Rattle.traces.specs.Audited.{Begins, IsAudited, AuditNumbers, Sighting, by_rank_in, nothing_seen, seen_state_at, sighting_at, state_in, trace_ranks, trace_steps, last_sighting, step_of}
 use Rattle.traces.specs.Inner.TracesKept.{swapped}
 
 -- ---- the two orders of a pair
@@ -64,39 +64,39 @@ pub contact_within : (watch : ℕ) (ticks : List Sighting) (a b k : ℕ) → Are
 contact_within watch ticks a b k h =
     elim (near_or_past k (length ticks)) [
       | inl within ↦ within
-      | inr past ↦ absurd (subst (λ (s : Sighting). AreInContact watch (state_in a s) (state_in b s)) (get_or_past ticks k [] past) h)
+      | inr past ↦ absurd (subst (λ (s : Sighting). AreInContact watch (state_in a s.vessels) (state_in b s.vessels)) (get_or_past ticks k nothing_seen past) h)
     ]
 
 module _ (ticks : List Sighting) (seen : Sighting) where
-  pub given_front : (k : ℕ) → k < length ticks → get_or (ticks ++ seen ∷ []) k [] ≡ get_or ticks k []
-  given_front k lt = get_or_append_left ticks (seen ∷ []) [] k lt
+  pub given_front : (k : ℕ) → k < length ticks → sighting_at (ticks ++ seen ∷ []) k ≡ sighting_at ticks k
+  given_front k lt = get_or_append_left ticks (seen ∷ []) nothing_seen k lt
 
-  pub given_now : get_or (ticks ++ seen ∷ []) (length ticks) [] ≡ seen
+  pub given_now : sighting_at (ticks ++ seen ∷ []) (length ticks) ≡ seen
   given_now =
       let same : length ticks + 0 ≡ length ticks = omega arith in
-      ap (λ (k : ℕ). get_or (ticks ++ seen ∷ []) k []) (sym same) ∙ get_or-append-add ticks (seen ∷ []) 0 []
+      ap (λ (k : ℕ). sighting_at (ticks ++ seen ∷ []) k) (sym same) ∙ get_or-append-add ticks (seen ∷ []) 0 nothing_seen
 
   pub last_is : last_sighting (ticks ++ seen ∷ []) ≡ seen
   last_is =
       let e = length-append ticks (seen ∷ []) in
       let at : length (ticks ++ seen ∷ []) - 1 ≡ length ticks = omega arith in
-      ap (λ (k : ℕ). get_or (ticks ++ seen ∷ []) k []) at ∙ given_now
+      ap (λ (k : ℕ). sighting_at (ticks ++ seen ∷ []) k) at ∙ given_now
 
   pub contact_still : (watch a b k : ℕ) → k < length ticks → AreInContact watch (seen_state_at ticks a k) (seen_state_at ticks b k)
       → AreInContact watch (seen_state_at (ticks ++ seen ∷ []) a k) (seen_state_at (ticks ++ seen ∷ []) b k)
-  contact_still watch a b k lt h = subst (λ (s : Sighting). AreInContact watch (state_in a s) (state_in b s)) (sym (given_front k lt)) h
+  contact_still watch a b k lt h = subst (λ (s : Sighting). AreInContact watch (state_in a s.vessels) (state_in b s.vessels)) (sym (given_front k lt)) h
 
   pub contact_was : (watch a b k : ℕ) → k < length ticks → AreInContact watch (seen_state_at (ticks ++ seen ∷ []) a k) (seen_state_at (ticks ++ seen ∷ []) b k)
       → AreInContact watch (seen_state_at ticks a k) (seen_state_at ticks b k)
-  contact_was watch a b k lt h = subst (λ (s : Sighting). AreInContact watch (state_in a s) (state_in b s)) (given_front k lt) h
+  contact_was watch a b k lt h = subst (λ (s : Sighting). AreInContact watch (state_in a s.vessels) (state_in b s.vessels)) (given_front k lt) h
 
-  pub contact_now : (watch a b : ℕ) → AreInContact watch (state_in a seen) (state_in b seen)
+  pub contact_now : (watch a b : ℕ) → AreInContact watch (state_in a seen.vessels) (state_in b seen.vessels)
       → AreInContact watch (seen_state_at (ticks ++ seen ∷ []) a (length ticks)) (seen_state_at (ticks ++ seen ∷ []) b (length ticks))
-  contact_now watch a b h = subst (λ (s : Sighting). AreInContact watch (state_in a s) (state_in b s)) (sym given_now) h
+  contact_now watch a b h = subst (λ (s : Sighting). AreInContact watch (state_in a s.vessels) (state_in b s.vessels)) (sym given_now) h
 
   pub contact_is_now : (watch a b : ℕ) → AreInContact watch (seen_state_at (ticks ++ seen ∷ []) a (length ticks)) (seen_state_at (ticks ++ seen ∷ []) b (length ticks))
-      → AreInContact watch (state_in a seen) (state_in b seen)
-  contact_is_now watch a b h = subst (λ (s : Sighting). AreInContact watch (state_in a s) (state_in b s)) given_now h
+      → AreInContact watch (state_in a seen.vessels) (state_in b seen.vessels)
+  contact_is_now watch a b h = subst (λ (s : Sighting). AreInContact watch (state_in a s.vessels) (state_in b s.vessels)) given_now h
 
   module _ (numbers : AuditNumbers) (pair : Pair) where
     pub begun_within : (start : ℕ) → Begins numbers ticks pair start → start < length ticks
@@ -148,7 +148,7 @@ module _ (ticks : List Sighting) (seen : Sighting) where
           last_or_before : (k n : ℕ) → k < suc n → (k < n) ⊎ (k ≡ n)
           last_or_before k n lt = grind arith
 
-      pub begins_now : AreInContact numbers.detect.watch (state_in pair.subject seen) (state_in pair.other seen) → Begins numbers (ticks ++ seen ∷ []) pair (length ticks)
+      pub begins_now : AreInContact numbers.detect.watch (state_in pair.subject seen.vessels) (state_in pair.other seen.vessels) → Begins numbers (ticks ++ seen ∷ []) pair (length ticks)
       begins_now near = record {
         audited = audited;
         begins = record {
@@ -172,7 +172,7 @@ steps_agree a b c d i (suc count) f g =
     ap₂ (λ (x : Option PairStep) (xs : List (Option PairStep)). x ∷ xs) here (steps_agree a b c d (i + 1) count (λ k le. f k (omega arith)) (λ k le. g k (omega arith)))
 
 module _ (numbers : AuditNumbers) (ticks : List Sighting) (seen : Sighting) (pair : Pair) (start : ℕ) where
-  pub steps_then : start < length ticks → trace_steps numbers (ticks ++ seen ∷ []) pair start ≡ trace_steps numbers ticks pair start ++ step_of pair (last_sighting ticks) seen ∷ []
+  pub steps_then : start < length ticks → trace_steps numbers (ticks ++ seen ∷ []) pair start ≡ trace_steps numbers ticks pair start ++ step_of pair (last_sighting ticks).vessels seen.vessels ∷ []
   steps_then lt =
       let count : length (ticks ++ seen ∷ []) ≡ length ticks + 1 = length-append ticks (seen ∷ []) in
       let more : length (ticks ++ seen ∷ []) - 1 - start ≡ (length ticks - 1 - start) + 1 = omega arith in
@@ -184,10 +184,14 @@ module _ (numbers : AuditNumbers) (ticks : List Sighting) (seen : Sighting) (pai
       ∙ (steps_from-last a b start (length ticks - 1 - start)
       ∙ ap₂ (λ (xs : List (Option PairStep)) (x : Option PairStep). xs ++ x ∷ [])
       (steps_agree a b (seen_state_at ticks pair.subject) (seen_state_at ticks pair.other) start (length ticks - 1 - start)
-      (λ k le. ap (state_in pair.subject) (given_front ticks seen k (omega arith)))
-      (λ k le. ap (state_in pair.other) (given_front ticks seen k (omega arith))))
+      (λ k le. ap (λ (s : Sighting). state_in pair.subject s.vessels) (given_front ticks seen k (omega arith)))
+      (λ k le. ap (λ (s : Sighting). state_in pair.other s.vessels) (given_front ticks seen k (omega arith))))
       (ap (λ (k : ℕ). step_at a b k) last
-      ∙ ap₂ (λ (s t : Sighting). step_of pair s t) (given_front ticks seen (length ticks - 1) (omega arith)) (ap (λ (k : ℕ). get_or (ticks ++ seen ∷ []) k []) now ∙ given_now ticks seen)))
+      ∙ ap₂ (λ (s t : Sighting). step_of pair s.vessels t.vessels) (given_front ticks seen (length ticks - 1) (omega arith)) (ap (λ (k : ℕ). sighting_at (ticks ++ seen ∷ []) k) now ∙ given_now ticks seen)))
+
+  -- what the ranks said at a tick stays
+  pub ranks_still : (k : ℕ) → start + k < length ticks → trace_ranks (ticks ++ seen ∷ []) pair start k ≡ trace_ranks ticks pair start k
+  ranks_still k lt = ap (by_rank_in pair) (given_front ticks seen (start + k) lt)
 
   -- a trace that begins at the last tick has no steps yet
   pub no_steps : trace_steps numbers (ticks ++ seen ∷ []) pair (length ticks) ≡ []

@@ -1,7 +1,8 @@
 -- What an audit is given, and which traces that makes.
-use Rattle.std.specs.Prelude.{ℕ, ◌≡◌, ◌≢◌, ◌-◌, ◌^◌, ◌==◌, ◌⊎◌, List, [], length, get_or, map, All, Option}
-use Rattle.std.specs.List.{Contains, find}
+use Rattle.std.specs.Prelude.{ℕ, ◌≡◌, ◌≢◌, ◌+◌, ◌-◌, ◌^◌, ◌==◌, ◌⊎◌, List, [], length, get_or, map, All, Option, unwrap_or}
+use Rattle.std.specs.List.{Contains, find, zip}
 use Rattle.std.specs.List.Sorted.{IsStrictlyIncreasing}
+use Rattle.std.specs.Map.{lookup}
 use Rattle.std.specs.Option.{option_map}
 use Rattle.fixed_geometry.specs.Sizes.{IsBelow}
 use Rattle.encounters.specs.Directions.{HasDirection}
@@ -10,7 +11,11 @@ use Rattle.encounters.specs.declared.detect.Detect.{Detect}
 use Rattle.encounters.specs.declared.pair_step.PairStep.{PairStep}
 use Rattle.meetings.specs.Terms.{Terms}
 use Rattle.meetings.specs.Traces.{BeginsTrace, IsShortMove, step_between, steps_from}
+use Rattle.meetings.specs.declared.by_rank.ByRank.{ByRank}
 use Rattle.meetings.specs.declared.pair.Pair.{Pair}
+use Rattle.ranks.specs.declared.rank.Rank.{Rank}
+use Rattle.ranks.specs.declared.rank.Rank.TheVariants.{Power}
+use Rattle.traces.specs.PairRanks.{by_rank_of}
 use Rattle.motion.specs.declared.leg.TickState.{TickState}
 use Rattle.rule_set.specs.NamedTrees.{NamedTree}
 
@@ -27,36 +32,67 @@ pub record AuditNumbers : Type 0 where
 abbrev pub terms_of : AuditNumbers → Terms
 terms_of numbers = record { detect = numbers.detect; act = numbers.act; tick = numbers.tick }
 
--- the vessels that are seen at a tick, each by her MMSI, with her state there
-abbrev pub Sighting : Type 0
-Sighting = List (ℕ × TickState)
+-- ---- what is seen at a tick
+
+-- vessels, each by her MMSI, with her state there
+abbrev pub SeenVessels : Type 0
+SeenVessels = List (ℕ × TickState)
+
+-- The vessels that are seen at a tick, and their ranks in the same order. Where ranks do not count, none is told.
+pub record Sighting : Type 0 where
+  pub vessels : SeenVessels
+  pub ranks : List Rank
+
+-- these vessels, where ranks do not count
+abbrev pub unranked : SeenVessels → Sighting
+unranked vessels = record { vessels = vessels; ranks = [] }
+
+-- at a tick that was not given
+abbrev pub nothing_seen : Sighting
+nothing_seen = unranked []
+
+-- the sighting at a tick
+abbrev pub sighting_at : List Sighting → ℕ → Sighting
+sighting_at ticks k = get_or ticks k nothing_seen
+
+-- that at the last tick that was given
+abbrev pub last_sighting : List Sighting → Sighting
+last_sighting ticks = sighting_at ticks (length ticks - 1)
 
 -- They are given in the order of their MMSIs.
-abbrev pub AreAscending : Sighting → Type 0
+abbrev pub AreAscending : SeenVessels → Type 0
 AreAscending seen = IsStrictlyIncreasing (map (λ (vessel : ℕ × TickState). vessel.0) seen)
 
 -- A vessel lies less than 2^33 tenths of a millimetre from the origin in each component, and heads as a report can say.
-abbrev pub ArePlaced : Sighting → Type 0
+abbrev pub ArePlaced : SeenVessels → Type 0
 ArePlaced seen = All (λ (vessel : ℕ × TickState). IsBelow (2 ^ 33) vessel.1.point × HasDirection vessel.1) seen
 
-abbrev pub state_in : ℕ → Sighting → Option TickState
+abbrev pub state_in : ℕ → SeenVessels → Option TickState
 state_in mmsi seen = option_map (λ (vessel : ℕ × TickState). vessel.1) (find (λ (vessel : ℕ × TickState). vessel.0 == mmsi) seen)
 
 -- the state of a vessel at a tick; at one that was not given none is seen
 abbrev pub seen_state_at : List Sighting → ℕ → ℕ → Option TickState
-seen_state_at ticks mmsi k = state_in mmsi (get_or ticks k [])
-
--- the vessels seen at the last tick that was given; none where none was
-abbrev pub last_sighting : List Sighting → Sighting
-last_sighting ticks = get_or ticks (length ticks - 1) []
+seen_state_at ticks mmsi k = state_in mmsi (sighting_at ticks k).vessels
 
 -- From one tick to the next each vessel that is seen at both moves no further than a step may say.
-abbrev pub MoveLittle : Sighting → Sighting → Type 0
+abbrev pub MoveLittle : SeenVessels → SeenVessels → Type 0
 MoveLittle before after = (mmsi : ℕ) → IsShortMove (state_in mmsi before) (state_in mmsi after)
 
--- the step of a pair from the one sighting to the next
-abbrev pub step_of : Pair → Sighting → Sighting → Option PairStep
+-- the step of a pair from one tick to the next, by the vessels seen at them
+abbrev pub step_of : Pair → SeenVessels → SeenVessels → Option PairStep
 step_of pair before seen = step_between (state_in pair.subject before) (state_in pair.other before) (state_in pair.subject seen) (state_in pair.other seen)
+
+-- ---- the ranks there
+
+-- her rank: the one told beside her, and `Power` where none is
+abbrev pub rank_in : ℕ → Sighting → Rank
+rank_in mmsi seen = unwrap_or (lookup (λ m. m == mmsi) (zip (map (λ (vessel : ℕ × TickState). vessel.0) seen.vessels) seen.ranks)) Power
+
+-- what the ranks of the two vessels of a pair say there
+abbrev pub by_rank_in : Pair → Sighting → ByRank
+by_rank_in pair seen = by_rank_of (rank_in pair.subject seen) (rank_in pair.other seen)
+
+-- ---- the traces
 
 -- Two vessels, of which one is a subject; where there are no subjects, any two.
 pub record IsAudited (subjects : List ℕ) (pair : Pair) : Type 0 where
@@ -72,3 +108,7 @@ module _ (numbers : AuditNumbers) (ticks : List Sighting) where
   -- its steps, from there to the last tick that was given
   abbrev pub trace_steps : Pair → ℕ → List (Option PairStep)
   trace_steps pair start = steps_from (seen_state_at ticks pair.subject) (seen_state_at ticks pair.other) start (length ticks - 1 - start)
+
+-- what the ranks say at each step of a trace that begins at this tick: those at the step's first tick
+abbrev pub trace_ranks : List Sighting → Pair → ℕ → ℕ → ByRank
+trace_ranks ticks pair start k = by_rank_in pair (sighting_at ticks (start + k))

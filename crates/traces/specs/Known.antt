@@ -1,13 +1,13 @@
 -- What is known of the traces so far.
-use Rattle.std.specs.Prelude.{ℕ, ◌≡◌, ◌≢◌, List, [], ◌∷◌, ◌++◌, length, map, Option}
+use Rattle.std.specs.Prelude.{ℕ, ◌≡◌, ◌≢◌, ◌+◌, ◌-◌, List, [], ◌∷◌, ◌++◌, length, map, Option}
 use Rattle.std.specs.List.{AllByRecursion, AllPairs, Contains}
 use Rattle.mtl_formulas.specs.declared.atom.Atom.{Atom}
 use Rattle.mtl_formulas.specs.declared.verdict.Verdict.{Verdict}
 use Rattle.mtl_monitor.specs.Traces.{Trace}
 use Rattle.encounters.specs.declared.pair_step.PairStep.{PairStep}
-use Rattle.meetings.specs.Atoms.{AreAtomRows, IsAtomRow}
+use Rattle.meetings.specs.Atoms.{AreRankedRows, IsRankedRow}
 use Rattle.meetings.specs.declared.pair.Pair.{Pair}
-use Rattle.traces.specs.Audited.{Begins, AuditNumbers, Sighting, step_of, terms_of, trace_steps}
+use Rattle.traces.specs.Audited.{Begins, AuditNumbers, SeenVessels, Sighting, last_sighting, step_of, terms_of, trace_ranks, trace_steps}
 
 -- a trace by its steps so far, and what they answer to the atoms
 pub record Known : Type 0 where
@@ -33,7 +33,7 @@ watched known seen answers = record { pair = known.pair; start = known.start; st
 pub record IsKnown (numbers : AuditNumbers) (ticks : List Sighting) (known : Known) : Type 0 where
   pub begins : Begins numbers ticks known.pair known.start
   pub steps : known.steps ≡ trace_steps numbers ticks known.pair known.start
-  pub rows : AreAtomRows (terms_of numbers) known.steps known.trace
+  pub rows : AreRankedRows (terms_of numbers) (trace_ranks ticks known.pair known.start) known.steps known.trace
 
 -- The list holds each trace that these ticks have begun, once.
 pub record AreKnown (numbers : AuditNumbers) (ticks : List Sighting) (knowns : List Known) : Type 0 where
@@ -43,11 +43,19 @@ pub record AreKnown (numbers : AuditNumbers) (ticks : List Sighting) (knowns : L
 
 -- ---- their next steps
 
--- The trace is the same with its step from the one sighting to the next.
-pub record IsFollowed (numbers : AuditNumbers) (before seen : Sighting) (known after : Known) : Type 0 where
+-- It has its steps up to the last of these ticks.
+abbrev pub IsUpTo : List Sighting → Known → Type 0
+IsUpTo ticks known = known.start + length known.steps ≡ length ticks - 1
+
+-- its step from the last of these ticks to the one at which these vessels are seen
+abbrev pub next_step_of : List Sighting → SeenVessels → Known → Option PairStep
+next_step_of ticks seen known = step_of known.pair (last_sighting ticks).vessels seen
+
+-- The trace is the same with this step.
+pub record IsFollowed (numbers : AuditNumbers) (ticks : List Sighting) (seen : SeenVessels) (known after : Known) : Type 0 where
   pub answers : Atom → Verdict
-  pub is : after ≡ watched known (step_of known.pair before seen) answers
-  pub row : IsAtomRow (terms_of numbers) (known.steps ++ step_of known.pair before seen ∷ []) (length known.steps) answers
+  pub is : after ≡ watched known (next_step_of ticks seen known) answers
+  pub row : IsRankedRow (terms_of numbers) (trace_ranks ticks known.pair known.start) (known.steps ++ next_step_of ticks seen known ∷ []) (length known.steps) answers
 
 -- Each of the traces begins at this tick, and has no steps yet.
 abbrev pub AreOpened : ℕ → List Known → Type 0

@@ -1,7 +1,7 @@
 -- What the traces of a window stand for: their numbers, the vessels seen at the ticks that were given, and what is known of each.
 use Rattle.std.specs.Prelude.{ℕ, ◌≡◌, ◌+◌, ◌≤◌, List, ◌++◌, length}
 use Rattle.encounters.specs.Risk.{IsDetect}
-use Rattle.traces.specs.Audited.{AreAscending, ArePlaced, AuditNumbers, Sighting, last_sighting}
+use Rattle.traces.specs.Audited.{AreAscending, ArePlaced, AuditNumbers, SeenVessels, Sighting, last_sighting}
 use Rattle.traces.specs.Inner.TracesKept.{Holds}
 use Rattle.traces.specs.Known.{AreKnown, AreOpened, Known}
 use Rattle.traces.specs.declared.all_traces.AllTraces.{AllTraces}
@@ -17,8 +17,12 @@ abbrev pub last_tick_of : AllTraces → ℕ
 last_tick_of kept = kept.last_tick
 
 -- the vessels seen at the latest tick
+abbrev pub latest_vessels : AllTraces → SeenVessels
+latest_vessels kept = kept.latest.items
+
+-- with their ranks
 abbrev pub latest_sighting : AllTraces → Sighting
-latest_sighting kept = kept.latest.items
+latest_sighting kept = record { vessels = kept.latest.items; ranks = kept.ranks.items }
 
 -- how many traces there are
 abbrev pub traces_of : AllTraces → ℕ
@@ -41,8 +45,8 @@ pub record StandsFor (kept : AllTraces) (numbers : AuditNumbers) (ticks : List S
   pub last_tick : kept.last_tick ≡ numbers.last_tick
   pub subjects : kept.subjects.items ≡ numbers.subjects
   pub count : kept.given ≡ length ticks
-  pub latest : kept.latest.items ≡ last_sighting ticks
-  pub holds : Holds kept numbers knowns
+  pub latest : latest_sighting kept ≡ last_sighting ticks
+  pub holds : Holds kept numbers ticks knowns
 
 -- Behind the traces that there were stand those that have begun at the latest tick, and they are all traces of these ticks.
 pub record HaveBegun (kept : AllTraces) (numbers : AuditNumbers) (ticks : List Sighting) (start : ℕ) (before : List Known) : Type 0 where

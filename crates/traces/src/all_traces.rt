@@ -6,12 +6,13 @@ ghost use Rattle.encounters.specs.Directions.{HaveDirections};
 ghost use Rattle.encounters.specs.Risk.{IsDetect};
 ghost use Rattle.encounters.specs.Standing.{IsStateAfter};
 ghost use Rattle.meetings.specs.Answers.{answer_of};
-ghost use Rattle.meetings.specs.Atoms.{IsAtomRow};
+ghost use Rattle.meetings.specs.Atoms.{IsRankedRow};
 ghost use Rattle.meetings.specs.declared.pair.Pair.{Pair};
-ghost use Rattle.traces.specs.Audited.{AreAscending, ArePlaced, AuditNumbers, MoveLittle, Sighting, last_sighting, step_of, terms_of};
+ghost use Rattle.ranks.specs.declared.rank.Rank.{Rank};
+ghost use Rattle.traces.specs.Audited.{AreAscending, ArePlaced, AuditNumbers, MoveLittle, SeenVessels, Sighting, step_of, terms_of, trace_ranks};
 ghost use Rattle.traces.specs.Inner.TracesKept.{AreBegun, AreKnownOn, AreTooMany, HaveBegunNow, Holds, IsBeginning, IsNextTick, IsTaken, MayBegin, MayTake};
-ghost use Rattle.traces.specs.Known.{AreKnown, IsFollowed, Known, opened, pairs_of, watched};
-ghost use Rattle.traces.specs.Standing.{HaveBegun, IsSound, StandsFor, given_of, last_tick_of, latest_sighting, traces_of};
+ghost use Rattle.traces.specs.Known.{AreKnown, IsFollowed, IsUpTo, Known, opened, pairs_of, watched};
+ghost use Rattle.traces.specs.Standing.{HaveBegun, IsSound, StandsFor, given_of, last_tick_of, latest_vessels, traces_of};
 ghost use Rattle.traces.specs.ManyTraces.{HaveMoreThan};
 ghost use Rattle.traces.specs.declared.fault.TickFault.TheVariants.{TooManyPairs};
 
@@ -23,6 +24,7 @@ use encounters::{Act, Detect, EngagementState, PairStep};
 use meetings::{AtomRow, Pair};
 use motion::TickState;
 use outside::Memory;
+use ranks::Rank;
 use std::alloc::Global;
 use std::collections::BTreeSet;
 
@@ -41,6 +43,8 @@ pub struct AllTraces {
     subjects: Vec<u32>,
     /// The vessels seen at the latest tick.
     latest: Vec<(u32, TickState)>,
+    /// Their ranks, where ranks count.
+    ranks: Vec<Rank>,
     /// How many ticks were given.
     given: u32,
     traces: Vec<FollowedTrace>,
@@ -63,7 +67,7 @@ impl AllTraces {
         ensures none { IfOk result (λ traces. traces_of traces ≡ 0) }
         ensures given { IfOk result (λ traces. given_of traces ≡ 0) }
         ensures last_tick { IfOk result (λ traces. last_tick_of traces ≡ last_tick) }
-        ensures latest { IfOk result (λ traces. latest_sighting traces ≡ []) }
+        ensures latest { IfOk result (λ traces. latest_vessels traces ≡ []) }
         ensures stands { IfOk result (λ traces. (numbers : AuditNumbers) → numbers.detect ≡ detect → numbers.act ≡ act → numbers.tick ≡ tick
             → numbers.last_tick ≡ last_tick → numbers.subjects ≡ subjects.now → StandsFor traces numbers [] []) }
     {
@@ -75,6 +79,7 @@ impl AllTraces {
             last_tick,
             subjects: subjects.to_vec(alloc)?,
             latest: Vec::new(alloc),
+            ranks: Vec::new(alloc),
             given: 0,
             traces: Vec::new(alloc),
             pairs: BTreeSet::new(alloc),
@@ -119,16 +124,16 @@ impl AllTraces {
         requires within { index < traces_of self.old }
         requires ascending { AreAscending seen.now }
         requires placed { ArePlaced seen.now }
-        requires moves { MoveLittle (latest_sighting self.old) seen.now }
+        requires moves { MoveLittle (latest_vessels self.old) seen.now }
         ensures sound { IsSound self.new }
         ensures given { given_of self.new ≡ given_of self.old }
         ensures last_tick { last_tick_of self.new ≡ last_tick_of self.old }
-        ensures latest { latest_sighting self.new ≡ latest_sighting self.old }
+        ensures latest { latest_vessels self.new ≡ latest_vessels self.old }
         ensures as_many { traces_of self.new ≡ traces_of self.old }
         ensures directions { IfSome result HaveDirections }
         ensures step { (numbers : AuditNumbers) (ticks : List Sighting) (front : List Known) (known : Known) (back : List Known)
             → StandsFor self.old numbers ticks (front ++ known ∷ back) → index ≡ length front
-            → result ≡ step_of known.pair (latest_sighting self.old) seen.now }
+            → result ≡ step_of known.pair (latest_vessels self.old) seen.now }
         ensures stands { (numbers : AuditNumbers) (ticks : List Sighting) (front : List Known) (known : Known) (back : List Known)
             → StandsFor self.old numbers ticks (front ++ known ∷ back) → index ≡ length front
             → StandsFor self.new numbers ticks (front ++ known ∷ back) }
@@ -136,7 +141,8 @@ impl AllTraces {
         self.traces[index].next_step(&self.latest, seen)
     }
 
-    /// Takes a step of the trace with this index, and gives its row. Each trace takes its next step once before the tick is taken.
+    /// Takes the next step of the trace with this index, and gives its row, by the ranks at the tick at which the engagement began. Each
+    /// trace takes its next step once before the tick is taken.
     #[inline(always)]
     pub fn take_step(&mut self, index: usize, step: Option<&PairStep>) -> AtomRow
         requires sound { IsSound self.old }
@@ -145,16 +151,16 @@ impl AllTraces {
         ensures sound { IsSound self.new }
         ensures given { given_of self.new ≡ given_of self.old }
         ensures last_tick { last_tick_of self.new ≡ last_tick_of self.old }
-        ensures latest { latest_sighting self.new ≡ latest_sighting self.old }
+        ensures latest { latest_vessels self.new ≡ latest_vessels self.old }
         ensures as_many { traces_of self.new ≡ traces_of self.old }
         ensures row { (numbers : AuditNumbers) (ticks : List Sighting) (front : List Known) (known : Known) (back : List Known)
-            → StandsFor self.old numbers ticks (front ++ known ∷ back) → index ≡ length front → length known.steps < 2 ^ 31
-            → IsAtomRow (terms_of numbers) (known.steps ++ option_copied step.entry ∷ []) (length known.steps) (answer_of result) }
+            → StandsFor self.old numbers ticks (front ++ known ∷ back) → index ≡ length front → length known.steps < 2 ^ 31 → IsUpTo ticks known
+            → IsRankedRow (terms_of numbers) (trace_ranks ticks known.pair known.start) (known.steps ++ option_copied step.entry ∷ []) (length known.steps) (answer_of result) }
         ensures stands { (numbers : AuditNumbers) (ticks : List Sighting) (front : List Known) (known : Known) (back : List Known)
-            → StandsFor self.old numbers ticks (front ++ known ∷ back) → index ≡ length front → length known.steps < 2 ^ 31
+            → StandsFor self.old numbers ticks (front ++ known ∷ back) → index ≡ length front → length known.steps < 2 ^ 31 → IsUpTo ticks known
             → StandsFor self.new numbers ticks (front ++ watched known (option_copied step.entry) (answer_of result) ∷ back) }
     {
-        self.traces[index].take_step(step)
+        self.traces[index].take_step(step, &self.latest, &self.ranks)
     }
 
     /// The state of the engagement of the trace with this index, at its latest step; apart before the first.
@@ -168,8 +174,9 @@ impl AllTraces {
     }
 
     /// Takes the next tick, of whose vessels these are seen, in the order of their MMSIs, where all traces have taken their step to it:
-    /// begins the traces of the audited pairs that are in contact for the first time, before the last tick.
-    pub fn tick(&mut self, seen: &[(u32, TickState)]) -> Result<(), TickFault>
+    /// begins the traces of the audited pairs that are in contact for the first time, before the last tick. The ranks are those of the
+    /// vessels seen, in the same order; where ranks do not count, there are none.
+    pub fn tick(&mut self, seen: &[(u32, TickState)], ranks: &[Rank]) -> Result<(), TickFault>
         requires sound { IsSound self.old }
         requires ascending { AreAscending seen.now }
         requires placed { ArePlaced seen.now }
@@ -177,21 +184,22 @@ impl AllTraces {
         ensures sound { OnOk result (IsSound self.new) }
         ensures given { OnOk result (given_of self.new ≡ given_of self.old + 1) }
         ensures last_tick { OnOk result (last_tick_of self.new ≡ last_tick_of self.old) }
-        ensures latest { OnOk result (latest_sighting self.new ≡ seen.now) }
+        ensures latest { OnOk result (latest_vessels self.new ≡ seen.now) }
         ensures more { OnOk result (traces_of self.old ≤ traces_of self.new) }
         ensures stands { OnOk result ((numbers : AuditNumbers) (ticks : List Sighting) (knowns after : List Known) → AreKnown numbers ticks knowns
-            → AllZip (IsFollowed numbers (last_sighting ticks) seen.now) knowns after → StandsFor self.old numbers ticks after
-            → HaveBegun self.new numbers (ticks ++ seen.now ∷ []) (length ticks) after) }
+            → AllZip (IsFollowed numbers ticks seen.now) knowns after → StandsFor self.old numbers ticks after
+            → HaveBegun self.new numbers (ticks ++ record { vessels = seen.now; ranks = ranks.now } ∷ []) (length ticks) after) }
         // The limit is met exactly where the tick begins a 4097th trace; memory may run out before.
         ensures many { result ≡ Err TooManyPairs → (numbers : AuditNumbers) (ticks : List Sighting) (knowns after : List Known) → AreKnown numbers ticks knowns
-            → AllZip (IsFollowed numbers (last_sighting ticks) seen.now) knowns after → StandsFor self.old numbers ticks after
-            → HaveMoreThan MOST_TRACES numbers (ticks ++ seen.now ∷ []) }
+            → AllZip (IsFollowed numbers ticks seen.now) knowns after → StandsFor self.old numbers ticks after
+            → HaveMoreThan MOST_TRACES numbers (ticks ++ record { vessels = seen.now; ranks = ranks.now } ∷ []) }
         ensures few { OnOk result ((numbers : AuditNumbers) (ticks : List Sighting) (knowns after : List Known) → AreKnown numbers ticks knowns
-            → AllZip (IsFollowed numbers (last_sighting ticks) seen.now) knowns after → StandsFor self.old numbers ticks after
-            → HaveMoreThan MOST_TRACES numbers (ticks ++ seen.now ∷ []) → ⊥) }
+            → AllZip (IsFollowed numbers ticks seen.now) knowns after → StandsFor self.old numbers ticks after
+            → HaveMoreThan MOST_TRACES numbers (ticks ++ record { vessels = seen.now; ranks = ranks.now } ∷ []) → ⊥) }
     {
         self.begin(seen)?;
         replace(&mut self.latest, seen)?;
+        replace(&mut self.ranks, ranks)?;
         self.given += 1;
         Ok(())
     }
@@ -203,10 +211,14 @@ impl AllTraces {
         requires placed { ArePlaced seen.now }
         ensures sound { OnOk result (IsSound self.new) }
         ensures same { OnOk result (IsBeginning self.old self.new) }
-        ensures begun { OnOk result ((numbers : AuditNumbers) (ticks : List Sighting) (knowns : List Known) → IsNextTick self.old numbers ticks
-            → AreKnownOn numbers ticks seen.now knowns → Holds self.old numbers knowns → HaveBegunNow self.new numbers (ticks ++ seen.now ∷ []) (length ticks) knowns) }
-        ensures many { result ≡ Err TooManyPairs → (numbers : AuditNumbers) (ticks : List Sighting) (knowns : List Known) → IsNextTick self.old numbers ticks
-            → AreKnownOn numbers ticks seen.now knowns → Holds self.old numbers knowns → HaveMoreThan MOST_TRACES numbers (ticks ++ seen.now ∷ []) }
+        ensures begun { OnOk result ((numbers : AuditNumbers) (ticks : List Sighting) (ranks : List Rank) (knowns : List Known) → IsNextTick self.old numbers ticks
+            → AreKnownOn numbers ticks (record { vessels = seen.now; ranks = ranks }) knowns
+            → Holds self.old numbers (ticks ++ record { vessels = seen.now; ranks = ranks } ∷ []) knowns
+            → HaveBegunNow self.new numbers (ticks ++ record { vessels = seen.now; ranks = ranks } ∷ []) (length ticks) knowns) }
+        ensures many { result ≡ Err TooManyPairs → (numbers : AuditNumbers) (ticks : List Sighting) (ranks : List Rank) (knowns : List Known) → IsNextTick self.old numbers ticks
+            → AreKnownOn numbers ticks (record { vessels = seen.now; ranks = ranks }) knowns
+            → Holds self.old numbers (ticks ++ record { vessels = seen.now; ranks = ranks } ∷ []) knowns
+            → HaveMoreThan MOST_TRACES numbers (ticks ++ record { vessels = seen.now; ranks = ranks } ∷ []) }
     {
         if self.last_tick <= self.given {
             return Ok(());
@@ -221,10 +233,10 @@ impl AllTraces {
         requires placed { ArePlaced seen.now }
         ensures sound { OnOk result (IsSound self.new) }
         ensures same { OnOk result (IsBeginning self.old self.new) }
-        ensures begun { OnOk result ((numbers : AuditNumbers) (knowns : List Known) → Holds self.old numbers knowns → MayBegin self.old numbers knowns
-            → AreBegun self.new numbers seen.now self.old.given knowns) }
-        ensures many { result ≡ Err TooManyPairs → (numbers : AuditNumbers) (knowns : List Known) → Holds self.old numbers knowns → MayBegin self.old numbers knowns
-            → AreTooMany numbers seen.now (pairs_of knowns) self.old.given knowns }
+        ensures begun { OnOk result ((numbers : AuditNumbers) (ticks : List Sighting) (knowns : List Known) → Holds self.old numbers ticks knowns
+            → MayBegin self.old numbers knowns → AreBegun self.new numbers ticks seen.now self.old.given knowns) }
+        ensures many { result ≡ Err TooManyPairs → (numbers : AuditNumbers) (ticks : List Sighting) (knowns : List Known) → Holds self.old numbers ticks knowns
+            → MayBegin self.old numbers knowns → AreTooMany numbers seen.now (pairs_of knowns) self.old.given knowns }
     {
         let pairs = contacts(self.alloc, &self.subjects, seen, self.detect.watch)?;
         for pair in pairs.as_slice() {
@@ -238,10 +250,10 @@ impl AllTraces {
         requires sound { IsSound self.old }
         ensures sound { OnOk result (IsSound self.new) }
         ensures same { OnOk result (IsBeginning self.old self.new) }
-        ensures begun { OnOk result ((numbers : AuditNumbers) (seen : Sighting) (old : List Pair) (knowns : List Known) → Holds self.old numbers knowns
-            → MayTake self.old numbers seen old knowns pair → IsTaken self.new numbers seen old self.old.given knowns pair) }
-        ensures many { result ≡ Err TooManyPairs → (numbers : AuditNumbers) (seen : Sighting) (old : List Pair) (knowns : List Known) → Holds self.old numbers knowns
-            → MayTake self.old numbers seen old knowns pair → AreTooMany numbers seen old self.old.given knowns }
+        ensures begun { OnOk result ((numbers : AuditNumbers) (ticks : List Sighting) (seen : SeenVessels) (old : List Pair) (knowns : List Known)
+            → Holds self.old numbers ticks knowns → MayTake self.old numbers seen old knowns pair → IsTaken self.new numbers ticks seen old self.old.given knowns pair) }
+        ensures many { result ≡ Err TooManyPairs → (numbers : AuditNumbers) (ticks : List Sighting) (seen : SeenVessels) (old : List Pair) (knowns : List Known)
+            → Holds self.old numbers ticks knowns → MayTake self.old numbers seen old knowns pair → AreTooMany numbers seen old self.old.given knowns }
     {
         if !is_chosen(&self.subjects, pair) {
             return Ok(());
@@ -261,8 +273,8 @@ impl AllTraces {
         requires sound { IsSound self.old }
         ensures sound { OnOk result (IsSound self.new) }
         ensures same { OnOk result (IsBeginning self.old self.new) }
-        ensures begun { OnOk result ((numbers : AuditNumbers) (knowns : List Known) → Holds self.old numbers knowns
-            → Holds self.new numbers (knowns ++ opened pair self.old.given ∷ [])) }
+        ensures begun { OnOk result ((numbers : AuditNumbers) (ticks : List Sighting) (knowns : List Known) → Holds self.old numbers ticks knowns
+            → Holds self.new numbers ticks (knowns ++ opened pair self.old.given ∷ [])) }
         ensures many { result ≡ Err TooManyPairs → traces_of self.old ≡ MOST_TRACES }
     {
         if self.traces.len() == MOST_TRACES {
@@ -278,19 +290,19 @@ impl AllTraces {
         requires few { traces_of self.old < MOST_TRACES }
         ensures sound { OnOk result (IsSound self.new) }
         ensures same { OnOk result (IsBeginning self.old self.new) }
-        ensures begun { OnOk result ((numbers : AuditNumbers) (knowns : List Known) → Holds self.old numbers knowns
-            → Holds self.new numbers (knowns ++ opened pair self.old.given ∷ [])) }
+        ensures begun { OnOk result ((numbers : AuditNumbers) (ticks : List Sighting) (knowns : List Known) → Holds self.old numbers ticks knowns
+            → Holds self.new numbers ticks (knowns ++ opened pair self.old.given ∷ [])) }
     {
         self.traces.push(FollowedTrace::new(pair, self.given, self.detect, self.act, self.tick))?;
         add(&mut self.pairs, pair)
     }
 }
 
-/// Puts these vessels in the place of those seen before.
-fn replace(latest: &mut Vec<(u32, TickState)>, seen: &[(u32, TickState)]) -> Result<(), Memory>
-    ensures { OnOk result (latest.new.items ≡ seen.now) }
+/// Puts these in the place of those before.
+fn replace<T: Copy>(latest: &mut Vec<T>, next: &[T]) -> Result<(), Memory>
+    ensures { OnOk result (latest.new.items ≡ next.now) }
 {
     latest.clear();
-    latest.extend_from_slice(seen)?;
+    latest.extend_from_slice(next)?;
     Ok(())
 }

@@ -1,19 +1,21 @@
 //! One trace: its next step, and what that answers to the atoms.
-ghost use Rattle.std.specs.Prelude.{◌≡◌, ◌<◌, ◌^◌, ◌++◌, ◌∷◌, [], length, IfSome};
+ghost use Rattle.std.specs.Prelude.{◌≡◌, ◌<◌, ◌^◌, ◌++◌, ◌∷◌, [], List, length, IfSome};
 ghost use Rattle.std.specs.Option.{option_copied};
 ghost use Rattle.encounters.specs.Directions.{HaveDirections};
 ghost use Rattle.encounters.specs.Risk.{IsDetect};
 ghost use Rattle.encounters.specs.Standing.{IsStateAfter};
 ghost use Rattle.meetings.specs.Answers.{answer_of};
-ghost use Rattle.meetings.specs.Atoms.{IsAtomRow};
-ghost use Rattle.traces.specs.Audited.{AreAscending, ArePlaced, AuditNumbers, MoveLittle, step_of, terms_of};
-ghost use Rattle.traces.specs.Inner.TracesKept.{Follows};
+ghost use Rattle.meetings.specs.Atoms.{IsRankedRow};
+ghost use Rattle.traces.specs.Audited.{AreAscending, ArePlaced, AuditNumbers, MoveLittle, Sighting, by_rank_in, step_of, terms_of, trace_ranks};
+ghost use Rattle.traces.specs.Inner.TracesKept.{Follows, IsTakenFrom};
 ghost use Rattle.traces.specs.Known.{Known, opened, watched};
 
-use crate::sightings::state_near;
+use crate::pair_ranks::by_rank;
+use crate::sightings::{rank_near, state_near};
 use encounters::{Act, Detect, EngagementState, PairStep};
-use meetings::{AtomRow, Follower, Pair, step_between};
+use meetings::{AtomRow, BOTH_POWER_DRIVEN, ByRank, Follower, Pair, step_between};
 use motion::TickState;
+use ranks::Rank;
 
 /// One trace: its pair, its first step, and the engagement. It stands for the steps so far.
 #[derive(Drop)]
@@ -30,7 +32,8 @@ impl FollowedTrace {
     /// The trace of a pair that begins at a step, of which there are none yet.
     pub(crate) fn new(pair: Pair, start: u32, detect: Detect, act: Act, tick: u32) -> FollowedTrace
         requires detect { IsDetect detect }
-        ensures { (numbers : AuditNumbers) → numbers.detect ≡ detect → numbers.act ≡ act → numbers.tick ≡ tick → Follows numbers result (opened pair start) }
+        ensures { (numbers : AuditNumbers) (ticks : List Sighting) → numbers.detect ≡ detect → numbers.act ≡ act → numbers.tick ≡ tick
+            → Follows numbers ticks result (opened pair start) }
     {
         FollowedTrace {
             pair,
@@ -54,9 +57,11 @@ impl FollowedTrace {
         requires ascending { AreAscending seen.now }
         requires placed { ArePlaced seen.now }
         requires moves { MoveLittle before.now seen.now }
-        ensures step { (numbers : AuditNumbers) (known : Known) → Follows numbers self.old known → result ≡ step_of known.pair before.now seen.now }
+        ensures step { (numbers : AuditNumbers) (ticks : List Sighting) (known : Known) → Follows numbers ticks self.old known
+            → result ≡ step_of known.pair before.now seen.now }
         ensures directions { IfSome result HaveDirections }
-        ensures follows { (numbers : AuditNumbers) (known : Known) → Follows numbers self.old known → Follows numbers self.new known }
+        ensures follows { (numbers : AuditNumbers) (ticks : List Sighting) (known : Known) → Follows numbers ticks self.old known
+            → Follows numbers ticks self.new known }
     {
         let Pair { subject, other } = self.pair;
         let a0 = state_near(before, subject, &mut self.subject_place);
@@ -66,22 +71,47 @@ impl FollowedTrace {
         step_between(a0, b0, a1, b1)
     }
 
-    /// Takes this step, and gives its row.
+    /// What the ranks of its vessels say, where these are seen with their ranks.
     #[inline(always)]
-    pub(crate) fn take_step(&mut self, step: Option<&PairStep>) -> AtomRow
-        requires { IfSome (option_copied step) HaveDirections }
-        ensures row { (numbers : AuditNumbers) (known : Known) → Follows numbers self.old known → length known.steps < 2 ^ 31
-            → IsAtomRow (terms_of numbers) (known.steps ++ option_copied step.entry ∷ []) (length known.steps) (answer_of result) }
-        ensures follows { (numbers : AuditNumbers) (known : Known) → Follows numbers self.old known → length known.steps < 2 ^ 31
-            → Follows numbers self.new (watched known (option_copied step.entry) (answer_of result)) }
+    fn by_rank(&self, seen: &[(u32, TickState)], ranks: &[Rank]) -> ByRank
+        requires { AreAscending seen.now }
+        ensures { result ≡ by_rank_in self.now.pair (record { vessels = seen.now; ranks = ranks.now }) }
     {
-        self.follower.step(step)
+        if ranks.is_empty() {
+            return BOTH_POWER_DRIVEN;
+        }
+        by_rank(
+            rank_near(seen, ranks, self.pair.subject, self.subject_place),
+            rank_near(seen, ranks, self.pair.other, self.other_place),
+        )
+    }
+
+    /// Takes this step from the tick at which these vessels are seen with their ranks, and gives its row.
+    #[inline(always)]
+    pub(crate) fn take_step(
+        &mut self,
+        step: Option<&PairStep>,
+        seen: &[(u32, TickState)],
+        ranks: &[Rank],
+    ) -> AtomRow
+        requires directions { IfSome (option_copied step) HaveDirections }
+        requires ascending { AreAscending seen.now }
+        ensures row { (numbers : AuditNumbers) (ticks : List Sighting) (known : Known) → Follows numbers ticks self.old known → length known.steps < 2 ^ 31
+            → IsTakenFrom ticks known seen.now ranks.now
+            → IsRankedRow (terms_of numbers) (trace_ranks ticks known.pair known.start) (known.steps ++ option_copied step.entry ∷ []) (length known.steps) (answer_of result) }
+        ensures follows { (numbers : AuditNumbers) (ticks : List Sighting) (known : Known) → Follows numbers ticks self.old known → length known.steps < 2 ^ 31
+            → IsTakenFrom ticks known seen.now ranks.now
+            → Follows numbers ticks self.new (watched known (option_copied step.entry) (answer_of result)) }
+    {
+        let by_rank = self.by_rank(seen, ranks);
+        self.follower.step_ranked(step, by_rank)
     }
 
     /// The state of the engagement at its latest step; apart before the first.
     #[inline(always)]
     pub(crate) fn state(&self) -> EngagementState
-        ensures { (numbers : AuditNumbers) (known : Known) → Follows numbers self.now known → IsStateAfter numbers.detect known.steps result }
+        ensures { (numbers : AuditNumbers) (ticks : List Sighting) (known : Known) → Follows numbers ticks self.now known
+            → IsStateAfter numbers.detect known.steps result }
     {
         self.follower.state()
     }

@@ -1,10 +1,13 @@
 //! Vessels that are seen at a tick.
-ghost use Rattle.std.specs.Prelude.{◌≡◌, ◌<◌, ◌≤◌, length};
+ghost use Rattle.std.specs.Prelude.{◌≡◌, ◌<◌, ◌≤◌, get_or, length};
 ghost use Rattle.std.specs.List.Sorted.{IsPartitionPoint};
 ghost use Rattle.std.specs.Option.{option_copied};
-ghost use Rattle.traces.specs.Audited.{AreAscending, state_in};
+ghost use Rattle.traces.specs.Inner.Places.{IsPlaceOf};
+ghost use Rattle.traces.specs.Audited.{AreAscending, rank_in, state_in};
+ghost use Rattle.ranks.specs.declared.rank.Rank.TheVariants.{Power};
 
 use motion::TickState;
+use ranks::Rank;
 
 /// How many of the vessels have a lesser MMSI: a search by halves.
 fn count_below(seen: &[(u32, TickState)], mmsi: u32) -> usize
@@ -55,4 +58,46 @@ pub(crate) fn state_near<'a>(
     }
     *place = count_below(seen, mmsi);
     state_behind(seen, *place, mmsi)
+}
+
+/// The place of a vessel among those seen, if she is among them: the one that is given, where she has it, or the one that a search finds.
+fn place_near(seen: &[(u32, TickState)], mmsi: u32, place: usize) -> usize
+    requires { AreAscending seen.now }
+    ensures { IsPlaceOf seen.now mmsi result }
+{
+    if let Some(vessel) = seen.get(place) {
+        if vessel.0 == mmsi {
+            return place;
+        }
+    }
+    count_below(seen, mmsi)
+}
+
+/// The rank at a place; a vessel of which none is told is power-driven.
+fn rank_at(ranks: &[Rank], place: usize) -> Rank
+    ensures { result ≡ get_or ranks.now place Power }
+{
+    match ranks.get(place) {
+        None => Rank::Power,
+        Some(rank) => *rank,
+    }
+}
+
+/// The rank of a vessel among those seen, which have these ranks. The place is where she may be: where another vessel has it, or none,
+/// she is searched.
+pub(crate) fn rank_near(seen: &[(u32, TickState)], ranks: &[Rank], mmsi: u32, place: usize) -> Rank
+    requires { AreAscending seen.now }
+    ensures { result ≡ rank_in mmsi (record { vessels = seen.now; ranks = ranks.now }) }
+{
+    let place = place_near(seen, mmsi, place);
+    match seen.get(place) {
+        None => Rank::Power,
+        Some(vessel) => {
+            if vessel.0 == mmsi {
+                rank_at(ranks, place)
+            } else {
+                Rank::Power
+            }
+        }
+    }
 }

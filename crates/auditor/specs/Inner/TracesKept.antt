@@ -5,7 +5,7 @@ use Rattle.mtl_monitor.specs.declared.program.Program.{Program}
 use Rattle.audit_rows.specs.Rows.{AreRows}
 use Rattle.audit_rows.specs.Tracks.{AreSettled, Track}
 use Rattle.audit_rows.specs.declared.row.Row.{Row}
-use Rattle.traces.specs.Audited.{AuditNumbers, Sighting, last_sighting}
+use Rattle.traces.specs.Audited.{AuditNumbers, SeenVessels, Sighting}
 use Rattle.traces.specs.Known.{IsFollowed, Known}
 use Rattle.traces.specs.Standing as traces
 use Rattle.traces.specs.declared.all_traces.AllTraces.{AllTraces}
@@ -37,10 +37,10 @@ abbrev pub IsAtStep : ℕ → Known → Type 0
 IsAtStep step known = (step ≡ known.start + length known.steps) × (known.start ≤ step)
 
 -- All of them have taken their step to the tick at which these vessels are seen.
-pub record AreStepped (program : Program) (numbers : AuditNumbers) (ticks : List Sighting) (seen : Sighting) (kept : AllTraces) (values : List AuditTrace) (knowns : List Known)
+pub record AreStepped (program : Program) (numbers : AuditNumbers) (ticks : List Sighting) (seen : SeenVessels) (kept : AllTraces) (values : List AuditTrace) (knowns : List Known)
     (queue : RowQueue) (bound : ℕ) (given : List Row) : Type 0 where
   pub after : List Known
-  pub followed : AllZip (IsFollowed numbers (last_sighting ticks) seen) knowns after
+  pub followed : AllZip (IsFollowed numbers ticks seen) knowns after
   pub stands : traces.StandsFor kept numbers ticks after
   pub holds : Holds program values queue numbers after bound given
 

@@ -1,15 +1,17 @@
 -- What is kept of the lines of a log, behind one line more.
-use Rattle.std.specs.Prelude.{ℕ, ◌≡◌, ◌≤◌, length, List, [], ◌∷◌, ◌++◌, Result, Ok, Err}
+use Rattle.std.specs.Prelude.{ℕ, ◌≡◌, ◌≤◌, Bool, length, List, [], ◌∷◌, ◌++◌, Option, Result, Ok, Err}
 use Rattle.aivdm.specs.FragmentJoining.{Taken}
 use Rattle.aivdm.specs.OpenMessages.{StandsFor as JoinerStandsFor}
 use Rattle.aivdm.specs.Sentences.{SentenceFields}
 use Rattle.aivdm.specs.declared.sentence.LineCause.{LineCause}
+use Rattle.ranks.specs.declared.change.Change.{Change}
 use Rattle.tracks.specs.AcceptedReports.{JudgingNumbers}
-use Rattle.tracks.specs.Standing.{StandsFor as BookStandsFor}
+use Rattle.tracks.specs.Standing.{BookValue, StandsFor as BookStandsFor}
 use Rattle.tracks.specs.VesselsHeld.{Sent, held_of}
 use Rattle.log_lines.specs.JudgedLines.{greatest_held, judged_sent}
 use Rattle.log_lines.specs.LineOutcomes.{line_outcome}
 use Rattle.log_lines.specs.SentLines.{heard_unless, sent_heard}
+use Rattle.log_lines.specs.ShipTypes.{AreNoted}
 use Rattle.log_lines.specs.StaticReports.{told_sent}
 use Rattle.log_lines.specs.Inner.Times.{untimely_by}
 use Rattle.log_lines.specs.declared.judged.Judged.{Judged}
@@ -31,14 +33,20 @@ listed (Err came) = []
 abbrev pub held_with : JudgingNumbers → List Sent → Result Sent LineOutcome → ℕ
 held_with numbers before next = length (held_of numbers (before ++ listed next))
 
--- Behind a message, or a line without one, the book stands for the longer list, the static report is kept, and the line came to this.
-pub record Enters (numbers : JudgingNumbers) (judge : Judge) (came : Judged) (before : List Sent) (next : Result Sent LineOutcome) : Type 0 where
+-- What is kept of these messages: the book stands for them and holds no more vessels than it can, and the ship types are noted where
+-- ranks count.
+pub record Keeps (kept : BookValue) (types : Option (List (ℕ × List Change))) (numbers : JudgingNumbers) (ranked : Bool) (messages : List Sent) : Type 0 where
+  pub book : BookStandsFor kept numbers messages
+  pub few : length (held_of numbers messages) ≤ greatest_held
+  pub notes : AreNoted ranked types messages
+
+-- Behind a message, or a line without one, the longer list is kept, and the static report, and the line came to this.
+pub record Enters (numbers : JudgingNumbers) (ranked : Bool) (judge : Judge) (came : Judged) (before : List Sent) (next : Result Sent LineOutcome) : Type 0 where
   pub is : came ≡ judged_sent numbers before next
   pub told : judge.told ≡ told_sent next
-  pub book : BookStandsFor judge.book numbers (before ++ listed next)
-  pub few : held_with numbers before next ≤ greatest_held
+  pub keeps : Keeps judge.book judge.ranks numbers ranked (before ++ listed next)
 
--- Behind a line on which this was heard, joiner and book stand for the longer lists, and the line came to this.
-pub record GoesOn (numbers : JudgingNumbers) (judge : Judge) (came : Judged) (taken : List Taken) (messages : List Sent) (heard : Result Taken LineOutcome) : Type 0 where
+-- Behind a line on which this was heard, the joiner stands for the longer list, and its message has entered.
+pub record GoesOn (numbers : JudgingNumbers) (ranked : Bool) (judge : Judge) (came : Judged) (taken : List Taken) (messages : List Sent) (heard : Result Taken LineOutcome) : Type 0 where
   pub joiner : JoinerStandsFor judge.joiner (taken ++ listed heard)
-  pub enters : Enters numbers judge came messages (sent_heard taken heard)
+  pub enters : Enters numbers ranked judge came messages (sent_heard taken heard)

@@ -1,28 +1,35 @@
 -- What is kept of all traces, and how it grows.
-use Rattle.std.specs.Prelude.{ℕ, ◌≡◌, ◌≢◌, ◌≤◌, ◌↔◌, List, [], ◌∷◌, ◌++◌, length}
+use Rattle.std.specs.Prelude.{ℕ, ◌≡◌, ◌≢◌, ◌+◌, ◌≤◌, ◌↔◌, List, [], ◌∷◌, ◌++◌, length}
 use Rattle.std.specs.List.{AllPairs, AllZip, Contains}
 use Rattle.meetings.specs.Standing as meetings
 use Rattle.meetings.specs.Traces.{AreInContact}
 use Rattle.meetings.specs.declared.pair.Pair.{Pair}
-use Rattle.traces.specs.Audited.{Begins, IsAudited, AuditNumbers, Sighting, state_in, terms_of}
+use Rattle.traces.specs.Audited.{Begins, IsAudited, AuditNumbers, SeenVessels, Sighting, sighting_at, state_in, terms_of, trace_ranks}
 use Rattle.traces.specs.Known.{AreKnown, AreOpened, IsKnown, Known, pairs_of}
+use Rattle.ranks.specs.declared.rank.Rank.{Rank}
 use Rattle.traces.specs.declared.all_traces.AllTraces.{AllTraces}
 use Rattle.traces.specs.declared.all_traces.TheConstants.{MOST_TRACES}
 use Rattle.traces.specs.declared.followed_trace.FollowedTrace.{FollowedTrace}
 
 -- ---- what it stands for
 
-pub record Follows (numbers : AuditNumbers) (trace : FollowedTrace) (known : Known) : Type 0 where
+pub record Follows (numbers : AuditNumbers) (ticks : List Sighting) (trace : FollowedTrace) (known : Known) : Type 0 where
   pub pair : trace.pair ≡ known.pair
   pub start : trace.start ≡ known.start
-  pub follows : meetings.Follows trace.follower (terms_of numbers) known.steps
+  pub follows : meetings.FollowsRanked trace.follower (terms_of numbers) (trace_ranks ticks known.pair known.start) known.steps
 
-pub record Holds (kept : AllTraces) (numbers : AuditNumbers) (knowns : List Known) : Type 0 where
+pub record Holds (kept : AllTraces) (numbers : AuditNumbers) (ticks : List Sighting) (knowns : List Known) : Type 0 where
   pub detect : kept.detect ≡ numbers.detect
   pub act : kept.act ≡ numbers.act
   pub tick : kept.tick ≡ numbers.tick
-  pub traces : AllZip (Follows numbers) kept.traces.items knowns
+  pub traces : AllZip (Follows numbers ticks) kept.traces.items knowns
   pub pairs : (pair : Pair) → Contains kept.pairs.keys pair ↔ Contains (pairs_of knowns) pair
+
+-- ---- the step that is taken
+
+-- The next step of the trace is from the tick at which these vessels are seen with these ranks.
+abbrev pub IsTakenFrom : List Sighting → Known → SeenVessels → List Rank → Type 0
+IsTakenFrom ticks known seen ranks = sighting_at ticks (known.start + length known.steps) ≡ record { vessels = seen; ranks = ranks }
 
 -- ---- what stays as traces begin
 
@@ -32,6 +39,7 @@ pub record IsBeginning (old new : AllTraces) : Type 0 where
   pub last_tick : new.last_tick ≡ old.last_tick
   pub given : new.given ≡ old.given
   pub latest : new.latest ≡ old.latest
+  pub ranks : new.ranks ≡ old.ranks
   pub more : length old.traces.items ≤ length new.traces.items
 
 -- ---- traces that begin
@@ -44,13 +52,13 @@ abbrev pub HaveBoth : List Known → Type 0
 HaveBoth knowns = (pair : Pair) → Contains (pairs_of knowns) pair → Contains (pairs_of knowns) (swapped pair)
 
 -- The pair is audited and in contact, and had no trace before.
-pub record IsFresh (numbers : AuditNumbers) (seen : Sighting) (old : List Pair) (pair : Pair) : Type 0 where
+pub record IsFresh (numbers : AuditNumbers) (seen : SeenVessels) (old : List Pair) (pair : Pair) : Type 0 where
   pub audited : IsAudited numbers.subjects pair
   pub contact : AreInContact numbers.detect.watch (state_in pair.subject seen) (state_in pair.other seen)
   pub new : ¬ Contains old pair
 
 -- Behind the traces that there were stand only ones of such pairs, which begin now.
-pub record Grew (numbers : AuditNumbers) (seen : Sighting) (old : List Pair) (start : ℕ) (before after : List Known) : Type 0 where
+pub record Grew (numbers : AuditNumbers) (seen : SeenVessels) (old : List Pair) (start : ℕ) (before after : List Known) : Type 0 where
   pub new : List Known
   pub whole : after ≡ before ++ new
   pub opened : AreOpened start new
@@ -63,7 +71,7 @@ pub record MayBegin (kept : AllTraces) (numbers : AuditNumbers) (knowns : List K
   pub both : HaveBoth knowns
 
 -- A pair of different vessels in contact may be taken, where those that had a trace before still have it.
-pub record MayTake (kept : AllTraces) (numbers : AuditNumbers) (seen : Sighting) (old : List Pair) (knowns : List Known) (pair : Pair) : Type 0 where
+pub record MayTake (kept : AllTraces) (numbers : AuditNumbers) (seen : SeenVessels) (old : List Pair) (knowns : List Known) (pair : Pair) : Type 0 where
   pub of : numbers.subjects ≡ kept.subjects.items
   pub two : pair.subject ≢ pair.other
   pub contact : AreInContact numbers.detect.watch (state_in pair.subject seen) (state_in pair.other seen)
@@ -72,25 +80,25 @@ pub record MayTake (kept : AllTraces) (numbers : AuditNumbers) (seen : Sighting)
   pub still : (other : Pair) → Contains old other → Contains (pairs_of knowns) other
 
 -- A pair in contact has both its traces, if it is audited.
-pub record IsTaken (kept : AllTraces) (numbers : AuditNumbers) (seen : Sighting) (old : List Pair) (start : ℕ) (before : List Known) (pair : Pair) : Type 0 where
+pub record IsTaken (kept : AllTraces) (numbers : AuditNumbers) (ticks : List Sighting) (seen : SeenVessels) (old : List Pair) (start : ℕ) (before : List Known) (pair : Pair) : Type 0 where
   pub after : List Known
-  pub holds : Holds kept numbers after
+  pub holds : Holds kept numbers ticks after
   pub once : AllPairs ◌≢◌ (pairs_of after)
   pub both : HaveBoth after
   pub grew : Grew numbers seen old start before after
   pub taken : IsAudited numbers.subjects pair → Contains (pairs_of after) pair
 
 -- All of them have.
-pub record AreBegun (kept : AllTraces) (numbers : AuditNumbers) (seen : Sighting) (start : ℕ) (before : List Known) : Type 0 where
+pub record AreBegun (kept : AllTraces) (numbers : AuditNumbers) (ticks : List Sighting) (seen : SeenVessels) (start : ℕ) (before : List Known) : Type 0 where
   pub after : List Known
-  pub holds : Holds kept numbers after
+  pub holds : Holds kept numbers ticks after
   pub once : AllPairs ◌≢◌ (pairs_of after)
   pub grew : Grew numbers seen (pairs_of before) start before after
   pub all : (pair : Pair) → IsAudited numbers.subjects pair → AreInContact numbers.detect.watch (state_in pair.subject seen) (state_in pair.other seen)
       → Contains (pairs_of after) pair
 
 -- There are as many traces as there may be, and a further pair begins one.
-pub record AreTooMany (numbers : AuditNumbers) (seen : Sighting) (old : List Pair) (start : ℕ) (before : List Known) : Type 0 where
+pub record AreTooMany (numbers : AuditNumbers) (seen : SeenVessels) (old : List Pair) (start : ℕ) (before : List Known) : Type 0 where
   pub full : List Known
   pub many : length full ≡ MOST_TRACES
   pub once : AllPairs ◌≢◌ (pairs_of full)
@@ -118,5 +126,5 @@ pub record AreKnownOn (numbers : AuditNumbers) (ticks : List Sighting) (seen : S
 pub record HaveBegunNow (kept : AllTraces) (numbers : AuditNumbers) (ticks : List Sighting) (start : ℕ) (before : List Known) : Type 0 where
   pub new : List Known
   pub opened : AreOpened start new
-  pub holds : Holds kept numbers (before ++ new)
+  pub holds : Holds kept numbers ticks (before ++ new)
   pub are_known : AreKnown numbers ticks (before ++ new)

@@ -17,8 +17,8 @@ returns-in_err-add_table-clause-fault c =
     let p = err_from_is_err_and c.from_residual-in_err-add_table.result c.from_residual-in_err-add_table.ensures.1 in
     rw (p.1, p.2)
     (faults_alike (λ told. IsFaultBy (has_rule c.loop-table.rules) c.args.tick c.loop-table.item (view here) (Some told))
-    (λ told. IsFormulaFault c.args.tick (map view values) (Some told))
-    (λ told h. fault_here c.args.tick c.args.numbers.now (map view values) (map view (take i values)) (view here) (map view (drop (suc i) values)) c.loop-table.rules
+    (λ told. IsFormulaFault c.args.ranks c.args.tick (map view values) (Some told))
+    (λ told h. fault_here c.args.ranks c.args.tick c.args.numbers.now (map view values) (map view (take i values)) (view here) (map view (drop (suc i) values)) c.loop-table.rules
     c.loop-table.item told (values_split values i here c.table-item.is c.loop-table-test.true) c.loop-table.invariant h)
     c.in_err-add_table.field-0.0 c.in_err-add_table.ensures.fault)
 
@@ -27,7 +27,7 @@ loop-table-preserved c =
     let values = c.args.tables.now in
     let here = c.table-item.result in
     let i = c.loop-table.table-index in
-    subst (λ (l : List Data). Stands c.args.tick c.args.numbers.now l c.add_table.new.rules (c.loop-table.item + 1))
+    subst (λ (l : List Data). Stands c.args.ranks c.args.tick c.args.numbers.now l c.add_table.new.rules (c.loop-table.item + 1))
     (sym (values_more values i here c.table-item.is c.loop-table-test.true))
-    (one_more_table c.args.tick c.args.numbers.now (map view (take i values)) (view here) c.loop-table.rules c.add_table.new.rules c.loop-table.item
+    (one_more_table c.args.ranks c.args.tick c.args.numbers.now (map view (take i values)) (view here) c.loop-table.rules c.add_table.new.rules c.loop-table.item
     c.loop-table.invariant c.in_ok-add_table.ensures.added c.in_ok-add_table.ensures.faultless)

@@ -62,7 +62,7 @@ loop-index-preserved c =
       rest = λ k d from lt. (let ne : k ≢ i = omega arith in let inside : k < length old = omega arith in rw get_or-set_other (inv.rest k d (omega arith) inside));
       holds = λ numbers ticks knowns bound given is are z at h.
           under_way_more c.args.program.now numbers ticks c.args.seen.now c.args.step knowns bound given c.loop-index.traces c.take_step-row.new.self old c.loop-index.queue c.step.new.queue
-          c.loop-index.first i (c.formula_count-tracks.result + 1) c.index-values-index.result after _ is inv.tracks_are within
+          c.loop-index.first i (c.formula_count-tracks.result + 1) c.index-values-index.result after _ is at inv.tracks_are within
           c.in_ok-step.ensures.stands
           (gives_row c.args.program.now numbers ticks c.args.seen.now c.args.step knowns bound given c.loop-index.traces c.next_step-next_step.new.self c.take_step-row.new.self i
           c.next_step-next_step.result _ c.as_ref-pair_step.ensures.value c.state-was.ensures found.step found.stands taken.row taken.stands c.state-is.ensures)

@@ -3,7 +3,7 @@ use Rattle.mtl_monitor.specs.Following.{IsProgramOf, count_of}
 use Rattle.audit_rows.specs.declared.row.Row.{Row}
 use Rattle.traces.specs.Audited.{AuditNumbers, Sighting}
 use Rattle.traces.specs.Known.{AreKnown, Known}
-use Rattle.traces.specs.Standing.{IsSound, StandsFor as TracesStandFor, given_of, last_tick_of, latest_sighting, traces_of}
+use Rattle.traces.specs.Standing.{IsSound, StandsFor as TracesStandFor, given_of, last_tick_of, latest_vessels, traces_of}
 use Rattle.auditor.specs.Inner.TracesKept.{Holds, IsReady}
 use Rattle.auditor.specs.SettledRows.{formulas_of}
 use Rattle.auditor.specs.declared.trace.AuditTrace.{AuditTrace}
@@ -15,7 +15,7 @@ invariant-loop-index l = record {
   sound : IsSound l.traces;
   given : given_of l.traces ≡ given_of l.fn.traces;
   last_tick : last_tick_of l.traces ≡ last_tick_of l.fn.traces;
-  latest : latest_sighting l.traces ≡ latest_sighting l.fn.traces;
+  latest : latest_vessels l.traces ≡ latest_vessels l.fn.traces;
   traces : traces_of l.traces ≡ traces_of l.fn.traces;
   tracks_are : l.tracks ≡ count_of l.program + 1;
   few : l.first ≤ 18 * l.index;

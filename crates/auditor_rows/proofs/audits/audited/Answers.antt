@@ -1,5 +1,5 @@
 use Rattle.std.proofs.Common.{sym, subst, ◌∙◌}
-use Rattle.traces.specs.Audited.{MoveLittle, Sighting}
+use Rattle.traces.specs.Audited.{MoveLittle, SeenVessels}
 use Rattle.auditor_rows.specs.WorkedMeeting.{head_on_at}
 use Rattle.auditor_rows.proofs.WorkedMeeting.{from_none}
 use Rattle.auditor_rows.proofs.audits.audited.Goals as goal
@@ -9,7 +9,7 @@ loop-k-init c = record {
   sound = c.in_ok-audit.ensures.sound;
   at = c.in_ok-audit.ensures.none;
   last = c.in_ok-audit.ensures.last;
-  moves = subst (λ (s : Sighting). MoveLittle s (head_on_at 0)) (sym c.in_ok-audit.ensures.latest) (from_none (head_on_at 0));
+  moves = subst (λ (s : SeenVessels). MoveLittle s (head_on_at 0)) (sym c.in_ok-audit.ensures.latest) (from_none (head_on_at 0));
 }
 
 pub loop-k-preserved : goal.loop-k-preserved

@@ -1,6 +1,6 @@
 use Rattle.std.proofs.Common.{◌≡◌, ℕ, [], List, refl, sym, subst, arith}
 use Rattle.std.specs.List.{AllZip}
-use Rattle.traces.specs.Audited.{AuditNumbers}
+use Rattle.traces.specs.Audited.{AuditNumbers, nothing_seen}
 use Rattle.outside.proofs.Members.{in_none}
 use Rattle.traces.proofs.ForCallers.{begun_within, different_none}
 use Rattle.auditor.specs.SettledRows.{settled_by}
@@ -26,7 +26,7 @@ returns-clause-stands c =
       knowns = [];
       are_known = record {
         each = λ known i. in_none known i;
-        all = λ pair start begins. (let within = begun_within [] [] numbers pair start begins in absurd (omega arith));
+        all = λ pair start begins. (let within = begun_within [] nothing_seen numbers pair start begins in absurd (omega arith));
         once = different_none;
       };
       traces = c.in_ok-new.ensures.stands numbers refl refl refl refl refl;

@@ -13,7 +13,7 @@ use Rattle.auditor.proofs.trace.AuditTrace.step.Goals as goal
 
 pub returns-clause-stands : goal.returns-clause-stands
 returns-clause-stands c = on_ok_weaker c.mark_rules.result
-    (λ marks numbers known seen before mine after bound given stands at of tracks e keeps.
+    (λ marks numbers ranks known seen before mine after bound given stands at of tracks e keeps.
     let next = c.args.next in
     let row = answer_of next.row.now in
     let count = stands.rows in
@@ -37,7 +37,7 @@ returns-clause-stands c = on_ok_weaker c.mark_rules.result
     c.mark_rules.ensures
 
 pub returns-then-has_answered-clause-stands : goal.returns-then-has_answered-clause-stands
-returns-then-has_answered-clause-stands c = λ numbers known seen before mine after bound given stands at of tracks e keeps.
+returns-then-has_answered-clause-stands c = λ numbers ranks known seen before mine after bound given stands at of tracks e keeps.
     let next = c.args.next in
     let row = answer_of next.row.now in
     let count = stands.rows in

@@ -1,4 +1,5 @@
 use Rattle.std.proofs.Common.{ap, sym, ◌∙◌, Err}
+use Rattle.tracks.specs.VesselsHeld.{Sent}
 use Rattle.log_lines.specs.JudgedLines.{judged_entry}
 use Rattle.log_lines.proofs.GoingOn.{few_unless}
 use Rattle.log_lines.proofs.judge.Judge.judge_message.Goals as goal
@@ -9,9 +10,14 @@ returns-in_err-entry-clause-crowded c = λ told numbers before stands.
     (c.in_err-entry.ensures.too_many numbers before stands).0 (ap Err (sym said.1))
 
 pub returns-clause-judged : goal.returns-clause-judged
-returns-clause-judged c = λ numbers before stands. record {
-  is = c.judged.ensures ∙ ap (judged_entry _) (c.in_ok-entry.ensures.entry numbers before stands);
-  told = c.static_told-self.ensures;
-  book = c.in_ok-entry.ensures.stands numbers before stands;
-  few = few_unless _ (λ more. cc ((c.in_ok-entry.ensures.too_many numbers before stands).1 more));
-}
+returns-clause-judged c = λ numbers ranked before keeps.
+    let one : Sent = record { message = c.args.message.now; time = c.args.time } in
+    record {
+      is = c.judged.ensures ∙ ap (judged_entry _) (c.in_ok-entry.ensures.entry numbers before keeps.book);
+      told = c.static_told-self.ensures;
+      keeps = record {
+        book = c.in_ok-entry.ensures.stands numbers before keeps.book;
+        few = few_unless _ (λ more. cc ((c.in_ok-entry.ensures.too_many numbers before keeps.book).1 more));
+        notes = c.in_ok-note.ensures ranked before one c.static_told-self.ensures keeps.notes;
+      };
+    }

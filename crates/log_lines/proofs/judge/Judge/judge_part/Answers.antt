@@ -15,11 +15,11 @@ returns-in-Message-clause-judged c =
     let judge = c.judge_decoded.new.self in
     let kept = ap (λ (j : Judge). j.joiner) c.judge_decoded.ensures.same in
     IfOk-weaker c.judge_decoded.result _ _
-    (λ came enters numbers taken messages stands book few. GoesOn-message numbers judge came taken messages next _ c.decode.result
+    (λ came enters numbers ranked taken messages stands keeps. GoesOn-message numbers ranked judge came taken messages next _ c.decode.result
     (sym c.in-Message.is ∙ c.in_ok-bits.ensures.joined taken stands)
     (ap (sent_decoded c.args.time) (sym c.decode.ensures.fields))
     (subst (λ joiner. JoinerStandsFor joiner (taken ++ next ∷ [])) (sym kept) (c.in_ok-bits.ensures.stands taken stands))
-    (enters numbers messages book few))
+    (enters numbers ranked messages keeps))
     c.judge_decoded.ensures.judged
 
 pub returns-in-Message-clause-crowded : goal.returns-in-Message-clause-crowded
@@ -28,11 +28,11 @@ returns-in-Message-clause-crowded c = λ fault numbers taken messages stands boo
     (ap (sent_decoded c.args.time) (sym c.decode.ensures.fields)) (c.judge_decoded.ensures.crowded fault numbers messages book)
 
 pub returns-in-Waiting-clause-judged : goal.returns-in-Waiting-clause-judged
-returns-in-Waiting-clause-judged c = λ numbers taken messages stands book few.
-    GoesOn-silent numbers _ outcome.Part taken messages _ _ (sym c.in-Waiting.is ∙ c.in_ok-bits.ensures.joined taken stands) refl c.requires.untold
-    (c.in_ok-bits.ensures.stands taken stands) book few
+returns-in-Waiting-clause-judged c = λ numbers ranked taken messages stands keeps.
+    GoesOn-silent numbers ranked _ outcome.Part taken messages _ _ (sym c.in-Waiting.is ∙ c.in_ok-bits.ensures.joined taken stands) refl c.requires.untold
+    (c.in_ok-bits.ensures.stands taken stands) keeps
 
 pub returns-in-Orphan-clause-judged : goal.returns-in-Orphan-clause-judged
-returns-in-Orphan-clause-judged c = λ numbers taken messages stands book few.
-    GoesOn-silent numbers _ outcome.Orphan taken messages _ _ (sym c.in-Orphan.is ∙ c.in_ok-bits.ensures.joined taken stands) refl c.requires.untold
-    (c.in_ok-bits.ensures.stands taken stands) book few
+returns-in-Orphan-clause-judged c = λ numbers ranked taken messages stands keeps.
+    GoesOn-silent numbers ranked _ outcome.Orphan taken messages _ _ (sym c.in-Orphan.is ∙ c.in_ok-bits.ensures.joined taken stands) refl c.requires.untold
+    (c.in_ok-bits.ensures.stands taken stands) keeps

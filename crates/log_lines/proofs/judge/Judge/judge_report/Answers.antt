@@ -1,7 +1,9 @@
-use Rattle.std.proofs.Common.{ap, sym, ◌∙◌, Err}
+use Rattle.std.proofs.Common.{ap, refl, sym, ◌∙◌, Err}
 use Rattle.ais_messages.specs.declared.message.Message.TheVariants.{Position}
+use Rattle.tracks.specs.VesselsHeld.{Sent}
 use Rattle.log_lines.specs.JudgedLines.{judged_entry}
 use Rattle.log_lines.proofs.GoingOn.{few_unless}
+use Rattle.log_lines.proofs.Noting.{nothing_noted}
 use Rattle.log_lines.proofs.judge.Judge.judge_report.Goals as goal
 
 pub returns-in_err-entry-clause-crowded : goal.returns-in_err-entry-clause-crowded
@@ -10,9 +12,14 @@ returns-in_err-entry-clause-crowded c = λ told numbers before stands.
     (c.in_err-entry.ensures.too_many numbers before stands).0 (ap Err (sym said.1))
 
 pub returns-clause-judged : goal.returns-clause-judged
-returns-clause-judged c = λ numbers before stands. record {
-  is = c.judged_report.ensures ∙ ap (judged_entry (record { message = Position c.args.report.now; time = c.args.time })) (c.in_ok-entry.ensures.entry numbers before stands);
-  told = c.requires.untold;
-  book = c.in_ok-entry.ensures.stands numbers before stands;
-  few = few_unless _ (λ more. cc ((c.in_ok-entry.ensures.too_many numbers before stands).1 more));
-}
+returns-clause-judged c = λ numbers ranked before keeps.
+    let one : Sent = record { message = Position c.args.report.now; time = c.args.time } in
+    record {
+      is = c.judged_report.ensures ∙ ap (judged_entry one) (c.in_ok-entry.ensures.entry numbers before keeps.book);
+      told = c.requires.untold;
+      keeps = record {
+        book = c.in_ok-entry.ensures.stands numbers before keeps.book;
+        few = few_unless _ (λ more. cc ((c.in_ok-entry.ensures.too_many numbers before keeps.book).1 more));
+        notes = nothing_noted ranked _ before one refl keeps.notes;
+      };
+    }

@@ -19,10 +19,10 @@ returns-in-Some-clause-judged c =
     let kept = ap (λ (j : Judge). j.joiner) c.judge_report.ensures.same in
     let report = c.in-Some.ensures.report in
     IfOk-weaker c.judge_report.result _ _
-    (λ came enters numbers taken messages stands book few.
+    (λ came enters numbers ranked taken messages stands keeps.
     let whole = whole_message c.args.self.now.joiner taken next stands report.0 in
-    GoesOn-message numbers judge came taken messages next (joined.Message (part_bits next)) (decoded.Message (message.Position c.in-Some.report)) whole.0
-    (ap (sent_decoded c.args.time) report.1) (subst (λ joiner. JoinerStandsFor joiner (taken ++ next ∷ [])) (sym kept) whole.1) (enters numbers messages book))
+    GoesOn-message numbers ranked judge came taken messages next (joined.Message (part_bits next)) (decoded.Message (message.Position c.in-Some.report)) whole.0
+    (ap (sent_decoded c.args.time) report.1) (subst (λ joiner. JoinerStandsFor joiner (taken ++ next ∷ [])) (sym kept) whole.1) (enters numbers ranked messages keeps))
     c.judge_report.ensures.judged
 
 pub returns-in-Some-clause-crowded : goal.returns-in-Some-clause-crowded

@@ -12,6 +12,7 @@ judges c =
       body = body_seen c.read_line-reading.result.body;
       timed = rw (← stamp) c.time-time.ensures;
       said = ap (λ (content : LineContent). content.body) c.read_line-reading.ensures.same;
+      kept = c.in_ok-judged.ensures.keeping;
       on = c.in_ok-judged.ensures.judged;
     }
 

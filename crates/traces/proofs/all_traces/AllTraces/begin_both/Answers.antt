@@ -1,7 +1,7 @@
 use Rattle.std.proofs.Common.{◌≡◌, ◌⊎◌, ℕ, List, [], ◌∷◌, ◌++◌, length, Err, sym, ap, subst, ◌∙◌}
 use Rattle.std.specs.List.{Contains}
 use Rattle.meetings.specs.declared.pair.Pair.{Pair}
-use Rattle.traces.specs.Audited.{AuditNumbers, Sighting}
+use Rattle.traces.specs.Audited.{AuditNumbers, SeenVessels, Sighting}
 use Rattle.traces.specs.Inner.TracesKept.{AreTooMany, Follows, Holds, IsTaken, MayTake, swapped}
 use Rattle.traces.specs.Known.{Known, opened, pairs_of}
 use Rattle.traces.specs.declared.all_traces.AllTraces.{AllTraces}
@@ -14,15 +14,15 @@ use Rattle.std.proofs.lemmas.Result.{on_ok_weaker}
 use Rattle.traces.proofs.Taking.{after, after_is, both_after, fresh_one, fresh_other, grew_after, grew_mid, grew_none, mid, mid_is, new_other, once_after, once_mid, taken_one}
 use Rattle.traces.proofs.all_traces.AllTraces.begin_both.Goals as goal
 
-many_known : (kept : AllTraces) (numbers : AuditNumbers) (knowns : List Known) → Holds kept numbers knowns → length kept.traces.items ≡ MOST_TRACES → length knowns ≡ MOST_TRACES
-many_known kept numbers knowns h e = sym (zip_length (Follows numbers) kept.traces.items knowns h.traces) ∙ e
+many_known : (kept : AllTraces) (numbers : AuditNumbers) (ticks : List Sighting) (knowns : List Known) → Holds kept numbers ticks knowns → length kept.traces.items ≡ MOST_TRACES → length knowns ≡ MOST_TRACES
+many_known kept numbers ticks knowns h e = sym (zip_length (Follows numbers ticks) kept.traces.items knowns h.traces) ∙ e
 
-module _ (numbers : AuditNumbers) (seen : Sighting) (old : List Pair) (start : ℕ) (own : AllTraces) (knowns : List Known) (pair : Pair) (may : MayTake own numbers seen old knowns pair)
+module _ (numbers : AuditNumbers) (ticks : List Sighting) (seen : SeenVessels) (old : List Pair) (start : ℕ) (own : AllTraces) (knowns : List Known) (pair : Pair) (may : MayTake own numbers seen old knowns pair)
     (chosen : (own.subjects.items ≡ []) ⊎ Contains own.subjects.items pair.subject ⊎ Contains own.subjects.items pair.other) (new : Contains (pairs_of knowns) pair → ⊥) where
-  full_at_one : (kept : AllTraces) → Holds kept numbers knowns → length kept.traces.items ≡ MOST_TRACES → AreTooMany numbers seen old start knowns
+  full_at_one : (kept : AllTraces) → Holds kept numbers ticks knowns → length kept.traces.items ≡ MOST_TRACES → AreTooMany numbers seen old start knowns
   full_at_one kept h e = record {
     full = knowns;
-    many = many_known kept numbers knowns h e;
+    many = many_known kept numbers ticks knowns h e;
     once = may.once;
     grew = grew_none numbers seen old start knowns;
     further = pair;
@@ -33,13 +33,13 @@ module _ (numbers : AuditNumbers) (seen : Sighting) (old : List Pair) (start : �
   abbrev Mid : List Known
   Mid = mid numbers seen old start own knowns pair may chosen new
 
-  held_mid : (kept : AllTraces) → Holds kept numbers (knowns ++ opened pair start ∷ []) → Holds kept numbers Mid
-  held_mid kept h = subst (λ (ks : List Known). Holds kept numbers ks) (sym (mid_is numbers seen old start own knowns pair may chosen new)) h
+  held_mid : (kept : AllTraces) → Holds kept numbers ticks (knowns ++ opened pair start ∷ []) → Holds kept numbers ticks Mid
+  held_mid kept h = subst (λ (ks : List Known). Holds kept numbers ticks ks) (sym (mid_is numbers seen old start own knowns pair may chosen new)) h
 
-  full_at_two : (kept : AllTraces) → Holds kept numbers (knowns ++ opened pair start ∷ []) → length kept.traces.items ≡ MOST_TRACES → AreTooMany numbers seen old start knowns
+  full_at_two : (kept : AllTraces) → Holds kept numbers ticks (knowns ++ opened pair start ∷ []) → length kept.traces.items ≡ MOST_TRACES → AreTooMany numbers seen old start knowns
   full_at_two kept h e = record {
     full = Mid;
-    many = many_known kept numbers Mid (held_mid kept h) e;
+    many = many_known kept numbers ticks Mid (held_mid kept h) e;
     once = once_mid numbers seen old start own knowns pair may chosen new;
     grew = grew_mid numbers seen old start own knowns pair may chosen new;
     further = swapped pair;
@@ -47,13 +47,13 @@ module _ (numbers : AuditNumbers) (seen : Sighting) (old : List Pair) (start : �
     new = new_other numbers seen old start own knowns pair may chosen new;
   }
 
-  both_taken : (kept next : AllTraces) → Holds kept numbers (knowns ++ opened pair start ∷ [])
-      → ((numbers : AuditNumbers) (knowns : List Known) → Holds kept numbers knowns
-      → Holds next numbers (knowns ++ opened (swapped pair) start ∷ [])) → IsTaken next numbers seen old start knowns pair
+  both_taken : (kept next : AllTraces) → Holds kept numbers ticks (knowns ++ opened pair start ∷ [])
+      → ((numbers : AuditNumbers) (ticks : List Sighting) (knowns : List Known) → Holds kept numbers ticks knowns
+      → Holds next numbers ticks (knowns ++ opened (swapped pair) start ∷ [])) → IsTaken next numbers ticks seen old start knowns pair
   both_taken kept next h stands = record {
     after = after numbers seen old start own knowns pair may chosen new;
-    holds = subst (λ (ks : List Known). Holds next numbers ks) (sym (after_is numbers seen old start own knowns pair may chosen new))
-        (stands numbers Mid (held_mid kept h));
+    holds = subst (λ (ks : List Known). Holds next numbers ticks ks) (sym (after_is numbers seen old start own knowns pair may chosen new))
+        (stands numbers ticks Mid (held_mid kept h));
     once = once_after numbers seen old start own knowns pair may chosen new;
     both = both_after numbers seen old start own knowns pair may chosen new;
     grew = grew_after numbers seen old start own knowns pair may chosen new;
@@ -64,7 +64,7 @@ chosen_of : (xs ys : List ℕ) (pair : Pair) → xs ≡ ys → (xs ≡ []) ⊎ C
 chosen_of xs ys pair e h = subst (λ (s : List ℕ). (s ≡ []) ⊎ Contains s pair.subject ⊎ Contains s pair.other) e h
 
 pub returns-then-not-is_chosen-clause-begun : goal.returns-then-not-is_chosen-clause-begun
-returns-then-not-is_chosen-clause-begun c = λ numbers seen old knowns h may. record {
+returns-then-not-is_chosen-clause-begun c = λ numbers ticks seen old knowns h may. record {
   after = knowns;
   holds = h;
   once = may.once;
@@ -74,7 +74,7 @@ returns-then-not-is_chosen-clause-begun c = λ numbers seen old knowns h may. re
 }
 
 pub returns-then-is_among-clause-begun : goal.returns-then-is_among-clause-begun
-returns-then-is_among-clause-begun c = λ numbers seen old knowns h may. record {
+returns-then-is_among-clause-begun c = λ numbers ticks seen old knowns h may. record {
   after = knowns;
   holds = h;
   once = may.once;
@@ -84,22 +84,22 @@ returns-then-is_among-clause-begun c = λ numbers seen old knowns h may. record 
 }
 
 pub returns-in_err-begin_one-clause-many : goal.returns-in_err-begin_one-clause-many
-returns-in_err-begin_one-clause-many c = λ fault numbers seen old knowns h may.
+returns-in_err-begin_one-clause-many c = λ fault numbers ticks seen old knowns h may.
     let same = same_fault c.from_residual.result c.in_err-begin_one.field-0.0 TooManyPairs c.from_residual.ensures.1 fault in
     let err : c.begin_one.result ≡ Err TooManyPairs = c.in_err-begin_one.was ∙ ap (λ (e : TickFault). Err e) (sym same) in
-    full_at_one numbers seen old c.args.self.now.given c.args.self.now knowns c.args.pair may (chosen_of _ _ c.args.pair c.deref.ensures.value (c.is_chosen.ensures.0 c.if-not-is_chosen.false))
+    full_at_one numbers ticks seen old c.args.self.now.given c.args.self.now knowns c.args.pair may (chosen_of _ _ c.args.pair c.deref.ensures.value (c.is_chosen.ensures.0 c.if-not-is_chosen.false))
     (λ i. let is = c.is_among.ensures.1 ((h.pairs c.args.pair).1 i) in let not = c.if-is_among.false in absurd (cc)) c.args.self.now h (c.begin_one.ensures.many err)
 
 pub returns-clause-begun : goal.returns-clause-begun
-returns-clause-begun c = on_ok_weaker c.begin_one-2.result (λ stands numbers seen old knowns h may.
+returns-clause-begun c = on_ok_weaker c.begin_one-2.result (λ stands numbers ticks seen old knowns h may.
     let new : Contains (pairs_of knowns) c.args.pair → ⊥ = λ i. let is = c.is_among.ensures.1 ((h.pairs c.args.pair).1 i) in let not = c.if-is_among.false in absurd (cc) in
     let given = c.in_ok-begin_one.ensures.same.given in
-    both_taken numbers seen old c.args.self.now.given c.args.self.now knowns c.args.pair may (chosen_of _ _ c.args.pair c.deref.ensures.value (c.is_chosen.ensures.0 c.if-not-is_chosen.false)) new c.begin_one.new.self c.begin_one-2.new.self
-    (c.in_ok-begin_one.ensures.begun numbers knowns h)
-    (λ numbers knowns h. subst (λ (n : ℕ). Holds c.begin_one-2.new.self numbers (knowns ++ opened (swapped c.args.pair) n ∷ [])) given (stands numbers knowns h))) c.begin_one-2.ensures.begun
+    both_taken numbers ticks seen old c.args.self.now.given c.args.self.now knowns c.args.pair may (chosen_of _ _ c.args.pair c.deref.ensures.value (c.is_chosen.ensures.0 c.if-not-is_chosen.false)) new c.begin_one.new.self c.begin_one-2.new.self
+    (c.in_ok-begin_one.ensures.begun numbers ticks knowns h)
+    (λ numbers ticks knowns h. subst (λ (n : ℕ). Holds c.begin_one-2.new.self numbers ticks (knowns ++ opened (swapped c.args.pair) n ∷ [])) given (stands numbers ticks knowns h))) c.begin_one-2.ensures.begun
 
 pub returns-clause-many : goal.returns-clause-many
-returns-clause-many c = λ fault numbers seen old knowns h may.
+returns-clause-many c = λ fault numbers ticks seen old knowns h may.
     let new : Contains (pairs_of knowns) c.args.pair → ⊥ = λ i. let is = c.is_among.ensures.1 ((h.pairs c.args.pair).1 i) in let not = c.if-is_among.false in absurd (cc) in
-    full_at_two numbers seen old c.args.self.now.given c.args.self.now knowns c.args.pair may (chosen_of _ _ c.args.pair c.deref.ensures.value (c.is_chosen.ensures.0 c.if-not-is_chosen.false)) new c.begin_one.new.self
-    (c.in_ok-begin_one.ensures.begun numbers knowns h) (c.begin_one-2.ensures.many fault)
+    full_at_two numbers ticks seen old c.args.self.now.given c.args.self.now knowns c.args.pair may (chosen_of _ _ c.args.pair c.deref.ensures.value (c.is_chosen.ensures.0 c.if-not-is_chosen.false)) new c.begin_one.new.self
+    (c.in_ok-begin_one.ensures.begun numbers ticks knowns h) (c.begin_one-2.ensures.many fault)

@@ -8,7 +8,7 @@ use Rattle.std.proofs.lemmas.Result.{on_ok_weaker}
 use Rattle.traces.proofs.all_traces.AllTraces.push.Goals as goal
 
 pub returns-clause-begun : goal.returns-clause-begun
-returns-clause-begun c = on_ok_weaker c.add.result (λ added numbers knowns h.
+returns-clause-begun c = on_ok_weaker c.add.result (λ added numbers ticks knowns h.
     let pair = c.args.pair in
     let start = c.args.self.now.given in
     let old : List FollowedTrace = c.args.self.now.traces.items in
@@ -18,8 +18,8 @@ returns-clause-begun c = on_ok_weaker c.add.result (λ added numbers knowns h.
       detect = h.detect;
       act = h.act;
       tick = h.tick;
-      traces = subst (λ (ts : List FollowedTrace). AllZip (Follows numbers) ts (knowns ++ opened pair start ∷ [])) (sym items)
-          (zip_push (Follows numbers) old knowns trace (opened pair start) h.traces (c.new.ensures numbers (sym h.detect) (sym h.act) (sym h.tick)));
+      traces = subst (λ (ts : List FollowedTrace). AllZip (Follows numbers ticks) ts (knowns ++ opened pair start ∷ [])) (sym items)
+          (zip_push (Follows numbers ticks) old knowns trace (opened pair start) h.traces (c.new.ensures numbers ticks (sym h.detect) (sym h.act) (sym h.tick)));
       pairs = λ other. (
         λ i. (pair_pushed knowns pair start other).1 (elim ((added other).0 i) [ inl there ↦ inl ((h.pairs other).0 there) | inr same ↦ inr same ]),
         λ i. (added other).1 (elim ((pair_pushed knowns pair start other).0 i) [ inl there ↦ inl ((h.pairs other).1 there) | inr same ↦ inr same ]),

@@ -1,20 +1,37 @@
-use Rattle.std.proofs.Common.{refl}
+use Rattle.std.proofs.Common.{◌≡◌, ℕ, List, ◌∷◌, ◌++◌, refl, sym, ap, ap₂, ◌∙◌}
 use Rattle.std.specs.Option.{option_copied}
 use Rattle.meetings.specs.Answers.{answer_of}
-use Rattle.traces.specs.Known.{watched}
+use Rattle.ranks.specs.declared.rank.Rank.{Rank}
+use Rattle.traces.specs.Audited.{AuditNumbers, SeenVessels, Sighting, sighting_at}
+use Rattle.traces.specs.Inner.TracesKept.{IsTakenFrom}
+use Rattle.traces.specs.Known.{IsUpTo, Known, watched}
+use Rattle.traces.specs.Standing.{StandsFor}
+use Rattle.traces.specs.declared.all_traces.AllTraces.{AllTraces}
 use Rattle.traces.proofs.Growing.{follows_at, trace_changed}
 use Rattle.traces.proofs.all_traces.AllTraces.take_step.Goals as goal
 
+abbrev sighting_of : SeenVessels → List Rank → Sighting
+sighting_of vessels ranks = record { vessels = vessels; ranks = ranks }
+
+-- The step is from the latest tick.
+taken_from : (kept : AllTraces) (numbers : AuditNumbers) (ticks : List Sighting) (known : Known) (knowns : List Known) (vessels : SeenVessels) (ranks : List Rank)
+    → StandsFor kept numbers ticks knowns → IsUpTo ticks known → vessels ≡ kept.latest.items → ranks ≡ kept.ranks.items → IsTakenFrom ticks known vessels ranks
+taken_from kept numbers ticks known knowns vessels ranks s up seen told =
+    ap (λ (k : ℕ). sighting_at ticks k) up ∙ sym s.latest
+    ∙ ap₂ (λ (vs : SeenVessels) (rs : List Rank). sighting_of vs rs) (sym seen) (sym told)
+
 pub returns-clause-row : goal.returns-clause-row
-returns-clause-row c = λ numbers ticks front known back s at short.
-    c.take_step.ensures.row numbers known
-    (follows_at numbers c.args.self.now.traces.items front known back c.args.index c.index_mut.result.now c.index_mut.ensures.value at s.holds.traces) short
+returns-clause-row c = λ numbers ticks front known back s at short up.
+    c.take_step.ensures.row numbers ticks known
+    (follows_at numbers ticks c.args.self.now.traces.items front known back c.args.index c.index_mut.result.now c.index_mut.ensures.value at s.holds.traces) short
+    (taken_from c.args.self.now numbers ticks known (front ++ known ∷ back) c.deref.result.now c.deref-2.result.now s up c.deref.ensures.value c.deref-2.ensures.value)
 
 pub returns-clause-stands : goal.returns-clause-stands
-returns-clause-stands c = λ numbers ticks front known back s at short.
-    let f = follows_at numbers c.args.self.now.traces.items front known back c.args.index c.index_mut.result.now c.index_mut.ensures.value at s.holds.traces in
-    let (traces, pairs) = trace_changed c.args.self.now numbers front back known (watched known (option_copied c.args.step) (answer_of c.take_step.result)) c.args.index c.take_step.new.self
-    refl at s.holds (c.take_step.ensures.follows numbers known f short) in
+returns-clause-stands c = λ numbers ticks front known back s at short up.
+    let f = follows_at numbers ticks c.args.self.now.traces.items front known back c.args.index c.index_mut.result.now c.index_mut.ensures.value at s.holds.traces in
+    let (traces, pairs) = trace_changed c.args.self.now numbers ticks front back known (watched known (option_copied c.args.step) (answer_of c.take_step.result)) c.args.index c.take_step.new.self
+    refl at s.holds (c.take_step.ensures.follows numbers ticks known f short
+    (taken_from c.args.self.now numbers ticks known (front ++ known ∷ back) c.deref.result.now c.deref-2.result.now s up c.deref.ensures.value c.deref-2.ensures.value)) in
     record {
       last_tick = s.last_tick;
       subjects = s.subjects;

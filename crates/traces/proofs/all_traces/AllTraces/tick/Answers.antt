@@ -1,22 +1,29 @@
-use Rattle.std.proofs.Common.{◌≡◌, ◌++◌, ◌∷◌, [], length-append, Err, sym, ap, ◌∙◌, arith}
+use Rattle.std.proofs.Common.{◌≡◌, ◌++◌, ◌∷◌, [], length-append, List, Err, sym, ap, ap₂, ◌∙◌, arith}
 use Rattle.outside.proofs.ForCallers.{same_fault}
+use Rattle.ranks.specs.declared.rank.Rank.{Rank}
+use Rattle.traces.specs.Audited.{SeenVessels, Sighting}
 use Rattle.traces.specs.declared.fault.TickFault.{TickFault}
 use Rattle.traces.specs.declared.fault.TickFault.TheVariants.{TooManyPairs}
-use Rattle.traces.proofs.NextTick.{known_count_of, known_on, next_tick, no_more}
+use Rattle.traces.proofs.NextTick.{holds_on, known_count_of, known_on, next_tick, no_more}
 use Rattle.traces.proofs.Ticks.{last_is}
 use Rattle.traces.proofs.all_traces.AllTraces.tick.Goals as goal
+
+abbrev sighting_of : SeenVessels → List Rank → Sighting
+sighting_of vessels ranks = record { vessels = vessels; ranks = ranks }
 
 pub returns-in_err-begin-clause-many : goal.returns-in_err-begin-clause-many
 returns-in_err-begin-clause-many c = λ fault numbers ticks knowns after are z s.
     let same = same_fault c.from_residual.result c.in_err-begin.field-0.0 TooManyPairs c.from_residual.ensures.1 fault in
     let err : c.begin.result ≡ Err TooManyPairs = c.in_err-begin.was ∙ ap (λ (e : TickFault). Err e) (sym same) in
-    c.begin.ensures.many err numbers ticks after (next_tick numbers ticks c.args.self.now after s) (known_on numbers ticks c.args.seen.now knowns after are z) s.holds
+    c.begin.ensures.many err numbers ticks c.args.ranks.now after (next_tick numbers ticks c.args.self.now after s) (known_on numbers ticks (record { vessels = c.args.seen.now; ranks = c.args.ranks.now }) knowns after are z)
+    (holds_on numbers ticks (record { vessels = c.args.seen.now; ranks = c.args.ranks.now }) c.args.self.now after (known_on numbers ticks (record { vessels = c.args.seen.now; ranks = c.args.ranks.now }) knowns after are z) s.holds)
 
 pub returns-clause-stands : goal.returns-clause-stands
 returns-clause-stands c = λ numbers ticks knowns after are z s.
     let same = c.in_ok-begin.ensures.same in
-    let b = c.in_ok-begin.ensures.begun numbers ticks after (next_tick numbers ticks c.args.self.now after s) (known_on numbers ticks c.args.seen.now knowns after are z) s.holds in
-    let counted = length-append ticks (c.args.seen.now ∷ []) in
+    let b = c.in_ok-begin.ensures.begun numbers ticks c.args.ranks.now after (next_tick numbers ticks c.args.self.now after s) (known_on numbers ticks (record { vessels = c.args.seen.now; ranks = c.args.ranks.now }) knowns after are z)
+    (holds_on numbers ticks (record { vessels = c.args.seen.now; ranks = c.args.ranks.now }) c.args.self.now after (known_on numbers ticks (record { vessels = c.args.seen.now; ranks = c.args.ranks.now }) knowns after are z) s.holds) in
+    let counted = length-append ticks ((record { vessels = c.args.seen.now; ranks = c.args.ranks.now }) ∷ []) in
     let count = s.count in
     let given = same.given in
     record {
@@ -26,7 +33,7 @@ returns-clause-stands c = λ numbers ticks knowns after are z s.
         last_tick = same.last_tick ∙ s.last_tick;
         subjects = ap (λ (v : _). v.items) same.subjects ∙ s.subjects;
         count = omega arith;
-        latest = c.in_ok-replace.ensures ∙ sym (last_is ticks c.args.seen.now);
+        latest = ap₂ (λ (vs : SeenVessels) (rs : List Rank). sighting_of vs rs) c.in_ok-replace.ensures c.in_ok-replace-2.ensures ∙ sym (last_is ticks (record { vessels = c.args.seen.now; ranks = c.args.ranks.now }));
         holds = record { detect = b.holds.detect; act = b.holds.act; tick = b.holds.tick; traces = b.holds.traces; pairs = b.holds.pairs };
       };
       are_known = b.are_known;
@@ -34,7 +41,8 @@ returns-clause-stands c = λ numbers ticks knowns after are z s.
 
 pub returns-clause-few : goal.returns-clause-few
 returns-clause-few c = λ numbers ticks knowns after are z s more.
-    let b = c.in_ok-begin.ensures.begun numbers ticks after (next_tick numbers ticks c.args.self.now after s) (known_on numbers ticks c.args.seen.now knowns after are z) s.holds in
-    let count = known_count_of c.begin.new.self numbers (after ++ b.new) b.holds in
+    let b = c.in_ok-begin.ensures.begun numbers ticks c.args.ranks.now after (next_tick numbers ticks c.args.self.now after s) (known_on numbers ticks (record { vessels = c.args.seen.now; ranks = c.args.ranks.now }) knowns after are z)
+    (holds_on numbers ticks (record { vessels = c.args.seen.now; ranks = c.args.ranks.now }) c.args.self.now after (known_on numbers ticks (record { vessels = c.args.seen.now; ranks = c.args.ranks.now }) knowns after are z) s.holds) in
+    let count = known_count_of c.begin.new.self numbers (ticks ++ (record { vessels = c.args.seen.now; ranks = c.args.ranks.now }) ∷ []) (after ++ b.new) b.holds in
     let few = c.in_ok-begin.ensures.sound.few in
-    no_more numbers (ticks ++ c.args.seen.now ∷ []) (after ++ b.new) b.are_known (omega arith) more
+    no_more numbers (ticks ++ (record { vessels = c.args.seen.now; ranks = c.args.ranks.now }) ∷ []) (after ++ b.new) b.are_known (omega arith) more

@@ -1,0 +1,21 @@
+use Rattle.std.proofs.Common.{◌≡◌, ◌+◌, sym, subst, ap, ◌∙◌}
+use Rattle.traces.specs.Audited.{MoveLittle, SeenVessels}
+use Rattle.auditor_rows.specs.WorkedMeeting.{head_on_at}
+use Rattle.auditor_rows.proofs.WorkedMeeting.{from_none, moves_at}
+use Rattle.auditor_rows.proofs.ranked.head_on_audited.Goals as goal
+
+pub loop-k-init : goal.loop-k-init
+loop-k-init c = record {
+  sound = c.in_ok-audit.ensures.sound;
+  at = c.in_ok-audit.ensures.none;
+  last = c.in_ok-audit.ensures.last;
+  moves = subst (λ (s : SeenVessels). MoveLittle s (head_on_at 0)) (sym c.in_ok-audit.ensures.latest) (from_none (head_on_at 0));
+}
+
+pub loop-k-preserved : goal.loop-k-preserved
+loop-k-preserved c = record {
+  sound = c.in_ok-take_head_on.ensures.sound;
+  at = c.in_ok-take_head_on.ensures.given ∙ ap (λ n. n + 1) c.loop-k.invariant.at;
+  last = c.in_ok-take_head_on.ensures.last ∙ c.loop-k.invariant.last;
+  moves = subst (λ (s : SeenVessels). MoveLittle s (head_on_at (c.loop-k.k + 1))) (sym c.in_ok-take_head_on.ensures.latest) (moves_at c.loop-k.k);
+}
