@@ -25,10 +25,13 @@ use Rattle.sessions.specs.Endings.{IsReport}
 use Rattle.sessions.specs.OutcomeRows.{count_rows}
 use Rattle.sessions.specs.PlanReport.{AreReasons, IsManoeuvre, IsPlanReport, manoeuvre_rows, log_messages, near_rows, plan_text}
 use Rattle.sessions.specs.PointsReport.{point_rows, points_report, rows_of_line}
+use Rattle.sessions.specs.RecheckReport.{IsRecheckReport}
+use Rattle.rechecks.specs.CheckedRows.{AreRight, why_rows}
+use Rattle.situations.specs.LeastPlans.{AllFail}
 use Rattle.settled_ticks.specs.Sightings.{sighted}
 use Rattle.settling.specs.ScenarioAudit.{audit_numbers}
 use Rattle.tracks.specs.VesselsHeld.{Sent}
-use Rattle.colregs_program.specs.InertLines.{HasOneFewer, IsInert, one_fewer, rows_of_counts}
+use Rattle.colregs_program.specs.InertLines.{HasOneFewer, IsInert, IsWithoutLine, one_fewer, rows_of_counts}
 use Rattle.colregs_program.proofs.InertLines.{judged_with, judged_without, sent_same}
 use Rattle.colregs_program.proofs.OneLine.{IsAmong}
 
@@ -178,10 +181,30 @@ module _ (scenario : Scenario) (log less : List ℕ) (front : List (List ℕ)) (
             (report.is ∙ ap (λ messages. rows messages ++ count_rows (judged_lines scenario (lines_of log)) ++ report.reasons) messages_same) refl,
       )
 
-  pub of_mode : (m : Mode) (why : Bool) (text : List ℕ) → IsReport m why scenario log text
-      → (other : List ℕ) × IsReport m why scenario less other × HasOneFewer (line_outcome cause) text other
-  of_mode mode.Points why text report = of_points text report
-  of_mode mode.Audit why text report = of_audit text report
-  of_mode mode.Plan why text report = of_plan why text report
-  of_mode mode.Drill why text report = of_drill text report
-  of_mode mode.Migrate why text report = absurd report
+  of_recheck : (rows text : List ℕ) → IsRecheckReport rows scenario log text → (other : List ℕ) × IsRecheckReport rows scenario less other × (other ≡ text)
+  of_recheck rows text report =
+      let own = report.own in
+      let numbers = numbers_of scenario in (
+        text,
+        record {
+          own = own;
+          ready = report.ready;
+          is_own = record {
+            needed = report.is_own.needed;
+            is_ready = subst (λ (messages : List Sent). own_readiness numbers messages scenario own ≡ Ok report.ready) messages_same report.is_own.is_ready;
+          };
+          right = subst (λ (messages : List Sent). AreRight (situation_of numbers messages scenario own report.ready) (why_rows rows)) messages_same report.right;
+          fail = subst (λ (messages : List Sent). AllFail (situation_of numbers messages scenario own report.ready)) messages_same report.fail;
+          is = report.is;
+        },
+        refl,
+      )
+
+  pub of_mode : (m : Mode) (why : Bool) (rows text : List ℕ) → IsReport m why rows scenario log text
+      → (other : List ℕ) × IsReport m why rows scenario less other × IsWithoutLine m (line_outcome cause) text other
+  of_mode mode.Points why rows text report = of_points text report
+  of_mode mode.Audit why rows text report = of_audit text report
+  of_mode mode.Plan why rows text report = of_plan why text report
+  of_mode mode.Drill why rows text report = of_drill text report
+  of_mode mode.Migrate why rows text report = absurd report
+  of_mode mode.Recheck why rows text report = of_recheck rows text report

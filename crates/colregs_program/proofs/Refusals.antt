@@ -8,12 +8,13 @@ use Rattle.outside.specs.WholeReading.{StopsAt}
 use Rattle.outside.specs.declared.whole.ReadFault.TheVariants as read
 use Rattle.scenario.specs.declared.values.Scenario.{Scenario}
 use Rattle.sessions.specs.Endings.{Came}
-use Rattle.sessions.specs.Modes.{reads_log, reports}
+use Rattle.sessions.specs.Modes.{needs_rows, reads_log, reports}
 use Rattle.sessions.specs.Refusals.{IsMet}
+use Rattle.sessions.specs.Tasks.{Task}
 use Rattle.sessions.proofs.ForCallers.{before_refused}
 use Rattle.sessions.specs.declared.session_fault.SessionFault.TheVariants as why
 use Rattle.situations.specs.declared.readiness.Unready.{Unready}
-use Rattle.colregs_program.specs.Answers.{EndsWith, HoldsUnder, IsDue, IsOfDrill, IsOfMigration, IsScenario, MetIn, Runs, StopsWith, TellsLimit, WritesNothing, WritesPart}
+use Rattle.colregs_program.specs.Answers.{AreRows, EndsWith, HoldsUnder, IsDue, IsOfDrill, IsScenario, MayPrecedeRows, MetIn, Runs, StopsWith, TellsLimit, WritesNothing, WritesPart}
 use Rattle.colregs_program.specs.LogAnswers.{GainsFront, GainsReport, GainsSettled, IsAnswered, IsFinished, IsStoppedBy, LeavesSettled, Reports, answer_of, finished}
 use Rattle.command_line.specs.Requests.{AskFor, AskForNothing}
 use Rattle.command_line.specs.declared.mode.Mode.{Mode}
@@ -23,6 +24,8 @@ use Rattle.command_line.proofs.Asked.{one_asked}
 use Rattle.colregs_program.specs.AskedScenarios.{log_of, task_of}
 use Rattle.colregs_program.specs.FaultLines.{is_made}
 use Rattle.colregs_program.specs.Inner.SetUps as set_up
+use Rattle.colregs_program.specs.Inner.SetUps.{SetFor}
+use Rattle.colregs_program.specs.declared.set_up.SetUp.{SetUp}
 use Rattle.colregs_program.specs.Inner.Streaming.{LogCount, OutCount, ReportCause, is_of_drill, stream_status}
 use Rattle.colregs_program.specs.Inner.WordsFaults as words_fault
 use Rattle.command_line.specs.declared.request.WordsFault.{WordsFault}
@@ -35,6 +38,7 @@ use Rattle.colregs_program.specs.declared.status.Status.{Status}
 use Rattle.colregs_program.specs.declared.status.Status.TheVariants as status
 use Rattle.colregs_program.specs.declared.status.Which.TheVariants as which
 use Rattle.colregs_program.proofs.Due.{Follows, set_up_due, usage_due}
+use Rattle.colregs_program.proofs.SettingUp.{GivesDue}
 
 -- An answer is told as it is, or as want of memory.
 abbrev pub IsTold : Status → Status → Type 0 → Type 0
@@ -48,16 +52,11 @@ memory_told : (told : Status) (Made : Type 0) → IsTold told status.Memory Made
 memory_told told Made (inl same) = same
 memory_told told Made (inr memory) = memory.0
 
--- what setting up said it would give, where no fetch failed
-abbrev pub GivesDue : Request → Option Files → ℕ → ℕ → Result Scenario SetUpFault → Type 0
-GivesDue request files before now came =
-    (due : Result Scenario SetUpFault) → set_up.IsSetUpDue request files due → (now ≡ one_more before) ⊎ ((came ≡ due) ⊎ (came ≡ Err fault.Memory))
-
 rose : (before now : ℕ) → now ≡ one_more before → Rose before now
 rose before now is = omega (arith, is)
 
 -- setting up came to what is due, or to want of memory
-came_due : (words : List (List ℕ)) (files : Option Files) (log : Option (List ℕ)) (request : Request) (due : Status) (before now : ℕ) (came : Result Scenario SetUpFault)
+came_due : (words : List (List ℕ)) (files : Option Files) (log : Option (List ℕ)) (request : Request) (due : Status) (before now : ℕ) (came : Result SetFor SetUpFault)
     → AskFor words request → IsTrue (reports request.mode) → IsDue words files log due → GivesDue request files before now came → ¬ Rose before now
     → Follows log request due came ⊎ (came ≡ Err fault.Memory)
 came_due words files log request due before now came accepted reports is gives calm =
@@ -95,11 +94,11 @@ migration_done before now due (inl risen) calm = absurd (calm (rose before now r
 migration_done before now due (inr is) calm = inl (sym is)
 
 -- where setting up gave a scenario, the log decides
-pub log_decides : (words : List (List ℕ)) (files : Option Files) (log : Option (List ℕ)) (request : Request) (due : Status) (before now : ℕ) (scenario : Scenario)
-    → AskFor words request → IsTrue (reports request.mode) → IsDue words files log due → GivesDue request files before now (Ok scenario) → ¬ Rose before now
-    → Follows log request due (Ok scenario)
-log_decides words files log request due before now scenario accepted reports is gives calm =
-    elim (came_due words files log request due before now (Ok scenario) accepted reports is gives calm) [
+pub log_decides : (words : List (List ℕ)) (files : Option Files) (log : Option (List ℕ)) (request : Request) (due : Status) (before now : ℕ) (made : SetFor)
+    → AskFor words request → IsTrue (reports request.mode) → IsDue words files log due → GivesDue request files before now (Ok made) → ¬ Rose before now
+    → Follows log request due (Ok made)
+log_decides words files log request due before now made accepted reports is gives calm =
+    elim (came_due words files log request due before now (Ok made) accepted reports is gives calm) [
       | inl follows ↦ follows
       | inr memory ↦ cc memory
     ]
@@ -108,17 +107,17 @@ log_decides words files log request due before now scenario accepted reports is 
 
 -- what a log comes to is one thing
 abbrev pub OneComes : Type 0
-OneComes = (m : Mode) (scenario : Scenario) (log : List ℕ) (came other : Came) → IsMet m scenario log came → IsMet m scenario log other → came ≡ other
+OneComes = (task : Task) (scenario : Scenario) (log : List ℕ) (came other : Came) → IsMet task scenario log came → IsMet task scenario log other → came ≡ other
 
-pub one_answered : OneComes → (m : Mode) (scenario : Scenario) (log : List ℕ) (a b : Status) → IsAnswered m scenario log a → IsAnswered m scenario log b → a ≡ b
-one_answered once m scenario log a b x y = x.is ∙ ap (answer_of scenario) (once m scenario log x.came y.came x.met y.met) ∙ sym y.is
+pub one_answered : OneComes → (task : Task) (scenario : Scenario) (log : List ℕ) (a b : Status) → IsAnswered task scenario log a → IsAnswered task scenario log b → a ≡ b
+one_answered once task scenario log a b x y = x.is ∙ ap (answer_of scenario) (once task scenario log x.came y.came x.met y.met) ∙ sym y.is
 
 -- What the log calls for is what was met in it.
-pub met_is : OneComes → (log : Option (List ℕ)) (request : Request) (scenario : Scenario) (due answer : Status) → MetIn request scenario log answer
-    → Follows log request due (Ok scenario) → answer ≡ due
-met_is once log request scenario due answer is (bytes, gives, follows) =
-    let here = subst (λ (l : Option (List ℕ)). IfSome l (λ told. IsAnswered request.mode scenario told answer)) gives is in
-    one_answered once request.mode scenario bytes answer due here follows
+pub met_is : OneComes → (log : Option (List ℕ)) (request : Request) (rows : List ℕ) (scenario : Scenario) (due answer : Status) → MetIn request rows scenario log answer
+    → Follows log request due (Ok (scenario, rows)) → answer ≡ due
+met_is once log request rows scenario due answer is (bytes, gives, follows) =
+    let here = subst (λ (l : Option (List ℕ)). IfSome l (λ told. IsAnswered (task_of request rows) scenario told answer)) gives is in
+    one_answered once (task_of request rows) scenario bytes answer due here follows
 
 if_some : (P Q : List ℕ → Type 0) (o : Option (List ℕ)) → ((bytes : List ℕ) → P bytes → Q bytes) → IfSome o P → IfSome o Q
 if_some P Q None so p = tt
@@ -145,7 +144,8 @@ pub shelf_calm_told : (why : SetUpFault) (before now : ℕ) (told : Status) (Mad
     → (Made → IsTrue (is_made (set_up.answer_of why))) → ((why ≡ fault.NotHad → ⊥) → now ≡ before) → now ≡ before
 shelf_calm_told fault.NotHad before now told Made (inl same) calm made count = absurd (calm same)
 shelf_calm_told fault.NotHad before now told Made (inr none) calm made count = (let is = made none.1 in cc is)
-shelf_calm_told fault.TooLong before now told Made is_told calm made count = count (λ is. cc is)
+shelf_calm_told fault.LongScenario before now told Made is_told calm made count = count (λ is. cc is)
+shelf_calm_told fault.LongRows before now told Made is_told calm made count = count (λ is. cc is)
 shelf_calm_told (fault.Refused key cause) before now told Made is_told calm made count = count (λ is. cc is)
 shelf_calm_told fault.Memory before now told Made is_told calm made count = count (λ is. cc is)
 
@@ -161,7 +161,8 @@ words_limit unasked.Memory = tt
 
 pub set_up_limit : (why : SetUpFault) → TellsLimit (set_up.answer_of why)
 set_up_limit fault.NotHad = tt
-set_up_limit fault.TooLong = refl
+set_up_limit fault.LongScenario = refl
+set_up_limit fault.LongRows = refl
 set_up_limit (fault.Refused key cause) = tt
 set_up_limit fault.Memory = tt
 
@@ -173,61 +174,64 @@ stream_limit (stream.Unreported why.Pairs) most = refl
 stream_limit (stream.Unreported why.LogBytes) most = tt
 stream_limit (stream.Unreported (why.Own lack)) most = tt
 stream_limit (stream.Unreported why.Targets) most = refl
+stream_limit (stream.Unreported (why.Entry index)) most = tt
 stream_limit (stream.Unreported why.Memory) most = tt
 
-module _ (request : Request) (scenario : Scenario) (left left' contents contents' : Option (List ℕ)) where
-  pub stops_met : (answer : Status) → StopsWith request scenario left contents contents' answer → MetIn request scenario left answer
+module _ (request : Request) (rows : List ℕ) (scenario : Scenario) (left left' contents contents' : Option (List ℕ)) where
+  pub stops_met : (answer : Status) → StopsWith request scenario left contents contents' answer → MetIn request rows scenario left answer
   stops_met answer stops =
-      if_some (λ bytes. IsStoppedBy request.mode scenario bytes contents contents' answer) (λ bytes. IsAnswered request.mode scenario bytes answer) (log_of request scenario left)
+      if_some (λ bytes. IsStoppedBy request.mode scenario bytes contents contents' answer) (λ bytes. IsAnswered (task_of request rows) scenario bytes answer) (log_of request scenario left)
       (λ bytes stop. record { came = Err stop.why; met = inl (stop.stopped.place, stop.stopped.refused); is = stop.is }) stops
 
-  pub ends_met : (answer : Status) → EndsWith request scenario left left' contents contents' answer → MetIn request scenario left answer
+  pub ends_met : (answer : Status) → EndsWith request rows scenario left left' contents contents' answer → MetIn request rows scenario left answer
   ends_met answer ends =
-      if_some (λ bytes. IsAnswered request.mode scenario bytes answer × GainsSettled request.mode scenario bytes contents contents') (λ bytes. IsAnswered request.mode scenario bytes answer)
+      if_some (λ bytes. IsAnswered (task_of request rows) scenario bytes answer × GainsSettled request.mode scenario bytes contents contents') (λ bytes. IsAnswered (task_of request rows) scenario bytes answer)
       (log_of request scenario left) (λ bytes both. both.0) ends.ends
 
-  either_met : (answer : Status) → StopsWith request scenario left contents contents' answer ⊎ EndsWith request scenario left left' contents contents' answer → MetIn request scenario left answer
+  either_met : (answer : Status) → StopsWith request scenario left contents contents' answer ⊎ EndsWith request rows scenario left left' contents contents' answer → MetIn request rows scenario left answer
   either_met answer (inl stops) = stops_met answer stops
   either_met answer (inr ends) = ends_met answer ends
 
   pub no_report : OneComes → (because : StreamFault) (most : ℕ) (due told : Status) (before now puts put : ℕ) (Made : Type 0) → most ≡ scenario.log.max_bytes
-      → Follows left request due (Ok scenario) → ReportCause request scenario left left' contents contents' because → LogCount before now because → OutCount puts put because
+      → Follows left request due (Ok (scenario, rows)) → ReportCause request rows scenario left left' contents contents' because → LogCount before now because → OutCount puts put because
       → ¬ Rose before now → ¬ Rose puts put → IsTold told (stream_status because most) Made → (told ≡ due) ⊎ (told ≡ status.Memory)
   no_report once stream.NotRead most due told before now puts put Made limit follows cause reads writes calm quiet is_told = absurd (calm (rose before now reads))
   no_report once stream.NotWritten most due told before now puts put Made limit follows cause reads writes calm quiet is_told = absurd (quiet (rose puts put writes))
   no_report once (stream.Unreported why.Vessels) most due told before now puts put Made limit follows cause reads writes calm quiet is_told =
-      told_is told (answer_of scenario (Err why.Vessels)) due Made is_told (met_is once left request scenario due _ (either_met (answer_of scenario (Err why.Vessels)) cause) follows)
+      told_is told (answer_of scenario (Err why.Vessels)) due Made is_told (met_is once left request rows scenario due _ (either_met (answer_of scenario (Err why.Vessels)) cause) follows)
   no_report once (stream.Unreported why.Pairs) most due told before now puts put Made limit follows cause reads writes calm quiet is_told =
-      told_is told (answer_of scenario (Err why.Pairs)) due Made is_told (met_is once left request scenario due _ (either_met (answer_of scenario (Err why.Pairs)) cause) follows)
+      told_is told (answer_of scenario (Err why.Pairs)) due Made is_told (met_is once left request rows scenario due _ (either_met (answer_of scenario (Err why.Pairs)) cause) follows)
   no_report once (stream.Unreported why.LogBytes) most due told before now puts put Made limit follows cause reads writes calm quiet is_told =
-      let met = met_is once left request scenario due _ (stops_met (answer_of scenario (Err why.LogBytes)) cause.1) follows in
+      let met = met_is once left request rows scenario due _ (stops_met (answer_of scenario (Err why.LogBytes)) cause.1) follows in
       told_is told (status.Limit which.Log most) due Made is_told (ap (status.Limit which.Log) limit ∙ met)
   no_report once (stream.Unreported (why.Own lack)) most due told before now puts put Made limit follows cause reads writes calm quiet is_told =
-      told_is told (status.OwnUnready lack) due Made is_told (met_is once left request scenario due _ (ends_met (answer_of scenario (Err (why.Own lack))) cause.0) follows)
+      told_is told (status.OwnUnready lack) due Made is_told (met_is once left request rows scenario due _ (ends_met (answer_of scenario (Err (why.Own lack))) cause.0) follows)
   no_report once (stream.Unreported why.Targets) most due told before now puts put Made limit follows cause reads writes calm quiet is_told =
-      told_is told (answer_of scenario (Err why.Targets)) due Made is_told (met_is once left request scenario due _ (ends_met (answer_of scenario (Err why.Targets)) cause.0) follows)
+      told_is told (answer_of scenario (Err why.Targets)) due Made is_told (met_is once left request rows scenario due _ (ends_met (answer_of scenario (Err why.Targets)) cause.0) follows)
+  no_report once (stream.Unreported (why.Entry index)) most due told before now puts put Made limit follows cause reads writes calm quiet is_told =
+      told_is told (answer_of scenario (Err (why.Entry index))) due Made is_told (met_is once left request rows scenario due _ (ends_met (answer_of scenario (Err (why.Entry index))) cause.0) follows)
   no_report once (stream.Unreported why.Memory) most due told before now puts put Made limit follows cause reads writes calm quiet is_told = inr (memory_told told Made is_told)
 
   -- ---- a report
 
-  pub reported_met : (none : Bool) → IfSome (log_of request scenario left) (λ bytes. Reports (task_of request) scenario bytes none contents contents') → MetIn request scenario left (finished none)
+  pub reported_met : (none : Bool) → IfSome (log_of request scenario left) (λ bytes. Reports (task_of request rows) scenario bytes none contents contents') → MetIn request rows scenario left (finished none)
   reported_met none reports =
-      if_some (λ bytes. Reports (task_of request) scenario bytes none contents contents') (λ bytes. IsAnswered request.mode scenario bytes (finished none)) (log_of request scenario left)
+      if_some (λ bytes. Reports (task_of request rows) scenario bytes none contents contents') (λ bytes. IsAnswered (task_of request rows) scenario bytes (finished none)) (log_of request scenario left)
       (λ bytes reported. record { came = Ok none; met = reported.met; is = refl }) reports
 
-  pub reported_so : (none : Bool) (answer : Status) → answer ≡ finished none → IfSome (log_of request scenario left) (λ bytes. Reports (task_of request) scenario bytes none contents contents')
-      → IfSome (log_of request scenario left) (λ bytes. IsAnswered request.mode scenario bytes answer × GainsReport (task_of request) scenario bytes contents contents')
+  pub reported_so : (none : Bool) (answer : Status) → answer ≡ finished none → IfSome (log_of request scenario left) (λ bytes. Reports (task_of request rows) scenario bytes none contents contents')
+      → IfSome (log_of request scenario left) (λ bytes. IsAnswered (task_of request rows) scenario bytes answer × GainsReport (task_of request rows) scenario bytes contents contents')
   reported_so none answer is reports =
-      if_some (λ bytes. Reports (task_of request) scenario bytes none contents contents') (λ bytes. IsAnswered request.mode scenario bytes answer × GainsReport (task_of request) scenario bytes contents contents')
+      if_some (λ bytes. Reports (task_of request rows) scenario bytes none contents contents') (λ bytes. IsAnswered (task_of request rows) scenario bytes answer × GainsReport (task_of request rows) scenario bytes contents contents')
       (log_of request scenario left) (λ bytes reported. (record { came = Ok none; met = reported.met; is = is }, reported.gains)) reports
 
   -- ---- what is told of a log
 
   abbrev Either : Status → Type 0
-  Either answer = StopsWith request scenario left contents contents' answer ⊎ EndsWith request scenario left left' contents contents' answer
+  Either answer = StopsWith request scenario left contents contents' answer ⊎ EndsWith request rows scenario left left' contents contents' answer
 
   pub vessels_told : (because : StreamFault) (most limit : ℕ) (told : Status) (Made : Type 0) → IsTold told (stream_status because limit) Made → told ≡ status.Limit which.Vessels most
-      → ReportCause request scenario left left' contents contents' because → Either (status.Limit which.Vessels most)
+      → ReportCause request rows scenario left left' contents contents' because → Either (status.Limit which.Vessels most)
   vessels_told because most limit told Made (inr none) is cause = cc (none.0, is)
   vessels_told stream.NotRead most limit told Made (inl same) is cause = cc (same, is)
   vessels_told stream.NotWritten most limit told Made (inl same) is cause = cc (same, is)
@@ -236,10 +240,11 @@ module _ (request : Request) (scenario : Scenario) (left left' contents contents
   vessels_told (stream.Unreported why.LogBytes) most limit told Made (inl same) is cause = cc (same, is)
   vessels_told (stream.Unreported (why.Own lack)) most limit told Made (inl same) is cause = cc (same, is)
   vessels_told (stream.Unreported why.Targets) most limit told Made (inl same) is cause = cc (same, is)
+  vessels_told (stream.Unreported (why.Entry index)) most limit told Made (inl same) is cause = cc (same, is)
   vessels_told (stream.Unreported why.Memory) most limit told Made (inl same) is cause = cc (same, is)
 
   pub pairs_told : (because : StreamFault) (most limit : ℕ) (told : Status) (Made : Type 0) → IsTold told (stream_status because limit) Made → told ≡ status.Limit which.Pairs most
-      → ReportCause request scenario left left' contents contents' because → Either (status.Limit which.Pairs most)
+      → ReportCause request rows scenario left left' contents contents' because → Either (status.Limit which.Pairs most)
   pairs_told because most limit told Made (inr none) is cause = cc (none.0, is)
   pairs_told stream.NotRead most limit told Made (inl same) is cause = cc (same, is)
   pairs_told stream.NotWritten most limit told Made (inl same) is cause = cc (same, is)
@@ -248,6 +253,7 @@ module _ (request : Request) (scenario : Scenario) (left left' contents contents
   pairs_told (stream.Unreported why.LogBytes) most limit told Made (inl same) is cause = cc (same, is)
   pairs_told (stream.Unreported (why.Own lack)) most limit told Made (inl same) is cause = cc (same, is)
   pairs_told (stream.Unreported why.Targets) most limit told Made (inl same) is cause = cc (same, is)
+  pairs_told (stream.Unreported (why.Entry index)) most limit told Made (inl same) is cause = cc (same, is)
   pairs_told (stream.Unreported why.Memory) most limit told Made (inl same) is cause = cc (same, is)
 
   -- the limit of the log's bytes
@@ -257,7 +263,7 @@ module _ (request : Request) (scenario : Scenario) (left left' contents contents
     pub met : StopsWith request scenario left contents contents' (status.Limit which.Log most)
 
   pub bytes_told : (because : StreamFault) (most limit : ℕ) (told : Status) (Made : Type 0) → limit ≡ scenario.log.max_bytes → IsTold told (stream_status because limit) Made
-      → told ≡ status.Limit which.Log most → ReportCause request scenario left left' contents contents' because → BytesTold most
+      → told ≡ status.Limit which.Log most → ReportCause request rows scenario left left' contents contents' because → BytesTold most
   bytes_told because most limit told Made at (inr none) is cause = cc (none.0, is)
   bytes_told stream.NotRead most limit told Made at (inl same) is cause = cc (same, is)
   bytes_told stream.NotWritten most limit told Made at (inl same) is cause = cc (same, is)
@@ -268,22 +274,24 @@ module _ (request : Request) (scenario : Scenario) (left left' contents contents
       subst BytesTold (sym at ∙ one) (record { limit = refl; stops = cause.0; met = cause.1 })
   bytes_told (stream.Unreported (why.Own lack)) most limit told Made at (inl same) is cause = cc (same, is)
   bytes_told (stream.Unreported why.Targets) most limit told Made at (inl same) is cause = cc (same, is)
+  bytes_told (stream.Unreported (why.Entry index)) most limit told Made at (inl same) is cause = cc (same, is)
   bytes_told (stream.Unreported why.Memory) most limit told Made at (inl same) is cause = cc (same, is)
 
   pub own_told : (because : StreamFault) (lacks : Unready) (limit : ℕ) (told : Status) (Made : Type 0) → IsTold told (stream_status because limit) Made → told ≡ status.OwnUnready lacks
-      → ReportCause request scenario left left' contents contents' because → EndsWith request scenario left left' contents contents' (status.OwnUnready lacks)
+      → ReportCause request rows scenario left left' contents contents' because → EndsWith request rows scenario left left' contents contents' (status.OwnUnready lacks)
   own_told because lacks limit told Made (inr none) is cause = cc (none.0, is)
   own_told stream.NotRead lacks limit told Made (inl same) is cause = cc (same, is)
   own_told stream.NotWritten lacks limit told Made (inl same) is cause = cc (same, is)
   own_told (stream.Unreported why.Vessels) lacks limit told Made (inl same) is cause = cc (same, is)
   own_told (stream.Unreported why.Pairs) lacks limit told Made (inl same) is cause = cc (same, is)
   own_told (stream.Unreported why.LogBytes) lacks limit told Made (inl same) is cause = cc (same, is)
-  own_told (stream.Unreported (why.Own lack)) lacks limit told Made (inl same) is cause = subst (EndsWith request scenario left left' contents contents') (sym same ∙ is) cause.0
+  own_told (stream.Unreported (why.Own lack)) lacks limit told Made (inl same) is cause = subst (EndsWith request rows scenario left left' contents contents') (sym same ∙ is) cause.0
   own_told (stream.Unreported why.Targets) lacks limit told Made (inl same) is cause = cc (same, is)
+  own_told (stream.Unreported (why.Entry index)) lacks limit told Made (inl same) is cause = cc (same, is)
   own_told (stream.Unreported why.Memory) lacks limit told Made (inl same) is cause = cc (same, is)
 
   pub targets_told : (because : StreamFault) (most limit : ℕ) (told : Status) (Made : Type 0) → IsTold told (stream_status because limit) Made → told ≡ status.Limit which.Targets most
-      → ReportCause request scenario left left' contents contents' because → EndsWith request scenario left left' contents contents' (status.Limit which.Targets most)
+      → ReportCause request rows scenario left left' contents contents' because → EndsWith request rows scenario left left' contents contents' (status.Limit which.Targets most)
   targets_told because most limit told Made (inr none) is cause = cc (none.0, is)
   targets_told stream.NotRead most limit told Made (inl same) is cause = cc (same, is)
   targets_told stream.NotWritten most limit told Made (inl same) is cause = cc (same, is)
@@ -291,11 +299,25 @@ module _ (request : Request) (scenario : Scenario) (left left' contents contents
   targets_told (stream.Unreported why.Pairs) most limit told Made (inl same) is cause = cc (same, is)
   targets_told (stream.Unreported why.LogBytes) most limit told Made (inl same) is cause = cc (same, is)
   targets_told (stream.Unreported (why.Own lack)) most limit told Made (inl same) is cause = cc (same, is)
-  targets_told (stream.Unreported why.Targets) most limit told Made (inl same) is cause = subst (EndsWith request scenario left left' contents contents') (sym same ∙ is) cause.0
+  targets_told (stream.Unreported why.Targets) most limit told Made (inl same) is cause = subst (EndsWith request rows scenario left left' contents contents') (sym same ∙ is) cause.0
+  targets_told (stream.Unreported (why.Entry index)) most limit told Made (inl same) is cause = cc (same, is)
   targets_told (stream.Unreported why.Memory) most limit told Made (inl same) is cause = cc (same, is)
 
+  pub entry_told : (because : StreamFault) (index limit : ℕ) (told : Status) (Made : Type 0) → IsTold told (stream_status because limit) Made → told ≡ status.BadEntry index
+      → ReportCause request rows scenario left left' contents contents' because → EndsWith request rows scenario left left' contents contents' (status.BadEntry index)
+  entry_told because index limit told Made (inr none) is cause = cc (none.0, is)
+  entry_told stream.NotRead index limit told Made (inl same) is cause = cc (same, is)
+  entry_told stream.NotWritten index limit told Made (inl same) is cause = cc (same, is)
+  entry_told (stream.Unreported why.Vessels) index limit told Made (inl same) is cause = cc (same, is)
+  entry_told (stream.Unreported why.Pairs) index limit told Made (inl same) is cause = cc (same, is)
+  entry_told (stream.Unreported why.LogBytes) index limit told Made (inl same) is cause = cc (same, is)
+  entry_told (stream.Unreported (why.Own lack)) index limit told Made (inl same) is cause = cc (same, is)
+  entry_told (stream.Unreported why.Targets) index limit told Made (inl same) is cause = cc (same, is)
+  entry_told (stream.Unreported (why.Entry bad)) index limit told Made (inl same) is cause = subst (EndsWith request rows scenario left left' contents contents') (sym same ∙ is) cause.0
+  entry_told (stream.Unreported why.Memory) index limit told Made (inl same) is cause = cc (same, is)
+
   pub read_told : (because : StreamFault) (limit before now : ℕ) (told : Status) (Made : Type 0) → IsTold told (stream_status because limit) Made → told ≡ status.ReadFault
-      → ReportCause request scenario left left' contents contents' because → LogCount before now because
+      → ReportCause request rows scenario left left' contents contents' because → LogCount before now because
       → (now ≡ one_more before) × IsTrue (reads_log request.mode) × LeavesSettled request.mode scenario left left' contents contents'
   read_told because limit before now told Made (inr none) is cause count = cc (none.0, is)
   read_told stream.NotRead limit before now told Made (inl same) is cause count = (count, cause.0, cause.1)
@@ -305,11 +327,12 @@ module _ (request : Request) (scenario : Scenario) (left left' contents contents
   read_told (stream.Unreported why.LogBytes) limit before now told Made (inl same) is cause count = cc (same, is)
   read_told (stream.Unreported (why.Own lack)) limit before now told Made (inl same) is cause count = cc (same, is)
   read_told (stream.Unreported why.Targets) limit before now told Made (inl same) is cause count = cc (same, is)
+  read_told (stream.Unreported (why.Entry index)) limit before now told Made (inl same) is cause count = cc (same, is)
   read_told (stream.Unreported why.Memory) limit before now told Made (inl same) is cause count = cc (same, is)
 
   pub put_told : (because : StreamFault) (limit before now : ℕ) (told : Status) (Made : Type 0) → IsTold told (stream_status because limit) Made → told ≡ status.WriteFault
-      → ReportCause request scenario left left' contents contents' because → OutCount before now because
-      → (now ≡ one_more before) × WritesPart request scenario left left' contents contents'
+      → ReportCause request rows scenario left left' contents contents' because → OutCount before now because
+      → (now ≡ one_more before) × WritesPart request rows scenario left left' contents contents'
   put_told because limit before now told Made (inr none) is cause count = cc (none.0, is)
   put_told stream.NotRead limit before now told Made (inl same) is cause count = cc (same, is)
   put_told stream.NotWritten limit before now told Made (inl same) is cause count = (count, cause)
@@ -318,11 +341,12 @@ module _ (request : Request) (scenario : Scenario) (left left' contents contents
   put_told (stream.Unreported why.LogBytes) limit before now told Made (inl same) is cause count = cc (same, is)
   put_told (stream.Unreported (why.Own lack)) limit before now told Made (inl same) is cause count = cc (same, is)
   put_told (stream.Unreported why.Targets) limit before now told Made (inl same) is cause count = cc (same, is)
+  put_told (stream.Unreported (why.Entry index)) limit before now told Made (inl same) is cause count = cc (same, is)
   put_told (stream.Unreported why.Memory) limit before now told Made (inl same) is cause count = cc (same, is)
 
   -- nothing was written
   pub nothing_told : (because : StreamFault) (limit : ℕ) (told : Status) (Made : Type 0) → IsTold told (stream_status because limit) Made → IsTrue (WritesNothing told)
-      → ReportCause request scenario left left' contents contents' because → Keeps contents contents'
+      → ReportCause request rows scenario left left' contents contents' because → Keeps contents contents'
   nothing_told because limit told Made (inr none) is cause = (let no = subst (λ (s : Status). IsTrue (WritesNothing s)) none.0 is in cc no)
   nothing_told stream.NotRead limit told Made (inl same) is cause = (let no = subst (λ (s : Status). IsTrue (WritesNothing s)) same is in cc no)
   nothing_told stream.NotWritten limit told Made (inl same) is cause = (let no = subst (λ (s : Status). IsTrue (WritesNothing s)) same is in cc no)
@@ -331,6 +355,7 @@ module _ (request : Request) (scenario : Scenario) (left left' contents contents
   nothing_told (stream.Unreported why.LogBytes) limit told Made (inl same) is cause = (let no = subst (λ (s : Status). IsTrue (WritesNothing s)) same is in cc no)
   nothing_told (stream.Unreported (why.Own lack)) limit told Made (inl same) is cause = cause.1
   nothing_told (stream.Unreported why.Targets) limit told Made (inl same) is cause = cause.1
+  nothing_told (stream.Unreported (why.Entry index)) limit told Made (inl same) is cause = cause.1
   nothing_told (stream.Unreported why.Memory) limit told Made (inl same) is cause = (let no = subst (λ (s : Status). IsTrue (WritesNothing s)) same is in cc no)
 
   -- ---- want of memory
@@ -353,9 +378,9 @@ module _ (request : Request) (scenario : Scenario) (left left' contents contents
         };
       }) stops
 
-  ends_front : (answer : Status) → EndsWith request scenario left left' contents contents' answer → Front
+  ends_front : (answer : Status) → EndsWith request rows scenario left left' contents contents' answer → Front
   ends_front answer ends =
-      if_some (λ bytes. IsAnswered request.mode scenario bytes answer × GainsSettled request.mode scenario bytes contents contents') (λ log. GainsFront request.mode scenario log contents contents')
+      if_some (λ bytes. IsAnswered (task_of request rows) scenario bytes answer × GainsSettled request.mode scenario bytes contents contents') (λ log. GainsFront request.mode scenario log contents contents')
       (log_of request scenario left) (λ bytes both. record { front = bytes; rest = []; whole = sym (append-nil bytes); gains = both.1 }) ends.ends
 
   either_front : (answer : Status) → Either answer → Front
@@ -363,7 +388,7 @@ module _ (request : Request) (scenario : Scenario) (left left' contents contents
   either_front answer (inr ends) = ends_front answer ends
 
   pub memory_front : (because : StreamFault) (limit : ℕ) (told : Status) (Made : Type 0) → IsTold told (stream_status because limit) Made → told ≡ status.Memory
-      → (Made → IsTrue (is_made (stream_status because limit))) → ReportCause request scenario left left' contents contents' because → Front
+      → (Made → IsTrue (is_made (stream_status because limit))) → ReportCause request rows scenario left left' contents contents' because → Front
   memory_front stream.NotRead limit told Made (inl same) is made cause = cc (same, is)
   memory_front stream.NotRead limit told Made (inr none) is made cause = (let no = made none.1 in cc no)
   memory_front stream.NotWritten limit told Made (inl same) is made cause = cc (same, is)
@@ -373,6 +398,7 @@ module _ (request : Request) (scenario : Scenario) (left left' contents contents
   memory_front (stream.Unreported why.LogBytes) limit told Made is_told is made cause = stops_front (answer_of scenario (Err why.LogBytes)) cause.1
   memory_front (stream.Unreported (why.Own lack)) limit told Made is_told is made cause = ends_front (answer_of scenario (Err (why.Own lack))) cause.0
   memory_front (stream.Unreported why.Targets) limit told Made is_told is made cause = ends_front (answer_of scenario (Err why.Targets)) cause.0
+  memory_front (stream.Unreported (why.Entry index)) limit told Made is_told is made cause = ends_front (answer_of scenario (Err (why.Entry index))) cause.0
   memory_front (stream.Unreported why.Memory) limit told Made is_told is made cause = cause
 
 -- ---- a run that writes
@@ -382,16 +408,18 @@ held_so : (files : Option Files) (name : List ℕ) (P Q : List ℕ → Type 0) �
 held_so None name P Q so holds = tt
 held_so (Some held) name P Q so (text, found, p) = (text, found, so text p)
 
-pub runs : (words : List (List ℕ)) (files : Option Files) (request : Request) (scenario : Scenario) (Q : Request → Type 0) (P : Request → Scenario → Type 0)
-    → AskFor words request → IsTrue (reports request.mode) → Q request → HoldsUnder files request.name (λ text. IsScenario request text scenario) → P request scenario → Runs words files Q P
-runs words files request scenario Q P accepted reports q holds p = (
+pub runs : (words : List (List ℕ)) (files : Option Files) (request : Request) (rows : List ℕ) (scenario : Scenario) (Q : Request → Type 0) (P : Request → List ℕ → Scenario → Type 0)
+    → AskFor words request → IsTrue (reports request.mode) → Q request → HoldsUnder files request.name (λ text. IsScenario request text scenario) → AreRows files request rows
+    → P request rows scenario → Runs words files Q P
+runs words files request rows scenario Q P accepted reports q holds are p = (
   request,
   accepted,
   (
     reports,
     q,
-    held_so files request.name (λ text. IsScenario request text scenario) (λ text. (s : Scenario) × IsScenario request text s × P request s)
-        (λ text is. (scenario, is, p)) holds,
+    held_so files request.name (λ text. IsScenario request text scenario)
+        (λ text. (s : Scenario) × IsScenario request text s × (told : List ℕ) × AreRows files request told × P request told s)
+        (λ text is. (scenario, is, rows, are, p)) holds,
   ),
 )
 
@@ -412,6 +440,7 @@ migrates mode.Audit not = cc not
 migrates mode.Plan not = cc not
 migrates mode.Drill not = cc not
 migrates mode.Migrate not = refl
+migrates mode.Recheck not = cc not
 
 -- where one request reports on a log, no other migrates
 pub no_migration : (words : List (List ℕ)) (request other : Request) (Any : Type 0) → AskFor words request → AskFor words other → IsTrue (reports other.mode)
@@ -434,6 +463,7 @@ drill_status (stream.Unreported why.Pairs) limit is = cc is
 drill_status (stream.Unreported why.LogBytes) limit is = refl
 drill_status (stream.Unreported (why.Own lack)) limit is = cc is
 drill_status (stream.Unreported why.Targets) limit is = cc is
+drill_status (stream.Unreported (why.Entry index)) limit is = cc is
 drill_status (stream.Unreported why.Memory) limit is = refl
 
 -- a drill's report has no manoeuvre to lack
@@ -471,16 +501,61 @@ module _ (words : List (List ℕ)) (asked : Result Request WordsFault) (why : Wo
 pub set_up_unfinished : (told : Status) (because : SetUpFault) (Made : Type 0) → IsTold told (set_up.answer_of because) Made → IsTrue (IsFinished told) → ⊥
 set_up_unfinished told because Made (inr memory) done = let no = subst (λ (s : Status). IsTrue (IsFinished s)) memory.0 done in cc no
 set_up_unfinished told fault.NotHad Made (inl same) done = let no = subst (λ (s : Status). IsTrue (IsFinished s)) same done in cc no
-set_up_unfinished told fault.TooLong Made (inl same) done = let no = subst (λ (s : Status). IsTrue (IsFinished s)) same done in cc no
+set_up_unfinished told fault.LongScenario Made (inl same) done = let no = subst (λ (s : Status). IsTrue (IsFinished s)) same done in cc no
+set_up_unfinished told fault.LongRows Made (inl same) done = let no = subst (λ (s : Status). IsTrue (IsFinished s)) same done in cc no
 set_up_unfinished told (fault.Refused key cause) Made (inl same) done = let no = subst (λ (s : Status). IsTrue (IsFinished s)) same done in cc no
 set_up_unfinished told fault.Memory Made (inl same) done = let no = subst (λ (s : Status). IsTrue (IsFinished s)) same done in cc no
 
-pub set_up_migrates : (told : Status) (because : SetUpFault) (Made : Type 0) → IsTold told (set_up.answer_of because) Made → IsTrue (IsOfMigration told)
-set_up_migrates told because Made (inr memory) = subst (λ (s : Status). IsTrue (IsOfMigration s)) (sym memory.0) refl
-set_up_migrates told fault.NotHad Made (inl same) = subst (λ (s : Status). IsTrue (IsOfMigration s)) (sym same) refl
-set_up_migrates told fault.TooLong Made (inl same) = subst (λ (s : Status). IsTrue (IsOfMigration s)) (sym same) refl
-set_up_migrates told (fault.Refused key cause) Made (inl same) = subst (λ (s : Status). IsTrue (IsOfMigration s)) (sym same) refl
-set_up_migrates told fault.Memory Made (inl same) = subst (λ (s : Status). IsTrue (IsOfMigration s)) (sym same) refl
+-- A drill needs no rows.
+pub set_up_drills : (request : Request) (files : Option Files) (before now : ℕ) (told : Status) (because : SetUpFault) (Made : Type 0) → IsTold told (set_up.answer_of because) Made
+    → request.mode ≡ mode.Drill → set_up.SetUpCause request files before now because → IsTrue (IsOfDrill told)
+set_up_drills request files before now told because Made (inr memory) drills cause = subst (λ (s : Status). IsTrue (IsOfDrill s)) (sym memory.0) refl
+set_up_drills request files before now told fault.NotHad Made (inl same) drills cause = subst (λ (s : Status). IsTrue (IsOfDrill s)) (sym same) refl
+set_up_drills request files before now told fault.LongScenario Made (inl same) drills cause = subst (λ (s : Status). IsTrue (IsOfDrill s)) (sym same) refl
+set_up_drills request files before now told fault.LongRows Made (inl same) drills cause =
+    let needs : needs_rows mode.Drill ≡ true = subst (λ (m : Mode). IsTrue (needs_rows m)) drills cause.0 in
+    cc needs
+set_up_drills request files before now told (fault.Refused key why) Made (inl same) drills cause = subst (λ (s : Status). IsTrue (IsOfDrill s)) (sym same) refl
+set_up_drills request files before now told fault.Memory Made (inl same) drills cause = subst (λ (s : Status). IsTrue (IsOfDrill s)) (sym same) refl
+
+-- ---- how often the shelf was asked
+
+-- the words ask for one request, so that it needs no rows either, or needs them too
+pub rows_too : (words : List (List ℕ)) (request other : Request) (needs : Bool) → AskFor words request → AskFor words other → needs_rows request.mode ≡ needs → needs_rows other.mode ≡ needs
+rows_too words request other needs asks asks' is = subst (λ (r : Request). needs_rows r.mode ≡ needs) (one_asked words request other asks asks') is
+
+-- where the run is set up, or not
+pub asked_once : (request : Request) (before now : ℕ) (came : Result SetUp SetUpFault) → needs_rows request.mode ≡ false → set_up.HaveFetched request before now came → now ≡ one_more before
+asked_once request before now came none fetched = subst (λ (b : Bool). set_up.HaveFetchedBy b before now came) none fetched
+
+pub asked_twice : (request : Request) (before now : ℕ) (made : SetUp) → needs_rows request.mode ≡ true → set_up.HaveFetched request before now (Ok made) → now ≡ one_more (one_more before)
+asked_twice request before now made needs fetched = subst (λ (b : Bool). set_up.HaveFetchedBy b before now (Ok made)) needs fetched
+
+precedes_told : (told : Status) (because : SetUpFault) (Made : Type 0) → IsTold told (set_up.answer_of because) Made → IsTrue (set_up.precedes_rows because) → IsTrue (MayPrecedeRows told)
+precedes_told told because Made (inr memory) is = subst (λ (s : Status). IsTrue (MayPrecedeRows s)) (sym memory.0) refl
+precedes_told told fault.NotHad Made (inl same) is = subst (λ (s : Status). IsTrue (MayPrecedeRows s)) (sym same) refl
+precedes_told told fault.LongScenario Made (inl same) is = subst (λ (s : Status). IsTrue (MayPrecedeRows s)) (sym same) refl
+precedes_told told fault.LongRows Made (inl same) is = cc is
+precedes_told told (fault.Refused key cause) Made (inl same) is = subst (λ (s : Status). IsTrue (MayPrecedeRows s)) (sym same) refl
+precedes_told told fault.Memory Made (inl same) is = subst (λ (s : Status). IsTrue (MayPrecedeRows s)) (sym same) refl
+
+pub asked_where_it_fails : (request : Request) (before now : ℕ) (told : Status) (because : SetUpFault) (Made : Type 0) → IsTold told (set_up.answer_of because) Made
+    → needs_rows request.mode ≡ true → set_up.HaveFetched request before now (Err because)
+    → (now ≡ one_more (one_more before)) ⊎ ((IsTrue (MayPrecedeRows told) × (now ≡ one_more before)) ⊎ ((told ≡ status.Memory) × (now ≡ before)))
+asked_where_it_fails request before now told because Made is_told needs fetched = by (subst (λ (b : Bool). set_up.HaveFetchedBy b before now (Err because)) needs fetched)
+  where
+    by : (now ≡ one_more (one_more before)) ⊎ (IsTrue (set_up.precedes_rows because) × (now ≡ one_more before))
+        → (now ≡ one_more (one_more before)) ⊎ ((IsTrue (MayPrecedeRows told) × (now ≡ one_more before)) ⊎ ((told ≡ status.Memory) × (now ≡ before)))
+    by (inl twice) = inl twice
+    by (inr (precedes, once)) = inr (inl (precedes_told told because Made is_told precedes, once))
+
+-- A migration needs no rows.
+pub no_rows_migrated : (words : List (List ℕ)) (request other : Request) (Any : Type 0) → AskFor words request → AskFor words other → other.mode ≡ mode.Migrate
+    → needs_rows request.mode ≡ true → Any
+no_rows_migrated words request other Any asks asks' migrates needs =
+    let there : needs_rows other.mode ≡ true = rows_too words request other true asks asks' needs in
+    let none : needs_rows mode.Migrate ≡ true = subst (λ (m : Mode). needs_rows m ≡ true) migrates there in
+    cc none
 
 -- what is not touched is kept
 pub keeps_same : (contents : Option (List ℕ)) → Keeps contents contents

@@ -13,6 +13,8 @@ use Rattle.sessions.specs.Modes.{needs_own, scenario_for}
 use Rattle.scenario.specs.declared.own_part.OwnPart.{OwnPart}
 use Rattle.sessions.specs.Refusals.{IsStopped, IsUnrefused}
 use Rattle.sessions.specs.SettledText.{IsSettledText}
+use Rattle.sessions.specs.Tasks.{task_by}
+use Rattle.sessions.specs.declared.asked.Asked.{Asked}
 use Rattle.audit_report.specs.ReportTexts.{HasText}
 use Rattle.audit_report.specs.declared.report_text.ReportText.{ReportText}
 use Rattle.sessions.specs.Feeding.{Refuses, TookPiece, UnlessMemory}
@@ -20,7 +22,7 @@ use Rattle.sessions.specs.Standing.{IsInUse, StandsFor, mode_of, session_scenari
 use Rattle.sessions.specs.declared.session.Session.{Session}
 use Rattle.sessions.specs.declared.session_fault.SessionFault.{SessionFault}
 use Rattle.sessions.specs.declared.session_fault.SessionFault.TheVariants as why
-use Rattle.sessions.proofs.ForCallers.{before_refused, bytes_not_at_end, nothing_refused, nothing_settled, nothing_with_own, nothing_with_targets, own_not_stopped, stopped_long, stopped_on, targets_not_stopped}
+use Rattle.sessions.proofs.ForCallers.{before_refused, bytes_not_at_end, entry_not_stopped, nothing_refused, nothing_settled, nothing_with_entry, nothing_with_own, nothing_with_targets, own_not_stopped, stopped_long, stopped_on, targets_not_stopped}
 use Rattle.colregs_program.specs.LogAnswers.{GainsFront, GainsPart, GainsSettled, LeavesPart, LeavesSettled, Reports}
 use Rattle.colregs_program.specs.Inner.Streaming.{Ends, FromHere, HasWritten, LogCount, OutCount, PieceCause, PutCause, RefusedCause, StreamCause, Stops}
 use Rattle.colregs_program.specs.declared.streaming.StreamFault.{StreamFault}
@@ -140,6 +142,7 @@ unless P why.Pairs some holds = holds
 unless P why.LogBytes some holds = holds
 unless P (why.Own lack) some holds = holds
 unless P why.Targets some holds = holds
+unless P (why.Entry index) some holds = holds
 unless P why.Memory some holds = absurd (some refl)
 
 -- a refusal of a piece, where its text was empty before
@@ -150,6 +153,7 @@ unless_at why.Pairs session piece first text has refuses = refuses [] has
 unless_at why.LogBytes session piece first text has refuses = refuses [] has
 unless_at (why.Own lack) session piece first text has refuses = refuses [] has
 unless_at why.Targets session piece first text has refuses = refuses [] has
+unless_at (why.Entry index) session piece first text has refuses = refuses [] has
 unless_at why.Memory session piece first text has refuses = tt
 
 -- ---- a read that failed
@@ -177,14 +181,14 @@ whole_at_end (Some log) (Some rest) fed P taken end holds =
     let whole : log ≡ fed = taken ∙ ap (λ (l : List ℕ). fed ++ l) end ∙ append-nil fed in
     subst P (sym whole) holds
 
-module _ (session : Session) (asked : Bool) (first left contents now : Option (List ℕ)) (end : IsAtEnd left) (has : HasWritten session first left contents now) where
+module _ (session : Session) (asked : Asked) (first left contents now : Option (List ℕ)) (end : IsAtEnd left) (has : HasWritten session first left contents now) where
   pub report_written : (now' : Option (List ℕ)) (rest : List ℕ) (none : Bool)
-      → ((fed given : List ℕ) → StandsFor session fed given → IsEnding (record { mode = mode_of session; why = asked }) (session_scenario session) fed (given ++ rest))
-      → ((fed given : List ℕ) → StandsFor session fed given → IsAnswerTo (mode_of session) (session_scenario session) fed (Ok none))
+      → ((fed given : List ℕ) → StandsFor session fed given → IsEnding (task_by (mode_of session) asked) (session_scenario session) fed (given ++ rest))
+      → ((fed given : List ℕ) → StandsFor session fed given → IsAnswerTo (task_by (mode_of session) asked) (session_scenario session) fed (Ok none))
       → Appends now now' rest
-      → IfSome first (λ log. Reports (record { mode = mode_of session; why = asked }) (session_scenario session) log none contents now')
+      → IfSome first (λ log. Reports (task_by (mode_of session) asked) (session_scenario session) log none contents now')
   report_written now' rest none ending answer put =
-      whole_at_end first left has.fed (λ log. Reports (record { mode = mode_of session; why = asked }) (session_scenario session) log none contents now') has.taken end (record {
+      whole_at_end first left has.fed (λ log. Reports (task_by (mode_of session) asked) (session_scenario session) log none contents now') has.taken end (record {
         met = inr (has.stands.unrefused, answer has.fed has.given has.stands);
         gains = record {
           text = has.given ++ rest;
@@ -194,11 +198,11 @@ module _ (session : Session) (asked : Bool) (first left contents now : Option (L
       })
 
   pub report_part : (now' : Option (List ℕ)) (rest : List ℕ) (none : Bool)
-      → ((fed given : List ℕ) → StandsFor session fed given → IsEnding (record { mode = mode_of session; why = asked }) (session_scenario session) fed (given ++ rest))
-      → ((fed given : List ℕ) → StandsFor session fed given → IsAnswerTo (mode_of session) (session_scenario session) fed (Ok none))
-      → AppendsPart now now' rest → IfSome first (λ log. GainsPart (record { mode = mode_of session; why = asked }) (session_scenario session) log contents now')
+      → ((fed given : List ℕ) → StandsFor session fed given → IsEnding (task_by (mode_of session) asked) (session_scenario session) fed (given ++ rest))
+      → ((fed given : List ℕ) → StandsFor session fed given → IsAnswerTo (task_by (mode_of session) asked) (session_scenario session) fed (Ok none))
+      → AppendsPart now now' rest → IfSome first (λ log. GainsPart (task_by (mode_of session) asked) (session_scenario session) log contents now')
   report_part now' rest none ending answer part =
-      whole_at_end first left has.fed (λ log. GainsPart (record { mode = mode_of session; why = asked }) (session_scenario session) log contents now') has.taken end (record {
+      whole_at_end first left has.fed (λ log. GainsPart (task_by (mode_of session) asked) (session_scenario session) log contents now') has.taken end (record {
         none = none;
         met = inr (has.stands.unrefused, answer has.fed has.given has.stands);
         text = has.given ++ rest;
@@ -206,12 +210,12 @@ module _ (session : Session) (asked : Bool) (first left contents now : Option (L
         part = part_on contents now now' has.given rest has.gained part;
       })
 
-  ended : (because : SessionFault) → ((fed given : List ℕ) → StandsFor session fed given → IsAnswerTo (mode_of session) (session_scenario session) fed (Err because))
-      → Ends (mode_of session) (session_scenario session) first left contents now because
+  ended : (because : SessionFault) → ((fed given : List ℕ) → StandsFor session fed given → IsAnswerTo (task_by (mode_of session) asked) (session_scenario session) fed (Err because))
+      → Ends (task_by (mode_of session) asked) (session_scenario session) first left contents now because
   ended because answer = record {
     end = end;
     ends = whole_at_end first left has.fed
-        (λ log. IsUnrefused (mode_of session) (session_scenario session) log × IsAnswerTo (mode_of session) (session_scenario session) log (Err because)
+        (λ log. IsUnrefused (mode_of session) (session_scenario session) log × IsAnswerTo (task_by (mode_of session) asked) (session_scenario session) log (Err because)
         × GainsSettled (mode_of session) (session_scenario session) log contents now) has.taken end (
           has.stands.unrefused,
           answer has.fed has.given has.stands,
@@ -237,17 +241,20 @@ module _ (session : Session) (asked : Bool) (first left contents now : Option (L
       no_more (Some xs) (Some ys) put = put ∙ append-nil xs
 
   pub end_cause : (because : SessionFault)
-      → UnlessMemory because ((fed given : List ℕ) → StandsFor session fed given → IsAnswerTo (mode_of session) (session_scenario session) fed (Err because))
-      → StreamCause (record { mode = mode_of session; why = asked }) (session_scenario session) first left contents now (fault.Unreported because)
+      → UnlessMemory because ((fed given : List ℕ) → StandsFor session fed given → IsAnswerTo (task_by (mode_of session) asked) (session_scenario session) fed (Err because))
+      → StreamCause (task_by (mode_of session) asked) (session_scenario session) first left contents now (fault.Unreported because)
   end_cause why.Vessels answer = inr (ended why.Vessels answer)
   end_cause why.Pairs answer = inr (ended why.Pairs answer)
-  end_cause why.LogBytes answer = absurd (bytes_not_at_end (mode_of session) (session_scenario session) has.fed (answer has.fed has.given has.stands))
+  end_cause why.LogBytes answer = absurd (bytes_not_at_end (mode_of session) asked.rows.now (session_scenario session) has.fed (answer has.fed has.given has.stands))
   end_cause (why.Own lack) answer =
-      let nothing = nothing_with_own (mode_of session) (session_scenario session) has.fed has.given lack has.stands.settled (answer has.fed has.given has.stands) in
+      let nothing = nothing_with_own (mode_of session) asked.rows.now (session_scenario session) has.fed has.given lack has.stands.settled (answer has.fed has.given has.stands) in
       (ended (why.Own lack) answer, kept nothing)
   end_cause why.Targets answer =
-      let nothing = nothing_with_targets (mode_of session) (session_scenario session) has.fed has.given has.stands.settled (answer has.fed has.given has.stands) in
+      let nothing = nothing_with_targets (mode_of session) asked.rows.now (session_scenario session) has.fed has.given has.stands.settled (answer has.fed has.given has.stands) in
       (ended why.Targets answer, kept nothing)
+  end_cause (why.Entry index) answer =
+      let nothing = nothing_with_entry (mode_of session) asked.rows.now (session_scenario session) has.fed has.given index has.stands.settled (answer has.fed has.given has.stands) in
+      (ended (why.Entry index) answer, kept nothing)
   end_cause why.Memory answer = front_here
 
 -- ---- a piece
@@ -287,6 +294,8 @@ module _ (session : Session) (used : IsInUse session) (piece : List ℕ) (now no
       own_not_stopped (mode_of session) (session_scenario session) (used.fed ++ piece) lack (used.given ++ more) (stopped used.fed used.given used.stands)
   stopped_cause more why.Targets stopped put some =
       targets_not_stopped (mode_of session) (session_scenario session) (used.fed ++ piece) (used.given ++ more) (stopped used.fed used.given used.stands)
+  stopped_cause more (why.Entry index) stopped put some =
+      entry_not_stopped (mode_of session) (session_scenario session) (used.fed ++ piece) index (used.given ++ more) (stopped used.fed used.given used.stands)
   stopped_cause more why.Memory stopped put some = absurd (some refl)
 
   pub refused_cause : (text : ReportText) (refusal : SessionFault) (because : StreamFault) → (UnlessMemory refusal (Refuses session piece [] text refusal))
@@ -305,7 +314,7 @@ module _ (session : Session) (used : IsInUse session) (piece : List ℕ) (now no
 pub block_cause : (session : Session) (used : IsInUse session) (first left left' contents now now' : Option (List ℕ)) (piece : List ℕ) (because : StreamFault)
     → HasWritten session first left contents now → Consumes left left' piece
     → ((fed given : List ℕ) → StandsFor session fed given → length piece ≤ ((session_scenario session).log.max_bytes - length fed) + 1)
-    → PieceCause session piece now now' because → (asked : Bool) → StreamCause (record { mode = mode_of session; why = asked }) (session_scenario session) first left' contents now' because
+    → PieceCause session piece now now' because → (asked : Asked) → StreamCause (task_by (mode_of session) asked) (session_scenario session) first left' contents now' because
 block_cause session used first left left' contents now now' piece fault.NotRead has taken few cause asked = absurd cause
 block_cause session used first left left' contents now now' piece fault.NotWritten has taken few cause asked = inl (cause first left left' contents has taken)
 block_cause session used first left left' contents now now' piece (fault.Unreported why.Vessels) has taken few cause asked = inl (cause first left left' contents has taken)
@@ -318,6 +327,7 @@ block_cause session used first left left' contents now now' piece (fault.Unrepor
     (record { piece = has.fed ++ piece; long = omega (arith, over, within, short, long); taken = Consumes-trans first left left' has.fed piece has.taken taken }, cause.0 first left left' contents has taken)
 block_cause session used first left left' contents now now' piece (fault.Unreported (why.Own lack)) has taken few cause asked = absurd cause
 block_cause session used first left left' contents now now' piece (fault.Unreported why.Targets) has taken few cause asked = absurd cause
+block_cause session used first left left' contents now now' piece (fault.Unreported (why.Entry index)) has taken few cause asked = absurd cause
 block_cause session used first left left' contents now now' piece (fault.Unreported why.Memory) has taken few cause asked = cause first left left' contents has taken
 
 -- ---- before the first byte
@@ -342,19 +352,17 @@ for_itself m scenario none =
       | false ↦ λ unneeded. ap (λ (own : Option OwnPart). record scenario { own = own }) (sym (unneeded refl))
     ] none
 
-pub cause_by : (m m' : Mode) (asked : Bool) (scenario scenario' : Scenario) (left left' contents contents' : Option (List ℕ)) (because : StreamFault) → m ≡ m' → scenario ≡ scenario'
-    → StreamCause (record { mode = m; why = asked }) scenario left left' contents contents' because
-    → StreamCause (record { mode = m'; why = asked }) scenario' left left' contents contents' because
+pub cause_by : (m m' : Mode) (asked : Asked) (scenario scenario' : Scenario) (left left' contents contents' : Option (List ℕ)) (because : StreamFault) → m ≡ m' → scenario ≡ scenario'
+    → StreamCause (task_by m asked) scenario left left' contents contents' because → StreamCause (task_by m' asked) scenario' left left' contents contents' because
 cause_by m m' asked scenario scenario' left left' contents contents' because same_mode same_scenario cause =
-    subst (λ (n : Mode). StreamCause (record { mode = n; why = asked }) scenario' left left' contents contents' because) same_mode
-    (subst (λ (s : Scenario). StreamCause (record { mode = m; why = asked }) s left left' contents contents' because) same_scenario cause)
+    subst (λ (n : Mode). StreamCause (task_by n asked) scenario' left left' contents contents' because) same_mode
+    (subst (λ (s : Scenario). StreamCause (task_by m asked) s left left' contents contents' because) same_scenario cause)
 
-pub reports_by : (m m' : Mode) (asked : Bool) (scenario scenario' : Scenario) (left contents contents' : Option (List ℕ)) (none : Bool) → m ≡ m' → scenario ≡ scenario'
-    → IfSome left (λ log. Reports (record { mode = m; why = asked }) scenario log none contents contents')
-    → IfSome left (λ log. Reports (record { mode = m'; why = asked }) scenario' log none contents contents')
+pub reports_by : (m m' : Mode) (asked : Asked) (scenario scenario' : Scenario) (left contents contents' : Option (List ℕ)) (none : Bool) → m ≡ m' → scenario ≡ scenario'
+    → IfSome left (λ log. Reports (task_by m asked) scenario log none contents contents') → IfSome left (λ log. Reports (task_by m' asked) scenario' log none contents contents')
 reports_by m m' asked scenario scenario' left contents contents' none same_mode same_scenario reports =
-    subst (λ (n : Mode). IfSome left (λ log. Reports (record { mode = n; why = asked }) scenario' log none contents contents')) same_mode
-    (subst (λ (s : Scenario). IfSome left (λ log. Reports (record { mode = m; why = asked }) s log none contents contents')) same_scenario reports)
+    subst (λ (n : Mode). IfSome left (λ log. Reports (task_by n asked) scenario' log none contents contents')) same_mode
+    (subst (λ (s : Scenario). IfSome left (λ log. Reports (task_by m asked) s log none contents contents')) same_scenario reports)
 
 -- Nothing is read at the end.
 pub count_stays : {A : Type 0} (r : Result A StreamFault) (before now : ℕ) → now ≡ before → IfErr r (λ because. because ≢ fault.NotRead)

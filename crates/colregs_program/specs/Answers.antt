@@ -1,5 +1,5 @@
 -- When a run gives which answer.
-use Rattle.std.specs.Prelude.{ℕ, ◌≡◌, ◌≤◌, ◌<◌, ◌⊎◌, ◌^◌, Bool, true, false, ◌||◌, not, IsTrue, List, length, Option, Some, None, IfSome}
+use Rattle.std.specs.Prelude.{ℕ, ◌≡◌, ◌≤◌, ◌<◌, ◌⊎◌, ◌^◌, Bool, true, false, ◌||◌, not, IsTrue, List, [], length, Option, Some, None, IfSome}
 use Rattle.std.specs.Io.KnownBytes.{IsAtEnd}
 use Rattle.outside.specs.Shelves.{Files, IsMissing, content_of}
 use Rattle.command_line.specs.Requests.{AskFor, AskForNothing}
@@ -15,7 +15,8 @@ use Rattle.scenario.specs.declared.values.Scenario.{Scenario}
 use Rattle.colregs_program.specs.LogAnswers.{GainsPart, IsAnswered, IsStoppedBy, GainsSettled, LeavesPart}
 use Rattle.colregs_program.specs.Stages.{is_at_end, is_before_log, is_in_log, stage_of}
 use Rattle.colregs_program.specs.AskedScenarios.{log_of, task_of, with_options}
-use Rattle.sessions.specs.Modes.{needs_own, reads_log, reports}
+use Rattle.rechecks.specs.declared.checked_text.TheConstants.{GREATEST_TEXT}
+use Rattle.sessions.specs.Modes.{needs_own, needs_rows, reads_log, reports}
 use Rattle.traces.specs.declared.all_traces.TheConstants.{MOST_TRACES}
 use Rattle.situations.specs.PlanSituations.{greatest_targets}
 use Rattle.colregs_program.specs.declared.status.Status.{Status}
@@ -54,12 +55,21 @@ pub record IsScenario (request : Request) (text : List ℕ) (scenario : Scenario
   pub means : Means (needs_own request.mode) text told
   pub values : scenario ≡ with_options request.options told
 
+-- The rows that a mode needs lie under their name, and are not too long. A mode that needs none has none.
+abbrev pub AreRowsWhere : Bool → Option Files → List ℕ → List ℕ → Type 0
+AreRowsWhere true files name rows = HoldsUnder files name (λ text. (text ≡ rows) × (length rows ≤ GREATEST_TEXT))
+AreRowsWhere false files name rows = rows ≡ []
+
+abbrev pub AreRows : Option Files → Request → List ℕ → Type 0
+AreRows files request rows = AreRowsWhere (needs_rows request.mode) files request.options.rows rows
+
 -- The words ask for a report on a log, and Q holds of the request; and where the shelf tells its files, the bytes under the request's
--- name are those of a scenario, and P holds of the request and of the scenario's values.
-abbrev pub Runs : List (List ℕ) → Option Files → (Request → Type 0) → (Request → Scenario → Type 0) → Type 0
+-- name are those of a scenario, and P holds of the request, of the rows that it needs and of the scenario's values.
+abbrev pub Runs : List (List ℕ) → Option Files → (Request → Type 0) → (Request → List ℕ → Scenario → Type 0) → Type 0
 Runs words files Q P =
     Requested words (λ request. IsTrue (reports request.mode) × Q request
-    × HoldsUnder files request.name (λ text. (scenario : Scenario) × IsScenario request text scenario × P request scenario))
+    × HoldsUnder files request.name (λ text. (scenario : Scenario) × IsScenario request text scenario
+    × (rows : List ℕ) × AreRows files request rows × P request rows scenario))
 
 -- The words ask for a migration; and where the shelf tells its files, the bytes under the request's name are those of a scenario of
 -- version 1, and P holds of some text that is the same scenario in version 2.
@@ -73,8 +83,8 @@ abbrev pub IsReadBy : Mode → Option (List ℕ) → Type 0
 IsReadBy mode left = IsTrue (reads_log mode) → IsAtEnd left
 
 -- The request's log is answered so, where it is told.
-abbrev pub MetIn : Request → Scenario → Option (List ℕ) → Status → Type 0
-MetIn request scenario given answer = IfSome (log_of request scenario given) (λ bytes. IsAnswered request.mode scenario bytes answer)
+abbrev pub MetIn : Request → List ℕ → Scenario → Option (List ℕ) → Status → Type 0
+MetIn request rows scenario given answer = IfSome (log_of request scenario given) (λ bytes. IsAnswered (task_of request rows) scenario bytes answer)
 
 -- The request's log is refused with this answer at a place before its end, and the sink gained what the bytes before the place settle.
 abbrev pub StopsWith : Request → Scenario → Option (List ℕ) → Option (List ℕ) → Option (List ℕ) → Status → Type 0
@@ -82,29 +92,34 @@ StopsWith request scenario given contents contents' answer =
     IfSome (log_of request scenario given) (λ bytes. IsStoppedBy request.mode scenario bytes contents contents' answer)
 
 -- The request's log was read to its end where it is read, is answered so there, and the sink gained what the log settles.
-pub record EndsWith (request : Request) (scenario : Scenario) (given left contents contents' : Option (List ℕ)) (answer : Status) : Type 0 where
+pub record EndsWith (request : Request) (rows : List ℕ) (scenario : Scenario) (given left contents contents' : Option (List ℕ)) (answer : Status) : Type 0 where
   pub read : IsReadBy request.mode left
-  pub ends : IfSome (log_of request scenario given) (λ bytes. IsAnswered request.mode scenario bytes answer × GainsSettled request.mode scenario bytes contents contents')
+  pub ends : IfSome (log_of request scenario given) (λ bytes. IsAnswered (task_of request rows) scenario bytes answer × GainsSettled request.mode scenario bytes contents contents')
 
 -- The sink gained a proper front of what was decided so far, or of the report once the log's end was read.
-abbrev pub WritesPart : Request → Scenario → Option (List ℕ) → Option (List ℕ) → Option (List ℕ) → Option (List ℕ) → Type 0
-WritesPart request scenario given left contents contents' =
+abbrev pub WritesPart : Request → List ℕ → Scenario → Option (List ℕ) → Option (List ℕ) → Option (List ℕ) → Option (List ℕ) → Type 0
+WritesPart request rows scenario given left contents contents' =
     (IsTrue (reads_log request.mode) × LeavesPart request.mode scenario given left contents contents')
-    ⊎ (IsReadBy request.mode left × IfSome (log_of request scenario given) (λ bytes. GainsPart (task_of request) scenario bytes contents contents'))
+    ⊎ (IsReadBy request.mode left × IfSome (log_of request scenario given) (λ bytes. GainsPart (task_of request rows) scenario bytes contents contents'))
 
--- The words ask for a report on a log, the shelf tells a scenario under the request's name, and its log is told.
+-- The shelf tells a scenario under the request's name.
+abbrev pub HasScenario : Option Files → Request → Scenario → Type 0
+HasScenario files request scenario = LiesUnder files request.name (λ text. IsScenario request text scenario)
+
+-- The words ask for a report on a log, the shelf tells a scenario under the request's name, and the rows that it needs, and its log is told.
 pub record IsReady (words : List (List ℕ)) (files : Option Files) (given : Option (List ℕ))
-    (request : Request) (scenario : Scenario) (bytes : List ℕ) : Type 0 where
+    (request : Request) (rows : List ℕ) (scenario : Scenario) (bytes : List ℕ) : Type 0 where
   pub asked : AskFor words request
   pub reports : IsTrue (reports request.mode)
-  pub lies : LiesUnder files request.name (λ text. IsScenario request text scenario)
+  pub lies : HasScenario files request scenario
+  pub are_rows : AreRows files request rows
   pub gives : log_of request scenario given ≡ Some bytes
 
 -- A run that is ready meets this answer in the log.
 abbrev pub MeetsAnswer : List (List ℕ) → Option Files → Option (List ℕ) → Status → Type 0
 MeetsAnswer words files log answer =
-    (request : Request) × (scenario : Scenario) × (bytes : List ℕ)
-    × IsReady words files log request scenario bytes × IsAnswered request.mode scenario bytes answer
+    (request : Request) × (rows : List ℕ) × (scenario : Scenario) × (bytes : List ℕ)
+    × IsReady words files log request rows scenario bytes × IsAnswered (task_of request rows) scenario bytes answer
 
 -- Nothing is against a migration of the bytes.
 abbrev pub CanMigrate : List ℕ → Type 0
@@ -115,13 +130,26 @@ abbrev pub MayMigrate : List (List ℕ) → Option Files → Type 0
 MayMigrate words files =
     Requested words (λ request. (request.mode ≡ mode.Migrate) × LiesUnder files request.name (λ text. (length text ≤ greatest_scenario) × CanMigrate text))
 
+-- The request's mode needs rows, of a scenario that the shelf tells, and P holds of their name.
+abbrev pub LooksForRows : Option Files → Request → (List ℕ → Type 0) → Type 0
+LooksForRows files request P = IsTrue (needs_rows request.mode) × IsTrue (reports request.mode) × ((scenario : Scenario) × HasScenario files request scenario) × P request.options.rows
+
+-- Nothing lies under the request's name; or it needs rows, and nothing lies under theirs.
+abbrev pub MissesFile : Option Files → Request → Type 0
+MissesFile files request = IsMissing files request.name ⊎ LooksForRows files request (λ name. IsMissing files name)
+
+-- It needs rows, and they are too long.
+abbrev pub HasLongRows : Option Files → Request → Type 0
+HasLongRows files request = LooksForRows files request (λ name. LiesUnder files name (λ text. GREATEST_TEXT < length text))
+
 -- The answer that words, shelf and log call for, where the shelf and the log tell what they hold: the first that stands in
 -- the way of a run; and where nothing does, `NoManoeuvre` where every plan fails, and `Done` else.
 abbrev pub IsDue : List (List ℕ) → Option Files → Option (List ℕ) → Status → Type 0
 IsDue words files log status.Usage = AskForNothing words
-IsDue words files log status.ShelfFault = Requested words (λ request. IsMissing files request.name)
+IsDue words files log status.ShelfFault = Requested words (MissesFile files)
 IsDue words files log (status.Limit which.Scenario most) =
     (most ≡ greatest_scenario) × Requested words (λ request. LiesUnder files request.name (λ text. greatest_scenario < length text))
+IsDue words files log (status.Limit which.Rows most) = (most ≡ GREATEST_TEXT) × Requested words (HasLongRows files)
 IsDue words files log (status.Scenario key cause) =
     Requested words (λ request. LiesUnder files request.name (λ text. (length text ≤ greatest_scenario) × IsRefusedBy request.mode text key cause))
 IsDue words files log status.Done = MeetsAnswer words files log status.Done ⊎ MayMigrate words files
@@ -136,6 +164,7 @@ TellsLimit (status.Limit which.Scenario most) = most ≡ greatest_scenario
 TellsLimit (status.Limit which.Vessels most) = most ≡ greatest_held
 TellsLimit (status.Limit which.Pairs most) = most ≡ MOST_TRACES
 TellsLimit (status.Limit which.Targets most) = most ≡ greatest_targets
+TellsLimit (status.Limit which.Rows most) = most ≡ GREATEST_TEXT
 TellsLimit answer = Unit {0}
 
 -- ---- how far a run has come
@@ -148,9 +177,18 @@ IsBeforeLog answer = is_before_log (stage_of answer)
 abbrev pub WritesNothing : Status → Bool
 WritesNothing answer = is_before_log (stage_of answer) || is_at_end (stage_of answer)
 
+-- These answers may come before the rows of a request are asked for.
+abbrev pub MayPrecedeRows : Status → Bool
+MayPrecedeRows status.ShelfFault = true
+MayPrecedeRows (status.Limit which.Scenario most) = true
+MayPrecedeRows (status.Scenario key cause) = true
+MayPrecedeRows status.Memory = true
+MayPrecedeRows answer = false
+
 -- A migration gives these answers alone.
 abbrev pub IsOfMigration : Status → Bool
 IsOfMigration status.NoManoeuvre = false
+IsOfMigration (status.Limit which.Rows most) = false
 IsOfMigration answer = not (is_in_log (stage_of answer) || is_at_end (stage_of answer))
 
 -- A drill gives these answers alone: its forty vessels meet no limit but that of its log.

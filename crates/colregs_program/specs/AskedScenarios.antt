@@ -6,7 +6,7 @@ use Rattle.drill_log.specs.DrillLog.{drill_log_of}
 use Rattle.scenario.specs.declared.values.Scenario.{Scenario}
 use Rattle.scenario.specs.declared.values.Window.{Window}
 use Rattle.sessions.specs.Modes.{reads_log}
-use Rattle.sessions.specs.declared.task.Task.{Task}
+use Rattle.sessions.specs.Tasks.{Task}
 
 -- the window, with the start and the length that are given in place of its own
 abbrev pub window_with : Options → Window → Window
@@ -20,6 +20,6 @@ with_options options scenario = record scenario { window = window_with options s
 abbrev pub log_of : Request → Scenario → Option (List ℕ) → Option (List ℕ)
 log_of request scenario given = if reads_log request.mode then given else Some (drill_log_of scenario request.options.seed)
 
--- what a request asks of its log
-abbrev pub task_of : Request → Task
-task_of request = record { mode = request.mode; why = request.options.why }
+-- what a request asks of its log, with these rows
+abbrev pub task_of : Request → List ℕ → Task
+task_of request rows = record { mode = request.mode; why = request.options.why; rows = rows }

@@ -4,6 +4,8 @@ use Rattle.std.specs.List.{All}
 use Rattle.aivdm.specs.declared.sentence.LineCause.{LineCause}
 use Rattle.audit_report.specs.CsvRows.{row_of}
 use Rattle.audit_report.specs.ReportRows.{count_fields}
+use Rattle.command_line.specs.declared.mode.Mode.{Mode}
+use Rattle.command_line.specs.declared.mode.Mode.TheVariants as mode
 use Rattle.log_lines.specs.GrowingLog.{open_part}
 use Rattle.log_lines.specs.JudgedLines.{judged_line, outcome_of}
 use Rattle.log_lines.specs.LineOutcomes.{all_outcomes, line_outcome, outcome_index}
@@ -40,3 +42,8 @@ pub record HasOneFewer (outcome : LineOutcome) (text other : List ℕ) : Type 0 
   pub some : 0 < count outcome
   pub is : text ≡ rows ++ rows_of_counts count ++ reasons
   pub is_other : other ≡ rows ++ rows_of_counts (one_fewer outcome count) ++ reasons
+
+-- what a report is without the line: the same but for that count; and that of a recheck, which tells no counts, is the same
+abbrev pub IsWithoutLine : Mode → LineOutcome → List ℕ → List ℕ → Type 0
+IsWithoutLine mode.Recheck outcome text other = other ≡ text
+IsWithoutLine m outcome text other = HasOneFewer outcome text other

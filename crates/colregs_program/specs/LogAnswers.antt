@@ -10,7 +10,7 @@ use Rattle.sessions.specs.Endings.{Came, IsEnding}
 use Rattle.sessions.specs.Refusals.{IsMet, IsStopped, IsUnrefused}
 use Rattle.sessions.specs.SettledText.{IsSettledText}
 use Rattle.sessions.specs.declared.session_fault.SessionFault.{SessionFault}
-use Rattle.sessions.specs.declared.task.Task.{Task}
+use Rattle.sessions.specs.Tasks.{Task}
 use Rattle.sessions.specs.declared.session_fault.SessionFault.TheVariants as fault
 use Rattle.traces.specs.declared.all_traces.TheConstants.{MOST_TRACES}
 use Rattle.colregs_program.specs.Stages.{is_at_finish, stage_of}
@@ -30,6 +30,7 @@ answer_without fault.Pairs most = status.Limit which.Pairs MOST_TRACES
 answer_without fault.LogBytes most = status.Limit which.Log most
 answer_without (fault.Own why) most = status.OwnUnready why
 answer_without fault.Targets most = status.Limit which.Targets greatest_targets
+answer_without (fault.Entry index) most = status.BadEntry index
 answer_without fault.Memory most = status.Memory
 
 -- the answer of a run whose log comes to this
@@ -42,9 +43,9 @@ abbrev pub IsFinished : Status → Bool
 IsFinished answer = is_at_finish (stage_of answer)
 
 -- The answer to a log.
-pub record IsAnswered (mode : Mode) (scenario : Scenario) (log : List ℕ) (answer : Status) : Type 0 where
+pub record IsAnswered (task : Task) (scenario : Scenario) (log : List ℕ) (answer : Status) : Type 0 where
   pub came : Came
-  pub met : IsMet mode scenario log came
+  pub met : IsMet task scenario log came
   pub is : answer ≡ answer_of scenario came
 
 -- ---- what is left in the sink
@@ -96,12 +97,12 @@ pub record LeavesPart (mode : Mode) (scenario : Scenario) (left left' contents c
 -- The sink gained a proper front of the report on the log.
 pub record GainsPart (task : Task) (scenario : Scenario) (log : List ℕ) (contents contents' : Option (List ℕ)) : Type 0 where
   pub none : Bool
-  pub met : IsMet task.mode scenario log (Ok none)
+  pub met : IsMet task scenario log (Ok none)
   pub text : List ℕ
   pub is : IsEnding task scenario log text
   pub part : AppendsPart contents contents' text
 
 -- The log comes to a report, and the sink gained it.
 pub record Reports (task : Task) (scenario : Scenario) (log : List ℕ) (none : Bool) (contents contents' : Option (List ℕ)) : Type 0 where
-  pub met : IsMet task.mode scenario log (Ok none)
+  pub met : IsMet task scenario log (Ok none)
   pub gains : GainsReport task scenario log contents contents'

@@ -22,7 +22,7 @@ fn fixed_line(status: &Status) -> Option<&'static str>
 {
     match status {
         Status::Done | Status::NoManoeuvre => Some(""),
-        Status::Usage => Some("usage: points|audit|plan|drill|migrate SCENARIO\n"),
+        Status::Usage => Some("usage: points|audit|plan|drill|migrate|recheck SCENARIO\n"),
         Status::ShelfFault => Some("scenario: not read\n"),
         Status::ReadFault => Some("log: not read\n"),
         Status::WriteFault => Some("report: not written\n"),
@@ -30,7 +30,7 @@ fn fixed_line(status: &Status) -> Option<&'static str>
         Status::OwnUnready(Unready::NoPoint(_)) => Some("own: no point\n"),
         Status::OwnUnready(Unready::NoCourse(_)) => Some("own: no course\n"),
         Status::OwnUnready(Unready::NoSpeed(_)) => Some("own: no speed\n"),
-        Status::Scenario(..) | Status::Limit(..) => None,
+        Status::Scenario(..) | Status::Limit(..) | Status::BadEntry(_) => None,
     }
 }
 
@@ -43,7 +43,7 @@ impl fmt::Display for Status {
     fn fmt<W: fmt::Write>(&self, f: &mut fmt::Formatter<W>) -> fmt::Result {
         match self {
             Status::Done | Status::NoManoeuvre => Ok(()),
-            Status::Usage => f.write_str("usage: points|audit|plan|drill|migrate SCENARIO"),
+            Status::Usage => f.write_str("usage: points|audit|plan|drill|migrate|recheck SCENARIO"),
             Status::Scenario(key, cause) => {
                 let fault = ScenarioFault::Fault(*key, *cause);
                 write!(f, "scenario: {fault}")
@@ -54,6 +54,7 @@ impl fmt::Display for Status {
             Status::Limit(which, most) => write!(f, "limit: {which} {most}"),
             Status::Memory => f.write_str("memory"),
             Status::OwnUnready(why) => write!(f, "own: {why}"),
+            Status::BadEntry(index) => write!(f, "rows: entry {index}"),
         }
     }
 }

@@ -4,7 +4,7 @@ ghost use Rattle.std.specs.Prelude.{◌≡◌, ◌++◌, ℕ, List, Some};
 ghost use Rattle.std.specs.declared.option.Option.{Option};
 ghost use Rattle.aivdm.specs.declared.sentence.LineCause.{LineCause};
 ghost use Rattle.colregs_program.specs.Answers.{IsDue};
-ghost use Rattle.colregs_program.specs.InertLines.{HasOneFewer, IsInert, IsOneLine};
+ghost use Rattle.colregs_program.specs.InertLines.{IsInert, IsOneLine, IsWithoutLine};
 ghost use Rattle.colregs_program.specs.declared.status.Status.{Status};
 ghost use Rattle.command_line.specs.Requests.{AskFor};
 ghost use Rattle.command_line.specs.declared.request.Request.{Request};
@@ -14,7 +14,7 @@ ghost use Rattle.log_lines.specs.LogLines.{without_carriage_return};
 ghost use Rattle.outside.specs.Shelves.{Files};
 ghost use Rattle.scenario.specs.declared.values.Scenario.{Scenario};
 ghost use Rattle.sessions.specs.Endings.{IsEnding};
-ghost use Rattle.sessions.specs.declared.task.Task.{Task};
+ghost use Rattle.sessions.specs.Tasks.{Task};
 
 pub use sessions::laws::{
     one_answer, one_ending, one_settled_text, settled_bytes_stay, some_answer,
@@ -35,10 +35,10 @@ pub fn some_due()
 {}
 
 /// A line without a stamp that is dropped for what it is changes nothing but a count: the log without it, and without the carriage return
-/// and the line feed that end it, has the same report, whatever is asked, but that the count of the line's outcome is smaller by one.
+/// and the line feed that end it, has the same report, whatever is asked, but that the count of the line's outcome, where it is told, is smaller by one.
 pub fn inert_lines()
     ensures { (task : Task) (scenario : Scenario) (before part ending after text : List ℕ) (cause : LineCause) →
         IsOneLine before part ending after → IsInert scenario (ended_lines before) (without_carriage_return part) cause →
         IsEnding task scenario (before ++ part ++ ending ++ after) text →
-        (other : List ℕ) × IsEnding task scenario (before ++ after) other × HasOneFewer (line_outcome cause) text other }
+        (other : List ℕ) × IsEnding task scenario (before ++ after) other × IsWithoutLine task.mode (line_outcome cause) text other }
 {}

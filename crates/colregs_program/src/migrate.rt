@@ -13,7 +13,7 @@ ghost use Rattle.colregs_program.specs.LogAnswers.{IsFinished};
 ghost use Rattle.colregs_program.specs.FaultLines.{fault_line};
 ghost use Rattle.colregs_program.specs.Told.{Gains};
 ghost use Rattle.colregs_program.specs.Inner.Migrating.{ComesTo, HoldsMigrated, IsMigrationDue};
-ghost use Rattle.colregs_program.specs.Inner.SetUps.{SetUpCause};
+ghost use Rattle.colregs_program.specs.Inner.SetUps.{SetUpCause, precedes_rows};
 ghost use Rattle.colregs_program.specs.declared.set_up.SetUpFault.{SetUpFault};
 ghost use Rattle.colregs_program.specs.declared.status.Status.{Status};
 ghost use Rattle.colregs_program.specs.declared.status.Which.TheVariants as which;
@@ -38,6 +38,7 @@ fn migrated<H: Shelf>(
     ensures cause { IfErr result (SetUpCause request.now (H.files shelf.old) (H.faults shelf.old) (H.faults shelf.new)) }
     ensures due { (due : Status) → IsMigrationDue request.now (H.files shelf.old) due
         → (H.faults shelf.new ≡ one_more (H.faults shelf.old)) ⊎ ComesTo result due }
+    ensures early { IfErr result (λ why. IsTrue (precedes_rows why)) }
     ensures fetched { H.fetches shelf.new ≡ one_more (H.fetches shelf.old) }
     ensures calm { result ≢ Err SetUpFault.NotHad → H.faults shelf.new ≡ H.faults shelf.old }
 {

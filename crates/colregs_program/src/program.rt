@@ -11,8 +11,9 @@ ghost use Rattle.scenario_keys.specs.declared.cause.Cause.{Cause};
 ghost use Rattle.command_line.specs.Requests.{AskFor, AskForNothing};
 ghost use Rattle.command_line.specs.declared.mode.Mode.TheVariants.{Drill, Migrate};
 ghost use Rattle.command_line.specs.declared.request.Request.{Request};
-ghost use Rattle.sessions.specs.Modes.{reads_log};
-ghost use Rattle.colregs_program.specs.Answers.{EndsWith, greatest_scenario, HoldsUnder, IsBeforeLog, IsDue, IsOfDrill, IsOfMigration, IsReadBy, IsRefusedBy, Migrates, Requested, Runs, StopsWith, TellsLimit, WritesNothing, WritesPart};
+ghost use Rattle.rechecks.specs.declared.checked_text.TheConstants.{GREATEST_TEXT};
+ghost use Rattle.sessions.specs.Modes.{needs_rows, reads_log};
+ghost use Rattle.colregs_program.specs.Answers.{EndsWith, greatest_scenario, HoldsUnder, IsBeforeLog, IsDue, IsOfDrill, IsOfMigration, IsReadBy, IsRefusedBy, MayPrecedeRows, Migrates, Requested, Runs, StopsWith, TellsLimit, WritesNothing, WritesPart};
 ghost use Rattle.colregs_program.specs.AskedScenarios.{log_of, task_of};
 ghost use Rattle.colregs_program.specs.FaultLines.{fault_line};
 ghost use Rattle.colregs_program.specs.LogAnswers.{GainsFront, GainsReport, IsAnswered, IsFinished, LeavesSettled};
@@ -42,7 +43,8 @@ use std::alloc::Global;
 /// as now and writes the report of `plan`: own ship and the vessels near her, the legs of the first of her plans that newly breaks no rule
 /// and enters no domain, or that there is none, and the outcomes. `drill SCENARIO` makes the log of forty vessels in place of reading one,
 /// audits it, and writes what each rule comes to, and the outcomes. `migrate SCENARIO` writes the scenario as one of version 2, and looks
-/// at no log. `--start` and `--ticks` stand in place of the scenario's own start and length of the window.
+/// at no log. `recheck SCENARIO` reads rows `why` from the shelf too, under the name that `--rows` gives, and writes that there is no plan where they say
+/// rightly why, without a search. `--start` and `--ticks` stand in place of the scenario's own start and length of the window.
 ///
 /// What `err` gets names the fault. A run that stops before the log's end has written what the log before that place decides.
 pub fn run<H: Shelf, S: Source, K: Sink, E: Sink>(
@@ -58,8 +60,8 @@ pub fn run<H: Shelf, S: Source, K: Sink, E: Sink>(
     // fails. A printed plan is safe.
     // A finished migration wrote the same scenario in version 2.
     ensures headline { IsTrue (IsFinished result) → Runs words.now (H.files shelf.old) (λ request. IsReadBy request.mode (S.left log.new))
-        (λ request scenario. IfSome (log_of request scenario (S.left log.old)) (λ bytes. IsAnswered request.mode scenario bytes result
-        × GainsReport (task_of request) scenario bytes (K.contents out.old) (K.contents out.new)))
+        (λ request rows scenario. IfSome (log_of request scenario (S.left log.old)) (λ bytes. IsAnswered (task_of request rows) scenario bytes result
+        × GainsReport (task_of request rows) scenario bytes (K.contents out.old) (K.contents out.new)))
         ⊎ ((result ≡ Status.Done) × Migrates words.now (H.files shelf.old) (λ text. Appends (K.contents out.old) (K.contents out.new) text)) }
 
     // Completeness: the answer that words, shelf and log call for comes, where no call fails. Memory alone is free.
@@ -73,44 +75,54 @@ pub fn run<H: Shelf, S: Source, K: Sink, E: Sink>(
     ensures usage { result ≡ Status.Usage → AskForNothing words.now }
     ensures no_usage { (request : Request) → AskFor words.now request → result ≢ Status.Usage }
     ensures shelf_fault { result ≡ Status.ShelfFault → Requested words.now (λ request.
-        (H.faults shelf.new ≡ one_more (H.faults shelf.old)) ⊎ IsMissing (H.files shelf.old) request.name) }
+        (H.faults shelf.new ≡ one_more (H.faults shelf.old)) ⊎ (IsMissing (H.files shelf.old) request.name
+        ⊎ (IsTrue (needs_rows request.mode) × IsMissing (H.files shelf.old) request.options.rows))) }
     ensures scenario_limit { (most : ℕ) → result ≡ Status.Limit which.Scenario most → (most ≡ greatest_scenario)
         × Requested words.now (λ request. HoldsUnder (H.files shelf.old) request.name (λ text. most < length text)) }
+    ensures rows_limit { (most : ℕ) → result ≡ Status.Limit which.Rows most → (most ≡ GREATEST_TEXT)
+        × Requested words.now (λ request. IsTrue (needs_rows request.mode) × HoldsUnder (H.files shelf.old) request.options.rows (λ text. most < length text)) }
     ensures refused { (key : Key) (cause : Cause) → result ≡ Status.Scenario key cause
         → Requested words.now (λ request. HoldsUnder (H.files shelf.old) request.name (λ text.
         (length text ≤ greatest_scenario) × IsRefusedBy request.mode text key cause)) }
-    // A run that a fault or a refusal stops has written what the bytes before it settle. Own ship's lacks and her targets come at the log's end.
+    // A run that a fault or a refusal stops has written what the bytes before it settle. Own ship's lacks, her targets and an entry that is not
+    // right come at the log's end.
     ensures read_fault { result ≡ Status.ReadFault → (S.faults log.new ≡ one_more (S.faults log.old))
         × Runs words.now (H.files shelf.old) (λ request. IsTrue (reads_log request.mode))
-        (λ request scenario. LeavesSettled request.mode scenario (S.left log.old) (S.left log.new) (K.contents out.old) (K.contents out.new)) }
+        (λ request rows scenario. LeavesSettled request.mode scenario (S.left log.old) (S.left log.new) (K.contents out.old) (K.contents out.new)) }
     ensures log_limit { (most : ℕ) → result ≡ Status.Limit which.Log most → Runs words.now (H.files shelf.old)
         (λ request. IsTrue (reads_log request.mode) → StopsAt most 0 (S.left log.old) (S.left log.new) read.TooLong)
-        (λ request scenario. (most ≡ scenario.log.max_bytes)
+        (λ request rows scenario. (most ≡ scenario.log.max_bytes)
         × StopsWith request scenario (S.left log.old) (K.contents out.old) (K.contents out.new) (Status.Limit which.Log most)) }
     ensures vessel_limit { (most : ℕ) → result ≡ Status.Limit which.Vessels most → Runs words.now (H.files shelf.old) (λ _. Unit {0})
-        (λ request scenario. StopsWith request scenario (S.left log.old) (K.contents out.old) (K.contents out.new) (Status.Limit which.Vessels most)
-        ⊎ EndsWith request scenario (S.left log.old) (S.left log.new) (K.contents out.old) (K.contents out.new) (Status.Limit which.Vessels most)) }
+        (λ request rows scenario. StopsWith request scenario (S.left log.old) (K.contents out.old) (K.contents out.new) (Status.Limit which.Vessels most)
+        ⊎ EndsWith request rows scenario (S.left log.old) (S.left log.new) (K.contents out.old) (K.contents out.new) (Status.Limit which.Vessels most)) }
     ensures pair_limit { (most : ℕ) → result ≡ Status.Limit which.Pairs most → Runs words.now (H.files shelf.old) (λ _. Unit {0})
-        (λ request scenario. StopsWith request scenario (S.left log.old) (K.contents out.old) (K.contents out.new) (Status.Limit which.Pairs most)
-        ⊎ EndsWith request scenario (S.left log.old) (S.left log.new) (K.contents out.old) (K.contents out.new) (Status.Limit which.Pairs most)) }
+        (λ request rows scenario. StopsWith request scenario (S.left log.old) (K.contents out.old) (K.contents out.new) (Status.Limit which.Pairs most)
+        ⊎ EndsWith request rows scenario (S.left log.old) (S.left log.new) (K.contents out.old) (K.contents out.new) (Status.Limit which.Pairs most)) }
     ensures own_unready { (why : Unready) → result ≡ Status.OwnUnready why → Runs words.now (H.files shelf.old) (λ _. Unit {0})
-        (λ request scenario. EndsWith request scenario (S.left log.old) (S.left log.new) (K.contents out.old) (K.contents out.new) (Status.OwnUnready why)) }
+        (λ request rows scenario. EndsWith request rows scenario (S.left log.old) (S.left log.new) (K.contents out.old) (K.contents out.new) (Status.OwnUnready why)) }
     ensures target_limit { (most : ℕ) → result ≡ Status.Limit which.Targets most → Runs words.now (H.files shelf.old) (λ _. Unit {0})
-        (λ request scenario. EndsWith request scenario (S.left log.old) (S.left log.new) (K.contents out.old) (K.contents out.new) (Status.Limit which.Targets most)) }
+        (λ request rows scenario. EndsWith request rows scenario (S.left log.old) (S.left log.new) (K.contents out.old) (K.contents out.new) (Status.Limit which.Targets most)) }
+    ensures bad_entry { (index : ℕ) → result ≡ Status.BadEntry index → Runs words.now (H.files shelf.old) (λ _. Unit {0})
+        (λ request rows scenario. EndsWith request rows scenario (S.left log.old) (S.left log.new) (K.contents out.old) (K.contents out.new) (Status.BadEntry index)) }
     ensures write_fault { result ≡ Status.WriteFault → (K.faults out.new ≡ one_more (K.faults out.old))
         × (Runs words.now (H.files shelf.old) (λ _. Unit {0})
-        (λ request scenario. WritesPart request scenario (S.left log.old) (S.left log.new) (K.contents out.old) (K.contents out.new))
+        (λ request rows scenario. WritesPart request rows scenario (S.left log.old) (S.left log.new) (K.contents out.old) (K.contents out.new))
         ⊎ Migrates words.now (H.files shelf.old) (λ text. AppendsPart (K.contents out.old) (K.contents out.new) text)) }
     ensures memory { result ≡ Status.Memory → Keeps (K.contents out.old) (K.contents out.new) ⊎ Runs words.now (H.files shelf.old) (λ _. Unit {0})
-        (λ request scenario. IfSome (log_of request scenario (S.left log.old)) (λ bytes.
+        (λ request rows scenario. IfSome (log_of request scenario (S.left log.old)) (λ bytes.
         GainsFront request.mode scenario bytes (K.contents out.old) (K.contents out.new))) }
     ensures drill { (request : Request) → AskFor words.now request → request.mode ≡ Drill → IsTrue (IsOfDrill result) }
     ensures migration { (request : Request) → AskFor words.now request → request.mode ≡ Migrate → IsTrue (IsOfMigration result) }
 
     // What is asked for and what is written then.
     ensures unfetched { AskForNothing words.now → H.fetches shelf.new ≡ H.fetches shelf.old }
-    ensures fetched { (request : Request) → AskFor words.now request → (H.fetches shelf.new ≡ one_more (H.fetches shelf.old))
-        ⊎ ((result ≡ Status.Memory) × (H.fetches shelf.new ≡ H.fetches shelf.old)) }
+    ensures fetched { (request : Request) → AskFor words.now request → needs_rows request.mode ≡ false
+        → (H.fetches shelf.new ≡ one_more (H.fetches shelf.old)) ⊎ ((result ≡ Status.Memory) × (H.fetches shelf.new ≡ H.fetches shelf.old)) }
+    ensures fetched_rows { (request : Request) → AskFor words.now request → IsTrue (needs_rows request.mode)
+        → (H.fetches shelf.new ≡ one_more (one_more (H.fetches shelf.old)))
+        ⊎ ((IsTrue (MayPrecedeRows result) × (H.fetches shelf.new ≡ one_more (H.fetches shelf.old)))
+        ⊎ ((result ≡ Status.Memory) × (H.fetches shelf.new ≡ H.fetches shelf.old))) }
     ensures untouched { IsTrue (IsBeforeLog result)
         → Keeps (S.left log.old) (S.left log.new) × (S.faults log.new ≡ S.faults log.old) }
     ensures unread { (request : Request) → AskFor words.now request → reads_log request.mode ≡ false
@@ -132,13 +144,13 @@ pub fn run<H: Shelf, S: Source, K: Sink, E: Sink>(
     if !reports(request.mode) {
         return write_migrated(alloc, &request, shelf, out, err);
     }
-    let scenario = match set_up(alloc, &request, shelf) {
-        Ok(scenario) => scenario,
+    let made = match set_up(alloc, &request, shelf) {
+        Ok(made) => made,
         Err(fault) => return tell(alloc, fault.into(), err),
     };
     one_answer();
-    let most = scenario.log.max_bytes;
-    let none = match report_on(alloc, &request, scenario, log, out) {
+    let most = made.scenario.log.max_bytes;
+    let none = match report_on(alloc, &request, made, log, out) {
         Ok(none) => none,
         Err(fault) => return tell(alloc, stream_status(fault, most), err),
     };

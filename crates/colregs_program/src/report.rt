@@ -1,6 +1,7 @@
 //! The report on the log of a request, which is read, or made by a drill.
-ghost use Rattle.std.specs.Prelude.{◌≡◌, ◌≤◌, false, IfErr, IfOk, IfSome, IsSome, IsTrue, MatchResult, None, OnOk};
+ghost use Rattle.std.specs.Prelude.{◌≡◌, ◌≤◌, length, false, IfErr, IfOk, IfSome, IsSome, IsTrue, MatchResult, None, OnOk};
 ghost use Rattle.std.specs.Io.KnownBytes.{Keeps};
+ghost use Rattle.rechecks.specs.declared.checked_text.TheConstants.{GREATEST_TEXT};
 ghost use Rattle.scenario.specs.ScenarioValues.{IsInRange};
 ghost use Rattle.sessions.specs.Modes.{needs_own, reads_log, reports};
 ghost use Rattle.colregs_program.specs.Answers.{IsReadBy};
@@ -8,46 +9,49 @@ ghost use Rattle.colregs_program.specs.AskedScenarios.{log_of, task_of};
 ghost use Rattle.colregs_program.specs.LogAnswers.{Reports};
 ghost use Rattle.colregs_program.specs.Inner.Streaming.{LogCount, OutCount, ReportCause, is_of_drill};
 
+use crate::set_up::SetUp;
 use crate::streaming::{BLOCK, StreamFault, write_report};
 use command_line::Request;
 use drill_log::drill_log;
 use log_lines::laws::ended_lines_stay;
 use outside::{PlainSource, Sink, Source};
-use scenario::Scenario;
-use sessions::{Task, reads_log};
+use sessions::{Asked, reads_log};
 use std::alloc::Global;
 
 /// Writes the report that a request asks for. Tells whether it is one without a manoeuvre.
 pub(crate) fn report_on<S: Source, K: Sink>(
     alloc: Global,
     request: &Request,
-    scenario: Scenario,
+    set_up: SetUp,
     log: &mut S,
     out: &mut K,
 ) -> Result<bool, StreamFault>
     requires reports { IsTrue (reports request.now.mode) }
-    requires in_range { IsInRange scenario }
-    requires own { IsTrue (needs_own request.now.mode) → IsSome scenario.own }
-    requires unneeded { needs_own request.now.mode ≡ false → scenario.own ≡ None }
+    requires in_range { IsInRange set_up.scenario }
+    requires own { IsTrue (needs_own request.now.mode) → IsSome set_up.scenario.own }
+    requires unneeded { needs_own request.now.mode ≡ false → set_up.scenario.own ≡ None }
+    requires rows { length set_up.rows.items ≤ GREATEST_TEXT }
     requires seed { request.now.options.seed ≤ 999999 }
-    ensures report { IfOk result (λ none. IfSome (log_of request.now scenario (S.left log.old)) (λ bytes.
-        Reports (task_of request.now) scenario bytes none (K.contents out.old) (K.contents out.new))) }
+    ensures report { IfOk result (λ none. IfSome (log_of request.now set_up.scenario (S.left log.old)) (λ bytes.
+        Reports (task_of request.now set_up.rows.items) set_up.scenario bytes none (K.contents out.old) (K.contents out.new))) }
     ensures end { OnOk result (IsReadBy request.now.mode (S.left log.new)) }
     ensures untouched { reads_log request.now.mode ≡ false → Keeps (S.left log.old) (S.left log.new) × (S.faults log.new ≡ S.faults log.old) }
-    ensures cause { IfErr result (ReportCause request.now scenario (S.left log.old) (S.left log.new) (K.contents out.old) (K.contents out.new)) }
+    ensures cause { IfErr result (ReportCause request.now set_up.rows.items set_up.scenario (S.left log.old) (S.left log.new) (K.contents out.old) (K.contents out.new)) }
     ensures drill { reads_log request.now.mode ≡ false → MatchResult result (λ none. none ≡ false) (λ fault. IsTrue (is_of_drill fault)) }
     ensures log_faults { MatchResult result (λ _. S.faults log.new ≡ S.faults log.old) (LogCount (S.faults log.old) (S.faults log.new)) }
     ensures out_faults { MatchResult result (λ _. K.faults out.new ≡ K.faults out.old) (OutCount (K.faults out.old) (K.faults out.new)) }
 {
-    let task = Task {
-        mode: request.mode,
+    let SetUp { scenario, rows } = set_up;
+    let mode = request.mode;
+    let asked = Asked {
         why: request.options.why,
+        rows: rows.as_slice(),
     };
-    if reads_log(request.mode) {
-        return write_report(alloc, scenario, task, log, out);
+    if reads_log(mode) {
+        return write_report(alloc, scenario, mode, &asked, log, out);
     }
     ended_lines_stay();
     let made = drill_log(alloc, &scenario, request.options.seed)?;
     let mut source = PlainSource::new(made, BLOCK);
-    write_report(alloc, scenario, task, &mut source, out)
+    write_report(alloc, scenario, mode, &asked, &mut source, out)
 }

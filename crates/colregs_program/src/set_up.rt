@@ -1,32 +1,35 @@
-//! The scenario of a run, from the shelf.
-ghost use Rattle.std.specs.Prelude.{◌≡◌, ◌≢◌, ◌⊎◌, ◌≤◌, ◌^◌, length, false, IfOk, IfErr, IsSome, IsTrue, OnOk, Result, Err, None, Some};
+//! The scenario of a run and the rows that it needs, from the shelf.
+ghost use Rattle.std.specs.Prelude.{◌≡◌, ◌≢◌, ◌⊎◌, ◌≤◌, ℕ, List, length, false, IfOk, IfErr, IsSome, IsTrue, Result, Err, None, if◌then◌else◌};
 ghost use Rattle.outside.specs.Causes.{one_more};
 ghost use Rattle.scenario.specs.ScenarioValues.{IsInRange};
 ghost use Rattle.scenario.specs.declared.values.Scenario.{Scenario};
-ghost use Rattle.colregs_program.specs.Answers.{HoldsUnder, IsScenario};
+ghost use Rattle.colregs_program.specs.Answers.{AreRows, HoldsUnder, IsScenario};
 ghost use Rattle.colregs_program.specs.AskedScenarios.{with_options};
-ghost use Rattle.sessions.specs.Modes.{needs_own, reports};
-ghost use Rattle.colregs_program.specs.Inner.SetUps.{AreOptions, IsSetUpDue, SetUpCause};
+ghost use Rattle.sessions.specs.Modes.{needs_own, needs_rows, reports};
+ghost use Rattle.colregs_program.specs.Inner.SetUps.{AreOptions, AreRowsDue, HaveFetched, IsScenarioDue, IsSetUpDue, SetFor, SetUpCause, came_of, precedes_rows, rows_fault, rows_had};
 ghost use Rattle.colregs_program.specs.declared.set_up.SetUpFault.{SetUpFault};
 
 use crate::fetching::{FetchFault, fetch_text};
 use crate::status::{Status, Which};
 use command_line::{Options, Request};
 use outside::Shelf;
+use rechecks::GREATEST_TEXT;
 use scenario::{Cause, Key, Scenario, ScenarioFault, read};
-use sessions::needs_own;
+use sessions::{needs_own, needs_rows};
 use std::alloc::Global;
 
 /// The greatest length of a scenario, in bytes.
 pub(crate) const GREATEST_SCENARIO: u64 = 1 << 20;
 
-/// Why there is no scenario.
+/// Why there is no scenario, or why there are no rows.
 #[derive(Clone, Copy, Debug, PartialEq, Eq)]
 pub(crate) enum SetUpFault {
     /// The shelf failed, or has nothing under the name.
     NotHad,
-    /// It is longer than the limit.
-    TooLong,
+    /// The scenario is longer than the limit.
+    LongScenario,
+    /// The rows are longer than theirs.
+    LongRows,
     /// The first key with a fault.
     Refused(Key, Cause),
     Memory,
@@ -55,7 +58,7 @@ impl From<FetchFault> for SetUpFault {
     fn from(fault: FetchFault) -> SetUpFault {
         match fault {
             FetchFault::NotHad => SetUpFault::NotHad,
-            FetchFault::TooLong => SetUpFault::TooLong,
+            FetchFault::TooLong => SetUpFault::LongScenario,
             FetchFault::Memory => SetUpFault::Memory,
         }
     }
@@ -70,7 +73,8 @@ impl From<SetUpFault> for Status {
     fn from(fault: SetUpFault) -> Status {
         match fault {
             SetUpFault::NotHad => Status::ShelfFault,
-            SetUpFault::TooLong => Status::Limit(Which::Scenario, GREATEST_SCENARIO),
+            SetUpFault::LongScenario => Status::Limit(Which::Scenario, GREATEST_SCENARIO),
+            SetUpFault::LongRows => Status::Limit(Which::Rows, GREATEST_TEXT),
             SetUpFault::Refused(key, cause) => Status::Scenario(key, cause),
             SetUpFault::Memory => Status::Memory,
         }
@@ -90,8 +94,19 @@ fn with_options(mut scenario: Scenario, options: &Options) -> Scenario
     scenario
 }
 
+/// The fault of rows that were not had.
+fn rows_fault(fault: FetchFault) -> SetUpFault
+    ensures { result ≡ rows_fault fault }
+{
+    match fault {
+        FetchFault::NotHad => SetUpFault::NotHad,
+        FetchFault::TooLong => SetUpFault::LongRows,
+        FetchFault::Memory => SetUpFault::Memory,
+    }
+}
+
 /// The scenario of a request, with own ship where its mode needs her.
-pub(crate) fn set_up<H: Shelf>(
+fn scenario_of<H: Shelf>(
     alloc: Global,
     request: &Request,
     shelf: &mut H,
@@ -103,8 +118,10 @@ pub(crate) fn set_up<H: Shelf>(
     ensures own { IfOk result (λ scenario. IsTrue (needs_own request.now.mode) → IsSome scenario.own) }
     ensures unneeded { IfOk result (λ scenario. needs_own request.now.mode ≡ false → scenario.own ≡ None) }
     ensures cause { IfErr result (SetUpCause request.now (H.files shelf.old) (H.faults shelf.old) (H.faults shelf.new)) }
-    ensures due { (due : Result Scenario SetUpFault) → IsSetUpDue request.now (H.files shelf.old) due
+    ensures due { (due : Result Scenario SetUpFault) → IsScenarioDue request.now (H.files shelf.old) due
         → (H.faults shelf.new ≡ one_more (H.faults shelf.old)) ⊎ ((result ≡ due) ⊎ (result ≡ Err SetUpFault.Memory)) }
+    ensures early { IfErr result (λ why. IsTrue (precedes_rows why)) }
+    ensures same { H.files shelf.new ≡ H.files shelf.old }
     ensures fetched { H.fetches shelf.new ≡ one_more (H.fetches shelf.old) }
     ensures calm { result ≢ Err SetUpFault.NotHad → H.faults shelf.new ≡ H.faults shelf.old }
 {
@@ -113,4 +130,58 @@ pub(crate) fn set_up<H: Shelf>(
         Ok(scenario) => Ok(with_options(scenario, &request.options)),
         Err(fault) => Err(fault.into()),
     }
+}
+
+/// The text of the rows of a request, where its mode needs them; else an empty one.
+fn rows_of<H: Shelf>(alloc: Global, request: &Request, shelf: &mut H) -> Result<Vec<u8>, SetUpFault>
+    ensures rows { IfOk result (λ rows. AreRows (H.files shelf.old) request.now rows.items) }
+    ensures few { IfOk result (λ rows. length rows.items ≤ GREATEST_TEXT) }
+    ensures cause { IfErr result (SetUpCause request.now (H.files shelf.old) (H.faults shelf.old) (H.faults shelf.new)) }
+    ensures due { (due : Result (List ℕ) SetUpFault) → AreRowsDue request.now (H.files shelf.old) due
+        → (H.faults shelf.new ≡ one_more (H.faults shelf.old)) ⊎ ((rows_had result ≡ due) ⊎ (rows_had result ≡ Err SetUpFault.Memory)) }
+    ensures steps { (H.faults shelf.new ≡ H.faults shelf.old) ⊎ (H.faults shelf.new ≡ one_more (H.faults shelf.old)) }
+    ensures fetched { H.fetches shelf.new ≡ (if needs_rows request.now.mode then one_more (H.fetches shelf.old) else H.fetches shelf.old) }
+    ensures calm { result ≢ Err SetUpFault.NotHad → H.faults shelf.new ≡ H.faults shelf.old }
+{
+    if !needs_rows(request.mode) {
+        return Ok(Vec::new(alloc));
+    }
+    match fetch_text(alloc, &request.options.rows, GREATEST_TEXT, shelf) {
+        Ok(rows) => Ok(rows),
+        Err(fault) => Err(rows_fault(fault)),
+    }
+}
+
+/// What a run is set up with.
+#[derive(Drop)]
+pub(crate) struct SetUp {
+    /// The scenario, with own ship where the mode needs her.
+    pub(crate) scenario: Scenario,
+    /// The text of the rows that the mode needs, or an empty one.
+    pub(crate) rows: Vec<u8>,
+}
+
+/// The scenario of a request, and then the rows that it needs.
+pub(crate) fn set_up<H: Shelf>(
+    alloc: Global,
+    request: &Request,
+    shelf: &mut H,
+) -> Result<SetUp, SetUpFault>
+    requires options { AreOptions request.now.options }
+    requires reports { IsTrue (reports request.now.mode) }
+    ensures scenario { IfOk result (λ made. HoldsUnder (H.files shelf.old) request.now.name (λ text. IsScenario request.now text made.scenario)) }
+    ensures rows { IfOk result (λ made. AreRows (H.files shelf.old) request.now made.rows.items) }
+    ensures few { IfOk result (λ made. length made.rows.items ≤ GREATEST_TEXT) }
+    ensures in_range { IfOk result (λ made. IsInRange made.scenario) }
+    ensures own { IfOk result (λ made. IsTrue (needs_own request.now.mode) → IsSome made.scenario.own) }
+    ensures unneeded { IfOk result (λ made. needs_own request.now.mode ≡ false → made.scenario.own ≡ None) }
+    ensures cause { IfErr result (SetUpCause request.now (H.files shelf.old) (H.faults shelf.old) (H.faults shelf.new)) }
+    ensures due { (due : Result SetFor SetUpFault) → IsSetUpDue request.now (H.files shelf.old) due
+        → (H.faults shelf.new ≡ one_more (H.faults shelf.old)) ⊎ ((came_of result ≡ due) ⊎ (came_of result ≡ Err SetUpFault.Memory)) }
+    ensures fetched { HaveFetched request.now (H.fetches shelf.old) (H.fetches shelf.new) result }
+    ensures calm { result ≢ Err SetUpFault.NotHad → H.faults shelf.new ≡ H.faults shelf.old }
+{
+    let scenario = scenario_of(alloc, request, shelf)?;
+    let rows = rows_of(alloc, request, shelf)?;
+    Ok(SetUp { scenario, rows })
 }

@@ -20,6 +20,8 @@ pub enum Which {
     Pairs,
     /// The vessels near own ship, at most 64.
     Targets,
+    /// The bytes of the rows that say why there is no plan, at most 2^24.
+    Rows,
 }
 
 impl fmt::Display for Which {
@@ -35,6 +37,7 @@ impl fmt::Display for Which {
             Which::Vessels => "vessels",
             Which::Pairs => "pairs",
             Which::Targets => "targets",
+            Which::Rows => "rows",
         })
     }
 }
@@ -50,7 +53,7 @@ pub enum Status {
     Usage,
     /// The scenario is refused at this key, the first with a fault, for this cause.
     Scenario(Key, Cause),
-    /// The scenario was not to be had: the shelf failed, or has nothing under the name.
+    /// The scenario or the rows were not to be had: the shelf failed, or has nothing under the name.
     ShelfFault,
     /// The log could not be read on.
     ReadFault,
@@ -62,6 +65,9 @@ pub enum Status {
     Memory,
     /// Own ship cannot be planned for: this is what she lacks.
     OwnUnready(Unready),
+    /// The rows do not say rightly why there is no plan: this is the least index of one that is not right, or how many there are where they leave out
+    /// a plan.
+    BadEntry(u32),
 }
 
 impl Status {
@@ -80,6 +86,7 @@ impl Status {
             Status::Limit(..) => 7,
             Status::Memory => 8,
             Status::OwnUnready(_) => 9,
+            Status::BadEntry(_) => 10,
         }
     }
 }

@@ -22,6 +22,7 @@ pub(crate) fn stream_status(fault: StreamFault, most: u64) -> Status
             SessionFault::LogBytes => Status::Limit(Which::Log, most),
             SessionFault::Own(why) => Status::OwnUnready(why),
             SessionFault::Targets => Status::Limit(Which::Targets, MOST_TARGETS as u64),
+            SessionFault::Entry(index) => Status::BadEntry(index),
             SessionFault::Memory => Status::Memory,
         },
     }

@@ -1,11 +1,14 @@
 //! A log that is read block by block, and what it decides, written as it is decided.
-ghost use Rattle.std.specs.Prelude.{◌≡◌, ◌≢◌, ◌+◌, ◌-◌, ◌<◌, ◌≤◌, [], ℕ, Bool, length, IfErr, IfOk, IfSome, IsSome, IsTrue, MatchResult, None, Ok, OnOk, List, true, false, vec_len};
+ghost use Rattle.std.specs.Prelude.{◌≡◌, ◌≢◌, ◌+◌, ◌-◌, ◌<◌, ◌≤◌, [], ℕ, length, IfErr, IfOk, IfSome, IsSome, IsTrue, MatchResult, None, Ok, OnOk, List, true, false, vec_len};
 ghost use Rattle.std.specs.declared.option.Option.{Option};
 ghost use Rattle.std.specs.Io.KnownBytes.{Appends, IsAtEnd};
 ghost use Rattle.audit_report.specs.ReportTexts.{HasText};
 ghost use Rattle.scenario.specs.ScenarioValues.{IsInRange};
 ghost use Rattle.sessions.specs.Modes.{needs_own, reports};
 ghost use Rattle.sessions.specs.Standing.{IsInUse, StandsFor, mode_of, session_scenario, taken_of};
+ghost use Rattle.sessions.specs.Tasks.{task_by};
+ghost use Rattle.sessions.specs.declared.asked.Asked.{Asked};
+ghost use Rattle.rechecks.specs.declared.checked_text.TheConstants.{GREATEST_TEXT};
 ghost use Rattle.colregs_program.specs.LogAnswers.{Reports};
 ghost use Rattle.colregs_program.specs.Inner.Streaming.{FromHere, HasWritten, LogCount, OutCount, PieceCause, PutCause, RefusedCause, StreamCause};
 ghost use Rattle.colregs_program.specs.declared.streaming.StreamFault.TheVariants.{NotRead};
@@ -13,7 +16,7 @@ ghost use Rattle.colregs_program.specs.declared.streaming.StreamFault.TheVariant
 use audit_report::ReportText;
 use outside::{Memory, Sink, Source, Taken, put_all};
 use scenario::Scenario;
-use sessions::{Session, SessionFault, Task};
+use sessions::{Asked, Mode, Session, SessionFault};
 use std::alloc::{AllocError, Global};
 
 /// How many bytes are read at a time.
@@ -149,8 +152,8 @@ fn write_block<S: Source, K: Sink>(
     ensures written { OnOk result ((first contents : Option (List ℕ)) → HasWritten session.old first (S.left log.old) contents (K.contents out.old)
         → HasWritten session.new first (S.left log.new) contents (K.contents out.new)) }
     ensures end { result ≡ Ok false → IsAtEnd (S.left log.new) }
-    ensures cause { IfErr result (λ fault. (why : Bool) (first contents : Option (List ℕ)) → HasWritten session.old first (S.left log.old) contents (K.contents out.old)
-        → StreamCause (record { mode = mode_of session.old; why = why }) (session_scenario session.old) first (S.left log.new) contents (K.contents out.new) fault) }
+    ensures cause { IfErr result (λ fault. (asked : Asked) (first contents : Option (List ℕ)) → HasWritten session.old first (S.left log.old) contents (K.contents out.old)
+        → StreamCause (task_by (mode_of session.old) asked) (session_scenario session.old) first (S.left log.new) contents (K.contents out.new) fault) }
     ensures log_faults { MatchResult result (λ _. S.faults log.new ≡ S.faults log.old) (LogCount (S.faults log.old) (S.faults log.new)) }
     ensures out_faults { MatchResult result (λ _. K.faults out.new ≡ K.faults out.old) (OutCount (K.faults out.old) (K.faults out.new)) }
 {
@@ -166,18 +169,18 @@ fn write_block<S: Source, K: Sink>(
     }
 }
 
-/// Writes the rest of the report at the log's end, which says with `why` why every plan fails, if every plan does. Tells whether it is one without a
-/// manoeuvre.
-fn write_end<K: Sink>(session: Session, why: bool, out: &mut K) -> Result<bool, StreamFault>
-    requires { IsInUse session }
+/// Writes the rest of the report that is asked for at the log's end. Tells whether it is one without a manoeuvre.
+fn write_end<K: Sink>(session: Session, asked: &Asked<'_>, out: &mut K) -> Result<bool, StreamFault>
+    requires in_use { IsInUse session }
+    requires rows { length asked.now.rows.now ≤ GREATEST_TEXT }
     ensures report { IfOk result (λ none. (first left contents : Option (List ℕ)) → IsAtEnd left → HasWritten session first left contents (K.contents out.old)
-        → IfSome first (λ bytes. Reports (record { mode = mode_of session; why = why }) (session_scenario session) bytes none contents (K.contents out.new))) }
+        → IfSome first (λ bytes. Reports (task_by (mode_of session) asked.now) (session_scenario session) bytes none contents (K.contents out.new))) }
     ensures cause { IfErr result (λ fault. (first left contents : Option (List ℕ)) → IsAtEnd left → HasWritten session first left contents (K.contents out.old)
-        → StreamCause (record { mode = mode_of session; why = why }) (session_scenario session) first left contents (K.contents out.new) fault) }
+        → StreamCause (task_by (mode_of session) asked.now) (session_scenario session) first left contents (K.contents out.new) fault) }
     ensures no_read { IfErr result (λ fault. fault ≢ NotRead) }
     ensures faults { MatchResult result (λ _. K.faults out.new ≡ K.faults out.old) (OutCount (K.faults out.old) (K.faults out.new)) }
 {
-    let ending = session.finish(why)?;
+    let ending = session.finish(asked)?;
     if !put_all(out, ending.bytes.as_slice()) {
         return Err(StreamFault::NotWritten);
     }
@@ -196,7 +199,7 @@ fn feed_log<S: Source, K: Sink>(
     ensures scenario { session_scenario session.new ≡ session_scenario session.old }
     ensures written { OnOk result (HasWritten session.new (S.left log.old) (S.left log.new) (K.contents out.old) (K.contents out.new)) }
     ensures end { OnOk result (IsAtEnd (S.left log.new)) }
-    ensures cause { IfErr result (λ fault. (why : Bool) → StreamCause (record { mode = mode_of session.old; why = why }) (session_scenario session.old)
+    ensures cause { IfErr result (λ fault. (asked : Asked) → StreamCause (task_by (mode_of session.old) asked) (session_scenario session.old)
         (S.left log.old) (S.left log.new) (K.contents out.old) (K.contents out.new) fault) }
     ensures log_faults { MatchResult result (λ _. S.faults log.new ≡ S.faults log.old) (LogCount (S.faults log.old) (S.faults log.new)) }
     ensures out_faults { MatchResult result (λ _. K.faults out.new ≡ K.faults out.old) (OutCount (K.faults out.old) (K.faults out.new)) }
@@ -210,21 +213,23 @@ fn feed_log<S: Source, K: Sink>(
 pub(crate) fn write_report<S: Source, K: Sink>(
     alloc: Global,
     scenario: Scenario,
-    task: Task,
+    mode: Mode,
+    asked: &Asked<'_>,
     log: &mut S,
     out: &mut K,
 ) -> Result<bool, StreamFault>
     requires in_range { IsInRange scenario }
-    requires own { IsTrue (needs_own task.mode) → IsSome scenario.own }
-    requires unneeded { needs_own task.mode ≡ false → scenario.own ≡ None }
-    requires reports { IsTrue (reports task.mode) }
-    ensures report { IfOk result (λ none. IfSome (S.left log.old) (λ bytes. Reports task scenario bytes none (K.contents out.old) (K.contents out.new))) }
+    requires own { IsTrue (needs_own mode) → IsSome scenario.own }
+    requires unneeded { needs_own mode ≡ false → scenario.own ≡ None }
+    requires reports { IsTrue (reports mode) }
+    requires rows { length asked.now.rows.now ≤ GREATEST_TEXT }
+    ensures report { IfOk result (λ none. IfSome (S.left log.old) (λ bytes. Reports (task_by mode asked.now) scenario bytes none (K.contents out.old) (K.contents out.new))) }
     ensures end { OnOk result (IsAtEnd (S.left log.new)) }
-    ensures cause { IfErr result (StreamCause task scenario (S.left log.old) (S.left log.new) (K.contents out.old) (K.contents out.new)) }
+    ensures cause { IfErr result (StreamCause (task_by mode asked.now) scenario (S.left log.old) (S.left log.new) (K.contents out.old) (K.contents out.new)) }
     ensures log_faults { MatchResult result (λ _. S.faults log.new ≡ S.faults log.old) (LogCount (S.faults log.old) (S.faults log.new)) }
     ensures out_faults { MatchResult result (λ _. K.faults out.new ≡ K.faults out.old) (OutCount (K.faults out.old) (K.faults out.new)) }
 {
-    let mut session = Session::new(alloc, scenario, task.mode)?;
+    let mut session = Session::new(alloc, scenario, mode)?;
     feed_log(alloc, &mut session, log, out)?;
-    write_end(session, task.why, out)
+    write_end(session, asked, out)
 }

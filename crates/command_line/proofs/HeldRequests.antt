@@ -34,7 +34,8 @@ mode_of text = if bytes_eq text (codes "points") then mode.Points
     else if bytes_eq text (codes "audit") then mode.Audit
     else if bytes_eq text (codes "plan") then mode.Plan
     else if bytes_eq text (codes "drill") then mode.Drill
-    else mode.Migrate
+    else if bytes_eq text (codes "migrate") then mode.Migrate
+    else mode.Recheck
 
 mode_back : (m : Mode) → mode_of (mode_text m) ≡ m
 mode_back mode.Points = refl
@@ -42,6 +43,7 @@ mode_back mode.Audit = refl
 mode_back mode.Plan = refl
 mode_back mode.Drill = refl
 mode_back mode.Migrate = refl
+mode_back mode.Recheck = refl
 
 some_is : {X : Type 0} (x y : X) → Some x ≡ Some y → x ≡ y
 some_is x y same = ap (λ o. unwrap_or o x) same

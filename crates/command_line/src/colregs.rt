@@ -20,6 +20,7 @@ Statuses:
   7  a limit is passed
   8  there is no memory
   9  own ship's state is not known
+ 10  the rows do not say rightly why there is no plan
  20  the system does not give the words
 
 Example:
@@ -142,7 +143,7 @@ fn why<'a>(alloc: Global) -> Arg<'a>
     )
 }
 
-/// The file with the rows that say so. It has no effect yet, so help does not list it.
+/// The file with the rows that say so.
 fn rows<'a>(alloc: Global) -> Arg<'a>
     ensures { rule_of result ≡ setting_rule rows_file }
 {
@@ -150,10 +151,9 @@ fn rows<'a>(alloc: Global) -> Arg<'a>
         alloc,
         "rows",
         "FILE",
-        "The file of the rows that say why there is no plan",
+        "The file of the rows that a recheck checks",
     )
     .default_value("why.csv")
-    .hide(true)
 }
 
 /// The command with no argument yet.

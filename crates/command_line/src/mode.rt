@@ -20,10 +20,12 @@ pub enum Mode {
     Drill,
     /// The scenario as one of version 2, with the same meaning.
     Migrate,
+    /// Whether rows say rightly why every plan of own ship fails, told without a search.
+    Recheck,
 }
 
 /// The modes as values of an argument, each with its line of help.
-pub(crate) fn mode_values() -> [PossibleValue<'static>; 5]
+pub(crate) fn mode_values() -> [PossibleValue<'static>; 6]
     ensures { AreModes result }
 {
     [
@@ -40,6 +42,9 @@ pub(crate) fn mode_values() -> [PossibleValue<'static>; 5]
         PossibleValue::new("migrate").help(
             "Write a scenario of version 1 as one of version 2 with the same meaning",
         ),
+        PossibleValue::new("recheck").help(
+            "Check rows that say why there is no plan, without a search",
+        ),
     ]
 }
 
@@ -53,6 +58,7 @@ pub(crate) fn mode_named(text: &str) -> Option<Mode>
         "plan" => Some(Mode::Plan),
         "drill" => Some(Mode::Drill),
         "migrate" => Some(Mode::Migrate),
+        "recheck" => Some(Mode::Recheck),
         _ => None,
     }
 }

@@ -1,3 +1,5 @@
 mod Turns
 mod RowsRead
-mod SoundRows
+pub mod SoundRows
+pub mod OneIndex
+pub mod ForCallers

@@ -113,7 +113,7 @@ module _ (s : Situation) where
   }
 
   -- Rows that are right have no first that is bad.
-  not_both : (rows : List Fields) (k : ℕ) → AreRight s rows → ¬ IsFirstBadRow s rows k
+  pub not_both : (rows : List Fields) (k : ℕ) → AreRight s rows → ¬ IsFirstBadRow s rows k
   not_both rows k right bad =
       let many = tell_as_many rows right.entries right.told in
       elim (cases_lt k (length rows)) [

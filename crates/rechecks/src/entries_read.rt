@@ -2,6 +2,7 @@
 ghost use Rattle.std.specs.Prelude.{◌≤◌, ◌<◌, ◌^◌, length, IfOk};
 ghost use Rattle.csv.specs.Records.{fields_of};
 ghost use Rattle.rechecks.specs.CheckedRows.{why_rows};
+ghost use Rattle.rechecks.specs.declared.checked_text.TheConstants.{GREATEST_TEXT};
 ghost use Rattle.rechecks.specs.Inner.ReadRows.{AreRead, TakesRow};
 
 use crate::text_rows::{is_why, read_row};
@@ -43,7 +44,7 @@ pub(crate) fn read_entries(
     situation: &Situation,
     text: &[u8],
 ) -> Result<EntriesRead, Memory>
-    requires { length text.now ≤ 2 ^ 24 }
+    requires { length text.now ≤ GREATEST_TEXT }
     ensures read { IfOk result (λ read. AreRead situation.now (why_rows text.now) read.entries.items read.all) }
     ensures few { IfOk result (λ read. length read.entries.items < 2 ^ 31) }
 {

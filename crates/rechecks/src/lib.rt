@@ -8,4 +8,4 @@ mod checked_text;
 mod entries_read;
 mod text_rows;
 
-pub use checked_text::recheck;
+pub use checked_text::{GREATEST_TEXT, recheck};

@@ -3,6 +3,8 @@
 #![tactic(auto)]
 
 #[cfg(test)]
+mod checked_rows;
+#[cfg(test)]
 mod compared;
 #[cfg(test)]
 mod failing_devices;

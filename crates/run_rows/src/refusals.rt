@@ -8,7 +8,7 @@ use scenario_rows::HEAD_ON;
 use std::alloc::Global;
 use std::test::Fail;
 
-const USAGE: &[u8] = b"usage: points|audit|plan|drill|migrate SCENARIO\n";
+const USAGE: &[u8] = b"usage: points|audit|plan|drill|migrate|recheck SCENARIO\n";
 
 /// Own ship may go on, and now is one tick behind the start.
 const OWN: Edit = (

@@ -62,21 +62,68 @@ lines,empty,0,,,,
 ";
 
 /// Now is one tick behind the start, and she may go on, or turn to starboard by 30 or 60 degrees.
-const OWN: Edit = (
+pub(crate) const OWN: Edit = (
     "max_speed = 500\n",
     "max_speed = 500\n[own]\nmmsi = 369190000\ncourses = [0, 300, 600]\nspeeds = [0]\nlegs = 1\nleg_ticks = 30\ntail = 10\nbase = 300\nlengths = 0\nrange = 50000\n",
 );
 
-const ONE_TICK: Edit = ("ticks = 40", "ticks = 1");
+pub(crate) const ONE_TICK: Edit = ("ticks = 40", "ticks = 1");
 
 const PLAN: &[&str] = &["plan", "scenario.toml"];
 
 /// Own ship and a vessel that she meets head on, each with a report at now.
-const HEAD_ON_NOW: &[u8] = b"\\c:1700000000*5F\\!AIVDM,1,1,,A,15P5TL0P2l00001wwHt000000000,0*5C
+pub(crate) const HEAD_ON_NOW: &[u8] =
+    b"\\c:1700000000*5F\\!AIVDM,1,1,,A,15P5TL0P2l00001wwHt000000000,0*5C
 \\c:1700000000*5F\\!AIVDM,1,1,,A,177KQJ0P2lOwwtp00W4725`00000,0*31
 ";
 
-const REPORTS: [Row; 12] = [
+/// The scenario counts ranks.
+const RANKS: Edit = ("[rules]\n", "[rules]\nranks = 1\n");
+
+/// Two vessels meet head on, and the second fishes.
+const FISHING: &[u8] =
+    b"\\c:1700000000*5F\\!AIVDM,2,1,3,B,55P5TL01VIaAL@7WKO@mBplU@<PDhh000000001S;AJ::4A80?4i@E53,0*3E
+!AIVDM,2,2,3,B,1@0000000000000,2*55
+\\c:1700000000*5F\\!AIVDM,1,1,,A,15P5TL0P2l00001wwHt000000000,0*5C
+\\c:1700000000*5F\\!AIVDM,1,1,,A,177KQJ7P2lOwwtp00W4725`00000,0*36
+\\c:1700000400*5B\\!AIVDM,1,1,,A,15P5TL0P2l0000000W4000000000,0*02
+\\c:1700000400*5B\\!AIVDM,1,1,,A,177KQJ7P2lOwwtqwwHt725`00000,0*68
+";
+
+/// The first is to keep out of the way of the second, and nobody alters.
+const FISHING_AUDITED: Written = Written::Ends(
+    b"verdict,369190000,477553000,r16,broken,0,0
+verdict,369190000,477553000,r8d,broken,18,21
+verdict,369190000,477553000,r18,broken,18,21
+verdict,477553000,369190000,r8d,broken,18,21
+verdict,477553000,369190000,r17b,broken,19,21
+meeting,369190000,477553000,head_on,0,25,185200
+meeting,477553000,369190000,head_on,0,25,185200
+vessel,369190000,MT.MITCHELL,99,180,2,1
+vessel,477553000,,0,0,2,1
+total,r8b,80,80,0,0,0
+total,r8d,80,72,8,0,2
+total,r13,80,80,0,0,0
+total,r14a,80,80,0,0,0
+total,r14b,80,80,0,0,0
+total,r14p,80,80,0,0,0
+total,r15,80,80,0,0,0
+total,r16,80,79,1,0,1
+total,r17a,80,80,0,0,0
+total,r17b,80,77,3,0,1
+total,r17c,80,80,0,0,0
+total,r18,80,76,4,0,1
+lines,empty,0,,,,
+",
+    b"lines,static,1,,,,\nlines,point,4,,,,\n",
+);
+
+/// The same vessels as in [`HEAD_ON_NOW`], where own ship fishes.
+const OWN_FISHES_NOW: &[u8] = b"\\c:1700000000*5F\\!AIVDM,1,1,,A,15P5TL7P2l00001wwHt000000000,0*5B
+\\c:1700000000*5F\\!AIVDM,1,1,,A,177KQJ0P2lOwwtp00W4725`00000,0*31
+";
+
+const REPORTS: [Row; 15] = [
     Row {
         shows: "a log without its last line feed",
         edits: &[ABOUT_SEATTLE],
@@ -124,6 +171,21 @@ const REPORTS: [Row; 12] = [
         out: HEAD_ON_TO_TICK_FOUR,
         ..NOTHING
     },
+    Row {
+        shows: "a vessel that fishes is met head on, by ranks",
+        words: AUDIT,
+        edits: &[RANKS],
+        log: &[FISHING],
+        out: FISHING_AUDITED,
+        ..NOTHING
+    },
+    Row {
+        shows: "and where ranks do not count",
+        words: AUDIT,
+        log: &[FISHING],
+        out: Written::Ends(HEAD_ON_AUDITED, b"lines,static,1,,,,\nlines,point,4,,,,\n"),
+        ..NOTHING
+    },
     // A log that is given is not read: this one fails at the first read.
     Row {
         shows: "a drill of forty vessels",
@@ -138,6 +200,22 @@ const REPORTS: [Row; 12] = [
         words: PLAN,
         edits: &[ONE_TICK, OWN],
         log: &[HEAD_ON_NOW],
+        out: Written::Ends(
+            b"vessel,369190000,,0,0,1,0
+vessel,477553000,,0,0,1,0
+plan,1,0,300,180,1,41
+lines,empty,0,,,,
+",
+            b"lines,point,2,,,,\n",
+        ),
+        ..NOTHING
+    },
+    // Own ship fishes: by ranks she would stand on, and be held to her course at first.
+    Row {
+        shows: "a plan does not go by ranks",
+        words: PLAN,
+        edits: &[ONE_TICK, OWN, RANKS],
+        log: &[OWN_FISHES_NOW],
         out: Written::Ends(
             b"vessel,369190000,,0,0,1,0
 vessel,477553000,,0,0,1,0

@@ -57,11 +57,22 @@ fn words_of(alloc: Global, texts: &[&str]) -> Result<Vec<Word>, Fail> {
     Ok(words)
 }
 
-/// A shelf that holds this scenario under `scenario.toml`.
-fn shelf_of(alloc: Global, scenario: &str) -> Result<PlainShelf, Fail> {
+/// What lies on a shelf: a scenario under `scenario.toml`, and rows under `why.csv`, if there are any.
+#[derive(Clone, Copy)]
+pub(crate) struct Shelved<'a> {
+    pub(crate) scenario: &'a str,
+    pub(crate) rows: Option<&'a [u8]>,
+}
+
+fn shelf_of(alloc: Global, shelved: Shelved<'_>) -> Result<PlainShelf, Fail> {
     let name = Word::new(alloc, "scenario.toml")?;
-    let file = (name, scenario.as_bytes().to_vec(alloc)?);
-    Ok(PlainShelf::new(vec![in alloc; file]?))
+    let file = (name, shelved.scenario.as_bytes().to_vec(alloc)?);
+    let mut files = vec![in alloc; file]?;
+    if let Some(rows) = shelved.rows {
+        let name = Word::new(alloc, "why.csv")?;
+        files.push((name, rows.to_vec(alloc)?))?;
+    }
+    Ok(PlainShelf::new(files))
 }
 
 /// Runs the program with these words, where this scenario lies under `scenario.toml`, on a log.
@@ -72,8 +83,23 @@ pub(crate) fn ended(
     log: &[u8],
     devices: Devices,
 ) -> Result<RunEnd, Fail> {
+    let shelved = Shelved {
+        scenario,
+        rows: None,
+    };
+    ended_on(alloc, texts, shelved, log, devices)
+}
+
+/// Runs the program with these words and this shelf, on a log.
+pub(crate) fn ended_on(
+    alloc: Global,
+    texts: &[&str],
+    shelved: Shelved<'_>,
+    log: &[u8],
+    devices: Devices,
+) -> Result<RunEnd, Fail> {
     let words = words_of(alloc, texts)?;
-    let mut shelf = shelf_of(alloc, scenario)?;
+    let mut shelf = shelf_of(alloc, shelved)?;
     let reads = calls(alloc, devices.failing_read)?;
     let mut source = MemorySource::new(log.to_vec(alloc)?, devices.piece.max(1), reads);
     let mut out = MemorySink::new(alloc, 100, calls(alloc, devices.failing_write)?);

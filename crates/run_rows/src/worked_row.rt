@@ -1,5 +1,5 @@
 //! A worked row: what a run is given, and what it ends with.
-use crate::whole_run::{Devices, Edit, SOUND, edited, ended};
+use crate::whole_run::{Devices, Edit, SOUND, Shelved, edited, ended_on};
 use colregs_program::Status;
 use std::alloc::Global;
 use std::process::Abort;
@@ -21,6 +21,8 @@ pub(crate) struct Row {
     pub(crate) edits: &'static [Edit],
     /// The log, part by part.
     pub(crate) log: &'static [&'static [u8]],
+    /// The rows that lie under `why.csv`, if any do.
+    pub(crate) rows: Option<&'static [u8]>,
     pub(crate) failing_read: Option<u32>,
     pub(crate) status: Status,
     pub(crate) number: u8,
@@ -38,6 +40,7 @@ pub(crate) const NOTHING: Row = Row {
     words: POINTS,
     edits: &[],
     log: &[],
+    rows: None,
     failing_read: None,
     status: Status::Done,
     number: 0,
@@ -69,7 +72,11 @@ pub(crate) fn is_as_worked_out(rt: &impl Abort, alloc: Global, row: &Row) -> Res
         failing_read: row.failing_read,
         ..SOUND
     };
-    let ended = ended(alloc, row.words, scenario.as_str(), log.as_slice(), devices)?;
+    let shelved = Shelved {
+        scenario: scenario.as_str(),
+        rows: row.rows,
+    };
+    let ended = ended_on(alloc, row.words, shelved, log.as_slice(), devices)?;
     assert_eq!(rt; ended.status, row.status, "{name}");
     assert_eq!(rt; ended.status.number(), row.number, "{name}");
     assert!(rt; is_written(ended.out.bytes(), &row.out), "{name}");

@@ -1,5 +1,5 @@
 -- The whole report of an audit, and why there is none.
-use Rattle.std.proofs.Common.{ℕ, ◌≡◌, ◌++◌, false, refl, List, append_assoc, ap, ap₂, ◌∙◌}
+use Rattle.std.proofs.Common.{[], ℕ, ◌≡◌, ◌++◌, false, refl, List, append_assoc, ap, ap₂, ◌∙◌}
 use Rattle.audit_rows.specs.declared.row.Row.{Row}
 use Rattle.auditor.specs.declared.total.Total.{Total}
 use Rattle.traces.specs.ManyTraces.{HaveMoreThan}
@@ -17,12 +17,12 @@ use Rattle.command_line.specs.declared.mode.Mode.TheVariants as mode
 use Rattle.settling.specs.ScenarioAudit.{audit_numbers}
 
 pub audit_cause : (scenario : Scenario) (log : List ℕ) (fault : AuditFault) → is_crowded scenario (lines_of log) ≡ false
-    → (fault ≡ audit.TooManyPairs → HaveMoreThan MOST_TRACES (audit_numbers scenario) (sightings_of scenario log)) → EndCause mode.Audit scenario log (auditing_fault fault)
+    → (fault ≡ audit.TooManyPairs → HaveMoreThan MOST_TRACES (audit_numbers scenario) (sightings_of scenario log)) → EndCause mode.Audit [] scenario log (auditing_fault fault)
 audit_cause scenario log audit.TooManyPairs calm many = too_many_traces scenario log calm (many refl)
 audit_cause scenario log audit.Memory calm many = tt
 
 pub drill_cause : (scenario : Scenario) (log : List ℕ) (fault : AuditFault) → is_crowded scenario (lines_of log) ≡ false
-    → (fault ≡ audit.TooManyPairs → HaveMoreThan MOST_TRACES (audit_numbers scenario) (sightings_of scenario log)) → EndCause mode.Drill scenario log (auditing_fault fault)
+    → (fault ≡ audit.TooManyPairs → HaveMoreThan MOST_TRACES (audit_numbers scenario) (sightings_of scenario log)) → EndCause mode.Drill [] scenario log (auditing_fault fault)
 drill_cause scenario log audit.TooManyPairs calm many = too_many_drilled scenario log calm (many refl)
 drill_cause scenario log audit.Memory calm many = tt
 

@@ -1,5 +1,5 @@
 -- A session that ends.
-use Rattle.std.proofs.Common.{ℕ, ◌≡◌, ◌+◌, ◌<◌, ◌^◌, Bool, List, [], ◌++◌, length, IsTrue, Ok, Err, refl, ap, sym, subst, arith}
+use Rattle.std.proofs.Common.{◌∙◌, ℕ, ◌≡◌, ◌+◌, ◌<◌, ◌^◌, List, [], ◌++◌, length, IsTrue, Ok, Err, refl, ap, sym, subst, arith}
 use Rattle.std.specs.Prelude.{IsSome}
 use Rattle.std.specs.Option.{option_to_list}
 use Rattle.audit_rows.specs.declared.row.Row.{Row}
@@ -14,13 +14,17 @@ use Rattle.settling.specs.declared.settled_audit.SettledAudit.{SettledAudit}
 use Rattle.log_lines.specs.declared.streamed.EndedLines.{EndedLines}
 use Rattle.sessions.specs.AuditReport.{stretch_rows}
 use Rattle.sessions.specs.Feeding.{UnlessMemory}
-use Rattle.sessions.specs.Modes.{needs_own}
+use Rattle.sessions.specs.Modes.{Look, each_line, each_tick, is_own, look_of, needs_own, nothing, own_ship}
 use Rattle.sessions.specs.PointsReport.{point_rows}
-use Rattle.sessions.specs.PlanReport.{IsPlanReport}
-use Rattle.sessions.specs.Endings.{IsAnswerTo, IsEnding, IsReport}
+use Rattle.sessions.specs.PlanReport.{IsPlanReport, log_messages}
+use Rattle.sessions.specs.Endings.{IsAnswerOf, IsAnswerTo, IsEnding, IsReport}
+use Rattle.sessions.specs.Tasks.{Task, task_by}
+use Rattle.sessions.specs.declared.asked.Asked.{Asked}
 use Rattle.sessions.specs.Standing.{IsInUse, StandsFor, mode_by, mode_of, session_scenario}
 use Rattle.sessions.specs.Inner.Working.{IsDone}
-use Rattle.sessions.specs.Inner.Faults.{EndCause}
+use Rattle.sessions.specs.Inner.Faults.{EndCause, preparing_fault}
+use Rattle.sessions.specs.Inner.PlanWriting.{SoughtCause}
+use Rattle.situations.specs.declared.preparation.PrepareFault.{PrepareFault}
 use Rattle.sessions.specs.declared.ending.Ending.{Ending}
 use Rattle.command_line.specs.declared.mode.Mode.{Mode}
 use Rattle.command_line.specs.declared.mode.Mode.TheVariants as mode
@@ -31,6 +35,7 @@ use Rattle.sessions.specs.declared.session_fault.SessionFault.TheVariants as why
 use Rattle.sessions.specs.declared.work.Work.{Work}
 use Rattle.sessions.specs.declared.work.Work.TheVariants as work
 use Rattle.sessions.proofs.Feeding.{few_ended}
+use Rattle.sessions.proofs.Seeking.{own_cause}
 
 -- what holds for each log that was fed, but for want of memory
 pub all_causes : (because : SessionFault) (self : Session) (P : List ℕ → Type 0) → ((fed given : List ℕ) → StandsFor self fed given → UnlessMemory because (P fed))
@@ -40,6 +45,7 @@ all_causes why.Pairs self P each = each
 all_causes why.LogBytes self P each = each
 all_causes (why.Own lack) self P each = each
 all_causes why.Targets self P each = each
+all_causes (why.Entry k) self P each = each
 all_causes why.Memory self P each = tt
 
 -- what the lines' end says of the judge
@@ -103,63 +109,107 @@ pub points_of : (self : Session) (ended : EndedLines) → self.work ≡ work.Poi
 points_of self ended is told judges fed given stands =
     (record { judged = told self.scenario fed stands.lines; judge = ended_judge self ended.judge judges fed given stands }, (done_by self work.Points is fed given stands).0)
 
+-- where nothing leaves before the end
+
 pub plan_given : (self : Session) → self.work ≡ work.Plan → (fed given : List ℕ) → StandsFor self fed given → given ≡ []
 plan_given self is fed given stands = (done_by self work.Plan is fed given stands).0
 
-pub plan_own : (self : Session) → self.work ≡ work.Plan → IsInUse self → IsSome self.scenario.own
-plan_own self is used = used.stands.own (subst (λ (w : Work). IsTrue (needs_own (mode_by w))) (sym is) refl)
+pub recheck_given : (self : Session) → self.work ≡ work.Recheck → (fed given : List ℕ) → StandsFor self fed given → given ≡ []
+recheck_given self is fed given stands = (done_by self work.Recheck is fed given stands).0
+
+pub own_there : (self : Session) (m : Mode) → mode_of self ≡ m → IsTrue (needs_own m) → IsInUse self → IsSome self.scenario.own
+own_there self m is needs used = used.stands.own (subst (λ (n : Mode). IsTrue (needs_own n)) (sym is) needs)
 
 -- ---- what the end gives
 
-pub report_is : (self : Session) (m : Mode) (why : Bool) (ending made : Ending) (fed given : List ℕ) → mode_of self ≡ m → ending ≡ made
-    → IsReport m why self.scenario fed (given ++ made.bytes.items)
-    → IsEnding (record { mode = mode_of self; why = why }) (session_scenario self) fed (given ++ ending.bytes.items)
-report_is self m why ending made fed given mode_is is report =
-    subst (λ (n : Mode). IsReport n why self.scenario fed (given ++ ending.bytes.items)) (sym mode_is)
-    (subst (λ (e : Ending). IsReport m why self.scenario fed (given ++ e.bytes.items)) (sym is) report)
+module _ (self : Session) (m : Mode) (asked : Asked) (mode_is : mode_of self ≡ m) where
+  pub report_is : (ending made : Ending) (fed given : List ℕ) → ending ≡ made → IsReport m asked.why asked.rows.now self.scenario fed (given ++ made.bytes.items)
+      → IsEnding (task_by (mode_of self) asked) (session_scenario self) fed (given ++ ending.bytes.items)
+  report_is ending made fed given is report =
+      subst (λ (n : Mode). IsReport n asked.why asked.rows.now self.scenario fed (given ++ ending.bytes.items)) (sym mode_is)
+      (subst (λ (e : Ending). IsReport m asked.why asked.rows.now self.scenario fed (given ++ e.bytes.items)) (sym is) report)
 
-pub answer_is : (self : Session) (m : Mode) (ending made : Ending) (fed : List ℕ) → mode_of self ≡ m → ending ≡ made → IsAnswerTo m self.scenario fed (Ok made.none)
-    → IsAnswerTo (mode_of self) (session_scenario self) fed (Ok ending.none)
-answer_is self m ending made fed mode_is is answer =
-    subst (λ (n : Mode). IsAnswerTo n self.scenario fed (Ok ending.none)) (sym mode_is) (subst (λ (e : Ending). IsAnswerTo m self.scenario fed (Ok e.none)) (sym is) answer)
+  pub answer_is : (ending made : Ending) (fed : List ℕ) → ending ≡ made → IsAnswerOf m asked.rows.now self.scenario fed (Ok made.none)
+      → IsAnswerTo (task_by (mode_of self) asked) (session_scenario self) fed (Ok ending.none)
+  answer_is ending made fed is answer =
+      subst (λ (n : Mode). IsAnswerOf n asked.rows.now self.scenario fed (Ok ending.none)) (sym mode_is)
+      (subst (λ (e : Ending). IsAnswerOf m asked.rows.now self.scenario fed (Ok e.none)) (sym is) answer)
 
-cause_is : (self : Session) (m : Mode) (because : SessionFault) (fed : List ℕ) → mode_of self ≡ m → EndCause m self.scenario fed because
-    → UnlessMemory because (IsAnswerTo (mode_of self) (session_scenario self) fed (Err because))
-cause_is self m because fed mode_is cause = subst (λ (n : Mode). UnlessMemory because (IsAnswerTo n self.scenario fed (Err because))) (sym mode_is) cause
+  cause_is : (because : SessionFault) (fed : List ℕ) → EndCause m asked.rows.now self.scenario fed because
+      → UnlessMemory because (IsAnswerTo (task_by (mode_of self) asked) (session_scenario self) fed (Err because))
+  cause_is because fed cause = subst (λ (n : Mode). UnlessMemory because (IsAnswerOf n asked.rows.now self.scenario fed (Err because))) (sym mode_is) cause
 
-abbrev pub Refusal : Session → SessionFault → Type 0
-Refusal self because = UnlessMemory because ((fed given : List ℕ) → StandsFor self fed given → IsAnswerTo (mode_of self) (session_scenario self) fed (Err because))
+abbrev pub Refusal : Session → Asked → SessionFault → Type 0
+Refusal self asked because =
+    UnlessMemory because ((fed given : List ℕ) → StandsFor self fed given → IsAnswerTo (task_by (mode_of self) asked) (session_scenario self) fed (Err because))
 
-pub audit_refused : (self : Session) (audit : SettledAudit) (judge : Judge) (because : SessionFault) → self.work ≡ work.Audit audit → JudgeOf self judge
-    → ((log : List ℕ) (rows : List Row) → IsAuditOf audit judge self.scenario log rows → EndCause mode.Audit self.scenario log because) → Refusal self because
-audit_refused self audit judge because is judges cause =
-    all_causes because self (λ fed. IsAnswerTo (mode_of self) (session_scenario self) fed (Err because)) (λ fed given stands. (
-    let of = audit_of self audit judge is judges fed given stands in
-    cause_is self mode.Audit because fed (ap mode_by is) (cause fed of.0 of.1)
-    ))
+module _ (self : Session) (judge : Judge) (judges : JudgeOf self judge) (asked : Asked) (because : SessionFault) where
+  refused_by : (m : Mode) → mode_of self ≡ m → ((fed given : List ℕ) → StandsFor self fed given → EndCause m asked.rows.now self.scenario fed because) → Refusal self asked because
+  refused_by m is cause =
+      all_causes because self (λ fed. IsAnswerTo (task_by (mode_of self) asked) (session_scenario self) fed (Err because))
+      (λ fed given stands. cause_is self m asked is because fed (cause fed given stands))
 
-pub drill_refused : (self : Session) (audit : SettledAudit) (judge : Judge) (because : SessionFault) → self.work ≡ work.Drill audit → JudgeOf self judge
-    → ((log : List ℕ) → IsAuditOf audit judge self.scenario log [] → EndCause mode.Drill self.scenario log because) → Refusal self because
-drill_refused self audit judge because is judges cause =
-    all_causes because self (λ fed. IsAnswerTo (mode_of self) (session_scenario self) fed (Err because)) (λ fed given stands. (
-    let of = drill_of self audit judge is judges fed given stands in
-    cause_is self mode.Drill because fed (ap mode_by is) (cause fed of.0)
-    ))
+  pub audit_refused : (audit : SettledAudit) → self.work ≡ work.Audit audit
+      → ((log : List ℕ) (rows : List Row) → IsAuditOf audit judge self.scenario log rows → EndCause mode.Audit [] self.scenario log because) → Refusal self asked because
+  audit_refused audit is cause =
+      refused_by mode.Audit (ap mode_by is) (λ fed given stands. let of = audit_of self audit judge is judges fed given stands in cause fed of.0 of.1)
 
-module _ (self : Session) (why : Bool) (judge : Judge) (is : self.work ≡ work.Plan) (judges : JudgeOf self judge) where
-  pub plan_refused : (because : SessionFault) → ((log : List ℕ) → JudgeStandsFor judge self.scenario (lines_of log) → EndCause mode.Plan self.scenario log because) → Refusal self because
-  plan_refused because cause =
-      all_causes because self (λ fed. IsAnswerTo (mode_of self) (session_scenario self) fed (Err because))
-      (λ fed given stands. cause_is self mode.Plan because fed (ap mode_by is) (cause fed (ended_judge self judge judges fed given stands)))
+  pub drill_refused : (audit : SettledAudit) → self.work ≡ work.Drill audit
+      → ((log : List ℕ) → IsAuditOf audit judge self.scenario log [] → EndCause mode.Drill [] self.scenario log because) → Refusal self asked because
+  drill_refused audit is cause =
+      refused_by mode.Drill (ap mode_by is) (λ fed given stands. let of = drill_of self audit judge is judges fed given stands in cause fed of.0)
 
-  pub plan_report : (ending : Ending) → ((log : List ℕ) → JudgeStandsFor judge self.scenario (lines_of log) → IsPlanReport why self.scenario log ending.bytes.items)
-      → (fed given : List ℕ) → StandsFor self fed given → IsEnding (record { mode = mode_of self; why = why }) (session_scenario self) fed (given ++ ending.bytes.items)
+  pub plan_refused : self.work ≡ work.Plan → ((log : List ℕ) → JudgeStandsFor judge self.scenario (lines_of log) → EndCause mode.Plan [] self.scenario log because) → Refusal self asked because
+  plan_refused is cause = refused_by mode.Plan (ap mode_by is) (λ fed given stands. cause fed (ended_judge self judge judges fed given stands))
+
+  pub recheck_refused : self.work ≡ work.Recheck → ((log : List ℕ) → JudgeStandsFor judge self.scenario (lines_of log) → EndCause mode.Recheck asked.rows.now self.scenario log because)
+      → Refusal self asked because
+  recheck_refused is cause = refused_by mode.Recheck (ap mode_by is) (λ fed given stands. cause fed (ended_judge self judge judges fed given stands))
+
+module _ (self : Session) (asked : Asked) (judge : Judge) (is : self.work ≡ work.Plan) (judges : JudgeOf self judge) where
+  pub plan_report : (ending : Ending) → ((log : List ℕ) → JudgeStandsFor judge self.scenario (lines_of log) → IsPlanReport asked.why self.scenario log ending.bytes.items)
+      → (fed given : List ℕ) → StandsFor self fed given → IsEnding (task_by (mode_of self) asked) (session_scenario self) fed (given ++ ending.bytes.items)
   plan_report ending report fed given stands =
       let nothing = plan_given self is fed given stands in
-      report_is self mode.Plan why ending ending fed given (ap mode_by is) refl
-      (subst (λ (g : List ℕ). IsReport mode.Plan why self.scenario fed (g ++ ending.bytes.items)) (sym nothing) (report fed (ended_judge self judge judges fed given stands)))
+      report_is self mode.Plan asked (ap mode_by is) ending ending fed given refl
+      (subst (λ (g : List ℕ). IsReport mode.Plan asked.why asked.rows.now self.scenario fed (g ++ ending.bytes.items)) (sym nothing) (report fed (ended_judge self judge judges fed given stands)))
 
-  pub plan_answered : (ending : Ending) → ((log : List ℕ) → JudgeStandsFor judge self.scenario (lines_of log) → IsAnswerTo mode.Plan self.scenario log (Ok ending.none))
-      → (fed given : List ℕ) → StandsFor self fed given → IsAnswerTo (mode_of self) (session_scenario self) fed (Ok ending.none)
+  pub plan_answered : (ending : Ending) → ((log : List ℕ) → JudgeStandsFor judge self.scenario (lines_of log) → IsAnswerOf mode.Plan [] self.scenario log (Ok ending.none))
+      → (fed given : List ℕ) → StandsFor self fed given → IsAnswerTo (task_by (mode_of self) asked) (session_scenario self) fed (Ok ending.none)
   plan_answered ending answer fed given stands =
-      answer_is self mode.Plan ending ending fed (ap mode_by is) refl (answer fed (ended_judge self judge judges fed given stands))
+      answer_is self mode.Plan asked (ap mode_by is) ending ending fed refl (answer fed (ended_judge self judge judges fed given stands))
+
+-- ---- own ship's situation
+
+looks_at_own : (look : Look) → IsTrue (is_own look) → look ≡ own_ship
+looks_at_own each_line needs = cc needs
+looks_at_own each_tick needs = cc needs
+looks_at_own own_ship needs = refl
+looks_at_own nothing needs = cc needs
+
+-- every task of the mode is refused for this
+abbrev pub NoSituation : Session → SessionFault → Type 0
+NoSituation self because = UnlessMemory because ((fed given : List ℕ) → StandsFor self fed given → (task : Task) → task.mode ≡ mode_of self
+    → IsAnswerTo task (session_scenario self) fed (Err because))
+
+module _ (self : Session) (judge : Judge) (judges : JudgeOf self judge) (needs : IsTrue (needs_own (mode_of self))) where
+  pub no_situation : (fault : PrepareFault) → ((log : List ℕ) → JudgeStandsFor judge self.scenario (lines_of log) → SoughtCause self.scenario (log_messages self.scenario log) fault)
+      → NoSituation self (preparing_fault fault)
+  no_situation fault cause = all_causes (preparing_fault fault) self
+      (λ fed. (task : Task) → task.mode ≡ mode_of self → IsAnswerTo task (session_scenario self) fed (Err (preparing_fault fault)))
+      (λ fed given stands. (
+      let judged = ended_judge self judge judges fed given stands in
+      let own = stands.own needs in
+      each_task (preparing_fault fault) fed (λ task same.
+      own_cause self.scenario fed judged.calm task.mode task.rows (ap look_of same ∙ looks_at_own (look_of (mode_of self)) needs) own fault (cause fed judged))
+      ))
+    where
+      each_task : (because : SessionFault) (fed : List ℕ) → ((task : Task) → task.mode ≡ mode_of self → UnlessMemory because (IsAnswerTo task self.scenario fed (Err because)))
+          → UnlessMemory because ((task : Task) → task.mode ≡ mode_of self → IsAnswerTo task self.scenario fed (Err because))
+      each_task why.Vessels fed each = each
+      each_task why.Pairs fed each = each
+      each_task why.LogBytes fed each = each
+      each_task (why.Own lack) fed each = each
+      each_task why.Targets fed each = each
+      each_task (why.Entry k) fed each = each
+      each_task why.Memory fed each = tt

@@ -214,6 +214,7 @@ refused_by (Err why.Vessels) P alone pairs = (let is = alone (λ same. cc same) 
 refused_by (Err why.LogBytes) P alone pairs = (let is = alone (λ same. cc same) in cc is)
 refused_by (Err (why.Own lack)) P alone pairs = (let is = alone (λ same. cc same) in cc is)
 refused_by (Err why.Targets) P alone pairs = (let is = alone (λ same. cc same) in cc is)
+refused_by (Err (why.Entry k)) P alone pairs = (let is = alone (λ same. cc same) in cc is)
 
 -- ---- several pieces
 
@@ -261,6 +262,7 @@ unless_weaker why.Pairs P Q so p = so p
 unless_weaker why.LogBytes P Q so p = so p
 unless_weaker (why.Own lack) P Q so p = so p
 unless_weaker why.Targets P Q so p = so p
+unless_weaker (why.Entry k) P Q so p = so p
 unless_weaker why.Memory P Q so p = tt
 
 -- ---- how much room is left

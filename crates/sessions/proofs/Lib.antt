@@ -6,8 +6,10 @@ mod Feeding
 mod Meeting
 mod OneEnding
 mod OneManoeuvre
+mod OneOwn
 mod OutcomeRows
 mod PlanText
+mod Rechecking
 mod Refusing
 mod Seeking
 mod SettledTexts

@@ -1,15 +1,24 @@
 -- What a log comes to at its end.
-use Rattle.std.proofs.Common.{ℕ, ◌≡◌, inl, inr, true, false, IsTrue, List, Option, None, Some, Ok, Err, refl, sym, subst, ◌∙◌}
+use Rattle.std.proofs.Common.{ℕ, ◌≡◌, inl, inr, Bool, true, false, IsTrue, List, [], Option, None, Some, Ok, Err, refl, sym, ap, subst, subst₂, ◌∙◌}
 use Rattle.situations.specs.declared.readiness.Unready.{Unready}
 use Rattle.scenario.specs.declared.values.Scenario.{Scenario}
 use Rattle.log_lines.specs.JudgedLines.{is_crowded}
 use Rattle.log_lines.specs.LogLines.{lines_of}
 use Rattle.command_line.specs.declared.mode.Mode.{Mode}
 use Rattle.command_line.specs.declared.mode.Mode.TheVariants as mode
-use Rattle.sessions.specs.Endings.{Came, First, MeetsTargetLimit, HasManyTraces, HasNoManoeuvre, IsAnswerTo, Unless, unready_of}
+use Rattle.rechecks.specs.CheckedRows.{IsFirstBadRow, why_rows}
+use Rattle.rechecks.proofs.ForCallers.{one_index}
+use Rattle.scenario.specs.declared.own_part.OwnPart.{OwnPart}
+use Rattle.settling.specs.ScenarioAudit.{audit_numbers}
+use Rattle.situations.specs.declared.readiness.Ready.{Ready}
+use Rattle.traces.specs.ManyTraces.{HaveMoreThan}
+use Rattle.traces.specs.declared.all_traces.TheConstants.{MOST_TRACES}
+use Rattle.sessions.specs.AuditReport.{sightings_of}
+use Rattle.sessions.specs.Endings.{Came, First, FirstOf, MeetsTargetLimit, HasBadEntry, HasManyTraces, HasNoManoeuvre, IsAnswerOf, OfOwn, Unless, unready_of}
+use Rattle.sessions.specs.Modes.{Look, OfOwnShip, OfTicks, WhereChecked, each_line, each_tick, look_of, needs_rows, nothing, own_ship}
+use Rattle.sessions.specs.PlanReport.{IsOwn, situation_on}
+use Rattle.sessions.proofs.OneOwn.{one_own, one_ready}
 use Rattle.sessions.specs.declared.session_fault.SessionFault.TheVariants as fault
-
--- ---- there is one answer
 
 pub first_once : (Stands : Type 0) (here : Came) (Else : Came → Type 0) (a b : Came)
     → ((x y : Came) → Else x → Else y → x ≡ y) → First Stands here Else a → First Stands here Else b → a ≡ b
@@ -18,75 +27,129 @@ first_once Stands here Else a b once (inl (stands, is)) (inr (not, _)) = absurd 
 first_once Stands here Else a b once (inr (not, _)) (inl (stands, _)) = absurd (not stands)
 first_once Stands here Else a b once (inr (_, else)) (inr (_, else')) = once a b else else'
 
+-- ---- the first bad entry is one
+
+one_bad_row : (scenario : Scenario) (log rows : List ℕ) (k l : ℕ) → OfOwn scenario log (λ own ready. IsFirstBadRow (situation_on scenario log own ready) (why_rows rows) k)
+    → OfOwn scenario log (λ own ready. IsFirstBadRow (situation_on scenario log own ready) (why_rows rows) l) → k ≡ l
+one_bad_row scenario log rows k l (own, ready, is, bad) (own', ready', is', bad') =
+    let same : own ≡ own' = one_own scenario log own own' ready ready' is is' in
+    let is-own' : IsOwn scenario log own ready' = subst (λ (o : OwnPart). IsOwn scenario log o ready') (sym same) is' in
+    let same-ready : ready ≡ ready' = one_ready scenario log own ready ready' is is-own' in
+    let there : IsFirstBadRow (situation_on scenario log own ready) (why_rows rows) l =
+    subst₂ (λ (o : OwnPart) (r : Ready). IsFirstBadRow (situation_on scenario log o r) (why_rows rows) l) (sym same) (sym same-ready) bad' in
+    one_index (situation_on scenario log own ready) (why_rows rows) k l bad there
+
+one_bad_entry : (look : Look) (checks : Bool) (rows : List ℕ) (scenario : Scenario) (log : List ℕ) (k l : ℕ)
+    → OfOwnShip look (WhereChecked checks (OfOwn scenario log (λ own ready. IsFirstBadRow (situation_on scenario log own ready) (why_rows rows) k)))
+    → OfOwnShip look (WhereChecked checks (OfOwn scenario log (λ own ready. IsFirstBadRow (situation_on scenario log own ready) (why_rows rows) l))) → k ≡ l
+one_bad_entry own_ship true rows scenario log k l a b = one_bad_row scenario log rows k l a b
+one_bad_entry own_ship false rows scenario log k l a b = absurd a
+one_bad_entry each_line checks rows scenario log k l a b = absurd a
+one_bad_entry each_tick checks rows scenario log k l a b = absurd a
+one_bad_entry nothing checks rows scenario log k l a b = absurd a
+
+-- ---- there is one answer
+
 unless_once : (o : Option Unready) (Else : Came → Type 0) (a b : Came) → ((x y : Came) → Else x → Else y → x ≡ y) → Unless o Else a → Unless o Else b → a ≡ b
 unless_once None Else a b once x y = once a b x y
 unless_once (Some why) Else a b once x y = x ∙ sym y
 
-module _ (mode : Mode) (scenario : Scenario) (log : List ℕ) where
+pub first_of_once : (Stands : ℕ → Type 0) (here : ℕ → Came) (Else : Came → Type 0) (a b : Came) → ((k l : ℕ) → Stands k → Stands l → k ≡ l)
+    → ((x y : Came) → Else x → Else y → x ≡ y) → FirstOf Stands here Else a → FirstOf Stands here Else b → a ≡ b
+first_of_once Stands here Else a b one once (inl (k, stands, is)) (inl (l, stands', is')) = is ∙ (ap here (one k l stands stands') ∙ sym is')
+first_of_once Stands here Else a b one once (inl (k, stands, is)) (inr (not, _)) = absurd (not k stands)
+first_of_once Stands here Else a b one once (inr (not, _)) (inl (k, stands, is)) = absurd (not k stands)
+first_of_once Stands here Else a b one once (inr (_, else)) (inr (_, else')) = once a b else else'
+
+abbrev pub reported : Came → Type 0
+reported came = came ≡ Ok false
+
+abbrev pub entry_fault : ℕ → Came
+entry_fault k = Err (fault.Entry k)
+
+module _ (m : Mode) (rows : List ℕ) (scenario : Scenario) (log : List ℕ) where
   -- what comes behind each test
 
+  abbrev pub behind_search : Came → Type 0
+  behind_search = FirstOf (HasBadEntry m rows scenario log) entry_fault reported
+
   abbrev pub behind_targets : Came → Type 0
-  behind_targets = First (HasNoManoeuvre mode scenario log) (Ok true) (λ (came : Came). came ≡ Ok false)
+  behind_targets = First (HasNoManoeuvre m scenario log) (Ok true) behind_search
 
   abbrev pub behind_own : Came → Type 0
-  behind_own = First (MeetsTargetLimit mode scenario log) (Err fault.Targets) behind_targets
+  behind_own = First (MeetsTargetLimit m scenario log) (Err fault.Targets) behind_targets
 
   abbrev pub behind_traces : Came → Type 0
-  behind_traces = Unless (unready_of mode scenario log) behind_own
+  behind_traces = Unless (unready_of m scenario log) behind_own
 
   abbrev pub behind_vessels : Came → Type 0
-  behind_vessels = First (HasManyTraces mode scenario log) (Err fault.Pairs) behind_traces
+  behind_vessels = First (HasManyTraces m scenario log) (Err fault.Pairs) behind_traces
 
-  pub one_answer_to : (a b : Came) → IsAnswerTo mode scenario log a → IsAnswerTo mode scenario log b → a ≡ b
+  pub one_answer_to : (a b : Came) → IsAnswerOf m rows scenario log a → IsAnswerOf m rows scenario log b → a ≡ b
   one_answer_to a b =
       first_once (IsTrue (is_crowded scenario (lines_of log))) (Err fault.Vessels) behind_vessels a b
-      (λ c d. first_once (HasManyTraces mode scenario log) (Err fault.Pairs) behind_traces c d
-      (λ e f. unless_once (unready_of mode scenario log) behind_own e f
-      (λ g h. first_once (MeetsTargetLimit mode scenario log) (Err fault.Targets) behind_targets g h
-      (λ i j. first_once (HasNoManoeuvre mode scenario log) (Ok true) (λ (came : Came). came ≡ Ok false) i j (λ k l is is'. is ∙ sym is')))))
+      (λ c d. first_once (HasManyTraces m scenario log) (Err fault.Pairs) behind_traces c d
+      (λ e f. unless_once (unready_of m scenario log) behind_own e f
+      (λ g h. first_once (MeetsTargetLimit m scenario log) (Err fault.Targets) behind_targets g h
+      (λ i j. first_once (HasNoManoeuvre m scenario log) (Ok true) behind_search i j
+      (λ k l. first_of_once (HasBadEntry m rows scenario log) entry_fault reported k l (one_bad_entry (look_of m) (needs_rows m) rows scenario log) (λ x y is is'. is ∙ sym is'))))))
 
 -- ---- the answers to lines
 
 not_crowded : (scenario : Scenario) (log : List ℕ) → is_crowded scenario (lines_of log) ≡ false → IsTrue (is_crowded scenario (lines_of log)) → ⊥
 not_crowded scenario log calm crowded = cc (calm, crowded)
 
-pub crowded_answer : (mode : Mode) (scenario : Scenario) (log : List ℕ) → IsTrue (is_crowded scenario (lines_of log))
-    → IsAnswerTo mode scenario log (Err fault.Vessels)
-crowded_answer mode scenario log crowded = inl (crowded, refl)
+pub crowded_answer : (m : Mode) (rows : List ℕ) (scenario : Scenario) (log : List ℕ) → IsTrue (is_crowded scenario (lines_of log))
+    → IsAnswerOf m rows scenario log (Err fault.Vessels)
+crowded_answer m rows scenario log crowded = inl (crowded, refl)
+
+no_entry : (m : Mode) (rows : List ℕ) (scenario : Scenario) (log : List ℕ) → ((k : ℕ) → ¬ HasBadEntry m rows scenario log k) → behind_search m rows scenario log (Ok false)
+no_entry m rows scenario log none = inr (none, refl)
 
 module _ (scenario : Scenario) (log : List ℕ) (calm : is_crowded scenario (lines_of log) ≡ false) where
-  pub points_done : IsAnswerTo mode.Points scenario log (Ok false)
-  points_done = inr (not_crowded scenario log calm, inr (λ x. x, inr (λ x. x, inr (λ x. x, refl))))
+  pub points_done : IsAnswerOf mode.Points [] scenario log (Ok false)
+  points_done = inr (not_crowded scenario log calm, inr (λ x. x, inr (λ x. x, inr (λ x. x, no_entry mode.Points [] scenario log (λ k x. x)))))
 
-  pub too_many_traces : HasManyTraces mode.Audit scenario log → IsAnswerTo mode.Audit scenario log (Err fault.Pairs)
+  pub too_many_traces : HasManyTraces mode.Audit scenario log → IsAnswerOf mode.Audit [] scenario log (Err fault.Pairs)
   too_many_traces many = inr (not_crowded scenario log calm, inl (many, refl))
 
-  pub audit_done : ¬ HasManyTraces mode.Audit scenario log → IsAnswerTo mode.Audit scenario log (Ok false)
-  audit_done few = inr (not_crowded scenario log calm, inr (few, inr (λ x. x, inr (λ x. x, refl))))
+  pub audit_done : ¬ HasManyTraces mode.Audit scenario log → IsAnswerOf mode.Audit [] scenario log (Ok false)
+  audit_done few = inr (not_crowded scenario log calm, inr (few, inr (λ x. x, inr (λ x. x, no_entry mode.Audit [] scenario log (λ k x. x)))))
 
-  pub too_many_drilled : HasManyTraces mode.Drill scenario log → IsAnswerTo mode.Drill scenario log (Err fault.Pairs)
+  pub too_many_drilled : HasManyTraces mode.Drill scenario log → IsAnswerOf mode.Drill [] scenario log (Err fault.Pairs)
   too_many_drilled many = inr (not_crowded scenario log calm, inl (many, refl))
 
-  pub drill_done : ¬ HasManyTraces mode.Drill scenario log → IsAnswerTo mode.Drill scenario log (Ok false)
-  drill_done few = inr (not_crowded scenario log calm, inr (few, inr (λ x. x, inr (λ x. x, refl))))
+  pub drill_done : ¬ HasManyTraces mode.Drill scenario log → IsAnswerOf mode.Drill [] scenario log (Ok false)
+  drill_done few = inr (not_crowded scenario log calm, inr (few, inr (λ x. x, inr (λ x. x, no_entry mode.Drill [] scenario log (λ k x. x)))))
 
-  behind_lines : (came : Came) → behind_traces mode.Plan scenario log came → IsAnswerTo mode.Plan scenario log came
-  behind_lines came is = inr (not_crowded scenario log calm, inr (λ x. x, is))
+  -- ---- where own ship is looked at
 
-  pub own_unready : (why : Unready) → unready_of mode.Plan scenario log ≡ Some why → IsAnswerTo mode.Plan scenario log (Err (fault.Own why))
-  own_unready why is =
-      behind_lines (Err (fault.Own why))
-      (subst (λ (o : Option Unready). Unless o (behind_own mode.Plan scenario log) (Err (fault.Own why))) (sym is) refl)
+  module _ (m : Mode) (rows : List ℕ) (looks : look_of m ≡ own_ship) where
+    no_traces : ¬ HasManyTraces m scenario log
+    no_traces many = subst (λ (look : Look). OfTicks look (HaveMoreThan MOST_TRACES (audit_numbers scenario) (sightings_of scenario log))) looks many
 
-  module _ (ready : unready_of mode.Plan scenario log ≡ None) where
-    behind_readiness : (came : Came) → behind_own mode.Plan scenario log came → IsAnswerTo mode.Plan scenario log came
-    behind_readiness came is = behind_lines came (subst (λ (o : Option Unready). Unless o (behind_own mode.Plan scenario log) came) (sym ready) is)
+    behind_lines : (came : Came) → behind_traces m rows scenario log came → IsAnswerOf m rows scenario log came
+    behind_lines came is = inr (not_crowded scenario log calm, inr (no_traces, is))
 
-    pub too_many_targets : MeetsTargetLimit mode.Plan scenario log → IsAnswerTo mode.Plan scenario log (Err fault.Targets)
-    too_many_targets many = behind_readiness (Err fault.Targets) (inl (many, refl))
+    pub own_unready : (why : Unready) → unready_of m scenario log ≡ Some why → IsAnswerOf m rows scenario log (Err (fault.Own why))
+    own_unready why is =
+        behind_lines (Err (fault.Own why))
+        (subst (λ (o : Option Unready). Unless o (behind_own m rows scenario log) (Err (fault.Own why))) (sym is) refl)
 
-    pub no_manoeuvre : ¬ MeetsTargetLimit mode.Plan scenario log → HasNoManoeuvre mode.Plan scenario log → IsAnswerTo mode.Plan scenario log (Ok true)
-    no_manoeuvre few none = behind_readiness (Ok true) (inr (few, inl (none, refl)))
+    module _ (ready : unready_of m scenario log ≡ None) where
+      behind_readiness : (came : Came) → behind_own m rows scenario log came → IsAnswerOf m rows scenario log came
+      behind_readiness came is = behind_lines came (subst (λ (o : Option Unready). Unless o (behind_own m rows scenario log) came) (sym ready) is)
 
-    pub a_manoeuvre : ¬ MeetsTargetLimit mode.Plan scenario log → ¬ HasNoManoeuvre mode.Plan scenario log → IsAnswerTo mode.Plan scenario log (Ok false)
-    a_manoeuvre few some = behind_readiness (Ok false) (inr (few, inr (some, refl)))
+      pub too_many_targets : MeetsTargetLimit m scenario log → IsAnswerOf m rows scenario log (Err fault.Targets)
+      too_many_targets many = behind_readiness (Err fault.Targets) (inl (many, refl))
+
+      module _ (few : ¬ MeetsTargetLimit m scenario log) where
+        pub no_manoeuvre : HasNoManoeuvre m scenario log → IsAnswerOf m rows scenario log (Ok true)
+        no_manoeuvre none = behind_readiness (Ok true) (inr (few, inl (none, refl)))
+
+        module _ (some : ¬ HasNoManoeuvre m scenario log) where
+          pub a_bad_entry : (k : ℕ) → HasBadEntry m rows scenario log k → IsAnswerOf m rows scenario log (Err (fault.Entry k))
+          a_bad_entry k bad = behind_readiness (Err (fault.Entry k)) (inr (few, inr (some, inl (k, bad, refl))))
+
+          pub a_report : ((k : ℕ) → ¬ HasBadEntry m rows scenario log k) → IsAnswerOf m rows scenario log (Ok false)
+          a_report none = behind_readiness (Ok false) (inr (few, inr (some, inr (none, refl))))

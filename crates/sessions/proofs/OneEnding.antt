@@ -2,12 +2,15 @@
 use Rattle.std.proofs.Common.{ℕ, ◌≡◌, ◌<◌, Bool, true, false, List, ◌++◌, Option, Some, None, sym, ap, ap₂, subst, subst₂, ◌∙◌}
 use Rattle.std.specs.Prelude.{flat_map}
 use Rattle.std.specs.List.{AllPairs}
+use Rattle.audit_report.specs.CsvRows.{row_of}
+use Rattle.audit_report.specs.ReportRows.{no_plan_fields}
 use Rattle.audit_rows.specs.declared.row.Row.{Row}
 use Rattle.auditor.specs.declared.total.Total.{Total}
 use Rattle.auditor.specs.AuditTotals.{AreTotals}
 use Rattle.auditor.proofs.ForCallers.{one_list_of_rows, one_list_of_totals}
 use Rattle.scenario.specs.declared.values.Scenario.{Scenario}
 use Rattle.sessions.specs.AuditReport.{IsAuditReport, rows_behind, sightings_of, stretch_rows}
+use Rattle.lattice.specs.Grids.{plans_of}
 use Rattle.log_lines.specs.JudgedLines.{numbers_of}
 use Rattle.refutations.specs.EntryRows.{entry_text}
 use Rattle.refutations.proofs.ForCallers.{one_list}
@@ -18,9 +21,11 @@ use Rattle.situations.specs.declared.readiness.Ready.{Ready}
 use Rattle.scenario.specs.declared.own_part.OwnPart.{OwnPart}
 use Rattle.sessions.specs.DrillReport.{IsDrillReport, drill_text}
 use Rattle.sessions.specs.Endings.{IsEnding, IsReport}
-use Rattle.sessions.specs.declared.task.Task.{Task}
+use Rattle.sessions.specs.Tasks.{Task}
 use Rattle.sessions.specs.PlanReport.{AreReasons, IsManoeuvre, IsOwn, IsPlanReport, log_messages, plan_text, situation_on}
+use Rattle.sessions.specs.RecheckReport.{IsRecheckReport}
 use Rattle.sessions.proofs.OneManoeuvre.{one_manoeuvre}
+use Rattle.sessions.proofs.OneOwn.{one_own, one_ready}
 use Rattle.command_line.specs.declared.mode.Mode.{Mode}
 use Rattle.command_line.specs.declared.mode.Mode.TheVariants as mode
 use Rattle.settling.specs.ScenarioAudit.{audit_numbers}
@@ -44,13 +49,6 @@ one_drill_report scenario log text other a b =
     let totals : a.totals ≡ b.totals =
     one_list_of_totals numbers ticks a.rows a.totals b.totals a.are_totals (subst (λ (rs : List Row). AreTotals numbers ticks rs b.totals) (sym rows) b.are_totals) in
     a.is ∙ ap (drill_text scenario log) totals ∙ sym b.is
-
--- Own ship is one, and what she is planned from.
-one_own : (scenario : Scenario) (log : List ℕ) (own own' : OwnPart) (ready ready' : Ready) → IsOwn scenario log own ready → IsOwn scenario log own' ready' → own ≡ own'
-one_own scenario log own own' ready ready' a b = cc (a.needed, b.needed)
-
-one_ready : (scenario : Scenario) (log : List ℕ) (own : OwnPart) (ready ready' : Ready) → IsOwn scenario log own ready → IsOwn scenario log own ready' → ready ≡ ready'
-one_ready scenario log own ready ready' a b = cc (a.is_ready, b.is_ready)
 
 -- Why every plan fails is told by one text.
 one_reasons : (why : Bool) (s : Situation) → AllPairs (λ (a b : Target). a.mmsi < b.mmsi) s.targets → (manoeuvre : Option (List ℕ)) (text other : List ℕ)
@@ -79,12 +77,19 @@ one_plan_report why scenario log text other a b =
     ∙ (ap₂ (λ (o : OwnPart) (r : Ready). plan_text scenario log o r b.manoeuvre ++ b.reasons) own ready
     ∙ sym b.is))
 
-one_report : (m : Mode) (why : Bool) (scenario : Scenario) (log text other : List ℕ) → IsReport m why scenario log text → IsReport m why scenario log other → text ≡ other
-one_report mode.Points why scenario log text other a b = a ∙ sym b
-one_report mode.Audit why scenario log text other a b = one_audit_report scenario log text other a b
-one_report mode.Plan why scenario log text other a b = one_plan_report why scenario log text other a b
-one_report mode.Drill why scenario log text other a b = one_drill_report scenario log text other a b
-one_report mode.Migrate why scenario log text other a b = absurd a
+one_recheck_report : (rows : List ℕ) (scenario : Scenario) (log text other : List ℕ) → IsRecheckReport rows scenario log text → IsRecheckReport rows scenario log other → text ≡ other
+one_recheck_report rows scenario log text other a b =
+    let own : a.own ≡ b.own = one_own scenario log a.own b.own a.ready b.ready a.is_own b.is_own in
+    a.is ∙ (ap (λ (o : OwnPart). row_of (no_plan_fields (plans_of o.lattice))) own ∙ sym b.is)
+
+one_report : (m : Mode) (why : Bool) (rows : List ℕ) (scenario : Scenario) (log text other : List ℕ) → IsReport m why rows scenario log text
+    → IsReport m why rows scenario log other → text ≡ other
+one_report mode.Points why rows scenario log text other a b = a ∙ sym b
+one_report mode.Audit why rows scenario log text other a b = one_audit_report scenario log text other a b
+one_report mode.Plan why rows scenario log text other a b = one_plan_report why scenario log text other a b
+one_report mode.Drill why rows scenario log text other a b = one_drill_report scenario log text other a b
+one_report mode.Migrate why rows scenario log text other a b = absurd a
+one_report mode.Recheck why rows scenario log text other a b = one_recheck_report rows scenario log text other a b
 
 pub one_ending : (task : Task) (scenario : Scenario) (log text other : List ℕ) → IsEnding task scenario log text → IsEnding task scenario log other → text ≡ other
-one_ending task = one_report task.mode task.why
+one_ending task = one_report task.mode task.why task.rows

@@ -1,5 +1,5 @@
 -- Refusals, and the places where they stand.
-use Rattle.std.proofs.Common.{ℕ, zero, suc, ◌≡◌, ◌+◌, ◌-◌, ◌<◌, ◌≤◌, inl, inr, Bool, true, false, ◌||◌, IsTrue, List, [], ◌∷◌, ◌++◌, length, take, drop, nat_lt, Option, Some, None, Ok, Err, refl, sym, ap, subst, ◌∙◌, arith, length-append}
+use Rattle.std.proofs.Common.{ℕ, zero, suc, ◌≡◌, ◌+◌, ◌-◌, ◌<◌, ◌≤◌, inl, inr, Bool, true, false, ◌||◌, IsTrue, List, [], ◌∷◌, ◌++◌, length, take, drop, nat_lt, Option, Some, None, Err, refl, sym, ap, subst, ◌∙◌, arith, length-append}
 use Rattle.std.proofs.lemmas.Bool.{cases_lt}
 use Rattle.std.proofs.lemmas.List.{length-take, length-take-le, take-append-drop, take-append-le, take_all}
 use Rattle.std.proofs.lemmas.List.Elements.{All-take}
@@ -9,20 +9,22 @@ use Rattle.log_lines.specs.GrowingLog.{ended_lines}
 use Rattle.log_lines.specs.EachLine.{each_after}
 use Rattle.log_lines.specs.JudgedLines.{greatest_held, held_behind, is_crowded, numbers_of}
 use Rattle.log_lines.specs.LogLines.{is_line_feed}
+use Rattle.rechecks.specs.CheckedRows.{IsFirstBadRow, why_rows}
 use Rattle.scenario.specs.declared.values.Scenario.{Scenario}
 use Rattle.settling.specs.ManySettled.{HaveManySettled}
 use Rattle.log_lines.specs.Pieces.{IsPiece}
 use Rattle.command_line.specs.declared.mode.Mode.{Mode}
 use Rattle.situations.specs.PlanSituations.{greatest_targets, targets_near}
 use Rattle.situations.specs.declared.readiness.Unready.{Unready}
-use Rattle.sessions.specs.Endings.{Came, First, MeetsTargetLimit, HasNoManoeuvre, IsAnswerTo, OfOwn, Unless, lack_by, unready_of}
-use Rattle.sessions.specs.Modes.{Look, OfOwnShip, OfTicks, each_line, each_tick, early_by, early_look, look_of, manner_of, nothing, own_ship}
-use Rattle.sessions.specs.PlanReport.{log_messages}
+use Rattle.sessions.specs.Endings.{Came, First, HasBadEntry, MeetsTargetLimit, IsAnswerOf, OfOwn, Unless, lack_by, unready_of}
+use Rattle.sessions.specs.Modes.{Look, OfOwnShip, OfTicks, WhereChecked, each_line, each_tick, early_by, early_look, look_of, manner_of, needs_rows, nothing, own_ship}
+use Rattle.sessions.specs.PlanReport.{log_messages, situation_on}
 use Rattle.sessions.specs.Refusals.{HasManySettled, IsMet, IsLogRefused, IsRefusedAt, IsStopped, IsUnrefused}
 use Rattle.sessions.specs.SettledText.{IsDecidedBy, IsDecidedText, IsSettledText}
+use Rattle.sessions.specs.Tasks.{Task}
 use Rattle.sessions.specs.declared.session_fault.SessionFault.{SessionFault}
 use Rattle.sessions.specs.declared.session_fault.SessionFault.TheVariants as fault
-use Rattle.sessions.proofs.Meeting.{first_once, one_answer_to}
+use Rattle.sessions.proofs.Meeting.{behind_own, entry_fault, first_once, one_answer_to}
 use Rattle.sessions.proofs.Working.{nothing_refused}
 
 -- ---- what a front has, longer ones have
@@ -118,11 +120,12 @@ module _ (stay : EndedStay) (settle : ManyStay) (m : Mode) (scenario : Scenario)
   never : (log : List ℕ) (p : ℕ) (a : Came) → IsRefusedAt m scenario log p a → IsUnrefused m scenario log → ⊥
   never log p a at un = not_both m scenario (take p log) a (first_unrefused log p un) at.here
 
-  pub one_met : (log : List ℕ) (a b : Came) → IsMet m scenario log a → IsMet m scenario log b → a ≡ b
-  one_met log a b (inl at) (inl at') = one_place log at.0 at'.0 a b at.1 at'.1
-  one_met log a b (inl at) (inr end) = absurd (never log at.0 a at.1 end.0)
-  one_met log a b (inr end) (inl at) = absurd (never log at.0 b at.1 end.0)
-  one_met log a b (inr end) (inr end') = one_answer_to m scenario log a b end.1 end'.1
+  pub one_met_in : (why : Bool) (rows log : List ℕ) (a b : Came) → IsMet (record { mode = m; why = why; rows = rows }) scenario log a
+      → IsMet (record { mode = m; why = why; rows = rows }) scenario log b → a ≡ b
+  one_met_in why rows log a b (inl at) (inl at') = one_place log at.0 at'.0 a b at.1 at'.1
+  one_met_in why rows log a b (inl at) (inr end) = absurd (never log at.0 a at.1 end.0)
+  one_met_in why rows log a b (inr end) (inl at) = absurd (never log at.0 b at.1 end.0)
+  one_met_in why rows log a b (inr end) (inr end') = one_answer_to m rows scenario log a b end.1 end'.1
 
   -- ---- a piece without a line feed but at its end
 
@@ -206,6 +209,9 @@ module _ (stay : EndedStay) (settle : ManyStay) (m : Mode) (scenario : Scenario)
           → HasManySettled m scenario (ended_lines (fed ++ piece)) → IsStopped m scenario (fed ++ piece) fault.Pairs text
       stopped_pairs short calm many = at_end fault.Pairs short (inr ((λ long. absurd (omega arith)), inr ((λ crowded. cc (crowded, calm)), inl (many, refl))))
 
+pub one_met : EndedStay → ManyStay → (task : Task) (scenario : Scenario) (log : List ℕ) (a b : Came) → IsMet task scenario log a → IsMet task scenario log b → a ≡ b
+one_met stay settle task scenario = one_met_in stay settle task.mode scenario task.why task.rows
+
 -- ---- more of the log
 
 same_takes : (log more : List ℕ) (p place : ℕ) → p ≤ place → place ≤ length log → take p (log ++ more) ≡ take p log
@@ -265,44 +271,69 @@ targets_not_refused m scenario front (inr (short, inr (calm, inr (few, none)))) 
 pub targets_not_stopped : (m : Mode) (scenario : Scenario) (log text : List ℕ) → IsStopped m scenario log fault.Targets text → ⊥
 targets_not_stopped m scenario log text is = targets_not_refused m scenario (take is.place log) is.refused.here
 
+entry_not_refused : (m : Mode) (scenario : Scenario) (front : List ℕ) (k : ℕ) → IsLogRefused m scenario front (Err (fault.Entry k)) → ⊥
+entry_not_refused m scenario front k (inl (long, same)) = cc same
+entry_not_refused m scenario front k (inr (short, inl (crowded, same))) = cc same
+entry_not_refused m scenario front k (inr (short, inr (calm, inl (many, same)))) = cc same
+entry_not_refused m scenario front k (inr (short, inr (calm, inr (few, none)))) = none
+
+pub entry_not_stopped : (m : Mode) (scenario : Scenario) (log : List ℕ) (k : ℕ) (text : List ℕ) → IsStopped m scenario log (fault.Entry k) text → ⊥
+entry_not_stopped m scenario log k text is = entry_not_refused m scenario (take is.place log) k is.refused.here
+
 -- The limit of bytes is met before a log's end.
-pub bytes_not_at_end : (m : Mode) (scenario : Scenario) (log : List ℕ) → IsAnswerTo m scenario log (Err fault.LogBytes) → ⊥
-bytes_not_at_end m scenario log (inl (crowded, same)) = cc same
-bytes_not_at_end m scenario log (inr (calm, inl (many, same))) = cc same
-bytes_not_at_end m scenario log (inr (calm, inr (few, own))) = behind (unready_of m scenario log) own
+pub bytes_not_at_end : (m : Mode) (rows : List ℕ) (scenario : Scenario) (log : List ℕ) → IsAnswerOf m rows scenario log (Err fault.LogBytes) → ⊥
+bytes_not_at_end m rows scenario log (inl (crowded, same)) = cc same
+bytes_not_at_end m rows scenario log (inr (calm, inl (many, same))) = cc same
+bytes_not_at_end m rows scenario log (inr (calm, inr (few, own))) = behind (unready_of m scenario log) own
   where
-    behind : (lack : Option Unready) → Unless lack
-        (First (MeetsTargetLimit m scenario log) (Err fault.Targets) (First (HasNoManoeuvre m scenario log) (Ok true) (λ (came : Came). came ≡ Ok false))) (Err fault.LogBytes) → ⊥
+    behind : (lack : Option Unready) → Unless lack (behind_own m rows scenario log) (Err fault.LogBytes) → ⊥
     behind (Some why) same = cc same
     behind None (inl (many, same)) = cc same
     behind None (inr (few, inl (none, same))) = cc same
-    behind None (inr (few, inr (some, same))) = cc same
+    behind None (inr (few, inr (some, inl (k, bad, same)))) = cc same
+    behind None (inr (few, inr (some, inr (none, same)))) = cc same
 
--- ---- own ship is planned for alone
+-- ---- own ship is looked at alone
 
-own_needed : (m : Mode) (scenario : Scenario) (log : List ℕ) (lack : Unready) → unready_of m scenario log ≡ None → IsAnswerTo m scenario log (Err (fault.Own lack)) → ⊥
-own_needed m scenario log lack none (inl (crowded, same)) = cc same
-own_needed m scenario log lack none (inr (calm, inl (many, same))) = cc same
-own_needed m scenario log lack none (inr (calm, inr (few, own))) =
-    behind (subst (λ (o : Option Unready). Unless o
-    (First (MeetsTargetLimit m scenario log) (Err fault.Targets) (First (HasNoManoeuvre m scenario log) (Ok true) (λ (came : Came). came ≡ Ok false))) (Err (fault.Own lack))) none own)
+own_needed : (m : Mode) (rows : List ℕ) (scenario : Scenario) (log : List ℕ) (lack : Unready) → unready_of m scenario log ≡ None
+    → IsAnswerOf m rows scenario log (Err (fault.Own lack)) → ⊥
+own_needed m rows scenario log lack none (inl (crowded, same)) = cc same
+own_needed m rows scenario log lack none (inr (calm, inl (many, same))) = cc same
+own_needed m rows scenario log lack none (inr (calm, inr (few, own))) =
+    behind (subst (λ (o : Option Unready). Unless o (behind_own m rows scenario log) (Err (fault.Own lack))) none own)
   where
-    behind : First (MeetsTargetLimit m scenario log) (Err fault.Targets) (First (HasNoManoeuvre m scenario log) (Ok true) (λ (came : Came). came ≡ Ok false)) (Err (fault.Own lack)) → ⊥
+    behind : behind_own m rows scenario log (Err (fault.Own lack)) → ⊥
     behind (inl (many, same)) = cc same
     behind (inr (few, inl (none, same))) = cc same
-    behind (inr (few, inr (some, same))) = cc same
+    behind (inr (few, inr (some, inl (k, bad, same)))) = cc same
+    behind (inr (few, inr (some, inr (none, same)))) = cc same
 
-targets_needed : (m : Mode) (scenario : Scenario) (log : List ℕ) → ¬ MeetsTargetLimit m scenario log → IsAnswerTo m scenario log (Err fault.Targets) → ⊥
-targets_needed m scenario log few (inl (crowded, same)) = cc same
-targets_needed m scenario log few (inr (calm, inl (many, same))) = cc same
-targets_needed m scenario log few (inr (calm, inr (traces, own))) = behind (unready_of m scenario log) own
+targets_needed : (m : Mode) (rows : List ℕ) (scenario : Scenario) (log : List ℕ) → ¬ MeetsTargetLimit m scenario log → IsAnswerOf m rows scenario log (Err fault.Targets) → ⊥
+targets_needed m rows scenario log few (inl (crowded, same)) = cc same
+targets_needed m rows scenario log few (inr (calm, inl (many, same))) = cc same
+targets_needed m rows scenario log few (inr (calm, inr (traces, own))) = behind (unready_of m scenario log) own
   where
-    behind : (lack : Option Unready) → Unless lack
-        (First (MeetsTargetLimit m scenario log) (Err fault.Targets) (First (HasNoManoeuvre m scenario log) (Ok true) (λ (came : Came). came ≡ Ok false))) (Err fault.Targets) → ⊥
+    behind : (lack : Option Unready) → Unless lack (behind_own m rows scenario log) (Err fault.Targets) → ⊥
     behind (Some why) same = cc same
     behind None (inl (many, same)) = few many
     behind None (inr (not, inl (none, same))) = cc same
-    behind None (inr (not, inr (some, same))) = cc same
+    behind None (inr (not, inr (some, inl (k, bad, same)))) = cc same
+    behind None (inr (not, inr (some, inr (none, same)))) = cc same
+
+entry_needed : (m : Mode) (rows : List ℕ) (scenario : Scenario) (log : List ℕ) (k : ℕ) → ¬ HasBadEntry m rows scenario log k → IsAnswerOf m rows scenario log (Err (fault.Entry k)) → ⊥
+entry_needed m rows scenario log k good (inl (crowded, same)) = cc same
+entry_needed m rows scenario log k good (inr (calm, inl (many, same))) = cc same
+entry_needed m rows scenario log k good (inr (calm, inr (traces, own))) = behind (unready_of m scenario log) own
+  where
+    told : (l : ℕ) → HasBadEntry m rows scenario log l → entry_fault k ≡ entry_fault l → ⊥
+    told l bad same = let is : k ≡ l = cc same in good (subst (HasBadEntry m rows scenario log) (sym is) bad)
+
+    behind : (lack : Option Unready) → Unless lack (behind_own m rows scenario log) (Err (fault.Entry k)) → ⊥
+    behind (Some why) same = cc same
+    behind None (inl (many, same)) = cc same
+    behind None (inr (not, inl (none, same))) = cc same
+    behind None (inr (not, inr (some, inl (l, bad, same)))) = told l bad same
+    behind None (inr (not, inr (some, inr (none, same)))) = cc same
 
 -- Where own ship is looked at, nothing is settled.
 nothing_by : (look : Look) (early : Bool) (scenario : Scenario) (lines : List (List ℕ)) (log text : List ℕ) → IsDecidedBy (early_by look early) scenario lines text
@@ -320,13 +351,21 @@ nothing_towards own_ship early scenario lines text P settled own = settled
 nothing_towards nothing early scenario lines text P settled own = absurd (own (λ x. x))
 
 -- Where own ship cannot be planned for, nothing is settled.
-pub nothing_with_own : (m : Mode) (scenario : Scenario) (log text : List ℕ) (lack : Unready) → IsSettledText m scenario log text → IsAnswerTo m scenario log (Err (fault.Own lack))
-    → text ≡ []
-nothing_with_own m scenario log text lack settled answer =
-    nothing_by (look_of m) (manner_of m).early scenario (ended_lines log) log text settled (λ none. own_needed m scenario log lack none answer)
+pub nothing_with_own : (m : Mode) (rows : List ℕ) (scenario : Scenario) (log text : List ℕ) (lack : Unready) → IsSettledText m scenario log text
+    → IsAnswerOf m rows scenario log (Err (fault.Own lack)) → text ≡ []
+nothing_with_own m rows scenario log text lack settled answer =
+    nothing_by (look_of m) (manner_of m).early scenario (ended_lines log) log text settled (λ none. own_needed m rows scenario log lack none answer)
 
-pub nothing_with_targets : (m : Mode) (scenario : Scenario) (log text : List ℕ) → IsSettledText m scenario log text → IsAnswerTo m scenario log (Err fault.Targets) → text ≡ []
-nothing_with_targets m scenario log text settled answer =
+pub nothing_with_targets : (m : Mode) (rows : List ℕ) (scenario : Scenario) (log text : List ℕ) → IsSettledText m scenario log text
+    → IsAnswerOf m rows scenario log (Err fault.Targets) → text ≡ []
+nothing_with_targets m rows scenario log text settled answer =
     nothing_towards (look_of m) (manner_of m).early scenario (ended_lines log) text
     (OfOwn scenario log (λ own ready. greatest_targets < length (targets_near (numbers_of scenario) (log_messages scenario log) scenario own ready))) settled
-    (λ few. targets_needed m scenario log few answer)
+    (λ few. targets_needed m rows scenario log few answer)
+
+pub nothing_with_entry : (m : Mode) (rows : List ℕ) (scenario : Scenario) (log text : List ℕ) (k : ℕ) → IsSettledText m scenario log text
+    → IsAnswerOf m rows scenario log (Err (fault.Entry k)) → text ≡ []
+nothing_with_entry m rows scenario log text k settled answer =
+    nothing_towards (look_of m) (manner_of m).early scenario (ended_lines log) text
+    (WhereChecked (needs_rows m) (OfOwn scenario log (λ own ready. IsFirstBadRow (situation_on scenario log own ready) (why_rows rows) k))) settled
+    (λ good. entry_needed m rows scenario log k good answer)

@@ -19,15 +19,17 @@ use Rattle.situations.specs.declared.situation.Situation.{Situation}
 use Rattle.scenario.specs.declared.own_part.OwnPart.{OwnPart}
 use Rattle.scenario.specs.declared.values.Scenario.{Scenario}
 use Rattle.tracks.specs.VesselsHeld.{Sent}
-use Rattle.sessions.specs.Endings.{MeetsTargetLimit, HasNoManoeuvre, IsAnswerTo, lack_of, lack_where, unready_of}
+use Rattle.sessions.specs.Endings.{MeetsTargetLimit, HasNoManoeuvre, IsAnswerOf, OfOwn, lack_by, lack_of, lack_where, unready_of}
 use Rattle.refutations.specs.CanonicalLists.{IsCanonical}
 use Rattle.refutations.specs.EntryRows.{entry_text}
 use Rattle.refutations.specs.declared.entry.WhyEntry.{WhyEntry}
 use Rattle.sessions.specs.PlanReport.{AreReasons, IsManoeuvre, IsOwn, manoeuvre_rows, log_messages, near_rows, situation_on}
 use Rattle.sessions.specs.Inner.Faults.{EndCause, preparing_fault}
 use Rattle.sessions.specs.Inner.PlanWriting.{AreReasonsWhere, IsSought, SoughtCause}
+use Rattle.command_line.specs.declared.mode.Mode.{Mode}
 use Rattle.command_line.specs.declared.mode.Mode.TheVariants as mode
-use Rattle.sessions.proofs.Meeting.{a_manoeuvre, no_manoeuvre, own_unready, too_many_targets}
+use Rattle.sessions.specs.Modes.{Look, OfOwnShip, look_of, own_ship}
+use Rattle.sessions.proofs.Meeting.{a_report, no_manoeuvre, own_unready, too_many_targets}
 use Rattle.sessions.proofs.OneManoeuvre.{each_fails}
 
 -- ---- own ship, where she is needed
@@ -50,21 +52,24 @@ search_cause scenario messages (prepare.Unready why) unready many = unready why 
 search_cause scenario messages prepare.TooManyTargets unready many = many refl
 search_cause scenario messages prepare.Memory unready many = tt
 
-module _ (scenario : Scenario) (log : List ℕ) (calm : is_crowded scenario (lines_of log) ≡ false) where
+module _ (scenario : Scenario) (log : List ℕ) (calm : is_crowded scenario (lines_of log) ≡ false) (m : Mode) (rows : List ℕ) (looks : look_of m ≡ own_ship) where
   -- what she lacks, by her readiness
-  lacks : (own : OwnPart) (came : Result Ready Unready) → scenario.own ≡ Some own → own_readiness (numbers_of scenario) (log_messages scenario log) scenario own ≡ came
-      → unready_of mode.Plan scenario log ≡ lack_of came
-  lacks own came is readiness = ap (lack_where scenario log) is ∙ ap lack_of readiness
+  pub lacks : (own : OwnPart) (came : Result Ready Unready) → scenario.own ≡ Some own → own_readiness (numbers_of scenario) (log_messages scenario log) scenario own ≡ came
+      → unready_of m scenario log ≡ lack_of came
+  lacks own came is readiness = ap (λ (look : Look). lack_by look scenario log) looks ∙ (ap (lack_where scenario log) is ∙ ap lack_of readiness)
 
-  pub plan_cause : IsSome scenario.own → (fault : PrepareFault) → SoughtCause scenario (log_messages scenario log) fault → EndCause mode.Plan scenario log (preparing_fault fault)
-  plan_cause some (prepare.Unready why) cause =
+  pub own_cause : IsSome scenario.own → (fault : PrepareFault) → SoughtCause scenario (log_messages scenario log) fault → EndCause m rows scenario log (preparing_fault fault)
+  own_cause some (prepare.Unready why) cause =
       let own = own_of scenario.own (λ own. own_readiness (numbers_of scenario) (log_messages scenario log) scenario own ≡ Err why) some cause in
-      own_unready scenario log calm why (lacks own.own (Err why) own.is own.holds)
-  plan_cause some prepare.TooManyTargets cause =
+      own_unready scenario log calm m rows looks why (lacks own.own (Err why) own.is own.holds)
+  own_cause some prepare.TooManyTargets cause =
       let own = own_of scenario.own (HaveManyTargets (numbers_of scenario) (log_messages scenario log) scenario) some cause in
       let (ready, is_ready, many) = own.holds in
-      too_many_targets scenario log calm (lacks own.own (Ok ready) own.is is_ready) (own.own, ready, record { needed = own.is; is_ready = is_ready }, many)
-  plan_cause some prepare.Memory cause = tt
+      let limit : OfOwnShip own_ship (OfOwn scenario log (λ own ready. greatest_targets < length (targets_near (numbers_of scenario) (log_messages scenario log) scenario own ready))) =
+      (own.own, ready, record { needed = own.is; is_ready = is_ready }, many) in
+      too_many_targets scenario log calm m rows looks (lacks own.own (Ok ready) own.is is_ready)
+      (subst (λ (look : Look). OfOwnShip look (OfOwn scenario log (λ own ready. greatest_targets < length (targets_near (numbers_of scenario) (log_messages scenario log) scenario own ready)))) (sym looks) limit)
+  own_cause some prepare.Memory cause = tt
 
 -- ---- what was sought
 
@@ -104,7 +109,7 @@ sought scenario messages front text prepared searched lattice plan told none sea
 -- ---- the answer
 
 module _ (scenario : Scenario) (log : List ℕ) (calm : is_crowded scenario (lines_of log) ≡ false) where
-  few_targets : (own : OwnPart) (ready : Ready) → IsOwn scenario log own ready → length (targets_near (numbers_of scenario) (log_messages scenario log) scenario own ready) ≤ greatest_targets
+  pub few_targets : (own : OwnPart) (ready : Ready) → IsOwn scenario log own ready → length (targets_near (numbers_of scenario) (log_messages scenario log) scenario own ready) ≤ greatest_targets
       → MeetsTargetLimit mode.Plan scenario log → ⊥
   few_targets own ready is few (own', ready', is', many) =
       let same : own ≡ own' = cc (is.needed, is'.needed) in
@@ -124,18 +129,18 @@ module _ (scenario : Scenario) (log : List ℕ) (calm : is_crowded scenario (lin
 
   answer_by : (own : OwnPart) (ready : Ready) (manoeuvre : Option (List ℕ)) (none : Bool) → IsOwn scenario log own ready
       → length (targets_near (numbers_of scenario) (log_messages scenario log) scenario own ready) ≤ greatest_targets
-      → IsManoeuvre (situation_on scenario log own ready) manoeuvre → none ≡ is_none manoeuvre → IsAnswerTo mode.Plan scenario log (Ok none)
+      → IsManoeuvre (situation_on scenario log own ready) manoeuvre → none ≡ is_none manoeuvre → IsAnswerOf mode.Plan [] scenario log (Ok none)
   answer_by own ready None none is few first told =
-      let ready-is = lacks scenario log calm own (Ok ready) is.needed is.is_ready in
-      subst (λ (b : Bool). IsAnswerTo mode.Plan scenario log (Ok b)) (sym told)
-      (no_manoeuvre scenario log calm ready-is (few_targets own ready is few) (own, ready, is, first))
+      let ready-is = lacks scenario log calm mode.Plan [] refl own (Ok ready) is.needed is.is_ready in
+      subst (λ (b : Bool). IsAnswerOf mode.Plan [] scenario log (Ok b)) (sym told)
+      (no_manoeuvre scenario log calm mode.Plan [] refl ready-is (few_targets own ready is few) (own, ready, is, first))
   answer_by own ready (Some plan) none is few first told =
-      let ready-is = lacks scenario log calm own (Ok ready) is.needed is.is_ready in
-      subst (λ (b : Bool). IsAnswerTo mode.Plan scenario log (Ok b)) (sym told)
-      (a_manoeuvre scenario log calm ready-is (few_targets own ready is few) (some_manoeuvre own ready plan is first))
+      let ready-is = lacks scenario log calm mode.Plan [] refl own (Ok ready) is.needed is.is_ready in
+      subst (λ (b : Bool). IsAnswerOf mode.Plan [] scenario log (Ok b)) (sym told)
+      (a_report scenario log calm mode.Plan [] refl ready-is (few_targets own ready is few) (some_manoeuvre own ready plan is first) (λ k bad. bad))
 
   pub plan_answer : (text : ReportText) (front : List ℕ) (searched : Situation) (none : Bool) → IsSought scenario (log_messages scenario log) text front searched none
-      → IsAnswerTo mode.Plan scenario log (Ok none)
+      → IsAnswerOf mode.Plan [] scenario log (Ok none)
   plan_answer text front searched none h = answer_by h.own h.ready h.manoeuvre none (record { needed = h.needed; is_ready = h.is_ready }) h.few h.is_first h.told
 
 pub none_is : {A : Type 0} (o : Option A) (b : Bool) → is_some o ≡ not b → b ≡ is_none o

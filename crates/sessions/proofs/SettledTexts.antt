@@ -18,7 +18,7 @@ use Rattle.command_line.specs.declared.mode.Mode.{Mode}
 use Rattle.command_line.specs.declared.mode.Mode.TheVariants as mode
 use Rattle.sessions.specs.AuditReport.{rows_behind, sightings_of, stretch_fields, stretch_rows}
 use Rattle.sessions.specs.Endings.{IsEnding, IsReport}
-use Rattle.sessions.specs.declared.task.Task.{Task}
+use Rattle.sessions.specs.Tasks.{Task}
 use Rattle.sessions.specs.Modes.{Look, each_line, each_tick, early_look, nothing, own_ship}
 use Rattle.sessions.specs.OutcomeRows.{count_rows}
 use Rattle.sessions.specs.PointsReport.{point_rows, points_report, rows_of_line}
@@ -103,23 +103,24 @@ module _ (fronts : (scenario : Scenario) (lines more : List (List ℕ)) (rows la
   -- ---- the report
 
   decided_begins : (m : Mode) (scenario : Scenario) (lines more : List (List ℕ)) (log text report : List ℕ) → lines_of log ≡ lines ++ more
-      → IsDecidedText m scenario lines text → (why : Bool) → IsReport m why scenario log report → Begins text report
+      → IsDecidedText m scenario lines text → (why : Bool) (rows : List ℕ) → IsReport m why rows scenario log report → Begins text report
   unfolding points_report sightings_of
-  decided_begins mode.Points scenario lines more log text report is a why b =
+  decided_begins mode.Points scenario lines more log text report is a why asked b =
       let rows : Begins (point_rows (judged_lines scenario lines)) (point_rows (judged_lines scenario (lines_of log))) =
       subst (λ (l : List (List ℕ)). Begins (point_rows (judged_lines scenario lines)) (point_rows (judged_lines scenario l))) (sym is) (points_begin scenario lines more) in
       begins_is text _ report (goes_on text _ (count_rows (judged_lines scenario (lines_of log))) (is_begins text _ _ a rows)) b
-  decided_begins mode.Audit scenario lines more log text report is (rows, are, told) why b =
+  decided_begins mode.Audit scenario lines more log text report is (rows, are, told) why asked b =
       let all = subst (λ (l : List (List ℕ)). AreAuditRows (audit_numbers scenario) (sighted scenario (sent scenario l)) b.rows) is b.are_rows in
       let rest = begin scenario lines more rows b.rows are all in
       begins_is text _ report (goes_on text _ (rows_behind scenario log b.totals) (is_begins text _ _ told (stretches_begin scenario rows b.rows rest.0 rest.1))) b.is
-  decided_begins mode.Plan scenario lines more log text report is a why b = empty_begins text report a
-  decided_begins mode.Drill scenario lines more log text report is a why b = empty_begins text report a
-  decided_begins mode.Migrate scenario lines more log text report is a why b = empty_begins text report a
+  decided_begins mode.Plan scenario lines more log text report is a why asked b = empty_begins text report a
+  decided_begins mode.Drill scenario lines more log text report is a why asked b = empty_begins text report a
+  decided_begins mode.Migrate scenario lines more log text report is a why asked b = empty_begins text report a
+  decided_begins mode.Recheck scenario lines more log text report is a why asked b = empty_begins text report a
 
   pub settled_begins : (all : (log more : List ℕ) → (lines : List (List ℕ)) × (lines_of (log ++ more) ≡ ended_lines log ++ lines))
       → (task : Task) (scenario : Scenario) (front more text report : List ℕ) → IsSettledText task.mode scenario front text → IsEnding task scenario (front ++ more) report
       → Begins text report
   settled_begins all task scenario front more text report a b =
       let lines = all front more in
-      decided_begins task.mode scenario (ended_lines front) lines.0 (front ++ more) text report lines.1 a task.why b
+      decided_begins task.mode scenario (ended_lines front) lines.0 (front ++ more) text report lines.1 a task.why task.rows b

@@ -8,10 +8,11 @@ use Rattle.log_lines.specs.LogLines.{lines_of}
 use Rattle.situations.specs.declared.readiness.Unready.{Unready}
 use Rattle.scenario.specs.declared.values.Scenario.{Scenario}
 use Rattle.command_line.specs.declared.mode.Mode.{Mode}
-use Rattle.sessions.specs.Endings.{Came, First, HasManyTraces, HasNoManoeuvre, IsAnswerTo, MeetsTargetLimit, Unless, unready_of}
+use Rattle.sessions.specs.Endings.{Came, First, FirstOf, HasBadEntry, HasManyTraces, HasNoManoeuvre, IsAnswerOf, MeetsTargetLimit, Unless, unready_of}
 use Rattle.sessions.specs.Refusals.{HasManySettled, IsLogRefused, IsMet, IsRefusedAt, IsUnrefused}
+use Rattle.sessions.specs.Tasks.{Task}
 use Rattle.sessions.specs.declared.session_fault.SessionFault.TheVariants as fault
-use Rattle.sessions.proofs.Meeting.{behind_own, behind_targets, behind_traces, behind_vessels}
+use Rattle.sessions.proofs.Meeting.{behind_own, behind_search, behind_targets, behind_traces, behind_vessels, entry_fault, reported}
 
 -- that there is none is refuted
 abbrev pub ComesToSome : (Came → Type 0) → Type 0
@@ -33,14 +34,21 @@ unless_some : (lack : Option Unready) (Else : Came → Type 0) → ComesToSome E
 unless_some None Else some = some
 unless_some (Some why) Else some = λ none. none (Err (fault.Own why)) refl
 
-module _ (mode : Mode) (scenario : Scenario) (log : List ℕ) where
-  some_answer_to : ComesToSome (IsAnswerTo mode scenario log)
+first_of_some : (Stands : ℕ → Type 0) (here : ℕ → Came) (Else : Came → Type 0) → ComesToSome Else → ComesToSome (FirstOf Stands here Else)
+first_of_some Stands here Else some none = holds_or_not ((k : ℕ) × Stands k) (λ either. (elim either [
+  | inl stands ↦ none (here stands.0) (inl (stands.0, stands.1, refl))
+  | inr not ↦ some (λ came else. none came (inr ((λ k stands. not (k, stands)), else)))
+]))
+
+module _ (m : Mode) (rows : List ℕ) (scenario : Scenario) (log : List ℕ) where
+  some_answer_to : ComesToSome (IsAnswerOf m rows scenario log)
   some_answer_to =
-      first_some (IsTrue (is_crowded scenario (lines_of log))) (Err fault.Vessels) (behind_vessels mode scenario log)
-      (first_some (HasManyTraces mode scenario log) (Err fault.Pairs) (behind_traces mode scenario log)
-      (unless_some (unready_of mode scenario log) (behind_own mode scenario log)
-      (first_some (MeetsTargetLimit mode scenario log) (Err fault.Targets) (behind_targets mode scenario log)
-      (first_some (HasNoManoeuvre mode scenario log) (Ok true) (λ (came : Came). came ≡ Ok false) (λ none. none (Ok false) refl)))))
+      first_some (IsTrue (is_crowded scenario (lines_of log))) (Err fault.Vessels) (behind_vessels m rows scenario log)
+      (first_some (HasManyTraces m scenario log) (Err fault.Pairs) (behind_traces m rows scenario log)
+      (unless_some (unready_of m scenario log) (behind_own m rows scenario log)
+      (first_some (MeetsTargetLimit m scenario log) (Err fault.Targets) (behind_targets m rows scenario log)
+      (first_some (HasNoManoeuvre m scenario log) (Ok true) (behind_search m rows scenario log)
+      (first_of_some (HasBadEntry m rows scenario log) entry_fault reported (λ none. none (Ok false) refl))))))
 
 -- ---- at a place
 
@@ -98,14 +106,17 @@ module _ (m : Mode) (scenario : Scenario) where
       ]))
     ]))
 
-    pub some_met : ComesToSome (IsMet m scenario log)
-    some_met none = up_to (length log + 1) (omega arith) (λ all. (elim all [
+    some_met_in : (why : Bool) (rows : List ℕ) → ComesToSome (IsMet (record { mode = m; why = why; rows = rows }) scenario log)
+    some_met_in why rows none = up_to (length log + 1) (omega arith) (λ all. (elim all [
       | inl stopped ↦ none stopped.1 (inl (stopped.0, stopped.2))
       | inr calm ↦ (
           let whole : take (length log) log ≡ log = take_all (length log) log (omega arith) in
           let unrefused = subst (IsUnrefused m scenario) whole (calm (length log) (omega arith)) in
-          some_answer_to m scenario log (λ came answer. none came (inr (unrefused, answer))))
+          some_answer_to m rows scenario log (λ came answer. none came (inr (unrefused, answer))))
     ]))
+
+pub some_met : (task : Task) (scenario : Scenario) (log : List ℕ) → ComesToSome (IsMet task scenario log)
+some_met task scenario log = some_met_in task.mode scenario log task.why task.rows
 
 -- ---- want of memory is nothing that a log comes to
 
@@ -117,26 +128,31 @@ unless_not : (lack : Option Unready) (Else : Came → Type 0) → (Else (Err fau
 unless_not None Else rest is = rest is
 unless_not (Some why) Else rest is = cc is
 
+first_of_not : (Stands : ℕ → Type 0) (here : ℕ → Came) (Else : Came → Type 0) (came : Came) → ((k : ℕ) → here k ≡ came → ⊥) → (Else came → ⊥) → FirstOf Stands here Else came → ⊥
+first_of_not Stands here Else came other rest (inl (k, stands, is)) = other k (sym is)
+first_of_not Stands here Else came other rest (inr (not, else)) = rest else
+
 abbrev none_left : Came → Type 0
 none_left came = ⊥
 
-abbrev reported : Came → Type 0
-reported came = came ≡ Ok false
-
-pub memory_not_met : (m : Mode) (scenario : Scenario) (log : List ℕ) → IsMet m scenario log (Err fault.Memory) → ⊥
-memory_not_met m scenario log (inl (place, at)) = not_refused (take place log) at.here
+pub memory_not_met : (task : Task) (scenario : Scenario) (log : List ℕ) → IsMet task scenario log (Err fault.Memory) → ⊥
+memory_not_met task scenario log (inl (place, at)) = not_refused (take place log) at.here
   where
-    not_refused : (front : List ℕ) → IsLogRefused m scenario front (Err fault.Memory) → ⊥
+    not_refused : (front : List ℕ) → IsLogRefused task.mode scenario front (Err fault.Memory) → ⊥
     not_refused front refused =
         first_not (scenario.log.max_bytes < length front) (Err fault.LogBytes)
-        (First (IsTrue (is_crowded scenario (ended_lines front))) (Err fault.Vessels) (First (HasManySettled m scenario (ended_lines front)) (Err fault.Pairs) none_left))
+        (First (IsTrue (is_crowded scenario (ended_lines front))) (Err fault.Vessels) (First (HasManySettled task.mode scenario (ended_lines front)) (Err fault.Pairs) none_left))
         (Err fault.Memory) (λ is. cc is)
-        (λ e. first_not (IsTrue (is_crowded scenario (ended_lines front))) (Err fault.Vessels) (First (HasManySettled m scenario (ended_lines front)) (Err fault.Pairs) none_left)
+        (λ e. first_not (IsTrue (is_crowded scenario (ended_lines front))) (Err fault.Vessels) (First (HasManySettled task.mode scenario (ended_lines front)) (Err fault.Pairs) none_left)
         (Err fault.Memory) (λ is. cc is)
-        (λ f. first_not (HasManySettled m scenario (ended_lines front)) (Err fault.Pairs) none_left (Err fault.Memory) (λ is. cc is) (λ none. none) f) e) refused
-memory_not_met m scenario log (inr (unrefused, answer)) =
-    first_not (IsTrue (is_crowded scenario (lines_of log))) (Err fault.Vessels) (behind_vessels m scenario log) (Err fault.Memory) (λ is. cc is)
-    (λ a. first_not (HasManyTraces m scenario log) (Err fault.Pairs) (behind_traces m scenario log) (Err fault.Memory) (λ is. cc is)
-    (λ b. unless_not (unready_of m scenario log) (behind_own m scenario log)
-    (λ c. first_not (MeetsTargetLimit m scenario log) (Err fault.Targets) (behind_targets m scenario log) (Err fault.Memory) (λ is. cc is)
-    (λ d. first_not (HasNoManoeuvre m scenario log) (Ok true) reported (Err fault.Memory) (λ is. cc is) (λ is. cc is) d) c) b) a) answer
+        (λ f. first_not (HasManySettled task.mode scenario (ended_lines front)) (Err fault.Pairs) none_left (Err fault.Memory) (λ is. cc is) (λ none. none) f) e) refused
+memory_not_met task scenario log (inr (unrefused, answer)) = not_answered task.mode task.rows scenario log answer
+  where
+    not_answered : (m : Mode) (rows : List ℕ) (scenario : Scenario) (log : List ℕ) → IsAnswerOf m rows scenario log (Err fault.Memory) → ⊥
+    not_answered m rows scenario log =
+        first_not (IsTrue (is_crowded scenario (lines_of log))) (Err fault.Vessels) (behind_vessels m rows scenario log) (Err fault.Memory) (λ is. cc is)
+        (λ a. first_not (HasManyTraces m scenario log) (Err fault.Pairs) (behind_traces m rows scenario log) (Err fault.Memory) (λ is. cc is)
+        (λ b. unless_not (unready_of m scenario log) (behind_own m rows scenario log)
+        (λ c. first_not (MeetsTargetLimit m scenario log) (Err fault.Targets) (behind_targets m rows scenario log) (Err fault.Memory) (λ is. cc is)
+        (λ d. first_not (HasNoManoeuvre m scenario log) (Ok true) (behind_search m rows scenario log) (Err fault.Memory) (λ is. cc is)
+        (λ e. first_of_not (HasBadEntry m rows scenario log) entry_fault reported (Err fault.Memory) (λ k is. cc is) (λ is. cc is) e) d) c) b) a)

@@ -85,6 +85,7 @@ few_by work.Points scenario lines given done many = many
 few_by (work.Audit audit) scenario lines given (decided, stands) many = few_settled scenario audit lines decided.0 stands many
 few_by work.Plan scenario lines given done many = many
 few_by (work.Drill audit) scenario lines given done many = many
+few_by work.Recheck scenario lines given done many = many
 
 -- ---- one line more
 

@@ -27,4 +27,5 @@ UnlessMemory fault.Pairs P = P
 UnlessMemory fault.LogBytes P = P
 UnlessMemory (fault.Own why) P = P
 UnlessMemory fault.Targets P = P
+UnlessMemory (fault.Entry k) P = P
 UnlessMemory fault.Memory P = Unit {0}

@@ -3,6 +3,8 @@ pub mod PointsReport
 pub mod AuditReport
 pub mod DrillReport
 pub mod PlanReport
+pub mod RecheckReport
+pub mod Tasks
 pub mod Modes
 pub mod SessionFaultTexts
 pub mod SettledText

@@ -17,19 +17,21 @@ pub data LogKind : Type 0 where
   made : LogKind
   no_log : LogKind
 
--- and whether rows leave before the log's end
+-- and whether rows leave before the log's end, and whether rows that say why there is no plan are checked, in place of a search
 pub record Manner : Type 0 where
   pub look : Look
   pub log : LogKind
   pub early : Bool
+  pub checks : Bool
 
--- A drill audits the log that it makes, at its end alone. A migration looks at the scenario alone.
+-- A drill audits the log that it makes, at its end alone. A migration looks at the scenario alone. A recheck looks at what a plan is sought by.
 abbrev pub manner_of : Mode → Manner
-manner_of mode.Points = record { look = each_line; log = given; early = true }
-manner_of mode.Audit = record { look = each_tick; log = given; early = true }
-manner_of mode.Plan = record { look = own_ship; log = given; early = false }
-manner_of mode.Drill = record { look = each_tick; log = made; early = false }
-manner_of mode.Migrate = record { look = nothing; log = no_log; early = false }
+manner_of mode.Points = record { look = each_line; log = given; early = true; checks = false }
+manner_of mode.Audit = record { look = each_tick; log = given; early = true; checks = false }
+manner_of mode.Plan = record { look = own_ship; log = given; early = false; checks = false }
+manner_of mode.Drill = record { look = each_tick; log = made; early = false; checks = false }
+manner_of mode.Migrate = record { look = nothing; log = no_log; early = false; checks = false }
+manner_of mode.Recheck = record { look = own_ship; log = given; early = false; checks = true }
 
 abbrev pub look_of : Mode → Look
 look_of mode = (manner_of mode).look
@@ -58,6 +60,10 @@ is_log _ = true
 abbrev pub needs_own : Mode → Bool
 needs_own mode = is_own (look_of mode)
 
+-- Rows that say why there is no plan are needed where they are checked.
+abbrev pub needs_rows : Mode → Bool
+needs_rows mode = (manner_of mode).checks
+
 -- the values that a mode looks at: own ship's where it needs her alone, by which the window of lines ends with the last tick
 abbrev pub scenario_for : Mode → Scenario → Scenario
 scenario_for mode scenario = if needs_own mode then scenario else record scenario { own = None }
@@ -70,7 +76,7 @@ reports mode = is_log (manner_of mode).log
 abbrev pub reads_log : Mode → Bool
 reads_log mode = is_given (manner_of mode).log
 
--- ---- what is said of one look alone
+-- ---- what is said of one look alone, or of one manner
 
 abbrev pub OfTicks : Look → Type 0 → Type 0
 OfTicks each_tick P = P
@@ -79,3 +85,13 @@ OfTicks _ P = ⊥
 abbrev pub OfOwnShip : Look → Type 0 → Type 0
 OfOwnShip own_ship P = P
 OfOwnShip _ P = ⊥
+
+-- what is sought, and what is checked in place of it
+
+abbrev pub WhereSought : Bool → Type 0 → Type 0
+WhereSought true P = ⊥
+WhereSought false P = P
+
+abbrev pub WhereChecked : Bool → Type 0 → Type 0
+WhereChecked true P = P
+WhereChecked false P = ⊥

@@ -1,6 +1,6 @@
 -- The report of `plan`: own ship and the vessels near her, the legs of the first plan that does not fail or that there is none, how many
 -- lines came to each outcome, and then, where that is asked for, why every plan fails.
-use Rattle.std.specs.Prelude.{ℕ, ◌≡◌, ◌+◌, ◌*◌, nat_lt, Bool, true, flat_map, List, [], ◌++◌, Option, Some, None, MatchOption, Ok, slice_index, if◌then◌else◌}
+use Rattle.std.specs.Prelude.{ℕ, ◌≡◌, ◌+◌, ◌*◌, ◌≤◌, nat_lt, length, Bool, true, flat_map, List, [], ◌++◌, Option, Some, None, MatchOption, Ok, slice_index, if◌then◌else◌}
 use Rattle.std.specs.List.{range_with_len}
 use Rattle.audit_report.specs.CsvRows.{row_of}
 use Rattle.audit_report.specs.ReportRows.{Fields, no_plan_fields, plan_fields}
@@ -13,7 +13,7 @@ use Rattle.lattice.specs.PlanNumbers.{number_of}
 use Rattle.refutations.specs.CanonicalLists.{IsCanonical}
 use Rattle.refutations.specs.EntryRows.{entry_text}
 use Rattle.refutations.specs.declared.entry.WhyEntry.{WhyEntry}
-use Rattle.situations.specs.PlanSituations.{own_readiness, situation_of, vessels_near}
+use Rattle.situations.specs.PlanSituations.{greatest_targets, own_readiness, situation_of, targets_near, vessels_near}
 use Rattle.situations.specs.declared.near.Near.{Near}
 use Rattle.situations.specs.declared.readiness.Ready.{Ready}
 use Rattle.situations.specs.LeastPlans.{AllFail, IsLeastPlan}
@@ -39,6 +39,14 @@ pub record IsOwn (scenario : Scenario) (log : List ℕ) (own : OwnPart) (ready :
 -- the situation in which her plan is sought
 abbrev pub situation_on : Scenario → List ℕ → OwnPart → Ready → Situation
 situation_on scenario log own ready = situation_of (numbers_of scenario) (log_messages scenario log) scenario own ready
+
+-- She is ready, and has not too many targets: the situation in which her plan is sought is this.
+pub record IsSituationOn (scenario : Scenario) (log : List ℕ) (situation : Situation) : Type 0 where
+  pub own : OwnPart
+  pub ready : Ready
+  pub is_own : IsOwn scenario log own ready
+  pub few : length (targets_near (numbers_of scenario) (log_messages scenario log) scenario own ready) ≤ greatest_targets
+  pub is : situation ≡ situation_on scenario log own ready
 
 -- ---- the rows
 

@@ -8,6 +8,7 @@ use Rattle.command_line.specs.declared.mode.Mode.{Mode}
 use Rattle.sessions.specs.Endings.{Came, First, IsAnswerTo}
 use Rattle.sessions.specs.Modes.{OfTicks, early_look}
 use Rattle.sessions.specs.SettledText.{IsSettledText}
+use Rattle.sessions.specs.Tasks.{Task}
 use Rattle.sessions.specs.declared.session_fault.SessionFault.{SessionFault}
 use Rattle.sessions.specs.declared.session_fault.SessionFault.TheVariants as fault
 
@@ -37,9 +38,9 @@ pub record IsRefusedAt (mode : Mode) (scenario : Scenario) (log : List ℕ) (pla
   pub here : IsLogRefused mode scenario (take place log) came
 
 -- What a log comes to: the refusal at the earliest place, or else what its lines come to at its end.
-abbrev pub IsMet : Mode → Scenario → List ℕ → Came → Type 0
-IsMet mode scenario log came =
-    ((place : ℕ) × IsRefusedAt mode scenario log place came) ⊎ (IsUnrefused mode scenario log × IsAnswerTo mode scenario log came)
+abbrev pub IsMet : Task → Scenario → List ℕ → Came → Type 0
+IsMet task scenario log came =
+    ((place : ℕ) × IsRefusedAt task.mode scenario log place came) ⊎ (IsUnrefused task.mode scenario log × IsAnswerTo task scenario log came)
 
 -- The log is refused for this cause at a place, and the text is what the bytes before it settle.
 pub record IsStopped (mode : Mode) (scenario : Scenario) (log : List ℕ) (why : SessionFault) (text : List ℕ) : Type 0 where

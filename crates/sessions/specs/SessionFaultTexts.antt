@@ -15,4 +15,5 @@ session_fault_text fault.Pairs = codes "limit: pairs " ++ decimal MOST_TRACES
 session_fault_text fault.LogBytes = codes "limit: log"
 session_fault_text (fault.Own why) = codes "own: " ++ unready_text why
 session_fault_text fault.Targets = codes "limit: targets " ++ decimal greatest_targets
+session_fault_text (fault.Entry k) = codes "rows: entry " ++ decimal k
 session_fault_text fault.Memory = codes "memory"

@@ -22,6 +22,7 @@ mode_by work.Points = mode.Points
 mode_by (work.Audit audit) = mode.Audit
 mode_by work.Plan = mode.Plan
 mode_by (work.Drill audit) = mode.Drill
+mode_by work.Recheck = mode.Recheck
 
 abbrev pub mode_of : Session → Mode
 mode_of session = mode_by session.work
@@ -39,6 +40,7 @@ keeping_by work.Points = Latest
 keeping_by (work.Audit audit) = Tracks
 keeping_by work.Plan = Tracks
 keeping_by (work.Drill audit) = Tracks
+keeping_by work.Recheck = Tracks
 
 -- An audit has audited the ticks that the lines settle, and given the rows of which the text is. A drill audits none before the log's end.
 abbrev pub HasAudited : (work : Work) (scenario : Scenario) (lines : List (List ℕ)) (given : List ℕ) → IsDecidedText (mode_by work) scenario lines given → Type 0
@@ -46,6 +48,7 @@ HasAudited work.Points scenario lines given decided = Unit {0}
 HasAudited (work.Audit audit) scenario lines given decided = AuditStandsFor audit scenario lines decided.0
 HasAudited work.Plan scenario lines given decided = Unit {0}
 HasAudited (work.Drill audit) scenario lines given decided = AuditStandsFor audit scenario [] []
+HasAudited work.Recheck scenario lines given decided = Unit {0}
 
 -- The session was fed these bytes of a log, none of which is refused, and has given what they settle.
 pub record StandsFor (session : Session) (fed given : List ℕ) : Type 0 where

@@ -1,10 +1,10 @@
 //! The end of the report of `audit`.
-ghost use Rattle.std.specs.Prelude.{◌≡◌, ◌++◌, ℕ, List, IfErr, IfOk, OnOk, Ok, false};
+ghost use Rattle.std.specs.Prelude.{◌≡◌, ◌++◌, [], ℕ, List, IfErr, IfOk, OnOk, Ok, false};
 ghost use Rattle.audit_rows.specs.declared.row.Row.{Row};
 ghost use Rattle.log_lines.specs.Standing.{keeping_of};
 ghost use Rattle.scenario.specs.ScenarioValues.{IsInRange};
 ghost use Rattle.sessions.specs.AuditReport.{IsAuditReport, stretch_rows};
-ghost use Rattle.sessions.specs.Endings.{IsAnswerTo};
+ghost use Rattle.sessions.specs.Endings.{IsAnswerOf};
 ghost use Rattle.sessions.specs.Inner.AtEnd.{IsAuditAtEnd, IsAuditOf};
 ghost use Rattle.sessions.specs.Inner.Faults.{EndCause};
 ghost use Rattle.command_line.specs.declared.mode.Mode.TheVariants.{Audit};
@@ -34,9 +34,9 @@ pub(crate) fn end_audit(
     ensures report { IfOk result (λ rest. (log : List ℕ) (given : List Row) → IsAuditOf audit judge.now scenario.now log given
         → IsAuditReport scenario.now log (stretch_rows scenario.now.rules given ++ rest.items)) }
     ensures answer { OnOk result ((log : List ℕ) (given : List Row) → IsAuditOf audit judge.now scenario.now log given
-        → IsAnswerTo Audit scenario.now log (Ok false)) }
+        → IsAnswerOf Audit [] scenario.now log (Ok false)) }
     ensures cause { IfErr result (λ why. (log : List ℕ) (given : List Row) → IsAuditOf audit judge.now scenario.now log given
-        → EndCause Audit scenario.now log why) }
+        → EndCause Audit [] scenario.now log why) }
 {
     let end = audit.end(scenario, judge)?;
     let mut text = ReportText::new(alloc);

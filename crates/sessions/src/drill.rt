@@ -3,7 +3,7 @@ ghost use Rattle.std.specs.Prelude.{◌≡◌, [], ℕ, List, IfErr, IfOk, OnOk,
 ghost use Rattle.log_lines.specs.Standing.{keeping_of};
 ghost use Rattle.scenario.specs.ScenarioValues.{IsInRange};
 ghost use Rattle.sessions.specs.DrillReport.{IsDrillReport};
-ghost use Rattle.sessions.specs.Endings.{IsAnswerTo};
+ghost use Rattle.sessions.specs.Endings.{IsAnswerOf};
 ghost use Rattle.sessions.specs.Inner.AtEnd.{IsAuditAtEnd, IsAuditOf};
 ghost use Rattle.sessions.specs.Inner.Faults.{EndCause};
 ghost use Rattle.command_line.specs.declared.mode.Mode.TheVariants.{Drill};
@@ -29,8 +29,8 @@ pub(crate) fn end_drill(
     requires keeping { keeping_of judge.now ≡ Tracks }
     requires at_end { IsAuditAtEnd audit judge.now scenario.now }
     ensures report { IfOk result (λ text. (log : List ℕ) → IsAuditOf audit judge.now scenario.now log [] → IsDrillReport scenario.now log text.items) }
-    ensures answer { OnOk result ((log : List ℕ) → IsAuditOf audit judge.now scenario.now log [] → IsAnswerTo Drill scenario.now log (Ok false)) }
-    ensures cause { IfErr result (λ why. (log : List ℕ) → IsAuditOf audit judge.now scenario.now log [] → EndCause Drill scenario.now log why) }
+    ensures answer { OnOk result ((log : List ℕ) → IsAuditOf audit judge.now scenario.now log [] → IsAnswerOf Drill [] scenario.now log (Ok false)) }
+    ensures cause { IfErr result (λ why. (log : List ℕ) → IsAuditOf audit judge.now scenario.now log [] → EndCause Drill [] scenario.now log why) }
 {
     let end = audit.end(scenario, judge)?;
     let mut text = ReportText::new(alloc);

@@ -2,7 +2,7 @@
 ghost use Rattle.std.specs.Prelude.{◌≡◌, ◌++◌, ℕ, List};
 ghost use Rattle.scenario.specs.declared.values.Scenario.{Scenario};
 ghost use Rattle.sessions.specs.Endings.{Came, IsEnding};
-ghost use Rattle.sessions.specs.declared.task.Task.{Task};
+ghost use Rattle.sessions.specs.Tasks.{Task};
 ghost use Rattle.sessions.specs.Refusals.{IsMet};
 ghost use Rattle.sessions.specs.SettledText.{IsSettledText};
 ghost use Rattle.command_line.specs.declared.mode.Mode.{Mode};
@@ -21,8 +21,8 @@ pub fn one_ending()
 
 /// A log comes to one thing at most.
 pub fn one_answer()
-    ensures { (mode : Mode) (scenario : Scenario) (log : List ℕ) (came other : Came) →
-        IsMet mode scenario log came → IsMet mode scenario log other → came ≡ other }
+    ensures { (task : Task) (scenario : Scenario) (log : List ℕ) (came other : Came) →
+        IsMet task scenario log came → IsMet task scenario log other → came ≡ other }
 {
     ended_lines_stay();
     many_settled_stay();
@@ -30,7 +30,7 @@ pub fn one_answer()
 
 /// A log comes to something: that it comes to nothing is refuted.
 pub fn some_answer()
-    ensures { (mode : Mode) (scenario : Scenario) (log : List ℕ) → ¬ ((came : Came) → ¬ IsMet mode scenario log came) }
+    ensures { (task : Task) (scenario : Scenario) (log : List ℕ) → ¬ ((came : Came) → ¬ IsMet task scenario log came) }
 {}
 
 /// The settled bytes of a front of a log are one text at most.

@@ -6,6 +6,7 @@
 //! decides of them, and `specs/Refusals.antt` what ends a session before the log's end.
 #![tactic(auto)]
 
+mod asked;
 mod audit;
 mod drill;
 mod ending;
@@ -15,17 +16,17 @@ mod outcome_rows;
 mod plan;
 mod points;
 mod reasons;
+mod recheck;
 mod session;
 mod session_fault;
 mod stretches;
-mod task;
 mod totals;
 mod vessels;
 mod work;
 
+pub use asked::Asked;
 pub use command_line::Mode;
 pub use ending::Ending;
-pub use modes::{needs_own, reads_log, reports};
+pub use modes::{needs_own, needs_rows, reads_log, reports};
 pub use session::Session;
 pub use session_fault::SessionFault;
-pub use task::Task;

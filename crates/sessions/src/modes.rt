@@ -1,6 +1,6 @@
 //! What each mode needs.
 ghost use Rattle.std.specs.Prelude.{◌≡◌};
-ghost use Rattle.sessions.specs.Modes.{needs_own, reads_log, reports};
+ghost use Rattle.sessions.specs.Modes.{needs_own, needs_rows, reads_log, reports};
 
 use command_line::Mode;
 
@@ -8,7 +8,14 @@ use command_line::Mode;
 pub fn needs_own(mode: Mode) -> bool
     ensures { result ≡ needs_own mode }
 {
-    mode == Mode::Plan
+    matches!(mode, Mode::Plan | Mode::Recheck)
+}
+
+/// Whether rows that say why there is no plan are checked.
+pub fn needs_rows(mode: Mode) -> bool
+    ensures { result ≡ needs_rows mode }
+{
+    mode == Mode::Recheck
 }
 
 /// Whether it reports on a log. A migration looks at the scenario alone.

@@ -1,5 +1,5 @@
 //! The report of `plan`, at a log's end.
-ghost use Rattle.std.specs.Prelude.{◌≡◌, ◌++◌, ◌<◌, ◌≤◌, ℕ, List, All, IfErr, IfOk, IfSome, IsSome, OnOk, Ok, true};
+ghost use Rattle.std.specs.Prelude.{◌≡◌, ◌++◌, ◌<◌, ◌≤◌, [], ℕ, List, All, IfErr, IfOk, IfSome, IsSome, OnOk, Ok, true};
 ghost use Rattle.std.specs.Option.{option_copied};
 ghost use Rattle.audit_report.specs.ReportTexts.{HasText};
 ghost use Rattle.log_lines.specs.JudgedLines.{numbers_of};
@@ -16,7 +16,7 @@ ghost use Rattle.situations.specs.LeastPlans.{AllFail};
 ghost use Rattle.situations.specs.Situations.{IsSituation};
 ghost use Rattle.situations.specs.declared.near.Near.{Near};
 ghost use Rattle.planner.specs.Searches.{searched_situation};
-ghost use Rattle.sessions.specs.Endings.{IsAnswerTo};
+ghost use Rattle.sessions.specs.Endings.{IsAnswerOf};
 ghost use Rattle.sessions.specs.PlanReport.{IsManoeuvre, IsPlanReport, first_tick, last_tick, leg_rows, manoeuvre_rows, near_rows};
 ghost use Rattle.sessions.specs.Inner.Faults.{EndCause};
 ghost use Rattle.sessions.specs.Inner.PlanWriting.{IsSought, SoughtCause};
@@ -209,8 +209,8 @@ pub(crate) fn end_plan(
     requires at_end { (log : List ℕ) × JudgeStandsFor judge.now scenario (lines_of log) }
     ensures report { IfOk result (λ ending. (log : List ℕ) → JudgeStandsFor judge.now scenario (lines_of log) → IsPlanReport why scenario log ending.bytes.items) }
     ensures answer { IfOk result (λ ending. (log : List ℕ) → JudgeStandsFor judge.now scenario (lines_of log)
-        → IsAnswerTo mode.Plan scenario log (Ok ending.none)) }
-    ensures cause { IfErr result (λ why. (log : List ℕ) → JudgeStandsFor judge.now scenario (lines_of log) → EndCause mode.Plan scenario log why) }
+        → IsAnswerOf mode.Plan [] scenario log (Ok ending.none)) }
+    ensures cause { IfErr result (λ why. (log : List ℕ) → JudgeStandsFor judge.now scenario (lines_of log) → EndCause mode.Plan [] scenario log why) }
 {
     let mut text = ReportText::new(alloc);
     let found = write_search(alloc, scenario, judge.book(), &mut text)?;

@@ -6,15 +6,21 @@ ghost use Rattle.sessions.specs.Endings.{IsAnswerTo, IsEnding};
 ghost use Rattle.sessions.specs.Feeding.{Refuses, TookPiece, UnlessMemory};
 ghost use Rattle.sessions.specs.Modes.{needs_own, reports, scenario_for};
 ghost use Rattle.sessions.specs.Refusals.{IsStopped};
+ghost use Rattle.sessions.specs.PlanReport.{IsSituationOn};
 ghost use Rattle.sessions.specs.Standing.{IsInUse, StandsFor, mode_of, session_scenario, taken_of};
+ghost use Rattle.sessions.specs.Tasks.{Task, task_by};
 ghost use Rattle.log_lines.specs.Pieces.{IsPiece};
+ghost use Rattle.rechecks.specs.declared.checked_text.TheConstants.{GREATEST_TEXT};
+ghost use Rattle.situations.specs.Situations.{IsSituation};
 
+use crate::asked::Asked;
 use crate::audit::end_audit;
 use crate::drill::end_drill;
 use crate::ending::Ending;
 use crate::modes::needs_own;
 use crate::plan::end_plan;
 use crate::points::end_points;
+use crate::recheck::{end_recheck, situation_at_end};
 use crate::session_fault::SessionFault;
 use crate::work::Work;
 use audit_report::ReportText;
@@ -24,6 +30,7 @@ use log_lines::{StreamedLines, first_line_feed};
 use outside::Memory;
 use scenario::Scenario;
 use settling::laws::many_settled_stay;
+use situations::Situation;
 use std::alloc::Global;
 
 /// How many bytes stand up to the first line feed, with it, or in all where there is none.
@@ -162,28 +169,32 @@ impl Session {
         Ok(text.into_bytes()?)
     }
 
-    /// Ends the log, and gives the rest of the report.
+    /// Ends the log, and gives the rest of the report, which does not say why every plan fails. Of a recheck it checks no rows.
     pub fn end(self) -> Result<Ending, SessionFault>
         requires in_use { IsInUse self }
         ensures report { IfOk result (λ ending. (fed given : List ℕ) → StandsFor self fed given
-            → IsEnding (record { mode = mode_of self; why = false }) (session_scenario self) fed (given ++ ending.bytes.items)) }
+            → IsEnding (record { mode = mode_of self; why = false; rows = [] }) (session_scenario self) fed (given ++ ending.bytes.items)) }
         ensures answer { IfOk result (λ ending. (fed given : List ℕ) → StandsFor self fed given
-            → IsAnswerTo (mode_of self) (session_scenario self) fed (Ok ending.none)) }
+            → IsAnswerTo (record { mode = mode_of self; why = false; rows = [] }) (session_scenario self) fed (Ok ending.none)) }
         ensures refused { IfErr result (λ why. UnlessMemory why ((fed given : List ℕ) → StandsFor self fed given
-            → IsAnswerTo (mode_of self) (session_scenario self) fed (Err why))) }
+            → IsAnswerTo (record { mode = mode_of self; why = false; rows = [] }) (session_scenario self) fed (Err why))) }
     {
-        self.finish(false)
+        self.finish(&Asked {
+            why: false,
+            rows: &[],
+        })
     }
 
-    /// Ends the log, and gives the rest of the report. With `why` the report of a plan says why every plan fails, if every plan does.
-    pub fn finish(self, why: bool) -> Result<Ending, SessionFault>
+    /// Ends the log, and gives the rest of the report that is asked for. Rows that a recheck checks have at most 2^24 bytes.
+    pub fn finish(self, asked: &Asked<'_>) -> Result<Ending, SessionFault>
         requires in_use { IsInUse self }
+        requires rows { length asked.now.rows.now ≤ GREATEST_TEXT }
         ensures report { IfOk result (λ ending. (fed given : List ℕ) → StandsFor self fed given
-            → IsEnding (record { mode = mode_of self; why = why }) (session_scenario self) fed (given ++ ending.bytes.items)) }
+            → IsEnding (task_by (mode_of self) asked.now) (session_scenario self) fed (given ++ ending.bytes.items)) }
         ensures answer { IfOk result (λ ending. (fed given : List ℕ) → StandsFor self fed given
-            → IsAnswerTo (mode_of self) (session_scenario self) fed (Ok ending.none)) }
+            → IsAnswerTo (task_by (mode_of self) asked.now) (session_scenario self) fed (Ok ending.none)) }
         ensures refused { IfErr result (λ why. UnlessMemory why ((fed given : List ℕ) → StandsFor self fed given
-            → IsAnswerTo (mode_of self) (session_scenario self) fed (Err why))) }
+            → IsAnswerTo (task_by (mode_of self) asked.now) (session_scenario self) fed (Err why))) }
     {
         let Session {
             alloc,
@@ -200,11 +211,34 @@ impl Session {
                 let rest = end_audit(alloc, &scenario, audit, judge)?;
                 Ok(Ending::without_search(rest))
             }
-            Work::Plan => end_plan(alloc, scenario, judge, why),
+            Work::Plan => end_plan(alloc, scenario, judge, asked.why),
             Work::Drill(audit) => {
                 let rest = end_drill(alloc, &scenario, audit, judge)?;
                 Ok(Ending::without_search(rest))
             }
+            Work::Recheck => {
+                let rest = end_recheck(alloc, scenario, judge, asked.rows)?;
+                Ok(Ending::without_search(rest))
+            }
         }
+    }
+
+    /// Ends the log, and gives the situation in which own ship's plan is sought, of a mode that looks at her.
+    pub fn situation(self) -> Result<Situation, SessionFault>
+        requires in_use { IsInUse self }
+        requires own { IsTrue (needs_own (mode_of self)) }
+        ensures sound { IfOk result IsSituation }
+        ensures situation { IfOk result (λ situation. (fed given : List ℕ) → StandsFor self fed given → IsSituationOn (session_scenario self) fed situation) }
+        ensures refused { IfErr result (λ why. UnlessMemory why ((fed given : List ℕ) → StandsFor self fed given
+            → (task : Task) → task.mode ≡ mode_of self → IsAnswerTo task (session_scenario self) fed (Err why))) }
+    {
+        let Session {
+            alloc,
+            scenario,
+            lines,
+            ..
+        } = self;
+        let ended = lines.end()?;
+        Ok(situation_at_end(alloc, scenario, &ended.judge)?)
     }
 }

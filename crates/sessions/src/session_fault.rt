@@ -19,6 +19,8 @@ pub enum SessionFault {
     Own(Unready),
     /// More than 64 vessels are targets.
     Targets,
+    /// The rows that say why there is no plan are not right: this is the least index at which one is not, or how many there are.
+    Entry(u32),
     /// Memory ran out.
     Memory,
 }
@@ -36,6 +38,7 @@ impl fmt::Display for SessionFault {
             SessionFault::LogBytes => f.write_str("limit: log"),
             SessionFault::Own(why) => write!(f, "own: {why}"),
             SessionFault::Targets => write!(f, "limit: targets {MOST_TARGETS}"),
+            SessionFault::Entry(index) => write!(f, "rows: entry {index}"),
             SessionFault::Memory => f.write_str("memory"),
         }
     }

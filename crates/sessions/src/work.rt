@@ -28,6 +28,7 @@ pub(crate) enum Work {
     Audit(SettledAudit),
     Plan,
     Drill(SettledAudit),
+    Recheck,
 }
 
 impl Work {
@@ -44,6 +45,7 @@ impl Work {
             Mode::Plan => Ok(Work::Plan),
             Mode::Drill => Ok(Work::Drill(SettledAudit::new(alloc, scenario)?)),
             Mode::Migrate => unreachable!(),
+            Mode::Recheck => Ok(Work::Recheck),
         }
     }
 
@@ -53,7 +55,7 @@ impl Work {
     {
         match self {
             Work::Points => Keeping::Latest,
-            Work::Audit(_) | Work::Plan | Work::Drill(_) => Keeping::Tracks,
+            Work::Audit(_) | Work::Plan | Work::Drill(_) | Work::Recheck => Keeping::Tracks,
         }
     }
 
@@ -84,7 +86,7 @@ impl Work {
                 let rows = audit.settle(scenario, judge)?;
                 Ok(write_stretches(text, &scenario.rules, rows.as_slice())?)
             }
-            Work::Plan | Work::Drill(_) => Ok(()),
+            Work::Plan | Work::Drill(_) | Work::Recheck => Ok(()),
         }
     }
 }

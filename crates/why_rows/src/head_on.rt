@@ -10,8 +10,8 @@ use std::alloc::Global;
 use std::test::Fail;
 use tracks::Keeping;
 
-/// Two vessels head on at now, tick 1 of ten seconds each; plans of one leg of 30 ticks and a tail of 10; a domain of 300 metres; and a rule of
-/// one's own that is named `domain` too. The list of own ship's courses is left out.
+/// Two vessels head on at now, tick 1 of ten seconds each; a tail of 10 ticks; a domain of 300 metres; and two rules of one's own: one that is
+/// named `domain` too, and one that is broken by now, at the step at which the meeting begins. The legs and own ship's courses are left out.
 const SCENARIO: &str = "version = 1
 subjects = []
 [window]
@@ -50,11 +50,12 @@ te = 600
 [[formula]]
 name = \"domain\"
 text = \"!close(200)\"
+[[formula]]
+name = \"begun\"
+text = \"!begin\"
 [own]
 mmsi = 369190000
 speeds = [0]
-legs = 1
-leg_ticks = 30
 tail = 10
 base = 300
 lengths = 0
@@ -68,11 +69,16 @@ const LOG: [&[u8]; 4] = [
     b"\\c:1700000000*5F\\!AIVDM,1,1,,A,177KQJ0P2lOwwtp00W4725`00000,0*31",
 ];
 
-/// The situation at the log's end, with this list of courses.
-pub(crate) fn situation_with(alloc: Global, courses: &str) -> Result<Option<Situation>, Fail>
+/// Plans of one leg of 30 ticks.
+pub const ONE_LEG: &str = "legs = 1
+leg_ticks = 30
+";
+
+/// The situation at the log's end, with these legs and this list of courses.
+pub fn situation_with(alloc: Global, legs: &str, courses: &str) -> Result<Option<Situation>, Fail>
     ensures { IfOk result (λ found. IfSome found IsSituation) }
 {
-    let text = format!(in alloc; "{SCENARIO}courses = {courses}\n")?;
+    let text = format!(in alloc; "{SCENARIO}{legs}courses = {courses}\n")?;
     let Ok(scenario) = read(alloc, text.as_bytes(), true) else {
         return Ok(None);
     };

@@ -4,7 +4,7 @@ ghost use Rattle.situations.specs.Situations.{IsSituation};
 ghost use Rattle.refutations.specs.RightLists.{IsEntry};
 
 use crate::compared::{is, is_true};
-use crate::head_on::situation_with;
+use crate::head_on::{ONE_LEG, situation_with};
 use csv::{ByteRecord, ReaderBuilder};
 use outside::Memory;
 use refutations::{Checked, WhyEntry, check, entry_bytes, explain, read_entry};
@@ -77,7 +77,7 @@ fn the_canonical_list_is_told_and_right(rt: HostRuntime) -> Result<(), Fail> {
         ("[0, 600]", b"".as_slice()),
     ];
     for (courses, rows) in tables {
-        let found = situation_with(alloc, courses)?;
+        let found = situation_with(alloc, ONE_LEG, courses)?;
         is_true(&rt, found.is_some());
         if let Some(situation) = found {
             let text = told(alloc, &situation)?;
@@ -120,7 +120,7 @@ fn rows_about_one_plan(rt: HostRuntime) -> Result<(), Fail> {
         (b"why,0,477553000,r99,0,,".as_slice(), None),
         (b"why,0,477553000,domain,18,1,".as_slice(), None),
     ];
-    if let Some(situation) = situation_with(alloc, "[0]")? {
+    if let Some(situation) = situation_with(alloc, ONE_LEG, "[0]")? {
         for (text, expected) in rows {
             is(&rt, judged(alloc, &situation, text)?, expected);
         }
@@ -142,7 +142,7 @@ fn rows_about_two_plans(rt: HostRuntime) -> Result<(), Fail> {
         ),
         (b"why,0,477553000,r14a,0,,\n".as_slice(), Checked::Bad(1)),
     ];
-    if let Some(situation) = situation_with(alloc, "[0, 10]")? {
+    if let Some(situation) = situation_with(alloc, ONE_LEG, "[0, 10]")? {
         for (text, expected) in rows {
             is(&rt, judged(alloc, &situation, text)?, Some(expected));
         }

@@ -1,11 +1,15 @@
 -- Why a scenario is not had from a shelf.
-use Rattle.std.specs.Prelude.{ℕ, ◌≡◌, ◌≤◌, ◌<◌, ◌⊎◌, length, Option, Result, Ok, Err, IfSome}
+use Rattle.std.specs.Prelude.{ℕ, ◌≡◌, ◌≤◌, ◌<◌, ◌⊎◌, Bool, true, false, IsTrue, List, [], length, Option, Result, Ok, Err, IfSome, Vec}
+use Rattle.std.specs.declared.alloc.Global.{Global}
 use Rattle.outside.specs.Causes.{one_more}
 use Rattle.outside.specs.Shelves.{Files, IsMissing}
 use Rattle.scenario.specs.declared.values.Scenario.{Scenario}
 use Rattle.scenario_keys.specs.declared.fault.ScenarioFault.{ScenarioFault}
 use Rattle.scenario_keys.specs.declared.fault.ScenarioFault.TheVariants as refusal
-use Rattle.colregs_program.specs.Answers.{HoldsUnder, IsRefusedBy, IsScenario, LiesUnder, greatest_scenario}
+use Rattle.colregs_program.specs.Answers.{HasScenario, HoldsUnder, IsRefusedBy, LiesUnder, greatest_scenario}
+use Rattle.rechecks.specs.declared.checked_text.TheConstants.{GREATEST_TEXT}
+use Rattle.sessions.specs.Modes.{needs_rows}
+use Rattle.colregs_program.specs.declared.set_up.SetUp.{SetUp}
 use Rattle.command_line.specs.declared.request.Options.{Options}
 use Rattle.command_line.specs.declared.request.Request.{Request}
 use Rattle.colregs_program.specs.declared.fetching.FetchFault.{FetchFault}
@@ -27,32 +31,90 @@ abbrev pub set_up_fault : ScenarioFault → SetUpFault
 set_up_fault (refusal.Fault key cause) = fault.Refused key cause
 set_up_fault refusal.Memory = fault.Memory
 
--- the fault of a scenario that was not had
+-- the fault of a scenario that was not had, and that of rows
 abbrev pub unhad_fault : FetchFault → SetUpFault
 unhad_fault fetch.NotHad = fault.NotHad
-unhad_fault fetch.TooLong = fault.TooLong
+unhad_fault fetch.TooLong = fault.LongScenario
 unhad_fault fetch.Memory = fault.Memory
+
+abbrev pub rows_fault : FetchFault → SetUpFault
+rows_fault fetch.NotHad = fault.NotHad
+rows_fault fetch.TooLong = fault.LongRows
+rows_fault fetch.Memory = fault.Memory
 
 -- the answer of a run that ends with this fault
 abbrev pub answer_of : SetUpFault → Status
 answer_of fault.NotHad = status.ShelfFault
-answer_of fault.TooLong = status.Limit which.Scenario greatest_scenario
+answer_of fault.LongScenario = status.Limit which.Scenario greatest_scenario
+answer_of fault.LongRows = status.Limit which.Rows GREATEST_TEXT
 answer_of (fault.Refused key cause) = status.Scenario key cause
 answer_of fault.Memory = status.Memory
 
--- what the fault says of the bytes under the name, and of the shelf's count of faults
+-- what the fault says of the bytes under the names, and of the shelf's count of faults
 abbrev pub SetUpCause : Request → Option Files → ℕ → ℕ → SetUpFault → Type 0
-SetUpCause request files before now fault.NotHad = (now ≡ one_more before) ⊎ IsMissing files request.name
-SetUpCause request files before now fault.TooLong = HoldsUnder files request.name (λ text. greatest_scenario < length text)
+SetUpCause request files before now fault.NotHad =
+    (now ≡ one_more before) ⊎ (IsMissing files request.name ⊎ (IsTrue (needs_rows request.mode) × IsMissing files request.options.rows))
+SetUpCause request files before now fault.LongScenario = HoldsUnder files request.name (λ text. greatest_scenario < length text)
+SetUpCause request files before now fault.LongRows =
+    IsTrue (needs_rows request.mode) × HoldsUnder files request.options.rows (λ text. GREATEST_TEXT < length text)
 SetUpCause request files before now (fault.Refused key cause) =
     HoldsUnder files request.name (λ text. (length text ≤ greatest_scenario) × IsRefusedBy request.mode text key cause)
 SetUpCause request files before now fault.Memory = Unit {0}
 
--- what the bytes under the name call for, where the shelf tells them
-abbrev pub IsSetUpDue : Request → Option Files → Result Scenario SetUpFault → Type 0
-IsSetUpDue request files (Ok scenario) = LiesUnder files request.name (λ text. IsScenario request text scenario)
-IsSetUpDue request files (Err fault.NotHad) = IsMissing files request.name
-IsSetUpDue request files (Err fault.TooLong) = LiesUnder files request.name (λ text. greatest_scenario < length text)
-IsSetUpDue request files (Err (fault.Refused key cause)) =
+-- ---- what is called for
+
+-- the scenario and the rows that were set up
+abbrev pub SetFor : Type 0
+SetFor = Scenario × List ℕ
+
+abbrev pub came_of : Result SetUp SetUpFault → Result SetFor SetUpFault
+came_of (Ok made) = Ok (made.scenario, made.rows.items)
+came_of (Err why) = Err why
+
+-- the rows that were had
+abbrev pub rows_had : Result (Vec ℕ Global) SetUpFault → Result (List ℕ) SetUpFault
+rows_had (Ok rows) = Ok rows.items
+rows_had (Err why) = Err why
+
+-- what the bytes under the request's name call for, where the shelf tells them
+abbrev pub IsScenarioDue : Request → Option Files → Result Scenario SetUpFault → Type 0
+IsScenarioDue request files (Ok scenario) = HasScenario files request scenario
+IsScenarioDue request files (Err fault.NotHad) = IsMissing files request.name
+IsScenarioDue request files (Err fault.LongScenario) = LiesUnder files request.name (λ text. greatest_scenario < length text)
+IsScenarioDue request files (Err fault.LongRows) = ⊥
+IsScenarioDue request files (Err (fault.Refused key cause)) =
     LiesUnder files request.name (λ text. (length text ≤ greatest_scenario) × IsRefusedBy request.mode text key cause)
-IsSetUpDue request files (Err fault.Memory) = ⊥
+IsScenarioDue request files (Err fault.Memory) = ⊥
+
+-- what those under the rows' name call for, where they are needed
+abbrev pub AreRowsDueWhere : Bool → Option Files → List ℕ → Result (List ℕ) SetUpFault → Type 0
+AreRowsDueWhere false files name due = due ≡ Ok []
+AreRowsDueWhere true files name (Ok rows) = LiesUnder files name (λ text. (text ≡ rows) × (length rows ≤ GREATEST_TEXT))
+AreRowsDueWhere true files name (Err fault.NotHad) = IsMissing files name
+AreRowsDueWhere true files name (Err fault.LongRows) = LiesUnder files name (λ text. GREATEST_TEXT < length text)
+AreRowsDueWhere true files name (Err _) = ⊥
+
+abbrev pub AreRowsDue : Request → Option Files → Result (List ℕ) SetUpFault → Type 0
+AreRowsDue request files = AreRowsDueWhere (needs_rows request.mode) files request.options.rows
+
+-- what both call for
+abbrev pub IsSetUpDue : Request → Option Files → Result SetFor SetUpFault → Type 0
+IsSetUpDue request files (Ok (scenario, rows)) = IsScenarioDue request files (Ok scenario) × AreRowsDue request files (Ok rows)
+IsSetUpDue request files (Err why) =
+    IsScenarioDue request files (Err why) ⊎ (((scenario : Scenario) × HasScenario files request scenario) × AreRowsDue request files (Err why))
+
+-- ---- how often the shelf was asked
+
+-- the faults that may come before the rows are asked for
+abbrev pub precedes_rows : SetUpFault → Bool
+precedes_rows fault.LongRows = false
+precedes_rows _ = true
+
+-- Once for the scenario, and once more where rows are needed; only once where it ended with a fault that may come before.
+abbrev pub HaveFetchedBy : Bool → ℕ → ℕ → Result SetUp SetUpFault → Type 0
+HaveFetchedBy false before now came = now ≡ one_more before
+HaveFetchedBy true before now (Ok made) = now ≡ one_more (one_more before)
+HaveFetchedBy true before now (Err why) = (now ≡ one_more (one_more before)) ⊎ (IsTrue (precedes_rows why) × (now ≡ one_more before))
+
+abbrev pub HaveFetched : Request → ℕ → ℕ → Result SetUp SetUpFault → Type 0
+HaveFetched request = HaveFetchedBy (needs_rows request.mode)

@@ -16,7 +16,7 @@ use Rattle.sessions.specs.Refusals.{IsStopped, IsUnrefused}
 use Rattle.sessions.specs.Standing.{StandsFor, mode_of, session_scenario}
 use Rattle.sessions.specs.declared.session.Session.{Session}
 use Rattle.sessions.specs.declared.session_fault.SessionFault.{SessionFault}
-use Rattle.sessions.specs.declared.task.Task.{Task}
+use Rattle.sessions.specs.Tasks.{Task}
 use Rattle.sessions.specs.declared.session_fault.SessionFault.TheVariants as why
 use Rattle.colregs_program.specs.LogAnswers.{GainsFront, GainsPart, GainsSettled, LeavesPart, LeavesSettled, answer_of, answer_without}
 use Rattle.colregs_program.specs.AskedScenarios.{log_of}
@@ -53,9 +53,9 @@ pub record Stops (mode : Mode) (scenario : Scenario) (left contents contents' : 
   pub stops : IfSome left (λ log. (text : List ℕ) × IsStopped mode scenario log because text × Appends contents contents' text)
 
 -- The log was read to its end and comes to nothing there, and the sink gained what it settles.
-pub record Ends (mode : Mode) (scenario : Scenario) (left left' contents contents' : Option (List ℕ)) (because : SessionFault) : Type 0 where
+pub record Ends (task : Task) (scenario : Scenario) (left left' contents contents' : Option (List ℕ)) (because : SessionFault) : Type 0 where
   pub end : IsAtEnd left'
-  pub ends : IfSome left (λ log. IsUnrefused mode scenario log × IsAnswerTo mode scenario log (Err because) × GainsSettled mode scenario log contents contents')
+  pub ends : IfSome left (λ log. IsUnrefused task.mode scenario log × IsAnswerTo task scenario log (Err because) × GainsSettled task.mode scenario log contents contents')
 
 -- what a fault says of a text that was to be written
 abbrev pub PutCause : ReportText → Option (List ℕ) → Option (List ℕ) → StreamFault → Type 0
@@ -87,6 +87,7 @@ PieceCause session piece now now' (fault.Unreported why.LogBytes) =
     × ((fed given : List ℕ) → StandsFor session fed given → (session_scenario session).log.max_bytes < length (fed ++ piece))
 PieceCause session piece now now' (fault.Unreported (why.Own lack)) = ⊥
 PieceCause session piece now now' (fault.Unreported why.Targets) = ⊥
+PieceCause session piece now now' (fault.Unreported (why.Entry index)) = ⊥
 
 -- what a fault says of what was taken of a log from its beginning, and of what the sink gained
 abbrev pub StreamCause : Task → Scenario → Option (List ℕ) → Option (List ℕ) → Option (List ℕ) → Option (List ℕ) → StreamFault → Type 0
@@ -94,15 +95,17 @@ StreamCause task scenario left left' contents contents' fault.NotRead = LeavesSe
 StreamCause task scenario left left' contents contents' fault.NotWritten =
     LeavesPart task.mode scenario left left' contents contents' ⊎ (IsAtEnd left' × IfSome left (λ log. GainsPart task scenario log contents contents'))
 StreamCause task scenario left left' contents contents' (fault.Unreported why.Vessels) =
-    Stops task.mode scenario left contents contents' why.Vessels ⊎ Ends task.mode scenario left left' contents contents' why.Vessels
+    Stops task.mode scenario left contents contents' why.Vessels ⊎ Ends task scenario left left' contents contents' why.Vessels
 StreamCause task scenario left left' contents contents' (fault.Unreported why.Pairs) =
-    Stops task.mode scenario left contents contents' why.Pairs ⊎ Ends task.mode scenario left left' contents contents' why.Pairs
+    Stops task.mode scenario left contents contents' why.Pairs ⊎ Ends task scenario left left' contents contents' why.Pairs
 StreamCause task scenario left left' contents contents' (fault.Unreported why.LogBytes) =
     StopsAt scenario.log.max_bytes 0 left left' read.TooLong × Stops task.mode scenario left contents contents' why.LogBytes
 StreamCause task scenario left left' contents contents' (fault.Unreported (why.Own lack)) =
-    Ends task.mode scenario left left' contents contents' (why.Own lack) × Keeps contents contents'
+    Ends task scenario left left' contents contents' (why.Own lack) × Keeps contents contents'
 StreamCause task scenario left left' contents contents' (fault.Unreported why.Targets) =
-    Ends task.mode scenario left left' contents contents' why.Targets × Keeps contents contents'
+    Ends task scenario left left' contents contents' why.Targets × Keeps contents contents'
+StreamCause task scenario left left' contents contents' (fault.Unreported (why.Entry index)) =
+    Ends task scenario left left' contents contents' (why.Entry index) × Keeps contents contents'
 StreamCause task scenario left left' contents contents' (fault.Unreported why.Memory) = IfSome left (λ log. GainsFront task.mode scenario log contents contents')
 
 -- what it does to the counts of faults of the log and of the sink
@@ -119,22 +122,24 @@ OutCount before now (fault.Unreported because) = now ≡ before
 -- ---- of a request
 
 -- what a fault says of the log of a request, and of what the sink gained
-abbrev pub ReportCause : Request → Scenario → Option (List ℕ) → Option (List ℕ) → Option (List ℕ) → Option (List ℕ) → StreamFault → Type 0
-ReportCause request scenario left left' contents contents' fault.NotRead =
+abbrev pub ReportCause : Request → List ℕ → Scenario → Option (List ℕ) → Option (List ℕ) → Option (List ℕ) → Option (List ℕ) → StreamFault → Type 0
+ReportCause request rows scenario left left' contents contents' fault.NotRead =
     IsTrue (reads_log request.mode) × LeavesSettled request.mode scenario left left' contents contents'
-ReportCause request scenario left left' contents contents' fault.NotWritten = WritesPart request scenario left left' contents contents'
-ReportCause request scenario left left' contents contents' (fault.Unreported why.Vessels) =
-    StopsWith request scenario left contents contents' (answer_of scenario (Err why.Vessels)) ⊎ EndsWith request scenario left left' contents contents' (answer_of scenario (Err why.Vessels))
-ReportCause request scenario left left' contents contents' (fault.Unreported why.Pairs) =
-    StopsWith request scenario left contents contents' (answer_of scenario (Err why.Pairs)) ⊎ EndsWith request scenario left left' contents contents' (answer_of scenario (Err why.Pairs))
-ReportCause request scenario left left' contents contents' (fault.Unreported why.LogBytes) =
+ReportCause request rows scenario left left' contents contents' fault.NotWritten = WritesPart request rows scenario left left' contents contents'
+ReportCause request rows scenario left left' contents contents' (fault.Unreported why.Vessels) =
+    StopsWith request scenario left contents contents' (answer_of scenario (Err why.Vessels)) ⊎ EndsWith request rows scenario left left' contents contents' (answer_of scenario (Err why.Vessels))
+ReportCause request rows scenario left left' contents contents' (fault.Unreported why.Pairs) =
+    StopsWith request scenario left contents contents' (answer_of scenario (Err why.Pairs)) ⊎ EndsWith request rows scenario left left' contents contents' (answer_of scenario (Err why.Pairs))
+ReportCause request rows scenario left left' contents contents' (fault.Unreported why.LogBytes) =
     (IsTrue (reads_log request.mode) → StopsAt scenario.log.max_bytes 0 left left' read.TooLong)
     × StopsWith request scenario left contents contents' (answer_of scenario (Err why.LogBytes))
-ReportCause request scenario left left' contents contents' (fault.Unreported (why.Own lack)) =
-    EndsWith request scenario left left' contents contents' (answer_of scenario (Err (why.Own lack))) × Keeps contents contents'
-ReportCause request scenario left left' contents contents' (fault.Unreported why.Targets) =
-    EndsWith request scenario left left' contents contents' (answer_of scenario (Err why.Targets)) × Keeps contents contents'
-ReportCause request scenario left left' contents contents' (fault.Unreported why.Memory) = IfSome (log_of request scenario left) (λ log. GainsFront request.mode scenario log contents contents')
+ReportCause request rows scenario left left' contents contents' (fault.Unreported (why.Own lack)) =
+    EndsWith request rows scenario left left' contents contents' (answer_of scenario (Err (why.Own lack))) × Keeps contents contents'
+ReportCause request rows scenario left left' contents contents' (fault.Unreported why.Targets) =
+    EndsWith request rows scenario left left' contents contents' (answer_of scenario (Err why.Targets)) × Keeps contents contents'
+ReportCause request rows scenario left left' contents contents' (fault.Unreported (why.Entry index)) =
+    EndsWith request rows scenario left left' contents contents' (answer_of scenario (Err (why.Entry index))) × Keeps contents contents'
+ReportCause request rows scenario left left' contents contents' (fault.Unreported why.Memory) = IfSome (log_of request scenario left) (λ log. GainsFront request.mode scenario log contents contents')
 
 -- A drill ends with these faults alone.
 abbrev pub is_of_drill : StreamFault → Bool
@@ -145,4 +150,5 @@ is_of_drill (fault.Unreported why.Pairs) = false
 is_of_drill (fault.Unreported why.LogBytes) = true
 is_of_drill (fault.Unreported (why.Own lack)) = false
 is_of_drill (fault.Unreported why.Targets) = false
+is_of_drill (fault.Unreported (why.Entry index)) = false
 is_of_drill (fault.Unreported why.Memory) = true

@@ -8,7 +8,7 @@ use Rattle.tracks.specs.declared.entry.BookFault.{BookFault}
 use Rattle.tracks.specs.declared.entry.BookFault.TheVariants as book
 use Rattle.scenario.specs.declared.values.Scenario.{Scenario}
 use Rattle.command_line.specs.declared.mode.Mode.{Mode}
-use Rattle.sessions.specs.Endings.{IsAnswerTo}
+use Rattle.sessions.specs.Endings.{IsAnswerOf}
 use Rattle.sessions.specs.Feeding.{UnlessMemory}
 use Rattle.sessions.specs.declared.session_fault.SessionFault.{SessionFault}
 use Rattle.sessions.specs.declared.session_fault.SessionFault.TheVariants as fault
@@ -30,5 +30,5 @@ preparing_fault prepare.TooManyTargets = fault.Targets
 preparing_fault prepare.Memory = fault.Memory
 
 -- what the fault says of the lines of a log at its end
-abbrev pub EndCause : Mode → Scenario → List ℕ → SessionFault → Type 0
-EndCause mode scenario log why = UnlessMemory why (IsAnswerTo mode scenario log (Err why))
+abbrev pub EndCause : Mode → List ℕ → Scenario → List ℕ → SessionFault → Type 0
+EndCause mode rows scenario log why = UnlessMemory why (IsAnswerOf mode rows scenario log (Err why))

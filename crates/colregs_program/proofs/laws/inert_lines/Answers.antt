@@ -8,4 +8,4 @@ use Rattle.colregs_program.proofs.laws.inert_lines.Goals as goal
 pub returns : goal.returns
 returns c = λ task scenario before part ending after text cause line inert report.
     of_mode scenario (((before ++ part) ++ ending) ++ after) (before ++ after) (ended_lines before) (without_carriage_return part) cause
-    (is_among before part ending after line) inert task.mode task.why text report
+    (is_among before part ending after line) inert task.mode task.why task.rows text report

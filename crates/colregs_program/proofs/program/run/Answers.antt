@@ -1,10 +1,11 @@
-use Rattle.std.proofs.Common.{◌≤◌, length, inl, inr, true, false, Err, refl, subst, sym, ◌∙◌, ap}
+use Rattle.std.proofs.Common.{◌≤◌, length, inl, inr, true, false, IsTrue, Err, refl, subst, sym, ◌∙◌, ap}
 use Rattle.command_line.proofs.Asked.{asked_or_nothing}
 use Rattle.sessions.specs.Modes.{reads_log}
-use Rattle.colregs_program.specs.Answers.{HoldsUnder, IsRefusedBy, greatest_scenario}
+use Rattle.colregs_program.specs.Answers.{HoldsUnder, IsOfMigration, IsRefusedBy, greatest_scenario}
+use Rattle.colregs_program.specs.declared.status.Status.{Status}
 use Rattle.command_line.specs.declared.mode.Mode.{Mode}
 use Rattle.colregs_program.proofs.Due.{migration_due}
-use Rattle.colregs_program.proofs.Refusals.{bytes_told, calm_told, drill_status, drill_told, drills_too, keeps_same, limit_told, log_calm_told, log_decides, memory_failed, memory_front, met_is, migrates, no_migration, no_report, not_asked, not_set_up, nothing_told, own_told, pairs_told, put_told, read_told, reported_met, reported_so, runs, set_up_limit, set_up_migrates, set_up_unfinished, shelf_calm_told, stream_limit, targets_told, unread_too, vessels_told, words_limit}
+use Rattle.colregs_program.proofs.Refusals.{asked_once, asked_twice, asked_where_it_fails, bytes_told, calm_told, drill_status, drill_told, drills_too, entry_told, keeps_same, limit_told, log_calm_told, log_decides, memory_failed, memory_front, met_is, migrates, no_migration, no_report, no_rows_migrated, not_asked, not_set_up, nothing_told, own_told, pairs_told, put_told, read_told, reported_met, reported_so, rows_too, runs, set_up_drills, set_up_limit, set_up_unfinished, shelf_calm_told, stream_limit, targets_told, unread_too, vessels_told, words_limit}
 use Rattle.colregs_program.proofs.SettingUp.{options_in_range}
 use Rattle.colregs_program.specs.declared.status.Status.TheVariants as status
 use Rattle.colregs_program.proofs.program.run.Goals as goal
@@ -29,7 +30,7 @@ returns-in-Err-clause-no_usage g c = λ request asks is.
     cc (memory, is)
 
 pub returns-in-Err-clause-fetched : goal.returns-in-Err-clause-fetched
-returns-in-Err-clause-fetched g c = λ request asks.
+returns-in-Err-clause-fetched g c = λ request asks none.
     let told = rw c.into.ensures at c.tell.ensures.same in
     inr (memory_failed c.args.words.now (Err c.in-Err.fault) c.in-Err.fault _ _ refl told request (c.in-Err.ensures.accepted request asks), refl)
 
@@ -38,7 +39,21 @@ returns-in-Err-clause-limits g c =
     let told = rw c.into.ensures at c.tell.ensures.same in
     limit_told _ _ _ told (words_limit c.in-Err.fault)
 
+pub returns-in-Err-clause-fetched_rows : goal.returns-in-Err-clause-fetched_rows
+returns-in-Err-clause-fetched_rows g c = λ request asks needs.
+    let told = rw c.into.ensures at c.tell.ensures.same in
+    inr (inr (memory_failed c.args.words.now (Err c.in-Err.fault) c.in-Err.fault _ _ refl told request (c.in-Err.ensures.accepted request asks), refl))
+
 -- ---- a migration
+
+pub returns-then-not-reports-clause-rows_limit : goal.returns-then-not-reports-clause-rows_limit
+returns-then-not-reports-clause-rows_limit g c = λ most is.
+    let no = subst (λ (s : Status). IsTrue (IsOfMigration s)) is c.write_migrated.ensures.answers in
+    absurd (cc no)
+
+pub returns-then-not-reports-clause-fetched_rows : goal.returns-then-not-reports-clause-fetched_rows
+returns-then-not-reports-clause-fetched_rows g c = λ request asks needs.
+    no_rows_migrated c.args.words.now request c.in-Ok.request _ asks c.in-Ok.ensures.asked (migrates c.in-Ok.request.mode (sym c.reports.ensures ∙ c.if-not-reports.true)) needs
 
 pub write_migrated-requires : goal.write_migrated-requires
 write_migrated-requires g c = migrates c.in-Ok.request.mode (sym c.reports.ensures ∙ c.if-not-reports.true)
@@ -97,9 +112,21 @@ pub returns-in-Err-set_up-clause-memory : goal.returns-in-Err-set_up-clause-memo
 returns-in-Err-set_up-clause-memory g c = λ is. inl (keeps_same _)
 
 pub returns-in-Err-set_up-clause-migration : goal.returns-in-Err-set_up-clause-migration
-returns-in-Err-set_up-clause-migration g c = λ request asked migrates.
+returns-in-Err-set_up-clause-migration g c = λ request asks migrates. no_migration c.args.words.now request c.in-Ok.request _ asks c.in-Ok.ensures.asked (sym c.reports.ensures ∙ c.if-not-reports.false) migrates
+
+pub returns-in-Err-set_up-clause-drill : goal.returns-in-Err-set_up-clause-drill
+returns-in-Err-set_up-clause-drill g c = λ request asks drills.
     let told = rw c.into-in-Err-set_up.ensures at c.tell-in-Err-set_up.ensures.same in
-    set_up_migrates _ c.in-Err-set_up.fault _ told
+    set_up_drills c.in-Ok.request _ _ _ _ c.in-Err-set_up.fault _ told (drills_too c.args.words.now request c.in-Ok.request asks c.in-Ok.ensures.asked drills) c.in-Err-set_up.ensures.cause
+
+pub returns-in-Err-set_up-clause-fetched : goal.returns-in-Err-set_up-clause-fetched
+returns-in-Err-set_up-clause-fetched g c = λ request asks none.
+    inl (asked_once c.in-Ok.request _ _ _ (rows_too c.args.words.now request c.in-Ok.request false asks c.in-Ok.ensures.asked none) c.in-Err-set_up.ensures.fetched)
+
+pub returns-in-Err-set_up-clause-fetched_rows : goal.returns-in-Err-set_up-clause-fetched_rows
+returns-in-Err-set_up-clause-fetched_rows g c = λ request asks needs.
+    let told = rw c.into-in-Err-set_up.ensures at c.tell-in-Err-set_up.ensures.same in
+    asked_where_it_fails c.in-Ok.request _ _ _ c.in-Err-set_up.fault _ told (rows_too c.args.words.now request c.in-Ok.request true asks c.in-Ok.ensures.asked needs) c.in-Err-set_up.ensures.fetched
 
 pub returns-in-Err-set_up-clause-unfetched : goal.returns-in-Err-set_up-clause-unfetched
 returns-in-Err-set_up-clause-unfetched g c = λ nothing. absurd (asked_or_nothing c.args.words.now c.in-Ok.request c.in-Ok.ensures.asked nothing)
@@ -109,8 +136,21 @@ returns-in-Err-set_up-clause-unfetched g c = λ nothing. absurd (asked_or_nothin
 pub returns-in-Err-report_on-clause-due : goal.returns-in-Err-report_on-clause-due
 returns-in-Err-report_on-clause-due g c = λ due is shelf source sink.
     let told = rw c.stream_status.ensures at c.tell-in-Err-report_on.ensures.same in
-    let follows = log_decides _ _ _ _ due _ _ c.in-Ok-set_up.scenario c.in-Ok.ensures.asked (sym c.reports.ensures ∙ c.if-not-reports.false) is c.in-Ok-set_up.ensures.due shelf in
-    no_report c.in-Ok.request c.in-Ok-set_up.scenario _ _ _ _ c.one_answer.ensures c.in-Err-report_on.fault _ due _ _ _ _ _ _ refl follows c.in-Err-report_on.ensures.cause c.in-Err-report_on.ensures.log_faults c.in-Err-report_on.ensures.out_faults source sink told
+    let follows = log_decides _ _ _ _ due _ _ (c.in-Ok-set_up.made.scenario, c.in-Ok-set_up.made.rows.items) c.in-Ok.ensures.asked (sym c.reports.ensures ∙ c.if-not-reports.false) is c.in-Ok-set_up.ensures.due shelf in
+    no_report c.in-Ok.request c.in-Ok-set_up.made.rows.items c.in-Ok-set_up.made.scenario _ _ _ _ c.one_answer.ensures c.in-Err-report_on.fault _ due _ _ _ _ _ _ refl follows c.in-Err-report_on.ensures.cause c.in-Err-report_on.ensures.log_faults c.in-Err-report_on.ensures.out_faults source sink told
+
+pub returns-in-Err-report_on-clause-fetched : goal.returns-in-Err-report_on-clause-fetched
+returns-in-Err-report_on-clause-fetched g c = λ request asks none.
+    inl (asked_once c.in-Ok.request _ _ _ (rows_too c.args.words.now request c.in-Ok.request false asks c.in-Ok.ensures.asked none) c.in-Ok-set_up.ensures.fetched)
+
+pub returns-in-Err-report_on-clause-fetched_rows : goal.returns-in-Err-report_on-clause-fetched_rows
+returns-in-Err-report_on-clause-fetched_rows g c = λ request asks needs.
+    inl (asked_twice c.in-Ok.request _ _ c.in-Ok-set_up.made (rows_too c.args.words.now request c.in-Ok.request true asks c.in-Ok.ensures.asked needs) c.in-Ok-set_up.ensures.fetched)
+
+pub returns-in-Err-report_on-clause-bad_entry : goal.returns-in-Err-report_on-clause-bad_entry
+returns-in-Err-report_on-clause-bad_entry g c = λ index is.
+    let told = rw c.stream_status.ensures at c.tell-in-Err-report_on.ensures.same in
+    runs c.args.words.now (g.H.Shelf.files c.args.shelf.now) c.in-Ok.request c.in-Ok-set_up.made.rows.items c.in-Ok-set_up.made.scenario _ _ c.in-Ok.ensures.asked (sym c.reports.ensures ∙ c.if-not-reports.false) tt c.in-Ok-set_up.ensures.scenario c.in-Ok-set_up.ensures.rows (entry_told c.in-Ok.request c.in-Ok-set_up.made.rows.items c.in-Ok-set_up.made.scenario _ _ _ _ c.in-Err-report_on.fault index _ _ _ told is c.in-Err-report_on.ensures.cause)
 
 pub returns-in-Err-report_on-clause-unfetched : goal.returns-in-Err-report_on-clause-unfetched
 returns-in-Err-report_on-clause-unfetched g c = λ nothing. absurd (asked_or_nothing c.args.words.now c.in-Ok.request c.in-Ok.ensures.asked nothing)
@@ -130,50 +170,50 @@ returns-in-Err-report_on-clause-drill g c = λ request asks drills.
 pub returns-in-Err-report_on-clause-read_fault : goal.returns-in-Err-report_on-clause-read_fault
 returns-in-Err-report_on-clause-read_fault g c = λ is.
     let told = rw c.stream_status.ensures at c.tell-in-Err-report_on.ensures.same in
-    let left = read_told c.in-Ok.request c.in-Ok-set_up.scenario _ _ _ _ c.in-Err-report_on.fault _ _ _ _ _ told is c.in-Err-report_on.ensures.cause c.in-Err-report_on.ensures.log_faults in
-    (left.0, runs c.args.words.now (g.H.Shelf.files c.args.shelf.now) c.in-Ok.request c.in-Ok-set_up.scenario _ _ c.in-Ok.ensures.asked (sym c.reports.ensures ∙ c.if-not-reports.false) left.1 c.in-Ok-set_up.ensures.scenario left.2)
+    let left = read_told c.in-Ok.request c.in-Ok-set_up.made.rows.items c.in-Ok-set_up.made.scenario _ _ _ _ c.in-Err-report_on.fault _ _ _ _ _ told is c.in-Err-report_on.ensures.cause c.in-Err-report_on.ensures.log_faults in
+    (left.0, runs c.args.words.now (g.H.Shelf.files c.args.shelf.now) c.in-Ok.request c.in-Ok-set_up.made.rows.items c.in-Ok-set_up.made.scenario _ _ c.in-Ok.ensures.asked (sym c.reports.ensures ∙ c.if-not-reports.false) left.1 c.in-Ok-set_up.ensures.scenario c.in-Ok-set_up.ensures.rows left.2)
 
 pub returns-in-Err-report_on-clause-log_limit : goal.returns-in-Err-report_on-clause-log_limit
 returns-in-Err-report_on-clause-log_limit g c = λ most is.
     let told = rw c.stream_status.ensures at c.tell-in-Err-report_on.ensures.same in
-    let long = bytes_told c.in-Ok.request c.in-Ok-set_up.scenario _ _ _ _ c.in-Err-report_on.fault most _ _ _ refl told is c.in-Err-report_on.ensures.cause in
-    runs c.args.words.now (g.H.Shelf.files c.args.shelf.now) c.in-Ok.request c.in-Ok-set_up.scenario _ _ c.in-Ok.ensures.asked (sym c.reports.ensures ∙ c.if-not-reports.false) long.stops c.in-Ok-set_up.ensures.scenario (long.limit, long.met)
+    let long = bytes_told c.in-Ok.request c.in-Ok-set_up.made.rows.items c.in-Ok-set_up.made.scenario _ _ _ _ c.in-Err-report_on.fault most _ _ _ refl told is c.in-Err-report_on.ensures.cause in
+    runs c.args.words.now (g.H.Shelf.files c.args.shelf.now) c.in-Ok.request c.in-Ok-set_up.made.rows.items c.in-Ok-set_up.made.scenario _ _ c.in-Ok.ensures.asked (sym c.reports.ensures ∙ c.if-not-reports.false) long.stops c.in-Ok-set_up.ensures.scenario c.in-Ok-set_up.ensures.rows (long.limit, long.met)
 
 pub returns-in-Err-report_on-clause-vessel_limit : goal.returns-in-Err-report_on-clause-vessel_limit
 returns-in-Err-report_on-clause-vessel_limit g c = λ most is.
     let told = rw c.stream_status.ensures at c.tell-in-Err-report_on.ensures.same in
-    runs c.args.words.now (g.H.Shelf.files c.args.shelf.now) c.in-Ok.request c.in-Ok-set_up.scenario _ _ c.in-Ok.ensures.asked (sym c.reports.ensures ∙ c.if-not-reports.false) tt c.in-Ok-set_up.ensures.scenario (vessels_told c.in-Ok.request c.in-Ok-set_up.scenario _ _ _ _ c.in-Err-report_on.fault most _ _ _ told is c.in-Err-report_on.ensures.cause)
+    runs c.args.words.now (g.H.Shelf.files c.args.shelf.now) c.in-Ok.request c.in-Ok-set_up.made.rows.items c.in-Ok-set_up.made.scenario _ _ c.in-Ok.ensures.asked (sym c.reports.ensures ∙ c.if-not-reports.false) tt c.in-Ok-set_up.ensures.scenario c.in-Ok-set_up.ensures.rows (vessels_told c.in-Ok.request c.in-Ok-set_up.made.rows.items c.in-Ok-set_up.made.scenario _ _ _ _ c.in-Err-report_on.fault most _ _ _ told is c.in-Err-report_on.ensures.cause)
 
 pub returns-in-Err-report_on-clause-pair_limit : goal.returns-in-Err-report_on-clause-pair_limit
 returns-in-Err-report_on-clause-pair_limit g c = λ most is.
     let told = rw c.stream_status.ensures at c.tell-in-Err-report_on.ensures.same in
-    runs c.args.words.now (g.H.Shelf.files c.args.shelf.now) c.in-Ok.request c.in-Ok-set_up.scenario _ _ c.in-Ok.ensures.asked (sym c.reports.ensures ∙ c.if-not-reports.false) tt c.in-Ok-set_up.ensures.scenario (pairs_told c.in-Ok.request c.in-Ok-set_up.scenario _ _ _ _ c.in-Err-report_on.fault most _ _ _ told is c.in-Err-report_on.ensures.cause)
+    runs c.args.words.now (g.H.Shelf.files c.args.shelf.now) c.in-Ok.request c.in-Ok-set_up.made.rows.items c.in-Ok-set_up.made.scenario _ _ c.in-Ok.ensures.asked (sym c.reports.ensures ∙ c.if-not-reports.false) tt c.in-Ok-set_up.ensures.scenario c.in-Ok-set_up.ensures.rows (pairs_told c.in-Ok.request c.in-Ok-set_up.made.rows.items c.in-Ok-set_up.made.scenario _ _ _ _ c.in-Err-report_on.fault most _ _ _ told is c.in-Err-report_on.ensures.cause)
 
 pub returns-in-Err-report_on-clause-target_limit : goal.returns-in-Err-report_on-clause-target_limit
 returns-in-Err-report_on-clause-target_limit g c = λ most is.
     let told = rw c.stream_status.ensures at c.tell-in-Err-report_on.ensures.same in
-    runs c.args.words.now (g.H.Shelf.files c.args.shelf.now) c.in-Ok.request c.in-Ok-set_up.scenario _ _ c.in-Ok.ensures.asked (sym c.reports.ensures ∙ c.if-not-reports.false) tt c.in-Ok-set_up.ensures.scenario (targets_told c.in-Ok.request c.in-Ok-set_up.scenario _ _ _ _ c.in-Err-report_on.fault most _ _ _ told is c.in-Err-report_on.ensures.cause)
+    runs c.args.words.now (g.H.Shelf.files c.args.shelf.now) c.in-Ok.request c.in-Ok-set_up.made.rows.items c.in-Ok-set_up.made.scenario _ _ c.in-Ok.ensures.asked (sym c.reports.ensures ∙ c.if-not-reports.false) tt c.in-Ok-set_up.ensures.scenario c.in-Ok-set_up.ensures.rows (targets_told c.in-Ok.request c.in-Ok-set_up.made.rows.items c.in-Ok-set_up.made.scenario _ _ _ _ c.in-Err-report_on.fault most _ _ _ told is c.in-Err-report_on.ensures.cause)
 
 pub returns-in-Err-report_on-clause-own_unready : goal.returns-in-Err-report_on-clause-own_unready
 returns-in-Err-report_on-clause-own_unready g c = λ why is.
     let told = rw c.stream_status.ensures at c.tell-in-Err-report_on.ensures.same in
-    runs c.args.words.now (g.H.Shelf.files c.args.shelf.now) c.in-Ok.request c.in-Ok-set_up.scenario _ _ c.in-Ok.ensures.asked (sym c.reports.ensures ∙ c.if-not-reports.false) tt c.in-Ok-set_up.ensures.scenario (own_told c.in-Ok.request c.in-Ok-set_up.scenario _ _ _ _ c.in-Err-report_on.fault why _ _ _ told is c.in-Err-report_on.ensures.cause)
+    runs c.args.words.now (g.H.Shelf.files c.args.shelf.now) c.in-Ok.request c.in-Ok-set_up.made.rows.items c.in-Ok-set_up.made.scenario _ _ c.in-Ok.ensures.asked (sym c.reports.ensures ∙ c.if-not-reports.false) tt c.in-Ok-set_up.ensures.scenario c.in-Ok-set_up.ensures.rows (own_told c.in-Ok.request c.in-Ok-set_up.made.rows.items c.in-Ok-set_up.made.scenario _ _ _ _ c.in-Err-report_on.fault why _ _ _ told is c.in-Err-report_on.ensures.cause)
 
 pub returns-in-Err-report_on-clause-write_fault : goal.returns-in-Err-report_on-clause-write_fault
 returns-in-Err-report_on-clause-write_fault g c = λ is.
     let told = rw c.stream_status.ensures at c.tell-in-Err-report_on.ensures.same in
-    let left = put_told c.in-Ok.request c.in-Ok-set_up.scenario _ _ _ _ c.in-Err-report_on.fault _ _ _ _ _ told is c.in-Err-report_on.ensures.cause c.in-Err-report_on.ensures.out_faults in
-    (left.0, inl (runs c.args.words.now (g.H.Shelf.files c.args.shelf.now) c.in-Ok.request c.in-Ok-set_up.scenario _ _ c.in-Ok.ensures.asked (sym c.reports.ensures ∙ c.if-not-reports.false) tt c.in-Ok-set_up.ensures.scenario left.1))
+    let left = put_told c.in-Ok.request c.in-Ok-set_up.made.rows.items c.in-Ok-set_up.made.scenario _ _ _ _ c.in-Err-report_on.fault _ _ _ _ _ told is c.in-Err-report_on.ensures.cause c.in-Err-report_on.ensures.out_faults in
+    (left.0, inl (runs c.args.words.now (g.H.Shelf.files c.args.shelf.now) c.in-Ok.request c.in-Ok-set_up.made.rows.items c.in-Ok-set_up.made.scenario _ _ c.in-Ok.ensures.asked (sym c.reports.ensures ∙ c.if-not-reports.false) tt c.in-Ok-set_up.ensures.scenario c.in-Ok-set_up.ensures.rows left.1))
 
 pub returns-in-Err-report_on-clause-memory : goal.returns-in-Err-report_on-clause-memory
 returns-in-Err-report_on-clause-memory g c = λ is.
     let told = rw c.stream_status.ensures at c.tell-in-Err-report_on.ensures.same in
-    inr (runs c.args.words.now (g.H.Shelf.files c.args.shelf.now) c.in-Ok.request c.in-Ok-set_up.scenario _ _ c.in-Ok.ensures.asked (sym c.reports.ensures ∙ c.if-not-reports.false) tt c.in-Ok-set_up.ensures.scenario (memory_front c.in-Ok.request c.in-Ok-set_up.scenario _ _ _ _ c.in-Err-report_on.fault _ _ _ told is (λ made. made) c.in-Err-report_on.ensures.cause))
+    inr (runs c.args.words.now (g.H.Shelf.files c.args.shelf.now) c.in-Ok.request c.in-Ok-set_up.made.rows.items c.in-Ok-set_up.made.scenario _ _ c.in-Ok.ensures.asked (sym c.reports.ensures ∙ c.if-not-reports.false) tt c.in-Ok-set_up.ensures.scenario c.in-Ok-set_up.ensures.rows (memory_front c.in-Ok.request c.in-Ok-set_up.made.rows.items c.in-Ok-set_up.made.scenario _ _ _ _ c.in-Err-report_on.fault _ _ _ told is (λ made. made) c.in-Err-report_on.ensures.cause))
 
 pub returns-in-Err-report_on-clause-unwritten : goal.returns-in-Err-report_on-clause-unwritten
 returns-in-Err-report_on-clause-unwritten g c = λ nothing.
     let told = rw c.stream_status.ensures at c.tell-in-Err-report_on.ensures.same in
-    nothing_told c.in-Ok.request c.in-Ok-set_up.scenario _ _ _ _ c.in-Err-report_on.fault _ _ _ told nothing c.in-Err-report_on.ensures.cause
+    nothing_told c.in-Ok.request c.in-Ok-set_up.made.rows.items c.in-Ok-set_up.made.scenario _ _ _ _ c.in-Err-report_on.fault _ _ _ told nothing c.in-Err-report_on.ensures.cause
 
 pub returns-in-Err-report_on-clause-calm : goal.returns-in-Err-report_on-clause-calm
 returns-in-Err-report_on-clause-calm g c = λ not.
@@ -203,13 +243,21 @@ returns-clause-shelf_calm g c = λ not. c.in-Ok-set_up.ensures.calm (λ is. cc i
 
 pub returns-then-none-clause-headline : goal.returns-then-none-clause-headline
 returns-then-none-clause-headline g c = λ finished.
-    inl (runs c.args.words.now (g.H.Shelf.files c.args.shelf.now) c.in-Ok.request c.in-Ok-set_up.scenario _ _ c.in-Ok.ensures.asked (sym c.reports.ensures ∙ c.if-not-reports.false) c.in-Ok-report_on.ensures.end c.in-Ok-set_up.ensures.scenario
-    (reported_so c.in-Ok.request c.in-Ok-set_up.scenario _ (g.S.Source.left c.report_on.new.log) _ _ true status.NoManoeuvre refl (rw c.if-none.true at c.in-Ok-report_on.ensures.report)))
+    inl (runs c.args.words.now (g.H.Shelf.files c.args.shelf.now) c.in-Ok.request c.in-Ok-set_up.made.rows.items c.in-Ok-set_up.made.scenario _ _ c.in-Ok.ensures.asked (sym c.reports.ensures ∙ c.if-not-reports.false) c.in-Ok-report_on.ensures.end c.in-Ok-set_up.ensures.scenario c.in-Ok-set_up.ensures.rows
+    (reported_so c.in-Ok.request c.in-Ok-set_up.made.rows.items c.in-Ok-set_up.made.scenario _ (g.S.Source.left c.report_on.new.log) _ _ true status.NoManoeuvre refl (rw c.if-none.true at c.in-Ok-report_on.ensures.report)))
 
 pub returns-then-none-clause-due : goal.returns-then-none-clause-due
 returns-then-none-clause-due g c = λ due is shelf source sink.
-    let follows = log_decides _ _ _ _ due _ _ c.in-Ok-set_up.scenario c.in-Ok.ensures.asked (sym c.reports.ensures ∙ c.if-not-reports.false) is c.in-Ok-set_up.ensures.due shelf in
-    inl (met_is c.one_answer.ensures _ c.in-Ok.request c.in-Ok-set_up.scenario due status.NoManoeuvre (reported_met c.in-Ok.request c.in-Ok-set_up.scenario _ (g.S.Source.left c.report_on.new.log) _ _ true (rw c.if-none.true at c.in-Ok-report_on.ensures.report)) follows)
+    let follows = log_decides _ _ _ _ due _ _ (c.in-Ok-set_up.made.scenario, c.in-Ok-set_up.made.rows.items) c.in-Ok.ensures.asked (sym c.reports.ensures ∙ c.if-not-reports.false) is c.in-Ok-set_up.ensures.due shelf in
+    inl (met_is c.one_answer.ensures _ c.in-Ok.request c.in-Ok-set_up.made.rows.items c.in-Ok-set_up.made.scenario due status.NoManoeuvre (reported_met c.in-Ok.request c.in-Ok-set_up.made.rows.items c.in-Ok-set_up.made.scenario _ (g.S.Source.left c.report_on.new.log) _ _ true (rw c.if-none.true at c.in-Ok-report_on.ensures.report)) follows)
+
+pub returns-then-none-clause-fetched : goal.returns-then-none-clause-fetched
+returns-then-none-clause-fetched g c = λ request asks none.
+    inl (asked_once c.in-Ok.request _ _ _ (rows_too c.args.words.now request c.in-Ok.request false asks c.in-Ok.ensures.asked none) c.in-Ok-set_up.ensures.fetched)
+
+pub returns-then-none-clause-fetched_rows : goal.returns-then-none-clause-fetched_rows
+returns-then-none-clause-fetched_rows g c = λ request asks needs.
+    inl (asked_twice c.in-Ok.request _ _ c.in-Ok-set_up.made (rows_too c.args.words.now request c.in-Ok.request true asks c.in-Ok.ensures.asked needs) c.in-Ok-set_up.ensures.fetched)
 
 pub returns-then-none-clause-unfetched : goal.returns-then-none-clause-unfetched
 returns-then-none-clause-unfetched g c = λ nothing. absurd (asked_or_nothing c.args.words.now c.in-Ok.request c.in-Ok.ensures.asked nothing)
@@ -228,13 +276,21 @@ returns-then-none-clause-drill g c = λ request asks drills.
 
 pub returns-clause-headline : goal.returns-clause-headline
 returns-clause-headline g c = λ finished.
-    inl (runs c.args.words.now (g.H.Shelf.files c.args.shelf.now) c.in-Ok.request c.in-Ok-set_up.scenario _ _ c.in-Ok.ensures.asked (sym c.reports.ensures ∙ c.if-not-reports.false) c.in-Ok-report_on.ensures.end c.in-Ok-set_up.ensures.scenario
-    (reported_so c.in-Ok.request c.in-Ok-set_up.scenario _ (g.S.Source.left c.report_on.new.log) _ _ false status.Done refl (rw c.if-none.false at c.in-Ok-report_on.ensures.report)))
+    inl (runs c.args.words.now (g.H.Shelf.files c.args.shelf.now) c.in-Ok.request c.in-Ok-set_up.made.rows.items c.in-Ok-set_up.made.scenario _ _ c.in-Ok.ensures.asked (sym c.reports.ensures ∙ c.if-not-reports.false) c.in-Ok-report_on.ensures.end c.in-Ok-set_up.ensures.scenario c.in-Ok-set_up.ensures.rows
+    (reported_so c.in-Ok.request c.in-Ok-set_up.made.rows.items c.in-Ok-set_up.made.scenario _ (g.S.Source.left c.report_on.new.log) _ _ false status.Done refl (rw c.if-none.false at c.in-Ok-report_on.ensures.report)))
 
 pub returns-clause-due : goal.returns-clause-due
 returns-clause-due g c = λ due is shelf source sink.
-    let follows = log_decides _ _ _ _ due _ _ c.in-Ok-set_up.scenario c.in-Ok.ensures.asked (sym c.reports.ensures ∙ c.if-not-reports.false) is c.in-Ok-set_up.ensures.due shelf in
-    inl (met_is c.one_answer.ensures _ c.in-Ok.request c.in-Ok-set_up.scenario due status.Done (reported_met c.in-Ok.request c.in-Ok-set_up.scenario _ (g.S.Source.left c.report_on.new.log) _ _ false (rw c.if-none.false at c.in-Ok-report_on.ensures.report)) follows)
+    let follows = log_decides _ _ _ _ due _ _ (c.in-Ok-set_up.made.scenario, c.in-Ok-set_up.made.rows.items) c.in-Ok.ensures.asked (sym c.reports.ensures ∙ c.if-not-reports.false) is c.in-Ok-set_up.ensures.due shelf in
+    inl (met_is c.one_answer.ensures _ c.in-Ok.request c.in-Ok-set_up.made.rows.items c.in-Ok-set_up.made.scenario due status.Done (reported_met c.in-Ok.request c.in-Ok-set_up.made.rows.items c.in-Ok-set_up.made.scenario _ (g.S.Source.left c.report_on.new.log) _ _ false (rw c.if-none.false at c.in-Ok-report_on.ensures.report)) follows)
+
+pub returns-clause-fetched : goal.returns-clause-fetched
+returns-clause-fetched g c = λ request asks none.
+    inl (asked_once c.in-Ok.request _ _ _ (rows_too c.args.words.now request c.in-Ok.request false asks c.in-Ok.ensures.asked none) c.in-Ok-set_up.ensures.fetched)
+
+pub returns-clause-fetched_rows : goal.returns-clause-fetched_rows
+returns-clause-fetched_rows g c = λ request asks needs.
+    inl (asked_twice c.in-Ok.request _ _ c.in-Ok-set_up.made (rows_too c.args.words.now request c.in-Ok.request true asks c.in-Ok.ensures.asked needs) c.in-Ok-set_up.ensures.fetched)
 
 pub returns-clause-unfetched : goal.returns-clause-unfetched
 returns-clause-unfetched g c = λ nothing. absurd (asked_or_nothing c.args.words.now c.in-Ok.request c.in-Ok.ensures.asked nothing)

@@ -1,6 +1,7 @@
 use Rattle.std.proofs.Common.{◌∙◌, sym}
 use Rattle.std.proofs.lemmas.Result.{IfErr-weaker}
 use Rattle.outside.proofs.ForCallers.{err_cause}
+use Rattle.sessions.specs.declared.asked.Asked.{Asked}
 use Rattle.colregs_program.specs.AskedScenarios.{log_of}
 use Rattle.colregs_program.proofs.AskedLogs.{cause_of_read, made_cause}
 use Rattle.colregs_program.proofs.DrillVessels.{drill_result}
@@ -9,19 +10,20 @@ use Rattle.colregs_program.proofs.report.report_on.Goals as goal
 
 pub returns-then-reads_log-clause-cause : goal.returns-then-reads_log-clause-cause
 returns-then-reads_log-clause-cause g c =
-    IfErr-weaker c.write_report.result _ _ (λ because cause. cause_of_read c.args.request.now c.args.scenario _ _ _ _ because (sym c.reads_log.ensures ∙ c.if-reads_log.true) cause) c.write_report.ensures.cause
+    IfErr-weaker c.write_report.result _ _ (λ because cause. cause_of_read c.args.request.now c.args.set_up.rows.items c.args.set_up.scenario _ _ _ _ because (sym c.reads_log.ensures ∙ c.if-reads_log.true) (rw c.as_slice.ensures.value at cause)) c.write_report.ensures.cause
 
 pub returns-in_err-made-clause-cause : goal.returns-in_err-made-clause-cause
 returns-in_err-made-clause-cause g c =
     err_cause c.from_residual.result _ _ c.from_residual.ensures.1
-    (none_begun c.args.request.now.mode c.args.scenario (log_of c.args.request.now c.args.scenario (g.S.Source.left c.args.log.now)) (g.K.Sink.contents c.args.out.now))
+    (none_begun c.args.request.now.mode c.args.set_up.scenario (log_of c.args.request.now c.args.set_up.scenario (g.S.Source.left c.args.log.now)) (g.K.Sink.contents c.args.out.now))
 
 pub returns-clause-cause : goal.returns-clause-cause
 returns-clause-cause g c =
-    made_cause c.args.request.now c.args.scenario (g.S.Source.left c.args.log.now) (sym c.reads_log.ensures ∙ c.if-reads_log.false) c.requires.reports c.new-source.result.left (c.new-source.ensures.left ∙ c.in_ok-made.ensures)
-    _ _ _ _ c.write_report-2.result c.write_report-2.ensures.cause c.write_report-2.ensures.log_faults
+    made_cause c.args.request.now c.args.set_up.rows.items c.args.set_up.scenario (g.S.Source.left c.args.log.now) (sym c.reads_log.ensures ∙ c.if-reads_log.false) c.requires.reports c.new-source.result.left (c.new-source.ensures.left ∙ c.in_ok-made.ensures)
+    _ _ _ _ c.write_report-2.result (rw c.as_slice.ensures.value at c.write_report-2.ensures.cause) c.write_report-2.ensures.log_faults
 
 pub returns-clause-drill : goal.returns-clause-drill
 returns-clause-drill g c = λ makes.
-    drill_result c.args.scenario c.args.request.now.options.seed c.requires.in_range.window c.ended_lines_stay.ensures.all c.new-source.result.left (c.new-source.ensures.left ∙ c.in_ok-made.ensures)
-    c.args.request.now.mode makes c.requires.reports c.args.request.now.options.why _ _ _ c.write_report-2.result c.write_report-2.ensures.report c.write_report-2.ensures.cause c.write_report-2.ensures.log_faults
+    let asked : Asked = record { why = c.args.request.now.options.why; rows = c.as_slice.result } in
+    drill_result c.args.set_up.scenario c.args.request.now.options.seed c.requires.in_range.window c.ended_lines_stay.ensures.all c.new-source.result.left (c.new-source.ensures.left ∙ c.in_ok-made.ensures)
+    c.args.request.now.mode makes c.requires.reports asked _ _ _ c.write_report-2.result c.write_report-2.ensures.report c.write_report-2.ensures.cause c.write_report-2.ensures.log_faults

@@ -1,29 +1,24 @@
-use Rattle.std.proofs.Common.{◌≡◌, ◌∙◌, inr, Ok, Err, None, subst, sym, IsTrue}
-use Rattle.std.specs.Prelude.{IsSome}
-use Rattle.scenario.specs.ScenarioValues.{IsInRange}
-use Rattle.scenario.specs.declared.values.Scenario.{Scenario}
-use Rattle.colregs_program.proofs.SettingUp.{due-from_read, in_range, own_needed, own_unneeded}
+use Rattle.std.proofs.Common.{sym, subst, Result}
+use Rattle.colregs_program.specs.Inner.SetUps.{came_of}
+use Rattle.colregs_program.specs.declared.set_up.SetUp.{SetUp}
+use Rattle.colregs_program.specs.declared.set_up.SetUpFault.{SetUpFault}
+use Rattle.colregs_program.proofs.SettingUp.{GivesDue, both_had, handed_on, rows_fail, scenario_fails}
 use Rattle.colregs_program.proofs.set_up.set_up.Goals as goal
 
-pub returns-in-Ok-clause-due : goal.returns-in-Ok-clause-due
-returns-in-Ok-clause-due g c = λ due is_due.
-    let read = rw (c.as_slice.ensures.value, c.needs_own.ensures) at c.in-Ok.ensures in
-    rw c.with_options.ensures (inr (due-from_read c.args.request.now _ c.in_ok-text.text (Ok c.in-Ok.scenario) c.requires.reports c.in_ok-text.ensures.content read.meant read.told due is_due))
+pub returns-in_err-scenario-clause-due : goal.returns-in_err-scenario-clause-due
+returns-in_err-scenario-clause-due g c =
+    subst (λ (r : Result SetUp SetUpFault). GivesDue c.args.request.now (g.H.Shelf.files c.args.shelf.now) (g.H.Shelf.faults c.args.shelf.now) (g.H.Shelf.faults c.scenario_of.new.shelf) (came_of r))
+    (sym (handed_on c.from_residual.result c.in_err-scenario.field-0.0 c.from_residual.ensures.1))
+    (scenario_fails c.args.request.now (g.H.Shelf.files c.args.shelf.now) _ _ c.in_err-scenario.field-0.0 c.in_err-scenario.ensures.due)
+
+pub returns-in_err-rows-clause-due : goal.returns-in_err-rows-clause-due
+returns-in_err-rows-clause-due g c =
+    subst (λ (r : Result SetUp SetUpFault). GivesDue c.args.request.now (g.H.Shelf.files c.args.shelf.now) (g.H.Shelf.faults c.args.shelf.now) (g.H.Shelf.faults c.rows_of.new.shelf) (came_of r))
+    (sym (handed_on c.from_residual-in_err-rows.result c.in_err-rows.field-0.0 c.from_residual-in_err-rows.ensures.1))
+    (rows_fail c.args.request.now (g.H.Shelf.files c.args.shelf.now) _ _ _ c.in_ok-scenario.scenario (c.in_ok-scenario.ensures.calm (λ is. cc is)) c.in_ok-scenario.ensures.due c.in_err-rows.ensures.steps
+    c.in_err-rows.field-0.0 (rw c.in_ok-scenario.ensures.same at c.in_err-rows.ensures.due))
 
 pub returns-clause-due : goal.returns-clause-due
-returns-clause-due g c = λ due is_due.
-    let read = rw (c.as_slice.ensures.value, c.needs_own.ensures) at c.in-Err.ensures in
-    rw c.into.ensures (inr (due-from_read c.args.request.now _ c.in_ok-text.text (Err c.in-Err.fault) c.requires.reports c.in_ok-text.ensures.content read.meant read.told due is_due))
-
-pub returns-in-Ok-clause-own : goal.returns-in-Ok-clause-own
-returns-in-Ok-clause-own g c = λ needed.
-    subst (λ (s : Scenario). IsSome s.own) (sym c.with_options.ensures)
-    (own_needed c.needs_own.result _ c.in-Ok.scenario (subst IsTrue (sym c.needs_own.ensures) needed) c.in-Ok.ensures.values)
-
-pub returns-in-Ok-clause-unneeded : goal.returns-in-Ok-clause-unneeded
-returns-in-Ok-clause-unneeded g c = λ unneeded.
-    subst (λ (s : Scenario). s.own ≡ None) (sym c.with_options.ensures) (own_unneeded c.needs_own.result _ c.in-Ok.scenario (c.needs_own.ensures ∙ unneeded) c.in-Ok.ensures.values)
-
-pub returns-in-Ok-clause-in_range : goal.returns-in-Ok-clause-in_range
-returns-in-Ok-clause-in_range g c =
-    subst IsInRange (sym c.with_options.ensures) (in_range c.args.request.now.options c.in-Ok.scenario c.requires.options c.in-Ok.ensures.in_range)
+returns-clause-due g c =
+    both_had c.args.request.now (g.H.Shelf.files c.args.shelf.now) _ _ _ c.in_ok-scenario.scenario (c.in_ok-scenario.ensures.calm (λ is. cc is)) c.in_ok-scenario.ensures.due c.in_ok-rows.ensures.steps
+    c.in_ok-rows.rows.items (rw c.in_ok-scenario.ensures.same at c.in_ok-rows.ensures.due)

@@ -2,4 +2,4 @@ use Rattle.sessions.proofs.Refusing.{one_met}
 use Rattle.sessions.proofs.laws.one_answer.Goals as goal
 
 pub returns : goal.returns
-returns c = λ m scenario. one_met c.ended_lines_stay.ensures.ended c.many_settled_stay.ensures m scenario
+returns c = one_met c.ended_lines_stay.ensures.ended c.many_settled_stay.ensures

@@ -1,4 +1,5 @@
-use Rattle.std.proofs.Common.{[], List, ℕ, ◌++◌, ◌∙◌, ap, subst, sym}
+use Rattle.std.proofs.Common.{[], List, ℕ, ◌++◌, ◌∙◌, ap, refl, subst, sym}
+use Rattle.command_line.specs.declared.mode.Mode.TheVariants as mode
 use Rattle.situations.specs.LeastPlans.{AllFail}
 use Rattle.outside.proofs.ForCallers.{err_cause}
 use Rattle.log_lines.specs.JudgedLines.{judged_lines, numbers_of}
@@ -8,7 +9,7 @@ use Rattle.situations.specs.PlanSituations.{vessels_near}
 use Rattle.sessions.specs.PlanReport.{manoeuvre_rows, near_rows, plan_text}
 use Rattle.sessions.proofs.OutcomeRows.{count_rows-from_counts}
 use Rattle.sessions.proofs.PlanText.{three_parts}
-use Rattle.sessions.proofs.Seeking.{are_reasons, plan_answer, plan_cause}
+use Rattle.sessions.proofs.Seeking.{are_reasons, own_cause, plan_answer}
 use Rattle.sessions.proofs.plan.end_plan.Goals as goal
 
 pub write_search-requires-clause-stands : goal.write_search-requires-clause-stands
@@ -19,7 +20,7 @@ write_search-requires-clause-stands c =
 pub returns-in_err-found-clause-cause : goal.returns-in_err-found-clause-cause
 returns-in_err-found-clause-cause c =
     err_cause _ _ _ c.from_residual.ensures.1 (λ log stands.
-    plan_cause c.args.scenario log stands.calm c.requires.own c.in_err-found.field-0.0
+    own_cause c.args.scenario log stands.calm mode.Plan [] refl c.requires.own c.in_err-found.field-0.0
     (c.in_err-found.ensures.cause (sent c.args.scenario (lines_of log)) (c.book.ensures.stands c.args.scenario (lines_of log) stands)))
 
 pub returns-clause-answer : goal.returns-clause-answer

@@ -1,0 +1,77 @@
+//! The report of `recheck`, at a log's end.
+ghost use Rattle.std.specs.Prelude.{◌≡◌, ◌≤◌, ℕ, List, false, length, IfErr, IfOk, IsSome, OnOk, Ok};
+ghost use Rattle.audit_report.specs.CsvRows.{row_of};
+ghost use Rattle.audit_report.specs.ReportRows.{no_plan_fields};
+ghost use Rattle.command_line.specs.declared.mode.Mode.TheVariants as mode;
+ghost use Rattle.log_lines.specs.LogLines.{lines_of};
+ghost use Rattle.log_lines.specs.Standing.{StandsFor as JudgeStandsFor, keeping_of};
+ghost use Rattle.rechecks.specs.declared.checked_text.TheConstants.{GREATEST_TEXT};
+ghost use Rattle.scenario.specs.ScenarioValues.{IsInRange};
+ghost use Rattle.situations.specs.Situations.{IsSituation};
+ghost use Rattle.tracks.specs.declared.keeping.Keeping.TheVariants.{Tracks};
+ghost use Rattle.sessions.specs.Endings.{IsAnswerOf};
+ghost use Rattle.sessions.specs.PlanReport.{IsSituationOn, log_messages};
+ghost use Rattle.sessions.specs.RecheckReport.{IsRecheckReport};
+ghost use Rattle.sessions.specs.Inner.Faults.{EndCause};
+ghost use Rattle.sessions.specs.Inner.PlanWriting.{SoughtCause};
+
+use crate::session_fault::SessionFault;
+use audit_report::{ReportRow, ReportText};
+use log_lines::Judge;
+use outside::Memory;
+use rechecks::recheck;
+use refutations::Checked;
+use scenario::Scenario;
+use situations::{PrepareFault, Situation, prepare};
+use std::alloc::Global;
+
+/// The situation in which own ship's plan is sought.
+pub(crate) fn situation_at_end(
+    alloc: Global,
+    scenario: Scenario,
+    judge: &Judge,
+) -> Result<Situation, PrepareFault>
+    requires in_range { IsInRange scenario }
+    requires own { IsSome scenario.own }
+    requires keeping { keeping_of judge.now ≡ Tracks }
+    requires at_end { (log : List ℕ) × JudgeStandsFor judge.now scenario (lines_of log) }
+    ensures sound { IfOk result IsSituation }
+    ensures situation { IfOk result (λ situation. (log : List ℕ) → JudgeStandsFor judge.now scenario (lines_of log) → IsSituationOn scenario log situation) }
+    ensures cause { IfErr result (λ fault. (log : List ℕ) → JudgeStandsFor judge.now scenario (lines_of log)
+        → SoughtCause scenario (log_messages scenario log) fault) }
+{
+    let prepared = prepare(alloc, scenario, judge.book())?;
+    Ok(prepared.situation)
+}
+
+/// The row that says that there is none of so many plans.
+fn no_plan(alloc: Global, plans: u32) -> Result<Vec<u8>, Memory>
+    ensures { IfOk result (λ text. text.items ≡ row_of (no_plan_fields plans)) }
+{
+    let mut text = ReportText::new(alloc);
+    text.write(&ReportRow::NoPlan { plans })?;
+    Ok(text.into_bytes()?)
+}
+
+/// The report, of which nothing was given before: that there is no plan, where the rows `why` of a text say rightly why.
+pub(crate) fn end_recheck(
+    alloc: Global,
+    scenario: Scenario,
+    judge: &Judge,
+    rows: &[u8],
+) -> Result<Vec<u8>, SessionFault>
+    requires in_range { IsInRange scenario }
+    requires own { IsSome scenario.own }
+    requires keeping { keeping_of judge.now ≡ Tracks }
+    requires at_end { (log : List ℕ) × JudgeStandsFor judge.now scenario (lines_of log) }
+    requires few { length rows.now ≤ GREATEST_TEXT }
+    ensures report { IfOk result (λ text. (log : List ℕ) → JudgeStandsFor judge.now scenario (lines_of log) → IsRecheckReport rows.now scenario log text.items) }
+    ensures answer { OnOk result ((log : List ℕ) → JudgeStandsFor judge.now scenario (lines_of log) → IsAnswerOf mode.Recheck rows.now scenario log (Ok false)) }
+    ensures cause { IfErr result (λ why. (log : List ℕ) → JudgeStandsFor judge.now scenario (lines_of log) → EndCause mode.Recheck rows.now scenario log why) }
+{
+    let situation = situation_at_end(alloc, scenario, judge)?;
+    match recheck(alloc, &situation, rows)? {
+        Checked::Right => Ok(no_plan(alloc, situation.lattice.plans())?),
+        Checked::Bad(index) => Err(SessionFault::Entry(index)),
+    }
+}
