@@ -1,0 +1,12 @@
+pub mod Ranges
+pub mod LagLaws
+pub mod Deciding
+pub mod Places
+pub mod Looks
+pub mod ForCallers
+pub mod Breaches
+pub mod Alarms
+pub mod NextAlarms
+pub mod UnderWay
+pub mod Lists
+pub mod AllAlarms

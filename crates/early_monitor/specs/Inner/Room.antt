@@ -1,0 +1,23 @@
+-- That a state has its program's room is known by one proof at most, so that a monitor may keep it as a fact.
+use native.Mathlib.Nat.{ℕ_set}
+use Rattle.mtl_monitor.specs.declared.node.Operator.{Operator}
+use Rattle.mtl_monitor.specs.declared.node.Operator.TheVariants as op
+use Rattle.mtl_monitor.specs.declared.node.Kept.{Kept}
+use Rattle.mtl_monitor.specs.declared.node.Kept.TheVariants as kinds
+use Rattle.mtl_monitor.specs.declared.program.Program.{Program}
+use Rattle.mtl_monitor.specs.declared.trace_state.TraceState.{TraceState}
+use Rattle.mtl_monitor.specs.Inner.Copying.{HasShape}
+use Rattle.mtl_monitor.specs.Following.{HasRoom}
+
+HasShape-prop : (o : Operator) (s : Kept) → IsProp (HasShape o s)
+HasShape-prop (op.Late cells from a) (kinds.Ring line) = hlevel ℕ_set
+HasShape-prop (op.Window kind width from a) (kinds.Window left) = hlevel ℕ_set
+HasShape-prop (op.Since width lower from a b) (kinds.Since hits bars) = hlevel ℕ_set
+HasShape-prop (op.Until from full lower a behind b) (kinds.Until outlook) = hlevel ℕ_set
+HasShape-prop (op.Atom a) kinds.Plain = hlevel ℕ_set
+HasShape-prop (op.Not a) kinds.Plain = hlevel ℕ_set
+HasShape-prop (op.Pair kind a b) kinds.Plain = hlevel ℕ_set
+HasShape-prop _ _ = hlevel ℕ_set
+
+pub HasRoom-prop : (p : Program) (s : TraceState) → IsProp (HasRoom p s)
+HasRoom-prop p s = hlevel (HasShape-prop, ℕ_set)

@@ -1,0 +1,54 @@
+-- What the rules of a watch are, and what each keeps of a trace.
+use Rattle.std.specs.Prelude.{ℕ, ◌≡◌, ◌<◌, List, [], ◌∷◌, length, get_or, map, Option, Some, None}
+use Rattle.mtl_formulas.specs.FormulaTree.{FormulaTree}
+use Rattle.mtl_formulas.specs.FormulaMeasures.{HasValidParts, reach_of}
+use Rattle.mtl_monitor.specs.Following.{IsProgramOf}
+use Rattle.mtl_monitor.specs.Traces.{Trace}
+use Rattle.rule_set.specs.NamedTrees.{NamedTree}
+use Rattle.early_monitor.specs.declared.early_rule.EarlyRule.{EarlyRule}
+use Rattle.early_monitor.specs.declared.early_state.EarlyState.{EarlyState}
+use Rattle.early_monitor.specs.declared.watched_rules.WatchedRules.{WatchedRules}
+use Rattle.early_monitor.specs.Alarms.{tree_of_rule}
+use Rattle.early_monitor.specs.Lags.{lags_of}
+use Rattle.early_monitor.specs.Inner.Looking.{IsAt, IsStateOf, fed_rows}
+
+-- A rule of this formula is watched so: as one of a program of its own, or else each No comes with the last row that it reaches.
+abbrev pub IsWatchedAs : Option EarlyRule → FormulaTree → Type 0
+IsWatchedAs None t = HasValidParts t × ((lags_of t).no ≡ reach_of t)
+IsWatchedAs (Some early) t = IsProgramOf early.program (t ∷ []) × (early.reach ≡ reach_of t)
+
+-- so each rule of a list
+pub record AreEarlyRules (early : List (Option EarlyRule)) (rules : List NamedTree) : Type 0 where
+  pub as_many : length early ≡ length rules
+  pub each : (k : ℕ) → k < length rules → IsWatchedAs (get_or early k None) (tree_of_rule rules k)
+
+abbrev pub trees_of : List NamedTree → List FormulaTree
+trees_of rules = map (λ (rule : NamedTree). rule.tree) rules
+
+-- They are these rules.
+pub record AreWatched (w : WatchedRules) (rules : List NamedTree) : Type 0 where
+  pub program : IsProgramOf w.program (trees_of rules)
+  pub early : AreEarlyRules w.early.items rules
+
+abbrev pub early_at : WatchedRules → ℕ → Option EarlyRule
+early_at w k = get_or w.early.items k None
+
+-- ---- what a rule keeps of a trace
+
+-- It is of the rule, and was fed so many rows.
+abbrev pub FitsRule : ℕ → Option EarlyRule → Option EarlyState → Type 0
+FitsRule fed None state = Unit {0}
+FitsRule fed (Some early) None = ⊥
+FitsRule fed (Some early) (Some state) = IsStateOf early.program state × (fed_rows state ≡ fed)
+
+-- It was fed these rows.
+abbrev pub StandsForRule : Option EarlyRule → Option EarlyState → FormulaTree → Trace → Type 0
+StandsForRule None state t rows = Unit {0}
+StandsForRule (Some early) None t rows = ⊥
+StandsForRule (Some early) (Some state) t rows = IsAt early.program state t rows
+
+-- Of a trace of which no row was fed each rule keeps this.
+pub record AreBegun (w : WatchedRules) (states : List (Option EarlyState)) : Type 0 where
+  pub as_many : length states ≡ length w.early.items
+  pub fits : (k : ℕ) → k < length w.early.items → FitsRule 0 (early_at w k) (get_or states k None)
+  pub stands : (rules : List NamedTree) → AreWatched w rules → (k : ℕ) → k < length rules → StandsForRule (early_at w k) (get_or states k None) (tree_of_rule rules k) []

@@ -1,0 +1,32 @@
+-- What is kept of one trace of a watch.
+use Rattle.std.specs.Prelude.{ℕ, ◌≡◌, ◌<◌, List, length, get_or, Option, None}
+use Rattle.mtl_monitor.specs.Following as monitor
+use Rattle.traces.specs.Audited.{AuditNumbers}
+use Rattle.traces.specs.Known.{Known}
+use Rattle.early_monitor.specs.declared.early_state.EarlyState.{EarlyState}
+use Rattle.early_monitor.specs.declared.watched_rules.WatchedRules.{WatchedRules}
+use Rattle.early_monitor.specs.declared.watched_trace.WatchedTrace.{WatchedTrace}
+use Rattle.early_monitor.specs.Alarms.{tree_of_rule}
+use Rattle.early_monitor.specs.Inner.RulesWatched.{FitsRule, StandsForRule, early_at, trees_of}
+
+-- how many steps it has
+abbrev pub steps_of : WatchedTrace → ℕ
+steps_of trace = monitor.fed_of trace.values
+
+-- what the rule at an index keeps of it
+abbrev pub kept_at : List (Option EarlyState) → ℕ → Option EarlyState
+kept_at states k = get_or states k None
+
+-- It goes on by these rules: all that is kept of it has as many steps.
+pub record IsReady (w : WatchedRules) (trace : WatchedTrace) : Type 0 where
+  pub fits : monitor.Fits w.program trace.values
+  pub unended : monitor.past_of trace.values ≡ 0
+  pub as_many : length trace.early.items ≡ length w.early.items
+  pub early : (k : ℕ) → k < length w.early.items → FitsRule (steps_of trace) (early_at w k) (kept_at trace.early.items k)
+
+-- It stands for what the steps of a trace so far answer to the atoms.
+pub record StandsFor (w : WatchedRules) (numbers : AuditNumbers) (trace : WatchedTrace) (known : Known) : Type 0 where
+  pub pair : trace.pair ≡ known.pair
+  pub start : trace.start ≡ known.start
+  pub values : monitor.Follows w.program trace.values (trees_of numbers.rules) known.trace
+  pub early : (k : ℕ) → k < length numbers.rules → StandsForRule (early_at w k) (kept_at trace.early.items k) (tree_of_rule numbers.rules k) known.trace

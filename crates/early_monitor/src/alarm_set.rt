@@ -1,0 +1,85 @@
+//! The alarms of one step, as they are found trace by trace, and in order.
+ghost use Rattle.std.specs.Prelude.{◌≡◌, ◌<◌, ◌^◌, IfOk, IfSome, OnOk, Some};
+ghost use Rattle.early_monitor.specs.Alarms.{InOrder};
+ghost use Rattle.early_monitor.specs.Inner.Breaches.{Adds, Tells, alarm_at};
+ghost use Rattle.early_monitor.specs.declared.alarm.Alarm.{Alarm};
+
+use crate::alarm::Alarm;
+use meetings::Pair;
+use mtl_formulas::Verdict;
+use outside::Memory;
+use std::alloc::Global;
+use std::collections::BTreeSet;
+
+/// Where a rule is looked at: the trace by its pair and its first step, the rule, and the latest step.
+#[derive(Clone, Copy)]
+pub(crate) struct Place {
+    pub(crate) pair: Pair,
+    pub(crate) start: u32,
+    pub(crate) rule: u32,
+    pub(crate) step: u32,
+}
+
+/// Adds the alarm of a position of the trace, which the latest step has decided.
+pub(crate) fn add_alarm(
+    alarms: &mut BTreeSet<Alarm>,
+    place: Place,
+    position: u32,
+) -> Result<(), Memory>
+    requires start { place.start < 2 ^ 31 }
+    requires position { position < 2 ^ 31 }
+    ensures { OnOk result (Adds (λ (a : Alarm). a ≡ alarm_at place position) alarms.old.keys alarms.new.keys) }
+{
+    alarms.insert(Alarm {
+        decided: place.step,
+        pair: place.pair,
+        rule: place.rule,
+        position: place.start + position,
+    })?;
+    Ok(())
+}
+
+/// Adds the alarm of a position with this value, if that is No.
+fn take_value(
+    alarms: &mut BTreeSet<Alarm>,
+    place: Place,
+    position: u32,
+    value: Verdict,
+) -> Result<(), Memory>
+    requires start { place.start < 2 ^ 31 }
+    requires position { position < 2 ^ 31 }
+    ensures { OnOk result (Adds (Tells (Some (position, value)) place) alarms.old.keys alarms.new.keys) }
+{
+    match value {
+        Verdict::No => add_alarm(alarms, place, position),
+        Verdict::Open | Verdict::Yes => Ok(()),
+    }
+}
+
+/// Adds the alarm that an answer tells: that of its position, where its value is No.
+pub(crate) fn take_answer(
+    alarms: &mut BTreeSet<Alarm>,
+    place: Place,
+    answer: Option<(u32, Verdict)>,
+) -> Result<(), Memory>
+    requires start { place.start < 2 ^ 31 }
+    requires position { IfSome answer (λ a. a.0 < 2 ^ 31) }
+    ensures { OnOk result (Adds (Tells answer place) alarms.old.keys alarms.new.keys) }
+{
+    match answer {
+        None => Ok(()),
+        Some((position, value)) => take_value(alarms, place, position, value),
+    }
+}
+
+/// The alarms in order.
+pub(crate) fn listed(alloc: Global, alarms: &BTreeSet<Alarm>) -> Result<Vec<Alarm>, Memory>
+    ensures items { IfOk result (λ list. list.items ≡ alarms.now.keys) }
+    ensures ordered { IfOk result (λ list. InOrder list.items) }
+{
+    let mut list = Vec::new(alloc);
+    for alarm in alarms {
+        list.push(*alarm)?;
+    }
+    Ok(list)
+}

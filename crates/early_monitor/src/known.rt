@@ -1,0 +1,38 @@
+//! Which of the last positions are known to be decided.
+ghost use Rattle.std.specs.Prelude.{◌≡◌, IfOk, replicate, false};
+ghost use Rattle.early_monitor.specs.Inner.Known.{is_answered, known_at};
+
+use mtl_formulas::Verdict;
+use outside::Memory;
+use std::alloc::Global;
+
+/// Whether the position at a place is known to be decided. There is none beyond the last place.
+pub(crate) fn is_known_at(known: &[bool], place: usize) -> bool
+    ensures { result ≡ known_at known.now place }
+{
+    if place < known.len() {
+        known[place]
+    } else {
+        false
+    }
+}
+
+/// Whether an answer is Yes or No.
+pub(crate) fn is_answer(answer: Option<(u32, Verdict)>) -> bool
+    ensures { result ≡ is_answered answer }
+{
+    match answer {
+        None | Some((_, Verdict::Open)) => false,
+        Some((_, Verdict::No | Verdict::Yes)) => true,
+    }
+}
+
+/// So many places of which nothing is known.
+pub(crate) fn nothing_known(alloc: Global, count: usize) -> Result<Vec<bool>, Memory>
+    ensures { IfOk result (λ known. known.items ≡ replicate count false) }
+{
+    match vec![in alloc; false; count] {
+        Ok(known) => Ok(known),
+        Err(_) => Err(Memory),
+    }
+}

@@ -1,0 +1,36 @@
+//! Laws of early answers, which stand over the definitions alone.
+ghost use Rattle.std.specs.Prelude.{◌≡◌, ◌≢◌, ℕ, ◌+◌, ◌<◌, ◌++◌, length, take};
+ghost use Rattle.mtl_formulas.specs.declared.verdict.Verdict.TheVariants.{No, Open};
+ghost use Rattle.mtl_formulas.specs.FormulaTree.{FormulaTree};
+ghost use Rattle.mtl_formulas.specs.FormulaMeasures.{HasValidParts, reach_of};
+ghost use Rattle.mtl_monitor.specs.Traces.{Trace, value_in};
+ghost use Rattle.early_monitor.specs.Decided.{IsDecided};
+ghost use Rattle.early_monitor.specs.Lags.{lags_of};
+
+/// Each value of Yes or No over a whole trace is decided by some number of its rows.
+pub fn value_is_decided()
+    ensures { (rows : Trace) (t : FormulaTree) (i : ℕ) → value_in rows t i ≢ Open → (m : ℕ) × IsDecided t rows i m }
+{}
+
+/// A position is decided by one number of rows at most.
+pub fn decided_once()
+    ensures { (rows : Trace) (t : FormulaTree) (i m n : ℕ) → IsDecided t rows i m → IsDecided t rows i n → m ≡ n }
+{}
+
+/// Further rows leave what is decided, and its value.
+pub fn decided_stays()
+    ensures still { (rows more : Trace) (t : FormulaTree) (i m : ℕ) → IsDecided t rows i m → IsDecided t (rows ++ more) i m }
+    ensures value { (rows : Trace) (t : FormulaTree) (i m : ℕ) → IsDecided t rows i m → value_in rows t i ≡ value_in (take m rows) t i }
+{}
+
+/// A No needs as many rows behind its position as the formula's lag says.
+pub fn no_lags()
+    ensures { (rows : Trace) (t : FormulaTree) (i : ℕ) → HasValidParts t → value_in rows t i ≡ No →
+        i + (lags_of t).no < length rows }
+{}
+
+/// Where the lag of No is the whole reach, a No is decided by exactly the rows that the formula reaches.
+pub fn no_is_last()
+    ensures { (rows : Trace) (t : FormulaTree) (i : ℕ) → HasValidParts t → (lags_of t).no ≡ reach_of t →
+        value_in rows t i ≡ No → IsDecided t rows i (i + reach_of t + 1) }
+{}

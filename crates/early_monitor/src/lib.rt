@@ -1,0 +1,29 @@
+//! Early answers of formulas of metric temporal logic (Koymans 1990): the rows of a trace are fed one by one, and each position
+//! comes with its value at the first row with which that is Yes or No.
+//!
+//! `F[0,20] risk` at a tick of 10 seconds looks two positions ahead. Over the rows without risk, without risk, with risk, an early
+//! monitor gives nothing after the first two, and `(0, Yes)`, `(1, Yes)`, `(2, Yes)` after the third.
+//!
+//! A watch over a window of ticks gives the alarms of all traces: each breach of a rule at the step that decides it. Most rules can be
+//! No only with the last row that they reach; an ordinary monitor answers these in time, and the others are watched early.
+#![tactic(auto)]
+
+mod alarm;
+mod alarm_set;
+mod each_trace;
+mod early_monitor;
+mod early_rule;
+mod early_state;
+mod known;
+mod lags;
+pub mod laws;
+mod rule_lists;
+mod watch;
+mod watched_rules;
+mod watched_trace;
+
+pub use alarm::Alarm;
+pub use early_monitor::EarlyMonitor;
+pub use lags::{Lags, is_no_last, lags_of};
+pub use traces::TickFault as WatchFault;
+pub use watch::Watch;

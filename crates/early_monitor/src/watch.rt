@@ -1,0 +1,121 @@
+//! The watch over a window, tick by tick.
+ghost use Rattle.std.specs.Prelude.{◌≡◌, ◌+◌, ◌≤◌, ◌++◌, ◌∷◌, [], List, IfOk, OnOk, Err};
+ghost use Rattle.encounters.specs.Risk.{IsDetect};
+ghost use Rattle.traces.specs.Audited.{AreAscending, ArePlaced, AuditNumbers, MoveLittle, Sighting};
+ghost use Rattle.traces.specs.ManyTraces.{HaveMoreThan};
+ghost use Rattle.traces.specs.declared.all_traces.TheConstants.{MOST_TRACES};
+ghost use Rattle.traces.specs.declared.fault.TickFault.TheVariants.{TooManyPairs};
+ghost use Rattle.early_monitor.specs.Alarms.{AreAlarms, AreAlarmsNow};
+ghost use Rattle.early_monitor.specs.declared.alarm.Alarm.{Alarm};
+ghost use Rattle.early_monitor.specs.Watching.{IsSound, StandsFor, given_of, last_tick_of, latest_vessels};
+
+use crate::alarm::Alarm;
+use crate::alarm_set::listed;
+use crate::each_trace::{begin_each, follow_each};
+use crate::watched_rules::WatchedRules;
+use crate::watched_trace::WatchedTrace;
+use encounters::{Act, Detect};
+use motion::TickState;
+use outside::Memory;
+use ranks::Rank;
+use rule_set::RuleSet;
+use scenario::Window;
+use std::alloc::Global;
+use std::collections::BTreeSet;
+use traces::{AllTraces, TickFault};
+
+/// The watch over a window. It stands for the vessels seen at the ticks that it was given.
+#[derive(Drop)]
+pub struct Watch {
+    alloc: Global,
+    rules: WatchedRules,
+    traces: AllTraces,
+    /// What the rules come to over each trace, in the order of the traces.
+    values: Vec<WatchedTrace>,
+}
+
+impl Watch {
+    /// The watch over a window by these rules and numbers, of the pairs of which one vessel is a subject; where there are no subjects,
+    /// of all pairs.
+    pub fn new(
+        alloc: Global,
+        rules: &RuleSet,
+        detect: Detect,
+        act: Act,
+        subjects: &[u32],
+        window: Window,
+    ) -> Result<Watch, Memory>
+        requires detect { IsDetect detect }
+        requires ticks { window.ticks ≤ 20000 }
+        ensures sound { IfOk result (λ watch. IsSound watch) }
+        ensures stands { IfOk result (λ watch. StandsFor watch (record {
+          detect = detect;
+          act = act;
+          tick = window.tick;
+          last_tick = window.ticks;
+          subjects = subjects.now;
+          rules = rules.now;
+        }) []) }
+    {
+        let rules = WatchedRules::new(alloc, rules)?;
+        let traces = AllTraces::new(alloc, detect, act, subjects, window.tick, window.ticks)?;
+        Ok(Watch {
+            alloc,
+            rules,
+            traces,
+            values: Vec::new(alloc),
+        })
+    }
+
+    /// Takes the next tick, of whose vessels these are seen, in the order of their MMSIs, and gives the alarms of each breach that the
+    /// step to it decides: call `k`, counted from 0, those with the deciding step `k - 1`. The ranks are those of the vessels seen, in
+    /// the same order; where ranks do not count, there are none. After an `Err` the watch may only be dropped.
+    pub fn step(
+        &mut self,
+        seen: &[(u32, TickState)],
+        ranks: &[Rank],
+    ) -> Result<Vec<Alarm>, TickFault>
+        requires sound { IsSound self.old }
+        requires ascending { AreAscending seen.now }
+        requires placed { ArePlaced seen.now }
+        requires moves { MoveLittle (latest_vessels self.old) seen.now }
+        requires more { given_of self.old ≤ last_tick_of self.old }
+        ensures sound { OnOk result (IsSound self.new) }
+        ensures given { OnOk result (given_of self.new ≡ given_of self.old + 1) }
+        ensures last_tick { OnOk result (last_tick_of self.new ≡ last_tick_of self.old) }
+        ensures latest { OnOk result (latest_vessels self.new ≡ seen.now) }
+        ensures stands { OnOk result ((numbers : AuditNumbers) (ticks : List Sighting) → StandsFor self.old numbers ticks
+            → StandsFor self.new numbers (ticks ++ record { vessels = seen.now; ranks = ranks.now } ∷ [])) }
+        ensures alarms { IfOk result (λ alarms. (numbers : AuditNumbers) (ticks : List Sighting) → StandsFor self.old numbers ticks
+            → AreAlarmsNow numbers (ticks ++ record { vessels = seen.now; ranks = ranks.now } ∷ []) alarms.items) }
+        // With them all alarms of the ticks so far were given.
+        ensures all { IfOk result (λ alarms. (numbers : AuditNumbers) (ticks : List Sighting) (given : List Alarm) → StandsFor self.old numbers ticks
+            → AreAlarms numbers ticks given
+            → AreAlarms numbers (ticks ++ record { vessels = seen.now; ranks = ranks.now } ∷ []) (given ++ alarms.items)) }
+        // The limit is met exactly where the tick begins a 4097th trace; memory may run out before.
+        ensures many { result ≡ Err TooManyPairs → (numbers : AuditNumbers) (ticks : List Sighting) → StandsFor self.old numbers ticks
+            → HaveMoreThan MOST_TRACES numbers (ticks ++ record { vessels = seen.now; ranks = ranks.now } ∷ []) }
+        ensures few { OnOk result ((numbers : AuditNumbers) (ticks : List Sighting) → StandsFor self.old numbers ticks
+            → HaveMoreThan MOST_TRACES numbers (ticks ++ record { vessels = seen.now; ranks = ranks.now } ∷ []) → ⊥) }
+    {
+        let given = self.traces.given();
+        let mut alarms = BTreeSet::new(self.alloc);
+        follow_each(
+            &mut self.traces,
+            &mut self.values,
+            &self.rules,
+            seen,
+            given.saturating_sub(1),
+            &mut alarms,
+        )?;
+        self.traces.tick(seen, ranks)?;
+        begin_each(
+            self.alloc,
+            &self.traces,
+            &mut self.values,
+            &self.rules,
+            given,
+        )?;
+        Ok(listed(self.alloc, &alarms)?)
+    }
+}

@@ -1,0 +1,96 @@
+//! The rules of a watch: all of them as one program, and beside it those whose breaches may be decided early.
+ghost use Rattle.std.specs.Prelude.{◌≡◌, length};
+ghost use Rattle.mtl_monitor.specs.Following.{count_of};
+
+use crate::alarm::Alarm;
+use crate::alarm_set::{Place, take_answer};
+use crate::early_rule::EarlyRule;
+use crate::early_state::EarlyState;
+use crate::rule_lists::early_rules;
+use meetings::AtomRow;
+use mtl_monitor::{Program, TraceState};
+use outside::Memory;
+use rule_program::program_of;
+use rule_set::RuleSet;
+use std::alloc::Global;
+use std::collections::BTreeSet;
+
+/// One program for all traces: with it the positions of a trace are answered once they can no longer change. A rule whose breaches
+/// may be decided before has a program of its own.
+#[derive(Drop)]
+pub(crate) struct WatchedRules {
+    pub(crate) program: Program,
+    pub(crate) early: Vec<Option<EarlyRule>>,
+    ghost as_many: { length early.items ≡ count_of program },
+}
+
+impl WatchedRules {
+    ghost use Rattle.std.specs.Prelude.{◌<◌, ◌≤◌, ◌-◌, ◌^◌, ◌++◌, ◌∷◌, [], IfOk, List, OnOk};
+    ghost use Rattle.rule_set.specs.NamedTrees.{NamedTree};
+    ghost use Rattle.meetings.specs.Answers.{answer_of};
+    ghost use Rattle.mtl_monitor.specs.Following.{Fits, Follows, fed_of};
+    ghost use Rattle.mtl_monitor.specs.Traces.{Trace};
+    ghost use Rattle.early_monitor.specs.Alarms.{tree_of_rule};
+    ghost use Rattle.early_monitor.specs.Inner.Breaches.{Adds, IsBreach};
+    ghost use Rattle.early_monitor.specs.Inner.RulesWatched.{AreWatched, FitsRule, StandsForRule, early_at, trees_of};
+
+    /// These rules.
+    pub(crate) fn new(alloc: Global, rules: &RuleSet) -> Result<WatchedRules, Memory>
+        ensures of { IfOk result (λ w. AreWatched w rules.now) }
+        ensures few { IfOk result (λ w. count_of w.program ≤ 17) }
+    {
+        let program = program_of(alloc, rules)?;
+        let early = early_rules(alloc, rules)?;
+        Ok(WatchedRules { program, early })
+    }
+
+    /// What the rule at an index keeps of a trace of which no row was fed.
+    pub(crate) fn begin_rule(
+        &self,
+        alloc: Global,
+        rule: usize,
+    ) -> Result<Option<EarlyState>, Memory>
+        requires { rule < length self.now.early.items }
+        ensures fits { IfOk result (FitsRule 0 (early_at self.now rule)) }
+        ensures stands { IfOk result (λ state. (rules : List NamedTree) → AreWatched self.now rules
+            → StandsForRule (early_at self.now rule) state (tree_of_rule rules rule) []) }
+    {
+        match &self.early[rule] {
+            None => Ok(None),
+            Some(early) => Ok(Some(early.begin(alloc)?)),
+        }
+    }
+
+    /// Adds the alarms that the latest row of a trace brings for the rule of the place. The values were fed the row; what the rule
+    /// itself keeps takes it here.
+    pub(crate) fn take_row(
+        &self,
+        values: &TraceState,
+        state: &mut Option<EarlyState>,
+        row: &AtomRow,
+        place: Place,
+        alarms: &mut BTreeSet<Alarm>,
+    ) -> Result<(), Memory>
+        requires rule { place.rule < length self.now.early.items }
+        requires values { Fits self.now.program values.now }
+        requires fed { fed_of values.now ≤ 2 ^ 31 }
+        requires start { place.start < 2 ^ 31 }
+        requires fits { FitsRule (fed_of values.now - 1) (early_at self.now place.rule) state.old }
+        requires some { 0 < fed_of values.now }
+        ensures fits { OnOk result (FitsRule (fed_of values.now) (early_at self.now place.rule) state.new) }
+        ensures adds { OnOk result ((rules : List NamedTree) (rows : Trace) → AreWatched self.now rules
+            → Follows self.now.program values.now (trees_of rules) (rows ++ answer_of row.now ∷ [])
+            → StandsForRule (early_at self.now place.rule) state.old (tree_of_rule rules place.rule) rows
+            → StandsForRule (early_at self.now place.rule) state.new (tree_of_rule rules place.rule) (rows ++ answer_of row.now ∷ [])
+            × Adds (IsBreach place (tree_of_rule rules place.rule) (rows ++ answer_of row.now ∷ [])) alarms.old.keys alarms.new.keys) }
+    {
+        let rule = place.rule as usize;
+        match &self.early[rule] {
+            None => take_answer(alarms, place, values.answer(&self.program, rule)),
+            Some(early) => match state {
+                None => Ok(()),
+                Some(state) => early.take_row(state, row, place, alarms),
+            },
+        }
+    }
+}

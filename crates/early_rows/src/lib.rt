@@ -1,0 +1,7 @@
+//! Worked rows of early answers.
+#![tactic(auto)]
+
+#[cfg(test)]
+mod compared;
+#[cfg(test)]
+mod monitors;
