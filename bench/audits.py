@@ -1,10 +1,11 @@
 #!/usr/bin/env python3
-"""Makes scenarios and logs, runs two programs on each, and compares what they write: audits.py PROGRAM OTHER [--first SEED] [--count N] [--ranks]
+"""Makes scenarios and logs, runs two programs on each, and compares what they write: audits.py PROGRAM OTHER [--first SEED] [--count N] [--ranks] [--watch]
 
 Both programs take `audit SCENARIO` and a log on standard input. Each seed makes one scenario and one log: a fleet whose vessels meet
 head on, cross, overtake or pass, of which some alter course, slow down, are lost for a while or tell of themselves, with damaged lines
 between; numbers, formulas and subjects of the scenario's own; and a window that may cut the log at either end. With `--ranks` ranks count: vessels
-have statuses, which may change, and tell ship types, some of them late. Where the statuses or
+have statuses, which may change, and tell ship types, some of them late. With `--watch` the mode is `watch`, and the positions of the alarms are compared with those of the
+program's own audit at which a rule is broken, too. Where the statuses or
 what the programs wrote differ, the seed is told and its files are kept in the folder `--keep`.
 """
 import argparse
@@ -199,7 +200,7 @@ def run(program, mode, folder, log, options):
 
 def kind_of(row):
     fields = row.split(",")
-    return " ".join(fields[:1] + (fields[3:5] if fields[0] == "verdict" else fields[3:4] if fields[0] == "meeting" else []))
+    return " ".join(fields[:1] + (fields[3:5] if fields[0] == "verdict" else fields[3:4] if fields[0] in ("meeting", "alarm") else []))
 
 
 def words(description, kept, *flags):
@@ -234,11 +235,37 @@ def compared(args, mode, make, *options):
         yield seed, mine, theirs
 
 
+def breaches(report):
+    """The positions at which a rule is broken, of the rows of an audit or of a watch."""
+    found = []
+    for row in report.decode().split("\n"):
+        kind, *fields = row.split(",")
+        if kind == "alarm":
+            found.append((*fields[:3], int(fields[3])))
+        elif kind == "verdict" and fields[3] == "broken":
+            found += [(*fields[:3], step) for step in range(int(fields[4]), int(fields[5]) + 1)]
+    return sorted(found)
+
+
+def watched_alike(args, make, seed, watched):
+    """Whether the program's own audit has the same positions, each once."""
+    text, log = make(seed)
+    os.makedirs(args.keep, exist_ok=True)
+    with open(os.path.join(args.keep, "scenario.toml"), "w") as out:
+        out.write(text)
+    audited = run(os.path.abspath(args.program), "audit", args.keep, log, [])
+    alike = audited[0] == watched[0] and breaches(audited[1]) == breaches(watched[1])
+    if not alike:
+        print("seed %d: the alarms are not at the positions that the audit has broken" % seed)
+    return alike
+
+
 def main():
-    args = words(__doc__, "audits-kept", "--ranks")
+    args = words(__doc__, "audits-kept", "--ranks", "--watch")
     same, statuses, kinds = 0, {}, {}
-    for _, mine, theirs in compared(args, "audit", make_ranked if args.ranks else make):
-        same += mine == theirs
+    made = make_ranked if args.ranks else make
+    for seed, mine, theirs in compared(args, "watch" if args.watch else "audit", made):
+        same += mine == theirs and (not args.watch or watched_alike(args, made, seed, mine))
         statuses[mine[0]] = statuses.get(mine[0], 0) + 1
         for row in mine[1].decode().split("\n"):
             kinds[kind_of(row)] = kinds.get(kind_of(row), 0) + 1

@@ -46,6 +46,11 @@ abbrev pub verdict_fields : Pair → List ℕ → Bool → ℕ → ℕ → Field
 verdict_fields pair name undecided first last =
     codes "verdict" ∷ decimal pair.subject ∷ decimal pair.other ∷ name ∷ verdict_name undecided ∷ decimal first ∷ decimal last ∷ []
 
+-- the rule's name, the step at which it is broken, and the step that decides it
+abbrev pub alarm_fields : Pair → List ℕ → ℕ → ℕ → Fields
+alarm_fields pair name position decided =
+    codes "alarm" ∷ decimal pair.subject ∷ decimal pair.other ∷ name ∷ decimal position ∷ decimal decided ∷ [] ∷ []
+
 -- a name, or an empty field
 abbrev pub optional_name : Option (List ℕ) → List ℕ
 optional_name None = []
@@ -79,6 +84,7 @@ abbrev pub row_fields : ReportRow → Fields
 row_fields (row.Point mmsi time point speed course) = point_fields mmsi time point speed course
 row_fields (row.Meeting pair kind first last least) = meeting_fields pair kind first last least
 row_fields (row.Verdict pair name undecided first last) = verdict_fields pair name.now undecided first last
+row_fields (row.Alarm pair name position decided) = alarm_fields pair name.now position decided
 row_fields (row.Vessel mmsi name kind length reports legs) = vessel_fields mmsi (option_copied name) kind length reports legs
 row_fields (row.Total name total) = total_fields name.now total
 row_fields (row.Lines outcome count) = count_fields outcome count

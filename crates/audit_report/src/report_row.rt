@@ -37,6 +37,16 @@ pub enum ReportRow<'a> {
         first: u32,
         last: u32,
     },
+    /// A breach of a rule, told at the first step that decides it.
+    Alarm {
+        pair: Pair,
+        /// The rule's name.
+        name: &'a [u8],
+        /// The step at which the rule is broken.
+        position: u32,
+        /// The step that decides it.
+        decided: u32,
+    },
     /// A vessel that was heard of.
     Vessel {
         mmsi: u32,

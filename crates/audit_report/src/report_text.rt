@@ -58,7 +58,7 @@ pub struct ReportText {
 impl ReportText {
     ghost use Rattle.std.specs.Prelude.{◌++◌, List, [], ℕ, OnOk, map};
     ghost use Rattle.audit_report.specs.CsvRows.{row_of};
-    ghost use Rattle.audit_report.specs.ReportRows.{count_fields, meeting_fields, no_plan_fields, plan_fields, point_fields, total_fields, verdict_fields, vessel_fields};
+    ghost use Rattle.audit_report.specs.ReportRows.{alarm_fields, count_fields, meeting_fields, no_plan_fields, plan_fields, point_fields, total_fields, verdict_fields, vessel_fields};
     ghost use Rattle.audit_report.specs.ReportTexts.{HasText};
 
     /// The text of no rows. This takes no memory.
@@ -164,6 +164,32 @@ impl ReportText {
             verdict_name(undecided).as_bytes(),
             short_digits(&mut first_digits, first),
             short_digits(&mut last_digits, last),
+        ])
+    }
+
+    /// Writes the row of an alarm: the step at which the rule of this name is broken, and the step that decides it.
+    pub fn write_alarm(
+        &mut self,
+        pair: Pair,
+        name: &[u8],
+        position: u32,
+        decided: u32,
+    ) -> Result<(), Memory>
+        ensures { OnOk result ((text : List ℕ) → HasText self.old text
+            → HasText self.new (text ++ row_of (alarm_fields pair name.now position decided))) }
+    {
+        let mut subject = Buffer::new();
+        let mut other = Buffer::new();
+        let mut position_digits = Buffer::new();
+        let mut decided_digits = Buffer::new();
+        self.write_fields(&[
+            b"alarm",
+            short_digits(&mut subject, pair.subject),
+            short_digits(&mut other, pair.other),
+            name,
+            short_digits(&mut position_digits, position),
+            short_digits(&mut decided_digits, decided),
+            b"",
         ])
     }
 
@@ -303,6 +329,12 @@ impl ReportText {
                 first,
                 last,
             } => self.write_verdict(pair, name, undecided, first, last),
+            ReportRow::Alarm {
+                pair,
+                name,
+                position,
+                decided,
+            } => self.write_alarm(pair, name, position, decided),
             ReportRow::Vessel {
                 mmsi,
                 name,

@@ -11,13 +11,15 @@ use Rattle.audit_rows.specs.Standing.{QueueStandsFor}
 use Rattle.audit_rows.specs.Tracks.{AreSettled, Continue, IsNew, IsNextAt, Track, next_step}
 use Rattle.audit_rows.proofs.Queues.{given_rows}
 use Rattle.audit_rows.proofs.Fronts.{sorted_filter}
-use Rattle.audit_rows.proofs.Places.{place_total}
 use Rattle.outside.proofs.Members.{in_cons, in_head, in_none, in_tail}
 use Rattle.audit_rows.proofs.StrictOrder.{all_different}
 use Rattle.audit_rows.proofs.Stretches.{closed_front, closed_further}
 -- the laws, and that rows below a settled bound are those of whatever the tracks become
 pub use Rattle.audit_rows.proofs.Fronts.{one_list, front_of_all, still_below, from_filter, in_filter}
 pub use Rattle.audit_rows.proofs.Tracks.{settled_by_reach}
+-- the order of rows, and lists in strict order
+pub use Rattle.audit_rows.proofs.Places.{earlier_first, place_total}
+pub use Rattle.audit_rows.proofs.StrictOrder.{less_than, same_list, tail_sorted}
 -- a mark of a track among others, and one that repeats the last
 pub use Rattle.audit_rows.proofs.Repeats.{marked_there, repeated}
 

@@ -15,7 +15,7 @@ const PAIR: Pair = Pair {
 
 #[test]
 fn rows_of_the_worked_reports(rt: HostRuntime) -> Result<(), Fail> {
-    let rows: [(ReportRow<'static>, &'static str); 8] = [
+    let rows: [(ReportRow<'static>, &'static str); 9] = [
         (
             ReportRow::Point {
                 mmsi: 477553000,
@@ -45,6 +45,15 @@ fn rows_of_the_worked_reports(rt: HostRuntime) -> Result<(), Fail> {
                 last: 21,
             },
             "verdict,369190000,477553000,r8d,broken,18,21\n",
+        ),
+        (
+            ReportRow::Alarm {
+                pair: PAIR,
+                name: b"r14a",
+                position: 0,
+                decided: 6,
+            },
+            "alarm,369190000,477553000,r14a,0,6,\n",
         ),
         (
             ReportRow::Vessel {

@@ -36,6 +36,7 @@ drills mode.Plan reads is = cc reads
 drills mode.Drill reads is = refl
 drills mode.Migrate reads is = cc is
 drills mode.Recheck reads is = cc reads
+drills mode.Watch reads is = cc reads
 
 if_some : (P Q : List ℕ → Type 0) (o : Option (List ℕ)) → ((bytes : List ℕ) → P bytes → Q bytes) → IfSome o P → IfSome o Q
 if_some P Q None so p = tt

@@ -6,6 +6,7 @@ use Rattle.std.proofs.lemmas.List.Sums.{sum_by-append, sum_by-cons}
 use Rattle.aivdm.specs.declared.sentence.LineCause.{LineCause}
 use Rattle.auditor.specs.AuditRows.{AreAuditRows}
 use Rattle.auditor.specs.AuditTotals.{AreTotals}
+use Rattle.early_monitor.specs.Alarms.{AreAlarms}
 use Rattle.traces.specs.Audited.{Sighting}
 use Rattle.command_line.specs.declared.mode.Mode.{Mode}
 use Rattle.command_line.specs.declared.mode.Mode.TheVariants as mode
@@ -26,6 +27,7 @@ use Rattle.sessions.specs.OutcomeRows.{count_rows}
 use Rattle.sessions.specs.PlanReport.{AreReasons, IsManoeuvre, IsPlanReport, manoeuvre_rows, log_messages, near_rows, plan_text}
 use Rattle.sessions.specs.PointsReport.{point_rows, points_report, rows_of_line}
 use Rattle.sessions.specs.RecheckReport.{IsRecheckReport}
+use Rattle.sessions.specs.WatchReport.{IsWatchReport, alarm_rows}
 use Rattle.rechecks.specs.CheckedRows.{AreRight, why_rows}
 use Rattle.situations.specs.LeastPlans.{AllFail}
 use Rattle.settled_ticks.specs.Sightings.{sighted}
@@ -200,6 +202,20 @@ module _ (scenario : Scenario) (log less : List ℕ) (front : List (List ℕ)) (
         refl,
       )
 
+  of_watch : (text : List ℕ) → IsWatchReport scenario log text
+      → (other : List ℕ) × IsWatchReport scenario less other × HasOneFewer (line_outcome cause) text other
+  of_watch text report =
+      let rows = alarm_rows scenario.rules report.alarms in
+      let other = rows ++ count_rows (judged_lines scenario (lines_of less)) in (
+        other,
+        record {
+          alarms = report.alarms;
+          are_alarms = subst (λ (sightings : List Sighting). AreAlarms (audit_numbers scenario) sightings report.alarms) sightings_same report.are_alarms;
+          is = refl;
+        },
+        one_count rows text other report.is refl,
+      )
+
   pub of_mode : (m : Mode) (why : Bool) (rows text : List ℕ) → IsReport m why rows scenario log text
       → (other : List ℕ) × IsReport m why rows scenario less other × IsWithoutLine m (line_outcome cause) text other
   of_mode mode.Points why rows text report = of_points text report
@@ -208,3 +224,4 @@ module _ (scenario : Scenario) (log less : List ℕ) (front : List (List ℕ)) (
   of_mode mode.Drill why rows text report = of_drill text report
   of_mode mode.Migrate why rows text report = absurd report
   of_mode mode.Recheck why rows text report = of_recheck rows text report
+  of_mode mode.Watch why rows text report = of_watch text report

@@ -441,6 +441,7 @@ migrates mode.Plan not = cc not
 migrates mode.Drill not = cc not
 migrates mode.Migrate not = refl
 migrates mode.Recheck not = cc not
+migrates mode.Watch not = cc not
 
 -- where one request reports on a log, no other migrates
 pub no_migration : (words : List (List ℕ)) (request other : Request) (Any : Type 0) → AskFor words request → AskFor words other → IsTrue (reports other.mode)

@@ -100,6 +100,7 @@ refused_by mode.Plan text key why reports is = is
 refused_by mode.Drill text key why reports is = is
 refused_by mode.Migrate text key why reports is = cc reports
 refused_by mode.Recheck text key why reports is = is
+refused_by mode.Watch text key why reports is = is
 
 pub refused_so : (m : Mode) (text : List ℕ) (key : Key) (why : Cause) → IsTrue (reports m) → IsRefusedBy m text key why → IsRefused (needs_own m) text key why
 refused_so mode.Points text key why reports is = is
@@ -108,6 +109,7 @@ refused_so mode.Plan text key why reports is = is
 refused_so mode.Drill text key why reports is = is
 refused_so mode.Migrate text key why reports is = cc reports
 refused_so mode.Recheck text key why reports is = is
+refused_so mode.Watch text key why reports is = is
 
 pub due-from_read : (request : Request) (files : Option Files) (v : Vec ℕ Global) (got : Result Scenario ScenarioFault)
     → IsTrue (reports request.mode) → Fetches files request.name greatest_scenario (fetched.Bytes v)

@@ -23,7 +23,7 @@ limited which.Rows = codes "rows"
 abbrev pub status_text : Status → List ℕ
 status_text status.Done = []
 status_text status.NoManoeuvre = []
-status_text status.Usage = codes "usage: points|audit|plan|drill|migrate|recheck SCENARIO"
+status_text status.Usage = codes "usage: points|audit|plan|drill|migrate|recheck|watch SCENARIO"
 status_text (status.Scenario key cause) = codes "scenario: " ++ fault_text key cause
 status_text status.ShelfFault = codes "scenario: not read"
 status_text status.ReadFault = codes "log: not read"

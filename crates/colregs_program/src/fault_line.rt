@@ -22,7 +22,7 @@ fn fixed_line(status: &Status) -> Option<&'static str>
 {
     match status {
         Status::Done | Status::NoManoeuvre => Some(""),
-        Status::Usage => Some("usage: points|audit|plan|drill|migrate|recheck SCENARIO\n"),
+        Status::Usage => Some("usage: points|audit|plan|drill|migrate|recheck|watch SCENARIO\n"),
         Status::ShelfFault => Some("scenario: not read\n"),
         Status::ReadFault => Some("log: not read\n"),
         Status::WriteFault => Some("report: not written\n"),
@@ -43,7 +43,9 @@ impl fmt::Display for Status {
     fn fmt<W: fmt::Write>(&self, f: &mut fmt::Formatter<W>) -> fmt::Result {
         match self {
             Status::Done | Status::NoManoeuvre => Ok(()),
-            Status::Usage => f.write_str("usage: points|audit|plan|drill|migrate|recheck SCENARIO"),
+            Status::Usage => f.write_str(
+                "usage: points|audit|plan|drill|migrate|recheck|watch SCENARIO",
+            ),
             Status::Scenario(key, cause) => {
                 let fault = ScenarioFault::Fault(*key, *cause);
                 write!(f, "scenario: {fault}")

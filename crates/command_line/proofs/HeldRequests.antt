@@ -35,7 +35,8 @@ mode_of text = if bytes_eq text (codes "points") then mode.Points
     else if bytes_eq text (codes "plan") then mode.Plan
     else if bytes_eq text (codes "drill") then mode.Drill
     else if bytes_eq text (codes "migrate") then mode.Migrate
-    else mode.Recheck
+    else if bytes_eq text (codes "recheck") then mode.Recheck
+    else mode.Watch
 
 mode_back : (m : Mode) → mode_of (mode_text m) ≡ m
 mode_back mode.Points = refl
@@ -44,6 +45,7 @@ mode_back mode.Plan = refl
 mode_back mode.Drill = refl
 mode_back mode.Migrate = refl
 mode_back mode.Recheck = refl
+mode_back mode.Watch = refl
 
 some_is : {X : Type 0} (x y : X) → Some x ≡ Some y → x ≡ y
 some_is x y same = ap (λ o. unwrap_or o x) same

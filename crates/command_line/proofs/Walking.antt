@@ -65,6 +65,7 @@ mode_is_name mode.Plan = refl
 mode_is_name mode.Drill = refl
 mode_is_name mode.Migrate = refl
 mode_is_name mode.Recheck = refl
+mode_is_name mode.Watch = refl
 
 pub name_walked : (values : Choices) (text name : Text) → is_plain_text name ≡ true
     → walked (top values).rules [] (behind [] (with_value (codes "mode") text) 2) name ≡ behind (row (codes "mode") text ∷ []) (with_value (codes "scenario") name) 3
@@ -82,6 +83,7 @@ mode_accepted values are mode.Plan = are (codes "plan")
 mode_accepted values are mode.Drill = are (codes "drill")
 mode_accepted values are mode.Migrate = are (codes "migrate")
 mode_accepted values are mode.Recheck = are (codes "recheck")
+mode_accepted values are mode.Watch = are (codes "watch")
 
 pub name_faultless : (values : Choices) (text name : Text) → list_any (possible_matches false text) values.now ≡ true → is_plain_text name ≡ true
     → turn_fault (top values) [] (behind [] (with_value (codes "mode") text) 2) name ≡ []

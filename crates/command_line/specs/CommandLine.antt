@@ -23,9 +23,10 @@ mode_text mode.Plan = codes "plan"
 mode_text mode.Drill = codes "drill"
 mode_text mode.Migrate = codes "migrate"
 mode_text mode.Recheck = codes "recheck"
+mode_text mode.Watch = codes "watch"
 
 abbrev pub modes : List Mode
-modes = mode.Points ∷ mode.Audit ∷ mode.Plan ∷ mode.Drill ∷ mode.Migrate ∷ mode.Recheck ∷ []
+modes = mode.Points ∷ mode.Audit ∷ mode.Plan ∷ mode.Drill ∷ mode.Migrate ∷ mode.Recheck ∷ mode.Watch ∷ []
 
 -- these values of an argument are the modes: a text is one of them exactly where it is the text of a mode
 abbrev pub AreModes : List PossibleValue → Type 0

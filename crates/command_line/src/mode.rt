@@ -22,10 +22,12 @@ pub enum Mode {
     Migrate,
     /// Whether rows say rightly why every plan of own ship fails, told without a search.
     Recheck,
+    /// Each breach of a rule at the first step that decides it, as soon as the log settles that step.
+    Watch,
 }
 
 /// The modes as values of an argument, each with its line of help.
-pub(crate) fn mode_values() -> [PossibleValue<'static>; 6]
+pub(crate) fn mode_values() -> [PossibleValue<'static>; 7]
     ensures { AreModes result }
 {
     [
@@ -45,6 +47,9 @@ pub(crate) fn mode_values() -> [PossibleValue<'static>; 6]
         PossibleValue::new("recheck").help(
             "Check rows that say why there is no plan, without a search",
         ),
+        PossibleValue::new("watch").help(
+            "Tell each breach of a rule at the first step that decides it",
+        ),
     ]
 }
 
@@ -59,6 +64,7 @@ pub(crate) fn mode_named(text: &str) -> Option<Mode>
         "drill" => Some(Mode::Drill),
         "migrate" => Some(Mode::Migrate),
         "recheck" => Some(Mode::Recheck),
+        "watch" => Some(Mode::Watch),
         _ => None,
     }
 }

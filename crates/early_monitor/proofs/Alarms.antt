@@ -12,7 +12,8 @@ use Rattle.std.proofs.lemmas.Map.Views.{btree_set_contains_iff}
 use Rattle.std.proofs.lemmas.Map.Lookups.{CmpEqualImpliesEq, exact_unsigned}
 use Rattle.early_monitor.specs.contracts.alarm.AlarmOrd.TheImpl.Laws as alarm_laws
 use Rattle.early_monitor.specs.declared.alarm.Alarm.{Alarm}
-use Rattle.early_monitor.specs.Alarms.{alarm_cmp, pair_cmp}
+use Rattle.audit_rows.specs.Order.{pair_cmp}
+use Rattle.early_monitor.specs.Alarms.{alarm_cmp}
 
 pub alarm_total : IsTotalOrder alarm_cmp
 alarm_total = alarm_laws.total-law

@@ -19,7 +19,8 @@ use Rattle.traces.specs.Audited.{AuditNumbers, SeenVessels, Sighting}
 use Rattle.traces.specs.Known.{AreKnown, AreOpened, IsFollowed, Known}
 use Rattle.traces.proofs.ForCallers.{from_map, known_within, zip_member}
 use Rattle.early_monitor.specs.declared.alarm.Alarm.{Alarm}
-use Rattle.early_monitor.specs.Alarms.{AreAlarms, AreAlarmsNow, InOrder, IsAlarm, alarm_cmp, pair_cmp, tree_of_rule}
+use Rattle.audit_rows.specs.Order.{pair_cmp}
+use Rattle.early_monitor.specs.Alarms.{AreAlarms, AreAlarmsNow, InOrder, IsAlarm, alarm_cmp, tree_of_rule}
 use Rattle.early_monitor.specs.Decided.{IsDecided}
 use Rattle.early_monitor.proofs.Deciding.{decided_front, decided_still, decided_value}
 use Rattle.early_monitor.proofs.NextAlarms.{rows_count, same_known, stepped}
@@ -34,7 +35,7 @@ module _ (rows more : Trace) (t : FormulaTree) (i m : ℕ) where
 
 -- ---- lists of alarms in order
 
-earlier_first : (a b : Alarm) → a.decided < b.decided → alarm_cmp a b ≡ Less
+pub earlier_first : (a b : Alarm) → a.decided < b.decided → alarm_cmp a b ≡ Less
 earlier_first a b lt =
     let e : nat_cmp a.decided b.decided ≡ Less = grind (arith, nat_tests) in
     ap (λ (o : Ordering). ordering_then o (ordering_then (pair_cmp a.pair b.pair) (ordering_then (nat_cmp a.rule b.rule) (nat_cmp a.position b.position)))) e
@@ -132,7 +133,7 @@ module _ (numbers : AuditNumbers) (ticks : List Sighting) (seen : Sighting) (kno
       shrunk a alarm k i f before
 
 -- The step that decides an alarm is one of the ticks'.
-decided_within : (numbers : AuditNumbers) (ticks : List Sighting) (a : Alarm) → IsAlarm numbers ticks a → a.decided + 2 ≤ length ticks
+pub decided_within : (numbers : AuditNumbers) (ticks : List Sighting) (a : Alarm) → IsAlarm numbers ticks a → a.decided + 2 ≤ length ticks
 decided_within numbers ticks a alarm =
     let rows = rows_count numbers ticks alarm.known alarm.of in
     let within = known_within numbers ticks alarm.known alarm.of in

@@ -14,11 +14,11 @@ use Rattle.early_monitor.specs.Decided.{IsDecided, IsDecidedNow}
 use Rattle.traces.specs.Audited.{AuditNumbers}
 use Rattle.traces.specs.Known.{Known}
 use Rattle.early_monitor.specs.Alarms.{tree_of_rule}
-use Rattle.early_monitor.specs.Lags.{lags_of}
+use Rattle.rule_program.specs.Lags.{lags_of}
 use Rattle.early_monitor.specs.Inner.Breaches.{Adds, IsBreach, IsBreachAt, IsBreachBefore, IsBreachBelow, Tells, alarm_at}
 use Rattle.early_monitor.specs.Inner.Looking.{IsLooked}
 use Rattle.early_monitor.proofs.Deciding.{one_number}
-use Rattle.early_monitor.proofs.LagLaws.{no_last}
+use Rattle.early_monitor.proofs.LastNo.{no_last}
 use Rattle.early_monitor.proofs.Places.{decided_earlier}
 
 -- ---- what is added, one after the other

@@ -1,5 +1,4 @@
-pub mod Ranges
-pub mod LagLaws
+pub mod LastNo
 pub mod Deciding
 pub mod Places
 pub mod Looks
@@ -10,3 +9,4 @@ pub mod NextAlarms
 pub mod UnderWay
 pub mod Lists
 pub mod AllAlarms
+pub mod OneAlarm

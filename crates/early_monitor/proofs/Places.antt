@@ -15,7 +15,7 @@ use Rattle.early_monitor.specs.Decided.{IsDecidedNow}
 use Rattle.early_monitor.specs.Inner.Known.{is_decided, is_known, position_at, is_answered}
 use Rattle.early_monitor.specs.Inner.Looking.{IsDecidedAt, IsLooked}
 use Rattle.early_monitor.proofs.Deciding.{decided_now, decided_before, open_still}
-use Rattle.early_monitor.proofs.LagLaws.{value_take}
+use Rattle.early_monitor.proofs.LastNo.{value_take}
 
 not_decided : (v : Verdict) → is_decided v ≡ false → v ≡ Open
 not_decided Open h = refl

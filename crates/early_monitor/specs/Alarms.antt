@@ -8,17 +8,13 @@ use Rattle.mtl_formulas.specs.declared.verdict.Verdict.TheVariants.{No}
 use Rattle.mtl_formulas.specs.FormulaTree.{FormulaTree}
 use Rattle.mtl_monitor.specs.Traces.{value_in}
 use Rattle.rule_set.specs.NamedTrees.{NamedTree, rule_at}
-use Rattle.meetings.specs.declared.pair.Pair.{Pair}
+use Rattle.audit_rows.specs.Order.{pair_cmp}
 use Rattle.traces.specs.Audited.{AuditNumbers, Sighting}
 use Rattle.traces.specs.Known.{IsKnown, Known}
 use Rattle.early_monitor.specs.declared.alarm.Alarm.{Alarm}
 use Rattle.early_monitor.specs.Decided.{IsDecided}
 
 -- ---- the one order of alarms
-
--- by the subject, then by the other
-abbrev pub pair_cmp : Pair → Pair → Ordering
-pair_cmp a b = ordering_then (nat_cmp a.subject b.subject) (nat_cmp a.other b.other)
 
 -- by the deciding step, then by the pair, the rule and the position
 abbrev pub alarm_cmp : Alarm → Alarm → Ordering

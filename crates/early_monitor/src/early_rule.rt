@@ -5,11 +5,11 @@ ghost use Rattle.mtl_monitor.specs.Following.{count_of};
 use crate::alarm::Alarm;
 use crate::alarm_set::{Place, take_answer};
 use crate::early_state::EarlyState;
-use crate::lags::is_no_last;
 use meetings::AtomRow;
 use mtl_formulas::{Formula, future_reach};
 use mtl_monitor::Program;
 use outside::Memory;
+use rule_program::is_no_last;
 use std::alloc::Global;
 use std::collections::BTreeSet;
 

@@ -15,7 +15,6 @@ mod early_monitor;
 mod early_rule;
 mod early_state;
 mod known;
-mod lags;
 pub mod laws;
 mod rule_lists;
 mod watch;
@@ -24,6 +23,6 @@ mod watched_trace;
 
 pub use alarm::Alarm;
 pub use early_monitor::EarlyMonitor;
-pub use lags::{Lags, is_no_last, lags_of};
+pub use rule_program::{Lags, is_no_last, lags_of};
 pub use traces::TickFault as WatchFault;
 pub use watch::Watch;

@@ -1,34 +1,38 @@
 -- One more leg after a prefix.
-use Rattle.std.proofs.Common.{◌≡◌, ◌∙◌, ℕ, ◌+◌, ◌-◌, ◌*◌, ◌/◌, ◌%◌, ◌<◌, ◌≤◌, ◌⊎◌, inl, inr, List, [], ◌∷◌, ◌++◌, length, take, get_or, refl, sym, ap, subst, arith, add-one, Some, None}
+use Rattle.std.proofs.Common.{◌≡◌, ◌∙◌, ℕ, ◌+◌, ◌-◌, ◌*◌, ◌/◌, ◌%◌, ◌^◌, ◌<◌, ◌≤◌, ◌⊎◌, inl, inr, List, [], ◌∷◌, ◌++◌, length, take, get_or, refl, sym, ap, subst, arith, add-one, Some, None}
 use Rattle.std.proofs.lemmas.Bool.{cases_lt}
 use Rattle.std.proofs.lemmas.List.{get_or_append_left, get_or-take}
-use Rattle.std.proofs.Math.Nat.{mul-le-mul_right}
-use Rattle.std.specs.Prelude.{Option, IsSomeAnd, slice_get, slice_index}
+use Rattle.std.proofs.Math.Nat.{mul-le-mul_right, pow-suc}
+use Rattle.std.proofs.lemmas.Nat.{div_below}
+use Rattle.std.specs.Prelude.{Option, IsNone, IsSomeAnd, MatchOption, slice_get, slice_index}
 use Rattle.encounters.specs.declared.pair_step.PairStep.{PairStep}
 use Rattle.lattice.specs.Grids.{Grid, choices_of, positions_of}
 use Rattle.lattice.specs.OwnMotion.{choice_in_force}
 use Rattle.lattice.specs.PlanNumbers.{plan_of}
 use Rattle.lattice.specs.declared.under_way.UnderWay.{UnderWay}
-use Rattle.lattice.proofs.Digits.{length-plan_of}
+use Rattle.lattice.proofs.Digits.{length-plan_of, plan_none}
 use Rattle.meetings.specs.Standing as meetings
 use Rattle.mtl_monitor.specs.Traces.{Trace}
 use Rattle.mtl_monitor.specs.declared.program.Program.{Program}
 use Rattle.situations.specs.FailingPlans.{BreaksARule, EntersAt, EntersDomain, FailsBy, FailsTowards, Some_}
-use Rattle.planner.specs.Inner.Legs.{IsPlannedLeg, lasts, legs_before, legs_through}
-use Rattle.planner.specs.Inner.Levels.{AreEarly, StandsAt, StaysOut}
+use Rattle.planner.specs.Inner.Legs.{IsPathIn, IsPlannedLeg, lasts, legs_before, legs_through}
+use Rattle.planner.specs.Inner.Levels.{AreEarly, IsAfter, IsPrepared, StandsAt, StaysOut}
+use Rattle.planner.specs.Walks.{IsFirstFailing}
+use Rattle.motion.specs.declared.leg.TickState.{TickState}
 use Rattle.situations.specs.Paths.{EntersAlong, HasReached, start_of}
 use Rattle.planner.specs.Inner.Watching.{Stands, StandsFor}
 use Rattle.situations.specs.Prefixes.{PrefixFails, reached, steps_told}
 use Rattle.situations.specs.Situations.{end_of, now_of, terms_of}
 use Rattle.planner.specs.declared.basis.SearchBasis.{SearchBasis}
 use Rattle.planner.specs.declared.legs.PlannedLeg.{PlannedLeg}
+use Rattle.planner.specs.declared.level.Level.{Level}
 use Rattle.situations.specs.declared.situation.Situation.{Situation}
 use Rattle.situations.specs.declared.situation.Target.{Target}
 use Rattle.planner.specs.declared.watched.Watched.{Watched}
 use Rattle.situations.proofs.Blocks.{shared, told_within}
 use Rattle.situations.proofs.CommonLegs.{in_force, same_contact, same_reached, same_steps, when_less, when_not_less}
 use Rattle.situations.proofs.FlatList.{none_some}
-use Rattle.situations.proofs.Lifting.{begins_too, enters_too, fails_too, rows_too, some_weaker}
+use Rattle.situations.proofs.Lifting.{begins_too, enters_too, fails_too, fails_towards_too, rows_too, some_weaker}
 
 -- ---- how long a leg lasts
 
@@ -66,6 +70,12 @@ shares_front c leg number W e i lt =
     let long = length-plan_of c leg (number / c) in
     sym (get_or_append_left (plan_of c leg (number / c)) (number % c ∷ []) 0 i (omega arith))
     ∙ (ap (λ (ds : List ℕ). slice_index ds i) (sym (prefix_front c leg number)) ∙ shares_prefix c leg number W e i (omega arith))
+
+-- without its last leg a prefix has one of the shorter ones' numbers
+pub shorter_number : (c legs number : ℕ) → 1 ≤ c → number < c ^ (legs + 1) → number / c < c ^ legs
+shorter_number c legs number some lt =
+    let next : c ^ (legs + 1) ≡ c ^ legs * c = ap (λ (n : ℕ). c ^ n) (add-one legs) ∙ pow-suc c legs in
+    div_below number c (c ^ legs) (omega arith) (subst (λ (n : ℕ). number < n) next lt)
 
 -- ---- where own ship is after a prefix
 
@@ -124,31 +134,35 @@ level_too s basis X Y n same at told watched h = λ k t a w cut lt is_cut tells.
 -- ---- whether the longer prefix fails
 
 module _ (s : Situation) (W : List ℕ) (from steps : ℕ) (from_now : now_of s ≤ from) where
-  pub along_fails : Some_ (λ (T : Target). EntersAlong s W T from steps) s.targets → FailsBy s (from + steps) W
-  along_fails h = some_weaker (λ (T : Target). EntersAlong s W T from steps) (FailsTowards s W (from + steps)) s.targets (λ T e. let lt = e.within in inl (record {
+  pub along_enters : (T : Target) → EntersAlong s W T from steps → EntersDomain s W (from + steps) T
+  along_enters T e = let lt = e.within in record {
     step = from + e.ahead;
     from_now = omega arith;
     planned = omega arith;
     enters = e.enters;
-  })) h
+  }
+
+  pub along_fails : Some_ (λ (T : Target). EntersAlong s W T from steps) s.targets → FailsBy s (from + steps) W
+  along_fails h = some_weaker (λ (T : Target). EntersAlong s W T from steps) (FailsTowards s W (from + steps)) s.targets (λ T e. inl (along_enters T e)) h
+
+  -- on the way here, or from here on
+  pub here_or_along : (T : Target) → EntersDomain s W (from + steps) T → EntersDomain s W from T ⊎ EntersAlong s W T from steps
+  here_or_along T e = let planned = e.planned in elim (cases_lt e.step from) [
+    | inl before ↦ inl (record { step = e.step; from_now = e.from_now; planned = before; enters = e.enters })
+    | inr after ↦ (let there : e.step ≡ from + (e.step - from) = omega arith in inr (record {
+      ahead = e.step - from;
+      within = omega arith;
+      enters = subst (λ (i : ℕ). EntersAt s W T i) there e.enters;
+    }))
+  ]
 
   -- neither on the way here, nor from here on
   pub still_out : StaysOut s W from → (¬ Some_ (λ (T : Target). EntersAlong s W T from steps) s.targets) → StaysOut s W (from + steps)
   still_out outside along (k, h) = one (slice_get s.targets k) (λ P p. (k, p)) h
     where
-      at : (T : Target) → EntersDomain s W (from + steps) T → EntersDomain s W from T ⊎ EntersAlong s W T from steps
-      at T e = let planned = e.planned in elim (cases_lt e.step from) [
-        | inl before ↦ inl (record { step = e.step; from_now = e.from_now; planned = before; enters = e.enters })
-        | inr after ↦ (let there : e.step ≡ from + (e.step - from) = omega arith in inr (record {
-          ahead = e.step - from;
-          within = omega arith;
-          enters = subst (λ (i : ℕ). EntersAt s W T i) there e.enters;
-        }))
-      ]
-
       one : (o : Option Target) → ((P : Target → Type 0) → IsSomeAnd o P → Some_ P s.targets) → IsSomeAnd o (EntersDomain s W (from + steps)) → ⊥
       one None f h = h
-      one (Some T) f h = elim (at T h) [
+      one (Some T) f h = elim (here_or_along T h) [
         | inl before ↦ outside (f (EntersDomain s W from) before)
         | inr after ↦ along (f (λ (T : Target). EntersAlong s W T from steps) after)
       ]
@@ -252,3 +266,68 @@ out_at_now s X some h =
 
 pub reached_none : (s : Situation) → 1 ≤ s.lattice.legs → reached s 0 ≡ now_of s
 reached_none s some = let at : steps_told s.lattice 0 ≡ 0 * s.lattice.leg_ticks = leg_begins s.lattice 0 some in omega arith
+
+-- ---- one leg, and one target
+
+module _ (s : Situation) (leg : PlannedLeg) (is : IsPlannedLeg s leg) (path : List TickState) (on : IsPathIn s leg path) (T : Target) where
+  begins_there : reached s leg.index ≡ now_of s + leg.begins
+  begins_there = let from = is.from in omega arith
+
+  ends_then : now_of s + leg.begins + (length path - 1) ≡ reached s (leg.index + 1)
+  ends_then = let some = on.some in let until = on.until in omega arith
+
+  pub enters_in_leg : EntersAlong s leg.plan T (now_of s + leg.begins) (length path - 1) → EntersDomain s leg.plan (reached s (leg.index + 1)) T
+  enters_in_leg h =
+      subst (λ (at : ℕ). EntersDomain s leg.plan at T) ends_then (along_enters s leg.plan (now_of s + leg.begins) (length path - 1) (omega arith) T h)
+
+  pub enters_before_or_in : EntersDomain s leg.plan (reached s (leg.index + 1)) T
+      → EntersDomain s leg.plan (reached s leg.index) T ⊎ EntersAlong s leg.plan T (now_of s + leg.begins) (length path - 1)
+  enters_before_or_in h =
+      subst (λ (at : ℕ). EntersDomain s leg.plan at T ⊎ EntersAlong s leg.plan T (now_of s + leg.begins) (length path - 1)) (sym begins_there)
+      (here_or_along s leg.plan (now_of s + leg.begins) (length path - 1) (omega arith) T (subst (λ (at : ℕ). EntersDomain s leg.plan at T) (sym ends_then) h))
+
+-- ---- the plans that have the legs of a leg's number in common fail alike up to where it ends
+
+module _ (s : Situation) (leg : PlannedLeg) (is : IsPlannedLeg s leg) (X : List ℕ) (alike : take (leg.index + 1) X ≡ legs_through s leg) where
+  same_there : (step : ℕ) → step < steps_told s.lattice (leg.index + 1) → choice_in_force s.lattice X step ≡ choice_in_force s.lattice leg.plan step
+  same_there = let inside = is.inside in shared s.lattice X leg.plan (leg.index + 1) (omega arith)
+      (λ i lt. sym (get_or-take (leg.index + 1) X i 0 lt)
+      ∙ (ap (λ (ds : List ℕ). slice_index ds i) (alike ∙ sym is.shares) ∙ get_or-take (leg.index + 1) leg.plan i 0 lt))
+
+  abbrev end : ℕ
+  end = reached s (leg.index + 1)
+
+  pub fails_there : (T : Target) → FailsTowards s X end T → FailsTowards s leg.plan end T
+  fails_there T = fails_towards_too s X leg.plan (steps_told s.lattice (leg.index + 1)) same_there end (omega arith) T end (omega arith) (omega arith)
+
+  pub fails_here : (T : Target) → FailsTowards s leg.plan end T → FailsTowards s X end T
+  fails_here T = fails_towards_too s leg.plan X (steps_told s.lattice (leg.index + 1)) (λ step lt. sym (same_there step lt)) end (omega arith) T end (omega arith) (omega arith)
+
+  pub first_here : (found : Option ℕ) → MatchOption found (¬ FailsBy s end leg.plan) (IsFirstFailing s leg.plan end) → MatchOption found (¬ FailsBy s end X) (IsFirstFailing s X end)
+  first_here None h = λ fails. h (some_weaker (FailsTowards s X end) (FailsTowards s leg.plan end) s.targets fails_there fails)
+  first_here (Some k) h = record {
+    inside = h.inside;
+    fails = λ d. fails_here (get_or s.targets k d) (h.fails d);
+    before = λ i d lt fails. h.before i d lt (fails_there (get_or s.targets i d) fails);
+  }
+
+pub none_found : (P : Type 0) (Q : ℕ → Type 0) (found : Option ℕ) → IsNone found → MatchOption found P Q → P
+none_found P Q None e h = h
+none_found P Q (Some k) e h = absurd cc
+
+-- a plan that does not fail enters no domain
+pub out_of_all : (s : Situation) (W : List ℕ) (at : ℕ) → (¬ FailsBy s at W) → StaysOut s W at
+out_of_all s W at passes h = passes (some_weaker (EntersDomain s W at) (FailsTowards s W at) s.targets (λ T e. inl e) h)
+
+-- What is kept at now stands for no legs.
+pub after_none : (s : Situation) (basis : SearchBasis) (start : Level) → IsPrepared s basis start → IsAfter s basis 0 0 start
+after_none s basis start prepared =
+    let some = prepared.is_basis.is_situation.some_leg in
+    let now = sym (reached_none s some) in
+    record {
+      targets = prepared.targets;
+      early = subst (λ (at : ℕ). AreEarly at start.watched.items) now prepared.early;
+      stands = subst (λ (plan : List ℕ). StandsAt s basis plan (reached s 0) start.watched.items) (sym (plan_none (choices_of s.lattice) 0))
+          (subst (λ (at : ℕ). StandsAt s basis [] at start.watched.items) now prepared.stands);
+      outside = out_at_now s _ some;
+    }

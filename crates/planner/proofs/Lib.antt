@@ -7,3 +7,5 @@ pub mod Places
 pub mod Walking
 pub mod AtNow
 pub mod Grown
+pub mod ForCallers
+pub mod Ending

@@ -1,11 +1,14 @@
 -- What is kept of each target, one after the other.
 use Rattle.std.proofs.Common.{◌≡◌, ◌≢◌, ◌∙◌, ℕ, ◌+◌, ◌<◌, ◌≤◌, inl, inr, List, [], ◌∷◌, ◌++◌, length, take, drop, get_or, set, refl, sym, ap, subst, arith, Bool, true, false}
+use Rattle.std.specs.Prelude.{IsTrue, ◌↔◌}
 use Rattle.std.proofs.lemmas.Bool.{cases_lt}
 use Rattle.std.proofs.lemmas.List.{get_or-set_other, get_or-set_same}
 use Rattle.std.proofs.Math.Seq.{take-append_seam}
 use Rattle.mtl_monitor.specs.Traces.{Trace}
+use Rattle.situations.specs.FailingPlans.{EntersDomain, FailsTowards}
+use Rattle.situations.proofs.FlatList.{some_here}
 use Rattle.planner.specs.Inner.Breaking.{Tells, formulas_of}
-use Rattle.planner.specs.Inner.Levels.{IsBasis, IsToldAtNow, StandsAt}
+use Rattle.planner.specs.Inner.Levels.{IsBasis, IsToldAtNow, StandsAt, StaysOut}
 use Rattle.planner.specs.Inner.Watching.{IsCutAtNow, Stands}
 use Rattle.planner.specs.declared.already.Already.{Already}
 use Rattle.planner.specs.declared.basis.SearchBasis.{SearchBasis}
@@ -61,3 +64,13 @@ stands_here s basis plan at watched k T A W is_target is_already is_watched lt s
     subst (λ (t : Target). Stands basis.program s plan t cut at W) (sym is_target)
     (subst (λ (w : Watched). Stands basis.program s plan (get_or s.targets k T) cut at w) (sym is_watched)
     (stands k T A W cut lt (subst (λ (t : Target). IsCutAtNow s t cut) is_target is_cut) (subst (λ (a : Already). Tells (formulas_of s) cut a) is_already tells)))
+
+-- Where what is kept of her stands, and no domain was entered, it is told rightly whether the plan fails towards her.
+pub rightly_told : (s : Situation) (basis : SearchBasis) → IsBasis s basis → (W : List ℕ) (at end : ℕ) (from : List Watched) (k : ℕ) (T : Target) (A : Already) (w : Watched)
+    → T ≡ get_or s.targets k T → A ≡ get_or basis.already.items k A → w ≡ get_or from k w → k < length s.targets → StandsAt s basis W at from → StaysOut s W at → (told : Bool)
+    → ((cut : Trace) → IsCutAtNow s T cut → Tells (formulas_of s) cut A → Stands basis.program s W T cut at w → (¬ EntersDomain s W at T) → IsTrue told ↔ FailsTowards s W end T)
+    → IsTrue told ↔ FailsTowards s W end T
+rightly_told s basis is W at end from k T A w is_target is_already is_watched lt stands outside told h =
+    let now = told_here s basis is k T A is_target is_already lt in
+    h now.cut now.is_cut now.tells (stands_here s basis W at from k T A w is_target is_already is_watched lt stands now.cut now.is_cut now.tells)
+    (λ enters. outside (some_here (EntersDomain s W at) s.targets k T lt (subst (EntersDomain s W at) is_target enters)))

@@ -5,4 +5,5 @@ pub use Rattle.situations.specs.Safety
 pub use Rattle.situations.specs.LeastPlans
 pub use Rattle.situations.specs.Prefixes
 pub mod Searches
+pub mod Walks
 pub mod Inner

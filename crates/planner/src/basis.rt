@@ -14,8 +14,10 @@ use std::alloc::Global;
 
 /// The rules of a situation as one program, and what is broken at now towards each of its targets. It stands beside the situation.
 #[derive(Drop)]
-pub(crate) struct SearchBasis {
+pub struct SearchBasis {
     pub(crate) program: Program,
+    /// Whether no rule is broken at a position before all rows came that it reaches. Then a trace's end breaks nothing.
+    pub(crate) no_last: bool,
     pub(crate) already: Vec<Already>,
 }
 

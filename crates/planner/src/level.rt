@@ -26,11 +26,11 @@ use std::alloc::Global;
 
 /// Own ship's path in the last leg of the prefix, and what is kept of each target after it.
 #[derive(Drop)]
-pub(crate) struct Level {
-    path: Vec<TickState>,
-    watched: Vec<Watched>,
+pub struct Level {
+    pub(crate) path: Vec<TickState>,
+    pub(crate) watched: Vec<Watched>,
     /// Where traces are ended, for a look at what they would come to.
-    ending: TraceState,
+    pub(crate) ending: TraceState,
     /// The index of the target whose domain was entered last.
     entered: usize,
 }
@@ -124,6 +124,7 @@ fn follow_all(
         let towards = Towards {
             situation,
             program: &basis.program,
+            no_last: basis.no_last,
             target: &situation.targets.as_slice()[k],
             already: &basis.already[k],
         };
@@ -155,6 +156,7 @@ fn ends_broken(
         let towards = Towards {
             situation,
             program: &basis.program,
+            no_last: basis.no_last,
             target: &situation.targets.as_slice()[k],
             already: &basis.already[k],
         };
@@ -239,7 +241,7 @@ impl Level {
     }
 
     /// Fills in own ship's path in a leg.
-    fn fill_path(&mut self, situation: &Situation, leg: &PlannedLeg)
+    pub(crate) fn fill_path(&mut self, situation: &Situation, leg: &PlannedLeg)
         requires situation { IsSituation situation.now }
         requires leg { IsPlannedLeg situation.now leg.now }
         requires places { length self.old.path.items ≡ lasts situation.now leg.now.index + 1 }

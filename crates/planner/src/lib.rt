@@ -9,9 +9,13 @@ mod legs;
 mod level;
 mod search;
 mod towards;
+mod walk;
 mod watched;
 
+pub use basis::SearchBasis;
+pub use level::Level;
 pub use search::Search;
 pub use situations::{
     Ahead, Domain, Past, Situation, Target, Targets, laws, least_plan, predicted,
 };
+pub use walk::Walk;

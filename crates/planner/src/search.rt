@@ -1,6 +1,6 @@
 //! The search over all plans.
 ghost use Rattle.std.specs.Prelude.{◌≡◌, IfOk, MatchOption};
-ghost use Rattle.planner.specs.Inner.Levels.{IsPrepared};
+ghost use Rattle.planner.specs.Inner.Levels.{ArePlaces, IsBasis, IsPrepared};
 ghost use Rattle.situations.specs.LeastPlans.{AllFail, IsLeastPlan};
 ghost use Rattle.situations.specs.Situations.{IsSituation};
 
@@ -11,7 +11,7 @@ use crate::level::Level;
 use lattice::Plan;
 use mtl_monitor::TraceState;
 use outside::Memory;
-use rule_program::program_of;
+use rule_program::{are_no_last, program_of};
 use situations::Situation;
 use std::alloc::Global;
 
@@ -25,7 +25,7 @@ pub struct Search {
 }
 
 /// The rules as one program and what is broken at now, and what is kept there.
-fn prepared(alloc: Global, situation: &Situation) -> Result<(SearchBasis, Level), Memory>
+pub(crate) fn prepared(alloc: Global, situation: &Situation) -> Result<(SearchBasis, Level), Memory>
     requires { IsSituation situation.now }
     ensures { IfOk result (λ pair. IsPrepared situation.now pair.0 pair.1) }
 {
@@ -39,7 +39,29 @@ fn prepared(alloc: Global, situation: &Situation) -> Result<(SearchBasis, Level)
         watched.push(here)?;
     }
     let start = Level::at_now(alloc, &program, watched)?;
-    Ok((SearchBasis { program, already }, start))
+    let basis = SearchBasis {
+        program,
+        no_last: are_no_last(&situation.rules),
+        already,
+    };
+    Ok((basis, start))
+}
+
+/// The places for each leg.
+pub(crate) fn places(
+    alloc: Global,
+    situation: &Situation,
+    basis: &SearchBasis,
+) -> Result<Vec<Level>, Memory>
+    requires { IsBasis situation.now basis.now }
+    ensures { IfOk result (λ below. ArePlaces situation.now basis.now 0 below.items) }
+{
+    let mut below = Vec::new(alloc);
+    for leg in 0..situation.lattice.legs() {
+        let ticks = leg_lasts(situation, leg);
+        below.push(Level::new(alloc, situation, basis, ticks)?)?;
+    }
+    Ok(below)
 }
 
 impl Search {
@@ -52,11 +74,7 @@ impl Search {
         ensures situation { IfOk result (λ search. searched_situation search ≡ situation) }
     {
         let (basis, start) = prepared(alloc, &situation)?;
-        let mut below = Vec::new(alloc);
-        for leg in 0..situation.lattice.legs() {
-            let ticks = leg_lasts(&situation, leg);
-            below.push(Level::new(alloc, &situation, &basis, ticks)?)?;
-        }
+        let below = places(alloc, &situation, &basis)?;
         Ok(Search {
             situation,
             basis,

@@ -1,14 +1,17 @@
 //! Following own ship's path in a leg towards a target.
-ghost use Rattle.std.specs.Prelude.{◌≡◌, ◌+◌, false};
+ghost use Rattle.std.specs.Prelude.{◌≡◌, ◌+◌, ◌↔◌, IsTrue, false};
+ghost use Rattle.mtl_monitor.specs.Following.{Fits, HasRoom};
+ghost use Rattle.mtl_monitor.specs.Traces.{Trace};
 ghost use Rattle.planner.specs.Inner.Legs.{IsPathIn, IsPlannedLeg};
-ghost use Rattle.planner.specs.Inner.Watching.{IsEarly, IsFollowed, IsReady, IsTowards};
+ghost use Rattle.planner.specs.Inner.Watching.{IsCut, IsEarly, IsFollowed, IsReady, IsTowards, Stands};
+ghost use Rattle.situations.specs.FailingPlans.{EntersDomain, FailsTowards};
 ghost use Rattle.situations.specs.Prefixes.{reached};
 
 use crate::already::Already;
 use crate::legs::PlannedLeg;
 use crate::watched::Watched;
 use motion::TickState;
-use mtl_monitor::Program;
+use mtl_monitor::{Program, TraceState};
 use situations::{Situation, Target};
 
 /// A target of a situation, the rules as one program, and what is broken at now towards her.
@@ -16,6 +19,8 @@ use situations::{Situation, Target};
 pub(crate) struct Towards<'a> {
     pub(crate) situation: &'a Situation,
     pub(crate) program: &'a Program,
+    /// Whether no rule is broken at a position before all rows came that it reaches.
+    pub(crate) no_last: bool,
     pub(crate) target: &'a Target,
     pub(crate) already: &'a Already,
 }
@@ -66,5 +71,44 @@ impl Towards<'_> {
     {
         watched.copy_from(self.program, from);
         self.follow(leg, path, watched)
+    }
+
+    /// Whether a plan fails towards the target by the end of a leg of its, where own ship did not enter the domain before. What is kept of the
+    /// target after other legs is taken over first. `ending` is another state of the program, whose places serve for a look at the trace's end.
+    pub(crate) fn fails_by(
+        &self,
+        leg: &PlannedLeg,
+        path: &[TickState],
+        from: &Watched,
+        watched: &mut Watched,
+        ending: &mut TraceState,
+    ) -> bool
+        requires towards { IsTowards self.now }
+        requires leg { IsPlannedLeg self.now.situation.now leg.now }
+        requires path { IsPathIn self.now.situation.now leg.now path.now }
+        requires from { IsReady self.now.program.now from.now }
+        requires early { IsEarly (reached self.now.situation.now leg.now.index) from.now }
+        requires ready { IsReady self.now.program.now watched.old }
+        requires fits { Fits self.now.program.now ending.old }
+        requires room { HasRoom self.now.program.now ending.old }
+        ensures ready { IsReady self.now.program.now watched.new }
+        ensures fits { Fits self.now.program.now ending.new }
+        ensures room { HasRoom self.now.program.now ending.new }
+        ensures early { result ≡ false → IsEarly (reached self.now.situation.now (leg.now.index + 1)) watched.new }
+        ensures stands { result ≡ false → (cut : Trace) → IsCut self.now cut
+            → Stands self.now.program.now self.now.situation.now leg.now.plan self.now.target.now cut (reached self.now.situation.now leg.now.index) from.now
+            → Stands self.now.program.now self.now.situation.now leg.now.plan self.now.target.now cut (reached self.now.situation.now (leg.now.index + 1)) watched.new }
+        ensures fails { (cut : Trace) → IsCut self.now cut
+            → Stands self.now.program.now self.now.situation.now leg.now.plan self.now.target.now cut (reached self.now.situation.now leg.now.index) from.now
+            → (¬ EntersDomain self.now.situation.now leg.now.plan (reached self.now.situation.now leg.now.index) self.now.target.now)
+            → IsTrue result ↔ FailsTowards self.now.situation.now leg.now.plan (reached self.now.situation.now (leg.now.index + 1)) self.now.target.now }
+    {
+        if self.situation.enters_along(path, self.target, leg.begins) {
+            return true;
+        }
+        if self.follow_from(leg, path, from, watched) {
+            return true;
+        }
+        watched.ends_newly_broken(self, ending)
     }
 }

@@ -140,6 +140,9 @@ impl Watched {
         if !self.begun {
             return false;
         }
+        if towards.no_last {
+            return false;
+        }
         ending.copy_from(towards.program, &self.values);
         for past in 0..towards.program.reach() {
             ending.pass_end(towards.program);

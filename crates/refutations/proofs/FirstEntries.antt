@@ -1,6 +1,6 @@
 -- The first good entry of a prefix: the first reason towards the first target that has one.
-use Rattle.std.proofs.Common.{◌≡◌, ◌∙◌, ℕ, ◌<◌, ◌≤◌, ◌⊎◌, inl, inr, List, length, take, get_or, sym, ap, subst, arith, Some, None}
-use Rattle.std.specs.Prelude.{Option, AllPairs, IsSomeAnd, slice_index}
+use Rattle.std.proofs.Common.{◌≡◌, ◌∙◌, ℕ, ◌<◌, ◌≤◌, ◌⊎◌, inl, inr, List, length, take, get_or, refl, sym, ap, subst, arith, Some, None}
+use Rattle.std.specs.Prelude.{Option, AllPairs, IsSome, IsSomeAnd, MatchOption, slice_index}
 use Rattle.std.proofs.lemmas.Bool.{cases_lt}
 use Rattle.std.proofs.lemmas.List.{get_or-take, length-take-le}
 use Rattle.closest_approach.specs.declared.nearest.Moment.{Moment}
@@ -8,7 +8,7 @@ use Rattle.encounters.specs.declared.pair_step.PairStep.{PairStep}
 use Rattle.meetings.specs.Traces.{step_at}
 use Rattle.mtl_formulas.specs.FormulaTree.{FormulaTree}
 use Rattle.situations.specs.Domains.{moment_of, Enters, IsEntry as IsDomainEntry, IsInsideAt}
-use Rattle.situations.specs.FailingPlans.{BreaksAt, EntersAt, EntersDomain, FailsBy, FailsTowards}
+use Rattle.situations.specs.FailingPlans.{BreaksARule, BreaksAt, EntersAt, EntersDomain, FailsBy, FailsTowards}
 use Rattle.situations.specs.Prefixes.{reached, steps_told, PrefixFails}
 use Rattle.situations.specs.Reasons.{HasReason, IsFirstBroken, IsFirstEntry, RuleBreaksAt}
 use Rattle.situations.specs.Situations.{own_at, target_at}
@@ -71,6 +71,13 @@ module _ (s : Situation) (X : List ℕ) (last : ℕ) (T : Target) where
         | inl earlier ↦ h.no_step_before step index earlier holds
         | inr both ↦ h.no_rule_before index both.1 (subst (λ (k : ℕ). RuleBreaksAt s X last T k index) both.0 holds)
       ]
+
+  -- where the plan fails towards the target and no domain is entered, a rule is newly broken
+  pub some_broken : (found : Option BrokenRule) → (¬ EntersDomain s X last T) → FailsTowards s X last T → MatchOption found (¬ BreaksARule s X last T) (IsFirstBroken s X last T)
+      → IsSome found
+  some_broken None none (inl enters) h = absurd (none enters)
+  some_broken None none (inr breaks) h = absurd (h breaks)
+  some_broken (Some broken) none fails h = refl
 
   pub holds_fails : (reason : Reason) → Holds s X last T reason → FailsTowards s X last T
   holds_fails reason h = by (has_reason s X last T reason h)

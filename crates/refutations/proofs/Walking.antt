@@ -21,6 +21,7 @@ use Rattle.refutations.specs.Inner.Walks.{first_extension, IsNext, IsWalkedTo, N
 use Rattle.refutations.specs.RightLists.{behind, ends_from, first_of, IsEntry, IsRight}
 use Rattle.refutations.specs.declared.entry.WhyEntry.{WhyEntry}
 use Rattle.refutations.proofs.Blocks.{there}
+use Rattle.refutations.proofs.FirstEntries.{passes_at}
 use Rattle.refutations.proofs.HeldReasons.{good_reason}
 
 -- ---- lists with one more element
@@ -139,6 +140,26 @@ module _ (s : Situation) where
             | inr last ↦ not_good (take k plan) entry (begins ∙ ap (λ (j : ℕ). take j plan) (sym last)) (passes (omega arith))
           ];
     }
+
+  -- ---- the first plan that extends a prefix of so many legs, where plans with these legs do not fail by its horizon
+
+  pub begins_so : 1 ≤ choices_of s.lattice → (k n : ℕ) → k ≤ s.lattice.legs → take k (numbered s (first_extension s k n)) ≡ plan_of (choices_of s.lattice) k n
+  begins_so some k n le = first_plan_begins (choices_of s.lattice) s.lattice.legs (s.lattice.legs - k) k n some (omega arith)
+
+  pub passes_longer : 1 ≤ choices_of s.lattice → 1 ≤ s.lattice.legs → (k n : ℕ) → k ≤ s.lattice.legs → (¬ FailsBy s (reached s k) (numbered s (first_extension s k n)))
+      → ¬ PrefixFails s (take k (numbered s (first_extension s k n)))
+  passes_longer some leg k n le passes =
+      let plan = numbered s (first_extension s k n) in
+      let long = length-plan_of (choices_of s.lattice) s.lattice.legs (first_extension s k n) in
+      passes_at s leg plan (take k plan) k (reached s k) refl (omega arith) refl passes
+
+  -- one more entry, that of a prefix of so many legs
+  pub listed_next : 1 ≤ choices_of s.lattice → (k n : ℕ) → k ≤ s.lattice.legs → n < choices_of s.lattice ^ k → (xs new : List WhyEntry) (entry : WhyEntry)
+      → IsWalkedTo s xs (first_extension s k n) → new ≡ xs ++ entry ∷ [] → entry.prefix ≡ take k (numbered s (first_extension s k n)) → IsEntry s entry → IsFirstGood s entry
+      → NoneIsShorter s k (numbered s (first_extension s k n)) → IsWalkedTo s new (first_extension s k (n + 1))
+  listed_next some k n le small xs new entry so_far is prefix is_entry first above =
+      one_more xs new entry (first_extension s k n) (first_extension s k (n + 1)) so_far is
+      (next_entry some k n le small xs so_far entry prefix is_entry first above) (ends_behind some k n le small xs so_far entry prefix)
 
   -- ---- a whole plan that does not fail
 

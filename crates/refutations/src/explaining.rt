@@ -1,10 +1,11 @@
 //! The canonical list: a walk over the prefixes.
-ghost use Rattle.std.specs.Prelude.{◌≡◌, ◌+◌, ◌*◌, ◌-◌, ◌^◌, ◌≤◌, ◌<◌, ◌↔◌, false, take, All, IfOk, IfSome, IsNone, IsTrue, MatchOption};
+ghost use Rattle.std.specs.Prelude.{◌≡◌, ◌+◌, ◌*◌, ◌-◌, ◌^◌, ◌≤◌, ◌<◌, ◌↔◌, false, take, All, IfOk, IfSome, IsNone, IsTrue, OnOk};
 ghost use Rattle.lattice.specs.Grids.{choices_of, plans_of};
 ghost use Rattle.lattice.specs.PlanNumbers.{IsPlan};
+ghost use Rattle.planner.specs.Walks.{HavePlaces, IsFirstFailing, IsGround, Keeps};
 ghost use Rattle.situations.specs.FailingPlans.{FailsTowards};
 ghost use Rattle.situations.specs.LeastPlans.{numbered};
-ghost use Rattle.situations.specs.Prefixes.{PrefixFails};
+ghost use Rattle.situations.specs.Prefixes.{reached, PrefixFails};
 ghost use Rattle.situations.specs.Situations.{end_of, now_of, IsSituation, IsTarget};
 ghost use Rattle.refutations.specs.CanonicalLists.{IsCanonical, IsFirstGood, SomePlanPasses};
 ghost use Rattle.refutations.specs.Inner.Walks.{first_extension, IsFirstTowards, IsWalkedTo, NoneIsShorter};
@@ -12,75 +13,52 @@ ghost use Rattle.refutations.specs.RightLists.{IsEntry, IsRight};
 
 use crate::entry::{Reason, WhyEntry};
 use crate::goodness::horizon;
-use crate::laws::{a_right_list_refutes, plans_agree_on_reasons};
+use crate::laws::a_right_list_refutes;
 use crate::prefix::Prefix;
 use lattice::Plan;
 use outside::Memory;
+use planner::{Level, SearchBasis, Walk};
 use situations::laws::failing_has_a_reason;
 use situations::{Situation, Target};
 use std::alloc::Global;
 
-/// The first reason towards a target under a plan, up to a horizon.
+/// The situation that a walk is over, and what stays the same on it.
+#[derive(Clone, Copy)]
+struct Walked<'a> {
+    situation: &'a Situation,
+    basis: &'a SearchBasis,
+}
+
+/// The first reason towards a target under a plan that fails towards her, up to a horizon.
 fn first_towards(
     alloc: Global,
     situation: &Situation,
     plan: &Plan,
     target: &Target,
     until: u32,
-) -> Result<Option<Reason>, Memory>
+) -> Result<Reason, Memory>
     requires situation { IsSituation situation.now }
     requires plan { IsPlan (choices_of situation.now.lattice) situation.now.lattice.legs plan.now }
     requires target { IsTarget situation.now target.now }
     requires from_now { now_of situation.now ≤ until }
     requires until { until ≤ end_of situation.now }
-    ensures { IfOk result (λ found. MatchOption found (¬ FailsTowards situation.now plan.now until target.now) (IsFirstTowards situation.now plan.now until target.now)) }
+    requires fails { FailsTowards situation.now plan.now until target.now }
+    ensures { IfOk result (IsFirstTowards situation.now plan.now until target.now) }
 {
     let entered = situation.entered(alloc, plan, target, until)?;
     if let Some(entry) = entered {
-        return Ok(Some(Reason::Domain {
+        return Ok(Reason::Domain {
             step: entry.step,
             moment: entry.moment,
-        }));
+        });
     }
     let _rules = situation.rules.len();
-    match situation.newly_broken(alloc, plan, target, until)? {
-        Some(broken) => Ok(Some(Reason::Rule {
-            index: broken.rule as u32,
-            step: broken.step,
-        })),
-        None => Ok(None),
-    }
-}
-
-/// The first good entry of the prefix that a plan's first legs are.
-fn first_entry(
-    alloc: Global,
-    situation: &Situation,
-    plan: &Plan,
-    legs: usize,
-) -> Result<Option<WhyEntry>, Memory>
-    requires situation { IsSituation situation.now }
-    requires plan { IsPlan (choices_of situation.now.lattice) situation.now.lattice.legs plan.now }
-    requires some { 1 ≤ legs }
-    requires legs { legs ≤ situation.now.lattice.legs }
-    ensures first { IfOk result (λ found. MatchOption found (¬ PrefixFails situation.now (take legs plan.now)) (IsFirstGood situation.now)) }
-    ensures prefix { IfOk result (λ found. IfSome found (λ entry. entry.prefix ≡ take legs plan.now)) }
-    ensures entry { IfOk result (λ found. IfSome found (IsEntry situation.now)) }
-{
-    plans_agree_on_reasons(situation);
-    failing_has_a_reason(situation);
-    let prefix = &plan.choices()[..legs];
-    let until = horizon(situation, legs);
-    for target in situation.targets.as_slice() {
-        if let Some(reason) = first_towards(alloc, situation, plan, target, until)? {
-            return Ok(Some(WhyEntry {
-                prefix: Prefix::of(alloc, prefix),
-                target: target.mmsi,
-                reason,
-            }));
-        }
-    }
-    Ok(None)
+    let found = situation.newly_broken(alloc, plan, target, until)?;
+    let broken = found.unwrap();
+    Ok(Reason::Rule {
+        index: broken.rule as u32,
+        step: broken.step,
+    })
 }
 
 /// The number of the first plan that extends the prefix of so many legs that has a number.
@@ -94,62 +72,94 @@ fn first_number(situation: &Situation, legs: u8, number: u32) -> u32
     number * situation.lattice.choices().pow(u32::from(left))
 }
 
-/// Adds the first good entry of the prefix of so many legs that has a number, if there is one.
-fn refuted(
+/// The first good entry of the prefix of so many legs that has a number: the one towards the first target towards which it fails, which has this index.
+fn first_entry(
     alloc: Global,
     situation: &Situation,
     legs: u8,
     number: u32,
-    list: &mut Vec<WhyEntry>,
-) -> Result<bool, Memory>
+    target: usize,
+) -> Result<WhyEntry, Memory>
     requires situation { IsSituation situation.now }
+    requires some { 1 ≤ legs }
     requires legs { legs ≤ situation.now.lattice.legs }
     requires number { number < choices_of situation.now.lattice ^ legs }
-    requires so_far { IsWalkedTo situation.now list.old.items (first_extension situation.now legs number) }
-    requires above { NoneIsShorter situation.now legs (numbered situation.now (first_extension situation.now legs number)) }
-    ensures refuted { IfOk result (λ refuted. IsTrue refuted → IsWalkedTo situation.now list.new.items (first_extension situation.now legs (number + 1))) }
-    ensures not { IfOk result (λ refuted. refuted ≡ false → 1 ≤ legs → ¬ PrefixFails situation.now (take legs (numbered situation.now (first_extension situation.now legs number)))) }
-    ensures kept { IfOk result (λ refuted. refuted ≡ false → list.new.items ≡ list.old.items) }
+    requires target { IsFirstFailing situation.now (numbered situation.now (first_extension situation.now legs number)) (reached situation.now legs) target }
+    ensures first { IfOk result (IsFirstGood situation.now) }
+    ensures prefix { IfOk result (λ entry. entry.prefix ≡ take legs (numbered situation.now (first_extension situation.now legs number))) }
+    ensures entry { IfOk result (IsEntry situation.now) }
 {
-    if legs == 0 {
-        return Ok(false);
-    }
     let plan = situation
         .lattice
         .plan(first_number(situation, legs, number));
-    let Some(entry) = first_entry(alloc, situation, &plan, usize::from(legs))? else {
-        return Ok(false);
-    };
-    list.push(entry)?;
-    Ok(true)
+    let until = horizon(situation, usize::from(legs));
+    let towards = &situation.targets.as_slice()[target];
+    let reason = first_towards(alloc, situation, &plan, towards, until)?;
+    Ok(WhyEntry {
+        prefix: Prefix::of(alloc, &plan.choices()[..usize::from(legs)]),
+        target: towards.mmsi,
+        reason,
+    })
 }
 
-/// Lists the canonical entries of the plans that extend a prefix, until one plan does not fail. No shorter prefix has a good entry.
-fn explore(
+/// Adds the first good entry of the prefix of so many legs that has a number. No shorter prefix has one.
+fn list_first(
     alloc: Global,
     situation: &Situation,
     legs: u8,
     number: u32,
+    target: usize,
     list: &mut Vec<WhyEntry>,
-) -> Result<bool, Memory>
+) -> Result<(), Memory>
     requires situation { IsSituation situation.now }
+    requires some { 1 ≤ legs }
     requires legs { legs ≤ situation.now.lattice.legs }
     requires number { number < choices_of situation.now.lattice ^ legs }
+    requires target { IsFirstFailing situation.now (numbered situation.now (first_extension situation.now legs number)) (reached situation.now legs) target }
     requires so_far { IsWalkedTo situation.now list.old.items (first_extension situation.now legs number) }
     requires above { NoneIsShorter situation.now legs (numbered situation.now (first_extension situation.now legs number)) }
-    ensures list { IfOk result (λ all. IsTrue all → IsWalkedTo situation.now list.new.items (first_extension situation.now legs (number + 1))) }
-    ensures passes { IfOk result (λ all. all ≡ false → SomePlanPasses situation.now) }
+    ensures { OnOk result (IsWalkedTo situation.now list.new.items (first_extension situation.now legs (number + 1))) }
 {
+    let entry = first_entry(alloc, situation, legs, number, target)?;
+    list.push(entry)?;
+    Ok(())
+}
+
+/// Lists the canonical entries of the plans that extend a prefix, until one plan does not fail. No shorter prefix has a good entry, and this has none.
+/// `from` is kept after its legs, and `below` has the places for those that are left.
+fn explore(
+    alloc: Global,
+    walked: &Walked<'_>,
+    from: &Level,
+    below: &mut [Level],
+    legs: u8,
+    number: u32,
+    list: &mut Vec<WhyEntry>,
+) -> Result<bool, Memory>
+    requires situation { IsSituation walked.now.situation.now }
+    requires basis { IsGround walked.now.situation.now walked.now.basis.now }
+    requires places { HavePlaces walked.now.situation.now walked.now.basis.now legs below.old }
+    requires number { number < choices_of walked.now.situation.now.lattice ^ legs }
+    requires from { Keeps walked.now.situation.now walked.now.basis.now legs number from.now }
+    requires so_far { IsWalkedTo walked.now.situation.now list.old.items (first_extension walked.now.situation.now legs number) }
+    requires above { NoneIsShorter walked.now.situation.now legs (numbered walked.now.situation.now (first_extension walked.now.situation.now legs number)) }
+    requires passes { 1 ≤ legs → ¬ PrefixFails walked.now.situation.now (take legs (numbered walked.now.situation.now (first_extension walked.now.situation.now legs number))) }
+    ensures places { IfOk result (λ all. IsTrue all → HavePlaces walked.now.situation.now walked.now.basis.now legs below.new) }
+    ensures list { IfOk result (λ all. IsTrue all → IsWalkedTo walked.now.situation.now list.new.items (first_extension walked.now.situation.now legs (number + 1))) }
+    ensures passes { IfOk result (λ all. all ≡ false → SomePlanPasses walked.now.situation.now) }
+{
+    let situation = walked.situation;
     failing_has_a_reason(situation);
-    if refuted(alloc, situation, legs, number, list)? {
-        return Ok(true);
-    }
-    if legs == situation.lattice.legs() {
+    let Some((to, rest)) = below.split_first_mut() else {
         return Ok(false);
-    }
+    };
     let choices = situation.lattice.choices();
     for choice in 0..choices {
-        if !explore(alloc, situation, legs + 1, number * choices + choice, list)? {
+        let longer = number * choices + choice;
+        let found = to.first_failing(situation, walked.basis, from, legs, longer);
+        if let Some(target) = found {
+            list_first(alloc, situation, legs + 1, longer, target, list)?;
+        } else if !explore(alloc, walked, to, rest, legs + 1, longer, list)? {
             return Ok(false);
         }
     }
@@ -165,8 +175,21 @@ pub fn explain(alloc: Global, situation: &Situation) -> Result<Option<Vec<WhyEnt
     ensures right { IfOk result (λ list. IfSome list (λ entries. IsRight situation.now entries.items)) }
 {
     a_right_list_refutes(situation);
+    let mut walk = Walk::new(alloc, situation)?;
+    let walked = Walked {
+        situation,
+        basis: &walk.basis,
+    };
     let mut list = Vec::new(alloc);
-    if explore(alloc, situation, 0, 0, &mut list)? {
+    if explore(
+        alloc,
+        &walked,
+        &walk.start,
+        &mut walk.below,
+        0,
+        0,
+        &mut list,
+    )? {
         Ok(Some(list))
     } else {
         Ok(None)

@@ -1,2 +1,3 @@
 pub use Rattle.mtl_monitor.specs.Following
 pub use Rattle.rule_set.specs.NamedTrees
+pub mod Lags

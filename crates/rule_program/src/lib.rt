@@ -1,11 +1,16 @@
-//! The rules of an audit as one program, which gives the values of all of them along a trace.
+//! The rules of an audit as one program, which gives the values of all of them along a trace; and how many rows their formulas need at
+//! least before a value of Yes or No.
 #![tactic(auto)]
+
+mod lags;
+pub mod laws;
 
 ghost use Rattle.std.specs.Prelude.{◌≡◌, ◌≤◌, IfOk, length, map};
 ghost use Rattle.mtl_monitor.specs.Following.{IsProgramOf, count_of};
 ghost use Rattle.rule_set.specs.NamedTrees.{NamedTree};
 ghost use Rattle.rule_set.specs.declared.rule_set.TheConstants.{MOST_RULES};
 
+pub use lags::{Lags, are_no_last, is_no_last, lags_of};
 use mtl_monitor::Program;
 use outside::Memory;
 use rule_set::RuleSet;

@@ -1,10 +1,11 @@
 //! What a recheck tells of rows.
-use crate::compared::is;
-use crate::reports::{HEAD_ON_NOW, ONE_TICK, OWN};
-use crate::whole_run::{Edit, SOUND, Shelved, edited, ended_on};
-use crate::worked_row::{NOTHING, Row, Written, is_as_worked_out};
+use crate::reports::{HEAD_ON_NOW, OWN};
 use colregs_program::{Status, Unready, Which};
+use compared::is;
 use std::test::Fail;
+use whole_runs::{
+    Edit, NOTHING, ONE_TICK, Row, SOUND, Shelved, Written, edited, ended_on, is_as_worked_out,
+};
 
 const RECHECK: &[&str] = &["recheck", "scenario.toml"];
 
@@ -144,7 +145,7 @@ why,0,477553000,domain,18,1,1
 #[test]
 fn rows_are_confirmed_or_the_first_that_is_wrong_is_told(rt: HostRuntime) -> Result<(), Fail> {
     for row in &RECHECKS {
-        is_as_worked_out(&rt, rt.alloc(), row)?;
+        is_as_worked_out(rt.alloc(), row)?;
     }
     Ok(())
 }
@@ -159,7 +160,7 @@ fn rows_one_byte_too_long(rt: HostRuntime) -> Result<(), Fail> {
         rows: Some(rows.as_slice()),
     };
     let ended = ended_on(alloc, RECHECK, shelved, HEAD_ON_NOW, SOUND)?;
-    is(&rt, ended.status, Status::Limit(Which::Rows, 16777216));
-    is(&rt, ended.err.bytes(), b"limit: rows 16777216\n".as_slice());
+    is(ended.status, Status::Limit(Which::Rows, 16777216))?;
+    is(ended.err.bytes(), b"limit: rows 16777216\n".as_slice())?;
     Ok(())
 }

@@ -1,12 +1,53 @@
 //! The report of each mode.
-use crate::compared::{is, is_true};
-use crate::logs::{ABOUT_SEATTLE, HEAD_ON_AUDITED, LOG, POINT, REPORT};
-use crate::whole_run::{Devices, Edit, SOUND, edited, ended};
-use crate::worked_row::{AUDIT, NOTHING, POINTS, Row, Written, is_as_worked_out};
 use colregs_program::Status;
+use compared::{is, is_true};
 use log_lines::laws;
 use scenario_rows::HEAD_ON;
 use std::test::Fail;
+use whole_runs::{
+    ABOUT_SEATTLE, AUDIT, Devices, Edit, LOG, NOTHING, ONE_TICK, POINTS, REPORT, Row, SOUND,
+    Written, edited, ended, is_as_worked_out,
+};
+
+/// The row of that report.
+const POINT: &[u8] = b"point,477553000,1700000000,0,185200,0,510\n";
+
+/// The front of the audit of the log of two vessels that meet head on, up to the counts of lines.
+const HEAD_ON_AUDITED: &[u8] = b"verdict,369190000,477553000,r14a,broken,0,0
+verdict,477553000,369190000,r14a,broken,0,0
+verdict,369190000,477553000,r8d,broken,18,21
+verdict,477553000,369190000,r8d,broken,18,21
+meeting,369190000,477553000,head_on,0,25,185200
+meeting,477553000,369190000,head_on,0,25,185200
+vessel,369190000,MT.MITCHELL,99,180,2,1
+vessel,477553000,,0,0,2,1
+total,r8b,80,80,0,0,0
+total,r8d,80,72,8,0,2
+total,r13,80,80,0,0,0
+total,r14a,80,78,2,0,2
+total,r14b,80,80,0,0,0
+total,r14p,80,80,0,0,0
+total,r15,80,80,0,0,0
+total,r16,80,80,0,0,0
+total,r17a,80,80,0,0,0
+total,r17b,80,80,0,0,0
+total,r17c,80,80,0,0,0
+lines,empty,0,,,,
+";
+
+/// The same watched: each breach at the step that decides it.
+const HEAD_ON_WATCHED: &[u8] = b"alarm,369190000,477553000,r14a,0,6,
+alarm,477553000,369190000,r14a,0,6,
+alarm,369190000,477553000,r8d,18,18,
+alarm,477553000,369190000,r8d,18,18,
+alarm,369190000,477553000,r8d,19,19,
+alarm,477553000,369190000,r8d,19,19,
+alarm,369190000,477553000,r8d,20,20,
+alarm,477553000,369190000,r8d,20,20,
+alarm,369190000,477553000,r8d,21,21,
+alarm,477553000,369190000,r8d,21,21,
+lines,empty,0,,,,
+";
 
 /// Five parts of two keys, and three lines with times: own ship at second 100, and the other at seconds 0 and -1000.
 const PARTS_AND_TIMES: &[u8] =
@@ -67,8 +108,6 @@ pub(crate) const OWN: Edit = (
     "max_speed = 500\n[own]\nmmsi = 369190000\ncourses = [0, 300, 600]\nspeeds = [0]\nlegs = 1\nleg_ticks = 30\ntail = 10\nbase = 300\nlengths = 0\nrange = 50000\n",
 );
 
-pub(crate) const ONE_TICK: Edit = ("ticks = 40", "ticks = 1");
-
 const PLAN: &[&str] = &["plan", "scenario.toml"];
 
 /// Own ship and a vessel that she meets head on, each with a report at now.
@@ -123,7 +162,7 @@ const OWN_FISHES_NOW: &[u8] = b"\\c:1700000000*5F\\!AIVDM,1,1,,A,15P5TL7P2l00001
 \\c:1700000000*5F\\!AIVDM,1,1,,A,177KQJ0P2lOwwtp00W4725`00000,0*31
 ";
 
-const REPORTS: [Row; 15] = [
+const REPORTS: [Row; 16] = [
     Row {
         shows: "a log without its last line feed",
         edits: &[ABOUT_SEATTLE],
@@ -148,6 +187,13 @@ const REPORTS: [Row; 15] = [
         words: AUDIT,
         log: &[HEAD_ON],
         out: Written::Ends(HEAD_ON_AUDITED, b"lines,static,1,,,,\nlines,point,4,,,,\n"),
+        ..NOTHING
+    },
+    Row {
+        shows: "the same two vessels are watched",
+        words: &["watch", "scenario.toml"],
+        log: &[HEAD_ON],
+        out: Written::Ends(HEAD_ON_WATCHED, b"lines,static,1,,,,\nlines,point,4,,,,\n"),
         ..NOTHING
     },
     Row {
@@ -281,7 +327,7 @@ lines,empty,0,,,,
 #[test]
 fn each_mode_writes_the_report_that_was_worked_out(rt: HostRuntime) -> Result<(), Fail> {
     for row in &REPORTS {
-        is_as_worked_out(&rt, rt.alloc(), row)?;
+        is_as_worked_out(rt.alloc(), row)?;
     }
     laws::each_line_has_one_outcome();
     Ok(())
@@ -293,9 +339,9 @@ fn a_log_in_pieces_of_any_length(rt: HostRuntime) -> Result<(), Fail> {
     for piece in [1, 7, 46, 4096] {
         let devices = Devices { piece, ..SOUND };
         let ended = ended(rt.alloc(), POINTS, scenario.as_str(), LOG, devices)?;
-        assert_eq!(rt; ended.status, Status::Done, "in pieces of {piece}");
-        assert_eq!(rt; ended.out.bytes(), REPORT, "in pieces of {piece}");
-        is_true(&rt, ended.err.bytes().is_empty());
+        is(ended.status, Status::Done)?;
+        is(ended.out.bytes(), REPORT)?;
+        is_true(ended.err.bytes().is_empty())?;
     }
     Ok(())
 }
@@ -319,13 +365,12 @@ fn a_log_of_three_hundred_lines(rt: HostRuntime) -> Result<(), Fail> {
         log.as_slice(),
         devices,
     )?;
-    is(&rt, ended.status, Status::Done);
+    is(ended.status, Status::Done)?;
     is_true(
-        &rt,
         ended.out.bytes().ends_with(
             b"lines,back,299,,,,\nlines,repeat,0,,,,\nlines,jump,0,,,,\nlines,static,0,,,,\nlines,point,1,,,,\n",
         ),
-    );
+    )?;
     Ok(())
 }
 
@@ -339,13 +384,13 @@ fn a_migrated_scenario_audits_the_head_on_log_alike(rt: HostRuntime) -> Result<(
     };
     let scenario = edited(rt.alloc(), &[])?;
     let migrated = ended(rt.alloc(), &words, scenario.as_str(), b"", devices)?;
-    is(&rt, migrated.status, Status::Done);
+    is(migrated.status, Status::Done)?;
     let text = match std::str::from_utf8(migrated.out.bytes()) {
         Ok(text) => text,
         Err(_) => "",
     };
-    is_true(&rt, text.contains("ticks = 40\n"));
+    is_true(text.contains("ticks = 40\n"))?;
     let again = ended(rt.alloc(), AUDIT, text, HEAD_ON, SOUND)?;
-    is_true(&rt, again.out.bytes().starts_with(HEAD_ON_AUDITED));
+    is_true(again.out.bytes().starts_with(HEAD_ON_AUDITED))?;
     Ok(())
 }

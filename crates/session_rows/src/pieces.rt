@@ -20,6 +20,10 @@ verdict,369190000,477553000,r8d,broken,18,21
 verdict,477553000,369190000,r8d,broken,18,21
 ";
 
+const FIRST_ALARMS: &[u8] = b"alarm,369190000,477553000,r14a,0,6,
+alarm,477553000,369190000,r14a,0,6,
+";
+
 const REST: &[u8] = b"meeting,369190000,477553000,head_on,0,25,185200
 meeting,477553000,369190000,head_on,0,25,185200
 vessel,369190000,MT.MITCHELL,99,180,2,1
@@ -38,13 +42,15 @@ fn session(alloc: Global, more: &str, mode: Mode) -> Result<Session, Fail>
     }
 }
 
-/// What the audit of the head-on log and one line more gives before its end, in pieces of this many bytes, and then at its end.
-fn audit(alloc: Global, last: &[u8], count: usize) -> Result<(Vec<u8>, Vec<u8>), Fail>
-    requires { 1 ≤ count }
+/// What a mode gives of the head-on log and one line more before its end, in pieces of this many bytes, and then at its end.
+fn fed(alloc: Global, mode: Mode, last: &[u8], count: usize) -> Result<(Vec<u8>, Vec<u8>), Fail>
+    requires own { needs_own mode ≡ false }
+    requires reports { IsTrue (reports mode) }
+    requires count { 1 ≤ count }
 {
     let mut log = HEAD_ON.to_vec(alloc)?;
     log.extend_from_slice(last)?;
-    let mut session = session(alloc, "", Mode::Audit)?;
+    let mut session = session(alloc, "", mode)?;
     let mut given = Vec::new(alloc);
     for piece in log.as_slice().chunks(count) {
         let Ok(bytes) = session.feed(piece) else {
@@ -62,19 +68,39 @@ fn audit(alloc: Global, last: &[u8], count: usize) -> Result<(Vec<u8>, Vec<u8>),
 #[test]
 fn rows_are_given_once_no_later_line_can_change_them(rt: HostRuntime) -> Result<(), Fail> {
     for count in [1, 50, 4096] {
-        let (given, rest) = audit(rt.alloc(), b"\\c:1700000740*5C\\x\n", count)?;
+        let (given, rest) = fed(rt.alloc(), Mode::Audit, b"\\c:1700000740*5C\\x\n", count)?;
         is(&rt, given.as_slice(), b"".as_slice());
         is_true(&rt, rest.as_slice().starts_with(FIRST_FOUR));
-        let (given, rest) = audit(rt.alloc(), b"\\c:1700000741*5D\\x\n", count)?;
+        let (given, rest) = fed(rt.alloc(), Mode::Audit, b"\\c:1700000741*5D\\x\n", count)?;
         is(&rt, given.as_slice(), FIRST_TWO);
         is_true(
             &rt,
             rest.as_slice()
                 .ends_with(b"lines,static,1,,,,\nlines,point,4,,,,\n"),
         );
-        let (given, rest) = audit(rt.alloc(), b"\\c:1700000951*52\\x\n", count)?;
+        let (given, rest) = fed(rt.alloc(), Mode::Audit, b"\\c:1700000951*52\\x\n", count)?;
         is(&rt, given.as_slice(), FIRST_FOUR);
         is_true(&rt, rest.as_slice().starts_with(REST));
+    }
+    Ok(())
+}
+
+// The step 6 decides the first alarms, and ends at the tick at 70 seconds.
+#[test]
+fn an_alarm_is_given_once_the_step_that_decides_it_is_settled(rt: HostRuntime) -> Result<(), Fail> {
+    for count in [1, 50, 4096] {
+        let (given, rest) = fed(rt.alloc(), Mode::Watch, b"\\c:1700000730*5B\\x\n", count)?;
+        is(&rt, given.as_slice(), b"".as_slice());
+        is_true(&rt, rest.as_slice().starts_with(FIRST_ALARMS));
+        let (given, rest) = fed(rt.alloc(), Mode::Watch, b"\\c:1700000731*5A\\x\n", count)?;
+        is(&rt, given.as_slice(), FIRST_ALARMS);
+        is_true(
+            &rt,
+            rest.as_slice()
+                .starts_with(b"alarm,369190000,477553000,r8d,18,18,\n"),
+        );
+        let (given, _) = fed(rt.alloc(), Mode::Audit, b"\\c:1700000731*5A\\x\n", count)?;
+        is(&rt, given.as_slice(), b"".as_slice());
     }
     Ok(())
 }
@@ -82,7 +108,7 @@ fn rows_are_given_once_no_later_line_can_change_them(rt: HostRuntime) -> Result<
 // A line settles nothing before its line feed.
 #[test]
 fn a_line_without_its_line_feed_moves_no_clock(rt: HostRuntime) -> Result<(), Fail> {
-    let (given, rest) = audit(rt.alloc(), b"\\c:1700000951*52\\x", 50)?;
+    let (given, rest) = fed(rt.alloc(), Mode::Audit, b"\\c:1700000951*52\\x", 50)?;
     is(&rt, given.as_slice(), b"".as_slice());
     is_true(&rt, rest.as_slice().starts_with(FIRST_FOUR));
     Ok(())

@@ -71,13 +71,14 @@ fn are_usage(rt: &impl Abort, alloc: Global, rows: &[&'static [&'static str]]) {
     }
 }
 
-const OF_EVERY_MODE: [Asked; 7] = [
+const OF_EVERY_MODE: [Asked; 8] = [
     (&["points", "a.toml"], Mode::Points, "a.toml", BARE),
     (&["audit", "a.toml"], Mode::Audit, "a.toml", BARE),
     (&["plan", "a.toml"], Mode::Plan, "a.toml", BARE),
     (&["drill", "a.toml"], Mode::Drill, "a.toml", BARE),
     (&["migrate", "a.toml"], Mode::Migrate, "a.toml", BARE),
     (&["recheck", "a.toml"], Mode::Recheck, "a.toml", BARE),
+    (&["watch", "a.toml"], Mode::Watch, "a.toml", BARE),
     (&["audit", ""], Mode::Audit, "", BARE),
 ];
 

@@ -37,7 +37,7 @@ of_topic numbers ticks topic first marks (Verdict pair rule undecided from last)
 of_rules : (numbers : AuditNumbers) (ticks : List Sighting) (row : Row) → IsAuditRow numbers ticks row → IsOfRules numbers.rules row
 of_rules numbers ticks row (track, both) = let (from, to, tells) = both.1 in of_topic numbers ticks track.topic track.first track.marks row tells.topic both.0
 
-all_of : {X : Type 0} (P : X → Type 0) (xs : List X) → ((x : X) → Contains xs x → P x) → All P xs
+pub all_of : {X : Type 0} (P : X → Type 0) (xs : List X) → ((x : X) → Contains xs x → P x) → All P xs
 all_of P xs h = All-weaker (Contains xs) P h xs (All-contains_itself xs)
 
 pub rows_of_rules : (numbers : AuditNumbers) (ticks : List Sighting) (rows : List Row) → AreAuditRows numbers ticks rows → AreOfRules numbers.rules rows

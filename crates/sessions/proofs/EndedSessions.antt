@@ -10,7 +10,9 @@ use Rattle.log_lines.specs.LogLines.{lines_of}
 use Rattle.log_lines.specs.Standing.{StandsFor as JudgeStandsFor, LinesStandFor}
 use Rattle.log_lines.specs.declared.judge.Judge.{Judge}
 use Rattle.scenario.specs.declared.values.Scenario.{Scenario}
+use Rattle.early_monitor.specs.declared.alarm.Alarm.{Alarm}
 use Rattle.settling.specs.declared.settled_audit.SettledAudit.{SettledAudit}
+use Rattle.settling.specs.declared.settled_watch.SettledWatch.{SettledWatch}
 use Rattle.log_lines.specs.declared.streamed.EndedLines.{EndedLines}
 use Rattle.sessions.specs.AuditReport.{stretch_rows}
 use Rattle.sessions.specs.Feeding.{UnlessMemory}
@@ -28,7 +30,8 @@ use Rattle.situations.specs.declared.preparation.PrepareFault.{PrepareFault}
 use Rattle.sessions.specs.declared.ending.Ending.{Ending}
 use Rattle.command_line.specs.declared.mode.Mode.{Mode}
 use Rattle.command_line.specs.declared.mode.Mode.TheVariants as mode
-use Rattle.sessions.specs.Inner.AtEnd.{AreOfLog, IsAuditAtEnd, IsAuditOf}
+use Rattle.sessions.specs.Inner.AtEnd.{AreOfLog, IsAuditAtEnd, IsAuditOf, IsWatchAtEnd, IsWatchOf}
+use Rattle.sessions.specs.WatchReport.{alarm_rows}
 use Rattle.sessions.specs.declared.session.Session.{Session}
 use Rattle.sessions.specs.declared.session_fault.SessionFault.{SessionFault}
 use Rattle.sessions.specs.declared.session_fault.SessionFault.TheVariants as why
@@ -82,6 +85,26 @@ audit_of self audit judge is judges fed given stands =
 pub audit_here : (self : Session) (audit : SettledAudit) (judge : Judge) → self.work ≡ work.Audit audit → JudgeOf self judge → IsInUse self → IsAuditAtEnd audit judge self.scenario
 audit_here self audit judge is judges used =
     let of = audit_of self audit judge is judges used.fed used.given used.stands in
+    record { log = used.fed; given = of.0; is = of.1 }
+
+pub watch_of : (self : Session) (watch : SettledWatch) (judge : Judge) → self.work ≡ work.Watch watch → JudgeOf self judge → (fed given : List ℕ) → StandsFor self fed given
+    → (early : List Alarm) × IsWatchOf watch judge self.scenario fed early × (given ≡ alarm_rows self.scenario.rules early)
+watch_of self watch judge is judges fed given stands =
+    let done = done_by self (work.Watch watch) is fed given stands in (
+      done.0.0,
+      record {
+        lines = ended_lines fed;
+        more = open_lines (open_part fed);
+        whole = lines_ended_or_open fed;
+        stands = done.1;
+        judged = ended_judge self judge judges fed given stands;
+      },
+      done.0.2,
+    )
+
+pub watch_here : (self : Session) (watch : SettledWatch) (judge : Judge) → self.work ≡ work.Watch watch → JudgeOf self judge → IsInUse self → IsWatchAtEnd watch judge self.scenario
+watch_here self watch judge is judges used =
+    let of = watch_of self watch judge is judges used.fed used.given used.stands in
     record { log = used.fed; given = of.0; is = of.1 }
 
 pub drill_of : (self : Session) (audit : SettledAudit) (judge : Judge) → self.work ≡ work.Drill audit → JudgeOf self judge → (fed given : List ℕ) → StandsFor self fed given
@@ -154,6 +177,11 @@ module _ (self : Session) (judge : Judge) (judges : JudgeOf self judge) (asked :
   audit_refused audit is cause =
       refused_by mode.Audit (ap mode_by is) (λ fed given stands. let of = audit_of self audit judge is judges fed given stands in cause fed of.0 of.1)
 
+  pub watch_refused : (watch : SettledWatch) → self.work ≡ work.Watch watch
+      → ((log : List ℕ) (early : List Alarm) → IsWatchOf watch judge self.scenario log early → EndCause mode.Watch [] self.scenario log because) → Refusal self asked because
+  watch_refused watch is cause =
+      refused_by mode.Watch (ap mode_by is) (λ fed given stands. let of = watch_of self watch judge is judges fed given stands in cause fed of.0 of.1)
+
   pub drill_refused : (audit : SettledAudit) → self.work ≡ work.Drill audit
       → ((log : List ℕ) → IsAuditOf audit judge self.scenario log [] → EndCause mode.Drill [] self.scenario log because) → Refusal self asked because
   drill_refused audit is cause =
@@ -183,7 +211,7 @@ module _ (self : Session) (asked : Asked) (judge : Judge) (is : self.work ≡ wo
 
 looks_at_own : (look : Look) → IsTrue (is_own look) → look ≡ own_ship
 looks_at_own each_line needs = cc needs
-looks_at_own each_tick needs = cc needs
+looks_at_own (each_tick told) needs = cc needs
 looks_at_own own_ship needs = refl
 looks_at_own nothing needs = cc needs
 

@@ -16,5 +16,6 @@ mod SettledTexts
 mod SomeAnswer
 mod TakingLines
 mod VesselRows
+mod Watching
 mod Working
 pub mod ForCallers

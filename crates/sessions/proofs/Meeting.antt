@@ -45,7 +45,7 @@ one_bad_entry : (look : Look) (checks : Bool) (rows : List ℕ) (scenario : Scen
 one_bad_entry own_ship true rows scenario log k l a b = one_bad_row scenario log rows k l a b
 one_bad_entry own_ship false rows scenario log k l a b = absurd a
 one_bad_entry each_line checks rows scenario log k l a b = absurd a
-one_bad_entry each_tick checks rows scenario log k l a b = absurd a
+one_bad_entry (each_tick told) checks rows scenario log k l a b = absurd a
 one_bad_entry nothing checks rows scenario log k l a b = absurd a
 
 -- ---- there is one answer
@@ -115,6 +115,12 @@ module _ (scenario : Scenario) (log : List ℕ) (calm : is_crowded scenario (lin
 
   pub audit_done : ¬ HasManyTraces mode.Audit scenario log → IsAnswerOf mode.Audit [] scenario log (Ok false)
   audit_done few = inr (not_crowded scenario log calm, inr (few, inr (λ x. x, inr (λ x. x, no_entry mode.Audit [] scenario log (λ k x. x)))))
+
+  pub too_many_watched : HasManyTraces mode.Watch scenario log → IsAnswerOf mode.Watch [] scenario log (Err fault.Pairs)
+  too_many_watched many = inr (not_crowded scenario log calm, inl (many, refl))
+
+  pub watch_done : ¬ HasManyTraces mode.Watch scenario log → IsAnswerOf mode.Watch [] scenario log (Ok false)
+  watch_done few = inr (not_crowded scenario log calm, inr (few, inr (λ x. x, inr (λ x. x, no_entry mode.Watch [] scenario log (λ k x. x)))))
 
   pub too_many_drilled : HasManyTraces mode.Drill scenario log → IsAnswerOf mode.Drill [] scenario log (Err fault.Pairs)
   too_many_drilled many = inr (not_crowded scenario log calm, inl (many, refl))

@@ -8,6 +8,10 @@ use Rattle.audit_rows.specs.declared.row.Row.{Row}
 use Rattle.auditor.specs.declared.total.Total.{Total}
 use Rattle.auditor.specs.AuditTotals.{AreTotals}
 use Rattle.auditor.proofs.ForCallers.{one_list_of_rows, one_list_of_totals}
+use Rattle.early_monitor.specs.declared.alarm.Alarm.{Alarm}
+use Rattle.log_lines.specs.JudgedLines.{judged_lines}
+use Rattle.log_lines.specs.LogLines.{lines_of}
+use Rattle.sessions.specs.OutcomeRows.{count_rows}
 use Rattle.scenario.specs.declared.values.Scenario.{Scenario}
 use Rattle.sessions.specs.AuditReport.{IsAuditReport, rows_behind, sightings_of, stretch_rows}
 use Rattle.lattice.specs.Grids.{plans_of}
@@ -24,8 +28,10 @@ use Rattle.sessions.specs.Endings.{IsEnding, IsReport}
 use Rattle.sessions.specs.Tasks.{Task}
 use Rattle.sessions.specs.PlanReport.{AreReasons, IsManoeuvre, IsOwn, IsPlanReport, log_messages, plan_text, situation_on}
 use Rattle.sessions.specs.RecheckReport.{IsRecheckReport}
+use Rattle.sessions.specs.WatchReport.{IsWatchReport, alarm_rows}
 use Rattle.sessions.proofs.OneManoeuvre.{one_manoeuvre}
 use Rattle.sessions.proofs.OneOwn.{one_own, one_ready}
+use Rattle.sessions.proofs.Watching.{one_list_of_alarms}
 use Rattle.command_line.specs.declared.mode.Mode.{Mode}
 use Rattle.command_line.specs.declared.mode.Mode.TheVariants as mode
 use Rattle.settling.specs.ScenarioAudit.{audit_numbers}
@@ -82,6 +88,13 @@ one_recheck_report rows scenario log text other a b =
     let own : a.own ≡ b.own = one_own scenario log a.own b.own a.ready b.ready a.is_own b.is_own in
     a.is ∙ (ap (λ (o : OwnPart). row_of (no_plan_fields (plans_of o.lattice))) own ∙ sym b.is)
 
+one_watch_report : (scenario : Scenario) (log text other : List ℕ) → IsWatchReport scenario log text → IsWatchReport scenario log other → text ≡ other
+one_watch_report scenario log text other a b =
+    let same = one_list_of_alarms (audit_numbers scenario) (sightings_of scenario log) a.alarms b.alarms a.are_alarms b.are_alarms in
+    a.is
+    ∙ ap (λ (early : List Alarm). alarm_rows scenario.rules early ++ count_rows (judged_lines scenario (lines_of log))) same
+    ∙ sym b.is
+
 one_report : (m : Mode) (why : Bool) (rows : List ℕ) (scenario : Scenario) (log text other : List ℕ) → IsReport m why rows scenario log text
     → IsReport m why rows scenario log other → text ≡ other
 one_report mode.Points why rows scenario log text other a b = a ∙ sym b
@@ -90,6 +103,7 @@ one_report mode.Plan why rows scenario log text other a b = one_plan_report why 
 one_report mode.Drill why rows scenario log text other a b = one_drill_report scenario log text other a b
 one_report mode.Migrate why rows scenario log text other a b = absurd a
 one_report mode.Recheck why rows scenario log text other a b = one_recheck_report rows scenario log text other a b
+one_report mode.Watch why rows scenario log text other a b = one_watch_report scenario log text other a b
 
 pub one_ending : (task : Task) (scenario : Scenario) (log text other : List ℕ) → IsEnding task scenario log text → IsEnding task scenario log other → text ≡ other
 one_ending task = one_report task.mode task.why task.rows

@@ -61,7 +61,7 @@ PartsGoOn = (log part : List ℕ) → All (λ byte. is_line_feed byte ≡ false)
 
 many_on : ManyStay → (look : Look) (scenario : Scenario) (lines more : List (List ℕ)) → OfTicks look (HaveManySettled scenario lines) → OfTicks look (HaveManySettled scenario (lines ++ more))
 many_on stay each_line scenario lines more many = many
-many_on stay each_tick scenario lines more many = stay scenario lines more many
+many_on stay (each_tick told) scenario lines more many = stay scenario lines more many
 many_on stay own_ship scenario lines more many = many
 many_on stay nothing scenario lines more many = many
 
@@ -339,14 +339,14 @@ entry_needed m rows scenario log k good (inr (calm, inr (traces, own))) = behind
 nothing_by : (look : Look) (early : Bool) (scenario : Scenario) (lines : List (List ℕ)) (log text : List ℕ) → IsDecidedBy (early_by look early) scenario lines text
     → (lack_by look scenario log ≡ None → ⊥) → text ≡ []
 nothing_by each_line early scenario lines log text settled own = absurd (own refl)
-nothing_by each_tick early scenario lines log text settled own = absurd (own refl)
+nothing_by (each_tick told) early scenario lines log text settled own = absurd (own refl)
 nothing_by own_ship early scenario lines log text settled own = settled
 nothing_by nothing early scenario lines log text settled own = absurd (own refl)
 
 nothing_towards : (look : Look) (early : Bool) (scenario : Scenario) (lines : List (List ℕ)) (text : List ℕ) (P : Type 0) → IsDecidedBy (early_by look early) scenario lines text
     → ((OfOwnShip look P → ⊥) → ⊥) → text ≡ []
 nothing_towards each_line early scenario lines text P settled own = absurd (own (λ x. x))
-nothing_towards each_tick early scenario lines text P settled own = absurd (own (λ x. x))
+nothing_towards (each_tick told) early scenario lines text P settled own = absurd (own (λ x. x))
 nothing_towards own_ship early scenario lines text P settled own = settled
 nothing_towards nothing early scenario lines text P settled own = absurd (own (λ x. x))
 

@@ -3,6 +3,8 @@ use Rattle.std.proofs.Common.{◌≡◌, ℕ, Bool, List, [], ◌∷◌, ◌++�
 use Rattle.std.proofs.lemmas.Grind.{flat_map-append}
 use Rattle.audit_report.specs.CsvRows.{row_of}
 use Rattle.audit_rows.specs.declared.row.Row.{Row}
+use Rattle.early_monitor.specs.Alarms.{AreAlarms}
+use Rattle.early_monitor.specs.declared.alarm.Alarm.{Alarm}
 use Rattle.auditor.specs.AuditRows.{AreAuditRows}
 use Rattle.log_lines.specs.GrowingLog.{ended_lines}
 use Rattle.log_lines.specs.JudgedLines.{judged_line, judged_lines}
@@ -11,6 +13,7 @@ use Rattle.log_lines.specs.SentLines.{sent}
 use Rattle.log_lines.specs.declared.judged.Judged.{Judged}
 use Rattle.log_lines.proofs.ForCallers.{judged-push}
 use Rattle.scenario.specs.declared.values.Scenario.{Scenario}
+use Rattle.settling.specs.DecidedAlarms.{AreDecidedAlarms}
 use Rattle.settling.specs.DecidedRows.{AreDecided}
 use Rattle.settled_ticks.specs.Sightings.{sighted}
 use Rattle.settling.specs.ScenarioAudit.{audit_numbers}
@@ -19,10 +22,11 @@ use Rattle.command_line.specs.declared.mode.Mode.TheVariants as mode
 use Rattle.sessions.specs.AuditReport.{rows_behind, sightings_of, stretch_fields, stretch_rows}
 use Rattle.sessions.specs.Endings.{IsEnding, IsReport}
 use Rattle.sessions.specs.Tasks.{Task}
-use Rattle.sessions.specs.Modes.{Look, each_line, each_tick, early_look, nothing, own_ship}
+use Rattle.sessions.specs.Modes.{Look, alarms, each_line, each_tick, early_look, nothing, own_ship, stretches}
 use Rattle.sessions.specs.OutcomeRows.{count_rows}
 use Rattle.sessions.specs.PointsReport.{point_rows, points_report, rows_of_line}
 use Rattle.sessions.specs.SettledText.{IsDecidedBy, IsDecidedText, IsSettledText}
+use Rattle.sessions.specs.WatchReport.{alarm_rows, told_alarm}
 
 -- The text begins with the other.
 abbrev pub Begins : List ℕ → List ℕ → Type 0
@@ -30,17 +34,26 @@ Begins text longer = (rest : List ℕ) × (longer ≡ text ++ rest)
 
 -- ---- one text
 
-one_by : ((scenario : Scenario) (lines : List (List ℕ)) (rows others : List Row) → AreDecided scenario lines rows → AreDecided scenario lines others → rows ≡ others)
-    → (look : Look) (scenario : Scenario) (lines : List (List ℕ)) (text other : List ℕ) → IsDecidedBy look scenario lines text → IsDecidedBy look scenario lines other → text ≡ other
-one_by one each_line scenario lines text other a b = a ∙ sym b
-one_by one each_tick scenario lines text other (rows, are, is) (others, are', is') =
-    is ∙ ap (stretch_rows scenario.rules) (one scenario lines rows others are are') ∙ sym is'
-one_by one own_ship scenario lines text other a b = a ∙ sym b
-one_by one nothing scenario lines text other a b = a ∙ sym b
+-- Lines decide one list of rows, and one list of alarms.
+abbrev pub OneOfRows : Type 0
+OneOfRows = (scenario : Scenario) (lines : List (List ℕ)) (rows others : List Row) → AreDecided scenario lines rows → AreDecided scenario lines others → rows ≡ others
 
-pub one_decided : ((scenario : Scenario) (lines : List (List ℕ)) (rows others : List Row) → AreDecided scenario lines rows → AreDecided scenario lines others → rows ≡ others)
+abbrev pub OneOfAlarms : Type 0
+OneOfAlarms = (scenario : Scenario) (lines : List (List ℕ)) (early others : List Alarm) → AreDecidedAlarms scenario lines early → AreDecidedAlarms scenario lines others → early ≡ others
+
+one_by : OneOfRows → OneOfAlarms
+    → (look : Look) (scenario : Scenario) (lines : List (List ℕ)) (text other : List ℕ) → IsDecidedBy look scenario lines text → IsDecidedBy look scenario lines other → text ≡ other
+one_by one same each_line scenario lines text other a b = a ∙ sym b
+one_by one same (each_tick stretches) scenario lines text other (rows, are, is) (others, are', is') =
+    is ∙ ap (stretch_rows scenario.rules) (one scenario lines rows others are are') ∙ sym is'
+one_by one same (each_tick alarms) scenario lines text other (early, are, is) (others, are', is') =
+    is ∙ ap (alarm_rows scenario.rules) (same scenario lines early others are are') ∙ sym is'
+one_by one same own_ship scenario lines text other a b = a ∙ sym b
+one_by one same nothing scenario lines text other a b = a ∙ sym b
+
+pub one_decided : OneOfRows → OneOfAlarms
     → (m : Mode) (scenario : Scenario) (lines : List (List ℕ)) (text other : List ℕ) → IsDecidedText m scenario lines text → IsDecidedText m scenario lines other → text ≡ other
-one_decided one m = one_by one (early_look m)
+one_decided one same m = one_by one same (early_look m)
 
 -- ---- the rows of lines
 
@@ -62,6 +75,10 @@ stretches_begin : (scenario : Scenario) (rows all rest : List Row) → all ≡ r
 stretches_begin scenario rows all rest is =
     (stretch_rows scenario.rules rest, ap (stretch_rows scenario.rules) is ∙ flat_map-append (λ r. row_of (stretch_fields scenario.rules r)) rows rest)
 
+alarms_begin : (scenario : Scenario) (early all rest : List Alarm) → all ≡ early ++ rest → Begins (alarm_rows scenario.rules early) (alarm_rows scenario.rules all)
+alarms_begin scenario early all rest is =
+    (alarm_rows scenario.rules rest, ap (alarm_rows scenario.rules) is ∙ flat_map-append (λ a. row_of (told_alarm scenario.rules a)) early rest)
+
 -- ---- longer fronts
 
 begins_is : (text longer other : List ℕ) → Begins text longer → other ≡ longer → Begins text other
@@ -76,16 +93,27 @@ goes_on text longer more begins = (begins.0 ++ more, ap (λ (t : List ℕ). t ++
 empty_begins : (text longer : List ℕ) → text ≡ [] → Begins text longer
 empty_begins text longer is = (longer, ap (λ (t : List ℕ). t ++ longer) (sym is))
 
-module _ (fronts : (scenario : Scenario) (lines more : List (List ℕ)) (rows later : List Row) → AreDecided scenario lines rows → AreDecided scenario (lines ++ more) later
-    → (rest : List Row) × (later ≡ rows ++ rest))
-    (begin : (scenario : Scenario) (lines more : List (List ℕ)) (rows all : List Row) → AreDecided scenario lines rows
-    → AreAuditRows (audit_numbers scenario) (sighted scenario (sent scenario (lines ++ more))) all → (rest : List Row) × (all ≡ rows ++ rest)) where
+-- The rows that are decided are a front of those with further lines, and of the whole report's; and so are the alarms.
+pub record Fronts : Type 0 where
+  pub rows : (scenario : Scenario) (lines more : List (List ℕ)) (rows later : List Row) → AreDecided scenario lines rows → AreDecided scenario (lines ++ more) later
+      → (rest : List Row) × (later ≡ rows ++ rest)
+  pub all_rows : (scenario : Scenario) (lines more : List (List ℕ)) (rows all : List Row) → AreDecided scenario lines rows
+      → AreAuditRows (audit_numbers scenario) (sighted scenario (sent scenario (lines ++ more))) all → (rest : List Row) × (all ≡ rows ++ rest)
+  pub early : (scenario : Scenario) (lines more : List (List ℕ)) (early later : List Alarm) → AreDecidedAlarms scenario lines early → AreDecidedAlarms scenario (lines ++ more) later
+      → (rest : List Alarm) × (later ≡ early ++ rest)
+  pub all_early : (scenario : Scenario) (lines more : List (List ℕ)) (early all : List Alarm) → AreDecidedAlarms scenario lines early
+      → AreAlarms (audit_numbers scenario) (sighted scenario (sent scenario (lines ++ more))) all → (rest : List Alarm) × (all ≡ early ++ rest)
+
+module _ (fronts : Fronts) where
   decided_by : (look : Look) (scenario : Scenario) (lines more : List (List ℕ)) (text later : List ℕ) → IsDecidedBy look scenario lines text
       → IsDecidedBy look scenario (lines ++ more) later → Begins text later
   decided_by each_line scenario lines more text later a b = begins_is text _ later (is_begins text _ _ a (points_begin scenario lines more)) b
-  decided_by each_tick scenario lines more text later (rows, are, is) (others, are', is') =
-      let rest = fronts scenario lines more rows others are are' in
+  decided_by (each_tick stretches) scenario lines more text later (rows, are, is) (others, are', is') =
+      let rest = fronts.rows scenario lines more rows others are are' in
       begins_is text _ later (is_begins text _ _ is (stretches_begin scenario rows others rest.0 rest.1)) is'
+  decided_by (each_tick alarms) scenario lines more text later (early, are, is) (others, are', is') =
+      let rest = fronts.early scenario lines more early others are are' in
+      begins_is text _ later (is_begins text _ _ is (alarms_begin scenario early others rest.0 rest.1)) is'
   decided_by own_ship scenario lines more text later a b = empty_begins text later a
   decided_by nothing scenario lines more text later a b = empty_begins text later a
 
@@ -111,12 +139,17 @@ module _ (fronts : (scenario : Scenario) (lines more : List (List ℕ)) (rows la
       begins_is text _ report (goes_on text _ (count_rows (judged_lines scenario (lines_of log))) (is_begins text _ _ a rows)) b
   decided_begins mode.Audit scenario lines more log text report is (rows, are, told) why asked b =
       let all = subst (λ (l : List (List ℕ)). AreAuditRows (audit_numbers scenario) (sighted scenario (sent scenario l)) b.rows) is b.are_rows in
-      let rest = begin scenario lines more rows b.rows are all in
+      let rest = fronts.all_rows scenario lines more rows b.rows are all in
       begins_is text _ report (goes_on text _ (rows_behind scenario log b.totals) (is_begins text _ _ told (stretches_begin scenario rows b.rows rest.0 rest.1))) b.is
   decided_begins mode.Plan scenario lines more log text report is a why asked b = empty_begins text report a
   decided_begins mode.Drill scenario lines more log text report is a why asked b = empty_begins text report a
   decided_begins mode.Migrate scenario lines more log text report is a why asked b = empty_begins text report a
   decided_begins mode.Recheck scenario lines more log text report is a why asked b = empty_begins text report a
+  decided_begins mode.Watch scenario lines more log text report is (early, are, told) why asked b =
+      let all = subst (λ (l : List (List ℕ)). AreAlarms (audit_numbers scenario) (sighted scenario (sent scenario l)) b.alarms) is b.are_alarms in
+      let rest = fronts.all_early scenario lines more early b.alarms are all in
+      begins_is text _ report
+      (goes_on text _ (count_rows (judged_lines scenario (lines_of log))) (is_begins text _ _ told (alarms_begin scenario early b.alarms rest.0 rest.1))) b.is
 
   pub settled_begins : (all : (log more : List ℕ) → (lines : List (List ℕ)) × (lines_of (log ++ more) ≡ ended_lines log ++ lines))
       → (task : Task) (scenario : Scenario) (front more text report : List ℕ) → IsSettledText task.mode scenario front text → IsEnding task scenario (front ++ more) report

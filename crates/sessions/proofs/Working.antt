@@ -5,6 +5,7 @@ use Rattle.audit_report.specs.CsvRows.{row_of}
 use Rattle.audit_report.specs.ReportTexts.{HasText}
 use Rattle.audit_report.specs.declared.report_text.ReportText.{ReportText}
 use Rattle.audit_rows.specs.declared.row.Row.{Row}
+use Rattle.early_monitor.specs.declared.alarm.Alarm.{Alarm}
 use Rattle.log_lines.specs.EachLine.{each_after}
 use Rattle.log_lines.specs.GrowingLog.{ended_lines}
 use Rattle.log_lines.specs.JudgedLines.{is_crowded, judged_lines}
@@ -13,18 +14,22 @@ use Rattle.log_lines.specs.declared.judge.Judge.{Judge}
 use Rattle.log_lines.specs.declared.judged.Judged.{Judged}
 use Rattle.log_lines.proofs.ForCallers.{nothing_judged}
 use Rattle.scenario.specs.declared.values.Scenario.{Scenario}
+use Rattle.settling.specs.DecidedAlarms.{AreDecidedAlarms}
 use Rattle.settling.specs.DecidedRows.{AreDecided}
 use Rattle.settling.specs.ManySettled.{HaveManySettled}
 use Rattle.settling.specs.Standing.{StandsFor as AuditStandsFor}
+use Rattle.settling.specs.WatchStanding.{StandsFor as WatchStandsFor}
 use Rattle.settling.specs.declared.settled_audit.SettledAudit.{SettledAudit}
-use Rattle.settling.proofs.ForCallers.{few_settled, none_decided, none_many}
+use Rattle.settling.specs.declared.settled_watch.SettledWatch.{SettledWatch}
+use Rattle.settling.proofs.ForCallers.{few_settled, few_watched, none_decided, no_alarms_decided, none_many}
 use Rattle.command_line.specs.declared.mode.Mode.{Mode}
-use Rattle.sessions.specs.Modes.{Look, OfTicks, each_line, each_tick, early_look, nothing, own_ship}
+use Rattle.sessions.specs.Modes.{Look, OfTicks, alarms, each_line, each_tick, early_look, nothing, own_ship, stretches}
 use Rattle.sessions.specs.AuditReport.{stretch_fields, stretch_rows}
 use Rattle.sessions.specs.PointsReport.{point_rows, rows_of_line}
 use Rattle.sessions.specs.Refusals.{HasManySettled, IsUnrefused}
 use Rattle.sessions.specs.SettledText.{IsDecidedBy, IsDecidedText, IsSettledText}
 use Rattle.sessions.specs.Standing.{mode_by}
+use Rattle.sessions.specs.WatchReport.{alarm_rows, told_alarm}
 use Rattle.sessions.specs.Inner.Working.{GoesOn, IsDone}
 use Rattle.sessions.specs.declared.work.Work.{Work}
 use Rattle.sessions.specs.declared.work.Work.TheVariants as work
@@ -45,7 +50,8 @@ nothing_ended = refl
 
 nothing_decided : (look : Look) (scenario : Scenario) → IsDecidedBy look scenario [] []
 nothing_decided each_line scenario = no_points scenario
-nothing_decided each_tick scenario = ([], none_decided scenario, refl)
+nothing_decided (each_tick stretches) scenario = ([], none_decided scenario, refl)
+nothing_decided (each_tick alarms) scenario = ([], no_alarms_decided scenario, refl)
 nothing_decided own_ship scenario = refl
 nothing_decided nothing scenario = refl
 
@@ -58,7 +64,7 @@ none_crowded scenario = refl
 
 none_too_many : (look : Look) (scenario : Scenario) → OfTicks look (HaveManySettled scenario []) → ⊥
 none_too_many each_line scenario many = many
-none_too_many each_tick scenario many = none_many scenario many
+none_too_many (each_tick told) scenario many = none_many scenario many
 none_too_many own_ship scenario many = many
 none_too_many nothing scenario many = many
 
@@ -75,6 +81,9 @@ points_begun scenario = (no_points scenario, tt)
 pub audit_begun : (scenario : Scenario) (audit : SettledAudit) → AuditStandsFor audit scenario [] [] → IsDone (work.Audit audit) scenario [] []
 audit_begun scenario audit stands = (([], none_decided scenario, refl), stands)
 
+pub watch_begun : (scenario : Scenario) (watch : SettledWatch) → WatchStandsFor watch scenario [] [] → IsDone (work.Watch watch) scenario [] []
+watch_begun scenario watch stands = (([], no_alarms_decided scenario, refl), stands)
+
 pub begun_ended : (work : Work) (scenario : Scenario) → IsDone work scenario [] [] → IsDone work scenario (ended_lines []) []
 begun_ended work scenario done = subst (λ (lines : List (List ℕ)). IsDone work scenario lines []) (sym nothing_ended) done
 
@@ -86,6 +95,7 @@ few_by (work.Audit audit) scenario lines given (decided, stands) many = few_sett
 few_by work.Plan scenario lines given done many = many
 few_by (work.Drill audit) scenario lines given done many = many
 few_by work.Recheck scenario lines given done many = many
+few_by (work.Watch watch) scenario lines given (decided, stands) many = few_watched scenario watch lines decided.0 stands many
 
 -- ---- one line more
 
@@ -111,6 +121,24 @@ audit_goes_on scenario judge judged front text audit audit' further stand decide
   has = has;
   done = λ lines more given done judged is. (
     (done.0.0 ++ further, decide lines more done.0.0 done.1 judged, stretches_more scenario given done.0.0 further done.0.2),
+    stand lines more done.0.0 done.1 judged,
+  );
+}
+
+alarms_more : (scenario : Scenario) (given : List ℕ) (early further : List Alarm) → given ≡ alarm_rows scenario.rules early
+    → given ++ alarm_rows scenario.rules further ≡ alarm_rows scenario.rules (early ++ further)
+alarms_more scenario given early further is =
+    ap (λ (g : List ℕ). g ++ alarm_rows scenario.rules further) is ∙ sym (flat_map-append (λ (a : Alarm). row_of (told_alarm scenario.rules a)) early further)
+
+pub watch_goes_on : (scenario : Scenario) (judge : Judge) (judged : Judged) (front : List ℕ) (text : ReportText) (watch watch' : SettledWatch) (further : List Alarm)
+    → ((lines more : List (List ℕ)) (given : List Alarm) → WatchStandsFor watch scenario lines given → JudgeStandsFor judge scenario (lines ++ more) → WatchStandsFor watch' scenario (lines ++ more) (given ++ further))
+    → ((lines more : List (List ℕ)) (given : List Alarm) → WatchStandsFor watch scenario lines given → JudgeStandsFor judge scenario (lines ++ more) → AreDecidedAlarms scenario (lines ++ more) (given ++ further))
+    → HasText text (front ++ alarm_rows scenario.rules further) → GoesOn (work.Watch watch) (work.Watch watch') scenario judge judged front text
+watch_goes_on scenario judge judged front text watch watch' further stand decide has = record {
+  decided = alarm_rows scenario.rules further;
+  has = has;
+  done = λ lines more given done judged is. (
+    (done.0.0 ++ further, decide lines more done.0.0 done.1 judged, alarms_more scenario given done.0.0 further done.0.2),
     stand lines more done.0.0 done.1 judged,
   );
 }

@@ -20,6 +20,7 @@ use Rattle.command_line.specs.declared.mode.Mode.TheVariants as mode
 use Rattle.sessions.specs.declared.session_fault.SessionFault.{SessionFault}
 use Rattle.sessions.specs.RecheckReport.{IsRecheckReport}
 use Rattle.sessions.specs.Tasks.{Task}
+use Rattle.sessions.specs.WatchReport.{IsWatchReport}
 use Rattle.sessions.specs.declared.session_fault.SessionFault.TheVariants as fault
 use Rattle.traces.specs.declared.all_traces.TheConstants.{MOST_TRACES}
 use Rattle.settling.specs.ScenarioAudit.{audit_numbers}
@@ -32,6 +33,7 @@ IsReport mode.Plan why rows scenario log text = IsPlanReport why scenario log te
 IsReport mode.Drill why rows scenario log text = IsDrillReport scenario log text
 IsReport mode.Migrate why rows scenario log text = ⊥
 IsReport mode.Recheck why rows scenario log text = IsRecheckReport rows scenario log text
+IsReport mode.Watch why rows scenario log text = IsWatchReport scenario log text
 
 -- The text is the report on a log that a task asks for.
 abbrev pub IsEnding : Task → Scenario → List ℕ → List ℕ → Type 0

@@ -4,6 +4,7 @@ pub mod AuditReport
 pub mod DrillReport
 pub mod PlanReport
 pub mod RecheckReport
+pub mod WatchReport
 pub mod Tasks
 pub mod Modes
 pub mod SessionFaultTexts

@@ -4,10 +4,15 @@ use Rattle.scenario.specs.declared.values.Scenario.{Scenario}
 use Rattle.command_line.specs.declared.mode.Mode.{Mode}
 use Rattle.command_line.specs.declared.mode.Mode.TheVariants as mode
 
+-- what the ticks of a window come to: stretches of steps, or alarms, each of one step
+pub data Told : Type 0 where
+  stretches : Told
+  alarms : Told
+
 -- what is looked at: each line of a log by itself, the vessels at each tick of the window, own ship at now, or no log
 pub data Look : Type 0 where
   each_line : Look
-  each_tick : Look
+  each_tick : Told → Look
   own_ship : Look
   nothing : Look
 
@@ -25,13 +30,15 @@ pub record Manner : Type 0 where
   pub checks : Bool
 
 -- A drill audits the log that it makes, at its end alone. A migration looks at the scenario alone. A recheck looks at what a plan is sought by.
+-- A watch looks at the ticks as an audit does.
 abbrev pub manner_of : Mode → Manner
 manner_of mode.Points = record { look = each_line; log = given; early = true; checks = false }
-manner_of mode.Audit = record { look = each_tick; log = given; early = true; checks = false }
+manner_of mode.Audit = record { look = each_tick stretches; log = given; early = true; checks = false }
 manner_of mode.Plan = record { look = own_ship; log = given; early = false; checks = false }
-manner_of mode.Drill = record { look = each_tick; log = made; early = false; checks = false }
+manner_of mode.Drill = record { look = each_tick stretches; log = made; early = false; checks = false }
 manner_of mode.Migrate = record { look = nothing; log = no_log; early = false; checks = false }
 manner_of mode.Recheck = record { look = own_ship; log = given; early = false; checks = true }
+manner_of mode.Watch = record { look = each_tick alarms; log = given; early = true; checks = false }
 
 abbrev pub look_of : Mode → Look
 look_of mode = (manner_of mode).look
@@ -79,7 +86,7 @@ reads_log mode = is_given (manner_of mode).log
 -- ---- what is said of one look alone, or of one manner
 
 abbrev pub OfTicks : Look → Type 0 → Type 0
-OfTicks each_tick P = P
+OfTicks (each_tick told) P = P
 OfTicks _ P = ⊥
 
 abbrev pub OfOwnShip : Look → Type 0 → Type 0

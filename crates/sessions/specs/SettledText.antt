@@ -1,20 +1,24 @@
 -- What a front of a log already decides of the report.
 use Rattle.std.specs.Prelude.{ℕ, ◌≡◌, List, []}
 use Rattle.audit_rows.specs.declared.row.Row.{Row}
+use Rattle.early_monitor.specs.declared.alarm.Alarm.{Alarm}
 use Rattle.log_lines.specs.GrowingLog.{ended_lines}
 use Rattle.log_lines.specs.JudgedLines.{judged_lines}
 use Rattle.scenario.specs.declared.values.Scenario.{Scenario}
+use Rattle.settling.specs.DecidedAlarms.{AreDecidedAlarms}
 use Rattle.settling.specs.DecidedRows.{AreDecided}
 use Rattle.command_line.specs.declared.mode.Mode.{Mode}
 use Rattle.sessions.specs.AuditReport.{stretch_rows}
-use Rattle.sessions.specs.Modes.{Look, each_line, each_tick, early_look}
+use Rattle.sessions.specs.Modes.{Look, alarms, each_line, each_tick, early_look, stretches}
 use Rattle.sessions.specs.PointsReport.{point_rows}
+use Rattle.sessions.specs.WatchReport.{alarm_rows}
 
 -- The text that lines decide, whatever follows them: of lines by themselves the rows of their accepted reports, of ticks those of the stretches that
--- no later line can change, and nothing where nothing leaves before the end.
+-- no later line can change, or of the alarms, and nothing where nothing leaves before the end.
 abbrev pub IsDecidedBy : Look → Scenario → List (List ℕ) → List ℕ → Type 0
 IsDecidedBy each_line scenario lines text = text ≡ point_rows (judged_lines scenario lines)
-IsDecidedBy each_tick scenario lines text = (rows : List Row) × AreDecided scenario lines rows × (text ≡ stretch_rows scenario.rules rows)
+IsDecidedBy (each_tick stretches) scenario lines text = (rows : List Row) × AreDecided scenario lines rows × (text ≡ stretch_rows scenario.rules rows)
+IsDecidedBy (each_tick alarms) scenario lines text = (early : List Alarm) × AreDecidedAlarms scenario lines early × (text ≡ alarm_rows scenario.rules early)
 IsDecidedBy _ scenario lines text = text ≡ []
 
 abbrev pub IsDecidedText : Mode → Scenario → List (List ℕ) → List ℕ → Type 0

@@ -4,6 +4,7 @@ use Rattle.log_lines.specs.GrowingLog.{ended_lines}
 use Rattle.scenario.specs.ScenarioValues.{IsInRange}
 use Rattle.scenario.specs.declared.values.Scenario.{Scenario}
 use Rattle.settling.specs.Standing.{StandsFor as AuditStandsFor}
+use Rattle.settling.specs.WatchStanding.{StandsFor as WatchStandsFor}
 use Rattle.log_lines.specs.Standing.{LinesStandFor, kept_of}
 use Rattle.tracks.specs.declared.keeping.Keeping.{Keeping}
 use Rattle.tracks.specs.declared.keeping.Keeping.TheVariants.{Latest, Tracks}
@@ -23,6 +24,7 @@ mode_by (work.Audit audit) = mode.Audit
 mode_by work.Plan = mode.Plan
 mode_by (work.Drill audit) = mode.Drill
 mode_by work.Recheck = mode.Recheck
+mode_by (work.Watch watch) = mode.Watch
 
 abbrev pub mode_of : Session → Mode
 mode_of session = mode_by session.work
@@ -41,14 +43,17 @@ keeping_by (work.Audit audit) = Tracks
 keeping_by work.Plan = Tracks
 keeping_by (work.Drill audit) = Tracks
 keeping_by work.Recheck = Tracks
+keeping_by (work.Watch watch) = Tracks
 
--- An audit has audited the ticks that the lines settle, and given the rows of which the text is. A drill audits none before the log's end.
+-- An audit has audited the ticks that the lines settle, and given the rows of which the text is; a watch has watched them, and given the alarms.
+-- A drill audits none before the log's end.
 abbrev pub HasAudited : (work : Work) (scenario : Scenario) (lines : List (List ℕ)) (given : List ℕ) → IsDecidedText (mode_by work) scenario lines given → Type 0
 HasAudited work.Points scenario lines given decided = Unit {0}
 HasAudited (work.Audit audit) scenario lines given decided = AuditStandsFor audit scenario lines decided.0
 HasAudited work.Plan scenario lines given decided = Unit {0}
 HasAudited (work.Drill audit) scenario lines given decided = AuditStandsFor audit scenario [] []
 HasAudited work.Recheck scenario lines given decided = Unit {0}
+HasAudited (work.Watch watch) scenario lines given decided = WatchStandsFor watch scenario lines decided.0
 
 -- The session was fed these bytes of a log, none of which is refused, and has given what they settle.
 pub record StandsFor (session : Session) (fed given : List ℕ) : Type 0 where

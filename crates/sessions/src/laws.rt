@@ -9,7 +9,8 @@ ghost use Rattle.command_line.specs.declared.mode.Mode.{Mode};
 
 use log_lines::laws::ended_lines_stay;
 use settling::laws::{
-    decided_rows_are_a_front, decided_rows_begin_the_report, many_settled_stay,
+    decided_alarms_are_a_front, decided_alarms_begin_the_report, decided_rows_are_a_front,
+    decided_rows_begin_the_report, many_settled_stay, one_list_of_decided_alarms,
     one_list_of_decided_rows,
 };
 
@@ -39,6 +40,7 @@ pub fn one_settled_text()
         IsSettledText mode scenario front text → IsSettledText mode scenario front other → text ≡ other }
 {
     one_list_of_decided_rows();
+    one_list_of_decided_alarms();
 }
 
 /// The settled bytes of a front are a front of those of each longer front, and of the report of every log that begins with it.
@@ -51,4 +53,6 @@ pub fn settled_bytes_stay()
     ended_lines_stay();
     decided_rows_are_a_front();
     decided_rows_begin_the_report();
+    decided_alarms_are_a_front();
+    decided_alarms_begin_the_report();
 }

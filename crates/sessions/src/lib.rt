@@ -1,11 +1,12 @@
 //! Reports on a log of AIS sentences that comes in pieces.
 //!
 //! A [`Session`] is fed a log piece by piece, however it is cut, and gives what the bytes so far decide of the report of its mode: with
-//! `points` the rows of the accepted reports, with `audit` those of the stretches that no later line can change. At the log's end it gives
-//! the rest of the report, or why there is none. `specs/Endings.antt` defines the reports, `specs/SettledText.antt` what a front of a log
+//! `points` the rows of the accepted reports, with `audit` those of the stretches that no later line can change, with `watch` those of
+//! the alarms. At the log's end it gives the rest of the report, or why there is none. `specs/Endings.antt` defines the reports, `specs/SettledText.antt` what a front of a log
 //! decides of them, and `specs/Refusals.antt` what ends a session before the log's end.
 #![tactic(auto)]
 
+mod alarms;
 mod asked;
 mod audit;
 mod drill;
@@ -22,6 +23,7 @@ mod session_fault;
 mod stretches;
 mod totals;
 mod vessels;
+mod watch;
 mod work;
 
 pub use asked::Asked;

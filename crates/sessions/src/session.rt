@@ -22,6 +22,7 @@ use crate::plan::end_plan;
 use crate::points::end_points;
 use crate::recheck::{end_recheck, situation_at_end};
 use crate::session_fault::SessionFault;
+use crate::watch::end_watch;
 use crate::work::Work;
 use audit_report::ReportText;
 use command_line::Mode;
@@ -218,6 +219,10 @@ impl Session {
             }
             Work::Recheck => {
                 let rest = end_recheck(alloc, scenario, judge, asked.rows)?;
+                Ok(Ending::without_search(rest))
+            }
+            Work::Watch(watch) => {
+                let rest = end_watch(alloc, &scenario, watch, judge)?;
                 Ok(Ending::without_search(rest))
             }
         }

@@ -9,6 +9,7 @@ ghost use Rattle.sessions.specs.Refusals.{HasManySettled};
 ghost use Rattle.sessions.specs.Standing.{keeping_by, mode_by};
 ghost use Rattle.sessions.specs.declared.session_fault.SessionFault.TheVariants as fault;
 
+use crate::alarms::write_alarms;
 use crate::points::write_line;
 use crate::session_fault::SessionFault;
 use crate::stretches::write_stretches;
@@ -17,7 +18,7 @@ use command_line::Mode;
 use log_lines::{Judge, Judged};
 use outside::Memory;
 use scenario::Scenario;
-use settling::SettledAudit;
+use settling::{SettledAudit, SettledWatch};
 use std::alloc::Global;
 use tracks::Keeping;
 
@@ -29,6 +30,7 @@ pub(crate) enum Work {
     Plan,
     Drill(SettledAudit),
     Recheck,
+    Watch(SettledWatch),
 }
 
 impl Work {
@@ -46,6 +48,7 @@ impl Work {
             Mode::Drill => Ok(Work::Drill(SettledAudit::new(alloc, scenario)?)),
             Mode::Migrate => unreachable!(),
             Mode::Recheck => Ok(Work::Recheck),
+            Mode::Watch => Ok(Work::Watch(SettledWatch::new(alloc, scenario)?)),
         }
     }
 
@@ -55,7 +58,8 @@ impl Work {
     {
         match self {
             Work::Points => Keeping::Latest,
-            Work::Audit(_) | Work::Plan | Work::Drill(_) | Work::Recheck => Keeping::Tracks,
+            Work::Audit(_) | Work::Plan | Work::Drill(_) | Work::Recheck | Work::Watch(_) =>
+                Keeping::Tracks,
         }
     }
 
@@ -85,6 +89,10 @@ impl Work {
             Work::Audit(audit) => {
                 let rows = audit.settle(scenario, judge)?;
                 Ok(write_stretches(text, &scenario.rules, rows.as_slice())?)
+            }
+            Work::Watch(watch) => {
+                let alarms = watch.settle(scenario, judge)?;
+                Ok(write_alarms(text, &scenario.rules, alarms.as_slice())?)
             }
             Work::Plan | Work::Drill(_) | Work::Recheck => Ok(()),
         }

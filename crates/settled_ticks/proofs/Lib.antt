@@ -2,4 +2,5 @@ mod EarlierTicks
 mod SeenStays
 mod MovesLittle
 mod RankedVessels
+mod LastReports
 pub mod ForCallers

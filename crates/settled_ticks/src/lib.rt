@@ -4,6 +4,8 @@
 //! ranks, are the same whatever lines follow. `SettledTicks` hands out one settled tick after the other, and at the log's end the ticks that are left.
 #![tactic(auto)]
 
+mod guesses;
+mod last_reports;
 pub mod laws;
 mod settled_ticks;
 mod vessel_ranks;

@@ -10,6 +10,7 @@ ghost use Rattle.settled_ticks.specs.Standing.{HasJudged, IsHandedOut, handed_ou
 ghost use Rattle.traces.specs.Audited.{AreAscending, ArePlaced, MoveLittle, last_sighting};
 ghost use Rattle.tracks.specs.declared.keeping.Keeping.TheVariants.{Tracks};
 
+use crate::guesses::Guesses;
 use crate::vessel_ranks::rank_all;
 use log_lines::Judge;
 use motion::TickState;
@@ -37,6 +38,8 @@ pub struct SettledTicks {
     seen: Vec<(u32, TickState)>,
     /// Their ranks in the same order, where ranks count; else none.
     ranks: Vec<Rank>,
+    /// Where the last reports of vessels were found, to save the search for them.
+    guesses: Guesses,
 }
 
 impl SettledTicks {
@@ -48,6 +51,7 @@ impl SettledTicks {
             next: 0,
             seen: Vec::new(alloc),
             ranks: Vec::new(alloc),
+            guesses: Guesses::new(alloc),
         }
     }
 
@@ -97,7 +101,7 @@ impl SettledTicks {
         book.moves_little();
         let time = scenario.window.time(self.next);
         book.look(time, &mut self.seen)?;
-        rank_all(judge, &self.seen, time, &mut self.ranks)?;
+        rank_all(judge, &self.seen, time, &mut self.ranks, &mut self.guesses)?;
         self.next += 1;
         Ok(())
     }

@@ -1,5 +1,6 @@
 //! The ranks of vessels that are seen.
 ghost use Rattle.std.specs.Prelude.{◌≡◌, ℕ, List, OnOk};
+ghost use Rattle.log_lines.specs.JudgedLines.{numbers_of};
 ghost use Rattle.log_lines.specs.SentLines.{sent};
 ghost use Rattle.log_lines.specs.ShipTypes.{noted};
 ghost use Rattle.log_lines.specs.Standing.{StandsFor as JudgeStandsFor, keeping_of};
@@ -7,21 +8,63 @@ ghost use Rattle.ranks.specs.Standing.{StandsFor as RanksStandFor};
 ghost use Rattle.scenario.specs.declared.values.Scenario.{Scenario};
 ghost use Rattle.settled_ticks.specs.Sightings.{ranks_of, vessel_rank};
 ghost use Rattle.settled_ticks.specs.Standing.{AreSeen, HasReported};
+ghost use Rattle.tracks.specs.VesselsHeld.{accepted_of};
 ghost use Rattle.tracks.specs.declared.keeping.Keeping.TheVariants.{Tracks};
 
+use crate::guesses::Guesses;
+use crate::last_reports::{alone, last_near};
 use log_lines::Judge;
 use motion::TickState;
 use outside::Memory;
 use ranks::{Rank, Ranks};
+use tracks::{Accepted, Book};
 
-/// The rank of a vessel at a time by which she has reported.
-fn rank_of(judge: &Judge, types: &Ranks, vessel: &(u32, TickState), time: u64) -> Rank
+/// The index of the first vessel of a book from an index on whose identity is not less: where she is held, this is where she stands. It
+/// is no more than a guess.
+fn place_from(book: &Book, from: usize, mmsi: u32) -> usize {
+    for at in from..book.vessels() {
+        if mmsi <= book.vessel(at) {
+            return at;
+        }
+    }
+    book.vessels()
+}
+
+/// The accepted reports of a vessel, which are found without a search where she is held at this index.
+fn points_near(judge: &Judge, place: usize, mmsi: u32) -> &[Accepted]
+    requires { keeping_of judge.now ≡ Tracks }
+    ensures { (scenario : Scenario) (lines : List (List ℕ)) → JudgeStandsFor judge.now scenario lines
+        → result.now ≡ accepted_of (numbers_of scenario) (sent scenario lines) mmsi }
+{
+    let book = judge.book();
+    if place < book.vessels() {
+        let vessel = book.held(place);
+        if vessel.mmsi == mmsi {
+            return vessel.points;
+        }
+    }
+    book.points(mmsi)
+}
+
+/// The rank of a vessel at a time by which she has reported. Where she may stand among those held, and which of her reports was the
+/// last, are guesses.
+fn rank_of(
+    judge: &Judge,
+    types: &Ranks,
+    vessel: &(u32, TickState),
+    time: u64,
+    place: usize,
+    guesses: &mut Guesses,
+) -> Rank
     requires keeping { keeping_of judge.now ≡ Tracks }
     requires reported { HasReported judge.now vessel.now.0 time }
     ensures { (scenario : Scenario) (lines : List (List ℕ)) → JudgeStandsFor judge.now scenario lines
         → RanksStandFor types.now (noted (sent scenario lines)) → result ≡ vessel_rank scenario (sent scenario lines) time vessel.now }
 {
-    types.rank(vessel.0, judge.book().points(vessel.0), time)
+    let points = points_near(judge, place, vessel.0);
+    let last = last_near(points, time, guesses.at(place));
+    guesses.note(place, last);
+    types.rank(vessel.0, alone(points, last, time), time)
 }
 
 /// Puts the ranks of the vessels that are seen at a time in the place of what `ranks` holds, where ranks count; else it holds none.
@@ -30,6 +73,7 @@ pub(crate) fn rank_all(
     seen: &[(u32, TickState)],
     time: u64,
     ranks: &mut Vec<Rank>,
+    guesses: &mut Guesses,
 ) -> Result<(), Memory>
     requires keeping { keeping_of judge.now ≡ Tracks }
     requires seen { AreSeen judge.now seen.now time }
@@ -40,8 +84,12 @@ pub(crate) fn rank_all(
     let Some(types) = judge.ranks() else {
         return Ok(());
     };
+    let book = judge.book();
+    guesses.make_room(book.vessels())?;
+    let mut place = 0;
     for vessel in seen {
-        ranks.push(rank_of(judge, types, vessel, time))?;
+        place = place_from(book, place, vessel.0);
+        ranks.push(rank_of(judge, types, vessel, time, place, guesses))?;
     }
     Ok(())
 }

@@ -83,7 +83,7 @@ same_answered terms ranks told steps others k (Some answers) (Some replies) too 
 module _ (numbers : AuditNumbers) (ticks others : List Sighting) (until : ℕ) (here : until < length ticks) (there : until < length others)
     (agree : (k : ℕ) → k ≤ until → sighting_at ticks k ≡ sighting_at others k) where
   module _ (pair : Pair) (start : ℕ) (begun : start ≤ until) where
-    begins_too : Begins numbers ticks pair start → Begins numbers others pair start
+    pub begins_too : Begins numbers ticks pair start → Begins numbers others pair start
     begins_too h = record {
       audited = h.audited;
       begins = record {
@@ -122,7 +122,7 @@ module _ (numbers : AuditNumbers) (ticks others : List Sighting) (until : ℕ) (
     unfolding front_of
     front_length = steps_from-length (seen_state_at ticks pair.subject) (seen_state_at ticks pair.other) start (until - start)
 
-    steps_length : (seen : List Sighting) → length (trace_steps numbers seen pair start) ≡ length seen - 1 - start
+    pub steps_length : (seen : List Sighting) → length (trace_steps numbers seen pair start) ≡ length seen - 1 - start
     steps_length seen = steps_from-length (seen_state_at seen pair.subject) (seen_state_at seen pair.other) start (length seen - 1 - start)
 
     mark_too : (i : ℕ) (mark : Mark) → start + i < until → IsMeetingMark numbers.detect (trace_steps numbers ticks pair start) i mark
@@ -154,7 +154,7 @@ module _ (numbers : AuditNumbers) (ticks others : List Sighting) (until : ℕ) (
         (row_over_less (terms_of numbers) ranks_here (front_of ticks) (rest_of ticks) i answers (omega arith)
         (subst (λ (steps : List (Option PairStep)). IsRankedRow (terms_of numbers) ranks_here steps i answers) (split ticks here) h))))
 
-    answers_too : (trace other : Trace) → IsTraceOf numbers ticks pair start trace → IsTraceOf numbers others pair start other → (k : ℕ) → start + k < until
+    pub answers_too : (trace other : Trace) → IsTraceOf numbers ticks pair start trace → IsTraceOf numbers others pair start other → (k : ℕ) → start + k < until
         → slice_get trace k ≡ slice_get other k
     unfolding ranks_here ranks_there
     answers_too trace other h g k lt =

@@ -1,1 +1,3 @@
+pub mod TakenTicks
 pub mod AuditedTicks
+pub mod WatchedTicks

@@ -1,4 +1,5 @@
 pub use Rattle.auditor.specs.AuditRows
+pub use Rattle.early_monitor.specs.Alarms
 pub use Rattle.log_lines.specs.LineTimes
 pub use Rattle.log_lines.specs.SentLines
 pub use Rattle.settled_ticks.specs.Settled
@@ -6,5 +7,7 @@ pub use Rattle.settled_ticks.specs.Sightings
 pub mod ScenarioAudit
 pub mod ManySettled
 pub mod DecidedRows
+pub mod DecidedAlarms
 pub mod Standing
+pub mod WatchStanding
 pub mod Inner

@@ -1,12 +1,15 @@
-//! Laws of decided rows, which stand over the definitions alone.
+//! Laws of decided rows and alarms, which stand over the definitions alone.
 ghost use Rattle.std.specs.Prelude.{ℕ, ◌≡◌, ◌+◌, ◌-◌, ◌<◌, ◌≤◌, ◌↔◌, ◌++◌, length, List};
 ghost use Rattle.audit_rows.specs.Order.{last_step_of};
 ghost use Rattle.audit_rows.specs.declared.row.Row.{Row};
 ghost use Rattle.traces.specs.Audited.{AuditNumbers, Sighting, sighting_at};
 ghost use Rattle.auditor.specs.AuditRows.{AreAuditRows, AreAuditRowsBelow, IsAuditRow};
 ghost use Rattle.auditor.specs.SettledRows.{audit_reach, settled_by};
+ghost use Rattle.early_monitor.specs.Alarms.{AreAlarms, IsAlarm};
+ghost use Rattle.early_monitor.specs.declared.alarm.Alarm.{Alarm};
 ghost use Rattle.log_lines.specs.SentLines.{sent};
 ghost use Rattle.scenario.specs.declared.values.Scenario.{Scenario};
+ghost use Rattle.settling.specs.DecidedAlarms.{AreDecidedAlarms};
 ghost use Rattle.settling.specs.DecidedRows.{AreDecided};
 ghost use Rattle.settled_ticks.specs.Settled.{IsSettled};
 ghost use Rattle.settling.specs.ManySettled.{HaveManySettled};
@@ -49,4 +52,36 @@ pub fn decided_rows_are_a_front()
 pub fn decided_rows_begin_the_report()
     ensures { (scenario : Scenario) (lines more : List (List ℕ)) (rows all : List Row) → AreDecided scenario lines rows →
         AreAuditRows (audit_numbers scenario) (sighted scenario (sent scenario (lines ++ more))) all → (rest : List Row) × (all ≡ rows ++ rest) }
+{}
+
+/// Whether an alarm is one depends on the ticks alone up to that at which its deciding step ends.
+pub fn alarms_look_so_far_ahead()
+    ensures { (numbers : AuditNumbers) (ticks others : List Sighting) (alarm : Alarm) →
+        alarm.decided + 1 < length ticks → alarm.decided + 1 < length others →
+        ((k : ℕ) → k ≤ alarm.decided + 1 → sighting_at ticks k ≡ sighting_at others k) →
+        IsAlarm numbers ticks alarm → IsAlarm numbers others alarm }
+{}
+
+/// Where the first `s` ticks are the settled ones, their alarms are those that the lines decide.
+pub fn alarms_by_settled_ticks()
+    ensures { (scenario : Scenario) (lines : List (List ℕ)) (s : ℕ) (alarms : List Alarm) → ((i : ℕ) → IsSettled scenario lines i ↔ (i < s)) →
+        AreAlarms (audit_numbers scenario) (seen_first scenario (sent scenario lines) s) alarms → AreDecidedAlarms scenario lines alarms }
+{}
+
+/// Lines decide one list of alarms at most.
+pub fn one_list_of_decided_alarms()
+    ensures { (scenario : Scenario) (lines : List (List ℕ)) (alarms others : List Alarm) → AreDecidedAlarms scenario lines alarms →
+        AreDecidedAlarms scenario lines others → alarms ≡ others }
+{}
+
+/// The alarms that are decided are a front of those that are with further lines.
+pub fn decided_alarms_are_a_front()
+    ensures { (scenario : Scenario) (lines more : List (List ℕ)) (alarms later : List Alarm) → AreDecidedAlarms scenario lines alarms →
+        AreDecidedAlarms scenario (lines ++ more) later → (rest : List Alarm) × (later ≡ alarms ++ rest) }
+{}
+
+/// The alarms that are decided are a front of all alarms, whatever lines follow.
+pub fn decided_alarms_begin_the_report()
+    ensures { (scenario : Scenario) (lines more : List (List ℕ)) (alarms all : List Alarm) → AreDecidedAlarms scenario lines alarms →
+        AreAlarms (audit_numbers scenario) (sighted scenario (sent scenario (lines ++ more))) all → (rest : List Alarm) × (all ≡ alarms ++ rest) }
 {}

@@ -9,7 +9,8 @@ ghost use Rattle.log_lines.specs.SentLines.{sent};
 ghost use Rattle.log_lines.specs.Standing.{StandsFor as JudgeStandsFor, keeping_of};
 ghost use Rattle.scenario.specs.ScenarioValues.{IsInRange};
 ghost use Rattle.settling.specs.DecidedRows.{AreDecided};
-ghost use Rattle.settling.specs.Inner.AuditedTicks.{IsAudited, IsReady};
+ghost use Rattle.settling.specs.Inner.AuditedTicks.{audit_taker};
+ghost use Rattle.settling.specs.Inner.TakenTicks.{HasTaken, IsReady};
 ghost use Rattle.settling.specs.ManySettled.{HaveManySettled};
 ghost use Rattle.traces.specs.declared.all_traces.TheConstants.{MOST_TRACES};
 ghost use Rattle.settled_ticks.specs.Standing.{handed_out};
@@ -18,20 +19,13 @@ ghost use Rattle.settling.specs.ScenarioAudit.{audit_numbers};
 ghost use Rattle.settling.specs.Standing.{AreOfOneLog, StandsFor};
 ghost use Rattle.tracks.specs.declared.keeping.Keeping.TheVariants.{Tracks};
 
+use crate::lists::add;
 use auditor::{Audit, AuditEnd, AuditFault, Row};
 use log_lines::Judge;
 use outside::Memory;
 use scenario::Scenario;
 use settled_ticks::SettledTicks;
 use std::alloc::Global;
-
-/// Puts further rows behind these.
-fn add(rows: &mut Vec<Row>, mut further: Vec<Row>) -> Result<(), Memory>
-    ensures { OnOk result (rows.new.items ≡ rows.old.items ++ further.items) }
-{
-    rows.append(&mut further)?;
-    Ok(())
-}
 
 /// The audit of a window's ticks, of which each is taken once the lines of a log settle it.
 #[derive(Drop)]
@@ -94,12 +88,12 @@ impl SettledAudit {
     fn finish(&mut self, scenario: &Scenario, judge: &Judge) -> Result<Vec<Row>, AuditFault>
         requires in_range { IsInRange scenario.now }
         requires keeping { keeping_of judge.now ≡ Tracks }
-        requires ready { IsReady self.old scenario.now judge.now }
+        requires ready { IsReady (audit_taker self.old.audit) self.old.ticks scenario.now judge.now }
         ensures all { OnOk result (handed_out self.new.ticks ≡ scenario.now.window.ticks + 1) }
         ensures audited { IfOk result (λ rows. (lines : List (List ℕ)) (given : List Row) → JudgeStandsFor judge.now scenario.now lines
-            → IsAudited self.old scenario.now lines given → IsAudited self.new scenario.now lines (given ++ rows.items)) }
+            → HasTaken (audit_taker self.old.audit) self.old.ticks scenario.now lines given → HasTaken (audit_taker self.new.audit) self.new.ticks scenario.now lines (given ++ rows.items)) }
         ensures many { result ≡ Err TooManyPairs → (lines : List (List ℕ)) (given : List Row) → JudgeStandsFor judge.now scenario.now lines
-            → IsAudited self.old scenario.now lines given
+            → HasTaken (audit_taker self.old.audit) self.old.ticks scenario.now lines given
             → HaveMoreThan MOST_TRACES (audit_numbers scenario.now) (sighted scenario.now (sent scenario.now lines)) }
     {
         let mut rows = Vec::new(self.alloc);

@@ -9,7 +9,7 @@ use Rattle.early_monitor.specs.declared.early_rule.EarlyRule.{EarlyRule}
 use Rattle.early_monitor.specs.declared.early_state.EarlyState.{EarlyState}
 use Rattle.early_monitor.specs.declared.watched_rules.WatchedRules.{WatchedRules}
 use Rattle.early_monitor.specs.Alarms.{tree_of_rule}
-use Rattle.early_monitor.specs.Lags.{lags_of}
+use Rattle.rule_program.specs.Lags.{lags_of}
 use Rattle.early_monitor.specs.Inner.Looking.{IsAt, IsStateOf, fed_rows}
 
 -- A rule of this formula is watched so: as one of a program of its own, or else each No comes with the last row that it reaches.

@@ -5,6 +5,7 @@ use Rattle.lattice.specs.PlanNumbers.{plan_of}
 use Rattle.mtl_monitor.specs.Following as monitor
 use Rattle.mtl_monitor.specs.Traces.{Trace}
 use Rattle.situations.specs.FailingPlans.{BreaksARule, EntersDomain, Some_}
+use Rattle.rule_program.specs.Lags.{IsNoLast}
 use Rattle.planner.specs.Inner.Breaking.{Tells, formulas_of}
 use Rattle.planner.specs.Inner.Legs.{IsPathIn, lasts}
 use Rattle.planner.specs.Inner.Watching.{IsCutAtNow, IsEarly, IsReady, Stands}
@@ -28,6 +29,7 @@ pub record IsBasis (situation : Situation) (basis : SearchBasis) : Type 0 where
   pub is_situation : IsSituation situation
   pub of_rules : monitor.IsProgramOf basis.program (formulas_of situation)
   pub few : monitor.count_of basis.program ≤ 17
+  pub no_last : basis.no_last ≡ true → All IsNoLast (formulas_of situation)
   pub count : length basis.already.items ≡ length situation.targets
   pub each : (k : ℕ) (t : Target) (a : Already) → k < length situation.targets → IsToldAtNow situation (get_or situation.targets k t) (get_or basis.already.items k a)
 

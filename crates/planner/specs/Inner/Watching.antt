@@ -1,5 +1,5 @@
 -- What is kept of a target stands for the steps so far.
-use Rattle.std.specs.Prelude.{ℕ, ◌≡◌, ◌+◌, ◌-◌, ◌<◌, ◌≤◌, ◌↔◌, Bool, IsTrue, List, [], length, take, true, false, Option}
+use Rattle.std.specs.Prelude.{ℕ, ◌≡◌, ◌+◌, ◌-◌, ◌<◌, ◌≤◌, ◌↔◌, Bool, IsTrue, List, [], length, take, true, false, Option, All}
 use Rattle.encounters.specs.declared.pair_step.PairStep.{PairStep}
 use Rattle.meetings.specs.Standing as meetings
 use Rattle.meetings.specs.Traces.{IsContactAt, step_at, steps_from}
@@ -7,6 +7,7 @@ use Rattle.mtl_monitor.specs.Following as monitor
 use Rattle.mtl_monitor.specs.Traces.{Trace}
 use Rattle.mtl_monitor.specs.declared.program.Program.{Program}
 use Rattle.situations.specs.FailingPlans.{AreTraceRows, BeginsAt, BreaksARule}
+use Rattle.rule_program.specs.Lags.{IsNoLast}
 use Rattle.planner.specs.Inner.Breaking.{IsNewlyBrokenAt, Tells, formulas_of}
 use Rattle.situations.specs.Situations.{now_of, own_at, target_at, terms_of, IsSituation, IsTarget}
 use Rattle.situations.specs.declared.situation.Situation.{Situation}
@@ -70,12 +71,14 @@ pub record IsCopyOf (copy other : Watched) : Type 0 where
   pub fed : monitor.fed_of copy.values ≡ monitor.fed_of other.values
   pub since : copy.since_now ≡ other.since_now
 
--- A situation and a target of it, the program of its rules, and what tells of so many rules what is broken at now.
+-- A situation and a target of it, the program of its rules, whether a No needs all rows that its rule reaches, and what tells of so many rules
+-- what is broken at now.
 pub record IsTowards (towards : Towards) : Type 0 where
   pub is_situation : IsSituation towards.situation.now
   pub is_target : IsTarget towards.situation.now towards.target.now
   pub of_rules : monitor.IsProgramOf towards.program.now (formulas_of towards.situation.now)
   pub few : monitor.count_of towards.program.now ≤ 17
+  pub no_last : towards.no_last ≡ true → All IsNoLast (formulas_of towards.situation.now)
   pub rules : towards.already.now.rules ≤ 17
 
 -- Her trace that is cut at now has these rows, and what is broken in it is told.

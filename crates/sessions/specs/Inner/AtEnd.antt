@@ -8,8 +8,11 @@ use Rattle.log_lines.specs.LogLines.{lines_of}
 use Rattle.log_lines.specs.Standing.{StandsFor as JudgeStandsFor}
 use Rattle.log_lines.specs.declared.judge.Judge.{Judge}
 use Rattle.scenario.specs.declared.values.Scenario.{Scenario}
+use Rattle.early_monitor.specs.declared.alarm.Alarm.{Alarm}
 use Rattle.settling.specs.Standing.{StandsFor as AuditStandsFor}
+use Rattle.settling.specs.WatchStanding.{StandsFor as WatchStandsFor}
 use Rattle.settling.specs.declared.settled_audit.SettledAudit.{SettledAudit}
+use Rattle.settling.specs.declared.settled_watch.SettledWatch.{SettledWatch}
 use Rattle.log_lines.specs.declared.streamed.EndedLines.{EndedLines}
 
 -- All lines of the log were judged.
@@ -29,3 +32,16 @@ pub record IsAuditAtEnd (audit : SettledAudit) (judge : Judge) (scenario : Scena
   pub log : List ℕ
   pub given : List Row
   pub is : IsAuditOf audit judge scenario log given
+
+-- The same of a watch, and of the alarms that it has given.
+pub record IsWatchOf (watch : SettledWatch) (judge : Judge) (scenario : Scenario) (log : List ℕ) (given : List Alarm) : Type 0 where
+  pub lines : List (List ℕ)
+  pub more : List (List ℕ)
+  pub whole : lines_of log ≡ lines ++ more
+  pub stands : WatchStandsFor watch scenario lines given
+  pub judged : JudgeStandsFor judge scenario (lines_of log)
+
+pub record IsWatchAtEnd (watch : SettledWatch) (judge : Judge) (scenario : Scenario) : Type 0 where
+  pub log : List ℕ
+  pub given : List Alarm
+  pub is : IsWatchOf watch judge scenario log given

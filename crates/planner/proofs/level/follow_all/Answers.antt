@@ -29,6 +29,7 @@ follow_from-requires-clause-towards c =
       is_target = subst (IsTarget s) (sym is_target) (c.requires.basis.is_situation.are_targets k T inside);
       of_rules = c.requires.basis.of_rules;
       few = c.requires.basis.few;
+      no_last = c.requires.basis.no_last;
       rules = rules_few s c.args.basis.now c.requires.basis k c.index.result.now c.index.ensures inside T;
     }
 

@@ -62,6 +62,7 @@ returns c =
         is_situation = c.requires;
         of_rules = c.in_ok-program.ensures.formulas;
         few = c.in_ok-program.ensures.few;
+        no_last = c.are_no_last.ensures.last;
         count = told_count ∙ all;
         each = λ k t a lt. was.told k a (omega arith) t;
       };

@@ -3,4 +3,4 @@ use Rattle.sessions.proofs.SettledTexts.{one_decided}
 use Rattle.sessions.proofs.laws.one_settled_text.Goals as goal
 
 pub returns : goal.returns
-returns c = λ m scenario front. one_decided c.one_list_of_decided_rows.ensures m scenario (ended_lines front)
+returns c = λ m scenario front. one_decided c.one_list_of_decided_rows.ensures c.one_list_of_decided_alarms.ensures m scenario (ended_lines front)

@@ -1,29 +1,36 @@
 use Rattle.std.proofs.Common.{◌∙◌, ap, subst, sym, List}
+use Rattle.std.specs.Prelude.{IsSome, Option}
 use Rattle.std.specs.List.Sorted.{IsNonDecreasingBy}
-use Rattle.ranks.specs.VesselRanks.{rank_at}
+use Rattle.ranks.specs.VesselRanks.{rank_at, rank_by_report, rank_by_type, report_at}
 use Rattle.log_lines.specs.JudgedLines.{numbers_of}
 use Rattle.log_lines.specs.SentLines.{sent}
 use Rattle.log_lines.specs.ShipTypes.{noted}
 use Rattle.settled_ticks.specs.Sightings.{vessel_rank}
 use Rattle.tracks.specs.declared.accepted.Accepted.{Accepted}
 use Rattle.tracks.proofs.ForCallers.{accepted_in_order}
-use Rattle.settled_ticks.proofs.RankedVessels.{all_kept}
 use Rattle.settled_ticks.proofs.vessel_ranks.rank_of.Goals as goal
 
-pub rank-requires-clause-order : goal.rank-requires-clause-order
-rank-requires-clause-order c =
+pub last_near-last-requires-clause-order : goal.last_near-last-requires-clause-order
+last_near-last-requires-clause-order c =
     let by = c.requires.reported in
-    let numbers = numbers_of by.scenario in
-    let messages = sent by.scenario by.lines in
-    subst (IsNonDecreasingBy (λ (report : Accepted). report.time))
-    (sym (all_kept (c.book.ensures.keeping ∙ c.requires.keeping) (c.points.ensures.value numbers messages (c.book.ensures.stands by.scenario by.lines by.judged))))
-    (accepted_in_order numbers messages c.args.vessel.now.0)
+    subst (IsNonDecreasingBy (λ (report : Accepted). report.time)) (sym (c.points_near-points.ensures by.scenario by.lines by.judged))
+    (accepted_in_order (numbers_of by.scenario) (sent by.scenario by.lines) c.args.vessel.now.0)
+
+pub last_near-last-requires-clause-begun : goal.last_near-last-requires-clause-begun
+last_near-last-requires-clause-begun c =
+    let by = c.requires.reported in
+    subst (λ (reports : List Accepted). IsSome (report_at reports c.args.time)) (sym (c.points_near-points.ensures by.scenario by.lines by.judged)) by.reported
+
+pub rank-requires-clause-begun : goal.rank-requires-clause-begun
+rank-requires-clause-begun c =
+    let by = c.requires.reported in
+    subst (λ (report : Option Accepted). IsSome report)
+    (sym (c.alone.ensures.same ∙ ap (λ (reports : List Accepted). report_at reports c.args.time) (c.points_near-points.ensures by.scenario by.lines by.judged))) by.reported
 
 pub returns : goal.returns
-unfolding vessel_rank
+unfolding vessel_rank rank_at
 returns c = λ scenario lines judged stands.
-    let numbers = numbers_of scenario in
     let messages = sent scenario lines in
     c.rank.ensures (noted messages) stands
-    ∙ ap (λ (reports : List Accepted). rank_at (noted messages) c.args.vessel.now.0 reports c.args.time)
-    (all_kept (c.book.ensures.keeping ∙ c.requires.keeping) (c.points.ensures.value numbers messages (c.book.ensures.stands scenario lines judged)))
+    ∙ ap (λ (report : Option Accepted). rank_by_report report (rank_by_type (noted messages) c.args.vessel.now.0 c.args.time))
+    (c.alone.ensures.same ∙ ap (λ (reports : List Accepted). report_at reports c.args.time) (c.points_near-points.ensures scenario lines judged))

@@ -1,4 +1,4 @@
-use Rattle.settling.proofs.AuditedTicks.{many_settled_stay}
+use Rattle.settling.proofs.TakenTicks.{many_settled_stay}
 use Rattle.settling.proofs.laws.many_settled_stay.Goals as goal
 
 pub returns : goal.returns

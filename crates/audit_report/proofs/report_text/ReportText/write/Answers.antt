@@ -9,6 +9,9 @@ returns-in-Meeting c = rw c.in-Meeting.is c.write_meeting.ensures
 pub returns-in-Verdict : goal.returns-in-Verdict
 returns-in-Verdict c = rw c.in-Verdict.is c.write_verdict.ensures
 
+pub returns-in-Alarm : goal.returns-in-Alarm
+returns-in-Alarm c = rw c.in-Alarm.is c.write_alarm.ensures
+
 pub returns-in-Vessel : goal.returns-in-Vessel
 returns-in-Vessel c = rw c.in-Vessel.is c.write_vessel.ensures
 

@@ -4,6 +4,7 @@ use Rattle.mtl_formulas.specs.FormulaTree.{FormulaTree}
 use Rattle.mtl_monitor.specs.Following.{Closes, Follows}
 use Rattle.mtl_monitor.specs.Traces.{Trace}
 use Rattle.planner.specs.Inner.Breaking.{formulas_of}
+use Rattle.planner.proofs.Ending.{none_beyond}
 use Rattle.planner.proofs.TellingNow.{closes_next}
 use Rattle.planner.proofs.Watching.{breaks_rule, none_begun, rule_told}
 use Rattle.planner.proofs.watched.Watched.ends_newly_broken.Goals as goal
@@ -13,6 +14,17 @@ returns-then-not-self-clause-breaks c = λ W cut at from is stands. (
   λ t. cc,
   λ h. absurd (none_begun c.args.towards.now.program.now c.args.towards.now.situation.now W c.args.towards.now.target.now at c.args.self.now (stands.stands.waits c.if-not-self.true) h),
 )
+
+pub returns-then-towards-clause-breaks : goal.returns-then-towards-clause-breaks
+returns-then-towards-clause-breaks c = λ W cut at from is stands.
+    let towards = c.args.towards.now in
+    let s = towards.situation.now in
+    let has = stands.stands.begun c.if-not-self.false in (
+      λ t. cc,
+      λ h.
+          let told = rule_told s W towards.target.now cut is.is_cut at from has.start has.rows has.begins has.are_rows stands.unbroken h in
+          absurd (none_beyond (formulas_of s) (c.requires.towards.no_last c.if-towards.true) cut has.rows told.0 told.1.0 told.1.2),
+    )
 
 pub returns-then-is_newly_broken-clause-breaks : goal.returns-then-is_newly_broken-clause-breaks
 returns-then-is_newly_broken-clause-breaks c = λ W cut at from is stands.

@@ -4,7 +4,7 @@ use Rattle.outside.proofs.ForCallers.{err_cause}
 use Rattle.command_line.specs.declared.mode.Mode.TheVariants as mode
 use Rattle.sessions.specs.Endings.{IsReport}
 use Rattle.sessions.specs.Standing.{mode_by}
-use Rattle.sessions.proofs.EndedSessions.{Refusal, answer_is, audit_here, audit_of, audit_refused, drill_here, drill_of, drill_refused, ended_judge, own_there, plan_answered, plan_refused, plan_report, points_of, recheck_given, recheck_refused, report_is}
+use Rattle.sessions.proofs.EndedSessions.{Refusal, answer_is, audit_here, audit_of, audit_refused, drill_here, drill_of, drill_refused, ended_judge, own_there, plan_answered, plan_refused, plan_report, points_of, recheck_given, recheck_refused, report_is, watch_here, watch_of, watch_refused}
 use Rattle.sessions.proofs.Feeding.{vessels_refused}
 use Rattle.sessions.proofs.Meeting.{crowded_answer, points_done}
 use Rattle.sessions.proofs.session.Session.finish.Goals as goal
@@ -105,3 +105,24 @@ pub returns-in_ok-rest-in-Recheck-clause-answer : goal.returns-in_ok-rest-in-Rec
 returns-in_ok-rest-in-Recheck-clause-answer c = λ fed given stands.
     answer_is c.args.self mode.Recheck c.args.asked.now (ap mode_by c.in-Recheck.is) c.without_search-in-Recheck.result _ fed c.without_search-in-Recheck.ensures
     (c.in_ok-rest-in-Recheck.ensures.answer fed (ended_judge c.args.self c.in_ok-ended.ended.judge c.in_ok-ended.ensures.stands fed given stands))
+
+-- ---- a watch
+
+pub end_watch-requires-clause-at_end : goal.end_watch-requires-clause-at_end
+end_watch-requires-clause-at_end c = watch_here c.args.self c.in-Watch.watch c.in_ok-ended.ended.judge c.in-Watch.is c.in_ok-ended.ensures.stands c.requires.in_use
+
+pub returns-in_err-rest-in-Watch-clause-refused : goal.returns-in_err-rest-in-Watch-clause-refused
+returns-in_err-rest-in-Watch-clause-refused c =
+    err_cause c.from_residual-in_err-rest-in-Watch.result c.in_err-rest-in-Watch.field-0.0 (Refusal c.args.self c.args.asked.now) c.from_residual-in_err-rest-in-Watch.ensures.1
+    (watch_refused c.args.self c.in_ok-ended.ended.judge c.in_ok-ended.ensures.stands c.args.asked.now _ c.in-Watch.watch c.in-Watch.is c.in_err-rest-in-Watch.ensures.cause)
+
+pub returns-in_ok-rest-in-Watch-clause-report : goal.returns-in_ok-rest-in-Watch-clause-report
+returns-in_ok-rest-in-Watch-clause-report c = λ fed given stands.
+    let of = watch_of c.args.self c.in-Watch.watch c.in_ok-ended.ended.judge c.in-Watch.is c.in_ok-ended.ensures.stands fed given stands in
+    report_is c.args.self mode.Watch c.args.asked.now (ap mode_by c.in-Watch.is) c.without_search-in-Watch.result _ fed given c.without_search-in-Watch.ensures
+    (subst (λ (g : List ℕ). IsReport mode.Watch c.args.asked.now.why c.args.asked.now.rows.now c.args.self.scenario fed (g ++ c.in_ok-rest-in-Watch.rest.items)) (sym of.2) (c.in_ok-rest-in-Watch.ensures.report fed of.0 of.1))
+
+pub returns-in_ok-rest-in-Watch-clause-answer : goal.returns-in_ok-rest-in-Watch-clause-answer
+returns-in_ok-rest-in-Watch-clause-answer c = λ fed given stands.
+    let of = watch_of c.args.self c.in-Watch.watch c.in_ok-ended.ended.judge c.in-Watch.is c.in_ok-ended.ensures.stands fed given stands in
+    answer_is c.args.self mode.Watch c.args.asked.now (ap mode_by c.in-Watch.is) c.without_search-in-Watch.result _ fed c.without_search-in-Watch.ensures (c.in_ok-rest-in-Watch.ensures.answer fed of.0 of.1)

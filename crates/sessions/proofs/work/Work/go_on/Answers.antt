@@ -7,7 +7,8 @@ use Rattle.sessions.specs.Standing.{mode_by}
 use Rattle.sessions.specs.Inner.Working.{IsDone}
 use Rattle.sessions.specs.declared.work.Work.{Work}
 use Rattle.sessions.proofs.Auditing.{last_of_rules, rows_of_rules_decided}
-use Rattle.sessions.proofs.Working.{audit_goes_on, pairs_alone, points_go_on}
+use Rattle.sessions.proofs.Watching.{alarms_of_rules_decided, last_alarms}
+use Rattle.sessions.proofs.Working.{audit_goes_on, pairs_alone, points_go_on, watch_goes_on}
 use Rattle.sessions.proofs.work.Work.go_on.Goals as goal
 
 pub returns-in_err-rows-in-Audit-clause-many : goal.returns-in_err-rows-in-Audit-clause-many
@@ -41,3 +42,33 @@ returns-in_ok-write_stretches-in-Audit-clause-few c = λ lines more works many.
     let scenario = c.args.scenario.now in
     let done = subst (λ (w : Work). IsDone w scenario lines works.given) c.in-Audit.is works.done in
     c.in_ok-rows-in-Audit.ensures.few lines more done.0.0 done.1 works.judged (subst (λ (w : Work). HasManySettled (mode_by w) scenario (lines ++ more)) c.in-Audit.is many)
+
+-- ---- a watch
+
+pub returns-in_err-alarms-in-Watch-clause-many : goal.returns-in_err-alarms-in-Watch-clause-many
+returns-in_err-alarms-in-Watch-clause-many c = λ told lines more works.
+    let scenario = c.args.scenario.now in
+    let fault = pairs_alone c.in_err-alarms-in-Watch.field-0.0 (sym (same_fault c.from_residual-in_err-alarms-in-Watch.result _ _ c.from_residual-in_err-alarms-in-Watch.ensures.1 told)) in
+    let err : c.settle-in-Watch.result ≡ Err audit_fault.TooManyPairs = c.in_err-alarms-in-Watch.was ∙ ap (λ (e : AuditFault). Err e) fault in
+    let done = subst (λ (w : Work). IsDone w scenario lines works.given) c.in-Watch.is works.done in
+    subst (λ (w : Work). HasManySettled (mode_by w) scenario (lines ++ more)) (sym c.in-Watch.is) (c.settle-in-Watch.ensures.many err lines more done.0.0 done.1 works.judged)
+
+pub write_alarms-requires : goal.write_alarms-requires
+write_alarms-requires c =
+    let scenario = c.args.scenario.now in
+    let ready = c.requires.ready in
+    let done = subst (λ (w : Work). IsDone w scenario ready.lines ready.works.given) c.in-Watch.is ready.works.done in
+    let decided = c.in_ok-alarms-in-Watch.ensures.decided ready.lines ready.more done.0.0 done.1 ready.works.judged in
+    rw c.as_slice-in-Watch.ensures.value (last_alarms scenario.rules done.0.0 c.in_ok-alarms-in-Watch.alarms.items (alarms_of_rules_decided scenario (ready.lines ++ ready.more) _ decided))
+
+pub returns-in_ok-write_alarms-in-Watch-clause-goes_on : goal.returns-in_ok-write_alarms-in-Watch-clause-goes_on
+returns-in_ok-write_alarms-in-Watch-clause-goes_on c = λ front has.
+    rw c.in-Watch.is
+    (watch_goes_on c.args.scenario.now c.args.judge.now c.args.judged.now front c.write_alarms.new.text c.in-Watch.watch c.settle-in-Watch.new.self c.in_ok-alarms-in-Watch.alarms.items
+    c.in_ok-alarms-in-Watch.ensures.stands c.in_ok-alarms-in-Watch.ensures.decided (rw c.as_slice-in-Watch.ensures.value at (c.in_ok-write_alarms-in-Watch.ensures front has)))
+
+pub returns-in_ok-write_alarms-in-Watch-clause-few : goal.returns-in_ok-write_alarms-in-Watch-clause-few
+returns-in_ok-write_alarms-in-Watch-clause-few c = λ lines more works many.
+    let scenario = c.args.scenario.now in
+    let done = subst (λ (w : Work). IsDone w scenario lines works.given) c.in-Watch.is works.done in
+    c.in_ok-alarms-in-Watch.ensures.few lines more done.0.0 done.1 works.judged (subst (λ (w : Work). HasManySettled (mode_by w) scenario (lines ++ more)) c.in-Watch.is many)

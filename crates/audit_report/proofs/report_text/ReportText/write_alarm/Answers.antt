@@ -1,0 +1,12 @@
+use Rattle.std.proofs.Common.{ℕ, List, ◌++◌, OnOk, refl, subst}
+use Rattle.audit_report.specs.CsvRows.{row_of}
+use Rattle.audit_report.specs.ReportTexts.{HasText}
+use Rattle.audit_report.proofs.RowFields.{seven}
+use Rattle.audit_report.proofs.report_text.ReportText.write_alarm.Goals as goal
+
+pub returns : goal.returns
+returns c =
+    subst
+    (λ (fields : List (List ℕ)). OnOk c.write_fields.result ((text : List ℕ) → HasText c.args.self.now text → HasText c.write_fields.new.self (text ++ row_of fields)))
+    (seven refl c.short_digits.ensures c.short_digits-2.ensures refl c.short_digits-3.ensures c.short_digits-4.ensures refl)
+    c.write_fields.ensures

@@ -1,0 +1,129 @@
+//! Devices that fail: what a run has written by then, and that it asks for no more.
+use colregs_program::Status;
+use compared::{is, is_true};
+use outside::Taken;
+use scenario_rows::HEAD_ON;
+use std::alloc::Global;
+use std::test::Fail;
+use whole_runs::{
+    ABOUT_SEATTLE, AUDIT, Devices, LOG, POINTS, REPORT, RunEnd, SOUND, edited, ended,
+};
+
+/// What the clock of a line at second 741 settles of the log of two vessels that meet head on.
+const FIRST_TWO: &[u8] = b"verdict,369190000,477553000,r14a,broken,0,0
+verdict,477553000,369190000,r14a,broken,0,0
+";
+
+/// What the clock of a line at second 951 settles of that log.
+const FIRST_FOUR: &[u8] = b"verdict,369190000,477553000,r14a,broken,0,0
+verdict,477553000,369190000,r14a,broken,0,0
+verdict,369190000,477553000,r8d,broken,18,21
+verdict,477553000,369190000,r8d,broken,18,21
+";
+
+// What is left of the log shows that nothing is read behind the fault.
+#[test]
+fn a_source_that_fails_after_a_hundred_bytes(rt: HostRuntime) -> Result<(), Fail> {
+    let scenario = edited(rt.alloc(), &[])?;
+    let devices = Devices {
+        piece: 100,
+        failing_read: Some(1),
+        ..SOUND
+    };
+    let log = [b'#'; 150];
+    let ended = ended(rt.alloc(), POINTS, scenario.as_str(), &log, devices)?;
+    is(ended.status, Status::ReadFault)?;
+    is(ended.status.number(), 5)?;
+    is(ended.err.bytes(), b"log: not read\n".as_slice())?;
+    is_true(ended.out.bytes().is_empty())?;
+    is(ended.next, Taken::Got(50))?;
+    Ok(())
+}
+
+/// Runs `audit` on the head-on log and one line more.
+fn audited(alloc: Global, last: &[u8], devices: Devices) -> Result<RunEnd, Fail> {
+    let scenario = edited(alloc, &[])?;
+    let mut log = HEAD_ON.to_vec(alloc)?;
+    log.extend_from_slice(last)?;
+    ended(alloc, AUDIT, scenario.as_str(), log.as_slice(), devices)
+}
+
+// The clock of the whole lines settles the first two rows, and the read behind them fails.
+#[test]
+fn a_read_that_fails_leaves_the_rows_that_are_settled(rt: HostRuntime) -> Result<(), Fail> {
+    let last = b"\\c:1700000741*5D\\x\n";
+    let devices = Devices {
+        piece: 1,
+        failing_read: Some((HEAD_ON.len() + last.len()) as u32),
+        ..SOUND
+    };
+    let ended = audited(rt.alloc(), last, devices)?;
+    is(ended.status, Status::ReadFault)?;
+    is(ended.out.bytes(), FIRST_TWO)?;
+    Ok(())
+}
+
+/// A line that settles four rows. It ends in the seventh piece.
+const SETTLES: &[u8] = b"\\c:1700000951*52\\x\n";
+
+// Standard error fails each time, and changes no status.
+#[test]
+fn each_read_that_fails_leaves_what_was_settled(rt: HostRuntime) -> Result<(), Fail> {
+    for call in 0..10u32 {
+        let devices = Devices {
+            failing_read: Some(call),
+            failing_line: Some(0),
+            ..SOUND
+        };
+        let ended = audited(rt.alloc(), SETTLES, devices)?;
+        if call < 8 {
+            is(ended.status, Status::ReadFault)?;
+            let settled: &[u8] = if call < 7 { b"" } else { FIRST_FOUR };
+            is(ended.out.bytes(), settled)?;
+        } else {
+            is(ended.status, Status::Done)?;
+        }
+    }
+    Ok(())
+}
+
+#[test]
+fn each_write_that_fails_leaves_a_front_of_the_report(rt: HostRuntime) -> Result<(), Fail> {
+    let whole = audited(rt.alloc(), SETTLES, SOUND)?;
+    is(whole.status, Status::Done)?;
+    for call in 0..20u32 {
+        let devices = Devices {
+            failing_write: Some(call),
+            failing_line: Some(0),
+            ..SOUND
+        };
+        let ended = audited(rt.alloc(), SETTLES, devices)?;
+        is_true(whole.out.bytes().starts_with(ended.out.bytes()))?;
+        if ended.out.bytes().len() < whole.out.bytes().len() {
+            is(ended.status, Status::WriteFault)?;
+        } else {
+            is(ended.status, Status::Done)?;
+        }
+    }
+    Ok(())
+}
+
+// A failing standard error changes no status. The log's one row is written before its end is read, and the rest in pieces of 100 bytes.
+#[test]
+fn each_write_that_fails_leaves_the_front_before_it(rt: HostRuntime) -> Result<(), Fail> {
+    let scenario = edited(rt.alloc(), &[ABOUT_SEATTLE])?;
+    for (call, length) in [(0, 0usize), (1, 42), (2, 142), (3, 242)] {
+        let devices = Devices {
+            failing_write: Some(call),
+            failing_line: Some(0),
+            ..SOUND
+        };
+        let ended = ended(rt.alloc(), POINTS, scenario.as_str(), LOG, devices)?;
+        is(ended.status, Status::WriteFault)?;
+        is(ended.status.number(), 6)?;
+        is(ended.out.bytes().len(), length)?;
+        is_true(REPORT.starts_with(ended.out.bytes()))?;
+        is_true(ended.err.bytes().is_empty())?;
+    }
+    Ok(())
+}

@@ -1,0 +1,57 @@
+use Rattle.std.proofs.Common.{◌≡◌, ℕ, ◌+◌, ◌/◌, ◌^◌, ◌<◌, take, sym, subst, ◌∙◌}
+use Rattle.std.specs.Prelude.{MatchOption}
+use Rattle.lattice.specs.Grids.{choices_of}
+use Rattle.lattice.specs.PlanNumbers.{plan_of}
+use Rattle.situations.specs.FailingPlans.{FailsBy}
+use Rattle.situations.specs.Prefixes.{reached}
+use Rattle.planner.specs.Inner.Legs.{legs_through}
+use Rattle.planner.specs.Inner.Levels.{AreEarly, HasPlaces, HasTargets, StandsAt}
+use Rattle.planner.specs.Walks.{IsFirstFailing}
+use Rattle.planner.proofs.Extending.{first_here, level_before, level_through, none_found, out_before, out_of_all, out_through, shorter_number}
+use Rattle.planner.proofs.Places.{written}
+use Rattle.planner.proofs.level.Level.first_failing.Goals as goal
+
+pub own_at_leg-own-requires-clause-number : goal.own_at_leg-own-requires-clause-number
+own_at_leg-own-requires-clause-number c =
+    let C = choices_of c.args.situation.now.lattice in
+    subst (λ (n : ℕ). c.args.number / n < C ^ c.args.legs) (sym c.choices.ensures.value)
+    (shorter_number C c.args.legs c.args.number c.requires.basis.is_situation.some_choice c.requires.number)
+
+pub first_failing-requires-clause-stands : goal.first_failing-requires-clause-stands
+first_failing-requires-clause-stands c =
+    let s = c.args.situation.now in
+    let leg = c.new-leg.result in
+    subst (StandsAt s c.args.basis.now leg.plan (reached s leg.index)) (sym c.deref-2.ensures.value)
+    (level_before s leg c.new-leg.ensures.leg c.args.basis.now c.args.from.now.watched.items (rw (c.new-leg.ensures.index, c.new-leg.ensures.number) c.requires.from.stands))
+
+pub first_failing-requires-clause-outside : goal.first_failing-requires-clause-outside
+first_failing-requires-clause-outside c =
+    out_before c.args.situation.now c.new-leg.result c.new-leg.ensures.leg (rw (c.new-leg.ensures.index, c.new-leg.ensures.number) c.requires.from.outside)
+
+pub returns-clause-keeps : goal.returns-clause-keeps
+returns-clause-keeps c = λ e.
+    let s = c.args.situation.now in
+    let basis = c.args.basis.now in
+    let leg = c.new-leg.result in
+    let place : HasPlaces s basis leg.index c.args.self.now = rw c.new-leg.ensures.index c.requires.place in
+    let on = c.fill_path.ensures basis place in
+    let old = c.fill_path.new.self.watched in
+    let new = c.first_failing.new.watched in
+    let kept = sym (written new old.items old.len (c.first_failing.ensures.targets.count ∙ sym on.places.targets.count) old.ok.0) in
+    let passes : ¬ FailsBy s (reached s (leg.index + 1)) leg.plan = none_found _ _ c.first_failing.result e c.first_failing.ensures.first in
+    record {
+      targets = subst (HasTargets s basis) kept c.first_failing.ensures.targets;
+      early = subst (AreEarly (reached s (c.args.legs + 1))) kept (rw (← c.new-leg.ensures.index) (c.first_failing.ensures.early e));
+      stands = subst (StandsAt s basis (plan_of (choices_of s.lattice) (c.args.legs + 1) c.args.number) (reached s (c.args.legs + 1))) kept
+          (rw (← c.new-leg.ensures.index, ← c.new-leg.ensures.number) (level_through s leg c.new-leg.ensures.leg basis new (c.first_failing.ensures.stands e)));
+      outside = rw (← c.new-leg.ensures.index, ← c.new-leg.ensures.number)
+          (out_through s leg c.new-leg.ensures.leg (out_of_all s leg.plan (reached s (leg.index + 1)) passes));
+    }
+
+pub returns-clause-first : goal.returns-clause-first
+returns-clause-first c = λ plan alike.
+    let s = c.args.situation.now in
+    let leg = c.new-leg.result in
+    let through : take (leg.index + 1) plan ≡ legs_through s leg = rw (c.new-leg.ensures.index, c.new-leg.ensures.number) alike in
+    subst (λ (n : ℕ). MatchOption c.first_failing.result (¬ FailsBy s (reached s (n + 1)) plan) (IsFirstFailing s plan (reached s (n + 1)))) c.new-leg.ensures.index
+    (first_here s leg c.new-leg.ensures.leg plan through c.first_failing.result c.first_failing.ensures.first)

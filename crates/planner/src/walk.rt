@@ -1,0 +1,128 @@
+//! A walk over the prefixes of plans, which tells towards which target each one fails first.
+ghost use Rattle.std.specs.Prelude.{ℕ, ◌≡◌, ◌+◌, ◌/◌, ◌^◌, ◌<◌, IfOk, IsNone, List, MatchOption, take};
+ghost use Rattle.lattice.specs.Grids.{choices_of};
+ghost use Rattle.lattice.specs.PlanNumbers.{plan_of};
+ghost use Rattle.mtl_monitor.specs.Following.{Fits, HasRoom};
+ghost use Rattle.planner.specs.Inner.Legs.{IsPathIn, IsPlannedLeg};
+ghost use Rattle.planner.specs.Inner.Levels.{AreEarly, HasTargets, IsBasis, StandsAt, StaysOut};
+ghost use Rattle.planner.specs.Walks.{HasPlace, IsFirstFailing, IsGround, IsWalk, Keeps};
+ghost use Rattle.situations.specs.FailingPlans.{FailsBy};
+ghost use Rattle.situations.specs.Prefixes.{reached};
+ghost use Rattle.situations.specs.Situations.{IsSituation};
+
+use crate::basis::SearchBasis;
+use crate::legs::{PlannedLeg, own_at_leg};
+use crate::level::Level;
+use crate::search::{places, prepared};
+use crate::towards::Towards;
+use crate::watched::Watched;
+use motion::TickState;
+use mtl_monitor::TraceState;
+use outside::Memory;
+use situations::Situation;
+use std::alloc::Global;
+
+/// What stays the same on a walk, what is kept at now, and the places for each leg.
+#[derive(Drop)]
+pub struct Walk {
+    pub basis: SearchBasis,
+    pub start: Level,
+    pub below: Vec<Level>,
+}
+
+impl Walk {
+    /// Takes the places that a walk needs.
+    pub fn new(alloc: Global, situation: &Situation) -> Result<Walk, Memory>
+        requires { IsSituation situation.now }
+        ensures { IfOk result (IsWalk situation.now) }
+    {
+        let (basis, start) = prepared(alloc, situation)?;
+        let below = places(alloc, situation, &basis)?;
+        Ok(Walk {
+            basis,
+            start,
+            below,
+        })
+    }
+}
+
+/// The first target towards which a plan fails by the end of a leg of its, by its index. All targets before it are followed, from what is kept of them
+/// before the leg.
+fn first_failing(
+    situation: &Situation,
+    basis: &SearchBasis,
+    leg: &PlannedLeg,
+    path: &[TickState],
+    from: &[Watched],
+    watched: &mut [Watched],
+    ending: &mut TraceState,
+) -> Option<usize>
+    requires basis { IsBasis situation.now basis.now }
+    requires leg { IsPlannedLeg situation.now leg.now }
+    requires path { IsPathIn situation.now leg.now path.now }
+    requires from { HasTargets situation.now basis.now from.now }
+    requires early { AreEarly (reached situation.now leg.now.index) from.now }
+    requires stands { StandsAt situation.now basis.now leg.now.plan (reached situation.now leg.now.index) from.now }
+    requires outside { StaysOut situation.now leg.now.plan (reached situation.now leg.now.index) }
+    requires targets { HasTargets situation.now basis.now watched.old }
+    requires fits { Fits basis.now.program ending.old }
+    requires room { HasRoom basis.now.program ending.old }
+    ensures targets { HasTargets situation.now basis.now watched.new }
+    ensures fits { Fits basis.now.program ending.new }
+    ensures room { HasRoom basis.now.program ending.new }
+    ensures early { IsNone result → AreEarly (reached situation.now (leg.now.index + 1)) watched.new }
+    ensures stands { IsNone result → StandsAt situation.now basis.now leg.now.plan (reached situation.now (leg.now.index + 1)) watched.new }
+    ensures first { MatchOption result (¬ FailsBy situation.now (reached situation.now (leg.now.index + 1)) leg.now.plan)
+        (IsFirstFailing situation.now leg.now.plan (reached situation.now (leg.now.index + 1))) }
+{
+    for k in 0..watched.len() {
+        let towards = Towards {
+            situation,
+            program: &basis.program,
+            no_last: basis.no_last,
+            target: &situation.targets.as_slice()[k],
+            already: &basis.already[k],
+        };
+        if towards.fails_by(leg, path, &from[k], &mut watched[k], ending) {
+            return Some(k);
+        }
+    }
+    None
+}
+
+impl Level {
+    /// The first target towards which a prefix of one leg more fails, by its index. The prefix has this number, and `from` is kept after the legs
+    /// before. Where it fails towards none, this is kept after it.
+    pub fn first_failing(
+        &mut self,
+        situation: &Situation,
+        basis: &SearchBasis,
+        from: &Level,
+        legs: u8,
+        number: u32,
+    ) -> Option<usize>
+        requires basis { IsGround situation.now basis.now }
+        requires legs { legs < situation.now.lattice.legs }
+        requires number { number < choices_of situation.now.lattice ^ (legs + 1) }
+        requires place { HasPlace situation.now basis.now legs self.old }
+        requires from { Keeps situation.now basis.now legs (number / choices_of situation.now.lattice) from.now }
+        ensures place { HasPlace situation.now basis.now legs self.new }
+        ensures keeps { IsNone result → Keeps situation.now basis.now (legs + 1) number self.new }
+        ensures first { (plan : List ℕ) → take (legs + 1) plan ≡ plan_of (choices_of situation.now.lattice) (legs + 1) number
+            → MatchOption result (¬ FailsBy situation.now (reached situation.now (legs + 1)) plan) (IsFirstFailing situation.now plan (reached situation.now (legs + 1))) }
+    {
+        let before = number / situation.lattice.choices();
+        let own = own_at_leg(situation, legs, before);
+        let leg = PlannedLeg::new(situation, legs, number, own);
+        self.fill_path(situation, &leg);
+        first_failing(
+            situation,
+            basis,
+            &leg,
+            &self.path,
+            &from.watched,
+            &mut self.watched,
+            &mut self.ending,
+        )
+    }
+}

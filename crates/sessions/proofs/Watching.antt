@@ -1,0 +1,119 @@
+-- The rows of alarms, written one after the other.
+use Rattle.std.proofs.Common.{ℕ, ◌≡◌, ◌+◌, ◌<◌, false, List, [], ◌++◌, length, map, map-id, refl, take, append_assoc, sym, ap, subst, ◌∙◌}
+use Rattle.std.specs.Prelude.{All}
+use Rattle.std.proofs.Math.ListN.{get_or}
+use Rattle.std.specs.List.{Contains}
+use Rattle.std.specs.List.Sorted.{IsStrictlySortedBy}
+use Rattle.std.proofs.lemmas.Grind.{flat_map-append}
+use Rattle.std.proofs.lemmas.List.Elements.{All-contains, Contains-append_right}
+use Rattle.audit_report.specs.CsvRows.{row_of}
+use Rattle.audit_report.specs.ReportTexts.{HasText}
+use Rattle.audit_report.specs.declared.report_text.ReportText.{ReportText}
+use Rattle.audit_rows.proofs.ForCallers.{same_list}
+use Rattle.early_monitor.specs.Alarms.{AreAlarms, InOrder, alarm_cmp}
+use Rattle.early_monitor.specs.declared.alarm.Alarm.{Alarm}
+use Rattle.early_monitor.proofs.ForCallers.{alarm_total}
+use Rattle.log_lines.specs.JudgedLines.{is_crowded, judged_lines}
+use Rattle.log_lines.specs.LogLines.{lines_of}
+use Rattle.log_lines.specs.Standing.{StandsFor as JudgeStandsFor}
+use Rattle.log_lines.specs.declared.judge.Judge.{Judge}
+use Rattle.traces.specs.Audited.{AuditNumbers, Sighting}
+use Rattle.traces.specs.ManyTraces.{HaveMoreThan}
+use Rattle.traces.specs.declared.all_traces.TheConstants.{MOST_TRACES}
+use Rattle.traces.specs.declared.fault.TickFault.{TickFault as WatchFault}
+use Rattle.traces.specs.declared.fault.TickFault.TheVariants as watch_fault
+use Rattle.rule_set.specs.NamedTrees.{NamedTree}
+use Rattle.scenario.specs.declared.values.Scenario.{Scenario}
+use Rattle.command_line.specs.declared.mode.Mode.TheVariants as mode
+use Rattle.settling.specs.DecidedAlarms.{AreDecidedAlarms}
+use Rattle.settling.specs.ScenarioAudit.{audit_numbers}
+use Rattle.settling.specs.WatchStanding.{AreOfOneLog}
+use Rattle.settling.specs.declared.settled_watch.SettledWatch.{SettledWatch}
+use Rattle.sessions.specs.AuditReport.{sightings_of}
+use Rattle.sessions.specs.OutcomeRows.{count_rows}
+use Rattle.sessions.specs.WatchReport.{IsWatchReport, alarm_rows, told_alarm}
+use Rattle.sessions.specs.Inner.AtEnd.{IsWatchAtEnd, IsWatchOf}
+use Rattle.sessions.specs.Inner.Faults.{EndCause, auditing_fault}
+use Rattle.sessions.proofs.Auditing.{all_of}
+use Rattle.sessions.proofs.Meeting.{too_many_watched}
+use Rattle.sessions.proofs.VesselRows.{rows_push}
+
+-- ---- alarms tell of rules that are there
+
+abbrev pub AreOfRules : List NamedTree → List Alarm → Type 0
+AreOfRules rules early = All (λ (alarm : Alarm). alarm.rule < length rules) early
+
+pub alarms_of_rules : (numbers : AuditNumbers) (ticks : List Sighting) (early : List Alarm) → AreAlarms numbers ticks early → AreOfRules numbers.rules early
+alarms_of_rules numbers ticks early are = all_of (λ (alarm : Alarm). alarm.rule < length numbers.rules) early (λ alarm i. ((are.each alarm).0 i).within)
+
+pub alarms_of_rules_decided : (scenario : Scenario) (lines : List (List ℕ)) (early : List Alarm) → AreDecidedAlarms scenario lines early → AreOfRules scenario.rules early
+alarms_of_rules_decided scenario lines early are = all_of (λ (alarm : Alarm). alarm.rule < length scenario.rules) early (λ alarm i. ((are.each alarm).0 i).0.within)
+
+-- alarms behind others
+pub last_alarms : (rules : List NamedTree) (given early : List Alarm) → AreOfRules rules (given ++ early) → AreOfRules rules early
+last_alarms rules given early all =
+    all_of (λ (alarm : Alarm). alarm.rule < length rules) early
+    (λ alarm i. All-contains (λ (a : Alarm). a.rule < length rules) (given ++ early) alarm all (Contains-append_right given early alarm i))
+
+-- ---- there is one list of them
+
+-- an alarm is its own place in their order
+abbrev itself : Alarm → Alarm
+itself alarm = alarm
+
+in_order : (early : List Alarm) → InOrder early → IsStrictlySortedBy alarm_cmp (map itself early)
+in_order early ordered = subst (IsStrictlySortedBy alarm_cmp) (sym (map-id early)) ordered
+
+pub one_list_of_alarms : (numbers : AuditNumbers) (ticks : List Sighting) (early others : List Alarm) → AreAlarms numbers ticks early → AreAlarms numbers ticks others → early ≡ others
+one_list_of_alarms numbers ticks early others h k =
+    same_list itself alarm_cmp alarm_total early others (in_order early h.ordered) (in_order others k.ordered)
+    (λ alarm i. (k.each alarm).1 ((h.each alarm).0 i)) (λ alarm i. (h.each alarm).1 ((k.each alarm).0 i))
+
+-- ---- the rows that were written
+
+-- the rows of the first alarms, and one more
+pub one_alarm_on : (text : ReportText) (front : List ℕ) (rules : List NamedTree) (early : List Alarm) (k : ℕ) (d : Alarm) → k < length early
+    → HasText text ((front ++ alarm_rows rules (take k early)) ++ row_of (told_alarm rules (get_or early k d)))
+    → HasText text (front ++ alarm_rows rules (take (k + 1) early))
+one_alarm_on text front rules early k d lt has =
+    let f : Alarm → List ℕ = λ a. row_of (told_alarm rules a) in
+    subst (HasText text)
+    (append_assoc front (alarm_rows rules (take k early)) (f (get_or early k d)) ∙ ap (λ (l : List ℕ). front ++ l) (rows_push f early k d lt))
+    has
+
+-- ---- at a log's end
+
+module _ (watch : SettledWatch) (judge : Judge) (scenario : Scenario) (log : List ℕ) (given : List Alarm) (of : IsWatchOf watch judge scenario log given) where
+  pub judged_parts : JudgeStandsFor judge scenario (of.lines ++ of.more)
+  judged_parts = subst (JudgeStandsFor judge scenario) of.whole of.judged
+
+  pub of_whole : (P : List (List ℕ) → Type 0) → P (of.lines ++ of.more) → P (lines_of log)
+  of_whole P holds = subst P (sym of.whole) holds
+
+pub of_one_log : (watch : SettledWatch) (judge : Judge) (scenario : Scenario) → IsWatchAtEnd watch judge scenario → AreOfOneLog watch scenario judge
+of_one_log watch judge scenario at = record {
+  lines = at.is.lines;
+  more = at.is.more;
+  given = at.given;
+  stands = at.is.stands;
+  judged = judged_parts watch judge scenario at.log at.given at.is;
+}
+
+pub watch_cause : (scenario : Scenario) (log : List ℕ) (fault : WatchFault) → is_crowded scenario (lines_of log) ≡ false
+    → (fault ≡ watch_fault.TooManyPairs → HaveMoreThan MOST_TRACES (audit_numbers scenario) (sightings_of scenario log)) → EndCause mode.Watch [] scenario log (auditing_fault fault)
+watch_cause scenario log watch_fault.TooManyPairs calm many = too_many_watched scenario log calm (many refl)
+watch_cause scenario log watch_fault.Memory calm many = tt
+
+pub whole_watch : (scenario : Scenario) (log : List ℕ) (given early : List Alarm) (rest : List ℕ)
+    → AreAlarms (audit_numbers scenario) (sightings_of scenario log) (given ++ early)
+    → rest ≡ alarm_rows scenario.rules early ++ count_rows (judged_lines scenario (lines_of log)) → IsWatchReport scenario log (alarm_rows scenario.rules given ++ rest)
+whole_watch scenario log given early rest are is =
+    let g = alarm_rows scenario.rules given in
+    let counts = count_rows (judged_lines scenario (lines_of log)) in
+    record {
+      alarms = given ++ early;
+      are_alarms = are;
+      is = ap (λ (l : List ℕ). g ++ l) is
+          ∙ sym (append_assoc g (alarm_rows scenario.rules early) counts)
+          ∙ ap (λ (l : List ℕ). l ++ counts) (sym (flat_map-append (λ (a : Alarm). row_of (told_alarm scenario.rules a)) given early));
+    }

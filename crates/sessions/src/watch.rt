@@ -1,0 +1,44 @@
+//! The end of the report of `watch`.
+ghost use Rattle.std.specs.Prelude.{◌≡◌, ◌++◌, [], ℕ, List, IfErr, IfOk, OnOk, Ok, false};
+ghost use Rattle.early_monitor.specs.declared.alarm.Alarm.{Alarm};
+ghost use Rattle.log_lines.specs.Standing.{keeping_of};
+ghost use Rattle.scenario.specs.ScenarioValues.{IsInRange};
+ghost use Rattle.sessions.specs.WatchReport.{IsWatchReport, alarm_rows};
+ghost use Rattle.sessions.specs.Endings.{IsAnswerOf};
+ghost use Rattle.sessions.specs.Inner.AtEnd.{IsWatchAtEnd, IsWatchOf};
+ghost use Rattle.sessions.specs.Inner.Faults.{EndCause};
+ghost use Rattle.command_line.specs.declared.mode.Mode.TheVariants.{Watch};
+ghost use Rattle.tracks.specs.declared.keeping.Keeping.TheVariants.{Tracks};
+
+use crate::alarms::write_alarms;
+use crate::outcome_rows::{all_outcomes, write_counts};
+use crate::session_fault::SessionFault;
+use audit_report::ReportText;
+use log_lines::Judge;
+use scenario::Scenario;
+use settling::SettledWatch;
+use std::alloc::Global;
+
+/// The rest of the report, behind the rows of the alarms that the watch has given.
+pub(crate) fn end_watch(
+    alloc: Global,
+    scenario: &Scenario,
+    watch: SettledWatch,
+    judge: &Judge,
+) -> Result<Vec<u8>, SessionFault>
+    requires in_range { IsInRange scenario.now }
+    requires keeping { keeping_of judge.now ≡ Tracks }
+    requires at_end { IsWatchAtEnd watch judge.now scenario.now }
+    ensures report { IfOk result (λ rest. (log : List ℕ) (given : List Alarm) → IsWatchOf watch judge.now scenario.now log given
+        → IsWatchReport scenario.now log (alarm_rows scenario.now.rules given ++ rest.items)) }
+    ensures answer { OnOk result ((log : List ℕ) (given : List Alarm) → IsWatchOf watch judge.now scenario.now log given
+        → IsAnswerOf Watch [] scenario.now log (Ok false)) }
+    ensures cause { IfErr result (λ why. (log : List ℕ) (given : List Alarm) → IsWatchOf watch judge.now scenario.now log given
+        → EndCause Watch [] scenario.now log why) }
+{
+    let alarms = watch.end(scenario, judge)?;
+    let mut text = ReportText::new(alloc);
+    write_alarms(&mut text, &scenario.rules, alarms.as_slice())?;
+    write_counts(&mut text, judge.counts(), all_outcomes())?;
+    Ok(text.into_bytes()?)
+}

@@ -1,0 +1,16 @@
+-- The alarms that the lines of a log so far decide.
+use Rattle.std.specs.Prelude.{ℕ, ◌+◌, ◌↔◌, List}
+use Rattle.std.specs.List.{Contains}
+use Rattle.early_monitor.specs.Alarms.{InOrder, IsAlarm}
+use Rattle.early_monitor.specs.declared.alarm.Alarm.{Alarm}
+use Rattle.log_lines.specs.SentLines.{sent}
+use Rattle.scenario.specs.declared.values.Scenario.{Scenario}
+use Rattle.settled_ticks.specs.Settled.{IsSettled}
+use Rattle.settled_ticks.specs.Sightings.{sighted}
+use Rattle.settling.specs.ScenarioAudit.{audit_numbers}
+
+-- They are the alarms by the messages so far of which the tick is settled at which the deciding step ends. No reach counts beside it.
+pub record AreDecidedAlarms (scenario : Scenario) (lines : List (List ℕ)) (alarms : List Alarm) : Type 0 where
+  pub each : (alarm : Alarm) → Contains alarms alarm
+      ↔ (IsAlarm (audit_numbers scenario) (sighted scenario (sent scenario lines)) alarm × IsSettled scenario lines (alarm.decided + 1))
+  pub ordered : InOrder alarms

@@ -1,0 +1,16 @@
+-- A watch as one who takes ticks.
+use Rattle.std.specs.Prelude.{List}
+use Rattle.early_monitor.specs.Alarms.{AreAlarms}
+use Rattle.early_monitor.specs.Watching.{IsSound, StandsFor as WatchStandsFor, given_of, last_tick_of}
+use Rattle.early_monitor.specs.declared.alarm.Alarm.{Alarm}
+use Rattle.early_monitor.specs.declared.watch.Watch.{Watch}
+use Rattle.traces.specs.Audited.{AuditNumbers, Sighting}
+use Rattle.settling.specs.Inner.TakenTicks.{Taker}
+
+-- The watch stands for these ticks, and these are their alarms.
+pub record HasWatched (watch : Watch) (numbers : AuditNumbers) (ticks : List Sighting) (given : List Alarm) : Type 0 where
+  pub stands : WatchStandsFor watch numbers ticks
+  pub alarms : AreAlarms numbers ticks given
+
+abbrev pub watch_taker : Watch → Taker Alarm
+watch_taker watch = record { Sound = IsSound watch; count = given_of watch; last_tick = last_tick_of watch; Stands = HasWatched watch }

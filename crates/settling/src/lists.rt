@@ -1,0 +1,12 @@
+//! Lists of what ticks bring.
+ghost use Rattle.std.specs.Prelude.{◌≡◌, ◌++◌, OnOk};
+
+use outside::Memory;
+
+/// Puts further items behind these.
+pub(crate) fn add<T: Drop>(items: &mut Vec<T>, mut further: Vec<T>) -> Result<(), Memory>
+    ensures { OnOk result (items.new.items ≡ items.old.items ++ further.items) }
+{
+    items.append(&mut further)?;
+    Ok(())
+}

@@ -1,0 +1,105 @@
+//! The watch over a window's ticks, as the lines of a log settle them.
+ghost use Rattle.std.specs.Prelude.{◌≡◌, ◌+◌, ◌++◌, [], ℕ, List, IfOk, OnOk, Err};
+ghost use Rattle.early_monitor.specs.Alarms.{AreAlarms};
+ghost use Rattle.early_monitor.specs.declared.alarm.Alarm.{Alarm};
+ghost use Rattle.log_lines.specs.SentLines.{sent};
+ghost use Rattle.log_lines.specs.Standing.{StandsFor as JudgeStandsFor, keeping_of};
+ghost use Rattle.scenario.specs.ScenarioValues.{IsInRange};
+ghost use Rattle.settled_ticks.specs.Sightings.{sighted};
+ghost use Rattle.settling.specs.DecidedAlarms.{AreDecidedAlarms};
+ghost use Rattle.settling.specs.ManySettled.{HaveManySettled};
+ghost use Rattle.settling.specs.ScenarioAudit.{audit_numbers};
+ghost use Rattle.settling.specs.WatchStanding.{AreOfOneLog, StandsFor};
+ghost use Rattle.traces.specs.ManyTraces.{HaveMoreThan};
+ghost use Rattle.traces.specs.declared.all_traces.TheConstants.{MOST_TRACES};
+ghost use Rattle.traces.specs.declared.fault.TickFault.TheVariants.{TooManyPairs};
+ghost use Rattle.tracks.specs.declared.keeping.Keeping.TheVariants.{Tracks};
+
+use crate::lists::add;
+use early_monitor::{Alarm, Watch, WatchFault};
+use log_lines::Judge;
+use outside::Memory;
+use scenario::Scenario;
+use settled_ticks::SettledTicks;
+use std::alloc::Global;
+
+/// The watch over a window's ticks, of which each is taken once the lines of a log settle it.
+#[derive(Drop)]
+pub struct SettledWatch {
+    alloc: Global,
+    watch: Watch,
+    ticks: SettledTicks,
+}
+
+impl SettledWatch {
+    /// The watch over a scenario's window, before the first line.
+    pub fn new(alloc: Global, scenario: &Scenario) -> Result<SettledWatch, Memory>
+        requires { IsInRange scenario.now }
+        ensures { IfOk result (λ watch. StandsFor watch scenario.now [] []) }
+    {
+        let watch = Watch::new(
+            alloc,
+            &scenario.rules,
+            scenario.detect,
+            scenario.act,
+            scenario.subjects.as_slice(),
+            scenario.window,
+        )?;
+        Ok(SettledWatch {
+            alloc,
+            watch,
+            ticks: SettledTicks::new(alloc),
+        })
+    }
+
+    /// Watches each further tick that the judge's lines settle, and gives the alarms of these ticks, behind those that were given.
+    /// Where no further tick is settled, this takes no memory. After an `Err` the watch may only be dropped.
+    pub fn settle(&mut self, scenario: &Scenario, judge: &Judge) -> Result<Vec<Alarm>, WatchFault>
+        requires in_range { IsInRange scenario.now }
+        requires keeping { keeping_of judge.now ≡ Tracks }
+        requires one_log { AreOfOneLog self.old scenario.now judge.now }
+        ensures stands { IfOk result (λ alarms. (lines more : List (List ℕ)) (given : List Alarm) → StandsFor self.old scenario.now lines given
+            → JudgeStandsFor judge.now scenario.now (lines ++ more)
+            → StandsFor self.new scenario.now (lines ++ more) (given ++ alarms.items)) }
+        ensures decided { IfOk result (λ alarms. (lines more : List (List ℕ)) (given : List Alarm) → StandsFor self.old scenario.now lines given
+            → JudgeStandsFor judge.now scenario.now (lines ++ more)
+            → AreDecidedAlarms scenario.now (lines ++ more) (given ++ alarms.items)) }
+        // The limit is met exactly where a 4097th trace begins at a settled tick; memory may run out before.
+        ensures many { result ≡ Err TooManyPairs → (lines more : List (List ℕ)) (given : List Alarm) → StandsFor self.old scenario.now lines given
+            → JudgeStandsFor judge.now scenario.now (lines ++ more) → HaveManySettled scenario.now (lines ++ more) }
+        ensures few { OnOk result ((lines more : List (List ℕ)) (given : List Alarm) → StandsFor self.old scenario.now lines given
+            → JudgeStandsFor judge.now scenario.now (lines ++ more) → HaveManySettled scenario.now (lines ++ more) → ⊥) }
+    {
+        let mut alarms = Vec::new(self.alloc);
+        while self.ticks.next(scenario, judge)? {
+            let further = self.watch.step(self.ticks.seen(), self.ticks.ranks())?;
+            add(&mut alarms, further)?;
+        }
+        Ok(alarms)
+    }
+
+    /// Watches the ticks that are left by what the lines of the whole log tell, and ends the watch: the alarms behind those that were
+    /// given.
+    pub fn end(mut self, scenario: &Scenario, judge: &Judge) -> Result<Vec<Alarm>, WatchFault>
+        requires in_range { IsInRange scenario.now }
+        requires keeping { keeping_of judge.now ≡ Tracks }
+        requires one_log { AreOfOneLog self scenario.now judge.now }
+        ensures alarms { IfOk result (λ rest. (lines more : List (List ℕ)) (given : List Alarm) → StandsFor self scenario.now lines given
+            → JudgeStandsFor judge.now scenario.now (lines ++ more)
+            → AreAlarms (audit_numbers scenario.now) (sighted scenario.now (sent scenario.now (lines ++ more))) (given ++ rest.items)) }
+        // The limit is met exactly where a 4097th trace begins; memory may run out before.
+        ensures many { result ≡ Err TooManyPairs → (lines more : List (List ℕ)) (given : List Alarm) → StandsFor self scenario.now lines given
+            → JudgeStandsFor judge.now scenario.now (lines ++ more)
+            → HaveMoreThan MOST_TRACES (audit_numbers scenario.now) (sighted scenario.now (sent scenario.now (lines ++ more))) }
+        ensures few { OnOk result ((lines more : List (List ℕ)) (given : List Alarm) → StandsFor self scenario.now lines given
+            → JudgeStandsFor judge.now scenario.now (lines ++ more)
+            → HaveMoreThan MOST_TRACES (audit_numbers scenario.now) (sighted scenario.now (sent scenario.now (lines ++ more))) → ⊥) }
+    {
+        let mut rest = Vec::new(self.alloc);
+        while self.ticks.next_at_end(scenario, judge)? {
+            let further = self.watch.step(self.ticks.seen(), self.ticks.ranks())?;
+            add(&mut rest, further)?;
+        }
+        Ok(rest)
+    }
+}

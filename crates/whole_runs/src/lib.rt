@@ -1,0 +1,11 @@
+//! Whole runs of the program in memory, for worked rows: what a run is given, what it ends with, and whether that is as a row has it. It is no part of
+//! the program, and only tests stand on it.
+#![tactic(auto)]
+
+mod logs;
+mod whole_run;
+mod worked_row;
+
+pub use logs::{ABOUT_SEATTLE, LOG, ONE_TICK, REPORT};
+pub use whole_run::{Devices, Edit, RunEnd, SOUND, Shelved, edited, ended, ended_on};
+pub use worked_row::{AUDIT, NOTHING, POINTS, Row, Written, is_as_worked_out};
