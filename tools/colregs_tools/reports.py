@@ -19,7 +19,7 @@ from .packing import Fault
 FIELDS = 7
 OUTCOMES = 21           # a whole report counts the lines by as many outcomes
 NEAR = 0.5              # metres by which a least distance that is reckoned here may differ from the report's
-KINDS = ("point", "meeting", "verdict", "vessel", "total", "plan", "none", "lines", "why")
+KINDS = ("point", "meeting", "verdict", "vessel", "total", "plan", "none", "lines", "why", "alarm")
 NONE = -1               # stands for a speed or a course that a report does not tell
 
 
@@ -246,7 +246,7 @@ class Case:
     def take(self, row):
         if row[0] == "vessel":
             self.names[int(row[1])] = row[2] or row[1]
-            self.joined |= row[5] == ""        # as tools/many joins them
+            self.joined |= row[5] == ""        # as tools/colregs-many joins windows
             self.vessels[int(row[1])] = {"name": row[2], "type": int(row[3]), "length": int(row[4])}
         elif row[0] == "total":
             self.rules.append(row[1])

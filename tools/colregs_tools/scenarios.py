@@ -167,7 +167,8 @@ def window(found, timed, reasons):
     first, last = ends(found.times, reasons, "reports")
     ticks = max(1, (last - first) // tick)
     if ticks > LONGEST or found.counts.get("outside", 0) > len(found.times):
-        reasons.append("the log is %d ticks long or more, and a window may have 20000: this is its beginning. tools/many cuts it" % ticks)
+        reasons.append("the log is %d ticks long or more, and a window may have 20000: this is its beginning. tools/colregs-many audits"
+                       " all of it" % ticks)
     return first, tick, min(ticks, LONGEST), interval
 
 
@@ -205,8 +206,8 @@ def fitted(guess, vessels, log, program, reasons):
     while guess["ticks"] > 1 and guess["watch"] == WATCHES[-1] and not fits(guess, log, program):
         guess = {**guess, "ticks": guess["ticks"] // 2}
     if guess["ticks"] < whole:
-        reasons.append("the window is cut to %d of %d ticks: more than %d pairs come into contact. tools/many cuts a log into windows" % (
-            guess["ticks"], whole, MOST_PAIRS))
+        reasons.append("the window is cut to %d of %d ticks: more than %d pairs come into contact. tools/colregs-many audits such a log by"
+                       " subjects and windows" % (guess["ticks"], whole, MOST_PAIRS))
     if guess["watch"] != WATCHES[0]:
         reasons.append("the watch is %d m in place of %d: more than %d pairs would come into contact" % (guess["watch"], WATCHES[0], MOST_PAIRS))
     return guess

@@ -85,7 +85,7 @@ def outside(case, gathered):
     if 10 * left <= gathered.last - gathered.first:
         return []
     return ["The window is from %s to %s UTC, and the log from %s to %s: what lies outside was not audited. --start and --ticks set another window, and"
-            " tools/many cuts a long log." % (plain(case.start), plain(case.moment(case.steps)), plain(gathered.first), plain(gathered.last))]
+            " tools/colregs-many audits a long log." % (plain(case.start), plain(case.moment(case.steps)), plain(gathered.first), plain(gathered.last))]
 
 
 def doubts(case, gathered, findings):

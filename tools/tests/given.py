@@ -1,4 +1,9 @@
 """What the tests share: the built program, the examples, a folder for a test, and what a machine may lack."""
+import contextlib
+import functools
+import importlib.machinery
+import importlib.util
+import io
 import os
 import shutil
 import subprocess
@@ -33,6 +38,15 @@ def text_of(path):
         return source.read()
 
 
+@functools.cache
+def loaded(name):
+    """A tool as a module."""
+    loader = importlib.machinery.SourceFileLoader(name.replace("-", "_"), os.path.join(TOOLS, name))
+    module = importlib.util.module_from_spec(importlib.util.spec_from_loader(loader.name, loader))
+    loader.exec_module(module)
+    return module
+
+
 class InFolder(unittest.TestCase):
     """A test with a folder of its own."""
 
@@ -54,6 +68,20 @@ class InFolder(unittest.TestCase):
         """A run of a tool: its status, standard output and standard error."""
         done = subprocess.run([sys.executable, os.path.join(TOOLS, name), *words], input=source, capture_output=True, cwd=self.folder, timeout=120)
         return done.returncode, done.stdout.decode("utf-8", "replace"), done.stderr.decode("utf-8", "replace")
+
+    def within(self, name, *words):
+        """The same within this process, of a tool that ends by `ends`: it spares the start of a Python."""
+        from colregs_tools.command import ends
+        out, error, before, argv = io.StringIO(), io.StringIO(), os.getcwd(), sys.argv
+        os.chdir(self.folder)
+        sys.argv = [name, *words]
+        try:
+            with contextlib.redirect_stdout(out), contextlib.redirect_stderr(error), self.assertRaises(SystemExit) as ended:
+                ends(name.removeprefix("colregs-"), loaded(name).main)
+        finally:
+            os.chdir(before)
+            sys.argv = argv
+        return ended.exception.code, out.getvalue(), error.getvalue()
 
     def program(self, mode, scenario, log):
         """The report of the program; a test fails where it ends otherwise than with status 0 or 1."""
