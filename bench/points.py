@@ -1,7 +1,7 @@
 #!/usr/bin/env python3
 """Times `colregs points` on a log of position reports, beside other programs, in one run.
 
-    bench/points.py [--reports N] [--vessels N] [--rounds N] [PROGRAM ...]
+    bench/points.py [--program COLREGS] [--reports N] [--vessels N] [--rounds N] [PROGRAM ...]
 
 It writes a log of N position reports of ITU-R M.1371 message 1 (two million by default), each a line of its own with a
 right sum and a tag block that tells its time, and a scenario. The vessels report in turn, once a second, and go on at 11
@@ -61,14 +61,14 @@ def main():
     words.add_argument("--reports", type=int, default=2000000)
     words.add_argument("--vessels", type=int, default=4000)
     words.add_argument("--rounds", type=int, default=5)
+    words.add_argument("--program", default=os.path.join(HERE, "..", "crates", "colregs", "out", "colregs"))
     words.add_argument("programs", nargs="*", metavar="PROGRAM")
     given = words.parse_args()
-    colregs = os.path.join(HERE, "..", "crates", "colregs", "out", "colregs")
     with tempfile.TemporaryDirectory() as place:
         log = os.path.join(place, "log")
         shutil.copy(SCENARIO, os.path.join(place, "scenario.toml"))
         write_log(log, given.reports, given.vessels)
-        commands = ["wc -l", "%s points scenario.toml" % os.path.abspath(colregs)]
+        commands = ["wc -l", "%s points scenario.toml" % os.path.abspath(given.program)]
         commands += [program.replace("{log}", log) for program in given.programs]
         counted = {command: rows(command, log, place) for command in commands[1:]}
         if set(counted.values()) != {given.reports}:

@@ -1,6 +1,0 @@
-use Rattle.sessions.specs.Standing.{IsInUse}
-use Rattle.session_rows.proofs.pieces.audit.Given as goal
-
--- the session goes on
-abbrev pub invariant-loop-piece : goal.invariant-loop-piece
-invariant-loop-piece l = IsInUse l.session
