@@ -3,6 +3,11 @@
 //!
 //! The vessels seen at each tick are given one tick after the other. The rows come in the order of the report, each as soon as no
 //! further tick can change it.
+//!
+//! In the shipped head-on encounter each of the two vessels breaks `r14a` at step 23 and `r8d` from step 56 to step 62, and has a meeting as
+//! `head_on` from step 23 to step 66. The rows come in this order, that of their last steps. The total of `r8d` has 134 positions, of which
+//! 120 hold and 14 are broken, in 2 stretches.
+//! Reports, clocks and files have no place here: a tick is a list of vessels with their states.
 #![tactic(auto)]
 
 mod audit;

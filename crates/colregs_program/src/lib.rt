@@ -3,6 +3,10 @@
 //! `run` reads the scenario from a shelf and the log from a source, block by block. It feeds each block to a session of the crate
 //! `sessions`, and writes to a sink what the session decides by it. What a finished run has written is the report that
 //! `sessions/specs/Endings.antt` defines from the scenario and the log, however the reads are cut. A drill makes its own log, and reads none.
+//!
+//! Over an empty log `points` writes 21 rows, each with the count 0, from `lines,empty,0` to `lines,point,0`, however the scenario's reads
+//! are cut. A scenario without a version writes nothing, and is answered by the fault `version: missing`.
+//! What a report says has no place here, and neither has the world: shelf, source and sink are given.
 #![tactic(auto)]
 
 mod fault_line;

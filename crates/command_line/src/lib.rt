@@ -1,4 +1,8 @@
 //! The words of the command line, as `clap` reads them: a mode, the name of a scenario and options.
+//!
+//! `colregs audit harbour.toml --start 1700000000` asks for the mode `audit`, the scenario `harbour.toml` and that start.
+//! `colregs audit` names no scenario, and so asks for nothing.
+//! What a mode does has no place here, and no file is looked at.
 #![tactic(auto)]
 
 mod colregs;

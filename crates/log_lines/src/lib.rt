@@ -7,6 +7,10 @@
 //! A log comes in pieces, and a line in any number of them. `StreamedLines` gives the judge each line as its line feed comes, and the
 //! open one at the log's end. `OpenLine` keeps what stands behind the last line feed, and of a line that is too long no more than tells
 //! so: its room is the same whatever the log holds.
+//!
+//! Of a line `x` and the two sentences of a message in two parts, the first line is dropped as `other`, the second is a `part`, and the third
+//! comes to the message: `static` where that tells of a ship. The same two sentences in the other order are an `orphan` and a `part`.
+//! What is made of the reports has no place here: ticks, pairs and rows stand above.
 #![tactic(auto)]
 
 mod judge;

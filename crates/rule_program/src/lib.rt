@@ -1,5 +1,9 @@
 //! The rules of an audit as one program, which gives the values of all of them along a trace; and how many rows their formulas need at
 //! least before a value of Yes or No.
+//!
+//! A Yes of `F[0,20] risk` at a tick of 10 seconds may come with the position's own row, and a No needs two rows behind it: the last that the
+//! formula reaches. Of `G[0,20] risk` it is the other way round, so that a No may come early.
+//! How a value is found has no place here: that is `mtl_monitor`.
 #![tactic(auto)]
 
 mod lags;

@@ -2,6 +2,9 @@
 //!
 //! The keys stand in one table, that of `scenario_keys`. A document is tested row by row, and the first row with a fault is the
 //! answer. The values are read after that and cannot fail.
+//!
+//! A scenario of `version = 3` and `tick = 0` is answered by `version: range`: that row stands first.
+//! How one key is judged has no place here: that is `scenario_keys`.
 #![tactic(auto)]
 
 mod basis;

@@ -2,6 +2,10 @@
 //!
 //! A tick is settled once the clock of the lines is past it by more than the gap and the slack: the vessels seen then, and their
 //! ranks, are the same whatever lines follow. `SettledTicks` hands out one settled tick after the other, and at the log's end the ticks that are left.
+//!
+//! With a gap of 60 seconds, a slack of 30 and ticks of 10 seconds from second 1700000000 on, a clock of 1700000101 has settled the ticks 0 and 1,
+//! and not the tick 2 at second 1700000020.
+//! What is made of a tick has no place here: it is handed out as the vessels seen, with their states.
 #![tactic(auto)]
 
 mod guesses;

@@ -4,6 +4,9 @@
 //! whatever lines follow. A row is decided once enough ticks behind its last step are settled, and the rows that are decided are the
 //! front of the report's. A `SettledAudit` audits the ticks as they are settled, and gives the rows as they are decided. An alarm is
 //! decided once the tick is settled at which its deciding step ends; a `SettledWatch` watches the ticks, and gives the alarms.
+//!
+//! With a gap of 60 seconds and a slack of 30, the tick at second 1700000000 is settled by the first line of which the stamp is past 1700000090.
+//! What a row's text is has no place here: rows and alarms are given as values.
 #![tactic(auto)]
 
 pub mod laws;
