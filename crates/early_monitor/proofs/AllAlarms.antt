@@ -1,5 +1,5 @@
 -- All alarms so far, from one tick to the next.
-use Rattle.std.proofs.Common.{◌≡◌, ◌≢◌, ℕ, ◌+◌, ◌-◌, ◌<◌, ◌≤◌, inl, inr, List, [], ◌∷◌, ◌++◌, length, length-append, take, refl, sym, ap, subst, ◌∙◌, arith}
+use Rattle.std.proofs.Common.{◌≡◌, ℕ, ◌+◌, ◌-◌, ◌<◌, ◌≤◌, inl, inr, List, [], ◌∷◌, ◌++◌, length, length-append, refl, sym, ap, subst, ◌∙◌, arith}
 use Rattle.std.specs.List.{AllByRecursion, AllZip, Contains}
 use Rattle.std.specs.List.Sorted.{IsStrictlySortedBy}
 use Rattle.std.specs.Ordering.{nat_cmp, ordering_then}
@@ -9,20 +9,18 @@ use Rattle.std.proofs.lemmas.Bool.{cases_lt}
 use Rattle.std.proofs.lemmas.Bool.Decides.{nat_tests}
 use Rattle.std.proofs.lemmas.List.{take-append-le}
 use Rattle.std.proofs.lemmas.List.Elements.{Contains-append_cases, Contains-append_left, Contains-append_right}
-use Rattle.mtl_formulas.specs.declared.atom.Atom.{Atom}
-use Rattle.mtl_formulas.specs.declared.verdict.Verdict.{Verdict}
 use Rattle.mtl_formulas.specs.declared.verdict.Verdict.TheVariants.{No}
 use Rattle.mtl_formulas.specs.FormulaTree.{FormulaTree}
 use Rattle.mtl_monitor.specs.Traces.{Trace, value_in}
 use Rattle.outside.proofs.Members.{in_cons, in_head, in_none, in_tail}
-use Rattle.traces.specs.Audited.{AuditNumbers, SeenVessels, Sighting}
+use Rattle.traces.specs.Audited.{AuditNumbers, Sighting}
 use Rattle.traces.specs.Known.{AreKnown, AreOpened, IsFollowed, Known}
 use Rattle.traces.proofs.ForCallers.{from_map, known_within, zip_member}
 use Rattle.early_monitor.specs.declared.alarm.Alarm.{Alarm}
 use Rattle.audit_rows.specs.Order.{pair_cmp}
 use Rattle.early_monitor.specs.Alarms.{AreAlarms, AreAlarmsNow, InOrder, IsAlarm, alarm_cmp, tree_of_rule}
-use Rattle.early_monitor.specs.Decided.{IsDecided}
-use Rattle.early_monitor.proofs.Deciding.{decided_front, decided_still, decided_value}
+use Rattle.early_sweeps.specs.Decided.{IsDecided}
+use Rattle.early_sweeps.proofs.ForCallers.{decided_front, decided_still, decided_value}
 use Rattle.early_monitor.proofs.NextAlarms.{rows_count, same_known, stepped}
 
 -- ---- a longer trace

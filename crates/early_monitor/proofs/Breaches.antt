@@ -1,7 +1,6 @@
 -- Which alarms a row brings for one rule.
-use Rattle.std.proofs.Common.{◌≡◌, ℕ, ◌+◌, ◌⊎◌, ◌↔◌, inl, inr, List, [], ◌∷◌, ◌++◌, length, append-nil, sym, ap, subst, ◌∙◌, arith, Option, Some, None}
+use Rattle.std.proofs.Common.{◌≡◌, ℕ, ◌+◌, ◌⊎◌, ◌↔◌, inl, inr, List, [], length, append-nil, sym, ap, subst, ◌∙◌, arith, Option, Some, None}
 use Rattle.std.proofs.lemmas.Bool.{cases_lt}
-use Rattle.mtl_formulas.specs.declared.atom.Atom.{Atom}
 use Rattle.mtl_formulas.specs.declared.verdict.Verdict.{Verdict}
 use Rattle.mtl_formulas.specs.declared.verdict.Verdict.TheVariants.{No}
 use Rattle.mtl_formulas.specs.FormulaTree.{FormulaTree}
@@ -10,16 +9,14 @@ use Rattle.mtl_monitor.specs.Following.{IsFed}
 use Rattle.mtl_monitor.specs.Traces.{Trace, value_in}
 use Rattle.early_monitor.specs.declared.alarm.Alarm.{Alarm}
 use Rattle.early_monitor.specs.declared.alarm_set.Place.{Place}
-use Rattle.early_monitor.specs.Decided.{IsDecided, IsDecidedNow}
+use Rattle.early_sweeps.specs.Decided.{IsDecided, IsDecidedNow, IsFirstDecided, IsNextDecided}
 use Rattle.traces.specs.Audited.{AuditNumbers}
 use Rattle.traces.specs.Known.{Known}
 use Rattle.early_monitor.specs.Alarms.{tree_of_rule}
 use Rattle.rule_program.specs.Lags.{lags_of}
-use Rattle.early_monitor.specs.Inner.Breaches.{Adds, IsBreach, IsBreachAt, IsBreachBefore, IsBreachBelow, Tells, alarm_at}
-use Rattle.early_monitor.specs.Inner.Looking.{IsLooked}
-use Rattle.early_monitor.proofs.Deciding.{one_number}
+use Rattle.early_monitor.specs.Inner.Breaches.{Adds, IsBreach, IsBreachBefore, IsBreachBelow, Tells, alarm_at}
+use Rattle.early_sweeps.proofs.ForCallers.{one_number}
 use Rattle.early_monitor.proofs.LastNo.{no_last}
-use Rattle.early_monitor.proofs.Places.{decided_earlier}
 
 -- ---- what is added, one after the other
 
@@ -50,7 +47,7 @@ told place position value is a = (λ e. (is, e), λ h. h.1)
 -- ---- a rule whose breaches the last row decides that it reaches
 
 module _ (place : Place) (t : FormulaTree) (rows : Trace) (valid : HasValidParts t) (last : (lags_of t).no ≡ reach_of t) where
-  reached : (i : ℕ) → value_in rows t i ≡ No → IsDecidedNow t rows i → length rows ≡ i + reach_of t + 1
+  pub reached : (i : ℕ) → value_in rows t i ≡ No → IsDecidedNow t rows i → length rows ≡ i + reach_of t + 1
   reached i broken decided = one_number rows t i (length rows) (i + reach_of t + 1) decided (no_last rows t i valid last broken)
 
   decided_at : (i : ℕ) → value_in rows t i ≡ No → i + 1 + reach_of t ≡ length rows → IsDecidedNow t rows i
@@ -76,32 +73,37 @@ module _ (place : Place) (t : FormulaTree) (rows : Trace) (valid : HasValidParts
       is_no : answer.1 ≡ No → value_in rows t answer.0 ≡ No
       is_no value = sym value_now ∙ value
 
--- ---- a rule whose breaches may be decided before: place after place
+-- ---- a rule whose breaches may be decided before: answer after answer
 
-module _ (place : Place) (t : FormulaTree) (rows : Trace) where
-  pub looked_breach : (k : ℕ) (answer : Option (ℕ × Verdict)) → IsLooked answer t rows k → (a : Alarm) → Tells answer place a ↔ IsBreachAt k place t rows a
-  looked_breach k None looked a = (λ h. absurd h, λ b. absurd (looked b.0.at b.1 b.0.decided))
-  looked_breach k (Some answer) looked a = (
-    λ h. (record { at = answer.0; is = h.1; broken = sym looked.value ∙ h.0; decided = looked.decided }, looked.position),
-    λ b.
-        let at : b.0.at ≡ answer.0 = omega (arith, b.1, looked.position) in
-        (looked.value ∙ subst (λ (i : ℕ). value_in rows t i ≡ No) at b.0.broken, b.0.is ∙ ap (alarm_at place) at),
-  )
+pub none_given : (place : Place) (t : FormulaTree) (rows : Trace) (a : Alarm) → IsBreachBefore 0 place t rows a → ⊥
+none_given place t rows a b = let below = b.1 in absurd (omega (arith, below))
 
-  pub one_more_place : (k : ℕ) (a : Alarm) → (IsBreachBefore k place t rows a ⊎ IsBreachAt k place t rows a) ↔ IsBreachBefore (k + 1) place t rows a
-  one_more_place k a = (
-    λ h. elim h [ inl before ↦ (before.0, omega (arith, before.1)) | inr here ↦ (here.0, omega (arith, here.1)) ],
-    λ b. elim (cases_lt (b.0.at + (reach_of t + 1)) (k + length rows)) [
+module _ (place : Place) (t : FormulaTree) (rows : Trace) (from : ℕ) where
+  -- with an answer more
+  pub more_given : (i : ℕ) (v : Verdict) → IsFirstDecided t rows from i v → (a : Alarm)
+      → (IsBreachBefore from place t rows a ⊎ Tells (Some (i, v)) place a) ↔ IsBreachBefore (i + 1) place t rows a
+  more_given i v next a = (
+    λ h. elim h [
+      | inl before ↦ (before.0, let below = before.1 in let after = next.after in omega (arith, below, after))
+      | inr told ↦ (record { at = i; is = told.1; broken = sym next.value ∙ told.0; decided = next.decided }, omega arith)
+    ],
+    λ b. elim (cases_lt b.0.at from) [
       | inl before ↦ inl (b.0, before)
-      | inr after ↦ inr (b.0, omega (arith, after, b.1))
+      | inr since ↦ elim (cases_lt b.0.at i) [
+        | inl between ↦ absurd (next.first b.0.at since between b.0.decided)
+        | inr not_below ↦
+            let at : b.0.at ≡ i = (let below = b.1 in omega (arith, below, not_below)) in
+            inr (next.value ∙ subst (λ (j : ℕ). value_in rows t j ≡ No) at b.0.broken, b.0.is ∙ ap (alarm_at place) at)
+      ]
     ],
   )
 
-  pub all_places : (a : Alarm) → IsBreachBefore (reach_of t + 1) place t rows a ↔ IsBreach place t rows a
-  all_places a = (λ b. b.0, λ b. (b, let inside = b.decided.inside in omega (arith, inside)))
-
-pub no_place : (place : Place) (t : FormulaTree) (before : Trace) (row : Atom → Verdict) (a : Alarm) → IsBreachBefore 0 place t (before ++ row ∷ []) a → ⊥
-no_place place t before row a b = decided_earlier before row t b.0.at (omega (arith, b.1)) b.0.decided
+  -- where there is no further one
+  pub all_given : IsNextDecided None t rows from → (a : Alarm) → IsBreachBefore from place t rows a ↔ IsBreach place t rows a
+  all_given none a = (
+    λ b. b.0,
+    λ b. elim (cases_lt b.at from) [ inl before ↦ (b, before) | inr since ↦ absurd (none b.at since b.decided) ],
+  )
 
 -- ---- one rule more
 

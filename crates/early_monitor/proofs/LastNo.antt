@@ -1,27 +1,16 @@
 -- Where the lag of No is the whole reach, a No is decided by the last row that the formula reaches.
-use Rattle.std.proofs.Common.{◌≡◌, ◌≢◌, ℕ, zero, suc, ◌+◌, ◌<◌, refl, sym, ◌∙◌, arith, [], ◌∷◌, length, take, drop}
-use Rattle.std.specs.Prelude.{slice_get}
+use Rattle.std.proofs.Common.{◌≡◌, ◌≢◌, ℕ, ◌+◌, ◌<◌, refl, sym, ◌∙◌, arith, length, take, drop}
 use Rattle.std.proofs.lemmas.List.{take-append-drop, length-take}
 use Rattle.mtl_formulas.specs.declared.verdict.Verdict.{Verdict}
 use Rattle.mtl_formulas.specs.declared.verdict.Verdict.TheVariants.{No, Open, Yes}
 use Rattle.mtl_formulas.specs.FormulaTree.{FormulaTree}
 use Rattle.mtl_formulas.specs.FormulaMeasures.{HasValidParts, reach_of}
 use Rattle.mtl_formulas.proofs.PrefixLaw.{Stays-value, decided-Stays}
-use Rattle.mtl_formulas.proofs.ReachLaw.{value_of-same, equal-AgreeAt}
 use Rattle.mtl_monitor.specs.Traces.{Trace, value_in}
 use Rattle.rule_program.specs.Lags.{lags_of}
 use Rattle.rule_program.proofs.LagLaws.{value-HasLags}
-use Rattle.early_monitor.specs.Decided.{IsDecided}
-
-slice_get-take : (n k : ℕ) (rows : Trace) → k < n → slice_get (take n rows) k ≡ slice_get rows k
-slice_get-take zero k rows h = absurd (omega (arith, h))
-slice_get-take (suc n) k [] h = refl
-slice_get-take (suc n) zero (row ∷ rows) h = refl
-slice_get-take (suc n) (suc k) (row ∷ rows) h = slice_get-take n k rows (omega (arith, h))
-
-pub value_take : (rows : Trace) (t : FormulaTree) (i n : ℕ) → i + reach_of t < n → value_in (take n rows) t i ≡ value_in rows t i
-value_take rows t i n far =
-    value_of-same (λ row. row) (take n rows) (λ row. row) rows t i (λ k below. equal-AgreeAt (λ row. row) (take n rows) rows k (slice_get-take n k rows (omega (arith, far, below))))
+use Rattle.early_sweeps.specs.Decided.{IsDecided}
+use Rattle.early_sweeps.proofs.ForCallers.{value_take}
 
 -- Where the lag of No is the whole reach, a No comes with the last row that the formula reaches.
 pub no_last : (rows : Trace) (t : FormulaTree) (i : ℕ) → HasValidParts t → (lags_of t).no ≡ reach_of t → value_in rows t i ≡ No → IsDecided t rows i (i + reach_of t + 1)

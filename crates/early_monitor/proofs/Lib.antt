@@ -1,5 +1,4 @@
 pub mod LastNo
-pub mod Deciding
 pub mod Places
 pub mod Looks
 pub mod ForCallers
@@ -8,5 +7,7 @@ pub mod Alarms
 pub mod NextAlarms
 pub mod UnderWay
 pub mod Lists
+pub mod Calm
 pub mod AllAlarms
 pub mod OneAlarm
+pub mod OneList

@@ -1,4 +1,4 @@
--- How an early state goes from place to place.
+-- How a state that passes rows beyond the last one goes from place to place.
 use Rattle.std.proofs.Common.{◌≡◌, ℕ, ◌+◌, ◌<◌, ◌≤◌, sym, ◌∙◌, arith, Bool, true, false, inl, inr, [], ◌∷◌, ◌++◌, length, set, get_or-set_same, get_or-set_other, Option, Some, None}
 use Rattle.std.specs.Prelude.{is_some}
 use Rattle.std.proofs.lemmas.Bool.{cases_lt}
@@ -10,13 +10,13 @@ use Rattle.mtl_formulas.specs.FormulaMeasures.{reach_of}
 use Rattle.mtl_monitor.specs.Traces.{Trace}
 use Rattle.mtl_monitor.specs.Following.{Closes, IsEnded, past_of}
 use Rattle.mtl_monitor.specs.declared.program.Program.{Program}
-use Rattle.early_monitor.specs.declared.early_state.EarlyState.{EarlyState}
-use Rattle.early_monitor.specs.Decided.{IsDecidedNow, IsNextDecided}
+use Rattle.early_monitor.specs.declared.pass_state.PassState.{PassState}
+use Rattle.early_sweeps.specs.Decided.{IsDecidedNow, IsNextDecided}
 use Rattle.early_monitor.specs.Inner.Known.{is_known, is_answered, known_at}
-use Rattle.early_monitor.specs.Inner.Looking.{Continues, IsGiving, IsLooked, IsLooking}
+use Rattle.early_monitor.specs.Inner.Passing.{Continues, IsGiving, IsLooked, IsLooking}
 use Rattle.early_monitor.proofs.Places.{known_by_answer, last_known, looked_some, looked_unknown, looked_known}
 
-module _ (p : Program) (m : EarlyState) (t : FormulaTree) (before : Trace) (row : Atom → Verdict) (looks : IsLooking p m t before row) (more : m.place ≤ m.reach) where
+module _ (p : Program) (m : PassState) (t : FormulaTree) (before : Trace) (row : Atom → Verdict) (looks : IsLooking p m t before row) (more : m.place ≤ m.reach) where
   -- what was known of the position at this place
   pub was_known : (was : Bool) → was ≡ known_at m.known.items (m.place + 1) → is_known before t (m.place + 1) ≡ was
   was_known was is = elim (cases_lt m.place m.reach) [
@@ -43,7 +43,7 @@ module _ (p : Program) (m : EarlyState) (t : FormulaTree) (before : Trace) (row 
   pub looks_known : known_at m.known.items (m.place + 1) ≡ true → IsLooked None t (before ++ row ∷ []) m.place
   looks_known was = looked_known before row t m.place (was_known true (sym was))
 
-  pub IsLooking-next : (n : EarlyState) (is : Bool) → n.state ≡ m.state → n.reach ≡ m.reach → n.place ≡ m.place + 1
+  pub IsLooking-next : (n : PassState) (is : Bool) → n.state ≡ m.state → n.reach ≡ m.reach → n.place ≡ m.place + 1
       → n.known.items ≡ set m.known.items m.place is → Closes p n.ahead (t ∷ []) (before ++ row ∷ []) → past_of n.ahead ≡ past_of m.ahead + 1
       → is ≡ is_known (before ++ row ∷ []) t m.place → IsLooking p n t before row
   IsLooking-next n is state reach place known closes past now =
@@ -78,14 +78,14 @@ none_more None t rows from place none looked earlier = λ j after below. elim (c
   | inr here ↦ looked j (omega (arith, here, below))
 ]
 
-module _ (p : Program) (m : EarlyState) (t : FormulaTree) (rows : Trace) (from : ℕ) (h : IsGiving p m t rows from) where
+module _ (p : Program) (m : PassState) (t : FormulaTree) (rows : Trace) (from : ℕ) (h : IsGiving p m t rows from) where
   earlier_none : (place j : ℕ) → NoneFrom t rows m.place place → from ≤ j → j + (reach_of t + 1) < place + length rows → ¬ IsDecidedNow t rows j
   earlier_none place j none after below = elim (cases_lt (j + (reach_of t + 1)) (m.place + length rows)) [
     | inl given ↦ h.passed j after given
     | inr since ↦ none j since below
   ]
 
-  pub gives_some : (n : EarlyState) (answer : Option (ℕ × Verdict)) (place : ℕ) → is_some answer ≡ true → m.place ≤ place → n.place ≡ place + 1
+  pub gives_some : (n : PassState) (answer : Option (ℕ × Verdict)) (place : ℕ) → is_some answer ≡ true → m.place ≤ place → n.place ≡ place + 1
       → NoneFrom t rows m.place place → IsLooked answer t rows place → IsLooking p n t h.before h.row
       → IsNextDecided answer t rows from × Continues p answer n t rows
   gives_some n None place some since next none looked looks = cc
@@ -107,7 +107,7 @@ module _ (p : Program) (m : EarlyState) (t : FormulaTree) (rows : Trace) (from :
         },
       )
 
-  pub gives_none : (n : EarlyState) → n.place ≡ n.reach + 1 → n.reach ≡ m.reach → NoneFrom t rows m.place n.place → IsLooking p n t h.before h.row
+  pub gives_none : (n : PassState) → n.place ≡ n.reach + 1 → n.reach ≡ m.reach → NoneFrom t rows m.place n.place → IsLooking p n t h.before h.row
       → IsNextDecided None t rows from × Continues p None n t rows
   gives_none n done reach none looks = (
     λ j after decided. earlier_none n.place j none after (omega (arith, decided.inside, done, looks.reach)) decided,

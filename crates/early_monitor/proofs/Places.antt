@@ -2,7 +2,7 @@
 use Rattle.std.proofs.Common.{◌≡◌, ◌≢◌, ℕ, zero, ◌+◌, ◌<◌, ◌≤◌, refl, sym, ◌∙◌, arith, Bool, true, false, inl, inr, [], ◌∷◌, ◌++◌, length, Option, Some, None}
 use Rattle.std.specs.Prelude.{nat_le, ◌&&◌}
 use Rattle.std.proofs.lemmas.Bool.Decides.{nat_tests}
-use Rattle.std.proofs.lemmas.List.{take_all, take-append-le, length_push}
+use Rattle.std.proofs.lemmas.List.{length_push}
 use Rattle.mtl_formulas.specs.declared.atom.Atom.{Atom}
 use Rattle.mtl_formulas.specs.declared.verdict.Verdict.{Verdict}
 use Rattle.mtl_formulas.specs.declared.verdict.Verdict.TheVariants.{No, Open, Yes}
@@ -11,11 +11,9 @@ use Rattle.mtl_formulas.specs.FormulaMeasures.{reach_of}
 use Rattle.mtl_formulas.proofs.Values.{value_of-past}
 use Rattle.mtl_monitor.specs.Traces.{Trace, value_in}
 use Rattle.mtl_monitor.specs.Following.{IsEnded}
-use Rattle.early_monitor.specs.Decided.{IsDecidedNow}
 use Rattle.early_monitor.specs.Inner.Known.{is_decided, is_known, position_at, is_answered}
-use Rattle.early_monitor.specs.Inner.Looking.{IsDecidedAt, IsLooked}
-use Rattle.early_monitor.proofs.Deciding.{decided_now, decided_before, open_still}
-use Rattle.early_monitor.proofs.LastNo.{value_take}
+use Rattle.early_monitor.specs.Inner.Passing.{IsDecidedAt, IsLooked}
+use Rattle.early_sweeps.proofs.ForCallers.{decided_now, decided_before, open_still}
 
 not_decided : (v : Verdict) → is_decided v ≡ false → v ≡ Open
 not_decided Open h = refl
@@ -87,21 +85,3 @@ module _ (before : Trace) (row : Atom → Verdict) (t : FormulaTree) (k : ℕ) w
 
   pub looked_known : is_known before t (k + 1) ≡ true → IsLooked None t (before ++ row ∷ []) k
   looked_known was = λ j at. decided_before before row t j (is_not_open _ (sym (at_position before t (k + 1) j (omega (arith, at, one_more))) ∙ was))
-
--- A position that lies more than the reach before the last row is not decided by it.
-pub decided_earlier : (before : Trace) (row : Atom → Verdict) (t : FormulaTree) (j : ℕ) → j + (reach_of t + 1) < length (before ++ row ∷ [])
-    → ¬ IsDecidedNow t (before ++ row ∷ []) j
-decided_earlier before row t j far = by_value (value_in before t j) refl
-  where
-    one_more : length (before ++ row ∷ []) ≡ length before + 1
-    one_more = length_push before row
-
-    same : value_in before t j ≡ value_in (before ++ row ∷ []) t j
-    same =
-        rw (take-append-le (length before) before (row ∷ []) (omega arith), take_all (length before) before (omega arith))
-        at (value_take (before ++ row ∷ []) t j (length before) (omega (arith, far, one_more)))
-
-    by_value : (v : Verdict) → value_in before t j ≡ v → ¬ IsDecidedNow t (before ++ row ∷ []) j
-    by_value Open is = open_still (before ++ row ∷ []) t j (sym same ∙ is)
-    by_value No is = decided_before before row t j (λ e. cc)
-    by_value Yes is = decided_before before row t j (λ e. cc)

@@ -1,6 +1,7 @@
-pub mod Room
 pub mod Known
-pub mod Looking
+pub mod Passing
+pub mod EarlyStates
+pub mod Room
 pub mod Breaches
 pub mod RulesWatched
 pub mod TraceWatched

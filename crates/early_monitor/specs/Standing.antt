@@ -5,15 +5,15 @@ use Rattle.mtl_formulas.specs.declared.verdict.Verdict.{Verdict}
 use Rattle.mtl_formulas.specs.FormulaTree.{FormulaTree}
 use Rattle.mtl_monitor.specs.Traces.{Trace}
 use Rattle.early_monitor.specs.declared.early_monitor.EarlyMonitor.{EarlyMonitor}
-use Rattle.early_monitor.specs.Inner.Looking as state
+use Rattle.early_monitor.specs.Inner.EarlyStates as state
 
 -- how many rows were fed
 abbrev pub rows_fed : EarlyMonitor → ℕ
-rows_fed m = state.fed_rows m.state
+rows_fed m = state.rows_fed m.state
 
 -- It has given all positions that the last row decides.
 abbrev pub HasGivenAll : EarlyMonitor → Type 0
-HasGivenAll m = state.HasLookedAll m.state
+HasGivenAll m = state.HasGivenAll m.state
 
 -- These rows were fed to the monitor of this formula, and all positions that they decide were given.
 abbrev pub IsAt : EarlyMonitor → FormulaTree → Trace → Type 0

@@ -1,7 +1,7 @@
 //! The alarms of one step, as they are found trace by trace, and in order.
-ghost use Rattle.std.specs.Prelude.{◌≡◌, ◌<◌, ◌^◌, IfOk, IfSome, OnOk, Some};
+ghost use Rattle.std.specs.Prelude.{◌≡◌, ◌<◌, ◌^◌, IfOk, IfSome, OnOk, Some, true};
 ghost use Rattle.early_monitor.specs.Alarms.{InOrder};
-ghost use Rattle.early_monitor.specs.Inner.Breaches.{Adds, Tells, alarm_at};
+ghost use Rattle.early_monitor.specs.Inner.Breaches.{Adds, IsNotBroken, Tells, alarm_at};
 ghost use Rattle.early_monitor.specs.declared.alarm.Alarm.{Alarm};
 
 use crate::alarm::Alarm;
@@ -40,7 +40,7 @@ pub(crate) fn add_alarm(
 }
 
 /// Adds the alarm of a position with this value, if that is No.
-fn take_value(
+pub(crate) fn take_value(
     alarms: &mut BTreeSet<Alarm>,
     place: Place,
     position: u32,
@@ -69,6 +69,16 @@ pub(crate) fn take_answer(
     match answer {
         None => Ok(()),
         Some((position, value)) => take_value(alarms, place, position, value),
+    }
+}
+
+/// Whether there is an answer whose value is not No.
+pub(crate) fn is_not_broken(answer: Option<(u32, Verdict)>) -> bool
+    ensures { result ≡ true → IsNotBroken answer }
+{
+    match answer {
+        None | Some((_, Verdict::No)) => false,
+        Some((_, Verdict::Open | Verdict::Yes)) => true,
     }
 }
 

@@ -1,11 +1,10 @@
 //! The early monitor of one formula over one trace.
 ghost use Rattle.std.specs.Prelude.{◌≡◌, ◌<◌, ◌+◌, ◌^◌};
-ghost use Rattle.mtl_monitor.specs.Following.{Fits, HasRoom, count_of};
-ghost use Rattle.early_monitor.specs.Inner.Room.{HasRoom-prop};
+ghost use Rattle.early_monitor.specs.Inner.EarlyStates.{IsStateOf};
+ghost use Rattle.early_monitor.specs.Inner.Room.{IsStateOf-prop};
 
-use crate::early_state::EarlyState;
-use mtl_formulas::{Atoms, Formula, Verdict, future_reach};
-use mtl_monitor::Program;
+use crate::early_program::{EarlyProgram, EarlyState};
+use mtl_formulas::{Atoms, Formula, Verdict};
 use outside::Memory;
 use std::alloc::Global;
 
@@ -13,13 +12,9 @@ use std::alloc::Global;
 /// Yes or No.
 #[derive(Drop)]
 pub struct EarlyMonitor {
-    program: Program,
+    program: EarlyProgram,
     state: EarlyState,
-    ghost fits: { Fits program state.state },
-    ghost room: { HasRoom program state.state } by { HasRoom-prop program state.state },
-    ghost ahead_fits: { Fits program state.ahead },
-    ghost ahead_room: { HasRoom program state.ahead } by { HasRoom-prop program state.ahead },
-    ghost one: { count_of program ≡ 1 },
+    ghost of: { IsStateOf program state } by { IsStateOf-prop program state },
 }
 
 impl EarlyMonitor {
@@ -27,7 +22,7 @@ impl EarlyMonitor {
     ghost use Rattle.mtl_formulas.specs.FormulaTree.{FormulaTree, tree_of};
     ghost use Rattle.mtl_formulas.specs.FormulaMeasures.{IsValid};
     ghost use Rattle.mtl_monitor.specs.Traces.{Trace};
-    ghost use Rattle.early_monitor.specs.Decided.{IsNextDecided};
+    ghost use Rattle.early_sweeps.specs.Decided.{IsNextDecided};
     ghost use Rattle.early_monitor.specs.Standing.{Continues, HasGivenAll, IsAt, IsGiving, rows_fed};
 
     /// The monitor of a formula, of whose trace no row was fed. It takes all its memory here.
@@ -37,8 +32,8 @@ impl EarlyMonitor {
         ensures fed { IfOk result (λ m. rows_fed m ≡ 0) }
         ensures done { IfOk result HasGivenAll }
     {
-        let program = Program::new(alloc).with(formula)?;
-        let state = EarlyState::new(alloc, &program, future_reach(formula))?;
+        let program = EarlyProgram::of(alloc, formula)?;
+        let state = program.begin(alloc)?;
         Ok(EarlyMonitor { program, state })
     }
 
@@ -50,7 +45,7 @@ impl EarlyMonitor {
             IsGiving self.new t (rows ++ A.answer row.now ∷ []) 0 }
         ensures fed { rows_fed self.new ≡ rows_fed self.old + 1 }
     {
-        self.state.feed(&self.program, row);
+        self.program.feed(&mut self.state, row);
     }
 
     /// The next position that exactly the rows fed so far decide, with its value: in ascending order, and each once. `None`
@@ -62,6 +57,6 @@ impl EarlyMonitor {
         ensures done { result ≡ None → HasGivenAll self.new }
         ensures fed { rows_fed self.new ≡ rows_fed self.old }
     {
-        self.state.next(&self.program)
+        self.program.next(&mut self.state)
     }
 }

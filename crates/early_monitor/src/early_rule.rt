@@ -1,13 +1,9 @@
 //! A rule whose breaches may be decided before all rows that its formula reaches.
-ghost use Rattle.std.specs.Prelude.{◌≡◌, ◌≤◌};
-ghost use Rattle.mtl_monitor.specs.Following.{count_of};
-
 use crate::alarm::Alarm;
-use crate::alarm_set::{Place, take_answer};
-use crate::early_state::EarlyState;
+use crate::alarm_set::{Place, take_value};
+use crate::early_program::{EarlyProgram, EarlyState};
 use meetings::AtomRow;
-use mtl_formulas::{Formula, future_reach};
-use mtl_monitor::Program;
+use mtl_formulas::Formula;
 use outside::Memory;
 use rule_program::is_no_last;
 use std::alloc::Global;
@@ -16,21 +12,17 @@ use std::collections::BTreeSet;
 /// The formula of such a rule, alone as a program.
 #[derive(Drop)]
 pub(crate) struct EarlyRule {
-    pub(crate) program: Program,
-    pub(crate) reach: u32,
-    ghost one: { count_of program ≡ 1 },
-    ghost small: { reach ≤ 7200 },
+    pub(crate) program: EarlyProgram,
 }
 
 impl EarlyRule {
-    ghost use Rattle.std.specs.Prelude.{◌<◌, ◌+◌, ◌^◌, ◌++◌, ◌∷◌, [], IfOk, OnOk};
+    ghost use Rattle.std.specs.Prelude.{◌≡◌, ◌<◌, ◌+◌, ◌^◌, ◌++◌, ◌∷◌, [], IfOk, OnOk};
     ghost use Rattle.meetings.specs.Answers.{answer_of};
     ghost use Rattle.mtl_formulas.specs.FormulaTree.{FormulaTree, tree_of};
-    ghost use Rattle.mtl_formulas.specs.FormulaMeasures.{IsValid, reach_of};
-    ghost use Rattle.mtl_monitor.specs.Following.{IsProgramOf};
+    ghost use Rattle.mtl_formulas.specs.FormulaMeasures.{IsValid};
     ghost use Rattle.mtl_monitor.specs.Traces.{Trace};
     ghost use Rattle.early_monitor.specs.Inner.Breaches.{Adds, IsBreach};
-    ghost use Rattle.early_monitor.specs.Inner.Looking.{IsAt, IsStateOf, fed_rows};
+    ghost use Rattle.early_monitor.specs.Inner.EarlyStates.{HasGivenAll, IsAt, IsEarlyProgramOf, IsStateOf, rows_fed};
     ghost use Rattle.early_monitor.specs.Inner.RulesWatched.{IsWatchedAs};
 
     /// The rule of a formula: `None` where each breach is decided by the last row that the formula reaches.
@@ -41,18 +33,18 @@ impl EarlyRule {
         if is_no_last(formula) {
             return Ok(None);
         }
-        let program = Program::new(alloc).with(formula)?;
-        let reach = future_reach(formula);
-        Ok(Some(EarlyRule { program, reach }))
+        let program = EarlyProgram::of(alloc, formula)?;
+        Ok(Some(EarlyRule { program }))
     }
 
     /// The state over a trace of which no row was fed.
     pub(crate) fn begin(&self, alloc: Global) -> Result<EarlyState, Memory>
         ensures of { IfOk result (IsStateOf self.now.program) }
-        ensures fed { IfOk result (λ s. fed_rows s ≡ 0) }
-        ensures at { IfOk result (λ s. (t : FormulaTree) → IsProgramOf self.now.program (t ∷ []) → self.now.reach ≡ reach_of t → IsAt self.now.program s t []) }
+        ensures done { IfOk result HasGivenAll }
+        ensures fed { IfOk result (λ s. rows_fed s ≡ 0) }
+        ensures at { IfOk result (λ s. (t : FormulaTree) → IsEarlyProgramOf self.now.program t → IsAt self.now.program s t []) }
     {
-        EarlyState::new(alloc, &self.program, self.reach)
+        self.program.begin(alloc)
     }
 
     /// Feeds the next row of a trace, and adds the alarms of the positions that it decides.
@@ -64,18 +56,19 @@ impl EarlyRule {
         alarms: &mut BTreeSet<Alarm>,
     ) -> Result<(), Memory>
         requires of { IsStateOf self.now.program state.old }
-        requires few { fed_rows state.old < 2 ^ 31 }
+        requires done { HasGivenAll state.old }
+        requires few { rows_fed state.old < 2 ^ 31 }
         requires start { place.start < 2 ^ 31 }
         ensures of { OnOk result (IsStateOf self.now.program state.new) }
-        ensures fed { OnOk result (fed_rows state.new ≡ fed_rows state.old + 1) }
+        ensures done { OnOk result (HasGivenAll state.new) }
+        ensures fed { OnOk result (rows_fed state.new ≡ rows_fed state.old + 1) }
         ensures adds { OnOk result ((t : FormulaTree) (rows : Trace) → IsAt self.now.program state.old t rows
             → IsAt self.now.program state.new t (rows ++ answer_of row.now ∷ [])
             × Adds (IsBreach place t (rows ++ answer_of row.now ∷ [])) alarms.old.keys alarms.new.keys) }
     {
-        state.feed(&self.program, row);
-        for _ in 0..state.reach + 1 {
-            let answer = state.look(&self.program);
-            take_answer(alarms, place, answer)?;
+        self.program.feed(state, row);
+        while let Some((position, value)) = self.program.next(state) {
+            take_value(alarms, place, position, value)?;
         }
         Ok(())
     }

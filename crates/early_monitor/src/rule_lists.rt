@@ -2,8 +2,8 @@
 ghost use Rattle.std.specs.Prelude.{IfOk};
 ghost use Rattle.early_monitor.specs.Inner.RulesWatched.{AreBegun, AreEarlyRules};
 
+use crate::early_program::EarlyState;
 use crate::early_rule::EarlyRule;
-use crate::early_state::EarlyState;
 use crate::watched_rules::WatchedRules;
 use outside::Memory;
 use rule_set::RuleSet;

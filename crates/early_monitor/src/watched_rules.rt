@@ -3,9 +3,9 @@ ghost use Rattle.std.specs.Prelude.{◌≡◌, length};
 ghost use Rattle.mtl_monitor.specs.Following.{count_of};
 
 use crate::alarm::Alarm;
-use crate::alarm_set::{Place, take_answer};
+use crate::alarm_set::{Place, is_not_broken, take_answer};
+use crate::early_program::EarlyState;
 use crate::early_rule::EarlyRule;
-use crate::early_state::EarlyState;
 use crate::rule_lists::early_rules;
 use meetings::AtomRow;
 use mtl_monitor::{Program, TraceState};
@@ -25,14 +25,14 @@ pub(crate) struct WatchedRules {
 }
 
 impl WatchedRules {
-    ghost use Rattle.std.specs.Prelude.{◌<◌, ◌≤◌, ◌-◌, ◌^◌, ◌++◌, ◌∷◌, [], IfOk, List, OnOk};
+    ghost use Rattle.std.specs.Prelude.{◌<◌, ◌≤◌, ◌-◌, ◌^◌, ◌++◌, ◌∷◌, [], IfOk, List, OnOk, true};
     ghost use Rattle.rule_set.specs.NamedTrees.{NamedTree};
     ghost use Rattle.meetings.specs.Answers.{answer_of};
     ghost use Rattle.mtl_monitor.specs.Following.{Fits, Follows, fed_of};
     ghost use Rattle.mtl_monitor.specs.Traces.{Trace};
     ghost use Rattle.early_monitor.specs.Alarms.{tree_of_rule};
     ghost use Rattle.early_monitor.specs.Inner.Breaches.{Adds, IsBreach};
-    ghost use Rattle.early_monitor.specs.Inner.RulesWatched.{AreWatched, FitsRule, StandsForRule, early_at, trees_of};
+    ghost use Rattle.early_monitor.specs.Inner.RulesWatched.{AreWatched, FitsRule, IsCalmRule, StandsForRule, early_at, trees_of};
 
     /// These rules.
     pub(crate) fn new(alloc: Global, rules: &RuleSet) -> Result<WatchedRules, Memory>
@@ -62,7 +62,7 @@ impl WatchedRules {
     }
 
     /// Adds the alarms that the latest row of a trace brings for the rule of the place. The values were fed the row; what the rule
-    /// itself keeps takes it here.
+    /// itself keeps takes it here. True where a further row brings none unless it changes the rule's value.
     pub(crate) fn take_row(
         &self,
         values: &TraceState,
@@ -70,13 +70,14 @@ impl WatchedRules {
         row: &AtomRow,
         place: Place,
         alarms: &mut BTreeSet<Alarm>,
-    ) -> Result<(), Memory>
+    ) -> Result<bool, Memory>
         requires rule { place.rule < length self.now.early.items }
         requires values { Fits self.now.program values.now }
         requires fed { fed_of values.now ≤ 2 ^ 31 }
         requires start { place.start < 2 ^ 31 }
         requires fits { FitsRule (fed_of values.now - 1) (early_at self.now place.rule) state.old }
         requires some { 0 < fed_of values.now }
+        ensures calm { IfOk result (λ calm. calm ≡ true → IsCalmRule self.now values.now place.rule) }
         ensures fits { OnOk result (FitsRule (fed_of values.now) (early_at self.now place.rule) state.new) }
         ensures adds { OnOk result ((rules : List NamedTree) (rows : Trace) → AreWatched self.now rules
             → Follows self.now.program values.now (trees_of rules) (rows ++ answer_of row.now ∷ [])
@@ -86,10 +87,17 @@ impl WatchedRules {
     {
         let rule = place.rule as usize;
         match &self.early[rule] {
-            None => take_answer(alarms, place, values.answer(&self.program, rule)),
+            None => {
+                let answer = values.answer(&self.program, rule);
+                take_answer(alarms, place, answer)?;
+                Ok(is_not_broken(answer))
+            }
             Some(early) => match state {
-                None => Ok(()),
-                Some(state) => early.take_row(state, row, place, alarms),
+                None => Ok(false),
+                Some(state) => {
+                    early.take_row(state, row, place, alarms)?;
+                    Ok(false)
+                }
             },
         }
     }

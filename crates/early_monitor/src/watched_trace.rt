@@ -3,7 +3,7 @@ ghost use Rattle.std.specs.Prelude.{◌<◌, ◌^◌};
 
 use crate::alarm::Alarm;
 use crate::alarm_set::Place;
-use crate::early_state::EarlyState;
+use crate::early_program::EarlyState;
 use crate::rule_lists::begin_rules;
 use crate::watched_rules::WatchedRules;
 use meetings::{AtomRow, Pair};
@@ -20,6 +20,8 @@ pub(crate) struct WatchedTrace {
     values: TraceState,
     /// What each rule keeps whose breaches may be decided early.
     early: Vec<Option<EarlyState>>,
+    /// Whether a further row brings no alarm unless it changes a rule's value.
+    calm: bool,
     ghost small: { start < 2 ^ 31 },
 }
 
@@ -54,6 +56,7 @@ impl WatchedTrace {
             start,
             values,
             early,
+            calm: false,
         })
     }
 
@@ -81,8 +84,13 @@ impl WatchedTrace {
             start,
             values,
             early,
+            calm,
         } = self;
-        let _changes = values.feed(&rules.program, row);
+        let changes = values.feed(&rules.program, row);
+        if *calm && !changes {
+            return Ok(());
+        }
+        let mut all_calm = true;
         for (rule, state) in early.iter_mut().enumerate() {
             let place = Place {
                 pair: *pair,
@@ -90,8 +98,11 @@ impl WatchedTrace {
                 rule: rule as u32,
                 step,
             };
-            rules.take_row(values, state, row, place, alarms)?;
+            if !rules.take_row(values, state, row, place, alarms)? {
+                all_calm = false;
+            }
         }
+        *calm = all_calm;
         Ok(())
     }
 }

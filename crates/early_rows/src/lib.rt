@@ -5,3 +5,5 @@
 mod compared;
 #[cfg(test)]
 mod monitors;
+#[cfg(test)]
+mod sweeps;

@@ -19,9 +19,9 @@ use std::test::Fail;
 
 /// A row with an answer to `risk`, and one to all other atoms.
 #[derive(Clone, Copy)]
-struct Row {
-    risk: Verdict,
-    other: Verdict,
+pub(crate) struct Row {
+    pub(crate) risk: Verdict,
+    pub(crate) other: Verdict,
 }
 
 impl Atoms for Row {
@@ -36,12 +36,12 @@ impl Atoms for Row {
     }
 }
 
-const NO: Row = Row {
+pub(crate) const NO: Row = Row {
     risk: Verdict::No,
     other: Verdict::No,
 };
 
-const YES: Row = Row {
+pub(crate) const YES: Row = Row {
     risk: Verdict::Yes,
     other: Verdict::Yes,
 };
@@ -82,7 +82,7 @@ fn soon_is_known_as_soon_as_it_is(rt: HostRuntime) -> Result<(), Fail> {
 }
 
 /// The value at a position, if all of these rows decide it and fewer do not.
-fn newly(formula: &Formula, rows: &[Row], position: usize) -> Option<Verdict>
+pub(crate) fn newly(formula: &Formula, rows: &[Row], position: usize) -> Option<Verdict>
     requires { IsValid (tree_of formula.now) }
 {
     let before = value(formula, &rows[..rows.len().saturating_sub(1)], position);
@@ -94,7 +94,7 @@ fn newly(formula: &Formula, rows: &[Row], position: usize) -> Option<Verdict>
 }
 
 /// Whether an answer is this value at this position.
-fn is_given(answer: Option<(u32, Verdict)>, position: usize, wanted: Verdict) -> bool {
+pub(crate) fn is_given(answer: Option<(u32, Verdict)>, position: usize, wanted: Verdict) -> bool {
     match answer {
         Some((at, given)) => at as usize == position && given as u8 == wanted as u8,
         None => false,
@@ -163,7 +163,7 @@ fn below(source: &mut Pcg32, many: u32) -> u32
 }
 
 /// Writes a random formula.
-fn write_random(source: &mut Pcg32, text: &mut String) -> Result<(), AllocError> {
+pub(crate) fn write_random(source: &mut Pcg32, text: &mut String) -> Result<(), AllocError> {
     text.push_str(OUTER[below(source, 7) as usize])?;
     text.push_str("(")?;
     text.push_str(PARTS[below(source, 7) as usize])?;
@@ -184,7 +184,7 @@ fn random_row(source: &mut Pcg32, last: Row) -> Row {
 }
 
 /// Random rows.
-fn random_rows(alloc: Global, source: &mut Pcg32) -> Result<Vec<Row>, AllocError>
+pub(crate) fn random_rows(alloc: Global, source: &mut Pcg32) -> Result<Vec<Row>, AllocError>
     ensures { IfOk result (λ rows. length rows.items ≡ 20) }
 {
     let mut rows = Vec::new(alloc);

@@ -8,6 +8,7 @@ use Rattle.audit_rows.specs.declared.row.Row.{Row}
 use Rattle.auditor.specs.declared.total.Total.{Total}
 use Rattle.auditor.specs.AuditTotals.{AreTotals}
 use Rattle.auditor.proofs.ForCallers.{one_list_of_rows, one_list_of_totals}
+use Rattle.early_monitor.proofs.ForCallers.{one_list_of_alarms}
 use Rattle.early_monitor.specs.declared.alarm.Alarm.{Alarm}
 use Rattle.log_lines.specs.JudgedLines.{judged_lines}
 use Rattle.log_lines.specs.LogLines.{lines_of}
@@ -31,7 +32,6 @@ use Rattle.sessions.specs.RecheckReport.{IsRecheckReport}
 use Rattle.sessions.specs.WatchReport.{IsWatchReport, alarm_rows}
 use Rattle.sessions.proofs.OneManoeuvre.{one_manoeuvre}
 use Rattle.sessions.proofs.OneOwn.{one_own, one_ready}
-use Rattle.sessions.proofs.Watching.{one_list_of_alarms}
 use Rattle.command_line.specs.declared.mode.Mode.{Mode}
 use Rattle.command_line.specs.declared.mode.Mode.TheVariants as mode
 use Rattle.settling.specs.ScenarioAudit.{audit_numbers}

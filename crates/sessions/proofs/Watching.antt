@@ -1,18 +1,15 @@
 -- The rows of alarms, written one after the other.
-use Rattle.std.proofs.Common.{ℕ, ◌≡◌, ◌+◌, ◌<◌, false, List, [], ◌++◌, length, map, map-id, refl, take, append_assoc, sym, ap, subst, ◌∙◌}
+use Rattle.std.proofs.Common.{ℕ, ◌≡◌, ◌+◌, ◌<◌, false, List, [], ◌++◌, length, refl, take, append_assoc, sym, ap, subst, ◌∙◌}
 use Rattle.std.specs.Prelude.{All}
 use Rattle.std.proofs.Math.ListN.{get_or}
 use Rattle.std.specs.List.{Contains}
-use Rattle.std.specs.List.Sorted.{IsStrictlySortedBy}
 use Rattle.std.proofs.lemmas.Grind.{flat_map-append}
 use Rattle.std.proofs.lemmas.List.Elements.{All-contains, Contains-append_right}
 use Rattle.audit_report.specs.CsvRows.{row_of}
 use Rattle.audit_report.specs.ReportTexts.{HasText}
 use Rattle.audit_report.specs.declared.report_text.ReportText.{ReportText}
-use Rattle.audit_rows.proofs.ForCallers.{same_list}
-use Rattle.early_monitor.specs.Alarms.{AreAlarms, InOrder, alarm_cmp}
+use Rattle.early_monitor.specs.Alarms.{AreAlarms}
 use Rattle.early_monitor.specs.declared.alarm.Alarm.{Alarm}
-use Rattle.early_monitor.proofs.ForCallers.{alarm_total}
 use Rattle.log_lines.specs.JudgedLines.{is_crowded, judged_lines}
 use Rattle.log_lines.specs.LogLines.{lines_of}
 use Rattle.log_lines.specs.Standing.{StandsFor as JudgeStandsFor}
@@ -54,20 +51,6 @@ pub last_alarms : (rules : List NamedTree) (given early : List Alarm) → AreOfR
 last_alarms rules given early all =
     all_of (λ (alarm : Alarm). alarm.rule < length rules) early
     (λ alarm i. All-contains (λ (a : Alarm). a.rule < length rules) (given ++ early) alarm all (Contains-append_right given early alarm i))
-
--- ---- there is one list of them
-
--- an alarm is its own place in their order
-abbrev itself : Alarm → Alarm
-itself alarm = alarm
-
-in_order : (early : List Alarm) → InOrder early → IsStrictlySortedBy alarm_cmp (map itself early)
-in_order early ordered = subst (IsStrictlySortedBy alarm_cmp) (sym (map-id early)) ordered
-
-pub one_list_of_alarms : (numbers : AuditNumbers) (ticks : List Sighting) (early others : List Alarm) → AreAlarms numbers ticks early → AreAlarms numbers ticks others → early ≡ others
-one_list_of_alarms numbers ticks early others h k =
-    same_list itself alarm_cmp alarm_total early others (in_order early h.ordered) (in_order others k.ordered)
-    (λ alarm i. (k.each alarm).1 ((h.each alarm).0 i)) (λ alarm i. (h.each alarm).1 ((k.each alarm).0 i))
 
 -- ---- the rows that were written
 

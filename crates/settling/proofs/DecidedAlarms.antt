@@ -1,13 +1,11 @@
 -- The alarms that the lines so far decide are those of the settled ticks, and a front of all.
-use Rattle.std.proofs.Common.{◌≡◌, ℕ, ◌+◌, ◌<◌, ◌≤◌, List, ◌++◌, map, map-id, sym, subst, arith}
+use Rattle.std.proofs.Common.{◌≡◌, ℕ, ◌+◌, ◌<◌, ◌≤◌, List, ◌++◌, arith}
 use Rattle.std.specs.Prelude.{◌↔◌}
 use Rattle.std.specs.List.{Contains}
-use Rattle.std.specs.List.Sorted.{IsStrictlySortedBy}
 use Rattle.std.specs.declared.cmp.Ordering.TheVariants.{Less}
-use Rattle.audit_rows.proofs.ForCallers.{same_list}
 use Rattle.early_monitor.specs.Alarms.{AreAlarms, InOrder, IsAlarm, alarm_cmp}
 use Rattle.early_monitor.specs.declared.alarm.Alarm.{Alarm}
-use Rattle.early_monitor.proofs.ForCallers.{alarm_total, decided_within, earlier_first}
+use Rattle.early_monitor.proofs.ForCallers.{alarm_total, decided_within, earlier_first, in_order, itself, same_alarms}
 use Rattle.log_lines.specs.SentLines.{sent}
 use Rattle.scenario.specs.declared.values.Scenario.{Scenario}
 use Rattle.settled_ticks.specs.Settled.{IsSettled}
@@ -20,13 +18,6 @@ use Rattle.settling.proofs.DecidedItems.{begin_all, by_all, by_first}
 use Rattle.settling.proofs.Fronts.{no_later}
 use Rattle.settling.proofs.SameAlarms.{same_alarm}
 use Rattle.settling.proofs.Seen.{first_count}
-
--- an alarm is its own place in their order
-abbrev pub itself : Alarm → Alarm
-itself alarm = alarm
-
-pub in_order : (alarms : List Alarm) → InOrder alarms → IsStrictlySortedBy alarm_cmp (map itself alarms)
-in_order alarms ordered = subst (IsStrictlySortedBy alarm_cmp) (sym (map-id alarms)) ordered
 
 module _ (scenario : Scenario) where
   abbrev IsAlarmBy : List Sighting → Alarm → Type 0
@@ -69,8 +60,7 @@ alarms_by_settled_ticks scenario lines s alarms settled h = record {
 pub one_list_of_decided_alarms : (scenario : Scenario) (lines : List (List ℕ)) (alarms others : List Alarm) → AreDecidedAlarms scenario lines alarms
     → AreDecidedAlarms scenario lines others → alarms ≡ others
 one_list_of_decided_alarms scenario lines alarms others h k =
-    same_list itself alarm_cmp alarm_total alarms others (in_order alarms h.ordered) (in_order others k.ordered)
-    (λ alarm i. (k.each alarm).1 ((h.each alarm).0 i)) (λ alarm i. (h.each alarm).1 ((k.each alarm).0 i))
+    same_alarms alarms others h.ordered k.ordered (λ alarm i. (k.each alarm).1 ((h.each alarm).0 i)) (λ alarm i. (h.each alarm).1 ((k.each alarm).0 i))
 
 pub decided_alarms_are_a_front : (scenario : Scenario) (lines more : List (List ℕ)) (alarms later : List Alarm) → AreDecidedAlarms scenario lines alarms
     → AreDecidedAlarms scenario (lines ++ more) later → (rest : List Alarm) × (later ≡ alarms ++ rest)

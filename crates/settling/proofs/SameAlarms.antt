@@ -1,5 +1,5 @@
 -- Whether an alarm is one depends on the ticks alone up to that at which its deciding step ends.
-use Rattle.std.proofs.Common.{◌≡◌, ◌≢◌, ℕ, zero, suc, ◌+◌, ◌-◌, ◌<◌, ◌≤◌, List, [], ◌∷◌, length, take, take-take, refl, sym, ap, ap₂, subst, ◌∙◌, arith}
+use Rattle.std.proofs.Common.{◌≡◌, ◌≢◌, ℕ, zero, suc, ◌+◌, ◌<◌, ◌≤◌, List, [], ◌∷◌, length, take, take-take, refl, sym, ap, ap₂, subst, ◌∙◌, arith}
 use Rattle.std.specs.Prelude.{Option, slice_get, unwrap_or}
 use Rattle.encounters.specs.declared.pair_step.PairStep.{PairStep}
 use Rattle.mtl_formulas.specs.declared.atom.Atom.{Atom}
@@ -16,7 +16,6 @@ use Rattle.early_monitor.specs.Decided.{IsDecided}
 use Rattle.early_monitor.specs.declared.alarm.Alarm.{Alarm}
 use Rattle.early_monitor.proofs.ForCallers.{decided_value}
 use Rattle.traces.specs.Audited.{AuditNumbers, Begins, Sighting, sighting_at, terms_of, trace_ranks, trace_steps}
-use Rattle.traces.specs.Known.{Known}
 use Rattle.settling.proofs.SameRows.{answers_too, begins_too, steps_length}
 
 -- ---- traces with the same first rows

@@ -1,17 +1,16 @@
 -- The alarms that one step of a trace brings.
-use Rattle.std.specs.Prelude.{ℕ, ◌≡◌, ◌+◌, ◌<◌, ◌↔◌, ◌⊎◌, List, length, Option, Some, None}
+use Rattle.std.specs.Prelude.{ℕ, ◌≡◌, ◌≢◌, ◌+◌, ◌<◌, ◌↔◌, ◌⊎◌, List, length, Option, Some, None}
 use Rattle.std.specs.List.{Contains}
 use Rattle.mtl_formulas.specs.declared.verdict.Verdict.{Verdict}
 use Rattle.mtl_formulas.specs.declared.verdict.Verdict.TheVariants.{No}
 use Rattle.mtl_formulas.specs.FormulaTree.{FormulaTree}
-use Rattle.mtl_formulas.specs.FormulaMeasures.{reach_of}
 use Rattle.mtl_monitor.specs.Traces.{Trace, value_in}
 use Rattle.traces.specs.Audited.{AuditNumbers}
 use Rattle.traces.specs.Known.{Known}
 use Rattle.early_monitor.specs.declared.alarm.Alarm.{Alarm}
 use Rattle.early_monitor.specs.declared.alarm_set.Place.{Place}
 use Rattle.early_monitor.specs.Alarms.{tree_of_rule}
-use Rattle.early_monitor.specs.Decided.{IsDecidedNow}
+use Rattle.early_sweeps.specs.Decided.{IsDecidedNow}
 
 -- The new list holds what the old one does, and what the predicate says.
 abbrev pub Adds : (Alarm → Type 0) → List Alarm → List Alarm → Type 0
@@ -26,6 +25,11 @@ abbrev pub Tells : Option (ℕ × Verdict) → Place → Alarm → Type 0
 Tells None place alarm = ⊥
 Tells (Some answer) place alarm = (answer.1 ≡ No) × (alarm ≡ alarm_at place answer.0)
 
+-- There is an answer, and its value is not No.
+abbrev pub IsNotBroken : Option (ℕ × Verdict) → Type 0
+IsNotBroken None = ⊥
+IsNotBroken (Some answer) = answer.1 ≢ No
+
 -- The formula is No at a position of these rows, as the last of them decides.
 pub record IsBreach (place : Place) (t : FormulaTree) (rows : Trace) (alarm : Alarm) : Type 0 where
   pub at : ℕ
@@ -33,15 +37,9 @@ pub record IsBreach (place : Place) (t : FormulaTree) (rows : Trace) (alarm : Al
   pub broken : value_in rows t at ≡ No
   pub decided : IsDecidedNow t rows at
 
--- ---- the places at which an early state looks, of which there are as many as the formula reaches, and the last row's own
-
--- at this one
-abbrev pub IsBreachAt : ℕ → Place → FormulaTree → Trace → Alarm → Type 0
-IsBreachAt k place t rows alarm = (breach : IsBreach place t rows alarm) × (breach.at + (reach_of t + 1) ≡ k + length rows)
-
--- at one before it
+-- the same at a position before one
 abbrev pub IsBreachBefore : ℕ → Place → FormulaTree → Trace → Alarm → Type 0
-IsBreachBefore k place t rows alarm = (breach : IsBreach place t rows alarm) × (breach.at + (reach_of t + 1) < k + length rows)
+IsBreachBefore from place t rows alarm = (breach : IsBreach place t rows alarm) × (breach.at < from)
 
 -- ---- the rules of a trace
 

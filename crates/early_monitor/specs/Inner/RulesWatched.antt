@@ -1,21 +1,23 @@
 -- What the rules of a watch are, and what each keeps of a trace.
-use Rattle.std.specs.Prelude.{ℕ, ◌≡◌, ◌<◌, List, [], ◌∷◌, length, get_or, map, Option, Some, None}
+use Rattle.std.specs.Prelude.{ℕ, ◌≡◌, ◌≢◌, ◌<◌, List, [], length, get_or, map, Option, Some, None}
 use Rattle.mtl_formulas.specs.FormulaTree.{FormulaTree}
 use Rattle.mtl_formulas.specs.FormulaMeasures.{HasValidParts, reach_of}
-use Rattle.mtl_monitor.specs.Following.{IsProgramOf}
+use Rattle.mtl_formulas.specs.declared.verdict.Verdict.TheVariants.{No}
+use Rattle.mtl_monitor.specs.Following.{IsProgramOf, last_value}
 use Rattle.mtl_monitor.specs.Traces.{Trace}
+use Rattle.mtl_monitor.specs.declared.trace_state.TraceState.{TraceState}
 use Rattle.rule_set.specs.NamedTrees.{NamedTree}
 use Rattle.early_monitor.specs.declared.early_rule.EarlyRule.{EarlyRule}
-use Rattle.early_monitor.specs.declared.early_state.EarlyState.{EarlyState}
+use Rattle.early_monitor.specs.declared.early_program.EarlyState.{EarlyState}
 use Rattle.early_monitor.specs.declared.watched_rules.WatchedRules.{WatchedRules}
 use Rattle.early_monitor.specs.Alarms.{tree_of_rule}
 use Rattle.rule_program.specs.Lags.{lags_of}
-use Rattle.early_monitor.specs.Inner.Looking.{IsAt, IsStateOf, fed_rows}
+use Rattle.early_monitor.specs.Inner.EarlyStates.{HasGivenAll, IsAt, IsEarlyProgramOf, IsStateOf, rows_fed}
 
 -- A rule of this formula is watched so: as one of a program of its own, or else each No comes with the last row that it reaches.
 abbrev pub IsWatchedAs : Option EarlyRule → FormulaTree → Type 0
 IsWatchedAs None t = HasValidParts t × ((lags_of t).no ≡ reach_of t)
-IsWatchedAs (Some early) t = IsProgramOf early.program (t ∷ []) × (early.reach ≡ reach_of t)
+IsWatchedAs (Some early) t = IsEarlyProgramOf early.program t
 
 -- so each rule of a list
 pub record AreEarlyRules (early : List (Option EarlyRule)) (rules : List NamedTree) : Type 0 where
@@ -33,13 +35,23 @@ pub record AreWatched (w : WatchedRules) (rules : List NamedTree) : Type 0 where
 abbrev pub early_at : WatchedRules → ℕ → Option EarlyRule
 early_at w k = get_or w.early.items k None
 
+-- ---- what the program keeps of a trace
+
+-- A rule has no program of its own, and its latest value is not No.
+abbrev pub IsCalmRule : WatchedRules → TraceState → ℕ → Type 0
+IsCalmRule w values k = (early_at w k ≡ None) × (last_value w.program values k ≢ No)
+
+-- So are all rules: a row that changes none of their values brings no alarm.
+abbrev pub IsCalm : WatchedRules → TraceState → Type 0
+IsCalm w values = (k : ℕ) → k < length w.early.items → IsCalmRule w values k
+
 -- ---- what a rule keeps of a trace
 
--- It is of the rule, and was fed so many rows.
+-- It is of the rule, was fed so many rows, and has given all that they decide.
 abbrev pub FitsRule : ℕ → Option EarlyRule → Option EarlyState → Type 0
 FitsRule fed None state = Unit {0}
 FitsRule fed (Some early) None = ⊥
-FitsRule fed (Some early) (Some state) = IsStateOf early.program state × (fed_rows state ≡ fed)
+FitsRule fed (Some early) (Some state) = IsStateOf early.program state × HasGivenAll state × (rows_fed state ≡ fed)
 
 -- It was fed these rows.
 abbrev pub StandsForRule : Option EarlyRule → Option EarlyState → FormulaTree → Trace → Type 0

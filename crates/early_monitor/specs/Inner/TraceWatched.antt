@@ -1,13 +1,13 @@
 -- What is kept of one trace of a watch.
-use Rattle.std.specs.Prelude.{ℕ, ◌≡◌, ◌<◌, List, length, get_or, Option, None}
+use Rattle.std.specs.Prelude.{ℕ, ◌≡◌, ◌<◌, List, length, get_or, Option, None, true}
 use Rattle.mtl_monitor.specs.Following as monitor
 use Rattle.traces.specs.Audited.{AuditNumbers}
 use Rattle.traces.specs.Known.{Known}
-use Rattle.early_monitor.specs.declared.early_state.EarlyState.{EarlyState}
+use Rattle.early_monitor.specs.declared.early_program.EarlyState.{EarlyState}
 use Rattle.early_monitor.specs.declared.watched_rules.WatchedRules.{WatchedRules}
 use Rattle.early_monitor.specs.declared.watched_trace.WatchedTrace.{WatchedTrace}
 use Rattle.early_monitor.specs.Alarms.{tree_of_rule}
-use Rattle.early_monitor.specs.Inner.RulesWatched.{FitsRule, StandsForRule, early_at, trees_of}
+use Rattle.early_monitor.specs.Inner.RulesWatched.{FitsRule, IsCalm, StandsForRule, early_at, trees_of}
 
 -- how many steps it has
 abbrev pub steps_of : WatchedTrace → ℕ
@@ -23,6 +23,7 @@ pub record IsReady (w : WatchedRules) (trace : WatchedTrace) : Type 0 where
   pub unended : monitor.past_of trace.values ≡ 0
   pub as_many : length trace.early.items ≡ length w.early.items
   pub early : (k : ℕ) → k < length w.early.items → FitsRule (steps_of trace) (early_at w k) (kept_at trace.early.items k)
+  pub calm : trace.calm ≡ true → IsCalm w trace.values
 
 -- It stands for what the steps of a trace so far answer to the atoms.
 pub record StandsFor (w : WatchedRules) (numbers : AuditNumbers) (trace : WatchedTrace) (known : Known) : Type 0 where

@@ -1,4 +1,4 @@
-use Rattle.std.proofs.Common.{◌≡◌, ◌≢◌, ℕ, ◌+◌, ◌-◌, ◌<◌, ◌⊎◌, inl, inr, List, [], ◌∷◌, ◌++◌, length, length-set, get_or, set, get_or-set_other, get_or-set_same, sym, ap, subst, ◌∙◌, arith, Option, None}
+use Rattle.std.proofs.Common.{◌≡◌, ◌≢◌, ℕ, ◌+◌, ◌-◌, ◌<◌, ◌⊎◌, inl, inr, List, [], ◌∷◌, ◌++◌, length, length-set, get_or, refl, true, set, get_or-set_other, get_or-set_same, sym, ap, subst, ◌∙◌, arith, Option, None}
 use Rattle.std.proofs.lemmas.Bool.{cases_lt}
 use Rattle.std.proofs.lemmas.List.{get_or_default}
 use Rattle.meetings.specs.Answers.{answer_of}
@@ -7,12 +7,24 @@ use Rattle.mtl_monitor.specs.Following.{fed_of}
 use Rattle.traces.specs.Known.{watched}
 use Rattle.early_monitor.specs.Alarms.{tree_of_rule}
 use Rattle.early_monitor.specs.declared.alarm.Alarm.{Alarm}
-use Rattle.early_monitor.specs.declared.early_state.EarlyState.{EarlyState}
-use Rattle.early_monitor.specs.Inner.Breaches.{Adds, IsBreach, IsBreachBelow}
-use Rattle.early_monitor.specs.Inner.RulesWatched.{FitsRule, StandsForRule, early_at, trees_of}
+use Rattle.early_monitor.specs.declared.early_program.EarlyState.{EarlyState}
+use Rattle.early_monitor.specs.Inner.Breaches.{Adds, IsBreach, IsBreachBelow, IsBreachOf}
+use Rattle.early_monitor.specs.Inner.RulesWatched.{FitsRule, IsCalm, IsCalmRule, StandsForRule, early_at, trees_of}
 use Rattle.early_monitor.specs.Inner.TraceWatched.{kept_at}
+use Rattle.early_monitor.proofs.Calm.{no_breach, stays_calm}
 use Rattle.early_monitor.proofs.Breaches.{adds_none, adds_same, adds_then, below_more, below_none}
 use Rattle.early_monitor.proofs.watched_trace.WatchedTrace.step.Goals as goal
+use Rattle.early_monitor.proofs.watched_trace.WatchedTrace.step.Goals.{else-not-branch, then-not-branch}
+
+pub returns-then-not-changes-clause-adds : goal.returns-then-not-changes-clause-adds
+returns-then-not-changes-clause-adds c = λ numbers known seen are s.
+    let w = c.args.rules.now in
+    let old = c.args.self.now.values in
+    let new = c.feed-changes.new.self in
+    let now = watched known seen (answer_of c.args.row.now) in
+    let calm : IsCalm w new = stays_calm w old new (c.requires.ready.calm c.if-calm.true) (c.if-not-changes.ensures.same refl) in
+    adds_none (IsBreachOf numbers c.args.step now) c.args.alarms.now.keys
+    (no_breach w numbers are new now (c.feed-changes.ensures.follows (trees_of numbers.rules) known.trace s.values) calm c.args.step)
 
 pub loop-rule-init : goal.loop-rule-init
 loop-rule-init c =
@@ -23,6 +35,7 @@ loop-rule-init c =
     record {
       as_many = ap (λ (xs : List (Option EarlyState)). length xs) value ∙ ready.as_many;
       bound = omega arith;
+      calm = λ all k lt. absurd (omega (arith, lt));
       fits_done = λ k lt. absurd (omega (arith, lt));
       fits_rest = λ k from lt.
           subst (λ (xs : List (Option EarlyState)). FitsRule (fed_of c.feed-changes.new.self - 1) (early_at c.args.rules.now k) (kept_at xs k)) (sym value)
@@ -53,6 +66,16 @@ loop-rule-preserved c =
     record {
       as_many = count ∙ inv.as_many;
       bound = omega (arith, count, within);
+      calm = λ all k lt. elim c.if-not-branch.branch [
+        | then-not-branch e ↦ absurd (let broken = e.all_calm-is in cc)
+        | else-not-branch e ↦ (let is = e.all_calm-is in
+            let this : c.in_ok-take_row.field-0 ≡ true = e.if-not-branch.false in
+            elim (cases_lt k i) [
+              | inl before ↦ inv.calm (sym is ∙ all) k before
+              | inr after ↦ (let at : k ≡ i = omega (arith, lt, after) in
+                  subst (λ (n : ℕ). IsCalmRule w c.feed-changes.new.self n) (sym at) (c.in_ok-take_row.ensures.calm this))
+            ])
+      ];
       fits_done = λ k lt. elim (cases_lt k i) [
         | inl before ↦ subst (λ (s : Option EarlyState). FitsRule fed (early_at w k) s) (sym (other k (λ e. omega (arith, e, before)))) (inv.fits_done k before)
         | inr after ↦ (let at : k ≡ i = omega (arith, lt, after) in

@@ -1,0 +1,7 @@
+pub use Rattle.mtl_formulas.specs.FormulaTree
+pub use Rattle.mtl_formulas.specs.FormulaMeasures
+pub use Rattle.mtl_monitor.specs.Traces
+pub mod Decided
+pub mod Sweepable
+pub mod Standing
+pub mod Inner
