@@ -174,7 +174,7 @@ class Parts(InFolder):
     def test_the_units_are_accepted(self):
         self.assertEqual(len(UNITS), 2)
         for name in UNITS:
-            text = text_of(os.path.join(TOOLS, "systemd", name)).replace("/opt/colregs/tools", TOOLS)
+            text = text_of(os.path.join(TOOLS, "systemd", name)).replace("/usr/lib/colregs/tools", TOOLS)
             unit = self.write(name, re.sub(r"(?m)^(User|Group)=.*\n", "", text))
             done = subprocess.run(["systemd-analyze", "verify", unit], capture_output=True, text=True, timeout=60)
             mine = [line for line in (done.stdout + done.stderr).splitlines() if name in line]
