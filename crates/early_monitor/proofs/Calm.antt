@@ -1,6 +1,5 @@
 -- A row that changes no rule's value, where no rule's latest value is No: it brings no alarm.
 use Rattle.std.proofs.Common.{◌≡◌, ℕ, ◌+◌, ◌-◌, ◌<◌, List, [], ◌++◌, length, append-nil, sym, ap, subst, ◌∙◌, arith, Option, None}
-use Rattle.mtl_formulas.specs.declared.verdict.Verdict.TheVariants.{No}
 use Rattle.mtl_formulas.specs.FormulaTree.{FormulaTree}
 use Rattle.mtl_formulas.specs.FormulaMeasures.{reach_of}
 use Rattle.mtl_monitor.specs.Following.{Follows, GivesTheSame, formula_at, last_value}
@@ -16,7 +15,7 @@ use Rattle.early_monitor.specs.declared.alarm_set.Place.{Place}
 use Rattle.early_monitor.specs.declared.early_rule.EarlyRule.{EarlyRule}
 use Rattle.early_monitor.specs.declared.watched_rules.WatchedRules.{WatchedRules}
 use Rattle.early_monitor.specs.Inner.Breaches.{IsBreachOf}
-use Rattle.early_monitor.specs.Inner.RulesWatched.{AreWatched, IsCalm, IsWatchedAs, trees_of}
+use Rattle.early_monitor.specs.Inner.RulesWatched.{AreWatched, IsCalm, IsWatchedAs, plain_trees}
 use Rattle.early_monitor.proofs.Breaches.{reached}
 use Rattle.early_monitor.proofs.Lists.{formula_is}
 
@@ -39,7 +38,7 @@ stays_calm w old new calm same k lt =
     ((calm k lt).0, λ e. (calm k lt).1 (sym (same k (omega (arith, lt, many))) ∙ e))
 
 module _ (w : WatchedRules) (numbers : AuditNumbers) (are : AreWatched w numbers.rules) (values : TraceState) (known : Known)
-    (follows : Follows w.program values (trees_of numbers.rules) known.trace) (calm : IsCalm w values) where
+    (follows : Follows w.program values (plain_trees w.early.items numbers.rules) known.trace) (calm : IsCalm w values) where
   pub no_breach : (step : ℕ) (a : Alarm) → IsBreachOf numbers step known a → ⊥
   no_breach step a b =
       let k = b.rule in
@@ -54,9 +53,9 @@ module _ (w : WatchedRules) (numbers : AuditNumbers) (are : AreWatched w numbers
       let place : Place = record { pair = known.pair; start = known.start; rule = k; step = step } in
       let at = b.breach.at in
       let end : length rows ≡ at + reach_of t + 1 = reached place t rows watched_as.0 watched_as.1 at b.breach.broken b.breach.decided in
-      let tree : formula_at (trees_of numbers.rules) k ≡ t = formula_is numbers.rules k below in
+      let tree : formula_at (plain_trees w.early.items numbers.rules) k ≡ t = formula_is w.early.items numbers.rules k many below held.0 in
       let last : last_value w.program values k ≡ value_in (rows ++ []) t (length rows - 1 - reach_of t) =
       subst (λ (f : FormulaTree). reach_of f < length rows → last_value w.program values k ≡ value_in (rows ++ []) f (length rows - 1 - reach_of f)) tree
-      (last_is w.program values (trees_of numbers.rules) rows follows k (omega (arith, below, many, count, formulas))) (omega (arith, end)) in
+      (last_is w.program values (plain_trees w.early.items numbers.rules) rows follows k (omega (arith, below, many, count, formulas))) (omega (arith, end)) in
       let position : length rows - 1 - reach_of t ≡ at = omega (arith, end) in
       held.1 (last ∙ ap (λ (r : Trace). value_in r t (length rows - 1 - reach_of t)) (append-nil rows) ∙ ap (value_in rows t) position ∙ b.breach.broken)

@@ -1,17 +1,47 @@
 -- Lists that are written, and the formulas of rules.
-use Rattle.std.proofs.Common.{◌≡◌, ℕ, zero, suc, ◌<◌, List, [], ◌∷◌, ◌++◌, length, take, drop, append-nil, refl, ap, ◌∙◌, arith}
-use Rattle.std.proofs.lemmas.List.{drop_all, take_all}
-use Rattle.mtl_monitor.specs.Following.{formula_at}
+use Rattle.std.proofs.Common.{◌≡◌, ℕ, zero, suc, ◌<◌, List, [], ◌∷◌, ◌++◌, length, take, drop, append-nil, get_or, Option, None, Some, Result, Ok, Err, IfOk, refl, ap, ◌∙◌, arith}
+use Rattle.std.proofs.lemmas.List.{drop_all, length_push, take_all}
+use Rattle.mtl_monitor.specs.Following.{IsProgramOf, formula_at}
+use Rattle.mtl_monitor.specs.declared.program.Program.{Program}
+use Rattle.mtl_formulas.specs.FormulaTree.{FormulaTree}
 use Rattle.rule_set.specs.NamedTrees.{NamedTree}
+use Rattle.early_monitor.specs.declared.early_rule.EarlyRule.{EarlyRule}
 use Rattle.early_monitor.specs.Alarms.{tree_of_rule}
-use Rattle.early_monitor.specs.Inner.RulesWatched.{trees_of}
+use Rattle.early_monitor.specs.Inner.RulesWatched.{IsPlainProgram, plain_tree, plain_trees}
 
 -- what a slice of all elements leaves when it is written
 pub whole_written : {X : Type 0} (n : ℕ) (xs ys : List X) → n ≡ length ys → length xs ≡ length ys → take n (xs ++ drop (length xs) ys) ≡ xs
 whole_written {X} n xs ys e f =
     ap (λ (zs : List X). take n (xs ++ zs)) (drop_all (length xs) ys (omega (arith, f))) ∙ (ap (λ (zs : List X). take n zs) (append-nil xs) ∙ take_all n xs (omega (arith, e, f)))
 
-pub formula_is : (rules : List NamedTree) (k : ℕ) → k < length rules → formula_at (trees_of rules) k ≡ tree_of_rule rules k
-formula_is [] k lt = absurd (omega (arith, lt))
-formula_is (rule ∷ rules) zero lt = refl
-formula_is (rule ∷ rules) (suc k) lt = formula_is rules k (omega (arith, lt))
+-- A rule that has no program of its own stands in the program of all by its formula.
+pub formula_is : (early : List (Option EarlyRule)) (rules : List NamedTree) (k : ℕ) → length early ≡ length rules → k < length rules → get_or early k None ≡ None
+    → formula_at (plain_trees early rules) k ≡ tree_of_rule rules k
+formula_is _ [] k many lt plain = absurd (omega (arith, lt))
+formula_is [] (rule ∷ rules) k many lt plain = absurd (omega (arith, many))
+formula_is (None ∷ early) (rule ∷ rules) zero many lt plain = refl
+formula_is (Some e ∷ early) (rule ∷ rules) zero many lt plain = absurd (cc)
+formula_is (_ ∷ early) (rule ∷ rules) (suc k) many lt plain = formula_is early rules k (omega (arith, many)) (omega (arith, lt)) plain
+
+pub plain_count : (early : List (Option EarlyRule)) (rules : List NamedTree) → length early ≡ length rules → length (plain_trees early rules) ≡ length rules
+plain_count [] [] many = refl
+plain_count (e ∷ early) (rule ∷ rules) many = ap suc (plain_count early rules (omega (arith, many)))
+plain_count [] (rule ∷ rules) many = absurd (omega (arith, many))
+plain_count (e ∷ early) [] many = absurd (omega (arith, many))
+
+pub plain_push : (early : List (Option EarlyRule)) (rules : List NamedTree) (e : Option EarlyRule) (rule : NamedTree) → length early ≡ length rules
+    → plain_trees (early ++ e ∷ []) (rules ++ rule ∷ []) ≡ plain_trees early rules ++ plain_tree e rule.tree ∷ []
+plain_push [] [] e rule many = refl
+plain_push (d ∷ early) (r ∷ rules) e rule many = ap (λ (ts : List FormulaTree). plain_tree d r.tree ∷ ts) (plain_push early rules e rule (omega (arith, many)))
+plain_push [] (r ∷ rules) e rule many = absurd (omega (arith, many))
+plain_push (d ∷ early) [] e rule many = absurd (omega (arith, many))
+
+-- a program with the formula that stands for one rule more
+pub plain_more : {E : Type 0} (result : Result Program E) (early : List (Option EarlyRule)) (rules : List NamedTree) (e : Option EarlyRule) (rule : NamedTree) (t : FormulaTree)
+    → t ≡ plain_tree e rule.tree → length early ≡ length rules → IfOk result (λ p. IsProgramOf p (plain_trees early rules ++ t ∷ []))
+    → IfOk result (λ p. IsPlainProgram p (early ++ e ∷ []) (rules ++ rule ∷ []))
+plain_more (Ok p) early rules e rule t is many of = record {
+  of = rw (plain_push early rules e rule many, ← is) of;
+  as_many = omega (arith, length_push early e, length_push rules rule, many);
+}
+plain_more (Err e) early rules _ rule t is many of = tt

@@ -1,10 +1,17 @@
 //! What each rule of a watch is, and what each keeps of a trace that begins.
-ghost use Rattle.std.specs.Prelude.{IfOk};
-ghost use Rattle.early_monitor.specs.Inner.RulesWatched.{AreBegun, AreEarlyRules};
+ghost use Rattle.std.specs.Prelude.{◌≡◌, ◌+◌, ◌≤◌, ◌++◌, ◌∷◌, [], IfOk, List, Option, length};
+ghost use Rattle.mtl_formulas.specs.FormulaTree.{tree_of};
+ghost use Rattle.mtl_formulas.specs.FormulaMeasures.{IsValid};
+ghost use Rattle.mtl_monitor.specs.Following.{count_of};
+ghost use Rattle.rule_set.specs.NamedTrees.{NamedTree};
+ghost use Rattle.early_monitor.specs.declared.early_rule.EarlyRule.{EarlyRule};
+ghost use Rattle.early_monitor.specs.Inner.RulesWatched.{AreBegun, AreEarlyRules, IsPlainProgram};
 
 use crate::early_program::EarlyState;
 use crate::early_rule::EarlyRule;
 use crate::watched_rules::WatchedRules;
+use mtl_formulas::{Atom, Formula};
+use mtl_monitor::Program;
 use outside::Memory;
 use rule_set::RuleSet;
 use std::alloc::Global;
@@ -18,6 +25,42 @@ pub(crate) fn early_rules(alloc: Global, rules: &RuleSet) -> Result<Vec<Option<E
         early.push(EarlyRule::of(alloc, rules.formula(rule))?)?;
     }
     Ok(early)
+}
+
+/// The program with the formula of one rule more. Where the rule is watched early the program is never asked for it, so there stands a
+/// formula that costs nothing.
+fn with_rule(
+    program: Program,
+    early: &Option<EarlyRule>,
+    formula: &Formula,
+) -> Result<Program, Memory>
+    requires { IsValid (tree_of formula.now) }
+    ensures plain { (rules : List NamedTree) (before : List (Option EarlyRule)) (rule : NamedTree) → tree_of formula.now ≡ rule.tree
+        → IsPlainProgram program before rules → IfOk result (λ p. IsPlainProgram p (before ++ early.now ∷ []) (rules ++ rule ∷ [])) }
+    ensures count { IfOk result (λ p. count_of p ≡ count_of program + 1) }
+{
+    match early {
+        None => program.with(formula),
+        Some(_) => program.with(&Formula::leaf(Atom::Always)),
+    }
+}
+
+/// The program of the rules that are not watched early. Each has the index that it has among all.
+pub(crate) fn plain_program(
+    alloc: Global,
+    rules: &RuleSet,
+    early: &[Option<EarlyRule>],
+) -> Result<Program, Memory>
+    requires { length early.now ≡ length rules.now }
+    ensures plain { IfOk result (λ program. IsPlainProgram program early.now rules.now) }
+    ensures count { IfOk result (λ program. count_of program ≡ length rules.now) }
+    ensures few { IfOk result (λ program. count_of program ≤ 17) }
+{
+    let mut program = Program::new(alloc);
+    for rule in 0..rules.len() {
+        program = with_rule(program, &early[rule], rules.formula(rule))?;
+    }
+    Ok(program)
 }
 
 /// What each rule keeps of a trace of which no row was fed.

@@ -6,17 +6,16 @@ use crate::alarm::Alarm;
 use crate::alarm_set::{Place, is_not_broken, take_answer};
 use crate::early_program::EarlyState;
 use crate::early_rule::EarlyRule;
-use crate::rule_lists::early_rules;
+use crate::rule_lists::{early_rules, plain_program};
 use meetings::AtomRow;
 use mtl_monitor::{Program, TraceState};
 use outside::Memory;
-use rule_program::program_of;
 use rule_set::RuleSet;
 use std::alloc::Global;
 use std::collections::BTreeSet;
 
 /// One program for all traces: with it the positions of a trace are answered once they can no longer change. A rule whose breaches
-/// may be decided before has a program of its own.
+/// may be decided before has a program of its own, and none of the parts of this one.
 #[derive(Drop)]
 pub(crate) struct WatchedRules {
     pub(crate) program: Program,
@@ -32,15 +31,15 @@ impl WatchedRules {
     ghost use Rattle.mtl_monitor.specs.Traces.{Trace};
     ghost use Rattle.early_monitor.specs.Alarms.{tree_of_rule};
     ghost use Rattle.early_monitor.specs.Inner.Breaches.{Adds, IsBreach};
-    ghost use Rattle.early_monitor.specs.Inner.RulesWatched.{AreWatched, FitsRule, IsCalmRule, StandsForRule, early_at, trees_of};
+    ghost use Rattle.early_monitor.specs.Inner.RulesWatched.{AreWatched, FitsRule, IsCalmRule, StandsForRule, early_at, plain_trees};
 
     /// These rules.
     pub(crate) fn new(alloc: Global, rules: &RuleSet) -> Result<WatchedRules, Memory>
         ensures of { IfOk result (λ w. AreWatched w rules.now) }
         ensures few { IfOk result (λ w. count_of w.program ≤ 17) }
     {
-        let program = program_of(alloc, rules)?;
         let early = early_rules(alloc, rules)?;
+        let program = plain_program(alloc, rules, &early)?;
         Ok(WatchedRules { program, early })
     }
 
@@ -80,7 +79,7 @@ impl WatchedRules {
         ensures calm { IfOk result (λ calm. calm ≡ true → IsCalmRule self.now values.now place.rule) }
         ensures fits { OnOk result (FitsRule (fed_of values.now) (early_at self.now place.rule) state.new) }
         ensures adds { OnOk result ((rules : List NamedTree) (rows : Trace) → AreWatched self.now rules
-            → Follows self.now.program values.now (trees_of rules) (rows ++ answer_of row.now ∷ [])
+            → Follows self.now.program values.now (plain_trees self.now.early.items rules) (rows ++ answer_of row.now ∷ [])
             → StandsForRule (early_at self.now place.rule) state.old (tree_of_rule rules place.rule) rows
             → StandsForRule (early_at self.now place.rule) state.new (tree_of_rule rules place.rule) (rows ++ answer_of row.now ∷ [])
             × Adds (IsBreach place (tree_of_rule rules place.rule) (rows ++ answer_of row.now ∷ [])) alarms.old.keys alarms.new.keys) }

@@ -14,13 +14,6 @@ use std::alloc::Global;
 /// that is Yes or No.
 #[derive(Drop)]
 pub struct SweepState {
-    pub(crate) state: TraceState,
-    /// The nodes' values at the last positions.
-    pub(crate) cells: Vec<Verdict>,
-    /// The formula's values at the positions before the last row, by the rows before it.
-    pub(crate) was: Vec<Verdict>,
-    /// Room for the cells before a row, to compare them with those after it.
-    pub(crate) before: Vec<Verdict>,
     /// Whether a row more that changes no last value leaves the cells as they are.
     pub(crate) still: bool,
     fed: u32,
@@ -28,6 +21,13 @@ pub struct SweepState {
     pub(crate) size: usize,
     /// How many of the formula's are to be looked at since the last row.
     place: usize,
+    pub(crate) state: TraceState,
+    /// The nodes' values at the last positions.
+    pub(crate) cells: Vec<Verdict>,
+    /// The formula's values at the positions before the last row, by the rows before it.
+    pub(crate) was: Vec<Verdict>,
+    /// Room for the cells before a row, to compare them with those after it.
+    pub(crate) before: Vec<Verdict>,
     ghost count: { fed_of state ≡ fed },
     ghost unclosed: { past_of state ≡ 0 },
     ghost fed_small: { fed ≤ 2 ^ 31 },

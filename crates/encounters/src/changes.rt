@@ -116,6 +116,7 @@ fn to_port(act: &Act, was: &TickState, now: &TickState) -> Verdict
 
 /// How A and B have altered from their states at the beginning of the engagement to these. Directions are below 3600. A swing
 /// of exactly half a turn is to starboard.
+#[inline(always)]
 pub fn changes_since(
     act: &Act,
     state: &EngagementState,

@@ -32,6 +32,7 @@ fn meeting_of(state: &EngagementState) -> Option<Meeting>
     }
 }
 
+#[inline(always)]
 fn changes_at(act: &Act, state: &EngagementState, seen: Option<&PairStep>) -> Changes
     requires seen { IfSome (option_copied seen) HaveDirections }
     requires since { HaveDirectionsSince state.now }
@@ -94,6 +95,7 @@ pub(crate) struct Telling {
 }
 
 /// The row of a step, where it is known whether there is risk, and what the ranks say where the engagement begins.
+#[inline(always)]
 pub(crate) fn row_at(
     state: &EngagementState,
     seen: Option<&PairStep>,

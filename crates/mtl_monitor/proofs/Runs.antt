@@ -1,6 +1,6 @@
 -- A ring whose last values are counted; where they fill it, the same value again leaves it as it was.
 use Rattle.std.proofs.Common.{◌≡◌, ℕ, ◌+◌, ◌-◌, ◌<◌, ◌≤◌, refl, ap, ap₂, sym, ◌∙◌, arith, Bool, true, false, inl, inr, List, [], ◌∷◌, ◌++◌, length, get_or}
-use Rattle.std.specs.Prelude.{min, if◌then◌else◌}
+use Rattle.std.specs.Prelude.{min, nat_lt, if◌then◌else◌}
 use Rattle.std.proofs.lemmas.Bool.{cases_lt}
 use Rattle.std.proofs.lemmas.List.{length_push, get_or_push, get_or_append_left, get_or-drop, length-drop, ext_get_or}
 use Rattle.circular_buffer.specs.Buffer.{Buffer, buffer}
@@ -8,8 +8,8 @@ use Rattle.mtl_formulas.specs.declared.verdict.Verdict.{Verdict}
 use Rattle.mtl_formulas.specs.declared.verdict.Verdict.TheVariants.{No, Open, Yes}
 use Rattle.mtl_monitor.specs.declared.delay_line.Run.{Run}
 use Rattle.mtl_monitor.specs.declared.delay_line.Delayed.{Delayed}
-use Rattle.mtl_monitor.specs.Inner.Steps.{ring_after, same_verdict, run_after}
-use Rattle.mtl_monitor.specs.Inner.Runs.{IsRun}
+use Rattle.mtl_monitor.specs.Inner.Steps.{delayed_from, ring_after, same_verdict, run_after}
+use Rattle.mtl_monitor.specs.Inner.Runs.{IsFullAs, IsRun}
 
 pub same_verdict-equal : (v w : Verdict) → same_verdict v w ≡ true → v ≡ w
 same_verdict-equal No No h = refl
@@ -91,6 +91,12 @@ pub IsRun-from : (test : Bool) (b : Buffer Verdict) (r : Run) (v : Verdict) → 
     → IsRun (if test then b else ring_after b v) (if test then r else run_after r b.capacity v)
 IsRun-from true b r v h = h
 IsRun-from false b r v h = IsRun-after b r v h
+
+-- What is full of a value is left as it is by the same value again.
+pub full_stays : (d : Delayed) (from i : ℕ) (v : Verdict) → IsRun d.ring d.run → IsFullAs d v → nat_lt i from ≡ false → d ≡ delayed_from d from v i
+full_stays d from i v run full late =
+    rw late (ap₂ (λ (x : Buffer Verdict) (y : Run). let e : Delayed = record { ring = x; run = y } in e)
+    (sym (ring_still d.ring d.run v run full.1 full.0)) (sym (run_still d.ring d.run v run full.1 full.0)))
 
 pub IsRun-none : (cells : ℕ) (r : Run) → r.count ≡ 0 → IsRun (buffer [] cells) r
 IsRun-none cells r none = record { fits = omega arith; within = omega (arith, none); equal = λ j from inside. absurd (omega arith) }

@@ -1,9 +1,9 @@
 //! Values on their way through a delay.
-ghost use Rattle.std.specs.Prelude.{◌≡◌, ◌+◌, nat_lt, true, false, if◌then◌else◌, min, IfOk};
+ghost use Rattle.std.specs.Prelude.{◌≡◌, ◌+◌, nat_lt, true, false, if◌then◌else◌, min, IfOk, IfSome};
 ghost use Rattle.mtl_formulas.specs.declared.verdict.Verdict.TheVariants.{Open};
 ghost use Rattle.mtl_monitor.specs.Inner.Steps.{same_verdict, ring_value, ring_after, run_after, delayed_from};
 ghost use Rattle.mtl_monitor.specs.Inner.Starting.{undelayed};
-ghost use Rattle.mtl_monitor.specs.Inner.Runs.{IsRun};
+ghost use Rattle.mtl_monitor.specs.Inner.Runs.{IsFullAs, IsFullOf, IsRun};
 
 use crate::copying::copy_ring;
 use crate::node::Passed;
@@ -94,21 +94,23 @@ fn delay(
     }
 }
 
-/// Whether both are full of the same value.
-fn are_full_alike(delayed: &Delayed, other: &Delayed) -> bool
-    ensures full { result ≡ true → delayed.now.run.count ≡ delayed.now.ring.capacity }
-    ensures other_full { result ≡ true → other.now.run.count ≡ other.now.ring.capacity }
-    ensures same { result ≡ true → same_verdict delayed.now.run.value other.now.run.value ≡ true }
+/// The value that all cells hold, if they hold one alone.
+fn only_value(delayed: &Delayed) -> Option<Verdict>
+    ensures { IfSome result (IsFullOf delayed.now) }
 {
-    delayed.run.count == delayed.ring.capacity()
-        && other.run.count == other.ring.capacity()
-        && is_same(delayed.run.value, other.run.value)
+    if delayed.run.count == delayed.ring.capacity() {
+        Some(delayed.run.value)
+    } else {
+        None
+    }
 }
 
 /// A delay in a block of its own.
 #[derive(Drop)]
 pub(crate) struct DelayLine {
     place: Box<Delayed>,
+    /// The value that all cells hold, if they are known to hold one alone.
+    only: Option<Verdict>,
 }
 
 impl Model for DelayLine {
@@ -118,9 +120,10 @@ impl Model for DelayLine {
 
     ghost view = { λ line. line.place.value };
 
-    ghost use Rattle.mtl_monitor.specs.Inner.Runs.{IsRun};
+    ghost use Rattle.std.specs.Prelude.{IfSome};
+    ghost use Rattle.mtl_monitor.specs.Inner.Runs.{IsFullOf, IsRun};
 
-    ghost invariant = { λ line. IsRun line.place.value.ring line.place.value.run };
+    ghost invariant = { λ line. IsRun line.place.value.ring line.place.value.run × IfSome line.only (IsFullOf line.place.value) };
 }
 
 impl DelayLine {
@@ -132,8 +135,28 @@ impl DelayLine {
             return Err(Memory);
         };
         match Box::new(alloc, Delayed { ring, run: NO_RUN }) {
-            Ok(place) => Ok(DelayLine { place }),
+            Ok(place) => Ok(DelayLine { place, only: None }),
             Err(_) => Err(Memory),
+        }
+    }
+
+    /// Whether all cells are known to hold this value alone.
+    fn holds_only(&self, value: Verdict) -> bool
+        ensures { result ≡ true → IsFullAs self.now value }
+    {
+        match self.only {
+            None => false,
+            Some(only) => is_same(value, only),
+        }
+    }
+
+    /// Whether both are known to be full of the same value: then they are equal, if they have as many cells.
+    fn is_full_alike(&self, other: &DelayLine) -> bool
+        ensures { result ≡ true → self.now.ring.capacity ≡ other.now.ring.capacity → self.now ≡ other.now }
+    {
+        match (self.only, other.only) {
+            (Some(value), Some(other)) => is_same(value, other),
+            _ => false,
         }
     }
 
@@ -143,8 +166,16 @@ impl DelayLine {
         ensures after { self.new ≡ delayed_from self.old from value i }
         ensures still { result.moved ≡ false → self.new ≡ self.old }
     {
+        if i >= from && self.holds_only(value) {
+            return Passed {
+                value,
+                moved: false,
+            };
+        }
         let place = &mut *self.place;
-        delay(&mut place.ring, &mut place.run, from, value, i)
+        let passed = delay(&mut place.ring, &mut place.run, from, value, i);
+        self.only = only_value(&self.place);
+        passed
     }
 
     /// Takes over what another delay by as many values holds. Most delays hold one value alone for long, so nothing is written
@@ -153,11 +184,12 @@ impl DelayLine {
         requires { self.old.ring.capacity ≡ other.now.ring.capacity }
         ensures { self.new ≡ other.now }
     {
-        if are_full_alike(&self.place, &other.place) {
+        if self.is_full_alike(other) {
             return;
         }
         let place = &mut *self.place;
         copy_ring(&mut place.ring, &other.place.ring);
         place.run = other.place.run;
+        self.only = other.only;
     }
 }

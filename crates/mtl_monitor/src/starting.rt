@@ -8,6 +8,7 @@ use crate::node::{Kept, Operator, ProgramNode};
 use crate::outlook::Outlook;
 use mtl_formulas::Verdict;
 use outside::Memory;
+use smallvec::SmallVec;
 use std::alloc::Global;
 
 fn fresh(alloc: Global, operator: Operator) -> Result<Kept, Memory>
@@ -28,11 +29,15 @@ fn fresh(alloc: Global, operator: Operator) -> Result<Kept, Memory>
     }
 }
 
+/// The values of all nodes. Those of the rules' nodes, fewer than 80, lie in the state itself: a row reads them first, and in a block of their
+/// own they would be far from all else that it reads.
+pub(crate) type Values = SmallVec<Verdict, 80>;
+
 /// What a state begins with, for each node.
 #[derive(Drop)]
 pub(crate) struct Begun {
     pub states: Vec<Kept>,
-    pub values: Vec<Verdict>,
+    pub values: Values,
     pub moving: Vec<bool>,
 }
 
@@ -60,12 +65,13 @@ pub(crate) fn start(alloc: Global, nodes: &[ProgramNode]) -> Result<Begun, Memor
     ensures { IfOk result (λ p. AreFresh nodes.now p.states.items p.values.items p.moving.items) }
 {
     let mut states = roomy(alloc, nodes.len())?;
-    let mut values = roomy(alloc, nodes.len())?;
+    let mut values = Values::new(alloc);
+    values.reserve(nodes.len())?;
     let mut moving = roomy(alloc, nodes.len())?;
     for node in nodes {
         let state = fresh(alloc, node.operator)?;
         pushed(&mut states, state)?;
-        pushed(&mut values, Verdict::Open)?;
+        values.push(Verdict::Open)?;
         pushed(&mut moving, true)?;
     }
     Ok(Begun {

@@ -6,7 +6,7 @@ use crate::node::Kept;
 use crate::passing::pass_all;
 use crate::program::Program;
 use crate::reading::read_atoms;
-use crate::starting::start;
+use crate::starting::{Values, start};
 use mtl_formulas::{Atom, Atoms, Glance, Verdict};
 use outside::Memory;
 use std::alloc::Global;
@@ -34,14 +34,14 @@ impl Atoms for Beyond {
 /// position; where all nodes rest, a row of the trace that answers the atoms as the row before is only counted.
 #[derive(Drop)]
 pub struct TraceState {
-    pub(crate) states: Vec<Kept>,
-    pub(crate) values: Vec<Verdict>,
-    pub(crate) moving: Vec<bool>,
-    pub(crate) still: bool,
     /// What a glance told of the row that was read last.
     pub(crate) glance: Glance,
+    pub(crate) still: bool,
     pub(crate) fed: u32,
     pub(crate) passed: u32,
+    pub(crate) values: Values,
+    pub(crate) states: Vec<Kept>,
+    pub(crate) moving: Vec<bool>,
     ghost in_order: { fed ≤ passed },
 }
 

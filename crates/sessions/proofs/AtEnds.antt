@@ -14,9 +14,9 @@ use Rattle.settling.specs.ScenarioAudit.{audit_numbers}
 use Rattle.settling.specs.Standing.{AreOfOneLog}
 use Rattle.settling.specs.declared.settled_audit.SettledAudit.{SettledAudit}
 use Rattle.sessions.specs.AuditReport.{IsAuditReport, rows_behind, sightings_of, stretch_fields, stretch_rows}
-use Rattle.sessions.specs.Inner.AtEnd.{IsAuditAtEnd, IsAuditOf}
+use Rattle.sessions.specs.Inner.AtEnd.{HasGiven, IsAuditAtEnd}
 
-module _ (audit : SettledAudit) (judge : Judge) (scenario : Scenario) (log : List ℕ) (given : List Row) (of : IsAuditOf audit judge scenario log given) where
+module _ {Item : Type 0} {Stands : List (List ℕ) → List Item → Type 0} (judge : Judge) (scenario : Scenario) (log : List ℕ) (given : List Item) (of : HasGiven Stands judge scenario log given) where
   pub judged_parts : JudgeStandsFor judge scenario (of.lines ++ of.more)
   judged_parts = subst (JudgeStandsFor judge scenario) of.whole of.judged
 
@@ -29,7 +29,7 @@ of_one_log audit judge scenario at = record {
   more = at.is.more;
   given = at.given;
   stands = at.is.stands;
-  judged = judged_parts audit judge scenario at.log at.given at.is;
+  judged = judged_parts judge scenario at.log at.given at.is;
 }
 
 stretches_on : (scenario : Scenario) (given rows : List Row) → stretch_rows scenario.rules given ++ stretch_rows scenario.rules rows ≡ stretch_rows scenario.rules (given ++ rows)

@@ -12,7 +12,6 @@ use Rattle.early_monitor.specs.Alarms.{AreAlarms}
 use Rattle.early_monitor.specs.declared.alarm.Alarm.{Alarm}
 use Rattle.log_lines.specs.JudgedLines.{is_crowded, judged_lines}
 use Rattle.log_lines.specs.LogLines.{lines_of}
-use Rattle.log_lines.specs.Standing.{StandsFor as JudgeStandsFor}
 use Rattle.log_lines.specs.declared.judge.Judge.{Judge}
 use Rattle.traces.specs.Audited.{AuditNumbers, Sighting}
 use Rattle.traces.specs.ManyTraces.{HaveMoreThan}
@@ -29,8 +28,9 @@ use Rattle.settling.specs.declared.settled_watch.SettledWatch.{SettledWatch}
 use Rattle.sessions.specs.AuditReport.{sightings_of}
 use Rattle.sessions.specs.OutcomeRows.{count_rows}
 use Rattle.sessions.specs.WatchReport.{IsWatchReport, alarm_rows, told_alarm}
-use Rattle.sessions.specs.Inner.AtEnd.{IsWatchAtEnd, IsWatchOf}
+use Rattle.sessions.specs.Inner.AtEnd.{IsWatchAtEnd}
 use Rattle.sessions.specs.Inner.Faults.{EndCause, auditing_fault}
+use Rattle.sessions.proofs.AtEnds.{judged_parts}
 use Rattle.sessions.proofs.Auditing.{all_of}
 use Rattle.sessions.proofs.Meeting.{too_many_watched}
 use Rattle.sessions.proofs.VesselRows.{rows_push}
@@ -66,20 +66,13 @@ one_alarm_on text front rules early k d lt has =
 
 -- ---- at a log's end
 
-module _ (watch : SettledWatch) (judge : Judge) (scenario : Scenario) (log : List ℕ) (given : List Alarm) (of : IsWatchOf watch judge scenario log given) where
-  pub judged_parts : JudgeStandsFor judge scenario (of.lines ++ of.more)
-  judged_parts = subst (JudgeStandsFor judge scenario) of.whole of.judged
-
-  pub of_whole : (P : List (List ℕ) → Type 0) → P (of.lines ++ of.more) → P (lines_of log)
-  of_whole P holds = subst P (sym of.whole) holds
-
 pub of_one_log : (watch : SettledWatch) (judge : Judge) (scenario : Scenario) → IsWatchAtEnd watch judge scenario → AreOfOneLog watch scenario judge
 of_one_log watch judge scenario at = record {
   lines = at.is.lines;
   more = at.is.more;
   given = at.given;
   stands = at.is.stands;
-  judged = judged_parts watch judge scenario at.log at.given at.is;
+  judged = judged_parts judge scenario at.log at.given at.is;
 }
 
 pub watch_cause : (scenario : Scenario) (log : List ℕ) (fault : WatchFault) → is_crowded scenario (lines_of log) ≡ false

@@ -1,5 +1,5 @@
-mod SomeMarks
-mod MoreMarks
+pub mod SomeMarks
+pub mod MoreMarks
 mod SameRows
 mod SameAlarms
 mod Fronts

@@ -4,8 +4,6 @@ mod Joining
 mod ReportedShares
 mod Engagements
 mod Contacts
-mod SomeMarks
-mod MoreMarks
 mod SameMeetings
 mod SameTraces
 mod ShiftedValues

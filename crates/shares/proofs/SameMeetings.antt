@@ -26,12 +26,11 @@ use Rattle.audit_rows.specs.declared.topic.Topic.TheVariants.{Meeting, Verdict a
 use Rattle.auditor.specs.AuditRows.{IsAuditRow}
 use Rattle.auditor.specs.AuditTracks.{AreMarksOf, AreMeetingMarks, IsLeastSeparation, IsMeetingMark}
 use Rattle.traces.specs.Audited.{Begins, AuditNumbers, Sighting, seen_state_at, trace_steps}
+use Rattle.settling.proofs.ForCallers.{go_on, some_mark}
 use Rattle.shares.specs.Reported.{pair_of}
 use Rattle.shares.specs.Windows.{AreEngagedAt, BeginsAnew, IsMeeting, IsSeenAlike, moved, over, window_steps}
 use Rattle.shares.proofs.Contacts.{FirstContact, contact_same, first_contact, risk_in_contact, step_same}
 use Rattle.shares.proofs.Engagements.{AgreeFrom, IsNew, agree_back, agree_for, began_since, engaged_moved, engaged_part, state_moved}
-use Rattle.shares.proofs.MoreMarks.{go_on}
-use Rattle.shares.proofs.SomeMarks.{some_mark}
 
 -- ---- a meeting's row, by its track
 

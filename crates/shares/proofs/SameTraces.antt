@@ -40,12 +40,11 @@ use Rattle.auditor.specs.Tallies.{pair_of as topic_pair}
 use Rattle.auditor.specs.ValueMarks.{mark_of}
 use Rattle.traces.specs.Audited.{AuditNumbers, Begins, Sighting, rank_in, seen_state_at, sighting_at, terms_of, trace_ranks, trace_steps}
 use Rattle.traces.specs.PairRanks.{by_rank_of}
+use Rattle.settling.proofs.ForCallers.{go_on, some_mark}
 use Rattle.shares.specs.Reported.{pair_of}
 use Rattle.shares.specs.Windows.{IsRankedAlike, IsSeenAlike, ComeIntoContactBehind, moved, over}
 use Rattle.shares.proofs.Contacts.{contact_same, step_same}
-use Rattle.shares.proofs.MoreMarks.{go_on}
 use Rattle.shares.proofs.OtherSubjects.{same_pair}
-use Rattle.shares.proofs.SomeMarks.{some_mark}
 
 -- ---- no rule looks further than the farthest
 

@@ -33,12 +33,12 @@ use Rattle.auditor.specs.SettledRows.{audit_reach}
 use Rattle.auditor.specs.ValueMarks.{mark_of}
 use Rattle.traces.specs.Audited.{AuditNumbers, Begins, Sighting, rank_in, seen_state_at, sighting_at, terms_of, trace_ranks, trace_steps}
 use Rattle.traces.specs.PairRanks.{by_rank_of}
+use Rattle.settling.proofs.ForCallers.{go_on}
 use Rattle.shares.specs.Lookback.{lookback_of}
 use Rattle.shares.specs.Reported.{pair_of}
 use Rattle.shares.specs.Windows.{AreEngagedAt, BeginsAnew, HaveMetBy, IsRankedAlike, IsSeenAlike, LooksBackTo, moved, over}
 use Rattle.shares.proofs.Contacts.{FirstContact, contact_same, first_contact, step_same}
 use Rattle.shares.proofs.Engagements.{AgreeFrom, IsNew, agree_for, begun_since, state_moved}
-use Rattle.shares.proofs.MoreMarks.{go_on}
 use Rattle.shares.proofs.SameMeetings.{anew_later, step_seen, window_engaged}
 use Rattle.shares.proofs.SameTraces.{reach_within}
 use Rattle.shares.proofs.ShiftedValues.{value_shifted}

@@ -1,5 +1,5 @@
 -- The state of a vessel among those that are seen, in the order of their MMSIs.
-use Rattle.std.proofs.Common.{ℕ, zero, suc, ◌≡◌, ◌≢◌, ◌<◌, ◌≤◌, ◌⊎◌, inl, inr, List, [], ◌∷◌, map, length, get_or, true, false, nat_eq, Some, None, refl, ap, ap₂, sym, ◌∙◌, arith}
+use Rattle.std.proofs.Common.{ℕ, zero, suc, ◌≡◌, ◌≢◌, ◌-◌, ◌<◌, ◌≤◌, ◌⊎◌, inl, inr, List, [], ◌∷◌, map, length, get_or, true, false, nat_eq, Some, None, refl, ap, ap₂, sym, ◌∙◌, arith}
 use Rattle.std.proofs.lemmas.Bool.Decides.{nat_tests}
 use Rattle.std.proofs.lemmas.List.{get_or-map, get_or_default, length-map}
 use Rattle.std.proofs.lemmas.List.Elements.{All-head, All-tail}
@@ -71,6 +71,22 @@ absent_at m seen at h parts other = absent m seen (λ k d lt.
       | inr (inr after) ↦ (let less : (get_or seen at d).0 < (get_or seen k d).0 = (rising seen h).less at k d after lt in
           let ge : m ≤ (get_or seen at d).0 = parts.1 at d (omega arith) (omega arith) in omega arith)
     ])
+
+-- So many have lesser MMSIs where the last of them has one, and the next, if there is one, has no lesser one.
+pub parted : (m : ℕ) (seen : SeenVessels) (count : ℕ) (e : ℕ × TickState) → AreAscending seen → count ≤ length seen → (0 < count → (get_or seen (count - 1) e).0 < m)
+    → (count < length seen → m ≤ (get_or seen count e).0) → IsPartitionPoint (λ (v : ℕ × TickState). v.0 < m) (λ (v : ℕ × TickState). m ≤ v.0) seen count
+parted m seen count e h within below above = (
+  λ k d begun inside.
+      let last : (get_or seen (count - 1) e).0 < m = below (omega arith) in
+      let le : (get_or seen k e).0 ≤ (get_or seen (count - 1) e).0 = in_order seen h k (count - 1) e (omega arith) (omega arith) in
+      let same : (get_or seen k d).0 ≡ (get_or seen k e).0 = ap (λ (v : ℕ × TickState). v.0) (get_or_default seen k d e (omega arith)) in
+      omega arith,
+  λ k d after inside.
+      let next : m ≤ (get_or seen count e).0 = above (omega arith) in
+      let up : (get_or seen count e).0 ≤ (get_or seen k e).0 = in_order seen h count k e after inside in
+      let same : (get_or seen k d).0 ≡ (get_or seen k e).0 = ap (λ (v : ℕ × TickState). v.0) (get_or_default seen k d e inside) in
+      omega arith,
+)
 
 -- ---- one that is seen
 

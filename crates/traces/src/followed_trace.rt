@@ -66,6 +66,9 @@ impl FollowedTrace {
         let Pair { subject, other } = self.pair;
         let a0 = state_near(before, subject, &mut self.subject_place);
         let b0 = state_near(before, other, &mut self.other_place);
+        if a0.is_none() || b0.is_none() {
+            return None;
+        }
         let a1 = state_near(seen, subject, &mut self.subject_place);
         let b1 = state_near(seen, other, &mut self.other_place);
         step_between(a0, b0, a1, b1)

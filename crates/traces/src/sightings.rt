@@ -1,5 +1,5 @@
 //! Vessels that are seen at a tick.
-ghost use Rattle.std.specs.Prelude.{◌≡◌, ◌<◌, ◌≤◌, get_or, length};
+ghost use Rattle.std.specs.Prelude.{◌≡◌, ◌<◌, ◌≤◌, true, get_or, length};
 ghost use Rattle.std.specs.List.Sorted.{IsPartitionPoint};
 ghost use Rattle.std.specs.Option.{option_copied};
 ghost use Rattle.traces.specs.Inner.Places.{IsPlaceOf};
@@ -16,6 +16,18 @@ fn count_below(seen: &[(u32, TickState)], mmsi: u32) -> usize
     ensures parts { IsPartitionPoint (λ vessel. vessel.0 < mmsi) (λ vessel. mmsi ≤ vessel.0) seen.now result }
 {
     seen.partition_point(|vessel| vessel.0 < mmsi)
+}
+
+/// Whether so many of the vessels have a lesser MMSI, told by the two that stand there.
+#[inline(always)]
+fn is_count_below(seen: &[(u32, TickState)], count: usize, mmsi: u32) -> bool
+    requires { AreAscending seen.now }
+    ensures { result ≡ true → IsPartitionPoint (λ vessel. vessel.0 < mmsi) (λ vessel. mmsi ≤ vessel.0) seen.now count }
+{
+    if seen.len() < count || (count > 0 && mmsi <= seen[count - 1].0) {
+        return false;
+    }
+    count == seen.len() || mmsi <= seen[count].0
 }
 
 /// The state of a vessel where so many of those seen have lesser MMSIs.
@@ -56,7 +68,9 @@ pub(crate) fn state_near<'a>(
             return Some(&vessel.1);
         }
     }
-    *place = count_below(seen, mmsi);
+    if !is_count_below(seen, *place, mmsi) {
+        *place = count_below(seen, mmsi);
+    }
     state_behind(seen, *place, mmsi)
 }
 

@@ -1,10 +1,12 @@
 -- What the rules of a watch are, and what each keeps of a trace.
-use Rattle.std.specs.Prelude.{ℕ, ◌≡◌, ◌≢◌, ◌<◌, List, [], length, get_or, map, Option, Some, None}
-use Rattle.mtl_formulas.specs.FormulaTree.{FormulaTree}
+use Rattle.std.specs.Prelude.{ℕ, ◌≡◌, ◌≢◌, ◌<◌, List, [], ◌∷◌, length, get_or, Option, Some, None}
+use Rattle.mtl_formulas.specs.FormulaTree.{FormulaTree, leaf}
+use Rattle.mtl_formulas.specs.declared.atom.Atom.TheVariants.{Always}
 use Rattle.mtl_formulas.specs.FormulaMeasures.{HasValidParts, reach_of}
 use Rattle.mtl_formulas.specs.declared.verdict.Verdict.TheVariants.{No}
 use Rattle.mtl_monitor.specs.Following.{IsProgramOf, last_value}
 use Rattle.mtl_monitor.specs.Traces.{Trace}
+use Rattle.mtl_monitor.specs.declared.program.Program.{Program}
 use Rattle.mtl_monitor.specs.declared.trace_state.TraceState.{TraceState}
 use Rattle.rule_set.specs.NamedTrees.{NamedTree}
 use Rattle.early_monitor.specs.declared.early_rule.EarlyRule.{EarlyRule}
@@ -24,12 +26,23 @@ pub record AreEarlyRules (early : List (Option EarlyRule)) (rules : List NamedTr
   pub as_many : length early ≡ length rules
   pub each : (k : ℕ) → k < length rules → IsWatchedAs (get_or early k None) (tree_of_rule rules k)
 
-abbrev pub trees_of : List NamedTree → List FormulaTree
-trees_of rules = map (λ (rule : NamedTree). rule.tree) rules
+-- What stands for a rule in the program of all: its formula, or where it is watched by a program of its own one that costs nothing.
+abbrev pub plain_tree : Option EarlyRule → FormulaTree → FormulaTree
+plain_tree None t = t
+plain_tree (Some early) t = leaf Always
+
+abbrev pub plain_trees : List (Option EarlyRule) → List NamedTree → List FormulaTree
+plain_trees (early ∷ more) (rule ∷ rules) = plain_tree early rule.tree ∷ plain_trees more rules
+plain_trees _ _ = []
+
+-- The program has what stands for each of these rules, at the rule's index.
+pub record IsPlainProgram (p : Program) (early : List (Option EarlyRule)) (rules : List NamedTree) : Type 0 where
+  pub of : IsProgramOf p (plain_trees early rules)
+  pub as_many : length early ≡ length rules
 
 -- They are these rules.
 pub record AreWatched (w : WatchedRules) (rules : List NamedTree) : Type 0 where
-  pub program : IsProgramOf w.program (trees_of rules)
+  pub program : IsPlainProgram w.program w.early.items rules
   pub early : AreEarlyRules w.early.items rules
 
 abbrev pub early_at : WatchedRules → ℕ → Option EarlyRule

@@ -7,7 +7,7 @@ use Rattle.early_monitor.specs.declared.early_program.EarlyState.{EarlyState}
 use Rattle.early_monitor.specs.declared.watched_rules.WatchedRules.{WatchedRules}
 use Rattle.early_monitor.specs.declared.watched_trace.WatchedTrace.{WatchedTrace}
 use Rattle.early_monitor.specs.Alarms.{tree_of_rule}
-use Rattle.early_monitor.specs.Inner.RulesWatched.{FitsRule, IsCalm, StandsForRule, early_at, trees_of}
+use Rattle.early_monitor.specs.Inner.RulesWatched.{FitsRule, IsCalm, StandsForRule, early_at, plain_trees}
 
 -- how many steps it has
 abbrev pub steps_of : WatchedTrace → ℕ
@@ -29,5 +29,5 @@ pub record IsReady (w : WatchedRules) (trace : WatchedTrace) : Type 0 where
 pub record StandsFor (w : WatchedRules) (numbers : AuditNumbers) (trace : WatchedTrace) (known : Known) : Type 0 where
   pub pair : trace.pair ≡ known.pair
   pub start : trace.start ≡ known.start
-  pub values : monitor.Follows w.program trace.values (trees_of numbers.rules) known.trace
+  pub values : monitor.Follows w.program trace.values (plain_trees w.early.items numbers.rules) known.trace
   pub early : (k : ℕ) → k < length numbers.rules → StandsForRule (early_at w k) (kept_at trace.early.items k) (tree_of_rule numbers.rules k) known.trace

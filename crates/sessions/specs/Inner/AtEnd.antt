@@ -20,26 +20,27 @@ pub record AreOfLog (ended : EndedLines) (scenario : Scenario) (log : List ℕ) 
   pub judged : judged_lines scenario (lines_of log) ≡ judged_lines scenario (ended_lines log) ++ option_to_list ended.last
   pub judge : JudgeStandsFor ended.judge scenario (lines_of log)
 
--- The audit stands for the first lines of the log, and has given these rows; and the judge has taken all.
-pub record IsAuditOf (audit : SettledAudit) (judge : Judge) (scenario : Scenario) (log : List ℕ) (given : List Row) : Type 0 where
-  pub lines : List (List ℕ)
-  pub more : List (List ℕ)
-  pub whole : lines_of log ≡ lines ++ more
-  pub stands : AuditStandsFor audit scenario lines given
-  pub judged : JudgeStandsFor judge scenario (lines_of log)
+-- What is looked on stands for the first lines of the log, and has given these; and the judge has taken all lines.
+module _ {Item : Type 0} (Stands : List (List ℕ) → List Item → Type 0) (judge : Judge) (scenario : Scenario) (log : List ℕ) where
+  pub record HasGiven (given : List Item) : Type 0 where
+    pub lines : List (List ℕ)
+    pub more : List (List ℕ)
+    pub whole : lines_of log ≡ lines ++ more
+    pub stands : Stands lines given
+    pub judged : JudgeStandsFor judge scenario (lines_of log)
+
+-- An audit, and the rows that it has given.
+abbrev pub IsAuditOf : SettledAudit → Judge → Scenario → List ℕ → List Row → Type 0
+IsAuditOf audit judge scenario = HasGiven (AuditStandsFor audit scenario) judge scenario
 
 pub record IsAuditAtEnd (audit : SettledAudit) (judge : Judge) (scenario : Scenario) : Type 0 where
   pub log : List ℕ
   pub given : List Row
   pub is : IsAuditOf audit judge scenario log given
 
--- The same of a watch, and of the alarms that it has given.
-pub record IsWatchOf (watch : SettledWatch) (judge : Judge) (scenario : Scenario) (log : List ℕ) (given : List Alarm) : Type 0 where
-  pub lines : List (List ℕ)
-  pub more : List (List ℕ)
-  pub whole : lines_of log ≡ lines ++ more
-  pub stands : WatchStandsFor watch scenario lines given
-  pub judged : JudgeStandsFor judge scenario (lines_of log)
+-- A watch, and the alarms that it has given.
+abbrev pub IsWatchOf : SettledWatch → Judge → Scenario → List ℕ → List Alarm → Type 0
+IsWatchOf watch judge scenario = HasGiven (WatchStandsFor watch scenario) judge scenario
 
 pub record IsWatchAtEnd (watch : SettledWatch) (judge : Judge) (scenario : Scenario) : Type 0 where
   pub log : List ℕ

@@ -27,20 +27,20 @@ returns-in_err-end-clause-cause c =
     let scenario = c.args.scenario.now in
     let judge = c.args.judge.now in
     audit_cause scenario log c.in_err-end.field-0.0 of.judged.calm
-    (λ pairs. of_whole c.args.audit judge scenario log given of (λ (lines : List (List ℕ)). HaveMoreThan MOST_TRACES (audit_numbers scenario) (sighted scenario (sent scenario lines)))
-    (c.end.ensures.many (c.in_err-end.was ∙ ap Err pairs) of.lines of.more given of.stands (judged_parts c.args.audit judge scenario log given of))))
+    (λ pairs. of_whole judge scenario log given of (λ (lines : List (List ℕ)). HaveMoreThan MOST_TRACES (audit_numbers scenario) (sighted scenario (sent scenario lines)))
+    (c.end.ensures.many (c.in_err-end.was ∙ ap Err pairs) of.lines of.more given of.stands (judged_parts judge scenario log given of))))
 
 pub write_stretches-requires : goal.write_stretches-requires
 write_stretches-requires c =
     let at = c.requires.at_end in
     let scenario = c.args.scenario.now in
-    let rows = c.in_ok-end.ensures.rows at.is.lines at.is.more at.given at.is.stands (judged_parts c.args.audit c.args.judge.now scenario at.log at.given at.is) in
+    let rows = c.in_ok-end.ensures.rows at.is.lines at.is.more at.given at.is.stands (judged_parts c.args.judge.now scenario at.log at.given at.is) in
     rw c.as_slice.ensures.value (last_of_rules scenario.rules at.given c.in_ok-end.end.rows.items (rows_of_rules (audit_numbers scenario) _ _ rows))
 
 pub write_totals-requires : goal.write_totals-requires
 write_totals-requires c =
     let at = c.requires.at_end in
-    let totals = c.in_ok-end.ensures.totals at.is.lines at.is.more at.given at.is.stands (judged_parts c.args.audit c.args.judge.now c.args.scenario.now at.log at.given at.is) in
+    let totals = c.in_ok-end.ensures.totals at.is.lines at.is.more at.given at.is.stands (judged_parts c.args.judge.now c.args.scenario.now at.log at.given at.is) in
     ap length c.as_slice-2.ensures.value ∙ totals.count
 
 pub returns-clause-report : goal.returns-clause-report
@@ -50,10 +50,10 @@ returns-clause-report c = λ log given of.
     let judge = c.args.judge.now in
     let lines = lines_of log in
     let messages = sent scenario lines in
-    let parts = judged_parts c.args.audit judge scenario log given of in
-    let rows = of_whole c.args.audit judge scenario log given of (λ (ls : List (List ℕ)). AreAuditRows (audit_numbers scenario) (sighted scenario (sent scenario ls)) (given ++ c.in_ok-end.end.rows.items))
+    let parts = judged_parts judge scenario log given of in
+    let rows = of_whole judge scenario log given of (λ (ls : List (List ℕ)). AreAuditRows (audit_numbers scenario) (sighted scenario (sent scenario ls)) (given ++ c.in_ok-end.end.rows.items))
     (c.in_ok-end.ensures.rows of.lines of.more given of.stands parts) in
-    let totals = of_whole c.args.audit judge scenario log given of (λ (ls : List (List ℕ)). AreTotals (audit_numbers scenario) (sighted scenario (sent scenario ls)) (given ++ c.in_ok-end.end.rows.items) c.in_ok-end.end.totals.items)
+    let totals = of_whole judge scenario log given of (λ (ls : List (List ℕ)). AreTotals (audit_numbers scenario) (sighted scenario (sent scenario ls)) (given ++ c.in_ok-end.end.rows.items) c.in_ok-end.end.totals.items)
     (c.in_ok-end.ensures.totals of.lines of.more given of.stands parts) in
     let stretches = rw c.as_slice.ensures.value at (c.in_ok-write_stretches.ensures [] c.new-text.ensures) in
     let vessels = c.in_ok-write_vessels.ensures (numbers_of scenario) messages _ (c.book.ensures.stands scenario lines of.judged) stretches in
@@ -68,7 +68,7 @@ unfolding sightings_of
 returns-clause-answer c = λ log given of.
     let scenario = c.args.scenario.now in
     let judge = c.args.judge.now in
-    audit_done scenario log of.judged.calm (λ many. c.in_ok-end.ensures.few of.lines of.more given of.stands (judged_parts c.args.audit judge scenario log given of)
+    audit_done scenario log of.judged.calm (λ many. c.in_ok-end.ensures.few of.lines of.more given of.stands (judged_parts judge scenario log given of)
     (Rattle.std.proofs.Common.subst (λ (ls : List (List ℕ)). HaveMoreThan MOST_TRACES (audit_numbers scenario) (sighted scenario (sent scenario ls))) of.whole many))
 
 pub returns-in_err-write_totals-clause-cause : goal.returns-in_err-write_totals-clause-cause

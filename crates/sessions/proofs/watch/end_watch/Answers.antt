@@ -10,9 +10,10 @@ use Rattle.traces.specs.ManyTraces.{HaveMoreThan}
 use Rattle.traces.specs.declared.all_traces.TheConstants.{MOST_TRACES}
 use Rattle.sessions.specs.AuditReport.{sightings_of}
 use Rattle.sessions.specs.WatchReport.{alarm_rows}
+use Rattle.sessions.proofs.AtEnds.{judged_parts, of_whole}
 use Rattle.sessions.proofs.Meeting.{watch_done}
 use Rattle.sessions.proofs.OutcomeRows.{count_rows-from_counts}
-use Rattle.sessions.proofs.Watching.{alarms_of_rules, judged_parts, last_alarms, of_one_log, of_whole, watch_cause, whole_watch}
+use Rattle.sessions.proofs.Watching.{alarms_of_rules, last_alarms, of_one_log, watch_cause, whole_watch}
 use Rattle.sessions.proofs.watch.end_watch.Goals as goal
 
 pub end-requires-clause-one_log : goal.end-requires-clause-one_log
@@ -25,14 +26,14 @@ returns-in_err-alarms-clause-cause c =
     let scenario = c.args.scenario.now in
     let judge = c.args.judge.now in
     watch_cause scenario log c.in_err-alarms.field-0.0 of.judged.calm
-    (λ pairs. of_whole c.args.watch judge scenario log given of (λ (lines : List (List ℕ)). HaveMoreThan MOST_TRACES (audit_numbers scenario) (sighted scenario (sent scenario lines)))
-    (c.end.ensures.many (c.in_err-alarms.was ∙ ap Err pairs) of.lines of.more given of.stands (judged_parts c.args.watch judge scenario log given of))))
+    (λ pairs. of_whole judge scenario log given of (λ (lines : List (List ℕ)). HaveMoreThan MOST_TRACES (audit_numbers scenario) (sighted scenario (sent scenario lines)))
+    (c.end.ensures.many (c.in_err-alarms.was ∙ ap Err pairs) of.lines of.more given of.stands (judged_parts judge scenario log given of))))
 
 pub write_alarms-requires : goal.write_alarms-requires
 write_alarms-requires c =
     let at = c.requires.at_end in
     let scenario = c.args.scenario.now in
-    let early = c.in_ok-alarms.ensures.alarms at.is.lines at.is.more at.given at.is.stands (judged_parts c.args.watch c.args.judge.now scenario at.log at.given at.is) in
+    let early = c.in_ok-alarms.ensures.alarms at.is.lines at.is.more at.given at.is.stands (judged_parts c.args.judge.now scenario at.log at.given at.is) in
     rw c.as_slice.ensures.value (last_alarms scenario.rules at.given c.in_ok-alarms.alarms.items (alarms_of_rules (audit_numbers scenario) _ _ early))
 
 pub returns-clause-report : goal.returns-clause-report
@@ -41,8 +42,8 @@ returns-clause-report c = λ log given of.
     let scenario = c.args.scenario.now in
     let judge = c.args.judge.now in
     let lines = lines_of log in
-    let parts = judged_parts c.args.watch judge scenario log given of in
-    let early = of_whole c.args.watch judge scenario log given of (λ (ls : List (List ℕ)). AreAlarms (audit_numbers scenario) (sighted scenario (sent scenario ls)) (given ++ c.in_ok-alarms.alarms.items))
+    let parts = judged_parts judge scenario log given of in
+    let early = of_whole judge scenario log given of (λ (ls : List (List ℕ)). AreAlarms (audit_numbers scenario) (sighted scenario (sent scenario ls)) (given ++ c.in_ok-alarms.alarms.items))
     (c.in_ok-alarms.ensures.alarms of.lines of.more given of.stands parts) in
     let told = rw c.as_slice.ensures.value at (c.in_ok-write_alarms.ensures [] c.new-text.ensures) in
     let counts = c.in_ok-write_counts.ensures _ told in
@@ -55,5 +56,5 @@ unfolding sightings_of
 returns-clause-answer c = λ log given of.
     let scenario = c.args.scenario.now in
     let judge = c.args.judge.now in
-    watch_done scenario log of.judged.calm (λ many. c.in_ok-alarms.ensures.few of.lines of.more given of.stands (judged_parts c.args.watch judge scenario log given of)
+    watch_done scenario log of.judged.calm (λ many. c.in_ok-alarms.ensures.few of.lines of.more given of.stands (judged_parts judge scenario log given of)
     (subst (λ (ls : List (List ℕ)). HaveMoreThan MOST_TRACES (audit_numbers scenario) (sighted scenario (sent scenario ls))) of.whole many))

@@ -8,7 +8,7 @@ use Rattle.early_monitor.specs.declared.early_rule.EarlyRule.{EarlyRule}
 use Rattle.early_monitor.specs.declared.early_program.EarlyState.{EarlyState}
 use Rattle.early_monitor.specs.Inner.Breaches.{IsBreach, Tells}
 use Rattle.early_monitor.specs.Inner.EarlyStates.{IsAt}
-use Rattle.early_monitor.specs.Inner.RulesWatched.{IsWatchedAs, StandsForRule, early_at, trees_of}
+use Rattle.early_monitor.specs.Inner.RulesWatched.{IsWatchedAs, StandsForRule, early_at, plain_trees}
 use Rattle.early_monitor.proofs.Breaches.{adds_same, late_breach}
 use Rattle.early_monitor.proofs.Lists.{formula_is}
 use Rattle.early_monitor.proofs.watched_rules.WatchedRules.take_row.Goals as goal
@@ -24,7 +24,7 @@ returns-in_ok-take_answer-in-None-clause-adds c = λ rules rows are follows stan
     let many = are.early.as_many in
     let inside : k < length rules = omega (arith, within, many) in
     let watched_as : IsWatchedAs None t = subst (λ (e : Option EarlyRule). IsWatchedAs e t) early (are.early.each k inside) in
-    let fed : IsFed c.answer-answer.result t all = subst (λ (s : FormulaTree). IsFed c.answer-answer.result s all) (formula_is rules k inside) (c.answer-answer.ensures.fed (trees_of rules) all follows) in (
+    let fed : IsFed c.answer-answer.result t all = subst (λ (s : FormulaTree). IsFed c.answer-answer.result s all) (formula_is w.early.items rules k many inside early) (c.answer-answer.ensures.fed (plain_trees w.early.items rules) all follows) in (
       subst (λ (e : Option EarlyRule). StandsForRule e c.args.state.now t all) (sym early) tt,
       adds_same (Tells c.answer-answer.result c.args.place) (IsBreach c.args.place t all) c.args.alarms.now.keys c.take_answer.new.alarms.keys
           (late_breach c.args.place t all watched_as.0 watched_as.1 c.answer-answer.result fed) c.in_ok-take_answer-in-None.ensures,

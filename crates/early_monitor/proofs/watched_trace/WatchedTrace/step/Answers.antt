@@ -9,7 +9,7 @@ use Rattle.early_monitor.specs.Alarms.{tree_of_rule}
 use Rattle.early_monitor.specs.declared.alarm.Alarm.{Alarm}
 use Rattle.early_monitor.specs.declared.early_program.EarlyState.{EarlyState}
 use Rattle.early_monitor.specs.Inner.Breaches.{Adds, IsBreach, IsBreachBelow, IsBreachOf}
-use Rattle.early_monitor.specs.Inner.RulesWatched.{FitsRule, IsCalm, IsCalmRule, StandsForRule, early_at, trees_of}
+use Rattle.early_monitor.specs.Inner.RulesWatched.{FitsRule, IsCalm, IsCalmRule, StandsForRule, early_at, plain_trees}
 use Rattle.early_monitor.specs.Inner.TraceWatched.{kept_at}
 use Rattle.early_monitor.proofs.Calm.{no_breach, stays_calm}
 use Rattle.early_monitor.proofs.Breaches.{adds_none, adds_same, adds_then, below_more, below_none}
@@ -24,7 +24,7 @@ returns-then-not-changes-clause-adds c = λ numbers known seen are s.
     let now = watched known seen (answer_of c.args.row.now) in
     let calm : IsCalm w new = stays_calm w old new (c.requires.ready.calm c.if-calm.true) (c.if-not-changes.ensures.same refl) in
     adds_none (IsBreachOf numbers c.args.step now) c.args.alarms.now.keys
-    (no_breach w numbers are new now (c.feed-changes.ensures.follows (trees_of numbers.rules) known.trace s.values) calm c.args.step)
+    (no_breach w numbers are new now (c.feed-changes.ensures.follows (plain_trees w.early.items numbers.rules) known.trace s.values) calm c.args.step)
 
 pub loop-rule-init : goal.loop-rule-init
 loop-rule-init c =
@@ -96,7 +96,7 @@ loop-rule-preserved c =
             | inr after ↦ (let at : k ≡ i = omega (arith, lt, after) in
                 subst (λ (n : ℕ). StandsForRule (early_at w n) (kept_at (set old i new) n) (tree_of_rule numbers.rules n) all) (sym at)
                 (subst (λ (e : Option EarlyState). StandsForRule (early_at w i) e (tree_of_rule numbers.rules i) all) (sym here)
-                (c.in_ok-take_row.ensures.adds numbers.rules known.trace are (c.feed-changes.ensures.follows (trees_of numbers.rules) known.trace s.values) stood).0))
+                (c.in_ok-take_row.ensures.adds numbers.rules known.trace are (c.feed-changes.ensures.follows (plain_trees w.early.items numbers.rules) known.trace s.values) stood).0))
           ];
       stands_rest = λ numbers known are s k from lt.
           subst (λ (e : Option EarlyState). StandsForRule (early_at w k) e (tree_of_rule numbers.rules k) known.trace) (sym (other k (λ e. omega (arith, e, from))))
@@ -108,7 +108,7 @@ loop-rule-preserved c =
           let inside : i < length numbers.rules = omega (arith, within, many, inv.as_many) in
           let stood : StandsForRule (early_at w i) taken t known.trace =
           subst (λ (e : Option EarlyState). StandsForRule (early_at w i) e t known.trace) was (inv.stands_rest numbers known are s i (omega arith) inside) in
-          let its = (c.in_ok-take_row.ensures.adds numbers.rules known.trace are (c.feed-changes.ensures.follows (trees_of numbers.rules) known.trace s.values) stood).1 in
+          let its = (c.in_ok-take_row.ensures.adds numbers.rules known.trace are (c.feed-changes.ensures.follows (plain_trees w.early.items numbers.rules) known.trace s.values) stood).1 in
           let placed : Adds (IsBreach (record { pair = known.pair; start = known.start; rule = i; step = c.args.step }) t now.trace) c.loop-rule.alarms.keys c.take_row.new.alarms.keys =
           subst (λ (p : Pair). Adds (IsBreach (record { pair = p; start = known.start; rule = i; step = c.args.step }) t now.trace) c.loop-rule.alarms.keys c.take_row.new.alarms.keys) s.pair
           (subst (λ (n : ℕ). Adds (IsBreach (record { pair = c.args.self.now.pair; start = n; rule = i; step = c.args.step }) t now.trace) c.loop-rule.alarms.keys c.take_row.new.alarms.keys) s.start its) in

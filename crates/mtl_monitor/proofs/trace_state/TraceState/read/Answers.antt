@@ -1,4 +1,4 @@
-use Rattle.std.proofs.Common.{◌≡◌, ◌∙◌, ℕ, List, ◌++◌, length, take, drop, ap, arith}
+use Rattle.std.proofs.Common.{◌≡◌, ◌∙◌, ℕ, List, ◌++◌, length, take, drop, ap, sym}
 use Rattle.std.proofs.Math.Seq.{take-append_seam}
 use Rattle.mtl_formulas.specs.declared.verdict.Verdict.{Verdict}
 use Rattle.mtl_monitor.proofs.Feeding.{ReadsAtoms-listed}
@@ -20,7 +20,7 @@ returns-clause-answered g c = λ listed known.
     let e = c.read_atoms.ensures in
     let s = c.args.self.now.values in
     let new = c.read_atoms.new.values in
-    rw (front s.len new (drop (length new) s.items) (omega (arith, c.deref_mut.ensures.len, e.fit)))
+    rw (front (length s.items) new (drop (length new) s.items) (sym (e.fit ∙ ap length c.deref_mut.ensures.value)))
     (AreAnswered-to_be_read p.nodes.items p.atoms.items p.asked.items c.args.self.now.glance c.glance-glance.result c.to_be_read-atoms.result.now s.items new (g.A.Atoms.answer c.args.row.now)
     c.to_be_read-atoms.ensures c.glance-glance.ensures e.read (rw c.deref_mut.ensures.value at e.others) listed known)
 
@@ -30,6 +30,6 @@ returns-clause-reads g c =
     let e = c.read_atoms.ensures in
     let s = c.args.self.now.values in
     let new = c.read_atoms.new.values in
-    rw (front s.len new (drop (length new) s.items) (omega (arith, c.deref_mut.ensures.len, e.fit)))
+    rw (front (length s.items) new (drop (length new) s.items) (sym (e.fit ∙ ap length c.deref_mut.ensures.value)))
     (ReadsAtoms-listed c.to_be_read-atoms.ensures.told p.nodes.items c.to_be_read-atoms.result.now c.args.self.now.values.items c.read_atoms.new.values c.read_atoms.result
     c.to_be_read-atoms.ensures.readable (rw c.deref_mut.ensures.value at e.changed) (rw c.deref_mut.ensures.value at e.others))
