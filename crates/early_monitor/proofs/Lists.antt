@@ -23,12 +23,6 @@ formula_is (None ∷ early) (rule ∷ rules) zero many lt plain = refl
 formula_is (Some e ∷ early) (rule ∷ rules) zero many lt plain = absurd (cc)
 formula_is (_ ∷ early) (rule ∷ rules) (suc k) many lt plain = formula_is early rules k (omega (arith, many)) (omega (arith, lt)) plain
 
-pub plain_count : (early : List (Option EarlyRule)) (rules : List NamedTree) → length early ≡ length rules → length (plain_trees early rules) ≡ length rules
-plain_count [] [] many = refl
-plain_count (e ∷ early) (rule ∷ rules) many = ap suc (plain_count early rules (omega (arith, many)))
-plain_count [] (rule ∷ rules) many = absurd (omega (arith, many))
-plain_count (e ∷ early) [] many = absurd (omega (arith, many))
-
 pub plain_push : (early : List (Option EarlyRule)) (rules : List NamedTree) (e : Option EarlyRule) (rule : NamedTree) → length early ≡ length rules
     → plain_trees (early ++ e ∷ []) (rules ++ rule ∷ []) ≡ plain_trees early rules ++ plain_tree e rule.tree ∷ []
 plain_push [] [] e rule many = refl

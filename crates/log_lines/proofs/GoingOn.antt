@@ -1,5 +1,5 @@
 -- The judge, behind one line more.
-use Rattle.std.proofs.Common.{◌≡◌, ℕ, ◌+◌, ◌-◌, ◌^◌, ◌<◌, ◌≤◌, Bool, true, false, nat_lt, min, List, [], ◌∷◌, ◌++◌, append-nil, length, slice_index, slice_set, Option, None, unwrap_or, Result, Ok, Err, refl, ap, sym, subst, ◌∙◌, arith}
+use Rattle.std.proofs.Common.{◌≡◌, ℕ, ◌+◌, ◌-◌, ◌^◌, ◌<◌, ◌≤◌, Bool, true, false, nat_lt, min, List, [], ◌∷◌, ◌++◌, append-nil, length, slice_index, slice_set, length-append, Option, None, unwrap_or, Result, Ok, Err, refl, ap, sym, subst, ◌∙◌, arith}
 use Rattle.std.proofs.lemmas.Bool.Decides.{nat_tests}
 use Rattle.aivdm.specs.FragmentJoining.{Taken, joined_of}
 use Rattle.aivdm.specs.OpenMessages.{StandsFor as JoinerStandsFor}
@@ -170,6 +170,7 @@ stands_on old noted new came line scenario before few stands judges is =
     (subst (λ (keeping : Keeping). AreNoted (counts_ranks keeping scenario) noted.ranks (sent scenario before ++ listed (sent_of scenario before line))) (sym judges.kept)
     on.enters.keeps.notes) in
     subst (λ (judge : Judge). StandsFor judge scenario lines) (sym is) (record {
+      countable = omega (arith, few, length-append before (line ∷ []));
       times = KeepsTimes-push old.times scenario before line stands.times;
       joiner = subst (JoinerStandsFor noted.joiner) (sym (heard-push scenario before line)) on.joiner;
       book = subst (BookStandsFor noted.book (numbers_of scenario)) (sym (sent-push scenario before line)) on.enters.keeps.book;

@@ -2,6 +2,7 @@ pub mod ForCallers
 mod Counting
 mod GoingOn
 mod OneOutcome
+mod Sending
 mod Parts
 mod Positions
 mod Noting

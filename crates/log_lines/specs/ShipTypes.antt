@@ -7,7 +7,7 @@ use Rattle.ranks.specs.VesselRanks.{Note}
 use Rattle.ranks.specs.declared.change.Change.{Change}
 use Rattle.tracks.specs.VesselsHeld.{Sent}
 use Rattle.tracks.specs.declared.keeping.Keeping.{Keeping}
-use Rattle.tracks.specs.declared.keeping.Keeping.TheVariants.{Latest, Tracks}
+use Rattle.tracks.specs.declared.keeping.Keeping.TheVariants.{Latest}
 use Rattle.log_lines.specs.StaticReports.{static_told}
 use Rattle.log_lines.specs.declared.told_static.ToldStatic.{ToldStatic}
 use Rattle.scenario.specs.declared.values.Scenario.{Scenario}
@@ -24,10 +24,10 @@ note_in one = option_and_then note_told (static_told one)
 unfoldable pub noted : List Sent → List Note
 noted messages = filter_map note_in messages
 
--- Ranks count where the scenario says so. They are asked of a book that keeps all reports, and of no other.
+-- Ranks count where the scenario says so. They are asked of a book that keeps tracks, and of no other.
 abbrev pub counts_ranks : Keeping → Scenario → Bool
 counts_ranks Latest scenario = false
-counts_ranks Tracks scenario = scenario.ranks
+counts_ranks _ scenario = scenario.ranks
 
 -- Where ranks count, what is kept stands for the ship types that these messages tell. Where they do not, nothing is kept.
 abbrev pub AreNoted : Bool → Option (List (ℕ × List Change)) → List Sent → Type 0

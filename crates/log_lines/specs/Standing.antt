@@ -1,6 +1,6 @@
 -- What a judge stands for: the lines of a log that it was given, and what each of them came to. What an open line and streamed lines
 -- stand for: the bytes of a log so far.
-use Rattle.std.specs.Prelude.{ℕ, ◌≡◌, ◌≤◌, ◌<◌, ◌==◌, Bool, false, count_by, length, slice_index, take, unwrap_or, List, Option, None}
+use Rattle.std.specs.Prelude.{ℕ, ◌≡◌, ◌≤◌, ◌<◌, ◌==◌, ◌^◌, Bool, false, count_by, length, slice_index, take, unwrap_or, List, Option, None}
 use Rattle.std.specs.List.{last_or}
 use Rattle.aivdm.specs.OpenMessages.{StandsFor as JoinerStandsFor}
 use Rattle.scenario.specs.declared.values.Scenario.{Scenario}
@@ -38,8 +38,9 @@ pub record AreCounts (counts : List ℕ) (lines : List Judged) : Type 0 where
 abbrev pub last_told : Scenario → List (List ℕ) → Option ToldStatic
 last_told scenario lines = unwrap_or (last_or None (each_line (told_of scenario) lines)) None
 
--- The judge stands for these lines, which make no more vessels held than it can hold.
+-- The judge stands for these lines, which are no more than it can count, and make no more vessels held than it can hold.
 pub record StandsFor (judge : Judge) (scenario : Scenario) (lines : List (List ℕ)) : Type 0 where
+  pub countable : length lines < 2 ^ 64
   pub times : KeepsTimes judge.times scenario lines
   pub joiner : JoinerStandsFor judge.joiner (heard scenario lines)
   pub book : BookStandsFor judge.book (numbers_of scenario) (sent scenario lines)

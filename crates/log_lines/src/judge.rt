@@ -11,7 +11,7 @@ ghost use Rattle.aivdm.specs.PayloadBits.{bits_of};
 ghost use Rattle.scenario.specs.ScenarioValues.{IsInRange};
 ghost use Rattle.scenario.specs.declared.values.Scenario.{Scenario};
 ghost use Rattle.tracks.specs.AcceptedReports.{JudgingNumbers};
-ghost use Rattle.tracks.specs.Standing.{StandsFor as BookStandsFor};
+ghost use Rattle.tracks.specs.Standing.{StandsFor as BookStandsFor, forgetting};
 ghost use Rattle.tracks.specs.VesselsHeld.{Sent, entry_of, held_of};
 ghost use Rattle.tracks.specs.declared.entry.BookFault.TheVariants.{TooManyVessels};
 ghost use Rattle.log_lines.specs.JudgedLines.{greatest_held, held_behind, judged_entry, judged_line, judged_lines, numbers_of};
@@ -138,6 +138,14 @@ impl Judge {
             → BookStandsFor result.now (numbers_of scenario) (sent scenario lines) }
     {
         &self.book
+    }
+
+    /// Forgets where vessels were before a time, as [`Book::forget`] does.
+    pub fn forget(&mut self, time: u64)
+        ensures stands { (scenario : Scenario) (lines : List (List ℕ)) → StandsFor self.old scenario lines → StandsFor self.new scenario lines }
+        ensures keeping { keeping_of self.new ≡ forgetting (keeping_of self.old) time }
+    {
+        self.book.forget(time);
     }
 
     /// What the last line tells of a vessel's static data, if it completes a message with a static report.

@@ -15,7 +15,7 @@ use tracks::Keeping;
 fn counts_ranks(keeping: Keeping, scenario: &Scenario) -> bool
     ensures { result ≡ counts_ranks keeping scenario.now }
 {
-    keeping == Keeping::Tracks && scenario.ranks
+    keeping != Keeping::Latest && scenario.ranks
 }
 
 /// What is kept before the first message. This takes no memory.

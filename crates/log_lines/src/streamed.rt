@@ -9,6 +9,7 @@ ghost use Rattle.log_lines.specs.Standing.{LinesStandFor, OpenLineStandsFor, Sta
 ghost use Rattle.scenario.specs.ScenarioValues.{IsInRange};
 ghost use Rattle.scenario.specs.declared.values.Scenario.{Scenario};
 ghost use Rattle.log_lines.specs.Pieces.{IsPiece};
+ghost use Rattle.tracks.specs.Standing.{forgetting};
 ghost use Rattle.tracks.specs.declared.entry.BookFault.TheVariants.{TooManyVessels};
 
 use crate::judge::Judge;
@@ -93,6 +94,14 @@ impl StreamedLines {
         ensures stands { (scenario : Scenario) (log : List ℕ) → LinesStandFor self.now scenario log → JudgeStandsFor result.now scenario (ended_lines log) }
     {
         &self.judge
+    }
+
+    /// Forgets where vessels were before a time, as [`Judge::forget`] does.
+    pub fn forget(&mut self, time: u64)
+        ensures stands { (scenario : Scenario) (log : List ℕ) → LinesStandFor self.old scenario log → LinesStandFor self.new scenario log }
+        ensures keeping { kept_of self.new ≡ forgetting (kept_of self.old) time }
+    {
+        self.judge.forget(time);
     }
 
     /// Judges the line that these bytes and a line feed end.

@@ -58,14 +58,14 @@ module _ (detect : Detect) (steps : List (Option PairStep)) (seen : Option PairS
       (refl, omega arith)
 
   -- Where they are engaged, what is kept is what the ranks said where the engagement began.
-  pub kept_since : (ranks : ℕ → ByRank) (state later : EngagementState) (before now : ByRank) → IsStateAfter detect steps state
+  pub kept_since : (ranks : ℕ → ByRank) (state later : EngagementState) (before : ByRank) → IsStateAfter detect steps state
       → IsState detect (steps ++ seen ∷ []) (length steps) later
-      → (IsSome (age_of state) → before ≡ ranks (beginning_at (length steps - 1) state)) → ranks (length steps) ≡ now → IsSome (age_of later)
-      → since_beginning later before now ≡ ranks (beginning_at (length steps) later)
-  kept_since ranks state Apart before now was is begun here engaged = cc
-  kept_since ranks state (Engaged kind zero a b) before now was is begun here engaged =
+      → (IsSome (age_of state) → before ≡ ranks (beginning_at (length steps - 1) state)) → IsSome (age_of later)
+      → since_beginning later before (ranks (length steps)) ≡ ranks (beginning_at (length steps) later)
+  kept_since ranks state Apart before was is begun engaged = cc
+  kept_since ranks state (Engaged kind zero a b) before was is begun engaged =
       let same : length steps ≡ length steps - 0 = omega arith in
-      sym here ∙ ap ranks same
-  kept_since ranks state (Engaged kind (suc age) a b) before now was is begun here engaged =
+      ap ranks same
+  kept_since ranks state (Engaged kind (suc age) a b) before was is begun engaged =
       let (some, same) = same_begun kind age a b state (before_it kind age a b state was is) in
       begun some ∙ ap ranks same

@@ -1,5 +1,5 @@
 -- The ranks of two vessels (Rule 18 of the COLREGs 1972), where their engagement begins.
-use Rattle.std.specs.Prelude.{ℕ, ◌-◌, true, false}
+use Rattle.std.specs.Prelude.{ℕ, ◌≡◌, ◌-◌, true, false}
 use Rattle.encounters.specs.declared.engagement_state.EngagementState.{EngagementState}
 use Rattle.encounters.specs.declared.engagement_state.EngagementState.TheVariants.{Apart, Engaged}
 use Rattle.meetings.specs.declared.by_rank.ByRank.{ByRank}
@@ -11,6 +11,10 @@ both_power_driven = record { gives = false; stands = false; both_power = true }
 -- the same at each step
 abbrev pub all_power_driven : ℕ → ByRank
 all_power_driven i = both_power_driven
+
+-- Any answer that may be given to what the ranks say is this one.
+abbrev pub SaysOnly : (ByRank → Type 0) → ByRank → Type 0
+SaysOnly MaySay by_rank = (said : ByRank) → MaySay said → said ≡ by_rank
 
 -- the step at which the engagement at step i began; step i itself, where there is none
 abbrev pub beginning_at : ℕ → EngagementState → ℕ

@@ -8,6 +8,8 @@ ghost use Rattle.encounters.specs.declared.pair_step.PairStep.{PairStep};
 ghost use Rattle.meetings.specs.Atoms.{IsAtomRow, IsRankedRow};
 ghost use Rattle.meetings.specs.Answers.{answer_of};
 ghost use Rattle.meetings.specs.Inner.Beginning.{since_beginning};
+ghost use Rattle.meetings.specs.Ranks.{SaysOnly};
+ghost use Rattle.meetings.specs.SinceBeginning.{age_of};
 ghost use Rattle.meetings.specs.Standing.{Follows, FollowsRanked};
 ghost use Rattle.meetings.specs.Terms.{Terms};
 ghost use Rattle.meetings.specs.declared.by_rank.ByRank.{ByRank};
@@ -36,13 +38,14 @@ impl Model for Follower {
     ghost inverse = { λ f. record { telling = record { act = f.act; tick = f.tick; by_rank = f.by_rank }; engagement = f.engagement } };
 }
 
-/// Keeps what the ranks say now, where an engagement begins.
+/// Keeps what the ranks say now, where an engagement begins. It is asked only there, since two vessels have to be found for it.
 #[inline(always)]
-fn keep_at_beginning(kept: &mut ByRank, state: &EngagementState, now: &ByRank)
-    ensures { kept.new ≡ since_beginning state.now kept.old now.now }
+fn keep_at_beginning<F: FnOnce() -> ByRank>(kept: &mut ByRank, state: &EngagementState, now: F)
+    requires { age_of state.now ≡ Some 0 → F.pre now }
+    ensures { (said : ByRank) → SaysOnly (F.post now) said → kept.new ≡ since_beginning state.now kept.old said }
 {
     if let EngagementState::Engaged { age: 0, .. } = state {
-        *kept = *now;
+        *kept = now();
     }
 }
 
@@ -74,24 +77,30 @@ impl Follower {
             → Follows self.old terms steps
             → Follows self.new terms (steps ++ option_copied seen.entry ∷ []) }
     {
-        self.step_ranked(seen, BOTH_POWER_DRIVEN)
+        self.step_ranked(seen, || BOTH_POWER_DRIVEN)
     }
 
-    /// The row of the next step, which is seen, or is not, where the vessels' ranks say this at the step. Over fewer than 2^31 steps its
-    /// answers are the atoms' values at that step, by the ranks at the step at which the engagement began. Directions are below 3600.
+    /// The row of the next step, which is seen, or is not. `by_rank` says what the vessels' ranks say at the step; it is asked only where
+    /// an engagement begins. Over fewer than 2^31 steps the row's answers are the atoms' values at that step, by the ranks at the step at
+    /// which the engagement began. Directions are below 3600.
     #[inline(always)]
-    pub fn step_ranked(&mut self, seen: Option<&PairStep>, by_rank: ByRank) -> AtomRow
-        requires { IfSome (option_copied seen) HaveDirections }
+    pub fn step_ranked<F: FnOnce() -> ByRank>(
+        &mut self,
+        seen: Option<&PairStep>,
+        by_rank: F,
+    ) -> AtomRow
+        requires directions { IfSome (option_copied seen) HaveDirections }
+        requires by_rank { F.pre by_rank }
         ensures row { (terms : Terms) (ranks : ℕ → ByRank) (steps : List (Option PairStep)) → length steps < 2 ^ 31
-            → ranks (length steps) ≡ by_rank → FollowsRanked self.old terms ranks steps
+            → SaysOnly (F.post by_rank) (ranks (length steps)) → FollowsRanked self.old terms ranks steps
             → IsRankedRow terms ranks (steps ++ option_copied seen.entry ∷ []) (length steps) (answer_of result) }
         ensures follows { (terms : Terms) (ranks : ℕ → ByRank) (steps : List (Option PairStep)) → length steps < 2 ^ 31
-            → ranks (length steps) ≡ by_rank → FollowsRanked self.old terms ranks steps
+            → SaysOnly (F.post by_rank) (ranks (length steps)) → FollowsRanked self.old terms ranks steps
             → FollowsRanked self.new terms ranks (steps ++ option_copied seen.entry ∷ []) }
     {
         let risk = self.engagement.take(seen);
         let state = self.engagement.latest();
-        keep_at_beginning(&mut self.telling.by_rank, state, &by_rank);
+        keep_at_beginning(&mut self.telling.by_rank, state, by_rank);
         row_at(state, seen, risk, &self.telling)
     }
 

@@ -1,5 +1,5 @@
 //! The legs of one vessel.
-ghost use Rattle.std.specs.Prelude.{◌≡◌, ◌≤◌, ◌<◌, ◌++◌, ◌∷◌, [], ◌↔◌, None, length, IsTrue, IsNone, IfSome, OnOk, OnErr, false};
+ghost use Rattle.std.specs.Prelude.{◌≡◌, ◌≤◌, ◌<◌, ◌++◌, ◌∷◌, [], ◌↔◌, None, drop, length, IsTrue, IsNone, IfSome, OnOk, OnErr, false};
 ghost use Rattle.std.specs.List.{All, last_or};
 ghost use Rattle.std.specs.List.Sorted.{IsPartitionPoint};
 ghost use Rattle.fixed_geometry.specs.declared.projection.TheConstants.{REGION_SIZE};
@@ -60,6 +60,14 @@ impl Legs {
     {
         self.legs.push(leg)?;
         Ok(())
+    }
+
+    /// Forgets the first so many legs.
+    pub fn forget(&mut self, count: usize)
+        requires { count ≤ length self.old }
+        ensures { self.new ≡ drop count self.old }
+    {
+        let _ = self.legs.drain(..count);
     }
 
     /// The vessel's state at a time, in seconds since the Unix epoch: on the last leg that holds it, or `None` where no leg

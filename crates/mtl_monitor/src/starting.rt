@@ -29,7 +29,7 @@ fn fresh(alloc: Global, operator: Operator) -> Result<Kept, Memory>
     }
 }
 
-/// The values of all nodes. Those of the rules' nodes, fewer than 80, lie in the state itself: a row reads them first, and in a block of their
+/// The values of all nodes. Those of the rules' nodes, up to 80, lie in the state itself: a row reads them first, and in a block of their
 /// own they would be far from all else that it reads.
 pub(crate) type Values = SmallVec<Verdict, 80>;
 

@@ -1,5 +1,5 @@
 -- A report at a log's end.
-use Rattle.std.proofs.Common.{ℕ, ◌≡◌, ◌++◌, List, append_assoc, sym, ap, subst, ◌∙◌}
+use Rattle.std.proofs.Common.{ℕ, ◌≡◌, ◌≢◌, ◌<◌, ◌≤◌, ◌^◌, ◌++◌, List, length, append_assoc, sym, ap, subst, arith, ◌∙◌}
 use Rattle.std.proofs.lemmas.Grind.{flat_map-append}
 use Rattle.audit_report.specs.CsvRows.{row_of}
 use Rattle.audit_rows.specs.declared.row.Row.{Row}
@@ -7,6 +7,11 @@ use Rattle.auditor.specs.declared.total.Total.{Total}
 use Rattle.auditor.specs.AuditRows.{AreAuditRows}
 use Rattle.auditor.specs.AuditTotals.{AreTotals}
 use Rattle.log_lines.specs.LogLines.{lines_of}
+use Rattle.log_lines.specs.SentLines.{sent}
+use Rattle.log_lines.proofs.ForCallers.{few_sent}
+use Rattle.settled_ticks.specs.Standing.{RemembersTicks}
+use Rattle.tracks.specs.declared.keeping.Keeping.{Keeping}
+use Rattle.tracks.specs.declared.keeping.Keeping.TheVariants.{Latest}
 use Rattle.log_lines.specs.Standing.{StandsFor as JudgeStandsFor}
 use Rattle.log_lines.specs.declared.judge.Judge.{Judge}
 use Rattle.scenario.specs.declared.values.Scenario.{Scenario}
@@ -22,6 +27,14 @@ module _ {Item : Type 0} {Stands : List (List ℕ) → List Item → Type 0} (ju
 
   pub of_whole : (P : List (List ℕ) → Type 0) → P (of.lines ++ of.more) → P (lines_of log)
   of_whole P holds = subst P (sym of.whole) holds
+
+-- No more messages than can be counted.
+pub few_messages : (judge : Judge) (scenario : Scenario) (lines : List (List ℕ)) → JudgeStandsFor judge scenario lines → length (sent scenario lines) < 2 ^ 64
+few_messages judge scenario lines stands = let few = stands.countable in omega (arith, few, few_sent scenario lines)
+
+-- Where ticks are remembered, tracks are kept.
+pub keeps_tracks : (keeping : Keeping) (scenario : Scenario) (count : ℕ) → RemembersTicks keeping scenario count → keeping ≢ Latest
+keeps_tracks keeping scenario count remembers is = subst (λ (k : Keeping). RemembersTicks k scenario count) is remembers
 
 pub of_one_log : (audit : SettledAudit) (judge : Judge) (scenario : Scenario) → IsAuditAtEnd audit judge scenario → AreOfOneLog audit scenario judge
 of_one_log audit judge scenario at = record {

@@ -7,7 +7,9 @@ use Rattle.log_lines.specs.GrowingLog.{ended_lines, open_lines, open_part}
 use Rattle.log_lines.proofs.ForCallers.{lines_ended_or_open}
 use Rattle.log_lines.specs.JudgedLines.{judged_lines}
 use Rattle.log_lines.specs.LogLines.{lines_of}
-use Rattle.log_lines.specs.Standing.{StandsFor as JudgeStandsFor, LinesStandFor}
+use Rattle.log_lines.specs.Standing.{StandsFor as JudgeStandsFor, LinesStandFor, kept_of}
+use Rattle.tracks.specs.declared.keeping.Keeping.{Keeping}
+use Rattle.tracks.specs.declared.keeping.Keeping.TheVariants.{Tracks}
 use Rattle.log_lines.specs.declared.judge.Judge.{Judge}
 use Rattle.scenario.specs.declared.values.Scenario.{Scenario}
 use Rattle.early_monitor.specs.declared.alarm.Alarm.{Alarm}
@@ -22,7 +24,7 @@ use Rattle.sessions.specs.PlanReport.{IsPlanReport, log_messages}
 use Rattle.sessions.specs.Endings.{IsAnswerOf, IsAnswerTo, IsEnding, IsReport}
 use Rattle.sessions.specs.Tasks.{Task, task_by}
 use Rattle.sessions.specs.declared.asked.Asked.{Asked}
-use Rattle.sessions.specs.Standing.{IsInUse, StandsFor, mode_by, mode_of, session_scenario}
+use Rattle.sessions.specs.Standing.{IsInUse, KeepsEnough, StandsFor, mode_by, mode_of, session_scenario}
 use Rattle.sessions.specs.Inner.Working.{IsDone}
 use Rattle.sessions.specs.Inner.Faults.{EndCause, preparing_fault}
 use Rattle.sessions.specs.Inner.PlanWriting.{SoughtCause}
@@ -62,6 +64,23 @@ module _ (self : Session) (judge : Judge) (judges : JudgeOf self judge) where
       let short = stands.unrefused.short in
       let few = few_ended fed in
       judges self.scenario fed (omega (arith, most, short, few)) stands.lines
+
+-- What is kept is enough at the end.
+pub kept_at_end : (self : Session) (work : Work) (keeping : Keeping) → self.work ≡ work → keeping ≡ kept_of self.lines → IsInUse self → KeepsEnough work self.scenario keeping
+kept_at_end self work keeping is same used =
+    subst (λ (w : Work). KeepsEnough w self.scenario keeping) is (subst (KeepsEnough self.work self.scenario) (sym same) used.stands.kept)
+
+-- All is kept where own ship is planned for.
+all_kept : (work : Work) (scenario : Scenario) (keeping : Keeping) → IsTrue (needs_own (mode_by work)) → KeepsEnough work scenario keeping → keeping ≡ Tracks
+all_kept work.Points scenario keeping needs keeps = absurd (cc needs)
+all_kept (work.Audit audit) scenario keeping needs keeps = absurd (cc needs)
+all_kept work.Plan scenario keeping needs keeps = keeps
+all_kept (work.Drill audit) scenario keeping needs keeps = absurd (cc needs)
+all_kept work.Recheck scenario keeping needs keeps = keeps
+all_kept (work.Watch watch) scenario keeping needs keeps = absurd (cc needs)
+
+pub all_kept_at_end : (self : Session) (keeping : Keeping) → IsTrue (needs_own (mode_of self)) → keeping ≡ kept_of self.lines → IsInUse self → keeping ≡ Tracks
+all_kept_at_end self keeping needs same used = same ∙ all_kept self.work self.scenario (kept_of self.lines) needs used.stands.kept
 
 -- the work that was done
 done_by : (self : Session) (work : Work) → self.work ≡ work → (fed given : List ℕ) → StandsFor self fed given → IsDone work self.scenario (ended_lines fed) given

@@ -14,7 +14,7 @@ use Rattle.audit_report.specs.declared.report_text.ReportText.{ReportText}
 use Rattle.log_lines.specs.GrowingLog.{ended_among, ended_lines}
 use Rattle.log_lines.specs.JudgedLines.{is_crowded, judged_lines}
 use Rattle.log_lines.specs.LogLines.{is_line_feed, without_carriage_return}
-use Rattle.log_lines.specs.Standing.{StandsFor as JudgeStandsFor, LinesStandFor, kept_of}
+use Rattle.log_lines.specs.Standing.{StandsFor as JudgeStandsFor, LinesStandFor, keeping_of, kept_of}
 use Rattle.log_lines.specs.declared.judge.Judge.{Judge}
 use Rattle.log_lines.specs.declared.judged.Judged.{Judged}
 use Rattle.scenario.specs.declared.values.Scenario.{Scenario}
@@ -24,7 +24,7 @@ use Rattle.command_line.specs.declared.mode.Mode.{Mode}
 use Rattle.sessions.specs.Feeding.{Refuses, TookPiece, UnlessMemory}
 use Rattle.sessions.specs.Modes.{needs_own}
 use Rattle.sessions.specs.Refusals.{HasManySettled, IsStopped}
-use Rattle.sessions.specs.Standing.{StandsFor, keeping_by, mode_by, mode_of, session_scenario}
+use Rattle.sessions.specs.Standing.{KeepsEnough, StandsFor, mode_by, mode_of, session_scenario}
 use Rattle.sessions.specs.Inner.Working.{GoesOn, IsDone, Works}
 use Rattle.sessions.specs.declared.session.Session.{Session}
 use Rattle.sessions.specs.declared.session_fault.SessionFault.{SessionFault}
@@ -105,17 +105,17 @@ module _ (old : Session) (piece front : List ℕ) where
       let few = few_ended fed in
       go old.scenario fed (omega (arith, most, short, few)) stands.lines
 
-  stands_on : (lines' : StreamedLines) (work' : Work) (taken' : ℕ) → Fits → LinesGoOn lines' → mode_by work' ≡ mode_by old.work → keeping_by work' ≡ keeping_by old.work
-      → kept_of lines' ≡ kept_of old.lines → taken' ≡ old.taken + length piece → (fed given more : List ℕ) → StandsFor old fed given
+  stands_on : (lines' : StreamedLines) (work' : Work) (taken' : ℕ) → Fits → LinesGoOn lines' → mode_by work' ≡ mode_by old.work → KeepsEnough work' old.scenario (kept_of lines')
+      → taken' ≡ old.taken + length piece → (fed given more : List ℕ) → StandsFor old fed given
       → IsDone work' old.scenario (ended_lines (fed ++ piece)) (given ++ more) → StandsFor (with lines' work' taken') (fed ++ piece) (given ++ more)
-  stands_on lines' work' taken' fits go same_mode same_keeping same_kept count fed given more stands done =
+  stands_on lines' work' taken' fits go same_mode keeps count fed given more stands done =
       let on = lines_on lines' fits go fed given stands in
       let long = length-append fed piece in
       record {
         in_range = stands.in_range;
         own = λ needs. stands.own (subst (λ (m : Mode). IsTrue (needs_own m)) same_mode needs);
         lines = on;
-        kept = same_kept ∙ stands.kept ∙ sym same_keeping;
+        kept = keeps;
         taken = (let was = stands.taken in omega (arith, count, was, long));
         unrefused = record {
           short = fits fed given stands;
@@ -136,7 +136,7 @@ module _ (old : Session) (piece front : List ℕ) where
         let done : IsDone old.work old.scenario (ended_lines (fed ++ piece)) (given ++ []) =
         subst (IsDone old.work old.scenario (ended_lines (fed ++ piece))) (sym (append-nil given))
         (subst (λ (lines : List (List ℕ)). IsDone old.work old.scenario lines given) (sym (nothing fed)) (stands.settled, stands.audited)) in
-        stands_on lines' old.work taken' fits go refl refl same_kept count fed given [] stands done
+        stands_on lines' old.work taken' fits go refl (subst (KeepsEnough old.work old.scenario) (sym same_kept) stands.kept) count fed given [] stands done
         );
   }
 
@@ -151,17 +151,16 @@ module _ (old : Session) (piece front : List ℕ) where
     works_on fed given stands = record { given = given; done = (stands.settled, stands.audited); judged = judge_on fed given stands }
 
     -- a line that is ended
-    pub takes_line : (work' : Work) (taken' : ℕ) (text : ReportText) → mode_by work' ≡ mode_by old.work → keeping_by work' ≡ keeping_by old.work
-        → kept_of lines' ≡ kept_of old.lines → taken' ≡ old.taken + length piece → GoesOn old.work work' old.scenario judge judged front text
+    pub takes_line : (work' : Work) (taken' : ℕ) (text : ReportText) → mode_by work' ≡ mode_by old.work → keeping_of judge ≡ kept_of lines' → taken' ≡ old.taken + length piece → GoesOn old.work work' old.scenario judge judged front text
         → TookPiece old (with lines' work' taken') piece front text
-    takes_line work' taken' text same_mode same_keeping same_kept count on = record {
+    takes_line work' taken' text same_mode same_kept count on = record {
       more = on.decided;
       has = on.has;
       stands = λ fed given stands. (
           let lines = stay fed piece in
           let is = subst (λ (l : List (List ℕ)). judged_lines old.scenario l ≡ judged_lines old.scenario (ended_lines fed) ++ judged ∷ []) lines.1 (told old.scenario fed stands.lines) in
           let done = on.done (ended_lines fed) lines.0 given (stands.settled, stands.audited) (judge_on fed given stands) is in
-          stands_on lines' work' taken' fits go same_mode same_keeping same_kept count fed given on.decided stands
+          stands_on lines' work' taken' fits go same_mode (subst (KeepsEnough work' old.scenario) same_kept on.keeps) count fed given on.decided stands
           (subst (λ (l : List (List ℕ)). IsDone work' old.scenario l (given ++ on.decided)) (sym lines.1) done)
           );
     }

@@ -9,7 +9,7 @@ use Rattle.early_monitor.specs.declared.alarm.Alarm.{Alarm}
 use Rattle.log_lines.specs.EachLine.{each_after}
 use Rattle.log_lines.specs.GrowingLog.{ended_lines}
 use Rattle.log_lines.specs.JudgedLines.{is_crowded, judged_lines}
-use Rattle.log_lines.specs.Standing.{StandsFor as JudgeStandsFor}
+use Rattle.log_lines.specs.Standing.{StandsFor as JudgeStandsFor, keeping_of}
 use Rattle.log_lines.specs.declared.judge.Judge.{Judge}
 use Rattle.log_lines.specs.declared.judged.Judged.{Judged}
 use Rattle.log_lines.proofs.ForCallers.{nothing_judged}
@@ -17,8 +17,9 @@ use Rattle.scenario.specs.declared.values.Scenario.{Scenario}
 use Rattle.settling.specs.DecidedAlarms.{AreDecidedAlarms}
 use Rattle.settling.specs.DecidedRows.{AreDecided}
 use Rattle.settling.specs.ManySettled.{HaveManySettled}
-use Rattle.settling.specs.Standing.{StandsFor as AuditStandsFor}
-use Rattle.settling.specs.WatchStanding.{StandsFor as WatchStandsFor}
+use Rattle.settled_ticks.specs.Standing.{RemembersTicks, latest_time}
+use Rattle.settling.specs.Standing.{StandsFor as AuditStandsFor, audited_ticks}
+use Rattle.settling.specs.WatchStanding.{StandsFor as WatchStandsFor, watched_ticks}
 use Rattle.settling.specs.declared.settled_audit.SettledAudit.{SettledAudit}
 use Rattle.settling.specs.declared.settled_watch.SettledWatch.{SettledWatch}
 use Rattle.settling.proofs.ForCallers.{few_settled, few_watched, none_decided, no_alarms_decided, none_many}
@@ -28,7 +29,11 @@ use Rattle.sessions.specs.AuditReport.{stretch_fields, stretch_rows}
 use Rattle.sessions.specs.PointsReport.{point_rows, rows_of_line}
 use Rattle.sessions.specs.Refusals.{HasManySettled, IsUnrefused}
 use Rattle.sessions.specs.SettledText.{IsDecidedBy, IsDecidedText, IsSettledText}
-use Rattle.sessions.specs.Standing.{mode_by}
+use Rattle.tracks.proofs.ForCallers.{remembers_forgetting}
+use Rattle.tracks.specs.Standing.{forgetting}
+use Rattle.tracks.specs.declared.keeping.Keeping.{Keeping}
+use Rattle.tracks.specs.declared.keeping.Keeping.TheVariants.{Latest, Tracks}
+use Rattle.sessions.specs.Standing.{KeepsEnough, keeping_by, mode_by}
 use Rattle.sessions.specs.WatchReport.{alarm_rows, told_alarm}
 use Rattle.sessions.specs.Inner.Working.{GoesOn, IsDone}
 use Rattle.sessions.specs.declared.work.Work.{Work}
@@ -100,10 +105,11 @@ few_by (work.Watch watch) scenario lines given (decided, stands) many = few_watc
 -- ---- one line more
 
 pub points_go_on : (scenario : Scenario) (judge : Judge) (judged : Judged) (front : List ℕ) (text : ReportText) → HasText text (front ++ rows_of_line judged)
-    → GoesOn work.Points work.Points scenario judge judged front text
-points_go_on scenario judge judged front text has = record {
+    → keeping_of judge ≡ Latest → GoesOn work.Points work.Points scenario judge judged front text
+points_go_on scenario judge judged front text has keeps = record {
   decided = rows_of_line judged;
   has = has;
+  keeps = keeps;
   done = λ lines more given done stands is. (ap (λ (g : List ℕ). g ++ rows_of_line judged) done.0 ∙ sym (rows_push (judged_lines scenario lines) judged) ∙ ap point_rows (sym is), tt);
 }
 
@@ -115,10 +121,11 @@ stretches_more scenario given rows further is =
 pub audit_goes_on : (scenario : Scenario) (judge : Judge) (judged : Judged) (front : List ℕ) (text : ReportText) (audit audit' : SettledAudit) (further : List Row)
     → ((lines more : List (List ℕ)) (given : List Row) → AuditStandsFor audit scenario lines given → JudgeStandsFor judge scenario (lines ++ more) → AuditStandsFor audit' scenario (lines ++ more) (given ++ further))
     → ((lines more : List (List ℕ)) (given : List Row) → AuditStandsFor audit scenario lines given → JudgeStandsFor judge scenario (lines ++ more) → AreDecided scenario (lines ++ more) (given ++ further))
-    → HasText text (front ++ stretch_rows scenario.rules further) → GoesOn (work.Audit audit) (work.Audit audit') scenario judge judged front text
-audit_goes_on scenario judge judged front text audit audit' further stand decide has = record {
+    → RemembersTicks (keeping_of judge) scenario (audited_ticks audit') → HasText text (front ++ stretch_rows scenario.rules further) → GoesOn (work.Audit audit) (work.Audit audit') scenario judge judged front text
+audit_goes_on scenario judge judged front text audit audit' further stand decide keeps has = record {
   decided = stretch_rows scenario.rules further;
   has = has;
+  keeps = keeps;
   done = λ lines more given done judged is. (
     (done.0.0 ++ further, decide lines more done.0.0 done.1 judged, stretches_more scenario given done.0.0 further done.0.2),
     stand lines more done.0.0 done.1 judged,
@@ -133,10 +140,11 @@ alarms_more scenario given early further is =
 pub watch_goes_on : (scenario : Scenario) (judge : Judge) (judged : Judged) (front : List ℕ) (text : ReportText) (watch watch' : SettledWatch) (further : List Alarm)
     → ((lines more : List (List ℕ)) (given : List Alarm) → WatchStandsFor watch scenario lines given → JudgeStandsFor judge scenario (lines ++ more) → WatchStandsFor watch' scenario (lines ++ more) (given ++ further))
     → ((lines more : List (List ℕ)) (given : List Alarm) → WatchStandsFor watch scenario lines given → JudgeStandsFor judge scenario (lines ++ more) → AreDecidedAlarms scenario (lines ++ more) (given ++ further))
-    → HasText text (front ++ alarm_rows scenario.rules further) → GoesOn (work.Watch watch) (work.Watch watch') scenario judge judged front text
-watch_goes_on scenario judge judged front text watch watch' further stand decide has = record {
+    → RemembersTicks (keeping_of judge) scenario (watched_ticks watch') → HasText text (front ++ alarm_rows scenario.rules further) → GoesOn (work.Watch watch) (work.Watch watch') scenario judge judged front text
+watch_goes_on scenario judge judged front text watch watch' further stand decide keeps has = record {
   decided = alarm_rows scenario.rules further;
   has = has;
+  keeps = keeps;
   done = λ lines more given done judged is. (
     (done.0.0 ++ further, decide lines more done.0.0 done.1 judged, alarms_more scenario given done.0.0 further done.0.2),
     stand lines more done.0.0 done.1 judged,
@@ -144,17 +152,19 @@ watch_goes_on scenario judge judged front text watch watch' further stand decide
 }
 
 pub plan_goes_on : (scenario : Scenario) (judge : Judge) (judged : Judged) (front : List ℕ) (text : ReportText) → HasText text front
-    → GoesOn work.Plan work.Plan scenario judge judged front text
-plan_goes_on scenario judge judged front text has = record {
+    → keeping_of judge ≡ Tracks → GoesOn work.Plan work.Plan scenario judge judged front text
+plan_goes_on scenario judge judged front text has keeps = record {
   decided = [];
+  keeps = keeps;
   has = subst (HasText text) (sym (append-nil front)) has;
   done = λ lines more given done stands is. (append-nil given ∙ done.0, tt);
 }
 
 pub drill_goes_on : (scenario : Scenario) (judge : Judge) (judged : Judged) (front : List ℕ) (text : ReportText) (audit : SettledAudit) → HasText text front
-    → GoesOn (work.Drill audit) (work.Drill audit) scenario judge judged front text
-drill_goes_on scenario judge judged front text audit has = record {
+    → RemembersTicks (keeping_of judge) scenario (audited_ticks audit) → GoesOn (work.Drill audit) (work.Drill audit) scenario judge judged front text
+drill_goes_on scenario judge judged front text audit has keeps = record {
   decided = [];
+  keeps = keeps;
   has = subst (HasText text) (sym (append-nil front)) has;
   done = λ lines more given done stands is. (append-nil given ∙ done.0, done.1);
 }
@@ -163,3 +173,23 @@ drill_goes_on scenario judge judged front text audit has = record {
 pub pairs_alone : (fault : AuditFault) → auditing_fault fault ≡ why.Pairs → fault ≡ audit_fault.TooManyPairs
 pairs_alone audit_fault.TooManyPairs is = refl
 pairs_alone audit_fault.Memory is = cc is
+
+-- ---- what is kept
+
+-- enough before the first line
+pub keeps_begun : (work : Work) (scenario : Scenario) → KeepsEnough work scenario (keeping_by work)
+keeps_begun work.Points scenario = refl
+keeps_begun (work.Audit audit) scenario = tt
+keeps_begun work.Plan scenario = refl
+keeps_begun (work.Drill audit) scenario = tt
+keeps_begun work.Recheck scenario = refl
+keeps_begun (work.Watch watch) scenario = tt
+
+-- also once what lies before the latest tick is forgotten
+pub audit_keeps : (audit : SettledAudit) (scenario : Scenario) (keeping : Keeping) (time : ℕ) → time ≡ latest_time scenario (audited_ticks audit)
+    → RemembersTicks keeping scenario (audited_ticks audit) → RemembersTicks (forgetting keeping time) scenario (audited_ticks audit)
+audit_keeps audit scenario keeping time is remembers = remembers_forgetting keeping time (latest_time scenario (audited_ticks audit)) (omega (arith, is)) remembers
+
+pub watch_keeps : (watch : SettledWatch) (scenario : Scenario) (keeping : Keeping) (time : ℕ) → time ≡ latest_time scenario (watched_ticks watch)
+    → RemembersTicks keeping scenario (watched_ticks watch) → RemembersTicks (forgetting keeping time) scenario (watched_ticks watch)
+watch_keeps watch scenario keeping time is remembers = remembers_forgetting keeping time (latest_time scenario (watched_ticks watch)) (omega (arith, is)) remembers

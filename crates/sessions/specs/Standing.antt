@@ -3,8 +3,9 @@ use Rattle.std.specs.Prelude.{ℕ, ◌≡◌, length, List, [], IsSome, IsTrue}
 use Rattle.log_lines.specs.GrowingLog.{ended_lines}
 use Rattle.scenario.specs.ScenarioValues.{IsInRange}
 use Rattle.scenario.specs.declared.values.Scenario.{Scenario}
-use Rattle.settling.specs.Standing.{StandsFor as AuditStandsFor}
-use Rattle.settling.specs.WatchStanding.{StandsFor as WatchStandsFor}
+use Rattle.settled_ticks.specs.Standing.{RemembersTicks}
+use Rattle.settling.specs.Standing.{StandsFor as AuditStandsFor, audited_ticks}
+use Rattle.settling.specs.WatchStanding.{StandsFor as WatchStandsFor, watched_ticks}
 use Rattle.log_lines.specs.Standing.{LinesStandFor, kept_of}
 use Rattle.tracks.specs.declared.keeping.Keeping.{Keeping}
 use Rattle.tracks.specs.declared.keeping.Keeping.TheVariants.{Latest, Tracks}
@@ -36,7 +37,7 @@ session_scenario session = session.scenario
 abbrev pub taken_of : Session → ℕ
 taken_of session = session.taken
 
--- how much the work needs kept of each vessel
+-- how much the work needs kept of each vessel at its beginning
 abbrev pub keeping_by : Work → Keeping
 keeping_by work.Points = Latest
 keeping_by (work.Audit audit) = Tracks
@@ -44,6 +45,15 @@ keeping_by work.Plan = Tracks
 keeping_by (work.Drill audit) = Tracks
 keeping_by work.Recheck = Tracks
 keeping_by (work.Watch watch) = Tracks
+
+-- What is kept of each vessel is enough for the work: an audit and a watch look back no further than to the latest tick that they took.
+abbrev pub KeepsEnough : Work → Scenario → Keeping → Type 0
+KeepsEnough work.Points scenario keeping = keeping ≡ Latest
+KeepsEnough (work.Audit audit) scenario keeping = RemembersTicks keeping scenario (audited_ticks audit)
+KeepsEnough work.Plan scenario keeping = keeping ≡ Tracks
+KeepsEnough (work.Drill audit) scenario keeping = RemembersTicks keeping scenario (audited_ticks audit)
+KeepsEnough work.Recheck scenario keeping = keeping ≡ Tracks
+KeepsEnough (work.Watch watch) scenario keeping = RemembersTicks keeping scenario (watched_ticks watch)
 
 -- An audit has audited the ticks that the lines settle, and given the rows of which the text is; a watch has watched them, and given the alarms.
 -- A drill audits none before the log's end.
@@ -60,7 +70,7 @@ pub record StandsFor (session : Session) (fed given : List ℕ) : Type 0 where
   pub in_range : IsInRange session.scenario
   pub own : IsTrue (needs_own (mode_by session.work)) → IsSome session.scenario.own
   pub lines : LinesStandFor session.lines session.scenario fed
-  pub kept : kept_of session.lines ≡ keeping_by session.work
+  pub kept : KeepsEnough session.work session.scenario (kept_of session.lines)
   pub taken : session.taken ≡ length fed
   pub unrefused : IsUnrefused (mode_by session.work) session.scenario fed
   pub settled : IsSettledText (mode_by session.work) session.scenario fed given

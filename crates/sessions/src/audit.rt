@@ -4,11 +4,12 @@ ghost use Rattle.audit_rows.specs.declared.row.Row.{Row};
 ghost use Rattle.log_lines.specs.Standing.{keeping_of};
 ghost use Rattle.scenario.specs.ScenarioValues.{IsInRange};
 ghost use Rattle.sessions.specs.AuditReport.{IsAuditReport, stretch_rows};
+ghost use Rattle.settled_ticks.specs.Standing.{RemembersTicks};
+ghost use Rattle.settling.specs.Standing.{audited_ticks};
 ghost use Rattle.sessions.specs.Endings.{IsAnswerOf};
 ghost use Rattle.sessions.specs.Inner.AtEnd.{IsAuditAtEnd, IsAuditOf};
 ghost use Rattle.sessions.specs.Inner.Faults.{EndCause};
 ghost use Rattle.command_line.specs.declared.mode.Mode.TheVariants.{Audit};
-ghost use Rattle.tracks.specs.declared.keeping.Keeping.TheVariants.{Tracks};
 
 use crate::outcome_rows::{all_outcomes, write_counts};
 use crate::session_fault::SessionFault;
@@ -29,7 +30,7 @@ pub(crate) fn end_audit(
     judge: &Judge,
 ) -> Result<Vec<u8>, SessionFault>
     requires in_range { IsInRange scenario.now }
-    requires keeping { keeping_of judge.now ≡ Tracks }
+    requires remembers { RemembersTicks (keeping_of judge.now) scenario.now (audited_ticks audit) }
     requires at_end { IsAuditAtEnd audit judge.now scenario.now }
     ensures report { IfOk result (λ rest. (log : List ℕ) (given : List Row) → IsAuditOf audit judge.now scenario.now log given
         → IsAuditReport scenario.now log (stretch_rows scenario.now.rules given ++ rest.items)) }

@@ -3,11 +3,12 @@ ghost use Rattle.std.specs.Prelude.{◌≡◌, [], ℕ, List, IfErr, IfOk, OnOk,
 ghost use Rattle.log_lines.specs.Standing.{keeping_of};
 ghost use Rattle.scenario.specs.ScenarioValues.{IsInRange};
 ghost use Rattle.sessions.specs.DrillReport.{IsDrillReport};
+ghost use Rattle.settled_ticks.specs.Standing.{RemembersTicks};
+ghost use Rattle.settling.specs.Standing.{audited_ticks};
 ghost use Rattle.sessions.specs.Endings.{IsAnswerOf};
 ghost use Rattle.sessions.specs.Inner.AtEnd.{IsAuditAtEnd, IsAuditOf};
 ghost use Rattle.sessions.specs.Inner.Faults.{EndCause};
 ghost use Rattle.command_line.specs.declared.mode.Mode.TheVariants.{Drill};
-ghost use Rattle.tracks.specs.declared.keeping.Keeping.TheVariants.{Tracks};
 
 use crate::outcome_rows::{all_outcomes, write_counts};
 use crate::session_fault::SessionFault;
@@ -26,7 +27,7 @@ pub(crate) fn end_drill(
     judge: &Judge,
 ) -> Result<Vec<u8>, SessionFault>
     requires in_range { IsInRange scenario.now }
-    requires keeping { keeping_of judge.now ≡ Tracks }
+    requires remembers { RemembersTicks (keeping_of judge.now) scenario.now (audited_ticks audit) }
     requires at_end { IsAuditAtEnd audit judge.now scenario.now }
     ensures report { IfOk result (λ text. (log : List ℕ) → IsAuditOf audit judge.now scenario.now log [] → IsDrillReport scenario.now log text.items) }
     ensures answer { OnOk result ((log : List ℕ) → IsAuditOf audit judge.now scenario.now log [] → IsAnswerOf Drill [] scenario.now log (Ok false)) }

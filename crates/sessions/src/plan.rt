@@ -1,5 +1,5 @@
 //! The report of `plan`, at a log's end.
-ghost use Rattle.std.specs.Prelude.{◌≡◌, ◌++◌, ◌<◌, ◌≤◌, [], ℕ, List, All, IfErr, IfOk, IfSome, IsSome, OnOk, Ok, true};
+ghost use Rattle.std.specs.Prelude.{◌≡◌, ◌^◌, ◌++◌, ◌<◌, ◌≤◌, [], ℕ, List, All, IfErr, IfOk, IfSome, IsSome, OnOk, Ok, length, true};
 ghost use Rattle.std.specs.Option.{option_copied};
 ghost use Rattle.audit_report.specs.ReportTexts.{HasText};
 ghost use Rattle.log_lines.specs.JudgedLines.{numbers_of};
@@ -40,7 +40,8 @@ use tracks::Book;
 /// Writes the rows of the vessels near own ship.
 fn write_near(text: &mut ReportText, book: &Book, near: &[Near]) -> Result<(), Memory>
     requires { book.now.keeping ≡ Tracks }
-    ensures { OnOk result ((numbers : JudgingNumbers) (messages : List Sent) (front : List ℕ) → BookStandsFor book.now numbers messages
+    ensures { OnOk result ((numbers : JudgingNumbers) (messages : List Sent) (front : List ℕ) → length messages < 2 ^ 64
+        → BookStandsFor book.now numbers messages
         → All (λ (vessel : Near). is_held numbers messages vessel.mmsi ≡ true) near.now → HasText text.old front
         → HasText text.new (front ++ near_rows numbers messages near.now)) }
 {
@@ -148,7 +149,8 @@ fn write_sought(
     requires course { legs.now.ready.course < 3600 }
     requires speed { legs.now.ready.speed ≤ 1022 }
     requires plan { IfSome (option_copied plan) (IsPlan (choices_of legs.now.lattice.now) legs.now.lattice.now.legs) }
-    ensures { OnOk result ((numbers : JudgingNumbers) (messages : List Sent) (front : List ℕ) → BookStandsFor book.now numbers messages
+    ensures { OnOk result ((numbers : JudgingNumbers) (messages : List Sent) (front : List ℕ) → length messages < 2 ^ 64
+        → BookStandsFor book.now numbers messages
         → All (λ (vessel : Near). is_held numbers messages vessel.mmsi ≡ true) near.now → HasText text.old front
         → HasText text.new ((front ++ near_rows numbers messages near.now)
         ++ manoeuvre_rows legs.now.begin legs.now.lattice.now legs.now.ready (option_copied plan.entry))) }
@@ -179,8 +181,8 @@ fn write_search(
     requires stands { (messages : List Sent) × BookStandsFor book.now (numbers_of scenario) messages }
     ensures situation { IfOk result (λ found. IsSituation (searched_situation found.search)) }
     ensures fail { IfOk result (λ found. found.none ≡ true → AllFail (searched_situation found.search)) }
-    ensures sought { IfOk result (λ found. (messages : List Sent) (front : List ℕ) → BookStandsFor book.now (numbers_of scenario) messages
-        → HasText text.old front → IsSought scenario messages text.new front (searched_situation found.search) found.none) }
+    ensures sought { IfOk result (λ found. (messages : List Sent) (front : List ℕ) → length messages < 2 ^ 64
+        → BookStandsFor book.now (numbers_of scenario) messages → HasText text.old front → IsSought scenario messages text.new front (searched_situation found.search) found.none) }
     ensures cause { IfErr result (λ fault. (messages : List Sent) → BookStandsFor book.now (numbers_of scenario) messages → SoughtCause scenario messages fault) }
 {
     let begin = scenario.window.ticks;

@@ -34,6 +34,9 @@ use settling::laws::many_settled_stay;
 use situations::Situation;
 use std::alloc::Global;
 
+/// So many ticks are taken at least before what lies before them is forgotten.
+const TICKS_AT_LEAST: u32 = 64;
+
 /// How many bytes stand up to the first line feed, with it, or in all where there is none.
 fn piece_length(bytes: &[u8]) -> usize
     requires { 0 < length bytes.now }
@@ -60,6 +63,14 @@ fn scenario_for(mut scenario: Scenario, mode: Mode) -> Scenario
     scenario
 }
 
+/// How many ticks pass before what lies before them is forgotten: as many as the time that no tick settles lasts, and some more.
+fn ticks_remembered(scenario: &Scenario) -> u32
+    requires { IsInRange scenario.now }
+{
+    let unsettled = scenario.log.gap + scenario.log.slack;
+    unsettled / scenario.window.tick + TICKS_AT_LEAST
+}
+
 /// The report of a mode on a log that comes in pieces. It is fed the log however it is cut, gives what is decided by the bytes so far, and
 /// at the log's end the rest.
 #[derive(Drop)]
@@ -70,6 +81,8 @@ pub struct Session {
     lines: StreamedLines,
     /// How many bytes were fed.
     taken: u64,
+    /// Once so many ticks were taken, what lies before them is forgotten.
+    forgets_at: u32,
 }
 
 impl Session {
@@ -86,12 +99,14 @@ impl Session {
         let scenario = scenario_for(scenario, mode);
         let work = Work::of(alloc, &scenario, mode)?;
         let lines = StreamedLines::new(alloc, work.keeping(), &scenario);
+        let forgets_at = ticks_remembered(&scenario);
         Ok(Session {
             alloc,
             scenario,
             work,
             lines,
             taken: 0,
+            forgets_at,
         })
     }
 
@@ -131,6 +146,23 @@ impl Session {
         }
     }
 
+    /// Forgets where vessels were before the latest tick that was taken, each time that as many have been taken as are remembered. So what is kept does
+    /// not grow with the log, and to forget a report costs no more than to keep it.
+    fn forget(&mut self)
+        requires { IsInUse self.old }
+        ensures mode { mode_of self.new ≡ mode_of self.old }
+        ensures scenario { session_scenario self.new ≡ session_scenario self.old }
+        ensures count { taken_of self.new ≡ taken_of self.old }
+        ensures stands { (fed given : List ℕ) → StandsFor self.old fed given → StandsFor self.new fed given }
+    {
+        if let Some(time) = self.work.looks_back_to(&self.scenario, self.forgets_at) {
+            self.lines.forget(time);
+            self.forgets_at = self
+                .forgets_at
+                .saturating_add(ticks_remembered(&self.scenario));
+        }
+    }
+
     /// Feeds it the next bytes of a log, and writes what is decided by them behind the rows of the text. Where it is refused, what the
     /// bytes before the refusal's place decide is written. After an `Err` the session may only be dropped, and for want of memory the
     /// text too.
@@ -151,6 +183,7 @@ impl Session {
             self.take(&rest[..count], text)?;
             at += count;
         }
+        self.forget();
         Ok(())
     }
 

@@ -1,12 +1,13 @@
 //! The rows of the vessels that are held.
-ghost use Rattle.std.specs.Prelude.{◌≡◌, ◌++◌, ℕ, List, OnOk, true};
+ghost use Rattle.std.specs.Prelude.{◌≡◌, ◌≢◌, ◌<◌, ◌^◌, ◌++◌, ℕ, List, OnOk, length, true};
 ghost use Rattle.std.specs.Option.{option_copied};
 ghost use Rattle.audit_report.specs.CsvRows.{row_of};
 ghost use Rattle.audit_report.specs.ReportTexts.{HasText};
 ghost use Rattle.tracks.specs.AcceptedReports.{JudgingNumbers};
 ghost use Rattle.tracks.specs.Standing.{IsHeldVessel, StandsFor as BookStandsFor};
 ghost use Rattle.tracks.specs.VesselsHeld.{Sent, is_held};
-ghost use Rattle.tracks.specs.declared.keeping.Keeping.TheVariants.{Tracks};
+ghost use Rattle.tracks.specs.declared.keeping.Keeping.{Keeping};
+ghost use Rattle.tracks.specs.declared.keeping.Keeping.TheVariants.{Latest};
 ghost use Rattle.sessions.specs.AuditReport.{held_fields, ship_type_of, vessel_rows};
 
 use ais_messages::{ShipData, Text20};
@@ -31,9 +32,10 @@ fn name_told(statics: &Statics) -> Option<&Text20>
     statics.name.as_ref()
 }
 
-/// Writes the row of a vessel that is held, of whom all accepted reports are kept.
+/// Writes the row of a vessel that is held, of whom a track is kept.
 fn write_vessel(text: &mut ReportText, vessel: &HeldVessel<'_>) -> Result<(), Memory>
-    ensures { OnOk result ((numbers : JudgingNumbers) (messages : List Sent) (front : List ℕ) → IsHeldVessel Tracks numbers messages vessel.now
+    ensures { OnOk result ((keeping : Keeping) (numbers : JudgingNumbers) (messages : List Sent) (front : List ℕ) → keeping ≢ Latest
+        → length messages < 2 ^ 64 → IsHeldVessel keeping numbers messages vessel.now
         → HasText text.old front → HasText text.new (front ++ row_of (held_fields numbers messages vessel.now.mmsi))) }
 {
     let statics = vessel.statics;
@@ -42,16 +44,16 @@ fn write_vessel(text: &mut ReportText, vessel: &HeldVessel<'_>) -> Result<(), Me
         name: name_told(statics),
         kind: kind_of(statics.ship),
         length: statics.length(),
-        reports: vessel.points.len() as u64,
-        legs: vessel.legs.len() as u64,
+        reports: vessel.counts.reports,
+        legs: vessel.counts.legs,
     })
 }
 
 /// Writes the row of the vessel of this identity, who is held.
 pub(crate) fn write_vessel_of(text: &mut ReportText, book: &Book, mmsi: u32) -> Result<(), Memory>
-    requires { book.now.keeping ≡ Tracks }
-    ensures { OnOk result ((numbers : JudgingNumbers) (messages : List Sent) (front : List ℕ) → BookStandsFor book.now numbers messages
-        → is_held numbers messages mmsi ≡ true → HasText text.old front
+    requires { book.now.keeping ≢ Latest }
+    ensures { OnOk result ((numbers : JudgingNumbers) (messages : List Sent) (front : List ℕ) → length messages < 2 ^ 64
+        → BookStandsFor book.now numbers messages → is_held numbers messages mmsi ≡ true → HasText text.old front
         → HasText text.new (front ++ row_of (held_fields numbers messages mmsi))) }
 {
     match book.find(mmsi) {
@@ -62,9 +64,9 @@ pub(crate) fn write_vessel_of(text: &mut ReportText, book: &Book, mmsi: u32) -> 
 
 /// Writes the rows of all vessels that are held, in the order of their MMSIs.
 pub(crate) fn write_vessels(text: &mut ReportText, book: &Book) -> Result<(), Memory>
-    requires { book.now.keeping ≡ Tracks }
-    ensures { OnOk result ((numbers : JudgingNumbers) (messages : List Sent) (front : List ℕ) → BookStandsFor book.now numbers messages
-        → HasText text.old front → HasText text.new (front ++ vessel_rows numbers messages)) }
+    requires { book.now.keeping ≢ Latest }
+    ensures { OnOk result ((numbers : JudgingNumbers) (messages : List Sent) (front : List ℕ) → length messages < 2 ^ 64
+        → BookStandsFor book.now numbers messages → HasText text.old front → HasText text.new (front ++ vessel_rows numbers messages)) }
 {
     for k in 0..book.vessels() {
         write_vessel(text, &book.held(k))?;

@@ -4,11 +4,12 @@ ghost use Rattle.early_monitor.specs.declared.alarm.Alarm.{Alarm};
 ghost use Rattle.log_lines.specs.Standing.{keeping_of};
 ghost use Rattle.scenario.specs.ScenarioValues.{IsInRange};
 ghost use Rattle.sessions.specs.WatchReport.{IsWatchReport, alarm_rows};
+ghost use Rattle.settled_ticks.specs.Standing.{RemembersTicks};
+ghost use Rattle.settling.specs.WatchStanding.{watched_ticks};
 ghost use Rattle.sessions.specs.Endings.{IsAnswerOf};
 ghost use Rattle.sessions.specs.Inner.AtEnd.{IsWatchAtEnd, IsWatchOf};
 ghost use Rattle.sessions.specs.Inner.Faults.{EndCause};
 ghost use Rattle.command_line.specs.declared.mode.Mode.TheVariants.{Watch};
-ghost use Rattle.tracks.specs.declared.keeping.Keeping.TheVariants.{Tracks};
 
 use crate::alarms::write_alarms;
 use crate::outcome_rows::{all_outcomes, write_counts};
@@ -27,7 +28,7 @@ pub(crate) fn end_watch(
     judge: &Judge,
 ) -> Result<Vec<u8>, SessionFault>
     requires in_range { IsInRange scenario.now }
-    requires keeping { keeping_of judge.now ≡ Tracks }
+    requires remembers { RemembersTicks (keeping_of judge.now) scenario.now (watched_ticks watch) }
     requires at_end { IsWatchAtEnd watch judge.now scenario.now }
     ensures report { IfOk result (λ rest. (log : List ℕ) (given : List Alarm) → IsWatchOf watch judge.now scenario.now log given
         → IsWatchReport scenario.now log (alarm_rows scenario.now.rules given ++ rest.items)) }

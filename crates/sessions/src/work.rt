@@ -1,13 +1,15 @@
 //! What a session does on each line that is judged.
-ghost use Rattle.std.specs.Prelude.{◌≡◌, ◌≢◌, ◌++◌, ◌∷◌, [], ℕ, List, IfErr, IfOk, IsTrue, OnOk, Err};
+ghost use Rattle.std.specs.Prelude.{◌≡◌, ◌≢◌, ◌++◌, ◌∷◌, [], ℕ, List, IfErr, IfOk, IfSome, IsTrue, OnOk, Err};
 ghost use Rattle.audit_report.specs.ReportTexts.{HasText};
 ghost use Rattle.log_lines.specs.Standing.{StandsFor as JudgeStandsFor, keeping_of};
 ghost use Rattle.scenario.specs.ScenarioValues.{IsInRange};
 ghost use Rattle.sessions.specs.Inner.Working.{GoesOn, IsDone, IsReadyFor, Works};
 ghost use Rattle.sessions.specs.Modes.{reports};
 ghost use Rattle.sessions.specs.Refusals.{HasManySettled};
-ghost use Rattle.sessions.specs.Standing.{keeping_by, mode_by};
+ghost use Rattle.sessions.specs.Standing.{KeepsEnough, keeping_by, mode_by};
 ghost use Rattle.sessions.specs.declared.session_fault.SessionFault.TheVariants as fault;
+ghost use Rattle.tracks.specs.Standing.{forgetting};
+ghost use Rattle.tracks.specs.declared.keeping.Keeping.{Keeping};
 
 use crate::alarms::write_alarms;
 use crate::points::write_line;
@@ -63,6 +65,21 @@ impl Work {
         }
     }
 
+    /// The time before which the work does not look back any more, where it has taken at least so many ticks of the window.
+    pub(crate) fn looks_back_to(&self, scenario: &Scenario, ticks: u32) -> Option<u64>
+        requires { IsInRange scenario.now }
+        ensures { IfSome result (λ time. (keeping : Keeping) → KeepsEnough self.now scenario.now keeping
+            → KeepsEnough self.now scenario.now (forgetting keeping time)) }
+    {
+        match self {
+            Work::Audit(audit) | Work::Drill(audit) if ticks <= audit.count() => Some(
+                audit.latest_time(scenario),
+            ),
+            Work::Watch(watch) if ticks <= watch.count() => Some(watch.latest_time(scenario)),
+            _ => None,
+        }
+    }
+
     /// Does the work on a line that the judge has taken, and writes what is decided by it.
     pub(crate) fn go_on(
         &mut self,
@@ -72,10 +89,9 @@ impl Work {
         text: &mut ReportText,
     ) -> Result<(), SessionFault>
         requires in_range { IsInRange scenario.now }
-        requires keeping { keeping_of judge.now ≡ keeping_by self.old }
+        requires keeping { KeepsEnough self.old scenario.now (keeping_of judge.now) }
         requires ready { IsReadyFor self.old scenario.now judge.now }
         ensures mode { mode_by self.new ≡ mode_by self.old }
-        ensures keeping { keeping_by self.new ≡ keeping_by self.old }
         ensures goes_on { OnOk result ((front : List ℕ) → HasText text.old front → GoesOn self.old self.new scenario.now judge.now judged.now front text.new) }
         ensures few { OnOk result ((lines more : List (List ℕ)) → Works self.old scenario.now judge.now lines more
             → HasManySettled (mode_by self.old) scenario.now (lines ++ more) → ⊥) }

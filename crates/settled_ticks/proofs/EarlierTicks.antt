@@ -39,7 +39,7 @@ clock_over scenario lines more bound h =
 
 -- ---- ticks
 
-earlier_tick : (window : Window) (i j : ℕ) → j ≤ i → time_of_tick window j ≤ time_of_tick window i
+pub earlier_tick : (window : Window) (i j : ℕ) → j ≤ i → time_of_tick window j ≤ time_of_tick window i
 earlier_tick window i j le = let ticks : j * window.tick ≤ i * window.tick = mul-le-mul le (omega arith) in omega arith
 
 past_lower : (clock : Option ℕ) (bound lower : ℕ) → lower ≤ bound → IsSomeAnd clock (λ n. bound < n) → IsSomeAnd clock (λ n. lower < n)

@@ -1,4 +1,5 @@
 mod EarlierTicks
+mod Remembering
 mod SeenStays
 mod MovesLittle
 mod RankedVessels

@@ -20,10 +20,9 @@ use Rattle.settled_ticks.specs.Sightings.{seen_first, sighting_by}
 use Rattle.settled_ticks.proofs.RankedVessels.{vessels_by}
 use Rattle.tracks.specs.AcceptedReports.{JudgingNumbers}
 use Rattle.tracks.specs.SeenVessels.{seen_in}
-use Rattle.tracks.specs.Standing.{BookValue, StandsFor as BookStandsFor}
+use Rattle.tracks.specs.Standing.{BookValue, Remembers, StandsFor as BookStandsFor}
 use Rattle.tracks.specs.VesselsHeld.{Sent}
-use Rattle.tracks.specs.declared.keeping.Keeping.TheVariants.{Tracks}
-use Rattle.tracks.proofs.Seen.{seen_in-is}
+use Rattle.tracks.proofs.ForCallers.{seen_in-is}
 
 -- ---- from one sighting to the next
 
@@ -91,18 +90,19 @@ MovesLittleIn book = (t u mmsi : ℕ) (before after : TickState) → t ≤ u →
 
 -- The vessels of the latest tick move little to the next.
 pub moves_on : (book : BookValue) (scenario : Scenario) (messages : List Sent) (next : ℕ) (latest seen : SeenVessels) → MovesLittleIn book → IsInRange scenario
-    → book.keeping ≡ Tracks → BookStandsFor book (numbers_of scenario) messages → latest ≡ (last_sighting (seen_first scenario messages next)).vessels
+    → Remembers book.keeping (time_of_tick scenario.window (next - 1)) → BookStandsFor book (numbers_of scenario) messages → latest ≡ (last_sighting (seen_first scenario messages next)).vessels
     → seen ≡ seen_in book (time_of_tick scenario.window next) → MoveLittle latest seen
-moves_on book scenario messages zero latest seen law range all stands was is = subst (λ (s : SeenVessels). MoveLittle s seen) (sym was) (little_first seen)
-moves_on book scenario messages (suc k) latest seen law range all stands was is =
+moves_on book scenario messages zero latest seen law range remembers stands was is = subst (λ (s : SeenVessels). MoveLittle s seen) (sym was) (little_first seen)
+moves_on book scenario messages (suc k) latest seen law range remembers stands was is =
     let window = scenario.window in
     let gap : book.numbers.gap ≡ scenario.log.gap = ap (λ (n : JudgingNumbers). n.gap) stands.by in
     let tick = range.log.gap_from in
     let minute = range.window.tick_to in
     let next = next_time window.start k window.tick in
+    let before : Remembers book.keeping (time_of_tick window k) = subst (λ (n : ℕ). Remembers book.keeping (time_of_tick window n)) (omega arith) remembers in
     let earlier : latest ≡ seen_in book (time_of_tick window k) =
     was ∙ ap (λ (s : Sighting). s.vessels) (last_seen scenario messages k) ∙ vessels_by scenario messages k
-    ∙ sym (seen_in-is book (numbers_of scenario) messages (time_of_tick window k) all stands) in
+    ∙ sym (seen_in-is book (numbers_of scenario) messages (time_of_tick window k) before stands) in
     let step = little (seen_in book (time_of_tick window k)) (seen_in book (time_of_tick window (suc k)))
     (λ mmsi before after i j. law (time_of_tick window k) (time_of_tick window (suc k)) mmsi before after (omega (arith, next)) (omega (arith, next, minute)) (omega (arith, next, gap, tick)) i j) in
     subst (λ (s : SeenVessels). MoveLittle s seen) (sym earlier) (subst (MoveLittle (seen_in book (time_of_tick window k))) (sym is) step)

@@ -18,12 +18,12 @@ use Rattle.settled_ticks.specs.Sightings.{ranks_of, seen_ranked, sighting_by}
 use Rattle.settled_ticks.specs.Standing.{AreSeen, HasReported}
 use Rattle.tracks.specs.AcceptedReports.{JudgingNumbers}
 use Rattle.tracks.specs.SeenVessels.{seen_of, seen_vessel}
-use Rattle.tracks.specs.Standing.{kept_points}
+use Rattle.ranks.specs.VesselRanks.{report_at}
+use Rattle.tracks.specs.Standing.{Remembers, kept_points}
 use Rattle.tracks.specs.VesselsHeld.{Sent, held_of, legs_of}
 use Rattle.tracks.specs.declared.accepted.Accepted.{Accepted}
 use Rattle.tracks.specs.declared.keeping.Keeping.{Keeping}
-use Rattle.tracks.specs.declared.keeping.Keeping.TheVariants.{Tracks}
-use Rattle.tracks.proofs.ForCallers.{seen_has_reported}
+use Rattle.tracks.proofs.ForCallers.{remembered_report, seen_has_reported}
 
 -- ---- they have reported
 
@@ -59,9 +59,11 @@ each_has_reported judge vessels time k vessel seen within =
       reported = seen_has_reported numbers messages (get_or vessels k vessel).0 time (get_or vessels k vessel).1 (all k vessel within);
     }
 
--- A book that keeps all reports keeps these.
-pub all_kept : {keeping : Keeping} {kept reports : List Accepted} → keeping ≡ Tracks → kept ≡ kept_points keeping reports → kept ≡ reports
-all_kept {reports = reports} all is = is ∙ ap (λ (k : Keeping). kept_points k reports) all
+-- Where a time is remembered, the reports that are kept tell which was the last by then.
+pub kept_report : (keeping : Keeping) (kept reports : List Accepted) (time : ℕ) → Remembers keeping time → kept ≡ kept_points keeping reports
+    → report_at kept time ≡ report_at reports time
+kept_report keeping kept reports time remembers is =
+    ap (λ (points : List Accepted). report_at points time) is ∙ remembered_report keeping reports time remembers
 
 -- ---- what is seen at a tick
 

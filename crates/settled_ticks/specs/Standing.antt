@@ -1,16 +1,19 @@
 -- What was handed out.
-use Rattle.std.specs.Prelude.{ℕ, ◌≡◌, ◌+◌, ◌≤◌, List, IsSome}
+use Rattle.std.specs.Prelude.{ℕ, ◌≡◌, ◌+◌, ◌-◌, ◌≤◌, List, IsSome}
 use Rattle.traces.specs.Audited.{AreAscending, ArePlaced, MoveLittle, SeenVessels, Sighting, last_sighting}
 use Rattle.log_lines.specs.JudgedLines.{numbers_of}
 use Rattle.log_lines.specs.SentLines.{sent}
 use Rattle.log_lines.specs.Standing.{StandsFor as JudgeStandsFor}
 use Rattle.log_lines.specs.declared.judge.Judge.{Judge}
 use Rattle.ranks.specs.VesselRanks.{report_at}
+use Rattle.scenario.specs.Ticks.{time_of_tick}
 use Rattle.scenario.specs.declared.values.Scenario.{Scenario}
 use Rattle.settled_ticks.specs.Sightings.{seen_first, sighting_by}
 use Rattle.settled_ticks.specs.declared.settled_ticks.SettledTicks.{SettledTicks}
 use Rattle.tracks.specs.SeenVessels.{seen_of}
+use Rattle.tracks.specs.Standing.{Remembers}
 use Rattle.tracks.specs.VesselsHeld.{accepted_of}
+use Rattle.tracks.specs.declared.keeping.Keeping.{Keeping}
 
 -- how many ticks were handed out: the first ones
 abbrev pub handed_out : SettledTicks → ℕ
@@ -24,6 +27,14 @@ latest_sighting ticks = record { vessels = ticks.seen.items; ranks = ticks.ranks
 pub record HasJudged (judge : Judge) (scenario : Scenario) : Type 0 where
   pub lines : List (List ℕ)
   pub judged : JudgeStandsFor judge scenario lines
+
+-- the time of the latest of so many ticks: who was seen then is still asked for, and nothing earlier
+abbrev pub latest_time : Scenario → ℕ → ℕ
+latest_time scenario count = time_of_tick scenario.window (count - 1)
+
+-- What is kept tells who was seen at the latest of so many ticks.
+abbrev pub RemembersTicks : Keeping → Scenario → ℕ → Type 0
+RemembersTicks keeping scenario count = Remembers keeping (latest_time scenario count)
 
 -- By the lines of a judge the vessel has reported at this time.
 pub record HasReported (judge : Judge) (mmsi time : ℕ) : Type 0 where

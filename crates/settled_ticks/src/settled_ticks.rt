@@ -6,9 +6,8 @@ ghost use Rattle.scenario.specs.ScenarioValues.{IsInRange};
 ghost use Rattle.settled_ticks.specs.Inner.{is_past};
 ghost use Rattle.settled_ticks.specs.Settled.{IsSettled};
 ghost use Rattle.settled_ticks.specs.Sightings.{seen_first, sighting_by};
-ghost use Rattle.settled_ticks.specs.Standing.{HasJudged, IsHandedOut, handed_out, latest_sighting};
+ghost use Rattle.settled_ticks.specs.Standing.{HasJudged, IsHandedOut, RemembersTicks, handed_out, latest_sighting, latest_time};
 ghost use Rattle.traces.specs.Audited.{AreAscending, ArePlaced, MoveLittle, last_sighting};
-ghost use Rattle.tracks.specs.declared.keeping.Keeping.TheVariants.{Tracks};
 
 use crate::guesses::Guesses;
 use crate::vessel_ranks::rank_all;
@@ -69,6 +68,21 @@ impl SettledTicks {
         self.ranks.as_slice()
     }
 
+    /// How many ticks were handed out.
+    pub fn count(&self) -> u32
+        ensures { result ≡ handed_out self.now }
+    {
+        self.next
+    }
+
+    /// The time of the tick that was handed out last, or of the first one where none was: what lies before is not looked at again.
+    pub fn latest_time(&self, scenario: &Scenario) -> u64
+        requires { IsInRange scenario.now }
+        ensures { result ≡ latest_time scenario.now (handed_out self.now) }
+    {
+        scenario.window.time(self.next.saturating_sub(1))
+    }
+
     /// Whether the judge's lines settle the next tick.
     fn is_settled(&self, scenario: &Scenario, judge: &Judge) -> bool
         requires { IsInRange scenario.now }
@@ -86,7 +100,7 @@ impl SettledTicks {
     /// Hands out the next tick, by what the judge's lines tell.
     fn hand_out(&mut self, scenario: &Scenario, judge: &Judge) -> Result<(), Memory>
         requires in_range { IsInRange scenario.now }
-        requires keeping { keeping_of judge.now ≡ Tracks }
+        requires remembers { RemembersTicks (keeping_of judge.now) scenario.now (handed_out self.old) }
         requires judged { HasJudged judge.now scenario.now }
         requires within { self.old.next ≤ scenario.now.window.ticks }
         ensures next { OnOk result (self.new.next ≡ self.old.next + 1) }
@@ -109,7 +123,7 @@ impl SettledTicks {
     /// Hands out the next tick if the judge's lines settle it, and tells whether they do. Where they do not, this takes no memory.
     pub fn next(&mut self, scenario: &Scenario, judge: &Judge) -> Result<bool, Memory>
         requires in_range { IsInRange scenario.now }
-        requires keeping { keeping_of judge.now ≡ Tracks }
+        requires remembers { RemembersTicks (keeping_of judge.now) scenario.now (handed_out self.old) }
         requires judged { HasJudged judge.now scenario.now }
         ensures handed { IfOk result (λ more. more ≡ true → IsHandedOut self.old self.new scenario.now judge.now) }
         ensures settled { IfOk result (λ more. more ≡ true → (lines : List (List ℕ)) → JudgeStandsFor judge.now scenario.now lines
@@ -128,7 +142,7 @@ impl SettledTicks {
     /// Hands out the next tick by what the lines of the whole log tell, settled or not, and tells whether one was left.
     pub fn next_at_end(&mut self, scenario: &Scenario, judge: &Judge) -> Result<bool, Memory>
         requires in_range { IsInRange scenario.now }
-        requires keeping { keeping_of judge.now ≡ Tracks }
+        requires remembers { RemembersTicks (keeping_of judge.now) scenario.now (handed_out self.old) }
         requires judged { HasJudged judge.now scenario.now }
         ensures handed { IfOk result (λ more. more ≡ true → IsHandedOut self.old self.new scenario.now judge.now) }
         ensures same { IfOk result (λ more. more ≡ false → self.new ≡ self.old) }

@@ -8,8 +8,8 @@ ghost use Rattle.ranks.specs.Standing.{StandsFor as RanksStandFor};
 ghost use Rattle.scenario.specs.declared.values.Scenario.{Scenario};
 ghost use Rattle.settled_ticks.specs.Sightings.{ranks_of, vessel_rank};
 ghost use Rattle.settled_ticks.specs.Standing.{AreSeen, HasReported};
+ghost use Rattle.tracks.specs.Standing.{Remembers, kept_points};
 ghost use Rattle.tracks.specs.VesselsHeld.{accepted_of};
-ghost use Rattle.tracks.specs.declared.keeping.Keeping.TheVariants.{Tracks};
 
 use crate::guesses::Guesses;
 use crate::last_reports::{alone, last_near};
@@ -30,11 +30,10 @@ fn place_from(book: &Book, from: usize, mmsi: u32) -> usize {
     book.vessels()
 }
 
-/// The accepted reports of a vessel, which are found without a search where she is held at this index.
+/// The accepted reports of a vessel that are kept, which are found without a search where she is held at this index.
 fn points_near(judge: &Judge, place: usize, mmsi: u32) -> &[Accepted]
-    requires { keeping_of judge.now ≡ Tracks }
     ensures { (scenario : Scenario) (lines : List (List ℕ)) → JudgeStandsFor judge.now scenario lines
-        → result.now ≡ accepted_of (numbers_of scenario) (sent scenario lines) mmsi }
+        → result.now ≡ kept_points (keeping_of judge.now) (accepted_of (numbers_of scenario) (sent scenario lines) mmsi) }
 {
     let book = judge.book();
     if place < book.vessels() {
@@ -56,7 +55,7 @@ fn rank_of(
     place: usize,
     guesses: &mut Guesses,
 ) -> Rank
-    requires keeping { keeping_of judge.now ≡ Tracks }
+    requires remembers { Remembers (keeping_of judge.now) time }
     requires reported { HasReported judge.now vessel.now.0 time }
     ensures { (scenario : Scenario) (lines : List (List ℕ)) → JudgeStandsFor judge.now scenario lines
         → RanksStandFor types.now (noted (sent scenario lines)) → result ≡ vessel_rank scenario (sent scenario lines) time vessel.now }
@@ -75,7 +74,7 @@ pub(crate) fn rank_all(
     ranks: &mut Vec<Rank>,
     guesses: &mut Guesses,
 ) -> Result<(), Memory>
-    requires keeping { keeping_of judge.now ≡ Tracks }
+    requires remembers { Remembers (keeping_of judge.now) time }
     requires seen { AreSeen judge.now seen.now time }
     ensures { OnOk result ((scenario : Scenario) (lines : List (List ℕ)) → JudgeStandsFor judge.now scenario lines
         → ranks.new.items ≡ ranks_of scenario (sent scenario lines) time seen.now) }

@@ -1,5 +1,5 @@
 -- A watch as one who takes ticks.
-use Rattle.std.proofs.Common.{ℕ, ◌≡◌, ◌+◌, [], ◌∷◌, ◌++◌, List}
+use Rattle.std.proofs.Common.{◌≡◌, ◌+◌, [], ◌∷◌, ◌++◌, List}
 use Rattle.early_monitor.specs.Alarms.{AreAlarms}
 use Rattle.early_monitor.specs.Watching.{IsSound, StandsFor as WatchStandsFor, given_of, last_tick_of}
 use Rattle.early_monitor.specs.declared.alarm.Alarm.{Alarm}

@@ -3,6 +3,7 @@ use Rattle.std.specs.Prelude.{ℕ, List}
 use Rattle.audit_rows.specs.declared.row.Row.{Row}
 use Rattle.log_lines.specs.declared.judge.Judge.{Judge}
 use Rattle.scenario.specs.declared.values.Scenario.{Scenario}
+use Rattle.settled_ticks.specs.Standing.{handed_out}
 use Rattle.settling.specs.Inner.AuditedTicks.{audit_taker}
 use Rattle.settling.specs.Inner.TakenTicks.{HasTakenOneLog, HasTakenSettled}
 use Rattle.settling.specs.declared.settled_audit.SettledAudit.{SettledAudit}
@@ -14,3 +15,7 @@ StandsFor audit scenario lines given = HasTakenSettled (audit_taker audit.audit)
 -- The audit stands for lines that the judge has taken, before further ones.
 abbrev pub AreOfOneLog : SettledAudit → Scenario → Judge → Type 0
 AreOfOneLog audit scenario judge = HasTakenOneLog (audit_taker audit.audit) audit.ticks scenario judge
+
+-- how many ticks it has audited: the first ones
+abbrev pub audited_ticks : SettledAudit → ℕ
+audited_ticks audit = handed_out audit.ticks

@@ -3,6 +3,7 @@ use Rattle.std.specs.Prelude.{ℕ, List}
 use Rattle.early_monitor.specs.declared.alarm.Alarm.{Alarm}
 use Rattle.log_lines.specs.declared.judge.Judge.{Judge}
 use Rattle.scenario.specs.declared.values.Scenario.{Scenario}
+use Rattle.settled_ticks.specs.Standing.{handed_out}
 use Rattle.settling.specs.Inner.TakenTicks.{HasTakenOneLog, HasTakenSettled}
 use Rattle.settling.specs.Inner.WatchedTicks.{watch_taker}
 use Rattle.settling.specs.declared.settled_watch.SettledWatch.{SettledWatch}
@@ -14,3 +15,7 @@ StandsFor watch scenario lines given = HasTakenSettled (watch_taker watch.watch)
 -- The watch stands for lines that the judge has taken, before further ones.
 abbrev pub AreOfOneLog : SettledWatch → Scenario → Judge → Type 0
 AreOfOneLog watch scenario judge = HasTakenOneLog (watch_taker watch.watch) watch.ticks scenario judge
+
+-- how many ticks it has watched: the first ones
+abbrev pub watched_ticks : SettledWatch → ℕ
+watched_ticks watch = handed_out watch.ticks

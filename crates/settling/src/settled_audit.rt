@@ -13,11 +13,10 @@ ghost use Rattle.settling.specs.Inner.AuditedTicks.{audit_taker};
 ghost use Rattle.settling.specs.Inner.TakenTicks.{HasTaken, IsReady};
 ghost use Rattle.settling.specs.ManySettled.{HaveManySettled};
 ghost use Rattle.traces.specs.declared.all_traces.TheConstants.{MOST_TRACES};
-ghost use Rattle.settled_ticks.specs.Standing.{handed_out};
+ghost use Rattle.settled_ticks.specs.Standing.{RemembersTicks, handed_out, latest_time};
 ghost use Rattle.settled_ticks.specs.Sightings.{sighted};
 ghost use Rattle.settling.specs.ScenarioAudit.{audit_numbers};
-ghost use Rattle.settling.specs.Standing.{AreOfOneLog, StandsFor};
-ghost use Rattle.tracks.specs.declared.keeping.Keeping.TheVariants.{Tracks};
+ghost use Rattle.settling.specs.Standing.{AreOfOneLog, StandsFor, audited_ticks};
 
 use crate::lists::add;
 use auditor::{Audit, AuditEnd, AuditFault, Row};
@@ -56,15 +55,32 @@ impl SettledAudit {
         })
     }
 
+    /// How many ticks were taken.
+    pub fn count(&self) -> u32
+        ensures { result ≡ audited_ticks self.now }
+    {
+        self.ticks.count()
+    }
+
+    /// The time of the tick that was taken last, or of the first one where none was: where vessels were before is not looked at again, and
+    /// may be forgotten.
+    pub fn latest_time(&self, scenario: &Scenario) -> u64
+        requires { IsInRange scenario.now }
+        ensures { result ≡ latest_time scenario.now (audited_ticks self.now) }
+    {
+        self.ticks.latest_time(scenario)
+    }
+
     /// Audits each further tick that the judge's lines settle, and gives the rows that they decide, behind those that were given.
     /// Where no further tick is settled, this takes no memory. After an `Err` the audit may only be dropped.
     pub fn settle(&mut self, scenario: &Scenario, judge: &Judge) -> Result<Vec<Row>, AuditFault>
         requires in_range { IsInRange scenario.now }
-        requires keeping { keeping_of judge.now ≡ Tracks }
+        requires remembers { RemembersTicks (keeping_of judge.now) scenario.now (audited_ticks self.old) }
         requires one_log { AreOfOneLog self.old scenario.now judge.now }
         ensures stands { IfOk result (λ rows. (lines more : List (List ℕ)) (given : List Row) → StandsFor self.old scenario.now lines given
             → JudgeStandsFor judge.now scenario.now (lines ++ more)
             → StandsFor self.new scenario.now (lines ++ more) (given ++ rows.items)) }
+        ensures remembers { OnOk result (RemembersTicks (keeping_of judge.now) scenario.now (audited_ticks self.new)) }
         ensures decided { IfOk result (λ rows. (lines more : List (List ℕ)) (given : List Row) → StandsFor self.old scenario.now lines given
             → JudgeStandsFor judge.now scenario.now (lines ++ more)
             → AreDecided scenario.now (lines ++ more) (given ++ rows.items)) }
@@ -87,7 +103,7 @@ impl SettledAudit {
     /// Audits the ticks that are left by what the judge's lines tell, and gives the rows that they decide.
     fn finish(&mut self, scenario: &Scenario, judge: &Judge) -> Result<Vec<Row>, AuditFault>
         requires in_range { IsInRange scenario.now }
-        requires keeping { keeping_of judge.now ≡ Tracks }
+        requires remembers { RemembersTicks (keeping_of judge.now) scenario.now (audited_ticks self.old) }
         requires ready { IsReady (audit_taker self.old.audit) self.old.ticks scenario.now judge.now }
         ensures all { OnOk result (handed_out self.new.ticks ≡ scenario.now.window.ticks + 1) }
         ensures audited { IfOk result (λ rows. (lines : List (List ℕ)) (given : List Row) → JudgeStandsFor judge.now scenario.now lines
@@ -110,7 +126,7 @@ impl SettledAudit {
     /// given, and one total for each rule.
     pub fn end(mut self, scenario: &Scenario, judge: &Judge) -> Result<AuditEnd, AuditFault>
         requires in_range { IsInRange scenario.now }
-        requires keeping { keeping_of judge.now ≡ Tracks }
+        requires remembers { RemembersTicks (keeping_of judge.now) scenario.now (audited_ticks self) }
         requires one_log { AreOfOneLog self scenario.now judge.now }
         ensures rows { IfOk result (λ end. (lines more : List (List ℕ)) (given : List Row) → StandsFor self scenario.now lines given
             → JudgeStandsFor judge.now scenario.now (lines ++ more)

@@ -6,14 +6,14 @@ ghost use Rattle.log_lines.specs.SentLines.{sent};
 ghost use Rattle.log_lines.specs.Standing.{StandsFor as JudgeStandsFor, keeping_of};
 ghost use Rattle.scenario.specs.ScenarioValues.{IsInRange};
 ghost use Rattle.settled_ticks.specs.Sightings.{sighted};
+ghost use Rattle.settled_ticks.specs.Standing.{RemembersTicks, latest_time};
 ghost use Rattle.settling.specs.DecidedAlarms.{AreDecidedAlarms};
 ghost use Rattle.settling.specs.ManySettled.{HaveManySettled};
 ghost use Rattle.settling.specs.ScenarioAudit.{audit_numbers};
-ghost use Rattle.settling.specs.WatchStanding.{AreOfOneLog, StandsFor};
+ghost use Rattle.settling.specs.WatchStanding.{AreOfOneLog, StandsFor, watched_ticks};
 ghost use Rattle.traces.specs.ManyTraces.{HaveMoreThan};
 ghost use Rattle.traces.specs.declared.all_traces.TheConstants.{MOST_TRACES};
 ghost use Rattle.traces.specs.declared.fault.TickFault.TheVariants.{TooManyPairs};
-ghost use Rattle.tracks.specs.declared.keeping.Keeping.TheVariants.{Tracks};
 
 use crate::lists::add;
 use early_monitor::{Alarm, Watch, WatchFault};
@@ -52,15 +52,32 @@ impl SettledWatch {
         })
     }
 
+    /// How many ticks were taken.
+    pub fn count(&self) -> u32
+        ensures { result ≡ watched_ticks self.now }
+    {
+        self.ticks.count()
+    }
+
+    /// The time of the tick that was taken last, or of the first one where none was: where vessels were before is not looked at again, and
+    /// may be forgotten.
+    pub fn latest_time(&self, scenario: &Scenario) -> u64
+        requires { IsInRange scenario.now }
+        ensures { result ≡ latest_time scenario.now (watched_ticks self.now) }
+    {
+        self.ticks.latest_time(scenario)
+    }
+
     /// Watches each further tick that the judge's lines settle, and gives the alarms of these ticks, behind those that were given.
     /// Where no further tick is settled, this takes no memory. After an `Err` the watch may only be dropped.
     pub fn settle(&mut self, scenario: &Scenario, judge: &Judge) -> Result<Vec<Alarm>, WatchFault>
         requires in_range { IsInRange scenario.now }
-        requires keeping { keeping_of judge.now ≡ Tracks }
+        requires remembers { RemembersTicks (keeping_of judge.now) scenario.now (watched_ticks self.old) }
         requires one_log { AreOfOneLog self.old scenario.now judge.now }
         ensures stands { IfOk result (λ alarms. (lines more : List (List ℕ)) (given : List Alarm) → StandsFor self.old scenario.now lines given
             → JudgeStandsFor judge.now scenario.now (lines ++ more)
             → StandsFor self.new scenario.now (lines ++ more) (given ++ alarms.items)) }
+        ensures remembers { OnOk result (RemembersTicks (keeping_of judge.now) scenario.now (watched_ticks self.new)) }
         ensures decided { IfOk result (λ alarms. (lines more : List (List ℕ)) (given : List Alarm) → StandsFor self.old scenario.now lines given
             → JudgeStandsFor judge.now scenario.now (lines ++ more)
             → AreDecidedAlarms scenario.now (lines ++ more) (given ++ alarms.items)) }
@@ -82,7 +99,7 @@ impl SettledWatch {
     /// given.
     pub fn end(mut self, scenario: &Scenario, judge: &Judge) -> Result<Vec<Alarm>, WatchFault>
         requires in_range { IsInRange scenario.now }
-        requires keeping { keeping_of judge.now ≡ Tracks }
+        requires remembers { RemembersTicks (keeping_of judge.now) scenario.now (watched_ticks self) }
         requires one_log { AreOfOneLog self scenario.now judge.now }
         ensures alarms { IfOk result (λ rest. (lines more : List (List ℕ)) (given : List Alarm) → StandsFor self scenario.now lines given
             → JudgeStandsFor judge.now scenario.now (lines ++ more)

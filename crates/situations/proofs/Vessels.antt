@@ -45,11 +45,14 @@ held numbers messages mmsi a e = rw (some_report (accepted_of numbers messages m
 
 -- ---- her legs
 
-pub legs_are : (o : Option (List Leg)) (keeping : Keeping) (b : Bool) (legs : List Leg) → o ≡ (if b then Some (kept_legs keeping legs) else None) → b ≡ true → keeping ≡ Tracks
-    → legs_known o ≡ legs
-legs_are o keeping b legs e so all =
-    let held : o ≡ Some (kept_legs keeping legs) = e ∙ ap (λ (b : Bool). if b then Some (kept_legs keeping legs) else None) so in
-    ap legs_known held ∙ ap (λ (k : Keeping). kept_legs k legs) all
+pub legs_are : (o : Option (List Leg)) (keeping : Keeping) (numbers : JudgingNumbers) (messages : List Sent) (mmsi : ℕ)
+    → o ≡ (if is_held numbers messages mmsi then Some (kept_legs keeping numbers.gap (accepted_of numbers messages mmsi)) else None)
+    → is_held numbers messages mmsi ≡ true → keeping ≡ Tracks → legs_known o ≡ legs_of numbers messages mmsi
+unfolding legs_of
+legs_are o keeping numbers messages mmsi e so all =
+    let legs = kept_legs keeping numbers.gap (accepted_of numbers messages mmsi) in
+    let held : o ≡ Some legs = e ∙ ap (λ (b : Bool). if b then Some legs else None) so in
+    ap legs_known held ∙ ap (λ (k : Keeping). kept_legs k numbers.gap (accepted_of numbers messages mmsi)) all
 
 no_leg : (t : ℕ) (s : TickState) → state_at t [] ≡ Some s → ⊥
 no_leg t s e = let none = none_seen t in cc

@@ -28,6 +28,28 @@ pub(crate) struct FollowedTrace {
     follower: Follower,
 }
 
+/// What the ranks of the vessels of a pair say, where these are seen with their ranks. The places are where the two may be.
+/// It stands apart, so that a row at which no engagement begins is as fast as without it.
+#[inline(never)]
+fn by_rank_near(
+    seen: &[(u32, TickState)],
+    ranks: &[Rank],
+    pair: Pair,
+    subject_place: usize,
+    other_place: usize,
+) -> ByRank
+    requires { AreAscending seen.now }
+    ensures { result ≡ by_rank_in pair (record { vessels = seen.now; ranks = ranks.now }) }
+{
+    if ranks.is_empty() {
+        return BOTH_POWER_DRIVEN;
+    }
+    by_rank(
+        rank_near(seen, ranks, pair.subject, subject_place),
+        rank_near(seen, ranks, pair.other, other_place),
+    )
+}
+
 impl FollowedTrace {
     /// The trace of a pair that begins at a step, of which there are none yet.
     pub(crate) fn new(pair: Pair, start: u32, detect: Detect, act: Act, tick: u32) -> FollowedTrace
@@ -74,22 +96,8 @@ impl FollowedTrace {
         step_between(a0, b0, a1, b1)
     }
 
-    /// What the ranks of its vessels say, where these are seen with their ranks.
-    #[inline(always)]
-    fn by_rank(&self, seen: &[(u32, TickState)], ranks: &[Rank]) -> ByRank
-        requires { AreAscending seen.now }
-        ensures { result ≡ by_rank_in self.now.pair (record { vessels = seen.now; ranks = ranks.now }) }
-    {
-        if ranks.is_empty() {
-            return BOTH_POWER_DRIVEN;
-        }
-        by_rank(
-            rank_near(seen, ranks, self.pair.subject, self.subject_place),
-            rank_near(seen, ranks, self.pair.other, self.other_place),
-        )
-    }
-
-    /// Takes this step from the tick at which these vessels are seen with their ranks, and gives its row.
+    /// Takes this step from the tick at which these vessels are seen with their ranks, and gives its row. Their ranks are looked up
+    /// only where an engagement begins.
     #[inline(always)]
     pub(crate) fn take_step(
         &mut self,
@@ -106,8 +114,9 @@ impl FollowedTrace {
             → IsTakenFrom ticks known seen.now ranks.now
             → Follows numbers ticks self.new (watched known (option_copied step.entry) (answer_of result)) }
     {
-        let by_rank = self.by_rank(seen, ranks);
-        self.follower.step_ranked(step, by_rank)
+        self.follower.step_ranked(step, || {
+            by_rank_near(seen, ranks, self.pair, self.subject_place, self.other_place)
+        })
     }
 
     /// The state of the engagement at its latest step; apart before the first.

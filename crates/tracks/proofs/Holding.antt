@@ -8,13 +8,13 @@ use Rattle.std.proofs.lemmas.Bool.Decides.{nat_tests}
 use Rattle.ais_messages.specs.declared.message.StaticReport.{StaticReport}
 use Rattle.tracks.specs.AcceptedReports.{JudgingNumbers, accepted_after}
 use Rattle.tracks.specs.Standing.{vessel_of}
-use Rattle.tracks.specs.VesselsHeld.{Sent, accepted_of, held_of, is_held, legs_of, messages_of, reported_in, sender_of, senders_of, static_in, static_reports_of, statics_of, with_number}
+use Rattle.tracks.specs.VesselsHeld.{Sent, accepted_of, held_of, is_held, messages_of, reported_in, sender_of, senders_of, static_in, static_reports_of, statics_of, with_number}
 use Rattle.tracks.specs.Inner.AscendingNumbers.{Ascends}
 use Rattle.tracks.specs.Inner.Keeping.{accepted_in, makes_held, points_with, untold}
 use Rattle.tracks.specs.declared.accepted.Accepted.{Accepted}
 use Rattle.tracks.specs.declared.keeping.Keeping.{Keeping}
 use Rattle.tracks.proofs.Ascending.{IsAmong, among-with_number, among_passes, filter-ascends, filter_none_more, filter_one_more, itself_among, passes_among, with_number-ascends}
-use Rattle.tracks.proofs.KeptReports.{kept_legs-none, kept_points-none}
+use Rattle.tracks.proofs.KeptReports.{kept_counts-none, kept_points-none}
 use Rattle.tracks.proofs.Messages.{accepted_of-other, accepted_of-own, static_reports_of-other, static_reports_of-own}
 
 -- ---- a vessel
@@ -63,9 +63,9 @@ no_statics numbers sent mmsi h = (none_left (accepted_of numbers sent mmsi) (sta
 
 pub vessel_untold : (keeping : Keeping) (numbers : JudgingNumbers) (sent : List Sent) (mmsi : ℕ) → is_held numbers sent mmsi ≡ false
     → vessel_of keeping numbers sent mmsi ≡ untold
-unfolding legs_of statics_of
+unfolding statics_of
 vessel_untold keeping numbers sent mmsi h =
-    rw (no_points numbers sent mmsi h, no_statics numbers sent mmsi h, kept_points-none keeping, kept_legs-none keeping) refl
+    rw (no_points numbers sent mmsi h, no_statics numbers sent mmsi h, kept_points-none keeping, kept_counts-none keeping numbers.gap) refl
 
 either : (o : Option Accepted) (p : Option StaticReport) → some_of (points_with [] o) ([] ++ option_to_list p) ≡ (is_some p || is_some o)
 either None None = refl

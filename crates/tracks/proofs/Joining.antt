@@ -1,8 +1,8 @@
 -- One more accepted report, and the leg that it ends.
-use Rattle.std.proofs.Common.{length-append, ◌≡◌, ℕ, ◌+◌, ◌<◌, ◌≤◌, ◌⊎◌, inl, inr, List, [], ◌∷◌, ◌++◌, length, get_or, Some, None, refl, ap, sym, ◌∙◌, subst, arith}
-use Rattle.std.specs.Prelude.{Option, IfSome}
+use Rattle.std.proofs.Common.{length-append, ◌≡◌, ℕ, ◌+◌, ◌<◌, ◌≤◌, ◌⊎◌, inl, inr, nat_lt, true, false, List, [], ◌∷◌, ◌++◌, length, get_or, Some, None, refl, ap, sym, ◌∙◌, subst, arith}
+use Rattle.std.specs.Prelude.{Option, IfSome, is_some}
 use Rattle.std.specs.Option.{option_to_list}
-use Rattle.std.specs.List.{All, AllAdjacentBelow, cons_option, last_or}
+use Rattle.std.specs.List.{All, AllAdjacentBelow, last_or}
 use Rattle.std.proofs.lemmas.Bool.Decides.{nat_tests}
 use Rattle.std.proofs.lemmas.List.{append-nil, get_or_append_left}
 use Rattle.std.proofs.lemmas.List.Elements.{All-nil, All-push}
@@ -11,35 +11,17 @@ use Rattle.ais_messages.specs.MessageFields.{IsShipData}
 use Rattle.motion.specs.TickStates.{AreJoined, Meets}
 use Rattle.motion.specs.declared.leg.Leg.{Leg}
 use Rattle.motion.proofs.LastPassing.{last_or-at}
-use Rattle.tracks.specs.JoinedReports.{joined, leg_between, legs_between, legs_from}
-use Rattle.tracks.specs.Inner.Keeping.{EndsAt, IsKept, joined_after, vessel_with}
-use Rattle.tracks.specs.Standing.{IsAccepted, VesselValue, kept_points}
+use Rattle.tracks.specs.JoinedReports.{joined, leg_between, legs_between}
+use Rattle.tracks.specs.Inner.Keeping.{EndsAt, IsKept, counts_more, counts_with, joined_after, vessel_with}
+use Rattle.tracks.specs.Standing.{IsAccepted, VesselValue, kept_points, points_since}
 use Rattle.tracks.specs.declared.accepted.Accepted.{Accepted}
 use Rattle.tracks.specs.declared.statics.Statics.{Statics}
 use Rattle.tracks.specs.declared.keeping.Keeping.{Keeping}
-use Rattle.tracks.specs.declared.keeping.Keeping.TheVariants.{Latest, Tracks}
+use Rattle.tracks.specs.declared.keeping.Keeping.TheVariants.{Latest, Since, Tracks}
+use Rattle.tracks.proofs.Forgetting.{since-push}
 use Rattle.tracks.proofs.KeptReports.{kept_points-push, latest_alone}
-use Rattle.tracks.proofs.Lasts.{cons_option-nil, last_or-push}
-
--- ---- the legs
-
-cons-append : {A : Type 0} (o : Option A) (xs ys : List A) → cons_option o (xs ++ ys) ≡ cons_option o xs ++ ys
-cons-append None xs ys = refl
-cons-append (Some x) xs ys = refl
-
-legs_from-push : (gap : ℕ) (from : Accepted) (xs : List Accepted) (now : Accepted)
-    → legs_from gap from (xs ++ now ∷ []) ≡ legs_from gap from xs ++ option_to_list (joined_after gap (last_or (Some from) xs) now)
-unfolding legs_from
-legs_from-push gap from [] now = cons_option-nil (joined gap from now)
-legs_from-push gap from (x ∷ xs) now =
-    ap (cons_option (joined gap from x)) (legs_from-push gap x xs now)
-    ∙ cons-append (joined gap from x) (legs_from gap x xs) (option_to_list (joined_after gap (last_or (Some x) xs) now))
-
-pub legs_between-push : (gap : ℕ) (xs : List Accepted) (now : Accepted)
-    → legs_between gap (xs ++ now ∷ []) ≡ legs_between gap xs ++ option_to_list (joined_after gap (last_or None xs) now)
-unfolding legs_from
-legs_between-push gap [] now = refl
-legs_between-push gap (x ∷ xs) now = legs_from-push gap x xs now
+use Rattle.tracks.proofs.Lasts.{last_or-push}
+use Rattle.tracks.proofs.Legs.{legs_between-push}
 
 -- ---- what holds of them
 
@@ -161,26 +143,28 @@ pub record HasTaken (keeping : Keeping) (gap : ℕ) (old new : VesselValue) (now
   pub is : new ≡ vessel_with keeping gap old (Some now)
 
 has_taken : (keeping : Keeping) (gap : ℕ) (old new : VesselValue) (now : Accepted) → IsKept keeping gap new → new.points ≡ kept_points keeping (old.points ++ now ∷ [])
-    → new.statics ≡ old.statics → HasTaken keeping gap old new now
-has_taken keeping gap old new now kept points statics =
+    → new.counts ≡ counts_with keeping gap old (Some now) → new.statics ≡ old.statics → HasTaken keeping gap old new now
+has_taken keeping gap old new now kept points counts statics =
     let legs : new.legs ≡ legs_between gap (kept_points keeping (old.points ++ now ∷ [])) = kept.legs ∙ ap (legs_between gap) points in
-    record { kept = kept; is = λ i. record { points = points i; legs = legs i; statics = statics i } }
+    record { kept = kept; is = λ i. record { points = points i; legs = legs i; counts = counts i; statics = statics i } }
 
 pub takes_joined : (gap : ℕ) (old inside new : VesselValue) (now : Accepted) (leg : Leg) → inside ≡ old → IsKept Tracks gap old → IsAccepted now
     → joined_after gap (last_or None inside.points) now ≡ Some leg → new.points ≡ inside.points ++ now ∷ [] → new.legs ≡ inside.legs ++ leg ∷ []
-    → new.statics ≡ inside.statics → HasTaken Tracks gap old new now
-takes_joined gap old inside new now leg same h is e points legs statics =
+    → new.counts ≡ counts_more inside.counts true → new.statics ≡ inside.statics → HasTaken Tracks gap old new now
+takes_joined gap old inside new now leg same h is e points legs counts statics =
     let kept : IsKept Tracks gap inside = subst (IsKept Tracks gap) (sym same) h in
     let new-kept = kept_joined gap inside new now leg kept is e points legs statics in
-    subst (λ (v : VesselValue). HasTaken Tracks gap v new now) same (has_taken Tracks gap inside new now new-kept points statics)
+    let all-counts = counts ∙ ap (λ (o : Option Leg). counts_more inside.counts (is_some o)) (sym e) in
+    subst (λ (v : VesselValue). HasTaken Tracks gap v new now) same (has_taken Tracks gap inside new now new-kept points all-counts statics)
 
 pub takes_apart : (gap : ℕ) (old inside new : VesselValue) (now : Accepted) → inside ≡ old → IsKept Tracks gap old → IsAccepted now
     → joined_after gap (last_or None inside.points) now ≡ None → new.points ≡ inside.points ++ now ∷ [] → new.legs ≡ inside.legs
-    → new.statics ≡ inside.statics → HasTaken Tracks gap old new now
-takes_apart gap old inside new now same h is e points legs statics =
+    → new.counts ≡ counts_more inside.counts false → new.statics ≡ inside.statics → HasTaken Tracks gap old new now
+takes_apart gap old inside new now same h is e points legs counts statics =
     let kept : IsKept Tracks gap inside = subst (IsKept Tracks gap) (sym same) h in
     let new-kept = kept_apart gap inside new now kept is e points legs statics in
-    subst (λ (v : VesselValue). HasTaken Tracks gap v new now) same (has_taken Tracks gap inside new now new-kept points statics)
+    let all-counts = counts ∙ ap (λ (o : Option Leg). counts_more inside.counts (is_some o)) (sym e) in
+    subst (λ (v : VesselValue). HasTaken Tracks gap v new now) same (has_taken Tracks gap inside new now new-kept points all-counts statics)
 
 -- ---- a vessel of whom the latest report alone is kept
 
@@ -204,12 +188,37 @@ takes_alone : (gap : ℕ) (old new : VesselValue) (now : Accepted) → IsKept La
 takes_alone gap old new now h is e =
     let points : new.points ≡ now ∷ [] = ap (λ (v : VesselValue). v.points) e in
     has_taken Latest gap old new now (kept_latest gap old new now h is points (ap (λ (v : VesselValue). v.legs) e) (ap (λ (v : VesselValue). v.statics) e)) (points ∙ sym (kept_points-push old.points now))
-    (ap (λ (v : VesselValue). v.statics) e)
+    (ap (λ (v : VesselValue). v.counts) e) (ap (λ (v : VesselValue). v.statics) e)
 
 pub takes_latest : (keeping : Keeping) (gap : ℕ) (old new : VesselValue) (now : Accepted) → keeping ≡ Latest → IsKept keeping gap old → IsAccepted now
     → new ≡ record old { points = now ∷ [] } → HasTaken keeping gap old new now
 takes_latest keeping gap old new now latest h is e =
     subst (λ (k : Keeping). HasTaken k gap old new now) (sym latest) (takes_alone gap old new now (subst (λ (k : Keeping). IsKept k gap old) latest h) is e)
+
+-- ---- a vessel of whom the reports from a time on are kept
+
+-- a report that is not earlier
+takes_since : (gap time : ℕ) (old new : VesselValue) (now : Accepted) → IsKept (Since time) gap old → IsKept Tracks gap new → new ≡ vessel_with Tracks gap old (Some now)
+    → time ≤ now.time → HasTaken (Since time) gap old new now
+takes_since gap time old new now h kept e late =
+    let not : nat_lt now.time time ≡ false = grind (arith, nat_tests) in
+    let points : points_since time (old.points ++ now ∷ []) ≡ old.points ++ now ∷ [] =
+    since-push time old.points now not ∙ ap (λ (xs : List Accepted). xs ++ now ∷ []) (sym h.no_others) in
+    let are : new.points ≡ old.points ++ now ∷ [] = ap (λ (v : VesselValue). v.points) e in
+    let new-kept : IsKept (Since time) gap new = record {
+      points = kept.points;
+      no_others = are ∙ sym points ∙ ap (points_since time) (sym are);
+      legs = kept.legs;
+      ends = kept.ends;
+      are_joined = kept.are_joined;
+      ship = kept.ship;
+    } in
+    has_taken (Since time) gap old new now new-kept (are ∙ sym points) (ap (λ (v : VesselValue). v.counts) e) (ap (λ (v : VesselValue). v.statics) e)
+
+pub takes_late : (keeping : Keeping) (gap time : ℕ) (old new : VesselValue) (now : Accepted) → keeping ≡ Since time → IsKept keeping gap old → IsKept Tracks gap new
+    → new ≡ vessel_with Tracks gap old (Some now) → time ≤ now.time → HasTaken keeping gap old new now
+takes_late keeping gap time old new now is h kept e late =
+    subst (λ (k : Keeping). HasTaken k gap old new now) (sym is) (takes_since gap time old new now (subst (λ (k : Keeping). IsKept k gap old) is h) kept e late)
 
 pub joined-within : (gap : ℕ) (latest now : Accepted) (leg : Leg) → joined gap latest now ≡ Some leg → now.time ≤ latest.time + gap
 joined-within gap latest now leg e = grind (arith, nat_tests)

@@ -24,8 +24,9 @@ use Rattle.tracks.specs.declared.entry.ReportCause.{ReportCause}
 use Rattle.tracks.specs.declared.entry.ReportCause.TheVariants.{Back, Repeat, Jump}
 use Rattle.tracks.specs.declared.keeping.Keeping.TheVariants.{Tracks}
 use Rattle.tracks.proofs.Holding.{no_points}
-use Rattle.tracks.proofs.Joining.{joined-none, joined-some, legs_between-push}
+use Rattle.tracks.proofs.Joining.{joined-none, joined-some}
 use Rattle.tracks.proofs.Lasts.{last_or-push}
+use Rattle.tracks.proofs.Legs.{legs_between-push}
 use Rattle.tracks.proofs.OneList.{judged_placed}
 
 -- ---- accepted reports come later and later
@@ -198,15 +199,16 @@ comes_on_legs numbers sent mmsi latest moves last t before lt close seen =
 -- ---- in the book
 
 legs_move : (book : BookValue) (numbers : JudgingNumbers) (sent : List Sent) (mmsi : ℕ) (o : Option (List Leg)) → book.keeping ≡ Tracks → StandsFor book numbers sent
-    → o ≡ (if is_held numbers sent mmsi then Some (kept_legs book.keeping (legs_of numbers sent mmsi)) else None) → IfSome o (MovesLittle book.numbers.gap)
+    → o ≡ (if is_held numbers sent mmsi then Some (kept_legs book.keeping numbers.gap (accepted_of numbers sent mmsi)) else None) → IfSome o (MovesLittle book.numbers.gap)
     → is_held numbers sent mmsi ≡ true → MovesLittle numbers.gap (legs_of numbers sent mmsi)
+unfolding legs_of
 legs_move book numbers sent mmsi o all h e moves held =
-    let some : o ≡ Some (legs_of numbers sent mmsi) = e ∙ (λ i. if held i then Some (kept_legs (all i) (legs_of numbers sent mmsi)) else None) in
+    let some : o ≡ Some (legs_of numbers sent mmsi) = e ∙ (λ i. if held i then Some (kept_legs (all i) numbers.gap (accepted_of numbers sent mmsi)) else None) in
     let gap : book.numbers.gap ≡ numbers.gap = ap (λ (n : JudgingNumbers). n.gap) h.by in
     subst (λ (g : ℕ). MovesLittle g (legs_of numbers sent mmsi)) gap (subst (λ (o : Option (List Leg)). IfSome o (MovesLittle book.numbers.gap)) some moves)
 
 pub comes_to_latest : (book : BookValue) (numbers : JudgingNumbers) (sent : List Sent) (mmsi : ℕ) (o : Option (List Leg)) → book.keeping ≡ Tracks → StandsFor book numbers sent
-    → o ≡ (if is_held numbers sent mmsi then Some (kept_legs book.keeping (legs_of numbers sent mmsi)) else None) → IfSome o (MovesLittle book.numbers.gap)
+    → o ≡ (if is_held numbers sent mmsi then Some (kept_legs book.keeping numbers.gap (accepted_of numbers sent mmsi)) else None) → IfSome o (MovesLittle book.numbers.gap)
     → (latest : Accepted) → last_or None (accepted_of numbers sent mmsi) ≡ Some latest
     → (t : ℕ) (before : TickState) → t < latest.time → latest.time ≤ t + numbers.gap
     → state_at t (legs_of numbers sent mmsi) ≡ Some before → IsWithin ((latest.time - t) * 525763 + 2) (displacement before.point latest.point)

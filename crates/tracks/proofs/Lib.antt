@@ -1,9 +1,13 @@
 pub mod Ascending
 pub mod Lasts
+pub mod Forgetting
+pub mod Gone
+pub mod Legs
 pub mod KeptReports
 pub mod Joining
 pub mod Messages
 pub mod Holding
+pub mod Counting
 pub mod Stands
 pub mod Books
 pub mod OneList

@@ -9,13 +9,13 @@ use Rattle.std.proofs.lemmas.List.Elements.{filter-append, filter_map-append}
 use Rattle.ais_messages.specs.declared.message.StaticReport.{StaticReport}
 use Rattle.tracks.specs.AcceptedReports.{JudgingNumbers, Reported, accepted_after, accepted_list, accepted_with, judged}
 use Rattle.tracks.specs.JoinedReports.{legs_between}
-use Rattle.tracks.specs.Standing.{kept_legs, kept_points, vessel_of}
-use Rattle.tracks.specs.VesselsHeld.{Sent, accepted_of, last_told, legs_of, messages_of, reported_in, sender_of, static_in, static_reports_of, statics_of}
-use Rattle.tracks.specs.Inner.Keeping.{accepted_by, accepted_in, kept_with, points_with, statics_with, vessel_after}
+use Rattle.tracks.specs.Standing.{kept_counts, kept_legs, kept_points, vessel_of}
+use Rattle.tracks.specs.VesselsHeld.{Sent, accepted_of, last_told, messages_of, reported_in, sender_of, static_in, static_reports_of, statics_of}
+use Rattle.tracks.specs.Inner.Keeping.{accepted_by, accepted_in, counts_with, kept_with, points_with, statics_with, vessel_after}
 use Rattle.tracks.specs.declared.accepted.Accepted.{Accepted}
 use Rattle.tracks.specs.declared.entry.ReportCause.{ReportCause}
 use Rattle.tracks.specs.declared.keeping.Keeping.{Keeping}
-use Rattle.tracks.proofs.KeptReports.{kept_legs-between, kept_points-last, kept_points-more}
+use Rattle.tracks.proofs.KeptReports.{kept_counts-more, kept_points-last, kept_points-more}
 use Rattle.tracks.proofs.Lasts.{cons_option-nil, last_or-push}
 
 -- ---- one more report
@@ -136,7 +136,7 @@ statics_of-other sent one mmsi ne = ap last_told (static_reports_of-other sent o
 
 pub vessel_of-own : (keeping : Keeping) (numbers : JudgingNumbers) (sent : List Sent) (one : Sent) (mmsi : ℕ) → sender_of one.message ≡ mmsi
     → vessel_of keeping numbers (sent ++ one ∷ []) mmsi ≡ vessel_after keeping numbers (vessel_of keeping numbers sent mmsi) one
-unfolding vessel_after legs_of
+unfolding vessel_after
 vessel_of-own keeping numbers sent one mmsi e =
     let before = accepted_of numbers sent mmsi in
     let came : Option Accepted → Option Accepted = λ latest. accepted_in numbers latest (reported_in one) in
@@ -144,14 +144,23 @@ vessel_of-own keeping numbers sent one mmsi e =
     ≡ kept_with keeping (kept_points keeping before) (came (last_or None (kept_points keeping before))) =
     ap (kept_points keeping) (accepted_of-own numbers sent one mmsi e) ∙ kept_points-more keeping before (came (last_or None before))
     ∙ ap (λ (latest : Option Accepted). kept_with keeping (kept_points keeping before) (came latest)) (sym (kept_points-last keeping before)) in
-    let legs = kept_legs-between keeping numbers.gap (accepted_of numbers (sent ++ one ∷ []) mmsi) ∙ ap (legs_between numbers.gap) points in
+    let old = vessel_of keeping numbers sent mmsi in
+    let latest : last_or None old.points ≡ last_or None before = kept_points-last keeping before in
+    let counts : kept_counts keeping numbers.gap (accepted_of numbers (sent ++ one ∷ []) mmsi) ≡ counts_with keeping numbers.gap old (came (last_or None old.points)) =
+    ap (kept_counts keeping numbers.gap) (accepted_of-own numbers sent one mmsi e)
+    ∙ kept_counts-more keeping numbers.gap old before (came (last_or None before)) refl latest
+    ∙ ap (λ (o : Option Accepted). counts_with keeping numbers.gap old (came o)) (sym latest) in
     let statics = statics_of-own sent one mmsi e in
-    λ i. record { points = points i; legs = legs i; statics = statics i }
+    λ i. record { points = points i; legs = legs_between numbers.gap (points i); counts = counts i; statics = statics i }
 
 pub vessel_of-other : (keeping : Keeping) (numbers : JudgingNumbers) (sent : List Sent) (one : Sent) (mmsi : ℕ) → mmsi ≢ sender_of one.message
     → vessel_of keeping numbers (sent ++ one ∷ []) mmsi ≡ vessel_of keeping numbers sent mmsi
-unfolding legs_of
 vessel_of-other keeping numbers sent one mmsi ne =
     let points = accepted_of-other numbers sent one mmsi ne in
     let statics = statics_of-other sent one mmsi ne in
-    λ i. record { points = kept_points keeping (points i); legs = kept_legs keeping (legs_between numbers.gap (points i)); statics = statics i }
+    λ i. record {
+      points = kept_points keeping (points i);
+      legs = kept_legs keeping numbers.gap (points i);
+      counts = kept_counts keeping numbers.gap (points i);
+      statics = statics i;
+    }

@@ -1,5 +1,5 @@
 -- Accepted reports stand in the order of their times, and a vessel that is seen has reported by then.
-use Rattle.std.proofs.Common.{◌≡◌, ℕ, zero, suc, ◌+◌, ◌<◌, ◌⊎◌, inl, inr, Bool, true, false, cond, nat_le, List, [], ◌∷◌, ◌++◌, length, get_or, Some, None, refl, ap, sym, arith, ◌∙◌}
+use Rattle.std.proofs.Common.{◌≡◌, ℕ, zero, suc, ◌+◌, ◌<◌, ◌⊎◌, inl, inr, Bool, true, false, cond, nat_le, nat_lt, List, [], ◌∷◌, ◌++◌, length, get_or, Some, None, refl, ap, sym, arith, ◌∙◌}
 use Rattle.std.specs.Prelude.{IsSome, Option}
 use Rattle.std.specs.List.{All, cons_option, filter, last_or}
 use Rattle.std.specs.List.Sorted.{IsNonDecreasingBy}
@@ -13,6 +13,10 @@ use Rattle.motion.specs.declared.leg.Leg.{Leg}
 use Rattle.motion.specs.declared.leg.TickState.{TickState}
 use Rattle.motion.proofs.LastPassing.{filter_none}
 use Rattle.tracks.specs.AcceptedReports.{JudgingNumbers}
+use Rattle.tracks.specs.Standing.{Remembers, kept_points, points_since}
+use Rattle.tracks.specs.declared.keeping.Keeping.{Keeping}
+use Rattle.tracks.specs.declared.keeping.Keeping.TheVariants.{Latest, Since, Tracks}
+use Rattle.tracks.proofs.Forgetting.{reported_since}
 use Rattle.tracks.specs.JoinedReports.{joined, leg_between, legs_between, legs_from}
 use Rattle.tracks.specs.VesselsHeld.{Sent, accepted_of, legs_of, report_in, reported_in, sender_of}
 use Rattle.tracks.specs.declared.accepted.Accepted.{Accepted}
@@ -136,3 +140,31 @@ past_reports_stay numbers sent one mmsi t lt =
     later accepted is =
         let time = reported_time numbers (last_or None (accepted_of numbers sent mmsi)) (report_in one.message) one.time accepted is in
         omega arith
+
+-- ---- the reports that are kept
+
+order_less : (x : Accepted) (xs : List Accepted) → IsNonDecreasingBy (λ (report : Accepted). report.time) (x ∷ xs) → IsNonDecreasingBy (λ (report : Accepted). report.time) xs
+order_less x xs h i j d le within = h (suc i) (suc j) d (omega arith) (omega arith)
+
+order_since : (t : ℕ) (xs : List Accepted) → IsNonDecreasingBy (λ (report : Accepted). report.time) xs → IsNonDecreasingBy (λ (report : Accepted). report.time) (points_since t xs)
+order_since t [] h = h
+order_since t (x ∷ []) h = h
+order_since t (x ∷ y ∷ ys) h =
+    elim (cases_Bool (nat_lt y.time t)) [
+      | inl before ↦ rw before (order_since t (y ∷ ys) (order_less x (y ∷ ys) h))
+      | inr not ↦ rw not h
+    ]
+
+-- Where the time is remembered, the reports that are kept are in their order ..
+pub remembered_in_order : (keeping : Keeping) (numbers : JudgingNumbers) (sent : List Sent) (mmsi t : ℕ) → Remembers keeping t
+    → IsNonDecreasingBy (λ (report : Accepted). report.time) (kept_points keeping (accepted_of numbers sent mmsi))
+remembered_in_order Latest numbers sent mmsi t remembers = absurd remembers
+remembered_in_order Tracks numbers sent mmsi t remembers = accepted_in_order numbers sent mmsi
+remembered_in_order (Since time) numbers sent mmsi t remembers = order_since time (accepted_of numbers sent mmsi) (accepted_in_order numbers sent mmsi)
+
+-- .. and the last of them that has come by then is the last of all.
+pub remembered_report : (keeping : Keeping) (xs : List Accepted) (t : ℕ) → Remembers keeping t
+    → last_or None (filter (λ (report : Accepted). nat_le report.time t) (kept_points keeping xs)) ≡ last_or None (filter (λ (report : Accepted). nat_le report.time t) xs)
+remembered_report Latest xs t remembers = absurd remembers
+remembered_report Tracks xs t remembers = refl
+remembered_report (Since time) xs t remembers = reported_since time t xs remembers

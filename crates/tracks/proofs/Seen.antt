@@ -15,12 +15,11 @@ use Rattle.motion.specs.declared.leg.Leg.{Leg}
 use Rattle.motion.specs.declared.leg.TickState.{TickState}
 use Rattle.tracks.specs.AcceptedReports.{JudgingNumbers}
 use Rattle.tracks.specs.SeenVessels.{seen_in, seen_of, seen_vessel}
-use Rattle.tracks.specs.Standing.{BookValue, StandsFor, VesselValue, kept_legs, legs_among, legs_in}
-use Rattle.tracks.specs.VesselsHeld.{Sent, legs_of}
+use Rattle.tracks.specs.Standing.{BookValue, Remembers, StandsFor, VesselValue, legs_among, legs_in}
+use Rattle.tracks.specs.VesselsHeld.{Sent, accepted_of, legs_of}
 use Rattle.tracks.specs.Inner.AscendingNumbers.{Ascends}
-use Rattle.tracks.specs.declared.keeping.Keeping.{Keeping}
-use Rattle.tracks.specs.declared.keeping.Keeping.TheVariants.{Tracks}
 use Rattle.tracks.proofs.Ascending.{ascends_lt}
+use Rattle.tracks.proofs.KeptReports.{kept_legs-state}
 use Rattle.tracks.proofs.Lasts.{cons_option-nil}
 use Rattle.tracks.proofs.Settled.{legs_in-is}
 
@@ -61,13 +60,13 @@ seen_all book time at seen le h = h ∙ ap (filter_map (seen_vessel time (legs_i
 
 -- ---- by the messages
 
-pub seen_in-is : (book : BookValue) (numbers : JudgingNumbers) (sent : List Sent) (time : ℕ) → book.keeping ≡ Tracks → StandsFor book numbers sent
+pub seen_in-is : (book : BookValue) (numbers : JudgingNumbers) (sent : List Sent) (time : ℕ) → Remembers book.keeping time → StandsFor book numbers sent
     → seen_in book time ≡ seen_of numbers sent time
-unfolding seen_in seen_of
-seen_in-is book numbers sent time all h =
-    let legs : (m : ℕ) → legs_in book m ≡ legs_of numbers sent m =
-    λ m. legs_in-is book numbers sent m h ∙ ap (λ (keeping : Keeping). kept_legs keeping (legs_of numbers sent m)) all in
-    λ i. filter_map (seen_vessel time (λ m. legs m i)) (h.holds i)
+unfolding seen_in seen_of legs_of
+seen_in-is book numbers sent time remembers h =
+    let states : (m : ℕ) → state_at time (legs_in book m) ≡ state_at time (legs_of numbers sent m) =
+    λ m. ap (state_at time) (legs_in-is book numbers sent m h) ∙ kept_legs-state book.keeping numbers.gap time (accepted_of numbers sent m) remembers in
+    λ i. filter_map (λ m. option_map (λ (state : TickState). (m, state)) (states m i)) (h.holds i)
 
 -- ---- what holds of each vessel seen
 

@@ -14,7 +14,7 @@ use Rattle.fixed_geometry.specs.declared.point.Point.{Point}
 use Rattle.ais_messages.specs.declared.message.PositionReport.{PositionReport}
 use Rattle.tracks.specs.AcceptedReports.{JudgingNumbers, Reported, at_place, at_point, judged, placed}
 use Rattle.tracks.specs.JoinedReports.{legs_between}
-use Rattle.tracks.specs.Standing.{BookValue, StandsFor, VesselValue, kept_legs, legs_among, legs_in, vessel_of}
+use Rattle.tracks.specs.Standing.{BookValue, StandsFor, VesselValue, forgotten, kept_legs, legs_among, legs_in, vessel_of}
 use Rattle.tracks.specs.VesselsHeld.{Sent, accepted_of, held_of, is_held, legs_of, report_in, reported_in, sender_of}
 use Rattle.tracks.proofs.Ascending.{IsAmong}
 use Rattle.tracks.proofs.Holding.{held_among, held_passes, no_points, same_or_other}
@@ -22,9 +22,11 @@ use Rattle.tracks.specs.Inner.Keeping.{accepted_by, accepted_in, joined_after, p
 use Rattle.tracks.specs.declared.accepted.Accepted.{Accepted}
 use Rattle.tracks.specs.declared.entry.ReportCause.{ReportCause}
 use Rattle.tracks.specs.declared.keeping.Keeping.{Keeping}
-use Rattle.tracks.specs.declared.keeping.Keeping.TheVariants.{Latest, Tracks}
-use Rattle.tracks.proofs.KeptReports.{kept_legs-none}
-use Rattle.tracks.proofs.Joining.{joined-some, joined-within, legs_between-push}
+use Rattle.tracks.specs.declared.keeping.Keeping.TheVariants.{Latest, Since, Tracks}
+use Rattle.tracks.proofs.Forgetting.{seen_since}
+use Rattle.tracks.proofs.KeptReports.{kept_legs-latest, kept_legs-none}
+use Rattle.tracks.proofs.Joining.{joined-some, joined-within}
+use Rattle.tracks.proofs.Legs.{legs_between-push}
 use Rattle.tracks.proofs.Messages.{accepted_of-other, accepted_of-own}
 use Rattle.tracks.proofs.OneList.{judged_placed}
 
@@ -130,32 +132,38 @@ legs_among-none f (n ∷ ms) m not =
     differs (inl same) = absurd (not (inl (sym same)))
     differs (inr other) = grind (arith, nat_tests)
 
-no_legs : (keeping : Keeping) (numbers : JudgingNumbers) (sent : List Sent) (m : ℕ) → is_held numbers sent m ≡ false → [] ≡ kept_legs keeping (legs_of numbers sent m)
-unfolding legs_of
+no_legs : (keeping : Keeping) (numbers : JudgingNumbers) (sent : List Sent) (m : ℕ) → is_held numbers sent m ≡ false
+    → [] ≡ kept_legs keeping numbers.gap (accepted_of numbers sent m)
 no_legs keeping numbers sent m h =
-    sym (kept_legs-none keeping) ∙ ap (λ (xs : List Accepted). kept_legs keeping (legs_between numbers.gap xs)) (sym (no_points numbers sent m h))
+    sym (kept_legs-none keeping numbers.gap) ∙ ap (kept_legs keeping numbers.gap) (sym (no_points numbers sent m h))
 
 pub legs_in-is : (book : BookValue) (numbers : JudgingNumbers) (sent : List Sent) (m : ℕ) → StandsFor book numbers sent
-    → legs_in book m ≡ kept_legs book.keeping (legs_of numbers sent m)
+    → legs_in book m ≡ kept_legs book.keeping numbers.gap (accepted_of numbers sent m)
 legs_in-is book numbers sent m h =
     (λ i. legs_among (h.holds i) (h.vessels i) m) ∙ decide (is_held numbers sent m) refl
   where
     decide : (b : Bool) → is_held numbers sent m ≡ b
-        → legs_among (held_of numbers sent) (map (vessel_of book.keeping numbers sent) (held_of numbers sent)) m ≡ kept_legs book.keeping (legs_of numbers sent m)
+        → legs_among (held_of numbers sent) (map (vessel_of book.keeping numbers sent) (held_of numbers sent)) m
+        ≡ kept_legs book.keeping numbers.gap (accepted_of numbers sent m)
     decide true e = legs_among-own (vessel_of book.keeping numbers sent) (held_of numbers sent) m (held_among numbers sent m e)
     decide false e =
         legs_among-none (vessel_of book.keeping numbers sent) (held_of numbers sent) m
         (λ h. let held : is_held numbers sent m ≡ true = held_passes numbers sent m h in absurd (cc)) ∙ no_legs book.keeping numbers sent m e
 
 -- also of the legs that are kept
-kept_past : (keeping : Keeping) (numbers : JudgingNumbers) (sent : List Sent) (one : Sent) (mmsi t : ℕ) → t + numbers.gap < one.time
-    → state_at t (kept_legs keeping (legs_of numbers (sent ++ one ∷ []) mmsi)) ≡ state_at t (kept_legs keeping (legs_of numbers sent mmsi))
-kept_past Latest numbers sent one mmsi t lt = refl
-kept_past Tracks numbers sent one mmsi t lt = past_stays numbers sent one mmsi t lt
+kept_past : (keeping : Keeping) (numbers : JudgingNumbers) (sent : List Sent) (one : Sent) (mmsi t : ℕ) → forgotten keeping ≤ t → t + numbers.gap < one.time
+    → state_at t (kept_legs keeping numbers.gap (accepted_of numbers (sent ++ one ∷ []) mmsi)) ≡ state_at t (kept_legs keeping numbers.gap (accepted_of numbers sent mmsi))
+unfolding legs_of
+kept_past Latest numbers sent one mmsi t le lt =
+    ap (state_at t) (kept_legs-latest numbers.gap (accepted_of numbers (sent ++ one ∷ []) mmsi) ∙ sym (kept_legs-latest numbers.gap (accepted_of numbers sent mmsi)))
+kept_past Tracks numbers sent one mmsi t le lt = past_stays numbers sent one mmsi t lt
+kept_past (Since time) numbers sent one mmsi t le lt =
+    seen_since numbers.gap time t (accepted_of numbers (sent ++ one ∷ []) mmsi) le ∙ past_stays numbers sent one mmsi t lt
+    ∙ sym (seen_since numbers.gap time t (accepted_of numbers sent mmsi) le)
 
 pub past_stays_in : (old new : BookValue) (numbers : JudgingNumbers) (sent : List Sent) (one : Sent) (mmsi t : ℕ) → new.keeping ≡ old.keeping → StandsFor old numbers sent
-    → StandsFor new numbers (sent ++ one ∷ []) → t + numbers.gap < one.time → state_at t (legs_in new mmsi) ≡ state_at t (legs_in old mmsi)
-past_stays_in old new numbers sent one mmsi t same before after lt =
+    → StandsFor new numbers (sent ++ one ∷ []) → forgotten old.keeping ≤ t → t + numbers.gap < one.time → state_at t (legs_in new mmsi) ≡ state_at t (legs_in old mmsi)
+past_stays_in old new numbers sent one mmsi t same before after le lt =
     ap (state_at t) (legs_in-is new numbers (sent ++ one ∷ []) mmsi after)
-    ∙ ap (λ (keeping : Keeping). state_at t (kept_legs keeping (legs_of numbers (sent ++ one ∷ []) mmsi))) same
-    ∙ kept_past old.keeping numbers sent one mmsi t lt ∙ ap (state_at t) (sym (legs_in-is old numbers sent mmsi before))
+    ∙ ap (λ (keeping : Keeping). state_at t (kept_legs keeping numbers.gap (accepted_of numbers (sent ++ one ∷ []) mmsi))) same
+    ∙ kept_past old.keeping numbers sent one mmsi t le lt ∙ ap (state_at t) (sym (legs_in-is old numbers sent mmsi before))

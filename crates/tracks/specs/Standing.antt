@@ -1,32 +1,68 @@
 -- What a book of vessels stands for.
-use Rattle.std.specs.Prelude.{ℕ, ◌≡◌, ◌==◌, ◌≤◌, true, List, [], ◌∷◌, map, Option, Some, None, if◌then◌else◌}
+use Rattle.std.specs.Prelude.{ℕ, ◌≡◌, ◌==◌, ◌-◌, ◌^◌, ◌≤◌, ⊤, max, min, nat_lt, true, List, [], ◌∷◌, length, map, Option, Some, None, if◌then◌else◌}
 use Rattle.std.specs.List.{last_or}
 use Rattle.std.specs.Option.{option_to_list}
 use Rattle.fixed_geometry.specs.Sizes.{IsWithin}
 use Rattle.ais_messages.specs.MessageFields.{IsReport}
 use Rattle.motion.specs.declared.leg.Leg.{Leg}
 use Rattle.tracks.specs.AcceptedReports.{JudgingNumbers}
-use Rattle.tracks.specs.VesselsHeld.{Sent, accepted_of, held_of, is_held, legs_of, statics_of}
+use Rattle.tracks.specs.JoinedReports.{legs_between}
+use Rattle.tracks.specs.VesselsHeld.{Sent, accepted_of, held_of, is_held, statics_of}
 use Rattle.tracks.specs.declared.accepted.Accepted.{Accepted}
+use Rattle.tracks.specs.declared.counts.Counts.{Counts}
 use Rattle.tracks.specs.declared.held_vessel.HeldVessel.{HeldVessel}
 use Rattle.tracks.specs.declared.keeping.Keeping.{Keeping}
-use Rattle.tracks.specs.declared.keeping.Keeping.TheVariants.{Latest, Tracks}
+use Rattle.tracks.specs.declared.keeping.Keeping.TheVariants.{Latest, Since, Tracks}
 use Rattle.tracks.specs.declared.statics.Statics.{Statics}
 
--- Of a vessel's accepted reports the latest alone is kept, or all.
+-- the reports from the last one before a time on
+abbrev pub points_since : ℕ → List Accepted → List Accepted
+points_since time [] = []
+points_since time (first ∷ []) = first ∷ []
+points_since time (first ∷ next ∷ others) = if nat_lt next.time time then points_since time (next ∷ others) else first ∷ next ∷ others
+
+-- Of a vessel's accepted reports the latest alone is kept, or all, or those from a time on with the one before.
 abbrev pub kept_points : Keeping → List Accepted → List Accepted
 kept_points Latest points = option_to_list (last_or None points)
 kept_points Tracks points = points
+kept_points (Since time) points = points_since time points
 
--- With the latest alone no legs are kept.
-abbrev pub kept_legs : Keeping → List Leg → List Leg
-kept_legs Latest legs = []
-kept_legs Tracks legs = legs
+-- The legs between the reports that are kept are kept: all that hold the time or a later one.
+abbrev pub kept_legs : Keeping → ℕ → List Accepted → List Leg
+kept_legs keeping gap points = legs_between gap (kept_points keeping points)
+
+-- what lies before this time may be forgotten
+abbrev pub forgotten : Keeping → ℕ
+forgotten Latest = 0
+forgotten Tracks = 0
+forgotten (Since time) = time
+
+-- what a book keeps once it has forgotten what lies before a time
+abbrev pub forgetting : Keeping → ℕ → Keeping
+forgetting Latest time = Latest
+forgetting Tracks time = Since time
+forgetting (Since earliest) time = Since (max earliest time)
+
+-- Where a vessel is seen at a time is kept: with the latest reports alone at no time.
+abbrev pub Remembers : Keeping → ℕ → Type 0
+Remembers Latest time = ⊥
+Remembers Tracks time = ⊤
+Remembers (Since earliest) time = earliest ≤ time
+
+-- So far a count goes.
+abbrev pub counted : ℕ → ℕ
+counted n = min n (2 ^ 64 - 1)
+
+-- How many reports a vessel has, and how many legs between them. Where the latest report alone is kept, nothing is counted.
+abbrev pub kept_counts : Keeping → ℕ → List Accepted → Counts
+kept_counts Latest gap points = record { reports = 0; legs = 0 }
+kept_counts _ gap points = record { reports = counted (length points); legs = counted (length (legs_between gap points)) }
 
 -- what is kept of a vessel
 pub record VesselValue : Type 0 where
   pub points : List Accepted
   pub legs : List Leg
+  pub counts : Counts
   pub statics : Statics
 
 -- what a book keeps: how much of each vessel, its numbers, and the vessels that are held, in the order of their identities
@@ -49,7 +85,8 @@ legs_in book mmsi = legs_among book.held book.vessels mmsi
 abbrev pub vessel_of : Keeping → JudgingNumbers → List Sent → ℕ → VesselValue
 vessel_of keeping numbers sent mmsi = record {
   points = kept_points keeping (accepted_of numbers sent mmsi);
-  legs = kept_legs keeping (legs_of numbers sent mmsi);
+  legs = kept_legs keeping numbers.gap (accepted_of numbers sent mmsi);
+  counts = kept_counts keeping numbers.gap (accepted_of numbers sent mmsi);
   statics = statics_of sent mmsi;
 }
 
@@ -66,7 +103,8 @@ pub record StandsFor (book : BookValue) (numbers : JudgingNumbers) (sent : List 
 pub record IsHeldVessel (keeping : Keeping) (numbers : JudgingNumbers) (sent : List Sent) (vessel : HeldVessel) : Type 0 where
   pub held : is_held numbers sent vessel.mmsi ≡ true
   pub points : vessel.points.now ≡ kept_points keeping (accepted_of numbers sent vessel.mmsi)
-  pub legs : vessel.legs.now ≡ kept_legs keeping (legs_of numbers sent vessel.mmsi)
+  pub legs : vessel.legs.now ≡ kept_legs keeping numbers.gap (accepted_of numbers sent vessel.mmsi)
+  pub counts : vessel.counts ≡ kept_counts keeping numbers.gap (accepted_of numbers sent vessel.mmsi)
   pub statics : vessel.statics.now ≡ statics_of sent vessel.mmsi
 
 -- the numbers that a scenario may have

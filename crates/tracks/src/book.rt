@@ -10,10 +10,11 @@ ghost use Rattle.fixed_geometry.specs.Displacement.{displacement};
 ghost use Rattle.motion.specs.TickStates.{IsTickState, MovesLittle, state_at};
 ghost use Rattle.motion.specs.declared.leg.TickState.{TickState};
 ghost use Rattle.tracks.specs.AcceptedReports.{JudgingNumbers};
-ghost use Rattle.tracks.specs.Inner.Keeping.{IsKept, makes_held};
+ghost use Rattle.tracks.specs.Inner.Keeping.{IsKept, makes_held, vessel_since};
+ghost use Rattle.tracks.specs.JoinedReports.{legs_between};
 ghost use Rattle.tracks.specs.Lengths.{length_of};
 ghost use Rattle.tracks.specs.SeenVessels.{seen_in, seen_of, seen_vessel};
-ghost use Rattle.tracks.specs.Standing.{IsAccepted, IsHeldVessel, IsNumbers, StandsFor, kept_legs, kept_points, legs_in, vessel_held, vessel_of};
+ghost use Rattle.tracks.specs.Standing.{IsAccepted, IsHeldVessel, IsNumbers, Remembers, StandsFor, VesselValue, forgetting, forgotten, kept_legs, kept_points, legs_in, vessel_held, vessel_of};
 ghost use Rattle.tracks.specs.VesselsHeld.{Sent, accepted_of, entry_at, entry_of, held_of, is_held, legs_of, reported_in, sender_of, statics_of, with_number};
 ghost use Rattle.tracks.specs.declared.accepted.Accepted.{Accepted};
 ghost use Rattle.tracks.specs.declared.entry.BookFault.TheVariants.{TooManyVessels};
@@ -83,6 +84,16 @@ fn put(
     held.insert(at, mmsi)?;
     vessels.insert(at, vessel)?;
     Ok(())
+}
+
+/// Forgets of each vessel the reports before the last one that is earlier than a time, and the legs to them and to that one.
+fn forget_each(vessels: &mut Vec<Vessel>, gap: u32, time: u64)
+    requires { All (λ (vessel : VesselValue). vessel.legs ≡ legs_between gap vessel.points) vessels.old.items }
+    ensures { vessels.new.items ≡ map (vessel_since gap time) vessels.old.items }
+{
+    for vessel in vessels.iter_mut() {
+        vessel.forget(gap, time);
+    }
 }
 
 /// The vessels that were heard of, with their static data, and with their accepted reports and the legs between them, or with the
@@ -166,7 +177,7 @@ impl Book {
             → (result ≡ Err TooManyVessels)
             ↔ (MOST_VESSELS < length (held_of numbers (sent ++ record { message = message.now; time = time } ∷ []))) }
         ensures settled { OnOk result ((numbers : JudgingNumbers) (sent : List Sent) → StandsFor self.old numbers sent
-            → (mmsi t : ℕ) → t + numbers.gap < time → state_at t (legs_in self.new mmsi) ≡ state_at t (legs_in self.old mmsi)) }
+            → (mmsi t : ℕ) → forgotten self.old.keeping ≤ t → t + numbers.gap < time → state_at t (legs_in self.new mmsi) ≡ state_at t (legs_in self.old mmsi)) }
     {
         let mmsi = sender(message);
         match index_of(&self.held, mmsi) {
@@ -192,7 +203,7 @@ impl Book {
             → (result ≡ Err TooManyVessels)
             ↔ (MOST_VESSELS < length (held_of numbers (sent ++ record { message = Position report.now; time = time } ∷ []))) }
         ensures settled { OnOk result ((numbers : JudgingNumbers) (sent : List Sent) → StandsFor self.old numbers sent
-            → (mmsi t : ℕ) → t + numbers.gap < time → state_at t (legs_in self.new mmsi) ≡ state_at t (legs_in self.old mmsi)) }
+            → (mmsi t : ℕ) → forgotten self.old.keeping ≤ t → t + numbers.gap < time → state_at t (legs_in self.new mmsi) ≡ state_at t (legs_in self.old mmsi)) }
     {
         match self.guess(report.mmsi) {
             Some(at) => Ok(self.report_further(at, report, time)?),
@@ -308,6 +319,22 @@ impl Book {
         put(&mut self.held, &mut self.vessels, at, mmsi, vessel)
     }
 
+    /// Forgets what lies before a time: of each vessel the accepted reports before the last one that is earlier, and the legs to them and
+    /// to that one. What is seen from that time on, the counts and the static data stay, and what further messages come to. A book
+    /// that keeps no tracks, or has forgotten as much, stays as it is. It takes no memory, and time by the vessels and by what is
+    /// kept.
+    pub fn forget(&mut self, time: u64)
+        ensures stands { (numbers : JudgingNumbers) (sent : List Sent) → StandsFor self.old numbers sent → StandsFor self.new numbers sent }
+        ensures keeping { self.new.keeping ≡ forgetting self.old.keeping time }
+        ensures held { self.new.held ≡ self.old.held }
+    {
+        let Some(earliest) = self.keeping.since(time) else {
+            return;
+        };
+        forget_each(&mut self.vessels, self.numbers.gap, earliest);
+        self.keeping = Keeping::Since(earliest);
+    }
+
     /// The vessel of this identity, if she is held.
     fn vessel_of(&self, mmsi: u32) -> Option<&Vessel>
         ensures value { (numbers : JudgingNumbers) (sent : List Sent) → StandsFor self.now numbers sent
@@ -344,7 +371,7 @@ impl Book {
     /// The legs that are kept between the accepted reports of a vessel, or `None` where she is not held.
     pub fn legs(&self, mmsi: u32) -> Option<&Legs>
         ensures value { (numbers : JudgingNumbers) (sent : List Sent) → StandsFor self.now numbers sent
-            → option_copied result ≡ (if is_held numbers sent mmsi then Some (kept_legs self.now.keeping (legs_of numbers sent mmsi)) else None) }
+            → option_copied result ≡ (if is_held numbers sent mmsi then Some (kept_legs self.now.keeping numbers.gap (accepted_of numbers sent mmsi)) else None) }
         ensures moves { IfSome (option_copied result) (MovesLittle self.now.numbers.gap) }
     {
         let legs = self.vessel_of(mmsi)?.legs();
@@ -392,10 +419,10 @@ impl Book {
     }
 
     /// Puts the vessels that are seen at a time, each with her state, in the place of what `seen` holds, in the order of their
-    /// identities. In a book that keeps no legs nobody is seen. `seen` keeps its room, and where that is enough for all vessels held,
+    /// identities. In a book that keeps no legs nobody is seen, and at a time that is forgotten perhaps not all. `seen` keeps its room, and where that is enough for all vessels held,
     /// there is always memory. Where there is none, what `seen` holds is not told.
     pub fn look(&self, time: u64, seen: &mut Vec<(u32, TickState)>) -> Result<(), Memory>
-        ensures value { OnOk result (self.now.keeping ≡ Tracks → (numbers : JudgingNumbers) (sent : List Sent) → StandsFor self.now numbers sent
+        ensures value { OnOk result (Remembers self.now.keeping time → (numbers : JudgingNumbers) (sent : List Sent) → StandsFor self.now numbers sent
             → seen.new.items ≡ seen_of numbers sent time) }
         ensures kept { OnOk result (seen.new.items ≡ seen_in self.now time) }
         ensures ascending { OnOk result (IsStrictlyIncreasing (map (λ (vessel : ℕ × TickState). vessel.0) seen.new.items)) }
@@ -490,6 +517,7 @@ impl Book {
             mmsi: self.held[k],
             points: vessel.points(),
             legs: vessel.legs(),
+            counts: vessel.counts(),
             statics: vessel.statics(),
         }
     }

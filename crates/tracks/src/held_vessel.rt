@@ -1,5 +1,6 @@
 //! What a book holds of one vessel.
 use crate::accepted::Accepted;
+use crate::counts::Counts;
 use crate::statics::Statics;
 use motion::Legs;
 
@@ -12,6 +13,8 @@ pub struct HeldVessel<'a> {
     pub points: &'a [Accepted],
     /// The legs that are kept between them.
     pub legs: &'a Legs,
+    /// How many reports she has, and how many legs, with those that are forgotten.
+    pub counts: Counts,
     /// What she told of herself.
     pub statics: &'a Statics,
 }

@@ -4,7 +4,7 @@
 //! region (`Far`), is no later than the latest accepted report of its vessel (`Back`), repeats it (`Repeat`), or would have the
 //! vessel move faster than she can (`Jump`); else it is accepted. Accepted reports that follow each other within the gap are
 //! joined by a leg. What a message comes to needs the latest accepted report alone, so a book is told when it is made whether it keeps
-//! all, with the legs, or only that one. Times are whole seconds since the Unix epoch, lengths tenths of a millimetre.
+//! all, with the legs, or only that one, and may later forget what lies before a time. Times are whole seconds since the Unix epoch, lengths tenths of a millimetre.
 //!
 //! Of three reports of one vessel, the first at second 1700000000, the same again 5 seconds later and one from another place 10
 //! seconds later, 20,000,000 away, the first is accepted, the second is a `Repeat` and the third a `Jump`.
@@ -12,6 +12,7 @@
 
 mod accepted;
 mod book;
+mod counts;
 mod direction;
 mod entry;
 mod given;
@@ -27,6 +28,7 @@ mod vessel;
 
 pub use accepted::Accepted;
 pub use book::{Book, MOST_VESSELS};
+pub use counts::Counts;
 pub use direction::reported_direction;
 pub use entry::{BookFault, Entry, ReportCause};
 pub use held_vessel::HeldVessel;

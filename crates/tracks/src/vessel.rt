@@ -1,17 +1,18 @@
 //! What is kept of one vessel.
-ghost use Rattle.std.specs.Prelude.{◌≡◌, ◌≤◌, ◌<◌, ◌∷◌, [], All, None, IfOk, IfSome, OnOk, OnErr, Some};
+ghost use Rattle.std.specs.Prelude.{◌≡◌, ◌+◌, ◌≤◌, ◌<◌, ◌∷◌, [], All, None, IfOk, IfSome, OnOk, OnErr, Some, drop, length, nat_le};
 ghost use Rattle.std.specs.List.{last_or};
 ghost use Rattle.std.specs.Option.{option_copied};
 ghost use Rattle.ais_messages.specs.MessageFields.{IsMessage, IsReport, IsShipData};
 ghost use Rattle.motion.specs.TickStates.{IsLeg};
 ghost use Rattle.tracks.specs.AcceptedReports.{judged};
-ghost use Rattle.tracks.specs.JoinedReports.{joined};
-ghost use Rattle.tracks.specs.Inner.Keeping.{Follows, IsKept, accepted_by, accepted_in, joined_after, told, untold, vessel_after, vessel_with};
-ghost use Rattle.tracks.specs.Standing.{IsAccepted, IsNumbers, kept_points};
+ghost use Rattle.tracks.specs.JoinedReports.{joined, legs_between};
+ghost use Rattle.tracks.specs.Inner.Keeping.{Follows, IsKept, accepted_by, accepted_in, joined_after, told, untold, vessel_after, vessel_since, vessel_with};
+ghost use Rattle.tracks.specs.Standing.{IsAccepted, IsNumbers, kept_points, points_since};
 ghost use Rattle.tracks.specs.VesselsHeld.{entry_at, entry_by, reported_in, static_in};
 ghost use Rattle.tracks.specs.declared.keeping.Keeping.TheVariants.{Latest, Tracks};
 
 use crate::accepted::Accepted;
+use crate::counts::Counts;
 use crate::direction::reported_direction;
 use crate::entry::Entry;
 use crate::given::GivenNumbers;
@@ -25,6 +26,13 @@ use outside::Memory;
 use std::alloc::Global;
 use std::marker::Model;
 
+/// Whether a report comes at most the gap after another.
+fn are_joined(gap: u32, from: &Accepted, to: &Accepted) -> bool
+    ensures { result ≡ nat_le to.now.time (from.now.time + gap) }
+{
+    to.time <= from.time.saturating_add(u64::from(gap))
+}
+
 /// The leg from one report to the next, if they lie at most the gap apart.
 fn leg_between(gap: u32, from: &Accepted, to: &Accepted) -> Option<Leg>
     requires gap { gap ≤ 3600 }
@@ -34,7 +42,7 @@ fn leg_between(gap: u32, from: &Accepted, to: &Accepted) -> Option<Leg>
     ensures value { result ≡ joined gap from.now to.now }
     ensures leg { IfSome result IsLeg }
 {
-    if to.time - from.time > u64::from(gap) {
+    if !are_joined(gap, from, to) {
         return None;
     }
     Some(Leg {
@@ -71,11 +79,39 @@ fn leg_to(gap: u32, points: &[Accepted], accepted: &Accepted) -> Option<Leg>
     }
 }
 
+/// How many of a vessel's first reports and legs are forgotten.
+#[derive(Clone, Copy)]
+struct Gone {
+    reports: usize,
+    legs: usize,
+}
+
+/// What stands before the last report that is earlier than a time.
+fn gone_before(gap: u32, points: &[Accepted], time: u64) -> Gone
+    ensures within { result.reports ≤ length points.now }
+    ensures points { points_since time points.now ≡ drop result.reports points.now }
+    ensures legs_within { result.legs ≤ length (legs_between gap points.now) }
+    ensures legs { legs_between gap (points_since time points.now) ≡ drop result.legs (legs_between gap points.now) }
+{
+    let mut gone = Gone {
+        reports: 0,
+        legs: 0,
+    };
+    while gone.reports + 1 < points.len() && points[gone.reports + 1].time < time {
+        if are_joined(gap, &points[gone.reports], &points[gone.reports + 1]) {
+            gone.legs += 1;
+        }
+        gone.reports += 1;
+    }
+    gone
+}
+
 /// Her accepted reports or the latest alone, the legs between those that are kept, and what she told of herself.
 #[derive(Debug, Drop)]
 pub(crate) struct Vessel {
     points: Vec<Accepted>,
     legs: Legs,
+    counts: Counts,
     statics: Statics,
 }
 
@@ -84,7 +120,7 @@ impl Model for Vessel {
 
     ghost Value = { VesselValue };
 
-    ghost view = { λ v. record { points = v.points.items; legs = v.legs; statics = v.statics } };
+    ghost view = { λ v. record { points = v.points.items; legs = v.legs; counts = v.counts; statics = v.statics } };
 }
 
 impl Vessel {
@@ -95,6 +131,10 @@ impl Vessel {
         Vessel {
             points: Vec::new(alloc),
             legs: Legs::new(alloc),
+            counts: Counts {
+                reports: 0,
+                legs: 0,
+            },
             statics: Statics {
                 name: None,
                 ship: None,
@@ -115,12 +155,14 @@ impl Vessel {
         let leg = leg_to(gap, &self.points, accepted);
         self.points.push(*accepted)?;
         let Some(leg) = leg else {
+            self.counts = self.counts.more(false);
             return Ok(());
         };
         if self.legs.push(leg).is_err() {
             let _ = self.points.pop();
             return Err(Memory);
         }
+        self.counts = self.counts.more(true);
         Ok(())
     }
 
@@ -141,6 +183,16 @@ impl Vessel {
         Ok(())
     }
 
+    /// Forgets the reports before the last one that is earlier than a time, and the legs to them and to that one.
+    pub(crate) fn forget(&mut self, gap: u32, time: u64)
+        requires { self.old.legs ≡ legs_between gap self.old.points }
+        ensures { self.new ≡ vessel_since gap time self.old }
+    {
+        let gone = gone_before(gap, &self.points, time);
+        let _ = self.points.drain(..gone.reports);
+        self.legs.forget(gone.legs);
+    }
+
     /// Keeps an accepted report, after the others or in their place.
     fn accept(&mut self, keeping: Keeping, gap: u32, accepted: &Accepted) -> Result<(), Memory>
         requires gap { gap ≤ 3600 }
@@ -154,6 +206,13 @@ impl Vessel {
         match keeping {
             Keeping::Latest => self.replace(accepted),
             Keeping::Tracks => self.add(gap, accepted),
+            Keeping::Since(time) => {
+                self.add(gap, accepted)?;
+                if accepted.time < time {
+                    self.forget(gap, time);
+                }
+                Ok(())
+            }
         }
     }
 
@@ -274,6 +333,12 @@ impl Vessel {
         ensures { result.now ≡ self.now.legs }
     {
         &self.legs
+    }
+
+    pub(crate) fn counts(&self) -> Counts
+        ensures { result ≡ self.now.counts }
+    {
+        self.counts
     }
 
     pub(crate) fn statics(&self) -> &Statics

@@ -11,7 +11,7 @@ use motion::TickState;
 use std::alloc::Global;
 use std::process::Abort;
 use std::test::Fail;
-use tracks::{Book, BookFault, Entry, Keeping, ReportCause, laws, reported_direction};
+use tracks::{Book, BookFault, Counts, Entry, Keeping, ReportCause, laws, reported_direction};
 
 /// A report of a vessel from a latitude on the meridian of Greenwich, in 1/10000 minute.
 fn report(mmsi: u32, latitude: i32) -> PositionReport
@@ -361,6 +361,29 @@ fn vessels_seen_in_ascending_order(rt: HostRuntime) -> Result<(), Fail> {
     );
     book.look(1100, &mut seen)?;
     is(&rt, seen.as_slice(), [(OTHER, state(18520))].as_slice());
+    Ok(())
+}
+
+#[test]
+fn what_lies_before_a_time_is_forgotten_but_counted(rt: HostRuntime) -> Result<(), Fail> {
+    let mut book = book(rt.alloc(), 500)?;
+    for (north, time) in [(0, 1000), (10, 1100), (20, 1200), (30, 1300)] {
+        let message = Message::Position(report(OWN, north));
+        is_true(&rt, book.take(&message, time).is_ok());
+    }
+    book.forget(1200);
+    let vessel = book.find(OWN).ok_or("the vessel is held")?;
+    // The report of second 1100 is the last one before that time.
+    is(&rt, vessel.points.len(), 3);
+    is(&rt, vessel.legs.len(), 2);
+    let all = Counts {
+        reports: 4,
+        legs: 3,
+    };
+    is(&rt, vessel.counts, all);
+    let mut seen = Vec::new(rt.alloc());
+    book.look(1200, &mut seen)?;
+    is(&rt, seen.as_slice(), [(OWN, state(37040))].as_slice());
     Ok(())
 }
 

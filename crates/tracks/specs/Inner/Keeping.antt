@@ -1,5 +1,5 @@
 -- What a message changes of what is kept of a vessel, and what holds of it.
-use Rattle.std.specs.Prelude.{ℕ, ◌≡◌, ◌+◌, ◌-◌, ◌*◌, ◌<◌, ◌≤◌, ◌⊎◌, Bool, ◌||◌, is_some, List, [], ◌∷◌, ◌++◌, length, All, Option, Some, None, IfSome, Result, Ok, Err}
+use Rattle.std.specs.Prelude.{ℕ, ◌≡◌, ◌+◌, ◌-◌, ◌*◌, ◌<◌, ◌≤◌, ◌⊎◌, Bool, ◌||◌, is_some, List, [], ◌∷◌, ◌++◌, length, All, Option, Some, None, IfSome, Result, Ok, Err, if◌then◌else◌}
 use Rattle.std.specs.List.{last_or}
 use Rattle.std.specs.Option.{option_or}
 use Rattle.fixed_geometry.specs.declared.point.Point.{Point}
@@ -9,13 +9,15 @@ use Rattle.ais_messages.specs.MessageFields.{IsShipData}
 use Rattle.ais_messages.specs.declared.message.StaticReport.{StaticReport}
 use Rattle.tracks.specs.AcceptedReports.{JudgingNumbers, Reported, distance2, judged, square}
 use Rattle.tracks.specs.JoinedReports.{joined, legs_between}
-use Rattle.tracks.specs.Standing.{BookValue, IsAccepted, IsNumbers, VesselValue, kept_points}
+use Rattle.tracks.specs.Standing.{BookValue, IsAccepted, IsNumbers, VesselValue, counted, kept_points, points_since}
 use Rattle.tracks.specs.VesselsHeld.{Sent, reported_in, static_in}
 use Rattle.tracks.specs.Inner.AscendingNumbers.{Ascends}
 use Rattle.tracks.specs.declared.accepted.Accepted.{Accepted}
 use Rattle.tracks.specs.declared.book.TheConstants.{MOST_VESSELS}
+use Rattle.tracks.specs.declared.counts.Counts.{Counts}
 use Rattle.tracks.specs.declared.entry.ReportCause.{ReportCause}
 use Rattle.tracks.specs.declared.keeping.Keeping.{Keeping}
+use Rattle.tracks.specs.declared.keeping.Keeping.TheVariants.{Latest}
 use Rattle.tracks.specs.declared.statics.Statics.{Statics}
 
 -- ---- what a message changes
@@ -47,15 +49,30 @@ abbrev pub statics_with : Statics → Option StaticReport → Statics
 statics_with statics None = statics
 statics_with statics (Some report) = record { name = option_or report.name statics.name; ship = option_or report.ship statics.ship }
 
+-- the leg to a report from the latest one, if they are joined
+abbrev pub joined_after : ℕ → Option Accepted → Accepted → Option Leg
+joined_after gap None now = None
+joined_after gap (Some latest) now = joined gap latest now
+
+-- the counts, with one report more, which is joined to the one before it or not
+abbrev pub counts_more : Counts → Bool → Counts
+counts_more counts joined = record { reports = counted (counts.reports + 1); legs = if joined then counted (counts.legs + 1) else counts.legs }
+
+abbrev pub counts_with : Keeping → ℕ → VesselValue → Option Accepted → Counts
+counts_with keeping gap vessel None = vessel.counts
+counts_with Latest gap vessel (Some now) = vessel.counts
+counts_with _ gap vessel (Some now) = counts_more vessel.counts (is_some (joined_after gap (last_or None vessel.points) now))
+
 abbrev pub vessel_with : Keeping → ℕ → VesselValue → Option Accepted → VesselValue
 vessel_with keeping gap vessel accepted = record {
   points = kept_with keeping vessel.points accepted;
   legs = legs_between gap (kept_with keeping vessel.points accepted);
+  counts = counts_with keeping gap vessel accepted;
   statics = vessel.statics;
 }
 
 abbrev pub told : VesselValue → Option StaticReport → VesselValue
-told vessel report = record { points = vessel.points; legs = vessel.legs; statics = statics_with vessel.statics report }
+told vessel report = record vessel { statics = statics_with vessel.statics report }
 
 -- what is kept of a vessel after a message of hers
 unfoldable pub vessel_after : Keeping → JudgingNumbers → VesselValue → Sent → VesselValue
@@ -64,11 +81,17 @@ vessel_after keeping numbers vessel one =
 
 -- nothing was told yet
 abbrev pub untold : VesselValue
-untold = record { points = []; legs = []; statics = record { name = None; ship = None } }
+untold = record { points = []; legs = []; counts = record { reports = 0; legs = 0 }; statics = record { name = None; ship = None } }
 
 -- The message makes its vessel held, of whom nothing was told.
 abbrev pub makes_held : JudgingNumbers → Sent → Bool
 makes_held numbers one = is_some (static_in one.message) || is_some (accepted_in numbers None (reported_in one))
+
+-- ---- what is forgotten
+
+-- a vessel of whom that is forgotten
+abbrev pub vessel_since : ℕ → ℕ → VesselValue → VesselValue
+vessel_since gap time vessel = record vessel { points = points_since time vessel.points; legs = legs_between gap (points_since time vessel.points) }
 
 -- ---- what holds of what is kept
 
@@ -76,11 +99,6 @@ makes_held numbers one = is_some (static_in one.message) || is_some (accepted_in
 pub record Follows (gap : ℕ) (latest now : Accepted) : Type 0 where
   pub after : latest.time < now.time
   pub slow : now.time ≤ latest.time + gap → 81 * distance2 latest now ≤ square (4630 * 1022 * (now.time - latest.time))
-
--- the leg to a report from the latest one, if they are joined
-abbrev pub joined_after : ℕ → Option Accepted → Accepted → Option Leg
-joined_after gap None now = None
-joined_after gap (Some latest) now = joined gap latest now
 
 -- The last leg ends at the latest report, or more than the gap before it.
 abbrev pub EndsAt : ℕ → Accepted → Leg → Type 0

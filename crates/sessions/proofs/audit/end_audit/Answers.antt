@@ -1,4 +1,4 @@
-use Rattle.std.proofs.Common.{ℕ, List, ◌∙◌, ◌++◌, length, ap, Err, []}
+use Rattle.std.proofs.Common.{ℕ, List, ◌∙◌, ◌++◌, length, ap, sym, Err, []}
 use Rattle.outside.proofs.ForCallers.{err_cause}
 use Rattle.auditor.specs.AuditRows.{AreAuditRows}
 use Rattle.auditor.specs.AuditTotals.{AreTotals}
@@ -9,8 +9,9 @@ use Rattle.log_lines.specs.SentLines.{sent}
 use Rattle.traces.specs.declared.all_traces.TheConstants.{MOST_TRACES}
 use Rattle.settled_ticks.specs.Sightings.{sighted}
 use Rattle.settling.specs.ScenarioAudit.{audit_numbers}
+use Rattle.settling.specs.Standing.{audited_ticks}
 use Rattle.sessions.specs.AuditReport.{rows_behind, sightings_of}
-use Rattle.sessions.proofs.AtEnds.{judged_parts, of_one_log, of_whole, whole_report}
+use Rattle.sessions.proofs.AtEnds.{few_messages, judged_parts, keeps_tracks, of_one_log, of_whole, whole_report}
 use Rattle.sessions.proofs.AuditText.{audit_cause, whole_text}
 use Rattle.sessions.proofs.Auditing.{last_of_rules, rows_of_rules}
 use Rattle.sessions.proofs.Meeting.{audit_done}
@@ -37,6 +38,9 @@ write_stretches-requires c =
     let rows = c.in_ok-end.ensures.rows at.is.lines at.is.more at.given at.is.stands (judged_parts c.args.judge.now scenario at.log at.given at.is) in
     rw c.as_slice.ensures.value (last_of_rules scenario.rules at.given c.in_ok-end.end.rows.items (rows_of_rules (audit_numbers scenario) _ _ rows))
 
+pub write_vessels-requires : goal.write_vessels-requires
+write_vessels-requires c = λ latest. keeps_tracks _ c.args.scenario.now (audited_ticks c.args.audit) c.requires.remembers (sym c.book.ensures.keeping ∙ latest)
+
 pub write_totals-requires : goal.write_totals-requires
 write_totals-requires c =
     let at = c.requires.at_end in
@@ -56,7 +60,7 @@ returns-clause-report c = λ log given of.
     let totals = of_whole judge scenario log given of (λ (ls : List (List ℕ)). AreTotals (audit_numbers scenario) (sighted scenario (sent scenario ls)) (given ++ c.in_ok-end.end.rows.items) c.in_ok-end.end.totals.items)
     (c.in_ok-end.ensures.totals of.lines of.more given of.stands parts) in
     let stretches = rw c.as_slice.ensures.value at (c.in_ok-write_stretches.ensures [] c.new-text.ensures) in
-    let vessels = c.in_ok-write_vessels.ensures (numbers_of scenario) messages _ (c.book.ensures.stands scenario lines of.judged) stretches in
+    let vessels = c.in_ok-write_vessels.ensures (numbers_of scenario) messages _ (few_messages judge scenario lines of.judged) (c.book.ensures.stands scenario lines of.judged) stretches in
     let totalled = c.in_ok-write_totals.ensures _ vessels in
     let counts = c.in_ok-write_counts.ensures _ totalled in
     let outcomes = count_rows-from_counts c.counts.result.now (judged_lines scenario lines) c.all_outcomes.result.now c.all_outcomes.ensures (c.counts.ensures scenario lines of.judged) in

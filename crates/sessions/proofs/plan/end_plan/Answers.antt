@@ -7,6 +7,7 @@ use Rattle.log_lines.specs.LogLines.{lines_of}
 use Rattle.log_lines.specs.SentLines.{sent}
 use Rattle.situations.specs.PlanSituations.{vessels_near}
 use Rattle.sessions.specs.PlanReport.{manoeuvre_rows, near_rows, plan_text}
+use Rattle.sessions.proofs.AtEnds.{few_messages}
 use Rattle.sessions.proofs.OutcomeRows.{count_rows-from_counts}
 use Rattle.sessions.proofs.PlanText.{three_parts}
 use Rattle.sessions.proofs.Seeking.{are_reasons, own_cause, plan_answer}
@@ -27,7 +28,7 @@ pub returns-clause-answer : goal.returns-clause-answer
 returns-clause-answer c = λ log stands.
     let scenario = c.args.scenario in
     plan_answer scenario log stands.calm c.write_search.new.text [] _ c.in_ok-found.found.none
-    (c.in_ok-found.ensures.sought (sent scenario (lines_of log)) [] (c.book.ensures.stands scenario (lines_of log) stands) c.new-text.ensures)
+    (c.in_ok-found.ensures.sought (sent scenario (lines_of log)) [] (few_messages c.args.judge.now scenario (lines_of log) stands) (c.book.ensures.stands scenario (lines_of log) stands) c.new-text.ensures)
 
 pub returns-clause-report : goal.returns-clause-report
 unfolding plan_text
@@ -35,7 +36,7 @@ returns-clause-report c = λ log stands.
     let scenario = c.args.scenario in
     let lines = lines_of log in
     let messages = sent scenario lines in
-    let found = c.in_ok-found.ensures.sought messages [] (c.book.ensures.stands scenario lines stands) c.new-text.ensures in
+    let found = c.in_ok-found.ensures.sought messages [] (few_messages c.args.judge.now scenario lines stands) (c.book.ensures.stands scenario lines stands) c.new-text.ensures in
     let counts = c.in_ok-write_counts.ensures _ found.has in
     let outcomes = count_rows-from_counts c.counts.result.now (judged_lines scenario lines) c.all_outcomes.result.now c.all_outcomes.ensures (c.counts.ensures scenario lines stands) in
     let (reasons, are, added) = c.in_ok-add_reasons.ensures in

@@ -9,15 +9,15 @@ use Rattle.sessions.proofs.VesselRows.{rows_push}
 use Rattle.sessions.proofs.plan.write_near.Goals as goal
 
 pub loop-vessel-preserved : goal.loop-vessel-preserved
-loop-vessel-preserved c = λ numbers messages front stands held has.
+loop-vessel-preserved c = λ numbers messages front few stands held has.
     let near = c.args.near.now in
     let k = c.loop-vessel.vessel-index in
     let row : Near → List ℕ = λ v. row_of (held_fields numbers messages v.mmsi) in
     subst (HasText c.write_vessel_of.new.text)
     (append_assoc front (near_rows numbers messages (Rattle.std.proofs.Common.take k near)) _ ∙ ap (λ (l : List ℕ). front ++ l) (rows_push row near k _ c.loop-vessel-test.true))
-    (c.in_ok-write_vessel_of.ensures numbers messages _ stands (held k _ c.loop-vessel-test.true) (c.loop-vessel.invariant numbers messages front stands held has))
+    (c.in_ok-write_vessel_of.ensures numbers messages _ few stands (held k _ c.loop-vessel-test.true) (c.loop-vessel.invariant numbers messages front few stands held has))
 
 pub returns : goal.returns
-returns c = λ numbers messages front stands held has.
+returns c = λ numbers messages front few stands held has.
     subst (λ (vessels : List Near). HasText c.loop-vessel.text (front ++ near_rows numbers messages vessels))
-    (take_all c.loop-vessel.vessel-index c.args.near.now c.loop-vessel-test.false) (c.loop-vessel.invariant numbers messages front stands held has)
+    (take_all c.loop-vessel.vessel-index c.args.near.now c.loop-vessel-test.false) (c.loop-vessel.invariant numbers messages front few stands held has)

@@ -25,7 +25,7 @@ returns-clause-fail c = λ none.
     all_fail c.in_ok-prepared.prepared.situation _ found.plan c.is_none-none.result found.ensures.situation (none_is found.plan c.is_none-none.result c.is_none-none.ensures) none found.ensures.manoeuvre
 
 pub returns-clause-sought : goal.returns-clause-sought
-returns-clause-sought c = λ messages front stands has.
+returns-clause-sought c = λ messages front few stands has.
     let scenario = c.args.scenario in
     let prepared = c.in_ok-prepared.prepared in
     let is = c.in_ok-prepared.ensures.prepared (numbers_of scenario) messages stands in
@@ -35,4 +35,4 @@ returns-clause-sought c = λ messages front stands has.
     sought scenario messages front c.write_sought.new.text prepared _ c.situation.result.now.lattice found.plan (option_copied c.as_ref.result) c.is_none-none.result
     found.ensures.situation c.requires.own is found.ensures.manoeuvre
     (ap (λ (s : Situation). s.lattice) (c.situation.ensures ∙ found.ensures.situation)) c.as_ref.ensures.value (none_is found.plan c.is_none-none.result c.is_none-none.ensures)
-    (rw c.deref.ensures.value at (c.in_ok-write_sought.ensures (numbers_of scenario) messages front stands held has))
+    (rw c.deref.ensures.value at (c.in_ok-write_sought.ensures (numbers_of scenario) messages front few stands held has))

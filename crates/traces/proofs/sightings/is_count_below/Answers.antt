@@ -1,5 +1,4 @@
-use Rattle.std.proofs.Common.{ℕ, ◌-◌, ◌<◌, ◌≤◌, get_or, length, leb-true, leb-false, arith}
-use Rattle.motion.specs.declared.leg.TickState.{TickState}
+use Rattle.std.proofs.Common.{leb-true, leb-false, arith}
 use Rattle.traces.proofs.SeenVessels.{parted}
 use Rattle.traces.proofs.sightings.is_count_below.Goals.{then-count-gt0, else-count-gt0}
 use Rattle.traces.proofs.sightings.is_count_below.Goals as goal

@@ -1,4 +1,4 @@
-use Rattle.std.proofs.Common.{◌≤◌, List, [], length, sym, subst}
+use Rattle.std.proofs.Common.{◌≤◌, List, [], length, lit<, sym, subst}
 use Rattle.aivdm.specs.OpenMessages.{StandsFor as JoinerStandsFor}
 use Rattle.tracks.specs.Standing.{StandsFor as BookStandsFor}
 use Rattle.tracks.specs.VesselsHeld.{Sent, held_of}
@@ -15,6 +15,7 @@ returns-clause-stands c =
     let scenario = c.args.scenario.now in
     let numbers = numbers_of scenario in
     record {
+      countable = lit< tt;
       times = c.new.ensures;
       joiner = subst (JoinerStandsFor c.new-2.result) (sym (nothing_heard scenario)) c.new-2.ensures;
       book = subst (BookStandsFor c.with_keeping.result numbers) (sym (nothing_sent scenario)) c.with_keeping.ensures.stands;

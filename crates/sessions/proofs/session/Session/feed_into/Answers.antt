@@ -41,13 +41,27 @@ loop-at-preserved c =
           );
     }
 
+pub forget-requires : goal.forget-requires
+forget-requires c =
+    let text = c.requires.text in
+    let used = c.requires.in_use in
+    let so_far = c.loop-at.invariant.so_far text.0 text.1 in
+    record { fed = used.fed ++ take c.loop-at.at c.args.piece.now; given = used.given ++ so_far.more; stands = so_far.stands used.fed used.given used.stands }
+
 pub returns-clause-taken : goal.returns-clause-taken
 returns-clause-taken c = λ front has.
-    subst (λ (piece : List ℕ). TookPiece c.args.self.now c.loop-at.self piece front c.loop-at.text) (take_all c.loop-at.at c.args.piece.now c.loop-at-test.false) (c.loop-at.invariant.so_far front has)
+    let so_far = c.loop-at.invariant.so_far front has in
+    let now : TookPiece c.args.self.now c.forget.new.self (take c.loop-at.at c.args.piece.now) front c.loop-at.text =
+    record { more = so_far.more; has = so_far.has; stands = λ fed given stands. c.forget.ensures.stands _ _ (so_far.stands fed given stands) } in
+    subst (λ (piece : List ℕ). TookPiece c.args.self.now c.forget.new.self piece front c.loop-at.text) (take_all c.loop-at.at c.args.piece.now c.loop-at-test.false) now
 
 pub returns-clause-in_use : goal.returns-clause-in_use
 returns-clause-in_use c =
     let text = c.requires.text in
     let used = c.requires.in_use in
     let so_far = c.loop-at.invariant.so_far text.0 text.1 in
-    record { fed = used.fed ++ take c.loop-at.at c.args.piece.now; given = used.given ++ so_far.more; stands = so_far.stands used.fed used.given used.stands }
+    record {
+      fed = used.fed ++ take c.loop-at.at c.args.piece.now;
+      given = used.given ++ so_far.more;
+      stands = c.forget.ensures.stands _ _ (so_far.stands used.fed used.given used.stands);
+    }

@@ -4,7 +4,8 @@ use Rattle.outside.proofs.ForCallers.{err_cause}
 use Rattle.command_line.specs.declared.mode.Mode.TheVariants as mode
 use Rattle.sessions.specs.Endings.{IsReport}
 use Rattle.sessions.specs.Standing.{mode_by}
-use Rattle.sessions.proofs.EndedSessions.{Refusal, answer_is, audit_here, audit_of, audit_refused, drill_here, drill_of, drill_refused, ended_judge, own_there, plan_answered, plan_refused, plan_report, points_of, recheck_given, recheck_refused, report_is, watch_here, watch_of, watch_refused}
+use Rattle.sessions.specs.declared.work.Work.TheVariants as work
+use Rattle.sessions.proofs.EndedSessions.{Refusal, answer_is, audit_here, audit_of, audit_refused, drill_here, drill_of, drill_refused, ended_judge, kept_at_end, own_there, plan_answered, plan_refused, plan_report, points_of, recheck_given, recheck_refused, report_is, watch_here, watch_of, watch_refused}
 use Rattle.sessions.proofs.Feeding.{vessels_refused}
 use Rattle.sessions.proofs.Meeting.{crowded_answer, points_done}
 use Rattle.sessions.proofs.session.Session.finish.Goals as goal
@@ -13,6 +14,21 @@ pub returns-in_err-ended-clause-refused : goal.returns-in_err-ended-clause-refus
 returns-in_err-ended-clause-refused c =
     vessels_refused c.from_residual.result c.in_err-ended.field-0.0 _ c.from_residual.ensures.1
     (λ is fed given stands. crowded_answer (mode_by c.args.self.work) c.args.asked.now.rows.now c.args.self.scenario fed (c.in_err-ended.ensures.crowded (ap Err is) c.args.self.scenario fed stands.lines))
+
+pub end_audit-requires-clause-remembers : goal.end_audit-requires-clause-remembers
+end_audit-requires-clause-remembers c = kept_at_end c.args.self (work.Audit c.in-Audit.audit) _ c.in-Audit.is c.in_ok-ended.ensures.keeping c.requires.in_use
+
+pub end_plan-requires-clause-keeping : goal.end_plan-requires-clause-keeping
+end_plan-requires-clause-keeping c = kept_at_end c.args.self work.Plan _ c.in-Plan.is c.in_ok-ended.ensures.keeping c.requires.in_use
+
+pub end_drill-requires-clause-remembers : goal.end_drill-requires-clause-remembers
+end_drill-requires-clause-remembers c = kept_at_end c.args.self (work.Drill c.in-Drill.audit) _ c.in-Drill.is c.in_ok-ended.ensures.keeping c.requires.in_use
+
+pub end_recheck-requires-clause-keeping : goal.end_recheck-requires-clause-keeping
+end_recheck-requires-clause-keeping c = kept_at_end c.args.self work.Recheck _ c.in-Recheck.is c.in_ok-ended.ensures.keeping c.requires.in_use
+
+pub end_watch-requires-clause-remembers : goal.end_watch-requires-clause-remembers
+end_watch-requires-clause-remembers c = kept_at_end c.args.self (work.Watch c.in-Watch.watch) _ c.in-Watch.is c.in_ok-ended.ensures.keeping c.requires.in_use
 
 pub end_audit-requires-clause-at_end : goal.end_audit-requires-clause-at_end
 end_audit-requires-clause-at_end c = audit_here c.args.self c.in-Audit.audit c.in_ok-ended.ended.judge c.in-Audit.is c.in_ok-ended.ensures.stands c.requires.in_use

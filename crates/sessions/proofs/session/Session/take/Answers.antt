@@ -1,4 +1,4 @@
-use Rattle.std.proofs.Common.{◌≡◌, ◌++◌, [], length, length-append, Err, ap, refl, sym, subst, arith}
+use Rattle.std.proofs.Common.{◌≡◌, ◌++◌, [], length, length-append, Err, ap, refl, sym, subst, arith, ◌∙◌}
 use Rattle.std.specs.Prelude.{IsNone}
 use Rattle.std.specs.Option.{option_to_list}
 use Rattle.audit_report.specs.ReportTexts.{HasText}
@@ -8,6 +8,7 @@ use Rattle.log_lines.specs.JudgedLines.{judged_lines}
 use Rattle.log_lines.specs.declared.judged.Judged.{Judged}
 use Rattle.std.specs.Prelude.{Option}
 use Rattle.std.proofs.lemmas.Result.{on_ok_weaker}
+use Rattle.sessions.specs.Standing.{KeepsEnough}
 use Rattle.sessions.proofs.Feeding.{few_enough, refused_by, refuses_bytes, refuses_pairs, refuses_vessels, takes_line, takes_part, too_many, vessels_refused, works_on}
 use Rattle.sessions.proofs.session.Session.take.Goals as goal
 
@@ -30,6 +31,10 @@ returns-in_err-judged-clause-refused c =
     omega (arith, long, fit)
     ))
     (c.in_err-judged.ensures.crowded (ap Err is)))
+
+pub go_on-requires-clause-keeping : goal.go_on-requires-clause-keeping
+go_on-requires-clause-keeping c =
+    subst (KeepsEnough c.args.self.now.work c.args.self.now.scenario) (sym (c.judge.ensures.keeping ∙ c.in_ok-judged.ensures.keeping)) c.requires.in_use.stands.kept
 
 pub go_on-requires-clause-ready : goal.go_on-requires-clause-ready
 go_on-requires-clause-ready c =
@@ -62,7 +67,7 @@ returns-in-Some-clause-taken c =
     c.in_ok-judged.ensures.stands c.judge.ensures.stands
     (λ scenario log lines. subst (λ (o : Option Judged). judged_lines scenario (ended_lines (log ++ c.args.piece.now)) ≡ judged_lines scenario (ended_lines log) ++ option_to_list o) c.in-Some.is
     (c.in_ok-judged.ensures.judged scenario log lines))
-    c.go_on.new.self _ c.go_on.new.text c.go_on.ensures.mode c.go_on.ensures.keeping c.in_ok-judged.ensures.keeping refl (goes front has)) c.go_on.ensures.goes_on
+    c.go_on.new.self _ c.go_on.new.text c.go_on.ensures.mode c.judge.ensures.keeping refl (goes front has)) c.go_on.ensures.goes_on
 
 pub returns-in-Some-clause-refused : goal.returns-in-Some-clause-refused
 returns-in-Some-clause-refused c =

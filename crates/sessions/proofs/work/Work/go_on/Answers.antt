@@ -3,13 +3,20 @@ use Rattle.outside.proofs.ForCallers.{same_fault}
 use Rattle.traces.specs.declared.fault.TickFault.{TickFault as AuditFault}
 use Rattle.traces.specs.declared.fault.TickFault.TheVariants as audit_fault
 use Rattle.sessions.specs.Refusals.{HasManySettled}
-use Rattle.sessions.specs.Standing.{mode_by}
+use Rattle.log_lines.specs.Standing.{keeping_of}
+use Rattle.sessions.specs.Standing.{KeepsEnough, mode_by}
 use Rattle.sessions.specs.Inner.Working.{IsDone}
 use Rattle.sessions.specs.declared.work.Work.{Work}
 use Rattle.sessions.proofs.Auditing.{last_of_rules, rows_of_rules_decided}
 use Rattle.sessions.proofs.Watching.{alarms_of_rules_decided, last_alarms}
 use Rattle.sessions.proofs.Working.{audit_goes_on, pairs_alone, points_go_on, watch_goes_on}
 use Rattle.sessions.proofs.work.Work.go_on.Goals as goal
+
+pub settle-requires-clause-remembers : goal.settle-requires-clause-remembers
+settle-requires-clause-remembers c = subst (λ (w : Work). KeepsEnough w c.args.scenario.now (keeping_of c.args.judge.now)) c.in-Audit.is c.requires.keeping
+
+pub settle-requires-in-Watch-clause-remembers : goal.settle-requires-in-Watch-clause-remembers
+settle-requires-in-Watch-clause-remembers c = subst (λ (w : Work). KeepsEnough w c.args.scenario.now (keeping_of c.args.judge.now)) c.in-Watch.is c.requires.keeping
 
 pub returns-in_err-rows-in-Audit-clause-many : goal.returns-in_err-rows-in-Audit-clause-many
 returns-in_err-rows-in-Audit-clause-many c = λ told lines more works.
@@ -29,13 +36,14 @@ write_stretches-requires c =
 
 pub returns-in_ok-write_line-in-Points-clause-goes_on : goal.returns-in_ok-write_line-in-Points-clause-goes_on
 returns-in_ok-write_line-in-Points-clause-goes_on c = λ front has.
-    rw c.in-Points.is (points_go_on c.args.scenario.now c.args.judge.now c.args.judged.now front c.write_line.new.text (c.in_ok-write_line-in-Points.ensures front has))
+    rw c.in-Points.is (points_go_on c.args.scenario.now c.args.judge.now c.args.judged.now front c.write_line.new.text (c.in_ok-write_line-in-Points.ensures front has)
+    (subst (λ (w : Work). KeepsEnough w c.args.scenario.now (keeping_of c.args.judge.now)) c.in-Points.is c.requires.keeping))
 
 pub returns-in_ok-write_stretches-in-Audit-clause-goes_on : goal.returns-in_ok-write_stretches-in-Audit-clause-goes_on
 returns-in_ok-write_stretches-in-Audit-clause-goes_on c = λ front has.
     rw c.in-Audit.is
     (audit_goes_on c.args.scenario.now c.args.judge.now c.args.judged.now front c.write_stretches.new.text c.in-Audit.audit c.settle.new.self c.in_ok-rows-in-Audit.rows.items
-    c.in_ok-rows-in-Audit.ensures.stands c.in_ok-rows-in-Audit.ensures.decided (rw c.as_slice.ensures.value at (c.in_ok-write_stretches-in-Audit.ensures front has)))
+    c.in_ok-rows-in-Audit.ensures.stands c.in_ok-rows-in-Audit.ensures.decided c.in_ok-rows-in-Audit.ensures.remembers (rw c.as_slice.ensures.value at (c.in_ok-write_stretches-in-Audit.ensures front has)))
 
 pub returns-in_ok-write_stretches-in-Audit-clause-few : goal.returns-in_ok-write_stretches-in-Audit-clause-few
 returns-in_ok-write_stretches-in-Audit-clause-few c = λ lines more works many.
@@ -65,7 +73,7 @@ pub returns-in_ok-write_alarms-in-Watch-clause-goes_on : goal.returns-in_ok-writ
 returns-in_ok-write_alarms-in-Watch-clause-goes_on c = λ front has.
     rw c.in-Watch.is
     (watch_goes_on c.args.scenario.now c.args.judge.now c.args.judged.now front c.write_alarms.new.text c.in-Watch.watch c.settle-in-Watch.new.self c.in_ok-alarms-in-Watch.alarms.items
-    c.in_ok-alarms-in-Watch.ensures.stands c.in_ok-alarms-in-Watch.ensures.decided (rw c.as_slice-in-Watch.ensures.value at (c.in_ok-write_alarms-in-Watch.ensures front has)))
+    c.in_ok-alarms-in-Watch.ensures.stands c.in_ok-alarms-in-Watch.ensures.decided c.in_ok-alarms-in-Watch.ensures.remembers (rw c.as_slice-in-Watch.ensures.value at (c.in_ok-write_alarms-in-Watch.ensures front has)))
 
 pub returns-in_ok-write_alarms-in-Watch-clause-few : goal.returns-in_ok-write_alarms-in-Watch-clause-few
 returns-in_ok-write_alarms-in-Watch-clause-few c = λ lines more works many.

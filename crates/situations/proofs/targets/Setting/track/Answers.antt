@@ -6,7 +6,7 @@ use Rattle.situations.proofs.targets.Setting.track.Goals as goal
 
 pub returns-clause-legs : goal.returns-clause-legs
 returns-clause-legs c = λ numbers messages stands.
-    legs_are (option_copied c.legs.result) c.args.self.now.book.now.keeping _ _ (c.legs.ensures.value numbers messages stands)
+    legs_are (option_copied c.legs.result) c.args.self.now.book.now.keeping numbers messages c.args.vessel.now.mmsi (c.legs.ensures.value numbers messages stands)
     (held numbers messages c.args.vessel.now.mmsi c.args.vessel.now.latest (c.requires.near.latest numbers messages stands)) c.requires.setting.keeping
 
 pub returns-clause-track : goal.returns-clause-track

@@ -22,5 +22,6 @@ returns-clause-kept c = λ numbers sent stands.
       held = held_at c.args.self.now numbers sent c.args.k c.index.result.now stands (here c);
       points = c.points.ensures ∙ ap (λ (v : VesselValue). v.points) vessel;
       legs = c.legs.ensures ∙ ap (λ (v : VesselValue). v.legs) vessel;
+      counts = c.counts.ensures ∙ ap (λ (v : VesselValue). v.counts) vessel;
       statics = c.statics.ensures ∙ ap (λ (v : VesselValue). v.statics) vessel;
     }
