@@ -1,6 +1,5 @@
 -- What is said of a log that is read or made, as it is said of the log of a request.
-use Rattle.std.proofs.Common.{ℕ, zero, ◌≡◌, inl, inr, List, [], length, Bool, false, Option, None, Some, IfSome, Ok, Err, refl, IsTrue, ap, sym, subst, arith, ◌∙◌}
-use Rattle.std.specs.Prelude.{IfErr, MatchResult, Result}
+use Rattle.std.proofs.Common.{ℕ, ◌≡◌, inl, inr, List, [], length, false, Option, None, Some, IfSome, Err, refl, IsTrue, ap, sym, subst, arith, ◌∙◌}
 use Rattle.std.specs.Io.KnownBytes.{Appends}
 use Rattle.outside.specs.Streams.{AppendsPart}
 use Rattle.command_line.specs.declared.mode.Mode.{Mode}
@@ -16,8 +15,8 @@ use Rattle.sessions.specs.declared.session_fault.SessionFault.{SessionFault}
 use Rattle.sessions.specs.declared.session_fault.SessionFault.TheVariants as why
 use Rattle.colregs_program.specs.AskedScenarios.{log_of, task_of}
 use Rattle.colregs_program.specs.Answers.{EndsWith, IsReadBy, StopsWith}
-use Rattle.colregs_program.specs.LogAnswers.{GainsFront, GainsPart, GainsSettled, IsAnswered, IsStoppedBy, answer_of}
-use Rattle.colregs_program.specs.Inner.Streaming.{Ends, LogCount, ReportCause, Stops, StreamCause}
+use Rattle.colregs_program.specs.LogAnswers.{GainsFront, GainsPart, GainsSettled, IsAnswered, IsStoppedBy, LeavesSettled, answer_of}
+use Rattle.colregs_program.specs.Inner.Streaming.{Ends, ReportCause, Stops, StreamCause, made_fault}
 use Rattle.colregs_program.specs.declared.streaming.StreamFault.{StreamFault}
 use Rattle.colregs_program.specs.declared.streaming.StreamFault.TheVariants as fault
 
@@ -96,6 +95,11 @@ cause_of_read request rows scenario left left' contents contents' (fault.Unrepor
 nothing_in_part : (contents contents' : Option (List ℕ)) (text : List ℕ) → text ≡ [] → AppendsPart contents contents' text → ⊥
 nothing_in_part contents contents' text nothing part = let lt = part.1 in let none : length text ≡ 0 = ap length nothing in omega (arith, lt, none)
 
+-- what was read of a log that is told is a front of it
+front_left : (m : Mode) (scenario : Scenario) (log : List ℕ) (left' contents contents' : Option (List ℕ)) → LeavesSettled m scenario (Some log) left' contents contents' → GainsFront m scenario log contents contents'
+front_left m scenario log None contents contents' leaves = absurd leaves.taken
+front_left m scenario log (Some rest) contents contents' leaves = record { front = leaves.read; rest = rest; whole = leaves.taken; gains = leaves.gains }
+
 -- a drill writes nothing before its end
 nothing_settled : (m : Mode) (scenario : Scenario) (front text : List ℕ) → m ≡ mode.Drill → IsSettledText m scenario front text → text ≡ []
 nothing_settled m scenario front text is settled = subst (λ (n : Mode). IsSettledText n scenario front text) is settled
@@ -108,42 +112,29 @@ module _ (request : Request) (rows : List ℕ) (scenario : Scenario) (given : Op
   unread : (left : Option (List ℕ)) → IsReadBy request.mode left
   unread left reads = cc (reads, makes)
 
-  pub cause_of_made : (given' left' contents contents' : Option (List ℕ)) (because : StreamFault) → (because ≡ fault.NotRead → ⊥)
-      → StreamCause (task_of request rows) scenario (Some made) left' contents contents' because → ReportCause request rows scenario given given' contents contents' because
-  cause_of_made given' left' contents contents' fault.NotRead read cause = absurd (read refl)
-  cause_of_made given' left' contents contents' fault.NotWritten read (inl part) =
+  pub cause_of_made : (given' left' contents contents' : Option (List ℕ)) (because : StreamFault)
+      → StreamCause (task_of request rows) scenario (Some made) left' contents contents' because → ReportCause request rows scenario given given' contents contents' (made_fault because)
+  cause_of_made given' left' contents contents' fault.NotRead leaves =
+      of_log request rows scenario given (Some made) contents contents' log_is (λ log. GainsFront request.mode scenario log contents contents') (front_left request.mode scenario made left' contents contents' leaves)
+  cause_of_made given' left' contents contents' fault.NotWritten (inl part) =
       absurd (nothing_in_part contents contents' part.text (nothing_settled request.mode scenario part.front part.text (drills request.mode makes is) part.settled) part.part)
-  cause_of_made given' left' contents contents' fault.NotWritten read (inr end) =
+  cause_of_made given' left' contents contents' fault.NotWritten (inr end) =
       inr (unread given', of_log request rows scenario given (Some made) contents contents' log_is (λ log. GainsPart (task_of request rows) scenario log contents contents') end.1)
-  cause_of_made given' left' contents contents' (fault.Unreported why.Vessels) read (inl stops) =
+  cause_of_made given' left' contents contents' (fault.Unreported why.Vessels) (inl stops) =
       inl (stops_with request rows scenario given (Some made) contents contents' log_is why.Vessels stops)
-  cause_of_made given' left' contents contents' (fault.Unreported why.Vessels) read (inr ends) =
+  cause_of_made given' left' contents contents' (fault.Unreported why.Vessels) (inr ends) =
       inr (ends_with request rows scenario given (Some made) contents contents' log_is why.Vessels left' given' (unread given') ends)
-  cause_of_made given' left' contents contents' (fault.Unreported why.Pairs) read (inl stops) =
+  cause_of_made given' left' contents contents' (fault.Unreported why.Pairs) (inl stops) =
       inl (stops_with request rows scenario given (Some made) contents contents' log_is why.Pairs stops)
-  cause_of_made given' left' contents contents' (fault.Unreported why.Pairs) read (inr ends) =
+  cause_of_made given' left' contents contents' (fault.Unreported why.Pairs) (inr ends) =
       inr (ends_with request rows scenario given (Some made) contents contents' log_is why.Pairs left' given' (unread given') ends)
-  cause_of_made given' left' contents contents' (fault.Unreported why.LogBytes) read cause =
+  cause_of_made given' left' contents contents' (fault.Unreported why.LogBytes) cause =
       ((λ reads. cc (reads, makes)), stops_with request rows scenario given (Some made) contents contents' log_is why.LogBytes cause.1)
-  cause_of_made given' left' contents contents' (fault.Unreported (why.Own lack)) read cause =
+  cause_of_made given' left' contents contents' (fault.Unreported (why.Own lack)) cause =
       (ends_with request rows scenario given (Some made) contents contents' log_is (why.Own lack) left' given' (unread given') cause.0, cause.1)
-  cause_of_made given' left' contents contents' (fault.Unreported why.Targets) read cause =
+  cause_of_made given' left' contents contents' (fault.Unreported why.Targets) cause =
       (ends_with request rows scenario given (Some made) contents contents' log_is why.Targets left' given' (unread given') cause.0, cause.1)
-  cause_of_made given' left' contents contents' (fault.Unreported (why.Entry index)) read cause =
+  cause_of_made given' left' contents contents' (fault.Unreported (why.Entry index)) cause =
       (ends_with request rows scenario given (Some made) contents contents' log_is (why.Entry index) left' given' (unread given') cause.0, cause.1)
-  cause_of_made given' left' contents contents' (fault.Unreported why.Memory) read cause =
+  cause_of_made given' left' contents contents' (fault.Unreported why.Memory) cause =
       of_log request rows scenario given (Some made) contents contents' log_is (λ log. GainsFront request.mode scenario log contents contents') cause
-
--- a log in memory is read without fault
-pub not_read : (because : StreamFault) → LogCount 0 0 because → because ≡ fault.NotRead → ⊥
-not_read fault.NotRead count is = omega (arith, count)
-not_read fault.NotWritten count is = cc is
-not_read (fault.Unreported because) count is = cc is
-
-pub made_cause : (request : Request) (rows : List ℕ) (scenario : Scenario) (given : Option (List ℕ)) (makes : reads_log request.mode ≡ false) (is : IsTrue (reports request.mode)) (made : List ℕ)
-    → made ≡ drill_log_of scenario request.options.seed → (given' left' contents contents' : Option (List ℕ)) (r : Result Bool StreamFault)
-    → IfErr r (StreamCause (task_of request rows) scenario (Some made) left' contents contents') → MatchResult r (λ _. zero ≡ zero) (LogCount 0 0)
-    → IfErr r (ReportCause request rows scenario given given' contents contents')
-made_cause request rows scenario given makes is made same given' left' contents contents' (Ok none) cause count = tt
-made_cause request rows scenario given makes is made same given' left' contents contents' (Err because) cause count =
-    cause_of_made request rows scenario given makes is made same given' left' contents contents' because (not_read because count) cause

@@ -2,7 +2,7 @@
 use Rattle.std.proofs.Math.ListN.{get_or}
 use Rattle.std.proofs.lemmas.List.{get_or-map, length-map}
 use Rattle.std.proofs.Common.{ℕ, zero, suc, ap₂, ◌≡◌, ◌≢◌, ◌≤◌, ◌<◌, ◌+◌, ◌*◌, ◌⊎◌, inl, inr, ◌==◌, Bool, true, false, IsTrue, List, [], ◌∷◌, ◌++◌, length, take, drop, map, Option, None, Some, Result, Ok, Err, refl, sym, ap, subst, ◌∙◌, arith}
-use Rattle.std.specs.Prelude.{All, IfOk, IfSome, fold, nat_lt}
+use Rattle.std.specs.Prelude.{All, IfOk, fold, nat_lt}
 use Rattle.std.specs.List.{AllPairs, filter_map, range_with_len}
 use Rattle.std.proofs.lemmas.Bool.Decides.{nat_tests}
 use Rattle.std.proofs.lemmas.List.Elements.{All-cons, All-filter, All-head, All-map, All-nil, All-push, All-tail, All-weaker}
@@ -34,13 +34,12 @@ use Rattle.command_line.specs.declared.mode.Mode.TheVariants as mode
 use Rattle.sessions.specs.AuditReport.{sightings_of}
 use Rattle.colregs_program.proofs.DrillLines.{InFleet, IsFleetLine, fleet_lines}
 use Rattle.colregs_program.proofs.FewDifferent.{few_between}
-use Rattle.settled_ticks.specs.Sightings.{sighted, sighting_by}
+use Rattle.settled_ticks.specs.Sightings.{seen_first, sighted, sighting_by}
+use Rattle.settling.specs.ManySettled.{HaveManySettled}
 use Rattle.settling.specs.ScenarioAudit.{audit_numbers}
 use Rattle.std.proofs.lemmas.List.{take-append-drop}
 use Rattle.log_lines.specs.GrowingLog.{ended_lines}
-use Rattle.sessions.specs.Modes.{reads_log, reports}
-use Rattle.colregs_program.proofs.AskedLogs.{drills, not_read}
-use Rattle.std.specs.Prelude.{IfErr, MatchResult}
+use Rattle.sessions.specs.Modes.{reports}
 use Rattle.sessions.specs.AuditReport.{sightings_of}
 use Rattle.sessions.specs.Endings.{Came, HasManyTraces, IsAnswerOf}
 use Rattle.sessions.specs.Refusals.{IsMet, IsLogRefused, IsStopped}
@@ -50,7 +49,7 @@ use Rattle.sessions.specs.declared.asked.Asked.{Asked}
 use Rattle.sessions.specs.declared.session_fault.SessionFault.TheVariants as why
 use Rattle.traces.specs.declared.all_traces.TheConstants.{MOST_TRACES}
 use Rattle.colregs_program.specs.LogAnswers.{Reports}
-use Rattle.colregs_program.specs.Inner.Streaming.{Ends, LogCount, StreamCause, Stops, is_of_drill}
+use Rattle.colregs_program.specs.Inner.Streaming.{Ends, StreamCause, Stops, is_of_drill, made_fault}
 use Rattle.colregs_program.specs.declared.streaming.StreamFault.{StreamFault}
 use Rattle.colregs_program.specs.declared.streaming.StreamFault.TheVariants as fault
 
@@ -229,21 +228,35 @@ module _ (scenario : Scenario) (seed : ℕ) (in_range : IsWindow scenario.window
       many
 
   -- no front of it is refused but for its bytes, and its end comes to a report
-  not_stopped : (stay : (l more : List ℕ) → (lines : List (List ℕ)) × (lines_of (l ++ more) ≡ ended_lines l ++ lines)) (place : ℕ) → is_crowded scenario (ended_lines (take place log)) ≡ false
-  not_stopped stay place =
+  fleet_front : (stay : (l more : List ℕ) → (lines : List (List ℕ)) × (lines_of (l ++ more) ≡ ended_lines l ++ lines)) (place : ℕ) → All IsFleetLine (ended_lines (take place log))
+  fleet_front stay place =
       let lines = stay (take place log) (drop place log) in
       let whole = subst (All IsFleetLine) (ap lines_of (sym (take-append-drop place log)) ∙ lines.1) (fleet_lines scenario seed in_range) in
-      not_crowded scenario (ended_lines (take place log)) (first_all IsFleetLine (ended_lines (take place log)) lines.0 whole)
+      first_all IsFleetLine (ended_lines (take place log)) lines.0 whole
     where
       first_all : (P : List ℕ → Type 0) (xs ys : List (List ℕ)) → All P (xs ++ ys) → All P xs
       first_all P [] ys all = All-nil P
       first_all P (x ∷ xs) ys all = All-cons P x xs (All-head P x (xs ++ ys) all) (first_all P xs ys (All-tail P x (xs ++ ys) all))
 
+  not_stopped : (stay : (l more : List ℕ) → (lines : List (List ℕ)) × (lines_of (l ++ more) ≡ ended_lines l ++ lines)) (place : ℕ) → is_crowded scenario (ended_lines (take place log)) ≡ false
+  not_stopped stay place = not_crowded scenario (ended_lines (take place log)) (fleet_front stay place)
+
+  few_in_front : (stay : (l more : List ℕ) → (lines : List (List ℕ)) × (lines_of (l ++ more) ≡ ended_lines l ++ lines)) (place : ℕ)
+      → HaveManySettled scenario (ended_lines (take place log)) → ⊥
+  unfolding sighting_by
+  few_in_front stay place many =
+      let lines = ended_lines (take place log) in
+      let messages = sent scenario lines in
+      let of = sent_so scenario lines (fleet_front stay place) in
+      few_traces (audit_numbers scenario) (seen_first scenario messages many.count)
+      (All-map SightsFleet (sighting_by scenario messages) (range_with_len 0 many.count) (λ k d lt. seen_so (numbers_of scenario) messages _ of))
+      many.many
+
   no_refusal : (stay : (l more : List ℕ) → (lines : List (List ℕ)) × (lines_of (l ++ more) ≡ ended_lines l ++ lines)) (place : ℕ) (came : Came)
       → IsLogRefused mode.Drill scenario (take place log) came → came ≡ Err why.LogBytes
   no_refusal stay place came (inl (long, is)) = is
   no_refusal stay place came (inr (short, inl (crowded, is))) = let calm = not_stopped stay place in cc (crowded, calm)
-  no_refusal stay place came (inr (short, inr (calm, inl (many, is)))) = absurd many
+  no_refusal stay place came (inr (short, inr (calm, inl (many, is)))) = absurd (few_in_front stay place many)
   no_refusal stay place came (inr (short, inr (calm, inr (few, none)))) = absurd none
 
   at_its_end : (came : Came) → IsAnswerOf mode.Drill [] scenario log came → came ≡ Ok false
@@ -293,32 +306,25 @@ module _ (scenario : Scenario) (seed : ℕ) (in_range : IsWindow scenario.window
       → IsTrue (is_of_drill (fault.Unreported because))
   ended_so asked because left' contents contents' ends = drill_only because (Err because) refl (drill_comes_to asked.why asked.rows.now (Err because) (inr (ends.ends.0, ends.ends.1)))
 
-  drill_cause : (asked : Asked) (left' contents contents' : Option (List ℕ)) (because : StreamFault) → (because ≡ fault.NotRead → ⊥) → StreamCause (task_by mode.Drill asked) scenario (Some made) left' contents contents' because
-      → IsTrue (is_of_drill because)
-  drill_cause asked left' contents contents' fault.NotRead read cause = absurd (read refl)
-  drill_cause asked left' contents contents' fault.NotWritten read cause = refl
-  drill_cause asked left' contents contents' (fault.Unreported why.Vessels) read (inl stops) = stopped_so why.Vessels contents contents' stops
-  drill_cause asked left' contents contents' (fault.Unreported why.Vessels) read (inr ends) = ended_so asked why.Vessels left' contents contents' ends
-  drill_cause asked left' contents contents' (fault.Unreported why.Pairs) read (inl stops) = stopped_so why.Pairs contents contents' stops
-  drill_cause asked left' contents contents' (fault.Unreported why.Pairs) read (inr ends) = ended_so asked why.Pairs left' contents contents' ends
-  drill_cause asked left' contents contents' (fault.Unreported why.LogBytes) read cause = refl
-  drill_cause asked left' contents contents' (fault.Unreported (why.Own lack)) read cause = ended_so asked (why.Own lack) left' contents contents' cause.0
-  drill_cause asked left' contents contents' (fault.Unreported why.Targets) read cause = ended_so asked why.Targets left' contents contents' cause.0
-  drill_cause asked left' contents contents' (fault.Unreported (why.Entry index)) read cause = ended_so asked (why.Entry index) left' contents contents' cause.0
-  drill_cause asked left' contents contents' (fault.Unreported why.Memory) read cause = refl
+  drill_cause : (asked : Asked) (left' contents contents' : Option (List ℕ)) (because : StreamFault) → StreamCause (task_by mode.Drill asked) scenario (Some made) left' contents contents' because
+      → IsTrue (is_of_drill (made_fault because))
+  drill_cause asked left' contents contents' fault.NotRead cause = refl
+  drill_cause asked left' contents contents' fault.NotWritten cause = refl
+  drill_cause asked left' contents contents' (fault.Unreported why.Vessels) (inl stops) = stopped_so why.Vessels contents contents' stops
+  drill_cause asked left' contents contents' (fault.Unreported why.Vessels) (inr ends) = ended_so asked why.Vessels left' contents contents' ends
+  drill_cause asked left' contents contents' (fault.Unreported why.Pairs) (inl stops) = stopped_so why.Pairs contents contents' stops
+  drill_cause asked left' contents contents' (fault.Unreported why.Pairs) (inr ends) = ended_so asked why.Pairs left' contents contents' ends
+  drill_cause asked left' contents contents' (fault.Unreported why.LogBytes) cause = refl
+  drill_cause asked left' contents contents' (fault.Unreported (why.Own lack)) cause = ended_so asked (why.Own lack) left' contents contents' cause.0
+  drill_cause asked left' contents contents' (fault.Unreported why.Targets) cause = ended_so asked why.Targets left' contents contents' cause.0
+  drill_cause asked left' contents contents' (fault.Unreported (why.Entry index)) cause = ended_so asked (why.Entry index) left' contents contents' cause.0
+  drill_cause asked left' contents contents' (fault.Unreported why.Memory) cause = refl
 
-  pub drill_faults : (m : Mode) → m ≡ mode.Drill → (asked : Asked) (left' contents contents' : Option (List ℕ)) (because : StreamFault) → (because ≡ fault.NotRead → ⊥)
-      → StreamCause (task_by m asked) scenario (Some made) left' contents contents' because → IsTrue (is_of_drill because)
-  drill_faults m is asked left' contents contents' because read cause =
-      drill_cause asked left' contents contents' because read (subst (λ (n : Mode). StreamCause (task_by n asked) scenario (Some made) left' contents contents' because) is cause)
+  pub drill_faults : (m : Mode) → m ≡ mode.Drill → (asked : Asked) (left' contents contents' : Option (List ℕ)) (because : StreamFault)
+      → StreamCause (task_by m asked) scenario (Some made) left' contents contents' because → IsTrue (is_of_drill (made_fault because))
+  drill_faults m is asked left' contents contents' because cause =
+      drill_cause asked left' contents contents' because (subst (λ (n : Mode). StreamCause (task_by n asked) scenario (Some made) left' contents contents' because) is cause)
 
   pub drill_reports : (m : Mode) → m ≡ mode.Drill → (asked : Asked) (none : Bool) (contents contents' : Option (List ℕ)) → Reports (task_by m asked) scenario made none contents contents' → none ≡ false
   drill_reports m is asked none contents contents' reports =
       elim (drill_comes_to asked.why asked.rows.now (Ok none) (subst (λ (n : Mode). IsMet (task_by n asked) scenario made (Ok none)) is reports.met)) [ inl same ↦ cc same | inr same ↦ cc same ]
-
-  pub drill_result : (m : Mode) → reads_log m ≡ false → IsTrue (reports m) → (asked : Asked) (left' contents contents' : Option (List ℕ)) (r : Result Bool StreamFault)
-      → IfOk r (λ none. IfSome (Some made) (λ bytes. Reports (task_by m asked) scenario bytes none contents contents')) → IfErr r (StreamCause (task_by m asked) scenario (Some made) left' contents contents')
-      → MatchResult r (λ _. zero ≡ zero) (LogCount 0 0) → MatchResult r (λ none. none ≡ false) (λ because. IsTrue (is_of_drill because))
-  drill_result m makes is asked left' contents contents' (Ok none) reported cause count = drill_reports m (drills m makes is) asked none contents contents' reported
-  drill_result m makes is asked left' contents contents' (Err because) reported cause count =
-      drill_faults m (drills m makes is) asked left' contents contents' because (not_read because count) cause

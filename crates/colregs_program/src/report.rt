@@ -7,16 +7,27 @@ ghost use Rattle.sessions.specs.Modes.{needs_own, reads_log, reports};
 ghost use Rattle.colregs_program.specs.Answers.{IsReadBy};
 ghost use Rattle.colregs_program.specs.AskedScenarios.{log_of, task_of};
 ghost use Rattle.colregs_program.specs.LogAnswers.{Reports};
-ghost use Rattle.colregs_program.specs.Inner.Streaming.{LogCount, OutCount, ReportCause, is_of_drill};
+ghost use Rattle.colregs_program.specs.Inner.Streaming.{LogCount, OutCount, ReportCause, is_of_drill, made_fault};
 
 use crate::set_up::SetUp;
-use crate::streaming::{BLOCK, StreamFault, write_report};
+use crate::streaming::{StreamFault, write_report};
 use command_line::Request;
-use drill_log::drill_log;
+use drill_log::DrillSource;
 use log_lines::laws::ended_lines_stay;
-use outside::{PlainSource, Sink, Source};
-use sessions::{Asked, reads_log};
+use outside::{Sink, Source};
+use sessions::{Asked, SessionFault, reads_log};
 use std::alloc::Global;
+
+/// The fault of a run whose log is made: where it cannot be read, there is no memory to make it.
+fn made_fault(fault: StreamFault) -> StreamFault
+    ensures { result ≡ made_fault fault }
+{
+    match fault {
+        StreamFault::NotRead => StreamFault::Unreported(SessionFault::Memory),
+        StreamFault::NotWritten => StreamFault::NotWritten,
+        StreamFault::Unreported(why) => StreamFault::Unreported(why),
+    }
+}
 
 /// Writes the report that a request asks for. Tells whether it is one without a manoeuvre.
 pub(crate) fn report_on<S: Source, K: Sink>(
@@ -51,7 +62,9 @@ pub(crate) fn report_on<S: Source, K: Sink>(
         return write_report(alloc, scenario, mode, &asked, log, out);
     }
     ended_lines_stay();
-    let made = drill_log(alloc, &scenario, request.options.seed)?;
-    let mut source = PlainSource::new(made, BLOCK);
-    write_report(alloc, scenario, mode, &asked, &mut source, out)
+    let mut made = DrillSource::new(alloc, &scenario, request.options.seed)?;
+    match write_report(alloc, scenario, mode, &asked, &mut made, out) {
+        Ok(none) => Ok(none),
+        Err(fault) => Err(made_fault(fault)),
+    }
 }

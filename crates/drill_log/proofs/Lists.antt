@@ -1,20 +1,19 @@
 -- Lists of what stands at each number of a range.
-use Rattle.std.proofs.Common.{◌≡◌, ℕ, zero, suc, ◌+◌, ◌<◌, List, [], ◌∷◌, ◌++◌, length, take, get_or, refl, sym, ap, ◌∙◌, arith, add-one, append-nil}
-use Rattle.std.proofs.lemmas.Grind.{flat_map-append}
+use Rattle.std.proofs.Common.{◌≡◌, ℕ, zero, suc, ◌+◌, ◌<◌, List, ◌∷◌, ◌++◌, length, take, get_or, sym, ap, ◌∙◌, arith}
 use Rattle.std.proofs.lemmas.List.{flat_map_more, take_more}
 use Rattle.std.specs.List.{range_with_len, flat_map}
 
-pub range_more : (a n : ℕ) → range_with_len a (n + 1) ≡ range_with_len a n ++ (a + n) ∷ []
-range_more a zero = let e : a + 0 ≡ a = omega arith in rw e refl
-range_more a (suc n) =
-    let e : a + suc n ≡ a + 1 + n = omega arith in
-    let front : range_with_len a (suc n + 1) ≡ a ∷ range_with_len (a + 1) (n + 1) = ap (range_with_len a) (add-one (suc n)) ∙ ap (λ (k : ℕ). a ∷ range_with_len (a + 1) k) (sym (add-one n)) in
-    front ∙ ap (λ (l : List ℕ). a ∷ l) (range_more (a + 1) n) ∙ ap (λ (k : ℕ). a ∷ (range_with_len (a + 1) n ++ k ∷ [])) (sym e)
-
-pub flat_map_range_more : {X : Type 0} (f : ℕ → List X) (n : ℕ) → flat_map f (range_with_len 0 (n + 1)) ≡ flat_map f (range_with_len 0 n) ++ f n
-flat_map_range_more f n =
-    let here : 0 + n ≡ n = omega arith in
-    ap (flat_map f) (range_more 0 n) ∙ flat_map-append f (range_with_len 0 n) ((0 + n) ∷ []) ∙ rw here (ap (λ l. flat_map f (range_with_len 0 n) ++ l) (append-nil (f n)))
+-- the numbers of a range, and those behind them
+pub range_split : (a n m : ℕ) → range_with_len a (n + m) ≡ range_with_len a n ++ range_with_len (a + n) m
+range_split a zero m =
+    let none : 0 + m ≡ m = omega arith in
+    let here : a + 0 ≡ a = omega arith in
+    λ i. range_with_len (sym here i) (none i)
+range_split a (suc n) m =
+    let count : suc n + m ≡ suc (n + m) = omega arith in
+    let here : a + 1 + n ≡ a + suc n = omega arith in
+    ap (range_with_len a) count ∙ ap (λ (ms : List ℕ). a ∷ ms) (range_split (a + 1) n m)
+    ∙ ap (λ (k : ℕ). a ∷ (range_with_len (a + 1) n ++ range_with_len k m)) here
 
 -- what one more element of a list gives
 pub flat_map_take_more : {A X : Type 0} (f : A → List X) (front before after : List X) (xs : List A) (i : ℕ) (d : A) → i < length xs

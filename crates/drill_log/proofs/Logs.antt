@@ -1,6 +1,5 @@
 -- The log, from its lines minute by minute.
 use Rattle.std.proofs.Common.{◌≡◌, ℕ, ◌+◌, ◌*◌, Bool, List, [], ◌∷◌, ◌++◌, map, Some, sym, ap, ap₂, ◌∙◌, arith, append_assoc}
-use Rattle.std.proofs.lemmas.Grind.{flat_map-append}
 use Rattle.std.proofs.lemmas.List.Folds.{flat_map-map}
 use Rattle.std.proofs.lemmas.List.FromFn.{map-range_with_len_more}
 use Rattle.std.specs.List.{range_with_len, flat_map}
@@ -11,7 +10,6 @@ use Rattle.scenario.specs.declared.values.Scenario.{Scenario}
 use Rattle.drill_log.specs.DrillLog.{TimedReport, report_line, vessel_report, reports_at}
 use Rattle.drill_log.specs.Inner.VesselFigures.{report_by, vessel_of}
 use Rattle.drill_log.specs.declared.vessel.Vessel.{Vessel}
-use Rattle.drill_log.proofs.Lists.{flat_map_range_more}
 
 -- the line of a vessel after so many minutes
 abbrev pub line_by : Scenario → ℕ → Vessel → List ℕ
@@ -23,18 +21,6 @@ unfolding vessel_of report_by vessel_report
 minute_lines scenario seed minutes =
     flat_map-map (line_by scenario minutes) (vessel_of seed) (range_with_len 0 40)
     ∙ sym (flat_map-map report_line (λ vessel. let timed : TimedReport = record { time = scenario.window.start + 60 * minutes; report = vessel_report scenario.reference seed vessel minutes } in timed) (range_with_len 0 40))
-
--- the lines of one more minute
-pub minute_more : (scenario : Scenario) (seed minutes : ℕ) (vessels : List Vessel) (before after : List ℕ)
-    → vessels ≡ map (vessel_of seed) (range_with_len 0 40)
-    → before ≡ flat_map report_line (flat_map (reports_at scenario seed) (range_with_len 0 minutes))
-    → after ≡ before ++ flat_map (line_by scenario minutes) vessels
-    → after ≡ flat_map report_line (flat_map (reports_at scenario seed) (range_with_len 0 (minutes + 1)))
-minute_more scenario seed minutes vessels before after are so_far more =
-    more
-    ∙ ap₂ (λ (a b : List ℕ). a ++ b) so_far (ap (flat_map (line_by scenario minutes)) are ∙ minute_lines scenario seed minutes)
-    ∙ sym (flat_map-append report_line (flat_map (reports_at scenario seed) (range_with_len 0 minutes)) (reports_at scenario seed minutes))
-    ∙ ap (flat_map report_line) (sym (flat_map_range_more (reports_at scenario seed) minutes))
 
 -- a line and its end, one after the other
 pub line_more : (log line text extended pushed : List ℕ) (bits : List Bool) (time : ℕ) (report : PositionReport)

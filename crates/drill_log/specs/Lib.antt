@@ -1,4 +1,5 @@
 pub mod DrillFacts
 pub mod DrillLog
+pub mod MadeLog
 pub mod Inner
 pub use Rattle.scenario.specs.ScenarioValues

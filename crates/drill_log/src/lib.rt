@@ -8,7 +8,11 @@
 
 pub mod laws;
 mod log;
+mod making;
+mod minute_log;
 mod numbers;
+mod source;
 mod vessel;
 
 pub use log::drill_log;
+pub use source::DrillSource;

@@ -1,8 +1,10 @@
 //! The log of the drill.
-ghost use Rattle.std.specs.Prelude.{◌≡◌, ◌+◌, ◌*◌, ◌<◌, ◌≤◌, ◌++◌, All, IfOk, OnOk, flat_map};
+ghost use Rattle.std.specs.Prelude.{◌≡◌, ◌+◌, ◌-◌, ◌*◌, ◌<◌, ◌≤◌, ◌++◌, All, IfOk, OnOk, flat_map};
+ghost use Rattle.std.specs.List.{range_with_len};
 ghost use Rattle.ais_messages.specs.MessageFields.{IsReport};
 ghost use Rattle.scenario.specs.ScenarioValues.{IsWindow};
 ghost use Rattle.drill_log.specs.DrillLog.{drill_log_of, minutes_in, report_line};
+ghost use Rattle.drill_log.specs.Inner.MinuteLines.{lines_at};
 ghost use Rattle.drill_log.specs.Inner.VesselFigures.{report_by, IsVessel};
 
 use crate::vessel::{VESSELS, Vessel, vessels};
@@ -26,18 +28,43 @@ pub fn drill_log(alloc: Global, scenario: &Scenario, seed: u32) -> Result<Vec<u8
     ensures { IfOk result (λ log. log.items ≡ drill_log_of scenario.now seed) }
 {
     let vessels = vessels(alloc, seed)?;
-    let mut log = Vec::new(alloc);
     let reports = minutes_in(scenario.window) + 1;
-    log.reserve(reports as usize * (VESSELS as usize * LINE_BYTES))?;
-    for minutes in 0..reports {
-        let time = scenario.window.start + 60 * u64::from(minutes);
-        push_reports(&mut log, alloc, &vessels, scenario.reference, minutes, time)?;
+    lines_between(
+        alloc,
+        &vessels,
+        scenario.reference,
+        scenario.window.start,
+        0,
+        reports,
+    )
+}
+
+/// The lines of the vessels' reports from one minute until before another.
+pub(crate) fn lines_between(
+    alloc: Global,
+    vessels: &[Vessel],
+    reference: Reference,
+    start: u64,
+    from: u32,
+    end: u32,
+) -> Result<Vec<u8>, Memory>
+    requires vessels { All IsVessel vessels.now }
+    requires start { start ≤ 9999999999 }
+    requires ordered { from ≤ end }
+    requires few { end ≤ 20001 }
+    ensures { IfOk result (λ lines. lines.items ≡ flat_map (lines_at reference start vessels.now) (range_with_len from (end - from))) }
+{
+    let mut lines = Vec::new(alloc);
+    lines.reserve((end - from) as usize * (VESSELS as usize * LINE_BYTES))?;
+    for minutes in from..end {
+        let time = start + 60 * u64::from(minutes);
+        push_reports(&mut lines, alloc, vessels, reference, minutes, time)?;
     }
-    Ok(log)
+    Ok(lines)
 }
 
 /// The whole minutes of a window.
-fn minutes_in(window: Window) -> u32
+pub(crate) fn minutes_in(window: Window) -> u32
     requires { IsWindow window }
     ensures value { result ≡ minutes_in window }
     ensures most { result ≤ 20000 }

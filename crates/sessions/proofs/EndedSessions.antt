@@ -127,14 +127,15 @@ watch_here self watch judge is judges used =
     record { log = used.fed; given = of.0; is = of.1 }
 
 pub drill_of : (self : Session) (audit : SettledAudit) (judge : Judge) → self.work ≡ work.Drill audit → JudgeOf self judge → (fed given : List ℕ) → StandsFor self fed given
-    → IsAuditOf audit judge self.scenario fed [] × (given ≡ [])
+    → (rows : List Row) × IsAuditOf audit judge self.scenario fed rows × (given ≡ [])
 drill_of self audit judge is judges fed given stands =
     let done = done_by self (work.Drill audit) is fed given stands in (
+      done.1.0,
       record {
-        lines = [];
-        more = lines_of fed;
-        whole = refl;
-        stands = done.1;
+        lines = ended_lines fed;
+        more = open_lines (open_part fed);
+        whole = lines_ended_or_open fed;
+        stands = done.1.1;
         judged = ended_judge self judge judges fed given stands;
       },
       done.0,
@@ -142,7 +143,8 @@ drill_of self audit judge is judges fed given stands =
 
 pub drill_here : (self : Session) (audit : SettledAudit) (judge : Judge) → self.work ≡ work.Drill audit → JudgeOf self judge → IsInUse self → IsAuditAtEnd audit judge self.scenario
 drill_here self audit judge is judges used =
-    record { log = used.fed; given = []; is = (drill_of self audit judge is judges used.fed used.given used.stands).0 }
+    let of = drill_of self audit judge is judges used.fed used.given used.stands in
+    record { log = used.fed; given = of.0; is = of.1 }
 
 pub points_of : (self : Session) (ended : EndedLines) → self.work ≡ work.Points
     → ((scenario : Scenario) (log : List ℕ) → LinesStandFor self.lines scenario log → judged_lines scenario (lines_of log) ≡ judged_lines scenario (ended_lines log) ++ option_to_list ended.last)
@@ -202,9 +204,9 @@ module _ (self : Session) (judge : Judge) (judges : JudgeOf self judge) (asked :
       refused_by mode.Watch (ap mode_by is) (λ fed given stands. let of = watch_of self watch judge is judges fed given stands in cause fed of.0 of.1)
 
   pub drill_refused : (audit : SettledAudit) → self.work ≡ work.Drill audit
-      → ((log : List ℕ) → IsAuditOf audit judge self.scenario log [] → EndCause mode.Drill [] self.scenario log because) → Refusal self asked because
+      → ((log : List ℕ) (rows : List Row) → IsAuditOf audit judge self.scenario log rows → EndCause mode.Drill [] self.scenario log because) → Refusal self asked because
   drill_refused audit is cause =
-      refused_by mode.Drill (ap mode_by is) (λ fed given stands. let of = drill_of self audit judge is judges fed given stands in cause fed of.0)
+      refused_by mode.Drill (ap mode_by is) (λ fed given stands. let of = drill_of self audit judge is judges fed given stands in cause fed of.0 of.1)
 
   pub plan_refused : self.work ≡ work.Plan → ((log : List ℕ) → JudgeStandsFor judge self.scenario (lines_of log) → EndCause mode.Plan [] self.scenario log because) → Refusal self asked because
   plan_refused is cause = refused_by mode.Plan (ap mode_by is) (λ fed given stands. cause fed (ended_judge self judge judges fed given stands))

@@ -17,7 +17,7 @@ use Rattle.command_line.specs.declared.mode.Mode.{Mode}
 use Rattle.situations.specs.PlanSituations.{greatest_targets, targets_near}
 use Rattle.situations.specs.declared.readiness.Unready.{Unready}
 use Rattle.sessions.specs.Endings.{Came, First, HasBadEntry, MeetsTargetLimit, IsAnswerOf, OfOwn, Unless, lack_by, unready_of}
-use Rattle.sessions.specs.Modes.{Look, OfOwnShip, OfTicks, WhereChecked, each_line, each_tick, early_by, early_look, look_of, manner_of, needs_rows, nothing, own_ship}
+use Rattle.sessions.specs.Modes.{Look, OfOwnShip, OfTicks, WhereChecked, each_line, each_tick, early_by, look_of, look_of, manner_of, needs_rows, nothing, own_ship}
 use Rattle.sessions.specs.PlanReport.{log_messages, situation_on}
 use Rattle.sessions.specs.Refusals.{HasManySettled, IsMet, IsLogRefused, IsRefusedAt, IsStopped, IsUnrefused}
 use Rattle.sessions.specs.SettledText.{IsDecidedBy, IsDecidedText, IsSettledText}
@@ -96,7 +96,7 @@ module _ (stay : EndedStay) (settle : ManyStay) (m : Mode) (scenario : Scenario)
       record {
         short = (let short = un.short in omega (arith, long));
         calm = calm_before scenario (ended_lines front) lines.0 (ap (is_crowded scenario) (sym lines.1) ∙ un.calm);
-        few = λ many. un.few (subst (HasManySettled m scenario) (sym lines.1) (many_on settle (early_look m) scenario (ended_lines front) lines.0 many));
+        few = λ many. un.few (subst (HasManySettled m scenario) (sym lines.1) (many_on settle (look_of m) scenario (ended_lines front) lines.0 many));
       }
 
   pub first_unrefused : (log : List ℕ) (place : ℕ) → IsUnrefused m scenario log → IsUnrefused m scenario (take place log)

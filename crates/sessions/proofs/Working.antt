@@ -24,7 +24,7 @@ use Rattle.settling.specs.declared.settled_audit.SettledAudit.{SettledAudit}
 use Rattle.settling.specs.declared.settled_watch.SettledWatch.{SettledWatch}
 use Rattle.settling.proofs.ForCallers.{few_settled, few_watched, none_decided, no_alarms_decided, none_many}
 use Rattle.command_line.specs.declared.mode.Mode.{Mode}
-use Rattle.sessions.specs.Modes.{Look, OfTicks, alarms, each_line, each_tick, early_look, nothing, own_ship, stretches}
+use Rattle.sessions.specs.Modes.{Look, OfTicks, alarms, each_line, each_tick, early_look, look_of, nothing, own_ship, stretches}
 use Rattle.sessions.specs.AuditReport.{stretch_fields, stretch_rows}
 use Rattle.sessions.specs.PointsReport.{point_rows, rows_of_line}
 use Rattle.sessions.specs.Refusals.{HasManySettled, IsUnrefused}
@@ -77,7 +77,7 @@ pub nothing_refused : (m : Mode) (scenario : Scenario) → IsUnrefused m scenari
 nothing_refused m scenario = record {
   short = omega arith;
   calm = ap (is_crowded scenario) nothing_ended ∙ none_crowded scenario;
-  few = λ many. none_too_many (early_look m) scenario (subst (HasManySettled m scenario) nothing_ended many);
+  few = λ many. none_too_many (look_of m) scenario (subst (HasManySettled m scenario) nothing_ended many);
 }
 
 pub points_begun : (scenario : Scenario) → IsDone work.Points scenario [] []
@@ -85,6 +85,9 @@ points_begun scenario = (no_points scenario, tt)
 
 pub audit_begun : (scenario : Scenario) (audit : SettledAudit) → AuditStandsFor audit scenario [] [] → IsDone (work.Audit audit) scenario [] []
 audit_begun scenario audit stands = (([], none_decided scenario, refl), stands)
+
+pub drill_begun : (scenario : Scenario) (audit : SettledAudit) → AuditStandsFor audit scenario [] [] → IsDone (work.Drill audit) scenario [] []
+drill_begun scenario audit stands = (refl, ([], stands))
 
 pub watch_begun : (scenario : Scenario) (watch : SettledWatch) → WatchStandsFor watch scenario [] [] → IsDone (work.Watch watch) scenario [] []
 watch_begun scenario watch stands = (([], no_alarms_decided scenario, refl), stands)
@@ -98,7 +101,7 @@ pub few_by : (work : Work) (scenario : Scenario) (lines : List (List ℕ)) (give
 few_by work.Points scenario lines given done many = many
 few_by (work.Audit audit) scenario lines given (decided, stands) many = few_settled scenario audit lines decided.0 stands many
 few_by work.Plan scenario lines given done many = many
-few_by (work.Drill audit) scenario lines given done many = many
+few_by (work.Drill audit) scenario lines given (decided, audited) many = few_settled scenario audit lines audited.0 audited.1 many
 few_by work.Recheck scenario lines given done many = many
 few_by (work.Watch watch) scenario lines given (decided, stands) many = few_watched scenario watch lines decided.0 stands many
 
@@ -160,13 +163,14 @@ plan_goes_on scenario judge judged front text has keeps = record {
   done = λ lines more given done stands is. (append-nil given ∙ done.0, tt);
 }
 
-pub drill_goes_on : (scenario : Scenario) (judge : Judge) (judged : Judged) (front : List ℕ) (text : ReportText) (audit : SettledAudit) → HasText text front
-    → RemembersTicks (keeping_of judge) scenario (audited_ticks audit) → GoesOn (work.Drill audit) (work.Drill audit) scenario judge judged front text
-drill_goes_on scenario judge judged front text audit has keeps = record {
+pub drill_goes_on : (scenario : Scenario) (judge : Judge) (judged : Judged) (front : List ℕ) (text : ReportText) (audit audit' : SettledAudit) (further : List Row)
+    → ((lines more : List (List ℕ)) (given : List Row) → AuditStandsFor audit scenario lines given → JudgeStandsFor judge scenario (lines ++ more) → AuditStandsFor audit' scenario (lines ++ more) (given ++ further))
+    → RemembersTicks (keeping_of judge) scenario (audited_ticks audit') → HasText text front → GoesOn (work.Drill audit) (work.Drill audit') scenario judge judged front text
+drill_goes_on scenario judge judged front text audit audit' further stand keeps has = record {
   decided = [];
-  keeps = keeps;
   has = subst (HasText text) (sym (append-nil front)) has;
-  done = λ lines more given done stands is. (append-nil given ∙ done.0, done.1);
+  keeps = keeps;
+  done = λ lines more given done stands is. (append-nil given ∙ done.0, (done.1.0 ++ further, stand lines more done.1.0 done.1.1 stands));
 }
 
 -- The audit's fault that ends a session for its pairs is that of the pairs.

@@ -29,7 +29,7 @@ pub record Manner : Type 0 where
   pub early : Bool
   pub checks : Bool
 
--- A drill audits the log that it makes, at its end alone. A migration looks at the scenario alone. A recheck looks at what a plan is sought by.
+-- A drill audits the log that it makes, and tells of it at its end alone. A migration looks at the scenario alone. A recheck looks at what a plan is sought by.
 -- A watch looks at the ticks as an audit does.
 abbrev pub manner_of : Mode → Manner
 manner_of mode.Points = record { look = each_line; log = given; early = true; checks = false }

@@ -6,15 +6,15 @@ use Rattle.scenario.specs.declared.values.Scenario.{Scenario}
 use Rattle.settling.specs.ManySettled.{HaveManySettled}
 use Rattle.command_line.specs.declared.mode.Mode.{Mode}
 use Rattle.sessions.specs.Endings.{Came, First, IsAnswerTo}
-use Rattle.sessions.specs.Modes.{OfTicks, early_look}
+use Rattle.sessions.specs.Modes.{OfTicks, look_of}
 use Rattle.sessions.specs.SettledText.{IsSettledText}
 use Rattle.sessions.specs.Tasks.{Task}
 use Rattle.sessions.specs.declared.session_fault.SessionFault.{SessionFault}
 use Rattle.sessions.specs.declared.session_fault.SessionFault.TheVariants as fault
 
--- More traces begin at ticks that the lines settle, where ticks are looked at before the end.
+-- More traces begin at ticks that the lines settle, where ticks are looked at.
 abbrev pub HasManySettled : Mode → Scenario → List (List ℕ) → Type 0
-HasManySettled mode scenario lines = OfTicks (early_look mode) (HaveManySettled scenario lines)
+HasManySettled mode scenario lines = OfTicks (look_of mode) (HaveManySettled scenario lines)
 
 -- A front of a log is refused, whatever follows: it has more bytes than the scenario allows; or else the lines that a line feed has ended
 -- make more vessels held; or else more traces begin at ticks that they settle.

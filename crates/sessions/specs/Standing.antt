@@ -1,5 +1,6 @@
 -- What a session stands for.
-use Rattle.std.specs.Prelude.{ℕ, ◌≡◌, length, List, [], IsSome, IsTrue}
+use Rattle.std.specs.Prelude.{ℕ, ◌≡◌, length, List, IsSome, IsTrue}
+use Rattle.audit_rows.specs.declared.row.Row.{Row}
 use Rattle.log_lines.specs.GrowingLog.{ended_lines}
 use Rattle.scenario.specs.ScenarioValues.{IsInRange}
 use Rattle.scenario.specs.declared.values.Scenario.{Scenario}
@@ -56,12 +57,12 @@ KeepsEnough work.Recheck scenario keeping = keeping ≡ Tracks
 KeepsEnough (work.Watch watch) scenario keeping = RemembersTicks keeping scenario (watched_ticks watch)
 
 -- An audit has audited the ticks that the lines settle, and given the rows of which the text is; a watch has watched them, and given the alarms.
--- A drill audits none before the log's end.
+-- A drill has audited them, and its rows are not told.
 abbrev pub HasAudited : (work : Work) (scenario : Scenario) (lines : List (List ℕ)) (given : List ℕ) → IsDecidedText (mode_by work) scenario lines given → Type 0
 HasAudited work.Points scenario lines given decided = Unit {0}
 HasAudited (work.Audit audit) scenario lines given decided = AuditStandsFor audit scenario lines decided.0
 HasAudited work.Plan scenario lines given decided = Unit {0}
-HasAudited (work.Drill audit) scenario lines given decided = AuditStandsFor audit scenario [] []
+HasAudited (work.Drill audit) scenario lines given decided = (rows : List Row) × AuditStandsFor audit scenario lines rows
 HasAudited work.Recheck scenario lines given decided = Unit {0}
 HasAudited (work.Watch watch) scenario lines given decided = WatchStandsFor watch scenario lines decided.0
 

@@ -1,5 +1,6 @@
 //! The end of the report of `drill`.
 ghost use Rattle.std.specs.Prelude.{◌≡◌, [], ℕ, List, IfErr, IfOk, OnOk, Ok, false};
+ghost use Rattle.audit_rows.specs.declared.row.Row.{Row};
 ghost use Rattle.log_lines.specs.Standing.{keeping_of};
 ghost use Rattle.scenario.specs.ScenarioValues.{IsInRange};
 ghost use Rattle.sessions.specs.DrillReport.{IsDrillReport};
@@ -29,9 +30,9 @@ pub(crate) fn end_drill(
     requires in_range { IsInRange scenario.now }
     requires remembers { RemembersTicks (keeping_of judge.now) scenario.now (audited_ticks audit) }
     requires at_end { IsAuditAtEnd audit judge.now scenario.now }
-    ensures report { IfOk result (λ text. (log : List ℕ) → IsAuditOf audit judge.now scenario.now log [] → IsDrillReport scenario.now log text.items) }
-    ensures answer { OnOk result ((log : List ℕ) → IsAuditOf audit judge.now scenario.now log [] → IsAnswerOf Drill [] scenario.now log (Ok false)) }
-    ensures cause { IfErr result (λ why. (log : List ℕ) → IsAuditOf audit judge.now scenario.now log [] → EndCause Drill [] scenario.now log why) }
+    ensures report { IfOk result (λ text. (log : List ℕ) (rows : List Row) → IsAuditOf audit judge.now scenario.now log rows → IsDrillReport scenario.now log text.items) }
+    ensures answer { OnOk result ((log : List ℕ) (rows : List Row) → IsAuditOf audit judge.now scenario.now log rows → IsAnswerOf Drill [] scenario.now log (Ok false)) }
+    ensures cause { IfErr result (λ why. (log : List ℕ) (rows : List Row) → IsAuditOf audit judge.now scenario.now log rows → EndCause Drill [] scenario.now log why) }
 {
     let end = audit.end(scenario, judge)?;
     let mut text = ReportText::new(alloc);

@@ -110,7 +110,11 @@ impl Work {
                 let alarms = watch.settle(scenario, judge)?;
                 Ok(write_alarms(text, &scenario.rules, alarms.as_slice())?)
             }
-            Work::Plan | Work::Drill(_) | Work::Recheck => Ok(()),
+            Work::Drill(audit) => {
+                let _ = audit.settle(scenario, judge)?;
+                Ok(())
+            }
+            Work::Plan | Work::Recheck => Ok(()),
         }
     }
 }

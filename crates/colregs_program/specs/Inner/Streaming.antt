@@ -29,6 +29,12 @@ use Rattle.colregs_program.specs.declared.streaming.StreamFault.TheVariants as f
 abbrev pub no_memory : StreamFault
 no_memory = fault.Unreported why.Memory
 
+-- A log that is made cannot be read where there is no memory to make it, and nowhere else.
+abbrev pub made_fault : StreamFault → StreamFault
+made_fault fault.NotRead = no_memory
+made_fault fault.NotWritten = fault.NotWritten
+made_fault (fault.Unreported because) = fault.Unreported because
+
 -- the answer of a run that ends with this fault, where its log may have so many bytes
 abbrev pub stream_status : StreamFault → ℕ → Status
 stream_status fault.NotRead most = status.ReadFault

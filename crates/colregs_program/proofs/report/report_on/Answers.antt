@@ -3,8 +3,8 @@ use Rattle.std.proofs.lemmas.Result.{IfErr-weaker}
 use Rattle.outside.proofs.ForCallers.{err_cause}
 use Rattle.sessions.specs.declared.asked.Asked.{Asked}
 use Rattle.colregs_program.specs.AskedScenarios.{log_of}
-use Rattle.colregs_program.proofs.AskedLogs.{cause_of_read, made_cause}
-use Rattle.colregs_program.proofs.DrillVessels.{drill_result}
+use Rattle.colregs_program.proofs.AskedLogs.{cause_of_made, cause_of_read, drills}
+use Rattle.colregs_program.proofs.DrillVessels.{drill_faults, drill_reports}
 use Rattle.colregs_program.proofs.StreamedReports.{none_begun}
 use Rattle.colregs_program.proofs.report.report_on.Goals as goal
 
@@ -19,11 +19,19 @@ returns-in_err-made-clause-cause g c =
 
 pub returns-clause-cause : goal.returns-clause-cause
 returns-clause-cause g c =
-    made_cause c.args.request.now c.args.set_up.rows.items c.args.set_up.scenario (g.S.Source.left c.args.log.now) (sym c.reads_log.ensures ∙ c.if-reads_log.false) c.requires.reports c.new-source.result.left (c.new-source.ensures.left ∙ c.in_ok-made.ensures)
-    _ _ _ _ c.write_report-2.result (rw c.as_slice.ensures.value at c.write_report-2.ensures.cause) c.write_report-2.ensures.log_faults
+    rw c.made_fault.ensures
+    (cause_of_made c.args.request.now c.args.set_up.rows.items c.args.set_up.scenario (g.S.Source.left c.args.log.now) (sym c.reads_log.ensures ∙ c.if-reads_log.false) c.requires.reports c.in_ok-made.made.left c.in_ok-made.ensures.left
+    _ _ _ _ c.in-Err.fault (rw c.as_slice.ensures.value at c.in-Err.ensures.cause))
 
 pub returns-clause-drill : goal.returns-clause-drill
 returns-clause-drill g c = λ makes.
     let asked : Asked = record { why = c.args.request.now.options.why; rows = c.as_slice.result } in
-    drill_result c.args.set_up.scenario c.args.request.now.options.seed c.requires.in_range.window c.ended_lines_stay.ensures.all c.new-source.result.left (c.new-source.ensures.left ∙ c.in_ok-made.ensures)
-    c.args.request.now.mode makes c.requires.reports asked _ _ _ c.write_report-2.result c.write_report-2.ensures.report c.write_report-2.ensures.cause c.write_report-2.ensures.log_faults
+    rw c.made_fault.ensures
+    (drill_faults c.args.set_up.scenario c.args.request.now.options.seed c.requires.in_range.window c.ended_lines_stay.ensures.all c.in_ok-made.made.left c.in_ok-made.ensures.left
+    c.args.request.now.mode (drills c.args.request.now.mode makes c.requires.reports) asked _ _ _ c.in-Err.fault c.in-Err.ensures.cause)
+
+pub returns-in-Ok-clause-drill : goal.returns-in-Ok-clause-drill
+returns-in-Ok-clause-drill g c = λ makes.
+    let asked : Asked = record { why = c.args.request.now.options.why; rows = c.as_slice.result } in
+    drill_reports c.args.set_up.scenario c.args.request.now.options.seed c.requires.in_range.window c.ended_lines_stay.ensures.all c.in_ok-made.made.left c.in_ok-made.ensures.left
+    c.args.request.now.mode (drills c.args.request.now.mode makes c.requires.reports) asked c.in-Ok.none _ _ c.in-Ok.ensures.report

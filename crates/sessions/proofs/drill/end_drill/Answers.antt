@@ -24,12 +24,12 @@ end-requires-clause-one_log c = of_one_log c.args.audit c.args.judge.now c.args.
 pub returns-in_err-end-clause-cause : goal.returns-in_err-end-clause-cause
 unfolding sightings_of
 returns-in_err-end-clause-cause c =
-    err_cause _ _ _ c.from_residual.ensures.1 (λ log of.
+    err_cause _ _ _ c.from_residual.ensures.1 (λ log given of.
     let scenario = c.args.scenario.now in
     let judge = c.args.judge.now in
     drill_cause scenario log c.in_err-end.field-0.0 of.judged.calm
-    (λ pairs. of_whole judge scenario log [] of (λ (lines : List (List ℕ)). HaveMoreThan MOST_TRACES (audit_numbers scenario) (sighted scenario (sent scenario lines)))
-    (c.end.ensures.many (c.in_err-end.was ∙ ap Err pairs) of.lines of.more [] of.stands (judged_parts judge scenario log [] of))))
+    (λ pairs. of_whole judge scenario log given of (λ (lines : List (List ℕ)). HaveMoreThan MOST_TRACES (audit_numbers scenario) (sighted scenario (sent scenario lines)))
+    (c.end.ensures.many (c.in_err-end.was ∙ ap Err pairs) of.lines of.more given of.stands (judged_parts judge scenario log given of))))
 
 pub write_totals-requires : goal.write_totals-requires
 write_totals-requires c =
@@ -39,27 +39,27 @@ write_totals-requires c =
 
 pub returns-clause-report : goal.returns-clause-report
 unfolding sightings_of drill_text
-returns-clause-report c = λ log of.
+returns-clause-report c = λ log given of.
     let scenario = c.args.scenario.now in
     let judge = c.args.judge.now in
     let lines = lines_of log in
-    let parts = judged_parts judge scenario log [] of in
+    let parts = judged_parts judge scenario log given of in
     let totals = c.in_ok-write_totals.ensures [] c.new-text.ensures in
     let counts = c.in_ok-write_counts.ensures _ totals in
     let outcomes = count_rows-from_counts c.counts.result.now (judged_lines scenario lines) c.all_outcomes.result.now c.all_outcomes.ensures (c.counts.ensures scenario lines of.judged) in
     record {
-      rows = c.in_ok-end.end.rows.items;
+      rows = given ++ c.in_ok-end.end.rows.items;
       totals = c.in_ok-end.end.totals.items;
-      are_rows = of_whole judge scenario log [] of (λ (ls : List (List ℕ)). AreAuditRows (audit_numbers scenario) (sighted scenario (sent scenario ls)) c.in_ok-end.end.rows.items)
-          (c.in_ok-end.ensures.rows of.lines of.more [] of.stands parts);
-      are_totals = of_whole judge scenario log [] of (λ (ls : List (List ℕ)). AreTotals (audit_numbers scenario) (sighted scenario (sent scenario ls)) c.in_ok-end.end.rows.items c.in_ok-end.end.totals.items)
-          (c.in_ok-end.ensures.totals of.lines of.more [] of.stands parts);
+      are_rows = of_whole judge scenario log given of (λ (ls : List (List ℕ)). AreAuditRows (audit_numbers scenario) (sighted scenario (sent scenario ls)) (given ++ c.in_ok-end.end.rows.items))
+          (c.in_ok-end.ensures.rows of.lines of.more given of.stands parts);
+      are_totals = of_whole judge scenario log given of (λ (ls : List (List ℕ)). AreTotals (audit_numbers scenario) (sighted scenario (sent scenario ls)) (given ++ c.in_ok-end.end.rows.items) c.in_ok-end.end.totals.items)
+          (c.in_ok-end.ensures.totals of.lines of.more given of.stands parts);
       is = c.in_ok-into_bytes.ensures _ counts ∙ ap₂ (λ (ts : List Total) (counted : List ℕ). total_rows scenario.rules ts ++ counted) c.as_slice.ensures.value outcomes;
     }
 
 pub returns-clause-answer : goal.returns-clause-answer
 unfolding sightings_of
-returns-clause-answer c = λ log of.
+returns-clause-answer c = λ log given of.
     let scenario = c.args.scenario.now in
-    drill_done scenario log of.judged.calm (λ many. c.in_ok-end.ensures.few of.lines of.more [] of.stands (judged_parts c.args.judge.now scenario log [] of)
+    drill_done scenario log of.judged.calm (λ many. c.in_ok-end.ensures.few of.lines of.more given of.stands (judged_parts c.args.judge.now scenario log given of)
     (subst (λ (ls : List (List ℕ)). HaveMoreThan MOST_TRACES (audit_numbers scenario) (sighted scenario (sent scenario ls))) of.whole many))

@@ -78,12 +78,12 @@ pub returns-in_ok-rest-in-Drill-clause-report : goal.returns-in_ok-rest-in-Drill
 returns-in_ok-rest-in-Drill-clause-report c = λ fed given stands.
     let of = drill_of c.args.self c.in-Drill.audit c.in_ok-ended.ended.judge c.in-Drill.is c.in_ok-ended.ensures.stands fed given stands in
     report_is c.args.self mode.Drill c.args.asked.now (ap mode_by c.in-Drill.is) c.without_search-in-Drill.result _ fed given c.without_search-in-Drill.ensures
-    (subst (λ (g : List ℕ). IsReport mode.Drill c.args.asked.now.why c.args.asked.now.rows.now c.args.self.scenario fed (g ++ c.in_ok-rest-in-Drill.rest.items)) (sym of.1) (c.in_ok-rest-in-Drill.ensures.report fed of.0))
+    (subst (λ (g : List ℕ). IsReport mode.Drill c.args.asked.now.why c.args.asked.now.rows.now c.args.self.scenario fed (g ++ c.in_ok-rest-in-Drill.rest.items)) (sym of.2) (c.in_ok-rest-in-Drill.ensures.report fed of.0 of.1))
 
 pub returns-in_ok-rest-in-Drill-clause-answer : goal.returns-in_ok-rest-in-Drill-clause-answer
 returns-in_ok-rest-in-Drill-clause-answer c = λ fed given stands.
     let of = drill_of c.args.self c.in-Drill.audit c.in_ok-ended.ended.judge c.in-Drill.is c.in_ok-ended.ensures.stands fed given stands in
-    answer_is c.args.self mode.Drill c.args.asked.now (ap mode_by c.in-Drill.is) c.without_search-in-Drill.result _ fed c.without_search-in-Drill.ensures (c.in_ok-rest-in-Drill.ensures.answer fed of.0)
+    answer_is c.args.self mode.Drill c.args.asked.now (ap mode_by c.in-Drill.is) c.without_search-in-Drill.result _ fed c.without_search-in-Drill.ensures (c.in_ok-rest-in-Drill.ensures.answer fed of.0 of.1)
 
 pub returns-in-Plan-clause-report : goal.returns-in-Plan-clause-report
 returns-in-Plan-clause-report c =

@@ -1,0 +1,51 @@
+//! The log of the drill as a source.
+ghost use Rattle.std.specs.Prelude.{◌≡◌, ◌<◌, ◌≤◌, IfOk, Some, length};
+ghost use Rattle.outside.specs.Streams.{Gives, ReadCause};
+ghost use Rattle.scenario.specs.ScenarioValues.{IsWindow};
+ghost use Rattle.drill_log.specs.DrillLog.{drill_log_of};
+
+use crate::minute_log::MinuteLog;
+use outside::{Memory, Source, Taken};
+use scenario::Scenario;
+use std::alloc::Global;
+use std::marker::Model;
+
+/// The log of a drill, made while it is read: the lines of a few minutes are held, and no more. A read fails where there is no memory
+/// to make them, and nowhere else.
+#[derive(Drop)]
+pub struct DrillSource {
+    log: MinuteLog,
+}
+
+impl Model for DrillSource {
+    ghost use Rattle.drill_log.specs.Inner.MinuteLines.{left_of};
+    ghost use Rattle.drill_log.specs.MadeLog.{MadeBytes};
+
+    ghost Value = { MadeBytes };
+
+    ghost view = { λ s. record { left = left_of s.log; faults = s.log.faults } };
+}
+
+impl DrillSource {
+    /// The log of the drill with this seed, 0 to 999999: that of [`drill_log`](crate::drill_log).
+    pub fn new(alloc: Global, scenario: &Scenario, seed: u32) -> Result<DrillSource, Memory>
+        requires window { IsWindow scenario.now.window }
+        requires seed { seed ≤ 999999 }
+        ensures left { IfOk result (λ source. source.left ≡ drill_log_of scenario.now seed) }
+        ensures faults { IfOk result (λ source. source.faults ≡ 0) }
+    {
+        Ok(DrillSource {
+            log: MinuteLog::new(alloc, scenario, seed)?,
+        })
+    }
+}
+
+impl Source for DrillSource {
+    ghost left = { λ s. Some s.left };
+
+    ghost faults = { λ s. s.faults };
+
+    fn read(&mut self, room: &mut [u8]) -> Taken {
+        self.log.read(room)
+    }
+}
