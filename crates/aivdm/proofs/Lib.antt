@@ -15,6 +15,7 @@ pub mod SentenceCuts
 pub mod SentenceFacts
 pub mod Standing
 pub mod Steps
+pub mod Sums
 pub mod TagCuts
 pub mod Written
 pub mod WrittenLines

@@ -1,14 +1,52 @@
 //! The sum that a sentence and a tag block tell of themselves.
-ghost use Rattle.std.specs.Prelude.{◌≡◌, ◌<◌, None, Some, IfSome, if◌then◌else◌};
+ghost use Rattle.std.specs.Prelude.{◌≡◌, ◌<◌, ◌≤◌, ◌*◌, ◌/◌, bit_xor, drop, fold, length, replicate, None, Some, IfSome, if◌then◌else◌};
 ghost use Rattle.std.specs.Char.{digit_value, is_digit};
+ghost use Rattle.std.specs.Simd.{first_chunks};
+ghost use Rattle.std.specs.Simd.Lanes.{zip2};
 ghost use Rattle.aivdm.specs.Checksums.{hexadecimal, sum_of};
 
-/// The exclusive or of the bytes. Nothing leaves the loop early, so that it becomes one over vectors.
+use std::simd::prelude::*;
+
+/// The exclusive or of the bytes: 16 at a time, and those behind the last whole block in one more vector. A loop over single bytes there has an end
+/// that is guessed wrong.
 #[inline(always)]
 pub(crate) fn sum_of(bytes: &[u8]) -> u8
     ensures { result ≡ sum_of bytes.now }
 {
-    bytes.iter().fold(0, |sum, byte| sum ^ *byte)
+    if bytes.len() < 16 {
+        return bytes.iter().fold(0, |sum, byte| sum ^ *byte);
+    }
+    (sum_of_blocks(bytes) ^ behind_blocks(bytes)).reduce_xor()
+}
+
+/// The exclusive or of the whole blocks of 16 bytes, lane by lane.
+#[inline(always)]
+fn sum_of_blocks(bytes: &[u8]) -> u8x16
+    ensures { result ≡ fold (zip2 bit_xor) (replicate 16 0) (first_chunks 16 (length bytes.now / 16) bytes.now) }
+{
+    let (blocks, _) = bytes.as_chunks::<16>();
+    blocks.iter().fold(
+        u8x16::splat(0),
+        |sum, block|
+            ensures { result ≡ zip2 bit_xor sum block.now }
+        { sum ^ u8x16::from_array(*block) },
+    )
+}
+
+/// The place of each lane.
+const PLACES: [u8; 16] = [0, 1, 2, 3, 4, 5, 6, 7, 8, 9, 10, 11, 12, 13, 14, 15];
+
+/// The bytes behind the last whole block, each in a lane, and 0 in the other lanes. The last 16 bytes are loaded whole, so that nothing depends on
+/// how many there are, and those that a block holds are then left out: a byte that counts twice would cancel itself.
+#[inline(always)]
+fn behind_blocks(bytes: &[u8]) -> u8x16
+    requires { 16 ≤ length bytes.now }
+    ensures { sum_of result ≡ sum_of (drop (length bytes.now / 16 * 16) bytes.now) }
+{
+    let last = u8x16::from_slice(&bytes[bytes.len() - 16..]);
+    let in_blocks = 16 - bytes.len() % 16;
+    let is_behind = u8x16::from_array(PLACES).simd_ge(u8x16::splat(in_blocks as u8));
+    is_behind.select(last, u8x16::splat(0))
 }
 
 /// The number that two hexadecimal digits of either case spell.
