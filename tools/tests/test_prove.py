@@ -12,15 +12,21 @@ RT = '''#!/usr/bin/env python3
 import os, subprocess, sys
 with open(os.environ["CALLS"], "a") as out:
     out.write(" ".join([os.path.basename(os.getcwd()), *sys.argv[1:]]) + "\\n")
+def at_work(*crates):
+    runs = [subprocess.Popen([sys.executable, "-c", "import sys, time; time.sleep(float(sys.argv[1]))", os.environ.get("TAKES", "0"), "--crate-name", it]) for it in crates]
+    [it.wait() for it in runs]
 if sys.argv[1:3] == ["all", "check"]:
     print("rt: a line before any crate\\n== low\\nlogic=proved\\n== middle\\nlogic=proved", flush=True)
-    subprocess.run([sys.executable, "-c", "import sys, time; time.sleep(float(sys.argv[1]))", os.environ.get("TAKES", "0"), "--crate-name", "high"])
+    at_work("high", *os.environ.get("BESIDE", "").split())
     failed = "FAILS" in os.environ
     print("== high\\n" + ("error: this is why" if failed else "logic=proved"))
     print("== colregs\\n== summary\\nlow: ok\\nmiddle: ok")
     print("high: failed (1)\\ncolregs: not run, since high failed" if failed else "high: ok\\ncolregs: ok")
     sys.exit(1 if failed else 0)
 if sys.argv[1] == "run":
+    at_work("high")
+    if "FAILS" in os.environ:
+        sys.exit("error: this is why")
     if "UNLINKED" in os.environ:
         sys.exit("no linker")
     os.makedirs("out", exist_ok=True)
@@ -61,9 +67,10 @@ class Prove(InFolder):
         status, out, err = self.run_of("./colregs", "points", "a.toml")
         self.assertEqual((status, out), (0, "ran points a.toml\na log\n"), err)
         self.assertRegex(err, "^colregs: proving 4 crates, [0-9]+ at once")
-        self.assertIn("all 4 crates are proved", err)
+        self.assertRegex(err, "(all 4|2 of 4) crates are proved")
         calls = text_of(self.calls).splitlines()
         self.assertEqual([call.split(" --jobs ")[0] for call in calls], ["colregs all check", "colregs run"])
+        self.assertRegex(calls[1], "^colregs run --jobs [0-9]+$")
         self.assertEqual(self.run_of("./colregs", "points", "a.toml"), (0, "ran points a.toml\na log\n", ""))
 
     def test_a_source_that_is_newer_builds_anew(self):
@@ -74,13 +81,21 @@ class Prove(InFolder):
         self.assertIn("proving 4 crates", self.run_of("./colregs", "points", "a.toml")[2])
 
     def test_lines_tell_which_crate_is_at_work(self):
-        status, _, err = self.run_of(sys.executable, "tools/prove", "--each", "0.5", "--jobs", "3", TAKES="2.2")
+        status, _, err = self.run_of(sys.executable, "tools/prove", "--each", "0.5", "--jobs", "3", TAKES="2.2", BESIDE="middle")
         self.assertEqual(status, 0)
         self.assertIn("proving 4 crates, 3 at once", err)
-        self.assertRegex(err, r"colregs: crate 3 of 4, high, [12] s\n")
+        self.assertRegex(err, r"colregs: crate 3 of 4, (high|middle), [12] s; crate 4 of 4, (high|middle), [12] s\n")
+        self.assertIn("all 4 crates are proved", err)
+
+    def test_crates_that_wait_for_one_another_have_all_processors(self):
+        status, _, err = self.run_of(sys.executable, "tools/prove", "--each", "0.5", TAKES="2.2")
+        self.assertEqual(status, 0)
+        self.assertIn("2 of 4 crates are proved, and the others wait for one another", err)
+        self.assertRegex(err, r"colregs: crate 3 of 4, high, [012] s\n")
 
     def test_a_crate_that_fails_is_told_with_its_words(self):
-        status, _, err = self.run_of("./colregs", "points", "a.toml", FAILS="1")
+        self.assertEqual(self.run_of("./colregs", "points", "a.toml", FAILS="1", TAKES="1")[0], 1)
+        status, _, err = self.run_of("./colregs", "points", "a.toml", FAILS="1", BESIDE="middle")
         self.assertEqual(status, 1)
         self.assertIn("error: this is why", err)
         self.assertIn("high: failed (1)", err)

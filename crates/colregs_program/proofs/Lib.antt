@@ -1,10 +1,7 @@
 pub mod DrillLines
 pub mod DrillVessels
 pub mod FewDifferent
-pub mod InertLines
-pub mod InertReports
 pub mod OneDue
-pub mod OneLine
 pub mod AskedLogs
 pub mod Due
 pub mod Migrating

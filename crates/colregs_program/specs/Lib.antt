@@ -2,7 +2,6 @@ pub mod AskedScenarios
 pub mod Stages
 pub mod LogAnswers
 pub mod Answers
-pub mod InertLines
 pub mod Told
 pub mod FaultLines
 pub mod Inner

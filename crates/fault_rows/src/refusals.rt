@@ -5,21 +5,16 @@ use scenario_rows::HEAD_ON;
 use std::alloc::Global;
 use std::test::Fail;
 use whole_runs::{
-    Edit, LOG, NOTHING, ONE_TICK, POINTS, Row, SOUND, Written, ended, is_as_worked_out,
+    Edit, LOG, NOTHING, ONE_COURSE, ONE_TICK, OWN, POINTS, Row, SOUND, Written, ended,
+    is_as_worked_out,
 };
 
 const USAGE: &[u8] = b"usage: points|audit|plan|drill|migrate|recheck|watch SCENARIO\n";
 
-/// Own ship may go on, and now is one tick behind the start.
-const OWN: Edit = (
-    "max_speed = 500\n",
-    "max_speed = 500\n[own]\nmmsi = 369190000\ncourses = [0]\nspeeds = [0]\nlegs = 1\nleg_ticks = 30\ntail = 10\nbase = 300\nlengths = 0\nrange = 50000\n",
-);
-
 /// A run of `plan` for which own ship lacks something.
 const NOT_READY: Row = Row {
     words: &["plan", "scenario.toml"],
-    edits: &[ONE_TICK, OWN],
+    edits: &[ONE_TICK, OWN, ONE_COURSE],
     number: 9,
     ..NOTHING
 };

@@ -1,7 +1,5 @@
-//! Worked rows of whole runs of the program, in memory: the report of each mode, and what a recheck tells of rows.
+//! Worked rows of whole runs of the program, in memory: the report of each mode.
 #![tactic(auto)]
 
-#[cfg(test)]
-mod checked_rows;
 #[cfg(test)]
 mod reports;

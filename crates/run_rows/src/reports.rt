@@ -5,8 +5,8 @@ use log_lines::laws;
 use scenario_rows::HEAD_ON;
 use std::test::Fail;
 use whole_runs::{
-    ABOUT_SEATTLE, AUDIT, Devices, Edit, LOG, NOTHING, ONE_TICK, POINTS, REPORT, Row, SOUND,
-    Written, edited, ended, is_as_worked_out,
+    ABOUT_SEATTLE, AUDIT, Devices, Edit, HEAD_ON_NOW, LOG, NOTHING, ONE_COURSE, ONE_TICK, OWN,
+    POINTS, REPORT, Row, SOUND, Written, edited, ended, is_as_worked_out,
 };
 
 /// The row of that report.
@@ -102,19 +102,7 @@ total,r17c,48304,48304,0,0,0
 lines,empty,0,,,,
 ";
 
-/// Now is one tick behind the start, and she may go on, or turn to starboard by 30 or 60 degrees.
-pub(crate) const OWN: Edit = (
-    "max_speed = 500\n",
-    "max_speed = 500\n[own]\nmmsi = 369190000\ncourses = [0, 300, 600]\nspeeds = [0]\nlegs = 1\nleg_ticks = 30\ntail = 10\nbase = 300\nlengths = 0\nrange = 50000\n",
-);
-
 const PLAN: &[&str] = &["plan", "scenario.toml"];
-
-/// Own ship and a vessel that she meets head on, each with a report at now.
-pub(crate) const HEAD_ON_NOW: &[u8] =
-    b"\\c:1700000000*5F\\!AIVDM,1,1,,A,15P5TL0P2l00001wwHt000000000,0*5C
-\\c:1700000000*5F\\!AIVDM,1,1,,A,177KQJ0P2lOwwtp00W4725`00000,0*31
-";
 
 /// The scenario counts ranks.
 const RANKS: Edit = ("[rules]\n", "[rules]\nranks = 1\n");
@@ -276,7 +264,7 @@ lines,empty,0,,,,
     Row {
         shows: "every plan fails",
         words: PLAN,
-        edits: &[ONE_TICK, OWN, ("[0, 300, 600]", "[0]")],
+        edits: &[ONE_TICK, OWN, ONE_COURSE],
         log: &[HEAD_ON_NOW],
         status: Status::NoManoeuvre,
         number: 1,
@@ -294,7 +282,7 @@ lines,empty,0,,,,
     Row {
         shows: "why every plan fails",
         words: &["plan", "scenario.toml", "--why"],
-        edits: &[ONE_TICK, OWN, ("[0, 300, 600]", "[0]")],
+        edits: &[ONE_TICK, OWN, ONE_COURSE],
         log: &[HEAD_ON_NOW],
         status: Status::NoManoeuvre,
         number: 1,

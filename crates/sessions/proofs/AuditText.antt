@@ -1,5 +1,5 @@
 -- The whole report of an audit, and why there is none.
-use Rattle.std.proofs.Common.{[], ℕ, ◌≡◌, ◌++◌, false, refl, List, append_assoc, ap, ap₂, ◌∙◌}
+use Rattle.std.proofs.Common.{[], ℕ, ◌≡◌, ◌++◌, false, refl, List, append_assoc, ap, ◌∙◌}
 use Rattle.audit_rows.specs.declared.row.Row.{Row}
 use Rattle.auditor.specs.declared.total.Total.{Total}
 use Rattle.traces.specs.ManyTraces.{HaveMoreThan}
@@ -7,7 +7,10 @@ use Rattle.log_lines.specs.JudgedLines.{is_crowded, numbers_of}
 use Rattle.log_lines.specs.LogLines.{lines_of}
 use Rattle.scenario.specs.declared.values.Scenario.{Scenario}
 use Rattle.tracks.specs.VesselsHeld.{Sent}
-use Rattle.sessions.specs.AuditReport.{sightings_of, stretch_rows, total_rows, vessel_rows}
+use Rattle.sessions.specs.AuditReport.{sightings_of}
+use Rattle.report_parts.specs.StretchRows.{stretch_rows}
+use Rattle.report_parts.specs.TotalRows.{total_rows}
+use Rattle.report_parts.specs.VesselRows.{vessel_rows}
 use Rattle.traces.specs.declared.all_traces.TheConstants.{MOST_TRACES}
 use Rattle.traces.specs.declared.fault.TickFault.{TickFault as AuditFault}
 use Rattle.traces.specs.declared.fault.TickFault.TheVariants as audit
@@ -27,13 +30,13 @@ drill_cause scenario log audit.TooManyPairs calm many = too_many_drilled scenari
 drill_cause scenario log audit.Memory calm many = tt
 
 -- the rows one after the other
-pub whole_text : (scenario : Scenario) (messages : List Sent) (rows : List Row) (totals totals' : List Total) (counts counts' : List ℕ) → totals ≡ totals' → counts ≡ counts'
+pub whole_text : (scenario : Scenario) (messages : List Sent) (rows : List Row) (totals totals' : List Total) (counts : List ℕ) → totals ≡ totals'
     → ((stretch_rows scenario.rules rows ++ vessel_rows (numbers_of scenario) messages) ++ total_rows scenario.rules totals) ++ counts
-    ≡ stretch_rows scenario.rules rows ++ (vessel_rows (numbers_of scenario) messages ++ total_rows scenario.rules totals' ++ counts')
-whole_text scenario messages rows totals totals' counts counts' same same' =
+    ≡ stretch_rows scenario.rules rows ++ (vessel_rows (numbers_of scenario) messages ++ total_rows scenario.rules totals' ++ counts)
+whole_text scenario messages rows totals totals' counts same =
     let s = stretch_rows scenario.rules rows in
     let v = vessel_rows (numbers_of scenario) messages in
     let t = total_rows scenario.rules totals in
     ap (λ (l : List ℕ). l ++ counts) (append_assoc s v t)
     ∙ append_assoc s (v ++ t) counts
-    ∙ ap₂ (λ (ts : List Total) (c : List ℕ). s ++ (v ++ total_rows scenario.rules ts ++ c)) same same'
+    ∙ ap (λ (ts : List Total). s ++ (v ++ total_rows scenario.rules ts ++ counts)) same

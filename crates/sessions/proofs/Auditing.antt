@@ -22,9 +22,7 @@ use Rattle.scenario.specs.declared.values.Scenario.{Scenario}
 use Rattle.settling.specs.DecidedRows.{AreDecided}
 use Rattle.settled_ticks.specs.Sightings.{sighted}
 use Rattle.settling.specs.ScenarioAudit.{audit_numbers}
-use Rattle.sessions.specs.AuditReport.{stretch_fields, stretch_rows}
-use Rattle.sessions.specs.Inner.AuditWriting.{AreOfRules, IsOfRules}
-use Rattle.sessions.proofs.VesselRows.{rows_push}
+use Rattle.report_parts.specs.StretchRows.{AreOfRules, IsOfRules, stretch_fields, stretch_rows}
 
 -- ---- rows tell of rules that are there
 
@@ -59,13 +57,3 @@ pub rows_on : (rules : List NamedTree) (front : List ℕ) (given rows : List Row
 rows_on rules front given rows =
     append_assoc front (stretch_rows rules given) (stretch_rows rules rows)
     ∙ ap (λ (l : List ℕ). front ++ l) (sym (flat_map-append (λ (r : Row). row_of (stretch_fields rules r)) given rows))
-
--- the rows of the first stretches, and one more
-pub one_stretch_on : (text : ReportText) (front : List ℕ) (rules : List NamedTree) (rows : List Row) (k : ℕ) (d : Row) → k < length rows
-    → HasText text ((front ++ stretch_rows rules (take k rows)) ++ row_of (stretch_fields rules (get_or rows k d)))
-    → HasText text (front ++ stretch_rows rules (take (k + 1) rows))
-one_stretch_on text front rules rows k d lt has =
-    let f : Row → List ℕ = λ r. row_of (stretch_fields rules r) in
-    subst (HasText text)
-    (append_assoc front (stretch_rows rules (take k rows)) (f (get_or rows k d)) ∙ ap (λ (l : List ℕ). front ++ l) (rows_push f rows k d lt))
-    has

@@ -16,10 +16,11 @@ use Rattle.early_monitor.specs.declared.alarm.Alarm.{Alarm}
 use Rattle.settling.specs.declared.settled_audit.SettledAudit.{SettledAudit}
 use Rattle.settling.specs.declared.settled_watch.SettledWatch.{SettledWatch}
 use Rattle.log_lines.specs.declared.streamed.EndedLines.{EndedLines}
-use Rattle.sessions.specs.AuditReport.{stretch_rows}
+use Rattle.report_parts.specs.AlarmRows.{alarm_rows}
+use Rattle.report_parts.specs.PointRows.{point_rows}
+use Rattle.report_parts.specs.StretchRows.{stretch_rows}
 use Rattle.sessions.specs.Feeding.{UnlessMemory}
 use Rattle.sessions.specs.Modes.{Look, each_line, each_tick, is_own, look_of, needs_own, nothing, own_ship}
-use Rattle.sessions.specs.PointsReport.{point_rows}
 use Rattle.sessions.specs.PlanReport.{IsPlanReport, log_messages}
 use Rattle.sessions.specs.Endings.{IsAnswerOf, IsAnswerTo, IsEnding, IsReport}
 use Rattle.sessions.specs.Tasks.{Task, task_by}
@@ -33,7 +34,6 @@ use Rattle.sessions.specs.declared.ending.Ending.{Ending}
 use Rattle.command_line.specs.declared.mode.Mode.{Mode}
 use Rattle.command_line.specs.declared.mode.Mode.TheVariants as mode
 use Rattle.sessions.specs.Inner.AtEnd.{AreOfLog, IsAuditAtEnd, IsAuditOf, IsWatchAtEnd, IsWatchOf}
-use Rattle.sessions.specs.WatchReport.{alarm_rows}
 use Rattle.sessions.specs.declared.session.Session.{Session}
 use Rattle.sessions.specs.declared.session_fault.SessionFault.{SessionFault}
 use Rattle.sessions.specs.declared.session_fault.SessionFault.TheVariants as why

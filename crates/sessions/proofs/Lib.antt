@@ -7,15 +7,12 @@ mod Meeting
 mod OneEnding
 mod OneManoeuvre
 mod OneOwn
-mod OutcomeRows
-mod PlanText
 mod Rechecking
 mod Refusing
 mod Seeking
 mod SettledTexts
 mod SomeAnswer
 mod TakingLines
-mod VesselRows
 mod Watching
 mod Working
 pub mod ForCallers

@@ -12,9 +12,11 @@ use Rattle.early_monitor.proofs.ForCallers.{one_list_of_alarms}
 use Rattle.early_monitor.specs.declared.alarm.Alarm.{Alarm}
 use Rattle.log_lines.specs.JudgedLines.{judged_lines}
 use Rattle.log_lines.specs.LogLines.{lines_of}
-use Rattle.sessions.specs.OutcomeRows.{count_rows}
+use Rattle.report_parts.specs.AlarmRows.{alarm_rows}
+use Rattle.report_parts.specs.OutcomeRows.{count_rows}
+use Rattle.report_parts.specs.StretchRows.{stretch_rows}
 use Rattle.scenario.specs.declared.values.Scenario.{Scenario}
-use Rattle.sessions.specs.AuditReport.{IsAuditReport, rows_behind, sightings_of, stretch_rows}
+use Rattle.sessions.specs.AuditReport.{IsAuditReport, rows_behind, sightings_of}
 use Rattle.lattice.specs.Grids.{plans_of}
 use Rattle.log_lines.specs.JudgedLines.{numbers_of}
 use Rattle.refutations.specs.EntryRows.{entry_text}
@@ -29,7 +31,7 @@ use Rattle.sessions.specs.Endings.{IsEnding, IsReport}
 use Rattle.sessions.specs.Tasks.{Task}
 use Rattle.sessions.specs.PlanReport.{AreReasons, IsManoeuvre, IsOwn, IsPlanReport, log_messages, plan_text, situation_on}
 use Rattle.sessions.specs.RecheckReport.{IsRecheckReport}
-use Rattle.sessions.specs.WatchReport.{IsWatchReport, alarm_rows}
+use Rattle.sessions.specs.WatchReport.{IsWatchReport}
 use Rattle.sessions.proofs.OneManoeuvre.{one_manoeuvre}
 use Rattle.sessions.proofs.OneOwn.{one_own, one_ready}
 use Rattle.command_line.specs.declared.mode.Mode.{Mode}

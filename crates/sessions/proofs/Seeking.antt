@@ -23,7 +23,9 @@ use Rattle.sessions.specs.Endings.{MeetsTargetLimit, HasNoManoeuvre, IsAnswerOf,
 use Rattle.refutations.specs.CanonicalLists.{IsCanonical}
 use Rattle.refutations.specs.EntryRows.{entry_text}
 use Rattle.refutations.specs.declared.entry.WhyEntry.{WhyEntry}
-use Rattle.sessions.specs.PlanReport.{AreReasons, IsManoeuvre, IsOwn, manoeuvre_rows, log_messages, near_rows, situation_on}
+use Rattle.sessions.specs.PlanReport.{AreReasons, IsManoeuvre, IsOwn, log_messages, situation_on}
+use Rattle.report_parts.specs.PlanRows.{manoeuvre_rows}
+use Rattle.report_parts.specs.VesselRows.{near_rows}
 use Rattle.sessions.specs.Inner.Faults.{EndCause, preparing_fault}
 use Rattle.sessions.specs.Inner.PlanWriting.{AreReasonsWhere, IsSought, SoughtCause}
 use Rattle.command_line.specs.declared.mode.Mode.{Mode}

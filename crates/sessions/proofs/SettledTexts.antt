@@ -19,14 +19,16 @@ use Rattle.settled_ticks.specs.Sightings.{sighted}
 use Rattle.settling.specs.ScenarioAudit.{audit_numbers}
 use Rattle.command_line.specs.declared.mode.Mode.{Mode}
 use Rattle.command_line.specs.declared.mode.Mode.TheVariants as mode
-use Rattle.sessions.specs.AuditReport.{rows_behind, sightings_of, stretch_fields, stretch_rows}
+use Rattle.sessions.specs.AuditReport.{rows_behind, sightings_of}
+use Rattle.report_parts.specs.AlarmRows.{alarm_rows, told_alarm}
+use Rattle.report_parts.specs.OutcomeRows.{count_rows}
+use Rattle.report_parts.specs.PointRows.{point_rows, rows_of_line}
+use Rattle.report_parts.specs.StretchRows.{stretch_fields, stretch_rows}
 use Rattle.sessions.specs.Endings.{IsEnding, IsReport}
 use Rattle.sessions.specs.Tasks.{Task}
 use Rattle.sessions.specs.Modes.{Look, alarms, each_line, each_tick, early_look, nothing, own_ship, stretches}
-use Rattle.sessions.specs.OutcomeRows.{count_rows}
-use Rattle.sessions.specs.PointsReport.{point_rows, points_report, rows_of_line}
+use Rattle.sessions.specs.PointsReport.{points_report}
 use Rattle.sessions.specs.SettledText.{IsDecidedBy, IsDecidedText, IsSettledText}
-use Rattle.sessions.specs.WatchReport.{alarm_rows, told_alarm}
 
 -- The text begins with the other.
 abbrev pub Begins : List ℕ → List ℕ → Type 0

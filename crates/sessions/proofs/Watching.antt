@@ -26,14 +26,14 @@ use Rattle.settling.specs.ScenarioAudit.{audit_numbers}
 use Rattle.settling.specs.WatchStanding.{AreOfOneLog}
 use Rattle.settling.specs.declared.settled_watch.SettledWatch.{SettledWatch}
 use Rattle.sessions.specs.AuditReport.{sightings_of}
-use Rattle.sessions.specs.OutcomeRows.{count_rows}
-use Rattle.sessions.specs.WatchReport.{IsWatchReport, alarm_rows, told_alarm}
+use Rattle.report_parts.specs.AlarmRows.{alarm_rows, told_alarm}
+use Rattle.report_parts.specs.OutcomeRows.{count_rows}
+use Rattle.sessions.specs.WatchReport.{IsWatchReport}
 use Rattle.sessions.specs.Inner.AtEnd.{IsWatchAtEnd}
 use Rattle.sessions.specs.Inner.Faults.{EndCause, auditing_fault}
 use Rattle.sessions.proofs.AtEnds.{judged_parts}
 use Rattle.sessions.proofs.Auditing.{all_of}
 use Rattle.sessions.proofs.Meeting.{too_many_watched}
-use Rattle.sessions.proofs.VesselRows.{rows_push}
 
 -- ---- alarms tell of rules that are there
 
@@ -51,18 +51,6 @@ pub last_alarms : (rules : List NamedTree) (given early : List Alarm) → AreOfR
 last_alarms rules given early all =
     all_of (λ (alarm : Alarm). alarm.rule < length rules) early
     (λ alarm i. All-contains (λ (a : Alarm). a.rule < length rules) (given ++ early) alarm all (Contains-append_right given early alarm i))
-
--- ---- the rows that were written
-
--- the rows of the first alarms, and one more
-pub one_alarm_on : (text : ReportText) (front : List ℕ) (rules : List NamedTree) (early : List Alarm) (k : ℕ) (d : Alarm) → k < length early
-    → HasText text ((front ++ alarm_rows rules (take k early)) ++ row_of (told_alarm rules (get_or early k d)))
-    → HasText text (front ++ alarm_rows rules (take (k + 1) early))
-one_alarm_on text front rules early k d lt has =
-    let f : Alarm → List ℕ = λ a. row_of (told_alarm rules a) in
-    subst (HasText text)
-    (append_assoc front (alarm_rows rules (take k early)) (f (get_or early k d)) ∙ ap (λ (l : List ℕ). front ++ l) (rows_push f early k d lt))
-    has
 
 -- ---- at a log's end
 

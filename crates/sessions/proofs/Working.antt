@@ -25,8 +25,9 @@ use Rattle.settling.specs.declared.settled_watch.SettledWatch.{SettledWatch}
 use Rattle.settling.proofs.ForCallers.{few_settled, few_watched, none_decided, no_alarms_decided, none_many}
 use Rattle.command_line.specs.declared.mode.Mode.{Mode}
 use Rattle.sessions.specs.Modes.{Look, OfTicks, alarms, each_line, each_tick, early_look, look_of, nothing, own_ship, stretches}
-use Rattle.sessions.specs.AuditReport.{stretch_fields, stretch_rows}
-use Rattle.sessions.specs.PointsReport.{point_rows, rows_of_line}
+use Rattle.report_parts.specs.AlarmRows.{alarm_rows, told_alarm}
+use Rattle.report_parts.specs.PointRows.{point_rows, rows_of_line}
+use Rattle.report_parts.specs.StretchRows.{stretch_fields, stretch_rows}
 use Rattle.sessions.specs.Refusals.{HasManySettled, IsUnrefused}
 use Rattle.sessions.specs.SettledText.{IsDecidedBy, IsDecidedText, IsSettledText}
 use Rattle.tracks.proofs.ForCallers.{remembers_forgetting}
@@ -34,7 +35,6 @@ use Rattle.tracks.specs.Standing.{forgetting}
 use Rattle.tracks.specs.declared.keeping.Keeping.{Keeping}
 use Rattle.tracks.specs.declared.keeping.Keeping.TheVariants.{Latest, Tracks}
 use Rattle.sessions.specs.Standing.{KeepsEnough, keeping_by, mode_by}
-use Rattle.sessions.specs.WatchReport.{alarm_rows, told_alarm}
 use Rattle.sessions.specs.Inner.Working.{GoesOn, IsDone}
 use Rattle.sessions.specs.declared.work.Work.{Work}
 use Rattle.sessions.specs.declared.work.Work.TheVariants as work

@@ -2,5 +2,4 @@
 pub mod Faults
 pub mod Working
 pub mod AtEnd
-pub mod AuditWriting
 pub mod PlanWriting

@@ -1,4 +1,3 @@
-pub mod OutcomeRows
 pub mod PointsReport
 pub mod AuditReport
 pub mod DrillReport

@@ -1,29 +1,22 @@
 -- The report of `plan`: own ship and the vessels near her, the legs of the first plan that does not fail or that there is none, how many
 -- lines came to each outcome, and then, where that is asked for, why every plan fails.
-use Rattle.std.specs.Prelude.{ℕ, ◌≡◌, ◌+◌, ◌*◌, ◌≤◌, nat_lt, length, Bool, true, flat_map, List, [], ◌++◌, Option, Some, None, MatchOption, Ok, slice_index, if◌then◌else◌}
-use Rattle.std.specs.List.{range_with_len}
-use Rattle.audit_report.specs.CsvRows.{row_of}
-use Rattle.audit_report.specs.ReportRows.{Fields, no_plan_fields, plan_fields}
+use Rattle.std.specs.Prelude.{ℕ, ◌≡◌, ◌≤◌, length, Bool, true, flat_map, List, [], ◌++◌, Option, Some, None, MatchOption, Ok}
 use Rattle.log_lines.specs.JudgedLines.{judged_lines, numbers_of}
 use Rattle.log_lines.specs.LogLines.{lines_of}
 use Rattle.log_lines.specs.SentLines.{sent}
-use Rattle.lattice.specs.Grids.{Grid, choices_of, plans_of, positions_of}
-use Rattle.lattice.specs.OwnMotion.{ordered_course, ordered_speed}
-use Rattle.lattice.specs.PlanNumbers.{number_of}
 use Rattle.refutations.specs.CanonicalLists.{IsCanonical}
 use Rattle.refutations.specs.EntryRows.{entry_text}
 use Rattle.refutations.specs.declared.entry.WhyEntry.{WhyEntry}
 use Rattle.situations.specs.PlanSituations.{greatest_targets, own_readiness, situation_of, targets_near, vessels_near}
-use Rattle.situations.specs.declared.near.Near.{Near}
 use Rattle.situations.specs.declared.readiness.Ready.{Ready}
 use Rattle.situations.specs.LeastPlans.{AllFail, IsLeastPlan}
 use Rattle.situations.specs.declared.situation.Situation.{Situation}
 use Rattle.scenario.specs.declared.own_part.OwnPart.{OwnPart}
 use Rattle.scenario.specs.declared.values.Scenario.{Scenario}
-use Rattle.tracks.specs.AcceptedReports.{JudgingNumbers}
 use Rattle.tracks.specs.VesselsHeld.{Sent}
-use Rattle.sessions.specs.AuditReport.{held_fields}
-use Rattle.sessions.specs.OutcomeRows.{count_rows}
+use Rattle.report_parts.specs.OutcomeRows.{count_rows}
+use Rattle.report_parts.specs.PlanRows.{manoeuvre_rows}
+use Rattle.report_parts.specs.VesselRows.{near_rows}
 
 -- ---- own ship
 
@@ -48,33 +41,7 @@ pub record IsSituationOn (scenario : Scenario) (log : List ℕ) (situation : Sit
   pub few : length (targets_near (numbers_of scenario) (log_messages scenario log) scenario own ready) ≤ greatest_targets
   pub is : situation ≡ situation_on scenario log own ready
 
--- ---- the rows
-
--- the vessels near her, herself among them
-abbrev pub near_rows : JudgingNumbers → List Sent → List Near → List ℕ
-near_rows numbers messages near = flat_map (λ (vessel : Near). row_of (held_fields numbers messages vessel.mmsi)) near
-
--- A leg begins where the one before it ends, and the last one ends with the plan.
-abbrev pub first_tick : ℕ → Grid → ℕ → ℕ
-first_tick now lattice leg = now + leg * lattice.leg_ticks
-
-abbrev pub last_tick : ℕ → Grid → ℕ → ℕ
-last_tick now lattice leg = if nat_lt (leg + 1) lattice.legs then first_tick now lattice (leg + 1) else now + positions_of lattice
-
--- a leg, with the course and the speed that it orders
-abbrev pub leg_fields : ℕ → Grid → Ready → List ℕ → ℕ → Fields
-leg_fields now lattice ready plan leg =
-    plan_fields (number_of (choices_of lattice) plan) leg
-    (ordered_course lattice (slice_index plan leg) ready.course) (ordered_speed lattice (slice_index plan leg) ready.speed)
-    (first_tick now lattice leg) (last_tick now lattice leg)
-
-abbrev pub leg_rows : ℕ → Grid → Ready → List ℕ → List ℕ
-leg_rows now lattice ready plan = flat_map (λ leg. row_of (leg_fields now lattice ready plan leg)) (range_with_len 0 lattice.legs)
-
--- the legs of a plan, or that there is none
-abbrev pub manoeuvre_rows : ℕ → Grid → Ready → Option (List ℕ) → List ℕ
-manoeuvre_rows now lattice ready None = row_of (no_plan_fields (plans_of lattice))
-manoeuvre_rows now lattice ready (Some plan) = leg_rows now lattice ready plan
+-- ---- the reasons
 
 -- Why every plan fails, where that is asked for and every plan does: the rows of the canonical list of entries.
 abbrev pub AreReasons : Bool → Situation → Option (List ℕ) → List ℕ → Type 0

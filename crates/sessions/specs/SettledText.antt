@@ -8,10 +8,10 @@ use Rattle.scenario.specs.declared.values.Scenario.{Scenario}
 use Rattle.settling.specs.DecidedAlarms.{AreDecidedAlarms}
 use Rattle.settling.specs.DecidedRows.{AreDecided}
 use Rattle.command_line.specs.declared.mode.Mode.{Mode}
-use Rattle.sessions.specs.AuditReport.{stretch_rows}
+use Rattle.report_parts.specs.AlarmRows.{alarm_rows}
+use Rattle.report_parts.specs.PointRows.{point_rows}
+use Rattle.report_parts.specs.StretchRows.{stretch_rows}
 use Rattle.sessions.specs.Modes.{Look, alarms, each_line, each_tick, early_look, stretches}
-use Rattle.sessions.specs.PointsReport.{point_rows}
-use Rattle.sessions.specs.WatchReport.{alarm_rows}
 
 -- The text that lines decide, whatever follows them: of lines by themselves the rows of their accepted reports, of ticks those of the stretches that
 -- no later line can change, or of the alarms, and nothing where nothing leaves before the end.

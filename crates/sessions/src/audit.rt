@@ -3,7 +3,8 @@ ghost use Rattle.std.specs.Prelude.{◌≡◌, ◌++◌, [], ℕ, List, IfErr, I
 ghost use Rattle.audit_rows.specs.declared.row.Row.{Row};
 ghost use Rattle.log_lines.specs.Standing.{keeping_of};
 ghost use Rattle.scenario.specs.ScenarioValues.{IsInRange};
-ghost use Rattle.sessions.specs.AuditReport.{IsAuditReport, stretch_rows};
+ghost use Rattle.sessions.specs.AuditReport.{IsAuditReport};
+ghost use Rattle.report_parts.specs.StretchRows.{stretch_rows};
 ghost use Rattle.settled_ticks.specs.Standing.{RemembersTicks};
 ghost use Rattle.settling.specs.Standing.{audited_ticks};
 ghost use Rattle.sessions.specs.Endings.{IsAnswerOf};
@@ -11,13 +12,10 @@ ghost use Rattle.sessions.specs.Inner.AtEnd.{IsAuditAtEnd, IsAuditOf};
 ghost use Rattle.sessions.specs.Inner.Faults.{EndCause};
 ghost use Rattle.command_line.specs.declared.mode.Mode.TheVariants.{Audit};
 
-use crate::outcome_rows::{all_outcomes, write_counts};
 use crate::session_fault::SessionFault;
-use crate::stretches::write_stretches;
-use crate::totals::write_totals;
-use crate::vessels::write_vessels;
 use audit_report::ReportText;
 use log_lines::Judge;
+use report_parts::{write_counts, write_stretches, write_totals, write_vessels};
 use scenario::Scenario;
 use settling::SettledAudit;
 use std::alloc::Global;
@@ -44,6 +42,6 @@ pub(crate) fn end_audit(
     write_stretches(&mut text, &scenario.rules, end.rows.as_slice())?;
     write_vessels(&mut text, judge.book())?;
     write_totals(&mut text, &scenario.rules, end.totals.as_slice())?;
-    write_counts(&mut text, judge.counts(), all_outcomes())?;
+    write_counts(&mut text, judge)?;
     Ok(text.into_bytes()?)
 }

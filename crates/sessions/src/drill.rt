@@ -11,11 +11,10 @@ ghost use Rattle.sessions.specs.Inner.AtEnd.{IsAuditAtEnd, IsAuditOf};
 ghost use Rattle.sessions.specs.Inner.Faults.{EndCause};
 ghost use Rattle.command_line.specs.declared.mode.Mode.TheVariants.{Drill};
 
-use crate::outcome_rows::{all_outcomes, write_counts};
 use crate::session_fault::SessionFault;
-use crate::totals::write_totals;
 use audit_report::ReportText;
 use log_lines::Judge;
+use report_parts::{write_counts, write_totals};
 use scenario::Scenario;
 use settling::SettledAudit;
 use std::alloc::Global;
@@ -37,6 +36,6 @@ pub(crate) fn end_drill(
     let end = audit.end(scenario, judge)?;
     let mut text = ReportText::new(alloc);
     write_totals(&mut text, &scenario.rules, end.totals.as_slice())?;
-    write_counts(&mut text, judge.counts(), all_outcomes())?;
+    write_counts(&mut text, judge)?;
     Ok(text.into_bytes()?)
 }

@@ -10,23 +10,18 @@
 //! Where a log comes from and where a report goes has no place here: that is `colregs_program`.
 #![tactic(auto)]
 
-mod alarms;
 mod asked;
 mod audit;
 mod drill;
 mod ending;
 pub mod laws;
 mod modes;
-mod outcome_rows;
 mod plan;
 mod points;
 mod reasons;
 mod recheck;
 mod session;
 mod session_fault;
-mod stretches;
-mod totals;
-mod vessels;
 mod watch;
 mod work;
 

@@ -17,112 +17,26 @@ ghost use Rattle.situations.specs.Situations.{IsSituation};
 ghost use Rattle.situations.specs.declared.near.Near.{Near};
 ghost use Rattle.planner.specs.Searches.{searched_situation};
 ghost use Rattle.sessions.specs.Endings.{IsAnswerOf};
-ghost use Rattle.sessions.specs.PlanReport.{IsManoeuvre, IsPlanReport, first_tick, last_tick, leg_rows, manoeuvre_rows, near_rows};
+ghost use Rattle.report_parts.specs.PlanRows.{manoeuvre_rows};
+ghost use Rattle.report_parts.specs.VesselRows.{near_rows};
+ghost use Rattle.sessions.specs.PlanReport.{IsManoeuvre, IsPlanReport};
 ghost use Rattle.sessions.specs.Inner.Faults.{EndCause};
 ghost use Rattle.sessions.specs.Inner.PlanWriting.{IsSought, SoughtCause};
 ghost use Rattle.command_line.specs.declared.mode.Mode.TheVariants as mode;
 
 use crate::ending::Ending;
-use crate::outcome_rows::{all_outcomes, write_counts};
 use crate::reasons::add_reasons;
 use crate::session_fault::SessionFault;
-use crate::vessels::write_vessel_of;
-use audit_report::{ReportRow, ReportText};
-use lattice::{Lattice, Plan};
+use audit_report::ReportText;
+use lattice::Plan;
 use log_lines::Judge;
 use outside::Memory;
 use planner::Search;
+use report_parts::{PlannedLegs, write_counts, write_near};
 use scenario::Scenario;
-use situations::{Near, PrepareFault, Ready, Situation, prepare};
+use situations::{Near, PrepareFault, Situation, prepare};
 use std::alloc::Global;
 use tracks::Book;
-
-/// Writes the rows of the vessels near own ship.
-fn write_near(text: &mut ReportText, book: &Book, near: &[Near]) -> Result<(), Memory>
-    requires { book.now.keeping ≡ Tracks }
-    ensures { OnOk result ((numbers : JudgingNumbers) (messages : List Sent) (front : List ℕ) → length messages < 2 ^ 64
-        → BookStandsFor book.now numbers messages
-        → All (λ (vessel : Near). is_held numbers messages vessel.mmsi ≡ true) near.now → HasText text.old front
-        → HasText text.new (front ++ near_rows numbers messages near.now)) }
-{
-    for vessel in near {
-        write_vessel_of(text, book, vessel.mmsi)?;
-    }
-    Ok(())
-}
-
-/// What the legs of a plan are told by.
-#[derive(Clone, Copy)]
-struct PlannedLegs<'a> {
-    /// The tick of now, at most 20,000.
-    begin: u32,
-    lattice: &'a Lattice,
-    ready: Ready,
-}
-
-impl PlannedLegs<'_> {
-    /// The tick at which a leg begins.
-    fn first_tick(&self, leg: u8) -> u32
-        requires begin { self.now.begin ≤ 20000 }
-        requires leg { leg ≤ 8 }
-        ensures { result ≡ first_tick self.now.begin self.now.lattice.now leg }
-    {
-        self.begin + u32::from(leg) * self.lattice.leg_ticks()
-    }
-
-    /// The tick at which it ends.
-    fn last_tick(&self, leg: u8) -> u32
-        requires begin { self.now.begin ≤ 20000 }
-        requires leg { leg < self.now.lattice.now.legs }
-        ensures { result ≡ last_tick self.now.begin self.now.lattice.now leg }
-    {
-        let legs = self.lattice.legs();
-        if leg + 1 < legs {
-            self.first_tick(leg + 1)
-        } else {
-            self.begin + self.lattice.positions()
-        }
-    }
-
-    /// Writes the rows of the legs of a plan.
-    fn write_plan(&self, text: &mut ReportText, plan: &Plan) -> Result<(), Memory>
-        requires begin { self.now.begin ≤ 20000 }
-        requires course { self.now.ready.course < 3600 }
-        requires speed { self.now.ready.speed ≤ 1022 }
-        requires plan { IsPlan (choices_of self.now.lattice.now) self.now.lattice.now.legs plan.now }
-        ensures { OnOk result ((front : List ℕ) → HasText text.old front
-            → HasText text.new (front ++ leg_rows self.now.begin self.now.lattice.now self.now.ready plan.now)) }
-    {
-        for leg in 0..self.lattice.legs() {
-            text.write(&ReportRow::Plan {
-                number: self.lattice.number(plan),
-                leg,
-                course: self.lattice.course(plan, leg, self.ready.course),
-                speed: self.lattice.speed(plan, leg, self.ready.speed),
-                first: self.first_tick(leg),
-                last: self.last_tick(leg),
-            })?;
-        }
-        Ok(())
-    }
-
-    /// Writes the rows of a plan, or that there is none.
-    fn write(&self, text: &mut ReportText, plan: Option<&Plan>) -> Result<(), Memory>
-        requires begin { self.now.begin ≤ 20000 }
-        requires course { self.now.ready.course < 3600 }
-        requires speed { self.now.ready.speed ≤ 1022 }
-        requires plan { IfSome (option_copied plan) (IsPlan (choices_of self.now.lattice.now) self.now.lattice.now.legs) }
-        ensures { OnOk result ((front : List ℕ) → HasText text.old front
-            → HasText text.new (front ++ manoeuvre_rows self.now.begin self.now.lattice.now self.now.ready (option_copied plan.entry))) }
-    {
-        match plan {
-            Some(plan) => self.write_plan(text, plan),
-            None => text.write(&ReportRow::NoPlan {
-                plans: self.lattice.plans(),
-            }),
-        }
-    }
-}
 
 /// Seeks a plan in a situation. The search keeps the situation.
 fn sought(alloc: Global, situation: Situation) -> Result<(Search, Option<Plan>), Memory>
@@ -216,7 +130,7 @@ pub(crate) fn end_plan(
 {
     let mut text = ReportText::new(alloc);
     let found = write_search(alloc, scenario, judge.book(), &mut text)?;
-    write_counts(&mut text, judge.counts(), all_outcomes())?;
+    write_counts(&mut text, judge)?;
     let mut bytes = text.into_bytes()?;
     let none = found.none;
     add_reasons(alloc, found.search.situation(), why, none, &mut bytes)?;

@@ -3,7 +3,8 @@ ghost use Rattle.std.specs.Prelude.{◌≡◌, ◌++◌, [], ℕ, List, IfErr, I
 ghost use Rattle.early_monitor.specs.declared.alarm.Alarm.{Alarm};
 ghost use Rattle.log_lines.specs.Standing.{keeping_of};
 ghost use Rattle.scenario.specs.ScenarioValues.{IsInRange};
-ghost use Rattle.sessions.specs.WatchReport.{IsWatchReport, alarm_rows};
+ghost use Rattle.sessions.specs.WatchReport.{IsWatchReport};
+ghost use Rattle.report_parts.specs.AlarmRows.{alarm_rows};
 ghost use Rattle.settled_ticks.specs.Standing.{RemembersTicks};
 ghost use Rattle.settling.specs.WatchStanding.{watched_ticks};
 ghost use Rattle.sessions.specs.Endings.{IsAnswerOf};
@@ -11,11 +12,10 @@ ghost use Rattle.sessions.specs.Inner.AtEnd.{IsWatchAtEnd, IsWatchOf};
 ghost use Rattle.sessions.specs.Inner.Faults.{EndCause};
 ghost use Rattle.command_line.specs.declared.mode.Mode.TheVariants.{Watch};
 
-use crate::alarms::write_alarms;
-use crate::outcome_rows::{all_outcomes, write_counts};
 use crate::session_fault::SessionFault;
 use audit_report::ReportText;
 use log_lines::Judge;
+use report_parts::{write_alarms, write_counts};
 use scenario::Scenario;
 use settling::SettledWatch;
 use std::alloc::Global;
@@ -40,6 +40,6 @@ pub(crate) fn end_watch(
     let alarms = watch.end(scenario, judge)?;
     let mut text = ReportText::new(alloc);
     write_alarms(&mut text, &scenario.rules, alarms.as_slice())?;
-    write_counts(&mut text, judge.counts(), all_outcomes())?;
+    write_counts(&mut text, judge)?;
     Ok(text.into_bytes()?)
 }

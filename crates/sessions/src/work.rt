@@ -11,14 +11,12 @@ ghost use Rattle.sessions.specs.declared.session_fault.SessionFault.TheVariants 
 ghost use Rattle.tracks.specs.Standing.{forgetting};
 ghost use Rattle.tracks.specs.declared.keeping.Keeping.{Keeping};
 
-use crate::alarms::write_alarms;
-use crate::points::write_line;
 use crate::session_fault::SessionFault;
-use crate::stretches::write_stretches;
 use audit_report::ReportText;
 use command_line::Mode;
 use log_lines::{Judge, Judged};
 use outside::Memory;
+use report_parts::{write_alarms, write_line, write_stretches};
 use scenario::Scenario;
 use settling::{SettledAudit, SettledWatch};
 use std::alloc::Global;

@@ -15,7 +15,9 @@ use Rattle.situations.specs.declared.situation.Situation.{Situation}
 use Rattle.scenario.specs.declared.own_part.OwnPart.{OwnPart}
 use Rattle.scenario.specs.declared.values.Scenario.{Scenario}
 use Rattle.tracks.specs.VesselsHeld.{Sent}
-use Rattle.sessions.specs.PlanReport.{IsManoeuvre, manoeuvre_rows, near_rows}
+use Rattle.sessions.specs.PlanReport.{IsManoeuvre}
+use Rattle.report_parts.specs.PlanRows.{manoeuvre_rows}
+use Rattle.report_parts.specs.VesselRows.{near_rows}
 
 -- Own ship was ready, and had not too many targets: a plan was sought in her situation, and the rows of the vessels near her and of her manoeuvre
 -- were written behind a front.

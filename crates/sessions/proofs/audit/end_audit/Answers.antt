@@ -3,7 +3,7 @@ use Rattle.outside.proofs.ForCallers.{err_cause}
 use Rattle.auditor.specs.AuditRows.{AreAuditRows}
 use Rattle.auditor.specs.AuditTotals.{AreTotals}
 use Rattle.traces.specs.ManyTraces.{HaveMoreThan}
-use Rattle.log_lines.specs.JudgedLines.{judged_lines, numbers_of}
+use Rattle.log_lines.specs.JudgedLines.{numbers_of}
 use Rattle.log_lines.specs.LogLines.{lines_of}
 use Rattle.log_lines.specs.SentLines.{sent}
 use Rattle.traces.specs.declared.all_traces.TheConstants.{MOST_TRACES}
@@ -15,7 +15,6 @@ use Rattle.sessions.proofs.AtEnds.{few_messages, judged_parts, keeps_tracks, of_
 use Rattle.sessions.proofs.AuditText.{audit_cause, whole_text}
 use Rattle.sessions.proofs.Auditing.{last_of_rules, rows_of_rules}
 use Rattle.sessions.proofs.Meeting.{audit_done}
-use Rattle.sessions.proofs.OutcomeRows.{count_rows-from_counts}
 use Rattle.sessions.proofs.audit.end_audit.Goals as goal
 
 pub end-requires-clause-one_log : goal.end-requires-clause-one_log
@@ -62,10 +61,9 @@ returns-clause-report c = λ log given of.
     let stretches = rw c.as_slice.ensures.value at (c.in_ok-write_stretches.ensures [] c.new-text.ensures) in
     let vessels = c.in_ok-write_vessels.ensures (numbers_of scenario) messages _ (few_messages judge scenario lines of.judged) (c.book.ensures.stands scenario lines of.judged) stretches in
     let totalled = c.in_ok-write_totals.ensures _ vessels in
-    let counts = c.in_ok-write_counts.ensures _ totalled in
-    let outcomes = count_rows-from_counts c.counts.result.now (judged_lines scenario lines) c.all_outcomes.result.now c.all_outcomes.ensures (c.counts.ensures scenario lines of.judged) in
+    let counts = c.in_ok-write_counts.ensures scenario lines _ of.judged totalled in
     whole_report scenario log given c.in_ok-end.end.rows.items c.in_ok-end.end.totals.items _ rows totals
-    (c.in_ok-into_bytes.ensures _ counts ∙ whole_text scenario messages c.in_ok-end.end.rows.items _ _ _ _ c.as_slice-2.ensures.value outcomes)
+    (c.in_ok-into_bytes.ensures _ counts ∙ whole_text scenario messages c.in_ok-end.end.rows.items _ _ _ c.as_slice-2.ensures.value)
 
 pub returns-clause-answer : goal.returns-clause-answer
 unfolding sightings_of

@@ -1,4 +1,4 @@
-use Rattle.std.proofs.Common.{ℕ, List, ◌∙◌, ◌++◌, length, ap, ap₂, subst, Err, []}
+use Rattle.std.proofs.Common.{ℕ, List, ◌∙◌, ◌++◌, length, ap, subst, Err, []}
 use Rattle.outside.proofs.ForCallers.{err_cause}
 use Rattle.auditor.specs.declared.total.Total.{Total}
 use Rattle.auditor.specs.AuditRows.{AreAuditRows}
@@ -10,12 +10,13 @@ use Rattle.log_lines.specs.SentLines.{sent}
 use Rattle.traces.specs.declared.all_traces.TheConstants.{MOST_TRACES}
 use Rattle.settled_ticks.specs.Sightings.{sighted}
 use Rattle.settling.specs.ScenarioAudit.{audit_numbers}
-use Rattle.sessions.specs.AuditReport.{sightings_of, total_rows}
+use Rattle.sessions.specs.AuditReport.{sightings_of}
+use Rattle.report_parts.specs.OutcomeRows.{count_rows}
+use Rattle.report_parts.specs.TotalRows.{total_rows}
 use Rattle.sessions.specs.DrillReport.{drill_text}
 use Rattle.sessions.proofs.AtEnds.{judged_parts, of_one_log, of_whole}
 use Rattle.sessions.proofs.AuditText.{drill_cause}
 use Rattle.sessions.proofs.Meeting.{drill_done}
-use Rattle.sessions.proofs.OutcomeRows.{count_rows-from_counts}
 use Rattle.sessions.proofs.drill.end_drill.Goals as goal
 
 pub end-requires-clause-one_log : goal.end-requires-clause-one_log
@@ -45,8 +46,7 @@ returns-clause-report c = λ log given of.
     let lines = lines_of log in
     let parts = judged_parts judge scenario log given of in
     let totals = c.in_ok-write_totals.ensures [] c.new-text.ensures in
-    let counts = c.in_ok-write_counts.ensures _ totals in
-    let outcomes = count_rows-from_counts c.counts.result.now (judged_lines scenario lines) c.all_outcomes.result.now c.all_outcomes.ensures (c.counts.ensures scenario lines of.judged) in
+    let counts = c.in_ok-write_counts.ensures scenario lines _ of.judged totals in
     record {
       rows = given ++ c.in_ok-end.end.rows.items;
       totals = c.in_ok-end.end.totals.items;
@@ -54,7 +54,7 @@ returns-clause-report c = λ log given of.
           (c.in_ok-end.ensures.rows of.lines of.more given of.stands parts);
       are_totals = of_whole judge scenario log given of (λ (ls : List (List ℕ)). AreTotals (audit_numbers scenario) (sighted scenario (sent scenario ls)) (given ++ c.in_ok-end.end.rows.items) c.in_ok-end.end.totals.items)
           (c.in_ok-end.ensures.totals of.lines of.more given of.stands parts);
-      is = c.in_ok-into_bytes.ensures _ counts ∙ ap₂ (λ (ts : List Total) (counted : List ℕ). total_rows scenario.rules ts ++ counted) c.as_slice.ensures.value outcomes;
+      is = c.in_ok-into_bytes.ensures _ counts ∙ ap (λ (ts : List Total). total_rows scenario.rules ts ++ count_rows (judged_lines scenario lines)) c.as_slice.ensures.value;
     }
 
 pub returns-clause-answer : goal.returns-clause-answer

@@ -2,14 +2,11 @@ use Rattle.std.proofs.Common.{[], List, ℕ, ◌++◌, ◌∙◌, ap, refl, subs
 use Rattle.command_line.specs.declared.mode.Mode.TheVariants as mode
 use Rattle.situations.specs.LeastPlans.{AllFail}
 use Rattle.outside.proofs.ForCallers.{err_cause}
-use Rattle.log_lines.specs.JudgedLines.{judged_lines, numbers_of}
+use Rattle.log_lines.specs.JudgedLines.{numbers_of}
 use Rattle.log_lines.specs.LogLines.{lines_of}
 use Rattle.log_lines.specs.SentLines.{sent}
-use Rattle.situations.specs.PlanSituations.{vessels_near}
-use Rattle.sessions.specs.PlanReport.{manoeuvre_rows, near_rows, plan_text}
+use Rattle.sessions.specs.PlanReport.{plan_text}
 use Rattle.sessions.proofs.AtEnds.{few_messages}
-use Rattle.sessions.proofs.OutcomeRows.{count_rows-from_counts}
-use Rattle.sessions.proofs.PlanText.{three_parts}
 use Rattle.sessions.proofs.Seeking.{are_reasons, own_cause, plan_answer}
 use Rattle.sessions.proofs.plan.end_plan.Goals as goal
 
@@ -37,8 +34,7 @@ returns-clause-report c = λ log stands.
     let lines = lines_of log in
     let messages = sent scenario lines in
     let found = c.in_ok-found.ensures.sought messages [] (few_messages c.args.judge.now scenario lines stands) (c.book.ensures.stands scenario lines stands) c.new-text.ensures in
-    let counts = c.in_ok-write_counts.ensures _ found.has in
-    let outcomes = count_rows-from_counts c.counts.result.now (judged_lines scenario lines) c.all_outcomes.result.now c.all_outcomes.ensures (c.counts.ensures scenario lines stands) in
+    let counts = c.in_ok-write_counts.ensures scenario lines _ stands found.has in
     let (reasons, are, added) = c.in_ok-add_reasons.ensures in
     record {
       own = found.own;
@@ -48,9 +44,7 @@ returns-clause-report c = λ log stands.
       is_first = found.is_first;
       reasons = reasons;
       are_reasons = are_reasons c.args.why c.in_ok-found.found.none _ _ found.manoeuvre reasons (c.situation.ensures ∙ found.is_of) found.told are;
-      is = added ∙ ap (λ (t : List ℕ). t ++ reasons) (c.in_ok-bytes.ensures _ counts
-          ∙ three_parts (near_rows (numbers_of scenario) messages (vessels_near (numbers_of scenario) messages scenario found.own found.ready))
-          (manoeuvre_rows scenario.window.ticks found.own.lattice found.ready found.manoeuvre) _ _ outcomes);
+      is = added ∙ ap (λ (t : List ℕ). t ++ reasons) (c.in_ok-bytes.ensures _ counts);
     }
 
 pub add_reasons-requires-clause-fail : goal.add_reasons-requires-clause-fail

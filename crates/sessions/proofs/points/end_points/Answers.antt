@@ -3,7 +3,6 @@ use Rattle.log_lines.specs.JudgedLines.{judged_lines}
 use Rattle.log_lines.specs.LogLines.{lines_of}
 use Rattle.log_lines.specs.GrowingLog.{ended_lines}
 use Rattle.sessions.specs.PointsReport.{points_report}
-use Rattle.sessions.proofs.OutcomeRows.{count_rows-from_counts}
 use Rattle.sessions.proofs.TakingLines.{points_whole}
 use Rattle.sessions.proofs.points.end_points.Goals as goal
 
@@ -12,6 +11,5 @@ unfolding points_report
 returns c = λ scenario log of.
     let lines = judged_lines scenario (lines_of log) in
     let last = c.in_ok-write_last.ensures [] c.new-text.ensures in
-    let counts = c.in_ok-write_counts.ensures _ last in
-    let outcomes = count_rows-from_counts c.counts.result.now lines c.all_outcomes.result.now c.all_outcomes.ensures (c.counts.ensures scenario (lines_of log) of.judge) in
-    points_whole (judged_lines scenario (ended_lines log)) lines c.args.ended.now.last _ _ _ _ of.judged c.as_ref.ensures.value (c.in_ok-into_bytes.ensures _ counts) outcomes
+    let counts = c.in_ok-write_counts.ensures scenario (lines_of log) _ of.judge last in
+    points_whole (judged_lines scenario (ended_lines log)) lines c.args.ended.now.last _ _ _ of.judged c.as_ref.ensures.value (c.in_ok-into_bytes.ensures _ counts)

@@ -1,7 +1,6 @@
 use Rattle.std.proofs.Common.{ℕ, List, ◌∙◌, ◌++◌, ap, subst, Err, []}
 use Rattle.outside.proofs.ForCallers.{err_cause}
 use Rattle.early_monitor.specs.Alarms.{AreAlarms}
-use Rattle.log_lines.specs.JudgedLines.{judged_lines}
 use Rattle.log_lines.specs.LogLines.{lines_of}
 use Rattle.log_lines.specs.SentLines.{sent}
 use Rattle.settled_ticks.specs.Sightings.{sighted}
@@ -9,10 +8,9 @@ use Rattle.settling.specs.ScenarioAudit.{audit_numbers}
 use Rattle.traces.specs.ManyTraces.{HaveMoreThan}
 use Rattle.traces.specs.declared.all_traces.TheConstants.{MOST_TRACES}
 use Rattle.sessions.specs.AuditReport.{sightings_of}
-use Rattle.sessions.specs.WatchReport.{alarm_rows}
+use Rattle.report_parts.specs.AlarmRows.{alarm_rows}
 use Rattle.sessions.proofs.AtEnds.{judged_parts, of_whole}
 use Rattle.sessions.proofs.Meeting.{watch_done}
-use Rattle.sessions.proofs.OutcomeRows.{count_rows-from_counts}
 use Rattle.sessions.proofs.Watching.{alarms_of_rules, last_alarms, of_one_log, watch_cause, whole_watch}
 use Rattle.sessions.proofs.watch.end_watch.Goals as goal
 
@@ -46,10 +44,9 @@ returns-clause-report c = λ log given of.
     let early = of_whole judge scenario log given of (λ (ls : List (List ℕ)). AreAlarms (audit_numbers scenario) (sighted scenario (sent scenario ls)) (given ++ c.in_ok-alarms.alarms.items))
     (c.in_ok-alarms.ensures.alarms of.lines of.more given of.stands parts) in
     let told = rw c.as_slice.ensures.value at (c.in_ok-write_alarms.ensures [] c.new-text.ensures) in
-    let counts = c.in_ok-write_counts.ensures _ told in
-    let outcomes = count_rows-from_counts c.counts.result.now (judged_lines scenario lines) c.all_outcomes.result.now c.all_outcomes.ensures (c.counts.ensures scenario lines of.judged) in
+    let counts = c.in_ok-write_counts.ensures scenario lines _ of.judged told in
     whole_watch scenario log given c.in_ok-alarms.alarms.items _ early
-    (c.in_ok-into_bytes.ensures _ counts ∙ ap (λ (counted : List ℕ). alarm_rows scenario.rules c.in_ok-alarms.alarms.items ++ counted) outcomes)
+    (c.in_ok-into_bytes.ensures _ counts)
 
 pub returns-clause-answer : goal.returns-clause-answer
 unfolding sightings_of

@@ -1,0 +1,3 @@
+mod InertLines
+mod InertReports
+mod OneLine

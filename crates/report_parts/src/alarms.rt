@@ -1,0 +1,33 @@
+//! The rows of alarms.
+ghost use Rattle.std.specs.Prelude.{◌≡◌, ◌++◌, ◌<◌, ℕ, List, All, OnOk, length};
+ghost use Rattle.audit_report.specs.CsvRows.{row_of};
+ghost use Rattle.audit_report.specs.ReportTexts.{HasText};
+ghost use Rattle.early_monitor.specs.declared.alarm.Alarm.{Alarm};
+ghost use Rattle.report_parts.specs.AlarmRows.{alarm_rows, told_alarm};
+
+use audit_report::ReportText;
+use early_monitor::Alarm;
+use outside::Memory;
+use rule_set::RuleSet;
+
+/// Writes the row of an alarm.
+fn write_alarm(text: &mut ReportText, rules: &RuleSet, alarm: &Alarm) -> Result<(), Memory>
+    requires { alarm.now.rule < length rules.now }
+    ensures { OnOk result ((front : List ℕ) → HasText text.old front
+        → HasText text.new (front ++ row_of (told_alarm rules.now alarm.now))) }
+{
+    let name = rules.name(alarm.rule as usize);
+    text.write_alarm(alarm.pair, name, alarm.position, alarm.decided)
+}
+
+/// Writes the rows of alarms.
+pub fn write_alarms(text: &mut ReportText, rules: &RuleSet, alarms: &[Alarm]) -> Result<(), Memory>
+    requires { All (λ (alarm : Alarm). alarm.rule < length rules.now) alarms.now }
+    ensures { OnOk result ((front : List ℕ) → HasText text.old front
+        → HasText text.new (front ++ alarm_rows rules.now alarms.now)) }
+{
+    for alarm in alarms {
+        write_alarm(text, rules, alarm)?;
+    }
+    Ok(())
+}

@@ -1,4 +1,0 @@
-use Rattle.sessions.proofs.alarms.write_alarm.Goals as goal
-
-pub returns : goal.returns
-returns c = rw c.name-name.ensures.name at c.write_alarm.ensures
