@@ -1,17 +1,16 @@
 -- In the first quarter of the circle the sines rise and the cosines fall, and none is negative.
-use Rattle.std.proofs.Common.{◌≡◌, ℕ, zero, suc, ◌-◌, ◌*◌, ◌/◌, ◌%◌, ◌<◌, ◌≤◌, inl, inr, ℤ, pos, ◌≤ℤ◌, List, [], ◌∷◌, length, get_or, refl, sym, ap, ◌∙◌, subst, lit≤, lit<, mul-le-mul_right, arith}
+use Rattle.std.proofs.Common.{◌≡◌, ℕ, zero, suc, ◌-◌, ◌*◌, ◌/◌, ◌%◌, ◌<◌, ◌≤◌, inl, inr, ℤ, pos, ◌≤ℤ◌, List, [], ◌∷◌, length, get_or, refl, sym, ap, ◌∙◌, subst, lit<, mul-le-mul_right, arith}
 use Rattle.std.proofs.lemmas.Bool.{and_parts, cases_lt, le-leb, leb-true}
-use Rattle.std.proofs.lemmas.Bool.Decides.{nat_tests}
 use Rattle.std.proofs.lemmas.Int.{ints}
 use Rattle.std.proofs.Math.Nat.{eq-or-lt_of_le}
 use Rattle.fixed_geometry.specs.Bearing.{has_turned}
 use Rattle.std.specs.Prelude.{leb, negsuc, slice_index, Bool, true, false, ◌&&◌, nat_le}
-use Rattle.fixed_geometry.specs.Compass.{eighth_of, quarter_of, mirrored, unit_of, sine_of, cosine_of}
+use Rattle.fixed_geometry.specs.Compass.{quarter_of, unit_of, sine_of, cosine_of}
 use Rattle.fixed_geometry.specs.declared.point.Point.{Point}
-use Rattle.fixed_geometry.specs.declared.compass.TheConstants.{SINES, COSINES}
-use Rattle.fixed_geometry.proofs.Table.{sine_entry, cosine_entry}
+use Rattle.fixed_geometry.specs.declared.compass.TheConstants.{SINES}
+use Rattle.fixed_geometry.proofs.Table.{quarter_sine, quarter_cosine}
 
--- ---- the first quarter, from the tables
+-- ---- the first quarter, from the table
 
 pub unit_of-first : (k : ℕ) → k < 900 → unit_of k ≡ quarter_of k
 unfolding unit_of
@@ -20,53 +19,27 @@ unit_of-first k h =
     let same : k % 900 ≡ k = omega arith in
     rw (none, same)
 
-quarter_of-low : (k : ℕ) → k ≤ 450 → quarter_of k ≡ eighth_of k
-quarter_of-low k h = let e : nat_le k 450 ≡ true = le-leb k 450 h in rw e
+sine_in_table : (k : ℕ) → k < 900 → sine_of k ≡ pos (slice_index SINES k)
+sine_in_table k h = ap (λ (p : Point). p.x) (unit_of-first k h) ∙ sym (quarter_sine k (omega arith))
 
-quarter_of-high : (k : ℕ) → 450 < k → quarter_of k ≡ mirrored (eighth_of (900 - k))
-quarter_of-high k h = let e : nat_le k 450 ≡ false = grind (arith, nat_tests) in rw e
+cosine_in_table : (k : ℕ) → k < 900 → cosine_of k ≡ pos (slice_index SINES (900 - k))
+cosine_in_table k h = ap (λ (p : Point). p.y) (unit_of-first k h) ∙ sym (quarter_cosine k (omega arith))
 
-low_sine : (k : ℕ) → k ≤ 450 → sine_of k ≡ pos (slice_index SINES k)
-low_sine k h = ap (λ (p : Point). p.x) (unit_of-first k (omega arith) ∙ quarter_of-low k h) ∙ sym (sine_entry k h)
-
-low_cosine : (k : ℕ) → k ≤ 450 → cosine_of k ≡ pos (slice_index COSINES k)
-low_cosine k h = ap (λ (p : Point). p.y) (unit_of-first k (omega arith) ∙ quarter_of-low k h) ∙ sym (cosine_entry k h)
-
-high_sine : (k : ℕ) → 450 < k → k < 900 → sine_of k ≡ pos (slice_index COSINES (900 - k))
-high_sine k h lt = ap (λ (p : Point). p.x) (unit_of-first k lt ∙ quarter_of-high k h) ∙ sym (cosine_entry (900 - k) (omega arith))
-
-high_cosine : (k : ℕ) → 450 < k → k < 900 → cosine_of k ≡ pos (slice_index SINES (900 - k))
-high_cosine k h lt = ap (λ (p : Point). p.y) (unit_of-first k lt ∙ quarter_of-high k h) ∙ sym (sine_entry (900 - k) (omega arith))
-
--- ---- neighbours in the tables, all compared
+-- ---- neighbours in the table, all compared
 
 abbrev rises : List ℕ → Bool
 rises [] = true
 rises (x ∷ []) = true
 rises (x ∷ y ∷ ys) = nat_le (suc x) y && rises (y ∷ ys)
 
-abbrev falls : List ℕ → Bool
-falls [] = true
-falls (x ∷ []) = true
-falls (x ∷ y ∷ ys) = nat_le (suc y) x && falls (y ∷ ys)
-
 sines_rise : rises SINES ≡ true
 sines_rise = refl
-
-cosines_fall : falls COSINES ≡ true
-cosines_fall = refl
 
 rises_at : (xs : List ℕ) (k : ℕ) → rises xs ≡ true → suc k < length xs → get_or xs k 0 < get_or xs (suc k) 0
 rises_at [] k h lt = absurd (omega arith)
 rises_at (x ∷ []) k h lt = absurd (omega arith)
 rises_at (x ∷ y ∷ ys) zero h lt = let le = leb-true (suc x) y (and_parts (nat_le (suc x) y) (rises (y ∷ ys)) h).0 in omega arith
 rises_at (x ∷ y ∷ ys) (suc k) h lt = rises_at (y ∷ ys) k (and_parts (nat_le (suc x) y) (rises (y ∷ ys)) h).1 (omega arith)
-
-falls_at : (xs : List ℕ) (k : ℕ) → falls xs ≡ true → suc k < length xs → get_or xs (suc k) 0 < get_or xs k 0
-falls_at [] k h lt = absurd (omega arith)
-falls_at (x ∷ []) k h lt = absurd (omega arith)
-falls_at (x ∷ y ∷ ys) zero h lt = let le = leb-true (suc y) x (and_parts (nat_le (suc y) x) (falls (y ∷ ys)) h).0 in omega arith
-falls_at (x ∷ y ∷ ys) (suc k) h lt = falls_at (y ∷ ys) k (and_parts (nat_le (suc y) x) (falls (y ∷ ys)) h).1 (omega arith)
 
 -- The sine of the next tenth is greater, and its cosine less.
 pub record Neighbours (k : ℕ) : Type 0 where
@@ -81,59 +54,21 @@ pub record Neighbours (k : ℕ) : Type 0 where
   pub rise : s < s'
   pub fall : c' < c
 
-low_neighbours : (k : ℕ) → k < 450 → Neighbours k
-low_neighbours k low = record {
-  s = slice_index SINES k;
-  s' = slice_index SINES (suc k);
-  c = slice_index COSINES k;
-  c' = slice_index COSINES (suc k);
-  sine = low_sine k (omega arith);
-  sine' = low_sine (suc k) (omega arith);
-  cosine = low_cosine k (omega arith);
-  cosine' = low_cosine (suc k) (omega arith);
-  rise = rises_at SINES k sines_rise (omega arith);
-  fall = falls_at COSINES k cosines_fall (omega arith);
-}
-
-middle_neighbours : Neighbours 450
-middle_neighbours = record {
-  s = slice_index SINES 450;
-  s' = slice_index COSINES 449;
-  c = slice_index COSINES 450;
-  c' = slice_index SINES 449;
-  sine = low_sine 450 (lit≤ tt);
-  sine' = high_sine 451 (lit< tt) (lit< tt);
-  cosine = low_cosine 450 (lit≤ tt);
-  cosine' = high_cosine 451 (lit< tt) (lit< tt);
-  rise = lit< tt;
-  fall = lit< tt;
-}
-
-high_neighbours : (k : ℕ) → 450 < k → suc k < 900 → Neighbours k
-high_neighbours k high lt =
-    let next : suc (900 - suc k) ≡ 900 - k = omega arith in
-    record {
-      s = slice_index COSINES (900 - k);
-      s' = slice_index COSINES (900 - suc k);
-      c = slice_index SINES (900 - k);
-      c' = slice_index SINES (900 - suc k);
-      sine = high_sine k high (omega arith);
-      sine' = high_sine (suc k) (omega arith) lt;
-      cosine = high_cosine k high (omega arith);
-      cosine' = high_cosine (suc k) (omega arith) lt;
-      rise = subst (λ (i : ℕ). get_or COSINES i 0 < get_or COSINES (900 - suc k) 0) next (falls_at COSINES (900 - suc k) cosines_fall (omega arith));
-      fall = subst (λ (i : ℕ). get_or SINES (900 - suc k) 0 < get_or SINES i 0) next (rises_at SINES (900 - suc k) sines_rise (omega arith));
-    }
-
 pub neighbours : (k : ℕ) → suc k < 900 → Neighbours k
 neighbours k lt =
-    elim (cases_lt k 450) [
-      | inl low ↦ low_neighbours k low
-      | inr past ↦ elim (eq-or-lt_of_le past) [
-        | inl middle ↦ subst Neighbours middle middle_neighbours
-        | inr high ↦ high_neighbours k high lt
-      ]
-    ]
+    let next : suc (900 - suc k) ≡ 900 - k = omega arith in
+    record {
+      s = slice_index SINES k;
+      s' = slice_index SINES (suc k);
+      c = slice_index SINES (900 - k);
+      c' = slice_index SINES (900 - suc k);
+      sine = sine_in_table k (omega arith);
+      sine' = sine_in_table (suc k) lt;
+      cosine = cosine_in_table k (omega arith);
+      cosine' = cosine_in_table (suc k) lt;
+      rise = rises_at SINES k sines_rise (omega arith);
+      fall = subst (λ (i : ℕ). get_or SINES (900 - suc k) 0 < get_or SINES i 0) next (rises_at SINES (900 - suc k) sines_rise (omega arith));
+    }
 
 -- No sine is negative, and each cosine is greater than 0.
 pub record Sizes (k : ℕ) : Type 0 where
@@ -145,10 +80,10 @@ pub record Sizes (k : ℕ) : Type 0 where
 
 last_sizes : Sizes 899
 last_sizes = record {
-  s = slice_index COSINES 1;
+  s = slice_index SINES 899;
   c = slice_index SINES 1;
-  sine = high_sine 899 (lit< tt) (lit< tt);
-  cosine = high_cosine 899 (lit< tt) (lit< tt);
+  sine = sine_in_table 899 (lit< tt);
+  cosine = cosine_in_table 899 (lit< tt);
   some = lit< tt;
 }
 
@@ -189,8 +124,8 @@ none_later n e k j le lt h = go (has_turned (pos n) (pos e) j) refl
 
 pub turned_at_zero : (n e : ℤ) → pos 0 ≤ℤ n → pos 0 ≤ℤ e → has_turned n e 0 ≡ true
 turned_at_zero (pos n) (pos e) _ _ =
-    let sine : sine_of 0 ≡ pos 0 = low_sine 0 (lit≤ tt) in
-    let cosine : cosine_of 0 ≡ pos 1000000 = low_cosine 0 (lit≤ tt) in
+    let sine : sine_of 0 ≡ pos 0 = sine_in_table 0 (lit< tt) in
+    let cosine : cosine_of 0 ≡ pos 1000000 = cosine_in_table 0 (lit< tt) in
     rw (sine, cosine) (le-leb (0 * n) (1000000 * e) (omega arith))
 turned_at_zero (negsuc n) e h _ = absurd (omega (arith, ints))
 turned_at_zero (pos n) (negsuc e) _ h = absurd (omega (arith, ints))
