@@ -1,5 +1,5 @@
 -- The judge, behind one line more.
-use Rattle.std.proofs.Common.{◌≡◌, ℕ, ◌+◌, ◌-◌, ◌^◌, ◌<◌, ◌≤◌, Bool, true, false, nat_lt, min, List, [], ◌∷◌, ◌++◌, append-nil, length, slice_index, slice_set, length-append, Option, None, unwrap_or, Result, Ok, Err, refl, ap, sym, subst, ◌∙◌, arith}
+use Rattle.std.proofs.Common.{◌≡◌, ℕ, ◌+◌, ◌-◌, ◌^◌, ◌<◌, ◌≤◌, Bool, true, false, nat_lt, min, List, [], ◌∷◌, ◌++◌, append-nil, length, slice_index, slice_set, length-append, Option, None, IfSome, unwrap_or, Result, Ok, Err, IfOk, refl, ap, sym, subst, ◌∙◌, arith}
 use Rattle.std.proofs.lemmas.Bool.Decides.{nat_tests}
 use Rattle.aivdm.specs.FragmentJoining.{Taken, joined_of}
 use Rattle.aivdm.specs.OpenMessages.{StandsFor as JoinerStandsFor}
@@ -96,21 +96,29 @@ GoesOn-unheard numbers ranked judge came taken messages untold stands keeps = re
 
 -- ---- the whole line
 
-untimely_is : (times : LineTimes) (scenario : Scenario) (before : List (List ℕ)) (time : ℕ) → KeepsTimes times scenario before
+untimely_is : (times : LineTimes) (scenario : Scenario) (before : List (List ℕ)) (time : ℕ) → time < 2 ^ 64 → KeepsTimes times scenario before
     → untimely_by times time ≡ untimely scenario (clock_of scenario before) time
-untimely_is times scenario before time keeps = rw (keeps.window, keeps.log, keeps.behind, keeps.clock) refl
+untimely_is times scenario before time small keeps = rw (keeps.window time small, keeps.slack, keeps.clock) refl
 
-heard_same : (times : LineTimes) (scenario : Scenario) (before : List (List ℕ)) (time : ℕ) (body : Result SentenceFields LineCause) → KeepsTimes times scenario before
+-- Where a sentence may be heard at a time, the time is one of 64 bits.
+abbrev pub IsHeardInTime : ℕ → Result SentenceFields LineCause → Type 0
+IsHeardInTime time body = IfOk body (λ sentence. time < 2 ^ 64)
+
+pub in_time : (time : ℕ) (body : Result SentenceFields LineCause) → time < 2 ^ 64 → IsHeardInTime time body
+in_time time (Ok sentence) small = small
+in_time time (Err cause) small = tt
+
+heard_same : (times : LineTimes) (scenario : Scenario) (before : List (List ℕ)) (time : ℕ) (body : Result SentenceFields LineCause) → IsHeardInTime time body → KeepsTimes times scenario before
     → heard_by times time body ≡ heard_in scenario (clock_of scenario before) time body
-heard_same times scenario before time (Ok sentence) keeps = ap (λ o. heard_unless o time sentence) (untimely_is times scenario before time keeps)
-heard_same times scenario before time (Err cause) keeps = refl
+heard_same times scenario before time (Ok sentence) small keeps = ap (λ o. heard_unless o time sentence) (untimely_is times scenario before time small keeps)
+heard_same times scenario before time (Err cause) small keeps = refl
 
-heard_is : (times : LineTimes) (scenario : Scenario) (before : List (List ℕ)) (line : List ℕ) (time : ℕ) (body : Result SentenceFields LineCause) → KeepsTimes times scenario before
-    → time ≡ unwrap_or (nearest_of (stamp_of line) times.nearest) times.window.start → body ≡ (reading_of line).body
+heard_is : (times : LineTimes) (scenario : Scenario) (before : List (List ℕ)) (line : List ℕ) (time : ℕ) (body : Result SentenceFields LineCause) → IsHeardInTime time body → KeepsTimes times scenario before
+    → time ≡ unwrap_or (nearest_of (stamp_of line) times.nearest) times.start → body ≡ (reading_of line).body
     → heard_by times time body ≡ heard_of scenario before line
 unfolding heard_of
-heard_is times scenario before line time body keeps timed same =
-    heard_same times scenario before time body keeps
+heard_is times scenario before line time body small keeps timed same =
+    heard_same times scenario before time body small keeps
     ∙ ap (λ t. heard_in scenario (clock_of scenario before) t body) (timed ∙ time_is times scenario before line keeps)
     ∙ ap (heard_in scenario (clock_of scenario before) (time_of scenario (before ++ line ∷ []))) same
 
@@ -118,8 +126,10 @@ heard_is times scenario before line time body keeps timed same =
 pub record Judges (old noted : Judge) (came : Judged) (line : List ℕ) : Type 0 where
   pub time : ℕ
   pub body : Result SentenceFields LineCause
-  pub timed : time ≡ unwrap_or (nearest_of (stamp_of line) old.times.nearest) old.times.window.start
+  pub timed : time ≡ unwrap_or (nearest_of (stamp_of line) old.times.nearest) old.times.start
   pub said : body ≡ (reading_of line).body
+  pub in_time : IsHeardInTime time body
+  pub stamp_small : IfSome (stamp_of line) (λ seconds. seconds < 2 ^ 64)
   pub kept : keeping_of noted ≡ keeping_of old
   pub on : (numbers : JudgingNumbers) (ranked : Bool) (taken : List Taken) (messages : List Sent) → JoinerStandsFor old.joiner taken
       → Keeps old.book old.ranks numbers ranked messages → GoesOn numbers ranked noted came taken messages (heard_by old.times time body)
@@ -131,7 +141,7 @@ goes_on old noted came line scenario before stands judges =
     let ranked = counts_ranks (keeping_of old) scenario in
     let keeps : Keeps old.book old.ranks (numbers_of scenario) ranked (sent scenario before) = record { book = stands.book; few = stands.few; notes = stands.notes } in
     let on = judges.on (numbers_of scenario) ranked (heard scenario before) (sent scenario before) stands.joiner keeps in
-    let here = heard_is old.times scenario before line judges.time judges.body stands.times judges.timed judges.said in
+    let here = heard_is old.times scenario before line judges.time judges.body judges.in_time stands.times judges.timed judges.said in
     subst (GoesOn (numbers_of scenario) ranked noted came (heard scenario before) (sent scenario before)) here on
 
 pub judged_is : (old noted : Judge) (came : Judged) (line : List ℕ) (scenario : Scenario) (before : List (List ℕ)) → StandsFor old scenario before → Judges old noted came line
@@ -171,7 +181,7 @@ stands_on old noted new came line scenario before few stands judges is =
     on.enters.keeps.notes) in
     subst (λ (judge : Judge). StandsFor judge scenario lines) (sym is) (record {
       countable = omega (arith, few, length-append before (line ∷ []));
-      times = KeepsTimes-push old.times scenario before line stands.times;
+      times = KeepsTimes-push old.times scenario before line stands.times judges.stamp_small;
       joiner = subst (JoinerStandsFor noted.joiner) (sym (heard-push scenario before line)) on.joiner;
       book = subst (BookStandsFor noted.book (numbers_of scenario)) (sym (sent-push scenario before line)) on.enters.keeps.book;
       few = held;
@@ -193,24 +203,26 @@ long_has_no_stamp line long = sym (ap (λ (content : LineContent). content.stamp
 -- The judge does not look at it.
 pub judges_long : (old : Judge) (line : List ℕ) → 1024 < length line → Judges old (record old { told = None }) (judged.Without outcome.Long) line
 judges_long old line long = record {
-  time = unwrap_or (nearest_of (stamp_of line) old.times.nearest) old.times.window.start;
+  time = unwrap_or (nearest_of (stamp_of line) old.times.nearest) old.times.start;
   body = Err line_cause.Long;
   timed = refl;
   said = sym (ap (λ (content : LineContent). content.body) (long_is_dropped line long));
+  in_time = tt;
+  stamp_small = subst (λ (stamp : Option ℕ). IfSome stamp (λ seconds. seconds < 2 ^ 64)) (long_has_no_stamp line long) tt;
   kept = refl;
   on = λ numbers ranked taken messages joiner keeps. GoesOn-unheard numbers ranked (record old { told = None }) outcome.Long taken messages refl joiner keeps;
 }
 
 -- ---- a line that makes more vessels held
 
-pub crowded_by : (old : Judge) (line : List ℕ) (scenario : Scenario) (before : List (List ℕ)) (time : ℕ) (body : Result SentenceFields LineCause) → StandsFor old scenario before
-    → time ≡ unwrap_or (nearest_of (stamp_of line) old.times.nearest) old.times.window.start → body ≡ (reading_of line).body
+pub crowded_by : (old : Judge) (line : List ℕ) (scenario : Scenario) (before : List (List ℕ)) (time : ℕ) (body : Result SentenceFields LineCause) → time < 2 ^ 64 → StandsFor old scenario before
+    → time ≡ unwrap_or (nearest_of (stamp_of line) old.times.nearest) old.times.start → body ≡ (reading_of line).body
     → ((numbers : JudgingNumbers) (taken : List Taken) (messages : List Sent) → JoinerStandsFor old.joiner taken → BookStandsFor old.book numbers messages
     → greatest_held < held_with numbers messages (sent_heard taken (heard_by old.times time body)))
     → greatest_held < held_behind scenario before line
 unfolding sent_of
-crowded_by old line scenario before time body stands timed said more =
-    let here = heard_is old.times scenario before line time body stands.times timed said in
+crowded_by old line scenario before time body small stands timed said more =
+    let here = heard_is old.times scenario before line time body (in_time time body small) stands.times timed said in
     subst (λ n. greatest_held < n) (held_same scenario before line)
     (subst (λ (h : Result Taken LineOutcome). greatest_held < held_with (numbers_of scenario) (sent scenario before) (sent_heard (heard scenario before) h)) here
     (more (numbers_of scenario) (heard scenario before) (sent scenario before) stands.joiner stands.book))

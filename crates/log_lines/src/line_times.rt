@@ -1,9 +1,9 @@
 //! The times of a log's lines.
 ghost use Rattle.std.specs.Prelude.{◌≡◌, unwrap_or};
-ghost use Rattle.log_lines.specs.LineTimes.{is_late, lies_in, reach_behind};
+ghost use Rattle.log_lines.specs.LineTimes.{is_late, reach_behind};
 
 use crate::outcome::LineOutcome;
-use scenario::{LogNumbers, Scenario, Window};
+use scenario::{Scenario, Window};
 
 /// How far the window of lines reaches behind the last tick, in seconds: a gap, and not at all where own ship is planned for.
 fn reach_behind(scenario: &Scenario) -> u32
@@ -15,14 +15,38 @@ fn reach_behind(scenario: &Scenario) -> u32
     }
 }
 
-/// Whether a time lies in the window of lines, which reaches so many seconds before the first tick and behind the last.
-fn lies_in(window: &Window, before: u32, behind: u32, time: u64) -> bool
-    ensures { result ≡ lies_in window.now before behind time }
-{
-    let length = u64::from(window.ticks) * u64::from(window.tick);
-    let end = window.start.saturating_add(length);
-    let last = end.saturating_add(u64::from(behind));
-    window.start <= time.saturating_add(u64::from(before)) && time <= last
+/// The first and the last time of the window of lines.
+#[derive(Clone, Copy, Debug, PartialEq, Eq)]
+struct LineWindow {
+    first: u64,
+    last: u64,
+}
+
+impl LineWindow {
+    ghost use Rattle.std.specs.Prelude.{ℕ, ◌<◌, ◌^◌};
+    ghost use Rattle.log_lines.specs.LineTimes.{is_in_window};
+    ghost use Rattle.log_lines.specs.Inner.Times.{is_between};
+
+    /// The window of lines begins a gap before the first tick, and ends as far behind the last as `reach_behind` says.
+    fn of(scenario: &Scenario) -> LineWindow
+        ensures { (time : ℕ) → time < 2 ^ 64 → is_between result time ≡ is_in_window scenario.now time }
+    {
+        let Window { start, tick, ticks } = scenario.window;
+        let length = u64::from(ticks) * u64::from(tick);
+        let end = start.saturating_add(length);
+        LineWindow {
+            first: start.saturating_sub(u64::from(scenario.log.gap)),
+            last: end.saturating_add(u64::from(reach_behind(scenario))),
+        }
+    }
+
+    /// Whether a time lies in the window of lines.
+    #[inline(always)]
+    fn contains(&self, time: u64) -> bool
+        ensures { result ≡ is_between self.now time }
+    {
+        self.first <= time && time <= self.last
+    }
 }
 
 /// Whether the clock is past a time by more than the slack.
@@ -38,10 +62,11 @@ fn is_late(slack: u32, clock: Option<u64>, time: u64) -> bool
 /// The nearest stamp and the clock, behind the lines so far.
 #[derive(Clone, Copy, Debug, PartialEq, Eq)]
 pub(crate) struct LineTimes {
-    window: Window,
-    log: LogNumbers,
-    /// How far the window of lines reaches behind the last tick.
-    behind: u32,
+    window: LineWindow,
+    /// The window's start: the time of a line before any stamp.
+    start: u64,
+    /// By how much the clock may be past a time that is heard.
+    slack: u32,
     /// The stamp of the last line that has one.
     nearest: Option<u64>,
     /// The greatest stamp that lies in the window of lines.
@@ -50,16 +75,16 @@ pub(crate) struct LineTimes {
 
 impl LineTimes {
     ghost use Rattle.std.specs.Prelude.{[]};
-    ghost use Rattle.log_lines.specs.Inner.Times.{KeepsTimes, clock_behind, nearest_of, times_behind, untimely_by};
+    ghost use Rattle.log_lines.specs.Inner.Times.{KeepsTimes, clock_behind, is_between, nearest_of, times_behind, untimely_by};
 
     /// No line came yet.
     pub(crate) fn new(scenario: &Scenario) -> LineTimes
         ensures { KeepsTimes result scenario.now [] }
     {
         LineTimes {
-            window: scenario.window,
-            log: scenario.log,
-            behind: reach_behind(scenario),
+            window: LineWindow::of(scenario),
+            start: scenario.window.start,
+            slack: scenario.log.slack,
             nearest: None,
             clock: None,
         }
@@ -67,12 +92,12 @@ impl LineTimes {
 
     /// The time of the next line, in seconds: its stamp, else the nearest stamp, else the window's start.
     pub(crate) fn time(&self, stamp: Option<u64>) -> u64
-        ensures { result ≡ unwrap_or (nearest_of stamp self.now.nearest) self.now.window.start }
+        ensures { result ≡ unwrap_or (nearest_of stamp self.now.nearest) self.now.start }
     {
         match (stamp, self.nearest) {
             (Some(stamp), _) => stamp,
             (None, Some(nearest)) => nearest,
-            (None, None) => self.window.start,
+            (None, None) => self.start,
         }
     }
 
@@ -80,10 +105,10 @@ impl LineTimes {
     pub(crate) fn untimely(&self, time: u64) -> Option<LineOutcome>
         ensures { result ≡ untimely_by self.now time }
     {
-        if !lies_in(&self.window, self.log.gap, self.behind, time) {
+        if !self.window.contains(time) {
             return Some(LineOutcome::Outside);
         }
-        if is_late(self.log.slack, self.clock, time) {
+        if is_late(self.slack, self.clock, time) {
             return Some(LineOutcome::Late);
         }
         None
@@ -98,9 +123,9 @@ impl LineTimes {
 
     /// The clock behind a stamp.
     fn clock_behind(&self, stamp: u64) -> Option<u64>
-        ensures { result ≡ clock_behind self.now.window self.now.log.gap self.now.behind self.now.clock stamp }
+        ensures { result ≡ clock_behind (is_between self.now.window stamp) self.now.clock stamp }
     {
-        if !lies_in(&self.window, self.log.gap, self.behind, stamp) {
+        if !self.window.contains(stamp) {
             return self.clock;
         }
         match self.clock {

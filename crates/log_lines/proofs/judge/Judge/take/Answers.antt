@@ -1,7 +1,7 @@
-use Rattle.std.proofs.Common.{ap, sym, ◌≡◌, Err}
+use Rattle.std.proofs.Common.{ap, sym, subst, ◌≡◌, ◌<◌, ◌^◌, ℕ, Option, IfSome, Err, rules}
 use Rattle.aivdm.specs.Sentences.{LineContent, body_seen}
 use Rattle.log_lines.specs.LineTimes.{stamp_of}
-use Rattle.log_lines.proofs.GoingOn.{Judges, crowded_by, judged_is, new_is, stands_on}
+use Rattle.log_lines.proofs.GoingOn.{Judges, crowded_by, in_time, judged_is, new_is, stands_on}
 use Rattle.log_lines.proofs.judge.Judge.take.Goals as goal
 
 judges : (c : goal.After-count) → Judges c.args.self.now c.judge_body.new.self c.in_ok-judged.judged c.args.line.now
@@ -12,6 +12,8 @@ judges c =
       body = body_seen c.read_line-reading.result.body;
       timed = rw (← stamp) c.time-time.ensures;
       said = ap (λ (content : LineContent). content.body) c.read_line-reading.ensures.same;
+      in_time = in_time c.time-time.result (body_seen c.read_line-reading.result.body) c.time-time.type_inv;
+      stamp_small = subst (λ (stamp : Option ℕ). IfSome stamp (λ seconds. seconds < 2 ^ 64)) stamp (search rules);
       kept = c.in_ok-judged.ensures.keeping;
       on = c.in_ok-judged.ensures.judged;
     }
@@ -31,6 +33,6 @@ pub returns-in_err-judged-clause-crowded : goal.returns-in_err-judged-clause-cro
 returns-in_err-judged-clause-crowded c = λ told scenario before stands.
     let said = rw told at c.from_residual.ensures in
     let stamp : c.read_line-reading.result.stamp ≡ stamp_of c.args.line.now = ap (λ (content : LineContent). content.stamp) c.read_line-reading.ensures.same in
-    crowded_by c.args.self.now c.args.line.now scenario before c.time-time.result (body_seen c.read_line-reading.result.body) stands
+    crowded_by c.args.self.now c.args.line.now scenario before c.time-time.result (body_seen c.read_line-reading.result.body) c.time-time.type_inv stands
     (rw (← stamp) c.time-time.ensures) (ap (λ (content : LineContent). content.body) c.read_line-reading.ensures.same)
     (c.in_err-judged.ensures.crowded (ap Err (sym said.1)))

@@ -3,4 +3,4 @@ use Rattle.log_lines.proofs.Timing.{KeepsTimes-none}
 use Rattle.log_lines.proofs.line_times.LineTimes.new.Goals as goal
 
 pub returns : goal.returns
-returns c = KeepsTimes-none _ _ refl refl c.reach_behind.ensures refl refl
+returns c = KeepsTimes-none _ _ c.of.ensures refl refl refl refl
