@@ -38,10 +38,12 @@ pub fn step_between(
     ensures value { result ≡ step_between (option_copied a0.entry) (option_copied b0.entry) (option_copied a1.entry) (option_copied b1.entry) }
     ensures directions { IfSome (option_copied a0.entry) HasDirection → IfSome (option_copied b0.entry) HasDirection → IfSome result HaveDirections }
 {
-    let (a0, b0, a1, b1) = (a0?, b0?, a1?, b1?);
-    Some(PairStep {
-        step: Step::of(a0.point, b0.point, a1.point, b1.point),
-        a: *a0,
-        b: *b0,
-    })
+    match (a0, b0, a1, b1) {
+        (Some(a0), Some(b0), Some(a1), Some(b1)) => Some(PairStep {
+            step: Step::of(a0.point, b0.point, a1.point, b1.point),
+            a: *a0,
+            b: *b0,
+        }),
+        _ => None,
+    }
 }
