@@ -20,7 +20,7 @@ use Rattle.tracks.specs.AcceptedReports.{JudgingNumbers}
 use Rattle.tracks.specs.SeenVessels.{seen_of, seen_vessel}
 use Rattle.ranks.specs.VesselRanks.{report_at}
 use Rattle.tracks.specs.Standing.{Remembers, kept_points}
-use Rattle.tracks.specs.VesselsHeld.{Sent, held_of, legs_of}
+use Rattle.tracks.specs.VesselsHeld.{Sent, accepted_of, held_of, legs_of}
 use Rattle.tracks.specs.declared.accepted.Accepted.{Accepted}
 use Rattle.tracks.specs.declared.keeping.Keeping.{Keeping}
 use Rattle.tracks.proofs.ForCallers.{remembered_report, seen_has_reported}
@@ -60,10 +60,10 @@ each_has_reported judge vessels time k vessel seen within =
     }
 
 -- Where a time is remembered, the reports that are kept tell which was the last by then.
-pub kept_report : (keeping : Keeping) (kept reports : List Accepted) (time : ℕ) → Remembers keeping time → kept ≡ kept_points keeping reports
-    → report_at kept time ≡ report_at reports time
-kept_report keeping kept reports time remembers is =
-    ap (λ (points : List Accepted). report_at points time) is ∙ remembered_report keeping reports time remembers
+pub kept_report : (keeping : Keeping) (numbers : JudgingNumbers) (messages : List Sent) (mmsi : ℕ) (kept : List Accepted) (time : ℕ) → Remembers keeping time
+    → kept ≡ kept_points keeping (accepted_of numbers messages mmsi) → report_at kept time ≡ report_at (accepted_of numbers messages mmsi) time
+kept_report keeping numbers messages mmsi kept time remembers is =
+    ap (λ (points : List Accepted). report_at points time) is ∙ remembered_report keeping numbers messages mmsi time remembers
 
 -- ---- what is seen at a tick
 

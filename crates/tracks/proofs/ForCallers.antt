@@ -3,7 +3,8 @@
 pub use Rattle.tracks.proofs.Counting.{few_legs, few_reports, filter_map_fewer}
 pub use Rattle.tracks.proofs.KeptReports.{remembers_forgetting, remembers_later}
 pub use Rattle.tracks.proofs.Seen.{seen_in-is}
-pub use Rattle.tracks.proofs.ReportsInOrder.{accepted_in_order, past_reports_stay, remembered_in_order, remembered_report, seen_has_reported}
+pub use Rattle.tracks.proofs.Rising.{accepted_in_order}
+pub use Rattle.tracks.proofs.ReportsInOrder.{past_reports_stay, remembered_in_order, remembered_report, seen_has_reported}
 use Rattle.std.proofs.Common.{◌≡◌, ℕ, ◌+◌, ◌<◌, List, get_or, Some, true, arith}
 use Rattle.std.specs.Prelude.{slice_get}
 use Rattle.std.specs.List.{All, AllPairs}

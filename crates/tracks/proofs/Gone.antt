@@ -17,7 +17,8 @@ use Rattle.tracks.specs.Inner.Keeping.{EndsAt, IsBook, IsKept, vessel_since}
 use Rattle.tracks.specs.declared.accepted.Accepted.{Accepted}
 use Rattle.tracks.specs.declared.keeping.Keeping.{Keeping}
 use Rattle.tracks.specs.declared.keeping.Keeping.TheVariants.{Latest, Since, Tracks}
-use Rattle.tracks.proofs.Forgetting.{since-later}
+use Rattle.tracks.proofs.Forgetting.{dropped_to, order_since, since-later, since-same, since_is}
+use Rattle.tracks.proofs.Rising.{accepted_in_order}
 
 one_more : (n : ℕ) → suc n ≡ n + 1
 one_more n = simp unary_clauses refl
@@ -42,28 +43,28 @@ lt_is h = grind (arith, nat_tests)
 not_lt_is : {a b : ℕ} → b ≤ a → nat_lt a b ≡ false
 not_lt_is h = grind (arith, nat_tests)
 
-skipped_by : (t : ℕ) (x y : Accepted) (ys : List Accepted) → nat_lt y.time t ≡ true → points_since t (x ∷ y ∷ ys) ≡ points_since t (y ∷ ys)
+skipped_by : (t : ℕ) (x y : Accepted) (ys : List Accepted) → nat_lt y.time t ≡ true → dropped_to t (x ∷ y ∷ ys) ≡ dropped_to t (y ∷ ys)
 skipped_by t x y ys before = rw before refl
 
-stopped : (t : ℕ) (x y : Accepted) (ys : List Accepted) → nat_lt y.time t ≡ false → points_since t (x ∷ y ∷ ys) ≡ x ∷ y ∷ ys
+stopped : (t : ℕ) (x y : Accepted) (ys : List Accepted) → nat_lt y.time t ≡ false → dropped_to t (x ∷ y ∷ ys) ≡ x ∷ y ∷ ys
 stopped t x y ys not = rw not refl
 
 -- One more is gone, where the next one is earlier than the time.
 pub since_step : (t r : ℕ) (xs : List Accepted) (d : Accepted) → r + 1 < length xs → (get_or xs (r + 1) d).time < t
-    → points_since t (drop r xs) ≡ points_since t (drop (r + 1) xs)
+    → dropped_to t (drop r xs) ≡ dropped_to t (drop (r + 1) xs)
 since_step t r xs d lt before =
-    ap (points_since t) (two_from xs r d d lt) ∙ skipped_by t (get_or xs r d) (get_or xs (r + 1) d) (drop (r + 1 + 1) xs) (lt_is before)
-    ∙ ap (points_since t) (sym (from_index xs (r + 1) d lt))
+    ap (dropped_to t) (two_from xs r d d lt) ∙ skipped_by t (get_or xs r d) (get_or xs (r + 1) d) (drop (r + 1 + 1) xs) (lt_is before)
+    ∙ ap (dropped_to t) (sym (from_index xs (r + 1) d lt))
 
 -- No more is, where it is not.
 pub since_stop : (t r : ℕ) (xs : List Accepted) (d : Accepted) → r + 1 < length xs → t ≤ (get_or xs (r + 1) d).time
-    → points_since t (drop r xs) ≡ drop r xs
+    → dropped_to t (drop r xs) ≡ drop r xs
 since_stop t r xs d lt not =
     let two = two_from xs r d d lt in
-    ap (points_since t) two ∙ stopped t (get_or xs r d) (get_or xs (r + 1) d) (drop (r + 1 + 1) xs) (not_lt_is not) ∙ sym two
+    ap (dropped_to t) two ∙ stopped t (get_or xs r d) (get_or xs (r + 1) d) (drop (r + 1 + 1) xs) (not_lt_is not) ∙ sym two
 
 -- No more is, where there is no next one.
-pub since_end : (t r : ℕ) (xs : List Accepted) → length xs ≤ r + 1 → points_since t (drop r xs) ≡ drop r xs
+pub since_end : (t r : ℕ) (xs : List Accepted) → length xs ≤ r + 1 → dropped_to t (drop r xs) ≡ drop r xs
 since_end t zero [] le = refl
 since_end t (suc r) [] le = refl
 since_end t zero (x ∷ []) le = refl
@@ -138,12 +139,12 @@ kept_less gap x y ys h = record {
   are_joined = joined_less gap (joined gap x y) (legs_from gap y ys) h.are_joined;
 }
 
-are_kept_since : (gap t : ℕ) (xs : List Accepted) → AreKept gap xs → AreKept gap (points_since t xs)
-are_kept_since gap t [] h = h
-are_kept_since gap t (x ∷ []) h = h
-are_kept_since gap t (x ∷ y ∷ ys) h =
+are_kept : (gap t : ℕ) (xs : List Accepted) → AreKept gap xs → AreKept gap (dropped_to t xs)
+are_kept gap t [] h = h
+are_kept gap t (x ∷ []) h = h
+are_kept gap t (x ∷ y ∷ ys) h =
     elim (cases_Bool (nat_lt y.time t)) [
-      | inl before ↦ subst (AreKept gap) (sym (skipped_by t x y ys before)) (are_kept_since gap t (y ∷ ys) (kept_less gap x y ys h))
+      | inl before ↦ subst (AreKept gap) (sym (skipped_by t x y ys before)) (are_kept gap t (y ∷ ys) (kept_less gap x y ys h))
       | inr not ↦ subst (AreKept gap) (sym (stopped t x y ys not)) h
     ]
 
@@ -151,12 +152,20 @@ are_kept_since gap t (x ∷ y ∷ ys) h =
 pub vessel_since_kept : (keeping : Keeping) (gap t : ℕ) (vessel : VesselValue) → IsKept keeping gap vessel → IsKept (Since t) gap (vessel_since gap t vessel)
 vessel_since_kept keeping gap t vessel h =
     let legs : vessel.legs ≡ legs_between gap vessel.points = h.legs in
-    let now : AreKept gap (points_since t vessel.points) = are_kept_since gap t vessel.points (record {
+    let now : AreKept gap (points_since t vessel.points) = subst (AreKept gap) (sym (since_is t vessel.points h.in_order)) (are_kept gap t vessel.points (record {
       points = h.points;
       ends = subst (λ (ls : List Leg). IfSome (last_or None vessel.points) (λ latest. IfSome (last_or None ls) (EndsAt gap latest))) legs h.ends;
       are_joined = subst (AreJoined gap) legs h.are_joined;
-    }) in
-    record { points = now.points; no_others = sym (since-later t t vessel.points (omega arith)); legs = refl; ends = now.ends; are_joined = now.are_joined; ship = h.ship }
+    })) in
+    record {
+      points = now.points;
+      in_order = order_since t vessel.points h.in_order;
+      no_others = sym (since-same t vessel.points);
+      legs = refl;
+      ends = now.ends;
+      are_joined = now.are_joined;
+      ship = h.ship;
+    }
 
 -- ---- each vessel
 
@@ -180,7 +189,7 @@ vessel_forgets Latest numbers sent time earliest mmsi e = absurd (cc)
 vessel_forgets Tracks numbers sent time earliest mmsi e = refl
 vessel_forgets (Since before) numbers sent time earliest mmsi e =
     let greater : max before time ≡ earliest = cc in
-    let points = since-later before earliest (accepted_of numbers sent mmsi) (omega arith) in
+    let points = since-later before earliest (accepted_of numbers sent mmsi) (accepted_in_order numbers sent mmsi) (omega arith) in
     λ i. record {
       points = points i;
       legs = legs_between numbers.gap (points i);
@@ -221,7 +230,3 @@ is_book_since old new earliest h keeping numbers held vessels = record {
   each = ap (length {A = VesselValue}) vessels ∙ length-map old.vessels (vessel_since old.numbers.gap earliest) ∙ h.each ∙ ap (length {A = ℕ}) (sym held);
   kept = rw (keeping, numbers, vessels) (all_since old.keeping old.numbers.gap earliest old.vessels h.kept);
 }
-
--- The legs of each are those between her reports.
-pub legs_of_each : (book : BookValue) → IsBook book → All (λ (vessel : VesselValue). vessel.legs ≡ legs_between book.numbers.gap vessel.points) book.vessels
-legs_of_each book h k d lt = let kept = h.kept k d lt in kept.legs

@@ -6,13 +6,14 @@ use Rattle.std.specs.List.{All, AllAdjacentBelow, last_or}
 use Rattle.std.proofs.lemmas.Bool.Decides.{nat_tests}
 use Rattle.std.proofs.lemmas.List.{append-nil, get_or_append_left}
 use Rattle.std.proofs.lemmas.List.Elements.{All-nil, All-push}
+use Rattle.std.proofs.lemmas.List.Sorted.{IsNonDecreasingBy-short}
 use Rattle.std.proofs.Math.Seq.{get_or-append_seam}
 use Rattle.ais_messages.specs.MessageFields.{IsShipData}
 use Rattle.motion.specs.TickStates.{AreJoined, Meets}
 use Rattle.motion.specs.declared.leg.Leg.{Leg}
 use Rattle.motion.proofs.LastPassing.{last_or-at}
 use Rattle.tracks.specs.JoinedReports.{joined, leg_between, legs_between}
-use Rattle.tracks.specs.Inner.Keeping.{EndsAt, IsKept, counts_more, counts_with, joined_after, vessel_with}
+use Rattle.tracks.specs.Inner.Keeping.{AreInOrder, EndsAt, Follows, IsKept, counts_more, counts_with, joined_after, vessel_with}
 use Rattle.tracks.specs.Standing.{IsAccepted, VesselValue, kept_points, points_since}
 use Rattle.tracks.specs.declared.accepted.Accepted.{Accepted}
 use Rattle.tracks.specs.declared.statics.Statics.{Statics}
@@ -22,6 +23,7 @@ use Rattle.tracks.proofs.Forgetting.{since-push}
 use Rattle.tracks.proofs.KeptReports.{kept_points-push, latest_alone}
 use Rattle.tracks.proofs.Lasts.{last_or-push}
 use Rattle.tracks.proofs.Legs.{legs_between-push}
+use Rattle.tracks.proofs.Rising.{order_push}
 
 -- ---- what holds of them
 
@@ -87,13 +89,22 @@ some_leg (Some latest) gap now leg e =
 same_ship : (vessel new : VesselValue) → new.statics ≡ vessel.statics → IfSome vessel.statics.ship IsShipData → IfSome new.statics.ship IsShipData
 same_ship vessel new statics h = subst (λ (s : Statics). IfSome s.ship IsShipData) (sym statics) h
 
+order_with : (gap : ℕ) (xs : List Accepted) (now : Accepted) → AreInOrder xs → IfSome (last_or None xs) (λ latest. Follows gap latest now) → AreInOrder (xs ++ now ∷ [])
+order_with gap xs now h follows = order_push xs now h (after (last_or None xs) follows)
+  where
+    after : (o : Option Accepted) → IfSome o (λ latest. Follows gap latest now) → IfSome o (λ latest. latest.time < now.time)
+    after None f = tt
+    after (Some latest) f = f.after
+
 pub kept_joined : (gap : ℕ) (vessel new : VesselValue) (now : Accepted) (leg : Leg) → IsKept Tracks gap vessel → IsAccepted now
+    → IfSome (last_or None vessel.points) (λ latest. Follows gap latest now)
     → joined_after gap (last_or None vessel.points) now ≡ Some leg → new.points ≡ vessel.points ++ now ∷ [] → new.legs ≡ vessel.legs ++ leg ∷ []
     → new.statics ≡ vessel.statics → IsKept Tracks gap new
-kept_joined gap vessel new now leg h is e points legs statics =
+kept_joined gap vessel new now leg h is follows e points legs statics =
     let ends : IfSome (Some now) (λ latest. IfSome (Some leg) (EndsAt gap latest)) = inl (some_leg (last_or None vessel.points) gap now leg e) in
     record {
       points = subst (λ (xs : List Accepted). All IsAccepted xs) (sym points) (All-push IsAccepted vessel.points now h.points is);
+      in_order = subst AreInOrder (sym points) (order_with gap vessel.points now h.in_order follows);
       no_others = refl;
       legs = legs ∙ ap (λ (xs : List Leg). xs ++ leg ∷ []) h.legs ∙ ap (λ (o : Option Leg). legs_between gap vessel.points ++ option_to_list o) (sym e)
           ∙ sym (legs_between-push gap vessel.points now) ∙ ap (legs_between gap) (sym points);
@@ -122,12 +133,14 @@ no_leg gap (x ∷ xs) legs now same ends e = past (last_or (Some x) xs) (last_or
     past (Some latest) some ends e = later gap latest now (last_or None legs) (joined-none gap latest now e) ends
 
 pub kept_apart : (gap : ℕ) (vessel new : VesselValue) (now : Accepted) → IsKept Tracks gap vessel → IsAccepted now
+    → IfSome (last_or None vessel.points) (λ latest. Follows gap latest now)
     → joined_after gap (last_or None vessel.points) now ≡ None → new.points ≡ vessel.points ++ now ∷ [] → new.legs ≡ vessel.legs
     → new.statics ≡ vessel.statics → IsKept Tracks gap new
-kept_apart gap vessel new now h is e points legs statics =
+kept_apart gap vessel new now h is follows e points legs statics =
     let ends : IfSome (Some now) (λ latest. IfSome (last_or None vessel.legs) (EndsAt gap latest)) = no_leg gap vessel.points vessel.legs now h.legs h.ends e in
     record {
       points = subst (λ (xs : List Accepted). All IsAccepted xs) (sym points) (All-push IsAccepted vessel.points now h.points is);
+      in_order = subst AreInOrder (sym points) (order_with gap vessel.points now h.in_order follows);
       no_others = refl;
       legs = legs ∙ h.legs ∙ sym (append-nil (legs_between gap vessel.points)) ∙ ap (λ (o : Option Leg). legs_between gap vessel.points ++ option_to_list o) (sym e)
           ∙ sym (legs_between-push gap vessel.points now) ∙ ap (legs_between gap) (sym points);
@@ -149,20 +162,24 @@ has_taken keeping gap old new now kept points counts statics =
     record { kept = kept; is = λ i. record { points = points i; legs = legs i; counts = counts i; statics = statics i } }
 
 pub takes_joined : (gap : ℕ) (old inside new : VesselValue) (now : Accepted) (leg : Leg) → inside ≡ old → IsKept Tracks gap old → IsAccepted now
+    → IfSome (last_or None old.points) (λ latest. Follows gap latest now)
     → joined_after gap (last_or None inside.points) now ≡ Some leg → new.points ≡ inside.points ++ now ∷ [] → new.legs ≡ inside.legs ++ leg ∷ []
     → new.counts ≡ counts_more inside.counts true → new.statics ≡ inside.statics → HasTaken Tracks gap old new now
-takes_joined gap old inside new now leg same h is e points legs counts statics =
+takes_joined gap old inside new now leg same h is follows e points legs counts statics =
     let kept : IsKept Tracks gap inside = subst (IsKept Tracks gap) (sym same) h in
-    let new-kept = kept_joined gap inside new now leg kept is e points legs statics in
+    let after = subst (λ (v : VesselValue). IfSome (last_or None v.points) (λ latest. Follows gap latest now)) (sym same) follows in
+    let new-kept = kept_joined gap inside new now leg kept is after e points legs statics in
     let all-counts = counts ∙ ap (λ (o : Option Leg). counts_more inside.counts (is_some o)) (sym e) in
     subst (λ (v : VesselValue). HasTaken Tracks gap v new now) same (has_taken Tracks gap inside new now new-kept points all-counts statics)
 
 pub takes_apart : (gap : ℕ) (old inside new : VesselValue) (now : Accepted) → inside ≡ old → IsKept Tracks gap old → IsAccepted now
+    → IfSome (last_or None old.points) (λ latest. Follows gap latest now)
     → joined_after gap (last_or None inside.points) now ≡ None → new.points ≡ inside.points ++ now ∷ [] → new.legs ≡ inside.legs
     → new.counts ≡ counts_more inside.counts false → new.statics ≡ inside.statics → HasTaken Tracks gap old new now
-takes_apart gap old inside new now same h is e points legs counts statics =
+takes_apart gap old inside new now same h is follows e points legs counts statics =
     let kept : IsKept Tracks gap inside = subst (IsKept Tracks gap) (sym same) h in
-    let new-kept = kept_apart gap inside new now kept is e points legs statics in
+    let after = subst (λ (v : VesselValue). IfSome (last_or None v.points) (λ latest. Follows gap latest now)) (sym same) follows in
+    let new-kept = kept_apart gap inside new now kept is after e points legs statics in
     let all-counts = counts ∙ ap (λ (o : Option Leg). counts_more inside.counts (is_some o)) (sym e) in
     subst (λ (v : VesselValue). HasTaken Tracks gap v new now) same (has_taken Tracks gap inside new now new-kept points all-counts statics)
 
@@ -176,6 +193,7 @@ kept_latest gap old new now h is points legs statics =
     let ends : IfSome (Some now) (λ latest. IfSome (last_or None []) (EndsAt gap latest)) = tt in
     record {
       points = rw points (All-push IsAccepted [] now (All-nil IsAccepted) is);
+      in_order = subst AreInOrder (sym points) (IsNonDecreasingBy-short (λ (report : Accepted). report.time) (now ∷ []) (omega arith));
       no_others = alone;
       legs = none ∙ sym (latest_alone gap new.points alone);
       ends = rw (points, none) ends;
@@ -207,6 +225,7 @@ takes_since gap time old new now h kept e late =
     let are : new.points ≡ old.points ++ now ∷ [] = ap (λ (v : VesselValue). v.points) e in
     let new-kept : IsKept (Since time) gap new = record {
       points = kept.points;
+      in_order = kept.in_order;
       no_others = are ∙ sym points ∙ ap (points_since time) (sym are);
       legs = kept.legs;
       ends = kept.ends;

@@ -7,7 +7,7 @@ use Rattle.motion.specs.TickStates.{state_at}
 use Rattle.motion.specs.declared.leg.Leg.{Leg}
 use Rattle.tracks.specs.JoinedReports.{legs_between, legs_from}
 use Rattle.tracks.specs.Standing.{Remembers, VesselValue, counted, forgetting, kept_counts, kept_legs, kept_points}
-use Rattle.tracks.specs.Inner.Keeping.{counts_more, counts_with, joined_after, kept_with, points_with}
+use Rattle.tracks.specs.Inner.Keeping.{AreInOrder, counts_more, counts_with, joined_after, kept_with, points_with}
 use Rattle.tracks.specs.declared.accepted.Accepted.{Accepted}
 use Rattle.tracks.specs.declared.counts.Counts.{Counts}
 use Rattle.tracks.specs.declared.keeping.Keeping.{Keeping}
@@ -21,10 +21,10 @@ last_alone None = refl
 last_alone (Some x) = refl
 
 -- The latest report is kept.
-pub kept_points-last : (keeping : Keeping) (xs : List Accepted) → last_or None (kept_points keeping xs) ≡ last_or None xs
-kept_points-last Latest xs = last_alone (last_or None xs)
-kept_points-last Tracks xs = refl
-kept_points-last (Since time) xs = since-last time xs
+pub kept_points-last : (keeping : Keeping) (xs : List Accepted) → AreInOrder xs → last_or None (kept_points keeping xs) ≡ last_or None xs
+kept_points-last Latest xs h = last_alone (last_or None xs)
+kept_points-last Tracks xs h = refl
+kept_points-last (Since time) xs h = since-last time xs h
 
 pub kept_points-push : (xs : List Accepted) (now : Accepted) → kept_points Latest (xs ++ now ∷ []) ≡ now ∷ []
 kept_points-push xs now = ap (option_to_list {X = Accepted}) (last_or-push None xs now)
@@ -51,10 +51,10 @@ pub kept_legs-latest : (gap : ℕ) (xs : List Accepted) → kept_legs Latest gap
 kept_legs-latest gap xs = no_legs gap (last_or None xs)
 
 -- Where a vessel is seen at a time that is remembered is what the legs that are kept tell.
-pub kept_legs-state : (keeping : Keeping) (gap t : ℕ) (xs : List Accepted) → Remembers keeping t → state_at t (kept_legs keeping gap xs) ≡ state_at t (legs_between gap xs)
-kept_legs-state Latest gap t xs remembers = absurd remembers
-kept_legs-state Tracks gap t xs remembers = refl
-kept_legs-state (Since time) gap t xs remembers = seen_since gap time t xs remembers
+pub kept_legs-state : (keeping : Keeping) (gap t : ℕ) (xs : List Accepted) → AreInOrder xs → Remembers keeping t → state_at t (kept_legs keeping gap xs) ≡ state_at t (legs_between gap xs)
+kept_legs-state Latest gap t xs h remembers = absurd remembers
+kept_legs-state Tracks gap t xs h remembers = refl
+kept_legs-state (Since time) gap t xs h remembers = seen_since gap time t xs h remembers
 
 pub kept_points-none : (keeping : Keeping) → kept_points keeping [] ≡ []
 kept_points-none Latest = refl

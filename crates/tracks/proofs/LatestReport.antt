@@ -1,7 +1,7 @@
 -- How a vessel comes to her latest accepted report.
-use Rattle.std.proofs.Common.{◌≡◌, ◌∙◌, ℕ, ◌+◌, ◌-◌, ◌*◌, ◌<◌, ◌≤◌, Bool, true, false, cond, nat_le, List, [], ◌∷◌, ◌++◌, get_or, Some, None, Ok, Err, refl, ap, sym, subst, arith}
+use Rattle.std.proofs.Common.{◌≡◌, ◌∙◌, ℕ, ◌+◌, ◌-◌, ◌*◌, ◌<◌, ◌≤◌, Bool, true, false, cond, nat_le, List, [], ◌∷◌, ◌++◌, get_or, Some, None, refl, ap, sym, subst, arith}
 use Rattle.std.specs.Prelude.{Option, IfSome, if◌then◌else◌}
-use Rattle.std.specs.List.{All, cons_option, filter, find, last_or}
+use Rattle.std.specs.List.{All, cons_option, filter, last_or}
 use Rattle.std.specs.Option.{option_map, option_to_list}
 use Rattle.std.proofs.lemmas.Bool.Decides.{nat_tests}
 use Rattle.std.proofs.lemmas.List.{append-nil}
@@ -14,54 +14,18 @@ use Rattle.motion.specs.declared.leg.Leg.{Leg}
 use Rattle.motion.specs.declared.leg.TickState.{TickState}
 use Rattle.motion.proofs.LastPassing.{filter_none, last_or-at}
 use Rattle.motion.proofs.Parts.{between_whole}
-use Rattle.tracks.specs.AcceptedReports.{JudgingNumbers, Reported, accepted_after, accepted_with, applies, judged, judged_after, judged_at, placed, unless}
+use Rattle.tracks.specs.AcceptedReports.{JudgingNumbers}
 use Rattle.tracks.specs.JoinedReports.{joined, leg_between, legs_between, legs_from}
 use Rattle.tracks.specs.Standing.{BookValue, StandsFor, kept_legs}
 use Rattle.tracks.specs.VesselsHeld.{Sent, accepted_of, is_held, legs_of}
 use Rattle.tracks.specs.Inner.Keeping.{joined_after}
 use Rattle.tracks.specs.declared.accepted.Accepted.{Accepted}
-use Rattle.tracks.specs.declared.entry.ReportCause.{ReportCause}
-use Rattle.tracks.specs.declared.entry.ReportCause.TheVariants.{Back, Repeat, Jump}
 use Rattle.tracks.specs.declared.keeping.Keeping.TheVariants.{Tracks}
 use Rattle.tracks.proofs.Holding.{no_points}
 use Rattle.tracks.proofs.Joining.{joined-none, joined-some}
 use Rattle.tracks.proofs.Lasts.{last_or-push}
 use Rattle.tracks.proofs.Legs.{legs_between-push}
-use Rattle.tracks.proofs.OneList.{judged_placed}
-
--- ---- accepted reports come later and later
-
--- each is later than the one before it
-abbrev pub Rises : Option Accepted → List Accepted → Type 0
-Rises o [] = Unit {0}
-Rises o (x ∷ xs) = IfSome o (λ a. a.time < x.time) × Rises (Some x) xs
-
--- A report is not back where it is accepted.
-not_back : (latest now accepted : Accepted) (b : Bool) (others : Option ReportCause) → nat_le now.time latest.time ≡ b
-    → unless now (cond b (Some Back) others) ≡ Ok accepted → latest.time < now.time
-not_back latest now accepted true others e ok = cc
-not_back latest now accepted false others e ok = grind (arith, nat_tests)
-
-after_later : (numbers : JudgingNumbers) (latest now accepted : Accepted) → judged_after numbers (Some latest) now ≡ Ok accepted → latest.time < now.time
-after_later numbers latest now accepted e =
-    not_back latest now accepted (nat_le now.time latest.time) (find (applies numbers latest now) (Repeat ∷ Jump ∷ [])) refl e
-
-judged_later : (numbers : JudgingNumbers) (latest : Option Accepted) (now : Reported) (accepted : Accepted) → judged numbers latest now ≡ Ok accepted
-    → IfSome latest (λ a. a.time < accepted.time)
-unfolding judged
-judged_later numbers None now accepted e = tt
-judged_later numbers (Some latest) now accepted e =
-    let at : placed numbers.reference now ≡ Ok accepted = judged_placed numbers (Some latest) now accepted e in
-    after_later numbers latest accepted accepted (ap (judged_at numbers (Some latest)) (sym at) ∙ e)
-
-pub accepted_rises : (numbers : JudgingNumbers) (reports : List Reported) (latest : Option Accepted) → Rises latest (accepted_after numbers reports latest)
-unfolding accepted_after
-accepted_rises numbers [] latest = tt
-accepted_rises numbers (now ∷ reports) latest =
-    elim (judged numbers latest now) as (λ r. judged numbers latest now ≡ r → Rises latest (accepted_with (accepted_after numbers reports) latest r)) [
-      | Ok accepted ↦ λ e. (judged_later numbers latest now accepted e, accepted_rises numbers reports (Some accepted))
-      | Err cause ↦ λ e. accepted_rises numbers reports latest
-    ] refl
+use Rattle.tracks.proofs.Rising.{Rises, accepted_rises}
 
 -- ---- before the latest report
 

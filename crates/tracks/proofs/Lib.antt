@@ -1,5 +1,7 @@
 pub mod Ascending
 pub mod Lasts
+pub mod OneList
+pub mod Rising
 pub mod Forgetting
 pub mod Gone
 pub mod Legs
@@ -10,7 +12,6 @@ pub mod Holding
 pub mod Counting
 pub mod Stands
 pub mod Books
-pub mod OneList
 pub mod Settled
 pub mod EqualReports
 pub mod Seen

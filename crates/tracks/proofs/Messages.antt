@@ -16,6 +16,7 @@ use Rattle.tracks.specs.declared.accepted.Accepted.{Accepted}
 use Rattle.tracks.specs.declared.entry.ReportCause.{ReportCause}
 use Rattle.tracks.specs.declared.keeping.Keeping.{Keeping}
 use Rattle.tracks.proofs.KeptReports.{kept_counts-more, kept_points-last, kept_points-more}
+use Rattle.tracks.proofs.Rising.{accepted_in_order}
 use Rattle.tracks.proofs.Lasts.{cons_option-nil, last_or-push}
 
 -- ---- one more report
@@ -143,9 +144,9 @@ vessel_of-own keeping numbers sent one mmsi e =
     let points : kept_points keeping (accepted_of numbers (sent ++ one ∷ []) mmsi)
     ≡ kept_with keeping (kept_points keeping before) (came (last_or None (kept_points keeping before))) =
     ap (kept_points keeping) (accepted_of-own numbers sent one mmsi e) ∙ kept_points-more keeping before (came (last_or None before))
-    ∙ ap (λ (latest : Option Accepted). kept_with keeping (kept_points keeping before) (came latest)) (sym (kept_points-last keeping before)) in
+    ∙ ap (λ (latest : Option Accepted). kept_with keeping (kept_points keeping before) (came latest)) (sym (kept_points-last keeping before (accepted_in_order numbers sent mmsi))) in
     let old = vessel_of keeping numbers sent mmsi in
-    let latest : last_or None old.points ≡ last_or None before = kept_points-last keeping before in
+    let latest : last_or None old.points ≡ last_or None before = kept_points-last keeping before (accepted_in_order numbers sent mmsi) in
     let counts : kept_counts keeping numbers.gap (accepted_of numbers (sent ++ one ∷ []) mmsi) ≡ counts_with keeping numbers.gap old (came (last_or None old.points)) =
     ap (kept_counts keeping numbers.gap) (accepted_of-own numbers sent one mmsi e)
     ∙ kept_counts-more keeping numbers.gap old before (came (last_or None before)) refl latest

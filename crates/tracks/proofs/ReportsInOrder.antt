@@ -1,9 +1,8 @@
 -- Accepted reports stand in the order of their times, and a vessel that is seen has reported by then.
-use Rattle.std.proofs.Common.{◌≡◌, ℕ, zero, suc, ◌+◌, ◌<◌, ◌⊎◌, inl, inr, Bool, true, false, cond, nat_le, nat_lt, List, [], ◌∷◌, ◌++◌, length, get_or, Some, None, refl, ap, sym, arith, ◌∙◌}
+use Rattle.std.proofs.Common.{◌≡◌, ℕ, ◌+◌, ◌<◌, ◌⊎◌, inl, inr, Bool, true, false, cond, nat_le, List, [], ◌∷◌, ◌++◌, get_or, Some, None, refl, ap, sym, arith, ◌∙◌}
 use Rattle.std.specs.Prelude.{IsSome, Option}
 use Rattle.std.specs.List.{All, cons_option, filter, last_or}
 use Rattle.std.specs.List.Sorted.{IsNonDecreasingBy}
-use Rattle.std.proofs.Math.Nat.{eq-or-lt_of_le}
 use Rattle.std.proofs.lemmas.Bool.{cases_Bool}
 use Rattle.std.proofs.lemmas.Bool.Decides.{nat_tests}
 use Rattle.std.proofs.lemmas.List.{append-nil}
@@ -13,10 +12,10 @@ use Rattle.motion.specs.declared.leg.Leg.{Leg}
 use Rattle.motion.specs.declared.leg.TickState.{TickState}
 use Rattle.motion.proofs.LastPassing.{filter_none}
 use Rattle.tracks.specs.AcceptedReports.{JudgingNumbers}
-use Rattle.tracks.specs.Standing.{Remembers, kept_points, points_since}
+use Rattle.tracks.specs.Standing.{Remembers, kept_points}
 use Rattle.tracks.specs.declared.keeping.Keeping.{Keeping}
 use Rattle.tracks.specs.declared.keeping.Keeping.TheVariants.{Latest, Since, Tracks}
-use Rattle.tracks.proofs.Forgetting.{reported_since}
+use Rattle.tracks.proofs.Forgetting.{order_since, reported_since}
 use Rattle.tracks.specs.JoinedReports.{joined, leg_between, legs_between, legs_from}
 use Rattle.tracks.specs.VesselsHeld.{Sent, accepted_of, legs_of, report_in, reported_in, sender_of}
 use Rattle.tracks.specs.declared.accepted.Accepted.{Accepted}
@@ -24,34 +23,7 @@ use Rattle.tracks.specs.Inner.Keeping.{accepted_in, points_with}
 use Rattle.tracks.proofs.Holding.{same_or_other}
 use Rattle.tracks.proofs.Messages.{accepted_of-other, accepted_of-own}
 use Rattle.tracks.proofs.Settled.{reported_time}
-use Rattle.tracks.proofs.LatestReport.{Rises, accepted_rises}
-
--- ---- by indices
-
-all_later : (x : Accepted) (xs : List Accepted) → Rises (Some x) xs → (k : ℕ) (d : Accepted) → k < length xs → x.time < (get_or xs k d).time
-all_later x [] h k d lt = absurd (omega arith)
-all_later x (y ∷ ys) h zero d lt = h.0
-all_later x (y ∷ ys) h (suc k) d lt =
-    let next : x.time < y.time = h.0 in
-    let rest : y.time < (get_or ys k d).time = all_later y ys h.1 k d (omega arith) in
-    omega arith
-
-rises_lt : (o : Option Accepted) (xs : List Accepted) → Rises o xs → (i j : ℕ) (d : Accepted) → i < j → j < length xs → (get_or xs i d).time < (get_or xs j d).time
-rises_lt o [] h i j d lt within = absurd (omega arith)
-rises_lt o (x ∷ xs) h i zero d lt within = absurd (omega arith)
-rises_lt o (x ∷ xs) h zero (suc j) d lt within = all_later x xs h.1 j d (omega arith)
-rises_lt o (x ∷ xs) h (suc i) (suc j) d lt within = rises_lt (Some x) xs h.1 i j d (omega arith) (omega arith)
-
-in_order : (xs : List Accepted) → Rises None xs → IsNonDecreasingBy (λ (report : Accepted). report.time) xs
-in_order xs h i j d le within =
-    elim (eq-or-lt_of_le le) [
-      | inl same ↦ (let e : (get_or xs i d).time ≡ (get_or xs j d).time = ap (λ (k : ℕ). (get_or xs k d).time) same in omega arith)
-      | inr before ↦ (let lt : (get_or xs i d).time < (get_or xs j d).time = rises_lt None xs h i j d before within in omega arith)
-    ]
-
-pub accepted_in_order : (numbers : JudgingNumbers) (sent : List Sent) (mmsi : ℕ) → IsNonDecreasingBy (λ (report : Accepted). report.time) (accepted_of numbers sent mmsi)
-unfolding accepted_of
-accepted_in_order numbers sent mmsi = in_order _ (accepted_rises numbers _ None)
+use Rattle.tracks.proofs.Rising.{accepted_in_order}
 
 -- ---- when legs begin
 
@@ -143,18 +115,6 @@ past_reports_stay numbers sent one mmsi t lt =
 
 -- ---- the reports that are kept
 
-order_less : (x : Accepted) (xs : List Accepted) → IsNonDecreasingBy (λ (report : Accepted). report.time) (x ∷ xs) → IsNonDecreasingBy (λ (report : Accepted). report.time) xs
-order_less x xs h i j d le within = h (suc i) (suc j) d (omega arith) (omega arith)
-
-order_since : (t : ℕ) (xs : List Accepted) → IsNonDecreasingBy (λ (report : Accepted). report.time) xs → IsNonDecreasingBy (λ (report : Accepted). report.time) (points_since t xs)
-order_since t [] h = h
-order_since t (x ∷ []) h = h
-order_since t (x ∷ y ∷ ys) h =
-    elim (cases_Bool (nat_lt y.time t)) [
-      | inl before ↦ rw before (order_since t (y ∷ ys) (order_less x (y ∷ ys) h))
-      | inr not ↦ rw not h
-    ]
-
 -- Where the time is remembered, the reports that are kept are in their order ..
 pub remembered_in_order : (keeping : Keeping) (numbers : JudgingNumbers) (sent : List Sent) (mmsi t : ℕ) → Remembers keeping t
     → IsNonDecreasingBy (λ (report : Accepted). report.time) (kept_points keeping (accepted_of numbers sent mmsi))
@@ -163,8 +123,9 @@ remembered_in_order Tracks numbers sent mmsi t remembers = accepted_in_order num
 remembered_in_order (Since time) numbers sent mmsi t remembers = order_since time (accepted_of numbers sent mmsi) (accepted_in_order numbers sent mmsi)
 
 -- .. and the last of them that has come by then is the last of all.
-pub remembered_report : (keeping : Keeping) (xs : List Accepted) (t : ℕ) → Remembers keeping t
-    → last_or None (filter (λ (report : Accepted). nat_le report.time t) (kept_points keeping xs)) ≡ last_or None (filter (λ (report : Accepted). nat_le report.time t) xs)
-remembered_report Latest xs t remembers = absurd remembers
-remembered_report Tracks xs t remembers = refl
-remembered_report (Since time) xs t remembers = reported_since time t xs remembers
+pub remembered_report : (keeping : Keeping) (numbers : JudgingNumbers) (sent : List Sent) (mmsi t : ℕ) → Remembers keeping t
+    → last_or None (filter (λ (report : Accepted). nat_le report.time t) (kept_points keeping (accepted_of numbers sent mmsi)))
+    ≡ last_or None (filter (λ (report : Accepted). nat_le report.time t) (accepted_of numbers sent mmsi))
+remembered_report Latest numbers sent mmsi t remembers = absurd remembers
+remembered_report Tracks numbers sent mmsi t remembers = refl
+remembered_report (Since time) numbers sent mmsi t remembers = reported_since time t (accepted_of numbers sent mmsi) (accepted_in_order numbers sent mmsi) remembers

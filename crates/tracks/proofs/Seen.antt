@@ -21,6 +21,7 @@ use Rattle.tracks.specs.Inner.AscendingNumbers.{Ascends}
 use Rattle.tracks.proofs.Ascending.{ascends_lt}
 use Rattle.tracks.proofs.KeptReports.{kept_legs-state}
 use Rattle.tracks.proofs.Lasts.{cons_option-nil}
+use Rattle.tracks.proofs.Rising.{accepted_in_order}
 use Rattle.tracks.proofs.Settled.{legs_in-is}
 
 -- ---- the vessel at an index
@@ -65,7 +66,7 @@ pub seen_in-is : (book : BookValue) (numbers : JudgingNumbers) (sent : List Sent
 unfolding seen_in seen_of legs_of
 seen_in-is book numbers sent time remembers h =
     let states : (m : ℕ) → state_at time (legs_in book m) ≡ state_at time (legs_of numbers sent m) =
-    λ m. ap (state_at time) (legs_in-is book numbers sent m h) ∙ kept_legs-state book.keeping numbers.gap time (accepted_of numbers sent m) remembers in
+    λ m. ap (state_at time) (legs_in-is book numbers sent m h) ∙ kept_legs-state book.keeping numbers.gap time (accepted_of numbers sent m) (accepted_in_order numbers sent m) remembers in
     λ i. filter_map (λ m. option_map (λ (state : TickState). (m, state)) (states m i)) (h.holds i)
 
 -- ---- what holds of each vessel seen

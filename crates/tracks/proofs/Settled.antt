@@ -29,6 +29,7 @@ use Rattle.tracks.proofs.Joining.{joined-some, joined-within}
 use Rattle.tracks.proofs.Legs.{legs_between-push}
 use Rattle.tracks.proofs.Messages.{accepted_of-other, accepted_of-own}
 use Rattle.tracks.proofs.OneList.{judged_placed}
+use Rattle.tracks.proofs.Rising.{accepted_in_order}
 
 -- ---- the time of an accepted report is that of its message
 
@@ -158,8 +159,8 @@ kept_past Latest numbers sent one mmsi t le lt =
     ap (state_at t) (kept_legs-latest numbers.gap (accepted_of numbers (sent ++ one ∷ []) mmsi) ∙ sym (kept_legs-latest numbers.gap (accepted_of numbers sent mmsi)))
 kept_past Tracks numbers sent one mmsi t le lt = past_stays numbers sent one mmsi t lt
 kept_past (Since time) numbers sent one mmsi t le lt =
-    seen_since numbers.gap time t (accepted_of numbers (sent ++ one ∷ []) mmsi) le ∙ past_stays numbers sent one mmsi t lt
-    ∙ sym (seen_since numbers.gap time t (accepted_of numbers sent mmsi) le)
+    seen_since numbers.gap time t (accepted_of numbers (sent ++ one ∷ []) mmsi) (accepted_in_order numbers (sent ++ one ∷ []) mmsi) le ∙ past_stays numbers sent one mmsi t lt
+    ∙ sym (seen_since numbers.gap time t (accepted_of numbers sent mmsi) (accepted_in_order numbers sent mmsi) le)
 
 pub past_stays_in : (old new : BookValue) (numbers : JudgingNumbers) (sent : List Sent) (one : Sent) (mmsi t : ℕ) → new.keeping ≡ old.keeping → StandsFor old numbers sent
     → StandsFor new numbers (sent ++ one ∷ []) → forgotten old.keeping ≤ t → t + numbers.gap < one.time → state_at t (legs_in new mmsi) ≡ state_at t (legs_in old mmsi)

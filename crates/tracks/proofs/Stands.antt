@@ -15,6 +15,7 @@ use Rattle.tracks.specs.declared.keeping.Keeping.TheVariants.{Tracks}
 use Rattle.tracks.proofs.Ascending.{Contains_from_among, IsAmong, among_above, among_passes, with_number-among}
 use Rattle.tracks.proofs.Holding.{held_among, held_of-ascends, held_of-more, held_of-same, is_held-first, is_held-stays, no_points, vessel_untold}
 use Rattle.tracks.proofs.KeptReports.{kept_points-last, kept_points-none}
+use Rattle.tracks.proofs.Rising.{accepted_in_order}
 use Rattle.tracks.proofs.Messages.{vessel_of-other, vessel_of-own}
 
 -- ---- a map of ascending numbers, changed at one of them
@@ -73,7 +74,7 @@ pub entry_after : (keeping : Keeping) (numbers : JudgingNumbers) (sent : List Se
 unfolding entry_of
 entry_after keeping numbers sent one points same =
     ap (λ (latest : Option Accepted). entry_at numbers latest (reported_in one))
-    (ap (last_or None) same ∙ kept_points-last keeping (accepted_of numbers sent (sender_of one.message)))
+    (ap (last_or None) same ∙ kept_points-last keeping (accepted_of numbers sent (sender_of one.message)) (accepted_in_order numbers sent (sender_of one.message)))
 
 pub held_at : (book : BookValue) (numbers : JudgingNumbers) (sent : List Sent) (at m : ℕ) → StandsFor book numbers sent → slice_get book.held at ≡ Some m → is_held numbers sent m ≡ true
 unfolding held_of

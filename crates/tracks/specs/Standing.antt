@@ -1,6 +1,6 @@
 -- What a book of vessels stands for.
-use Rattle.std.specs.Prelude.{ℕ, ◌≡◌, ◌==◌, ◌-◌, ◌^◌, ◌≤◌, ⊤, max, min, nat_lt, true, List, [], ◌∷◌, length, map, Option, Some, None, if◌then◌else◌}
-use Rattle.std.specs.List.{last_or}
+use Rattle.std.specs.Prelude.{ℕ, ◌≡◌, ◌==◌, ◌-◌, ◌^◌, ◌≤◌, ⊤, max, min, nat_le, nat_lt, true, List, [], ◌∷◌, ◌++◌, length, map, Option, Some, None, if◌then◌else◌}
+use Rattle.std.specs.List.{filter, last_or}
 use Rattle.std.specs.Option.{option_to_list}
 use Rattle.fixed_geometry.specs.Sizes.{IsWithin}
 use Rattle.ais_messages.specs.MessageFields.{IsReport}
@@ -15,11 +15,10 @@ use Rattle.tracks.specs.declared.keeping.Keeping.{Keeping}
 use Rattle.tracks.specs.declared.keeping.Keeping.TheVariants.{Latest, Since, Tracks}
 use Rattle.tracks.specs.declared.statics.Statics.{Statics}
 
--- the reports from the last one before a time on
+-- the reports since a time: the last one before it, if there is one, and those from it on
 abbrev pub points_since : ℕ → List Accepted → List Accepted
-points_since time [] = []
-points_since time (first ∷ []) = first ∷ []
-points_since time (first ∷ next ∷ others) = if nat_lt next.time time then points_since time (next ∷ others) else first ∷ next ∷ others
+points_since time points =
+    option_to_list (last_or None (filter (λ (report : Accepted). nat_lt report.time time) points)) ++ filter (λ (report : Accepted). nat_le time report.time) points
 
 -- Of a vessel's accepted reports the latest alone is kept, or all, or those from a time on with the one before.
 abbrev pub kept_points : Keeping → List Accepted → List Accepted

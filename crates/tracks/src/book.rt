@@ -10,7 +10,7 @@ ghost use Rattle.fixed_geometry.specs.Displacement.{displacement};
 ghost use Rattle.motion.specs.TickStates.{IsTickState, MovesLittle, state_at};
 ghost use Rattle.motion.specs.declared.leg.TickState.{TickState};
 ghost use Rattle.tracks.specs.AcceptedReports.{JudgingNumbers};
-ghost use Rattle.tracks.specs.Inner.Keeping.{IsKept, makes_held, vessel_since};
+ghost use Rattle.tracks.specs.Inner.Keeping.{AreInOrder, IsKept, makes_held, vessel_since};
 ghost use Rattle.tracks.specs.JoinedReports.{legs_between};
 ghost use Rattle.tracks.specs.Lengths.{length_of};
 ghost use Rattle.tracks.specs.SeenVessels.{seen_in, seen_of, seen_vessel};
@@ -88,7 +88,8 @@ fn put(
 
 /// Forgets of each vessel the reports before the last one that is earlier than a time, and the legs to them and to that one.
 fn forget_each(vessels: &mut Vec<Vessel>, gap: u32, time: u64)
-    requires { All (λ (vessel : VesselValue). vessel.legs ≡ legs_between gap vessel.points) vessels.old.items }
+    requires in_order { All (λ (vessel : VesselValue). AreInOrder vessel.points) vessels.old.items }
+    requires legs { All (λ (vessel : VesselValue). vessel.legs ≡ legs_between gap vessel.points) vessels.old.items }
     ensures { vessels.new.items ≡ map (vessel_since gap time) vessels.old.items }
 {
     for vessel in vessels.iter_mut() {
@@ -419,8 +420,9 @@ impl Book {
     }
 
     /// Puts the vessels that are seen at a time, each with her state, in the place of what `seen` holds, in the order of their
-    /// identities. In a book that keeps no legs nobody is seen, and at a time that is forgotten perhaps not all. `seen` keeps its room, and where that is enough for all vessels held,
-    /// there is always memory. Where there is none, what `seen` holds is not told.
+    /// identities. In a book that keeps no legs nobody is seen, and at a time that is forgotten perhaps not all. `seen` keeps its
+    /// room, and where that is enough for all vessels held, there is always memory. Where there is none, what `seen` holds is not
+    /// told.
     pub fn look(&self, time: u64, seen: &mut Vec<(u32, TickState)>) -> Result<(), Memory>
         ensures value { OnOk result (Remembers self.now.keeping time → (numbers : JudgingNumbers) (sent : List Sent) → StandsFor self.now numbers sent
             → seen.new.items ≡ seen_of numbers sent time) }

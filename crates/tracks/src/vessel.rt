@@ -6,7 +6,7 @@ ghost use Rattle.ais_messages.specs.MessageFields.{IsMessage, IsReport, IsShipDa
 ghost use Rattle.motion.specs.TickStates.{IsLeg};
 ghost use Rattle.tracks.specs.AcceptedReports.{judged};
 ghost use Rattle.tracks.specs.JoinedReports.{joined, legs_between};
-ghost use Rattle.tracks.specs.Inner.Keeping.{Follows, IsKept, accepted_by, accepted_in, joined_after, told, untold, vessel_after, vessel_since, vessel_with};
+ghost use Rattle.tracks.specs.Inner.Keeping.{AreInOrder, Follows, IsKept, accepted_by, accepted_in, joined_after, told, untold, vessel_after, vessel_since, vessel_with};
 ghost use Rattle.tracks.specs.Standing.{IsAccepted, IsNumbers, kept_points, points_since};
 ghost use Rattle.tracks.specs.VesselsHeld.{entry_at, entry_by, reported_in, static_in};
 ghost use Rattle.tracks.specs.declared.keeping.Keeping.TheVariants.{Latest, Tracks};
@@ -88,6 +88,7 @@ struct Gone {
 
 /// What stands before the last report that is earlier than a time.
 fn gone_before(gap: u32, points: &[Accepted], time: u64) -> Gone
+    requires { AreInOrder points.now }
     ensures within { result.reports ≤ length points.now }
     ensures points { points_since time points.now ≡ drop result.reports points.now }
     ensures legs_within { result.legs ≤ length (legs_between gap points.now) }
@@ -106,7 +107,8 @@ fn gone_before(gap: u32, points: &[Accepted], time: u64) -> Gone
     gone
 }
 
-/// Her accepted reports or the latest alone, the legs between those that are kept, and what she told of herself.
+/// Her accepted reports or the latest alone, the legs between those that are kept, how many reports and legs there were, and what
+/// she told of herself.
 #[derive(Debug, Drop)]
 pub(crate) struct Vessel {
     points: Vec<Accepted>,
@@ -185,7 +187,8 @@ impl Vessel {
 
     /// Forgets the reports before the last one that is earlier than a time, and the legs to them and to that one.
     pub(crate) fn forget(&mut self, gap: u32, time: u64)
-        requires { self.old.legs ≡ legs_between gap self.old.points }
+        requires in_order { AreInOrder self.old.points }
+        requires legs { self.old.legs ≡ legs_between gap self.old.points }
         ensures { self.new ≡ vessel_since gap time self.old }
     {
         let gone = gone_before(gap, &self.points, time);

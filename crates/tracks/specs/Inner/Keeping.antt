@@ -1,6 +1,7 @@
 -- What a message changes of what is kept of a vessel, and what holds of it.
 use Rattle.std.specs.Prelude.{ℕ, ◌≡◌, ◌+◌, ◌-◌, ◌*◌, ◌<◌, ◌≤◌, ◌⊎◌, Bool, ◌||◌, is_some, List, [], ◌∷◌, ◌++◌, length, All, Option, Some, None, IfSome, Result, Ok, Err, if◌then◌else◌}
 use Rattle.std.specs.List.{last_or}
+use Rattle.std.specs.List.Sorted.{IsNonDecreasingBy}
 use Rattle.std.specs.Option.{option_or}
 use Rattle.fixed_geometry.specs.declared.point.Point.{Point}
 use Rattle.motion.specs.TickStates.{AreJoined}
@@ -100,12 +101,17 @@ pub record Follows (gap : ℕ) (latest now : Accepted) : Type 0 where
   pub after : latest.time < now.time
   pub slow : now.time ≤ latest.time + gap → 81 * distance2 latest now ≤ square (4630 * 1022 * (now.time - latest.time))
 
+-- Reports stand in the order of their times.
+abbrev pub AreInOrder : List Accepted → Type 0
+AreInOrder reports = IsNonDecreasingBy (λ (report : Accepted). report.time) reports
+
 -- The last leg ends at the latest report, or more than the gap before it.
 abbrev pub EndsAt : ℕ → Accepted → Leg → Type 0
 EndsAt gap latest leg = ((leg.t2 ≡ latest.time) × (leg.p2 ≡ latest.point)) ⊎ (leg.t2 + gap < latest.time)
 
 pub record IsKept (keeping : Keeping) (gap : ℕ) (vessel : VesselValue) : Type 0 where
   pub points : All IsAccepted vessel.points
+  pub in_order : AreInOrder vessel.points
   pub no_others : vessel.points ≡ kept_points keeping vessel.points
   pub legs : vessel.legs ≡ legs_between gap vessel.points
   pub ends : IfSome (last_or None vessel.points) (λ latest. IfSome (last_or None vessel.legs) (EndsAt gap latest))

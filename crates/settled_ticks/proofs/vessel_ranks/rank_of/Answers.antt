@@ -22,13 +22,13 @@ pub last_near-last-requires-clause-begun : goal.last_near-last-requires-clause-b
 last_near-last-requires-clause-begun c =
     let by = c.requires.reported in
     subst (λ (report : Option Accepted). IsSome report)
-    (sym (kept_report (keeping_of c.args.judge.now) _ _ c.args.time c.requires.remembers (c.points_near-points.ensures by.scenario by.lines by.judged))) by.reported
+    (sym (kept_report (keeping_of c.args.judge.now) (numbers_of by.scenario) (sent by.scenario by.lines) c.args.vessel.now.0 _ c.args.time c.requires.remembers (c.points_near-points.ensures by.scenario by.lines by.judged))) by.reported
 
 pub rank-requires-clause-begun : goal.rank-requires-clause-begun
 rank-requires-clause-begun c =
     let by = c.requires.reported in
     subst (λ (report : Option Accepted). IsSome report)
-    (sym (c.alone.ensures.same ∙ kept_report (keeping_of c.args.judge.now) _ _ c.args.time c.requires.remembers (c.points_near-points.ensures by.scenario by.lines by.judged))) by.reported
+    (sym (c.alone.ensures.same ∙ kept_report (keeping_of c.args.judge.now) (numbers_of by.scenario) (sent by.scenario by.lines) c.args.vessel.now.0 _ c.args.time c.requires.remembers (c.points_near-points.ensures by.scenario by.lines by.judged))) by.reported
 
 pub returns : goal.returns
 unfolding vessel_rank rank_at
@@ -36,4 +36,4 @@ returns c = λ scenario lines judged stands.
     let messages = sent scenario lines in
     c.rank.ensures (noted messages) stands
     ∙ ap (λ (report : Option Accepted). rank_by_report report (rank_by_type (noted messages) c.args.vessel.now.0 c.args.time))
-    (c.alone.ensures.same ∙ kept_report (keeping_of c.args.judge.now) _ _ c.args.time c.requires.remembers (c.points_near-points.ensures scenario lines judged))
+    (c.alone.ensures.same ∙ kept_report (keeping_of c.args.judge.now) (numbers_of scenario) messages c.args.vessel.now.0 _ c.args.time c.requires.remembers (c.points_near-points.ensures scenario lines judged))

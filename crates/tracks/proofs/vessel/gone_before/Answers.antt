@@ -1,5 +1,6 @@
 use Rattle.std.proofs.Common.{◌∙◌, ap, sym, arith}
 use Rattle.tracks.specs.JoinedReports.{legs_between}
+use Rattle.tracks.proofs.Forgetting.{since_is}
 use Rattle.tracks.proofs.Gone.{legs_step, no_leg_step, since_end, since_step, since_stop}
 use Rattle.tracks.proofs.vessel.gone_before.Goals as goal
 use Rattle.tracks.proofs.vessel.gone_before.Goals.{then-are_joined, else-are_joined}
@@ -20,7 +21,7 @@ loop-gone-preserved c =
 
 pub returns-else-points-gone-clause-points : goal.returns-else-points-gone-clause-points
 returns-else-points-gone-clause-points c =
-    c.loop-gone.invariant.points ∙ since_stop c.args.time c.loop-gone.gone.reports c.args.points.now _ c.loop-gone-test.true c.if-points-gone.false
+    since_is c.args.time c.args.points.now c.requires ∙ c.loop-gone.invariant.points ∙ since_stop c.args.time c.loop-gone.gone.reports c.args.points.now _ c.loop-gone-test.true c.if-points-gone.false
 
 pub returns-else-points-gone-clause-legs : goal.returns-else-points-gone-clause-legs
 returns-else-points-gone-clause-legs c =
@@ -28,7 +29,7 @@ returns-else-points-gone-clause-legs c =
 
 pub returns-after-loop-gone-clause-points : goal.returns-after-loop-gone-clause-points
 returns-after-loop-gone-clause-points c =
-    c.loop-gone.invariant.points ∙ since_end c.args.time c.loop-gone.gone.reports c.args.points.now (omega arith)
+    since_is c.args.time c.args.points.now c.requires ∙ c.loop-gone.invariant.points ∙ since_end c.args.time c.loop-gone.gone.reports c.args.points.now (omega arith)
 
 pub returns-after-loop-gone-clause-legs : goal.returns-after-loop-gone-clause-legs
 returns-after-loop-gone-clause-legs c =
