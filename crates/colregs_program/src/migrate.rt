@@ -4,7 +4,7 @@ ghost use Rattle.std.specs.Io.KnownBytes.{Appends, Keeps};
 ghost use Rattle.outside.specs.Causes.{one_more, Rose};
 ghost use Rattle.outside.specs.Shelves.{IsMissing};
 ghost use Rattle.outside.specs.Streams.{AppendsPart};
-ghost use Rattle.scenario.specs.Migration.{IsMigrated, IsNotMigrated};
+ghost use Rattle.scenario.specs.Migration.{IsNotMigrated};
 ghost use Rattle.scenario_keys.specs.declared.key.Key.{Key};
 ghost use Rattle.scenario_keys.specs.declared.cause.Cause.{Cause};
 ghost use Rattle.command_line.specs.declared.mode.Mode.TheVariants.{Migrate};

@@ -20,7 +20,7 @@ use sessions::{Asked, Mode, Session, SessionFault};
 use std::alloc::{AllocError, Global};
 
 /// How many bytes are read at a time.
-const BLOCK: usize = 65536;
+const BLOCK: usize = 262_144;
 
 /// Why the report on a log is not written.
 #[derive(Clone, Copy, Debug, PartialEq, Eq)]

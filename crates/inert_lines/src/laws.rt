@@ -1,5 +1,5 @@
 //! What a log without a line comes to.
-ghost use Rattle.std.specs.Prelude.{◌≡◌, ◌++◌, ℕ, List};
+ghost use Rattle.std.specs.Prelude.{◌++◌, ℕ, List};
 ghost use Rattle.aivdm.specs.declared.sentence.LineCause.{LineCause};
 ghost use Rattle.inert_lines.specs.InertLines.{IsInert, IsOneLine, IsWithoutLine};
 ghost use Rattle.log_lines.specs.GrowingLog.{ended_lines};

@@ -1,5 +1,5 @@
 //! The rows of alarms.
-ghost use Rattle.std.specs.Prelude.{◌≡◌, ◌++◌, ◌<◌, ℕ, List, All, OnOk, length};
+ghost use Rattle.std.specs.Prelude.{◌++◌, ◌<◌, ℕ, List, All, OnOk, length};
 ghost use Rattle.audit_report.specs.CsvRows.{row_of};
 ghost use Rattle.audit_report.specs.ReportTexts.{HasText};
 ghost use Rattle.early_monitor.specs.declared.alarm.Alarm.{Alarm};

@@ -1,7 +1,6 @@
 -- The rows of stretches, written one after the other.
-use Rattle.std.proofs.Common.{ℕ, ◌≡◌, ◌+◌, ◌<◌, List, ◌++◌, length, take, append_assoc, sym, ap, subst, ◌∙◌}
+use Rattle.std.proofs.Common.{ℕ, ◌≡◌, ◌+◌, List, ◌++◌, append_assoc, sym, ap, subst, ◌∙◌}
 use Rattle.std.specs.Prelude.{All}
-use Rattle.std.proofs.Math.ListN.{get_or}
 use Rattle.std.specs.List.{Contains}
 use Rattle.std.proofs.lemmas.Grind.{flat_map-append}
 use Rattle.std.proofs.lemmas.List.Elements.{All-contains, All-contains_itself, All-weaker, Contains-append_right}
@@ -11,8 +10,6 @@ use Rattle.audit_rows.specs.declared.row.Row.TheVariants.{Meeting, Verdict}
 use Rattle.audit_rows.specs.declared.topic.Topic.{Topic}
 use Rattle.audit_rows.specs.declared.mark.Mark.{Mark}
 use Rattle.audit_report.specs.CsvRows.{row_of}
-use Rattle.audit_report.specs.ReportTexts.{HasText}
-use Rattle.audit_report.specs.declared.report_text.ReportText.{ReportText}
 use Rattle.auditor.specs.AuditTracks.{AreMarksOf}
 use Rattle.traces.specs.Audited.{AuditNumbers, Sighting}
 use Rattle.auditor.specs.AuditRows.{AreAuditRows, IsAuditRow}

@@ -1,13 +1,9 @@
 -- The rows of alarms, written one after the other.
-use Rattle.std.proofs.Common.{ℕ, ◌≡◌, ◌+◌, ◌<◌, false, List, [], ◌++◌, length, refl, take, append_assoc, sym, ap, subst, ◌∙◌}
+use Rattle.std.proofs.Common.{ℕ, ◌≡◌, ◌+◌, ◌<◌, false, List, [], ◌++◌, length, refl, append_assoc, sym, ap, ◌∙◌}
 use Rattle.std.specs.Prelude.{All}
-use Rattle.std.proofs.Math.ListN.{get_or}
-use Rattle.std.specs.List.{Contains}
 use Rattle.std.proofs.lemmas.Grind.{flat_map-append}
 use Rattle.std.proofs.lemmas.List.Elements.{All-contains, Contains-append_right}
 use Rattle.audit_report.specs.CsvRows.{row_of}
-use Rattle.audit_report.specs.ReportTexts.{HasText}
-use Rattle.audit_report.specs.declared.report_text.ReportText.{ReportText}
 use Rattle.early_monitor.specs.Alarms.{AreAlarms}
 use Rattle.early_monitor.specs.declared.alarm.Alarm.{Alarm}
 use Rattle.log_lines.specs.JudgedLines.{is_crowded, judged_lines}

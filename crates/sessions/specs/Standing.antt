@@ -47,7 +47,7 @@ keeping_by (work.Drill audit) = Tracks
 keeping_by work.Recheck = Tracks
 keeping_by (work.Watch watch) = Tracks
 
--- What is kept of each vessel is enough for the work: an audit and a watch look back no further than to the latest tick that they took.
+-- What is kept of each vessel is enough for the work: an audit, a drill and a watch look back no further than to the latest tick that they took.
 abbrev pub KeepsEnough : Work → Scenario → Keeping → Type 0
 KeepsEnough work.Points scenario keeping = keeping ≡ Latest
 KeepsEnough (work.Audit audit) scenario keeping = RemembersTicks keeping scenario (audited_ticks audit)

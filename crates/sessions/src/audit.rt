@@ -1,5 +1,5 @@
 //! The end of the report of `audit`.
-ghost use Rattle.std.specs.Prelude.{◌≡◌, ◌++◌, [], ℕ, List, IfErr, IfOk, OnOk, Ok, false};
+ghost use Rattle.std.specs.Prelude.{◌++◌, [], ℕ, List, IfErr, IfOk, OnOk, Ok, false};
 ghost use Rattle.audit_rows.specs.declared.row.Row.{Row};
 ghost use Rattle.log_lines.specs.Standing.{keeping_of};
 ghost use Rattle.scenario.specs.ScenarioValues.{IsInRange};

@@ -2,7 +2,6 @@ use Rattle.std.proofs.Common.{[], List, ℕ, ◌++◌, ◌∙◌, ap, refl, subs
 use Rattle.command_line.specs.declared.mode.Mode.TheVariants as mode
 use Rattle.situations.specs.LeastPlans.{AllFail}
 use Rattle.outside.proofs.ForCallers.{err_cause}
-use Rattle.log_lines.specs.JudgedLines.{numbers_of}
 use Rattle.log_lines.specs.LogLines.{lines_of}
 use Rattle.log_lines.specs.SentLines.{sent}
 use Rattle.sessions.specs.PlanReport.{plan_text}

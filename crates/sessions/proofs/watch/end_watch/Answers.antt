@@ -8,7 +8,6 @@ use Rattle.settling.specs.ScenarioAudit.{audit_numbers}
 use Rattle.traces.specs.ManyTraces.{HaveMoreThan}
 use Rattle.traces.specs.declared.all_traces.TheConstants.{MOST_TRACES}
 use Rattle.sessions.specs.AuditReport.{sightings_of}
-use Rattle.report_parts.specs.AlarmRows.{alarm_rows}
 use Rattle.sessions.proofs.AtEnds.{judged_parts, of_whole}
 use Rattle.sessions.proofs.Meeting.{watch_done}
 use Rattle.sessions.proofs.Watching.{alarms_of_rules, last_alarms, of_one_log, watch_cause, whole_watch}
