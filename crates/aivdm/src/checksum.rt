@@ -25,12 +25,11 @@ fn sum_of_blocks(bytes: &[u8]) -> u8x16
     ensures { result ≡ fold (zip2 bit_xor) (replicate 16 0) (first_chunks 16 (length bytes.now / 16) bytes.now) }
 {
     let (blocks, _) = bytes.as_chunks::<16>();
-    blocks.iter().fold(
-        u8x16::splat(0),
-        |sum, block|
-            ensures { result ≡ zip2 bit_xor sum block.now }
-        { sum ^ u8x16::from_array(*block) },
-    )
+    let mut sum = u8x16::splat(0);
+    for block in blocks {
+        sum = sum ^ u8x16::from_array(*block);
+    }
+    sum
 }
 
 /// The place of each lane.
