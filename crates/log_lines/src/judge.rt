@@ -243,21 +243,21 @@ impl Judge {
     fn judge_sentence(
         &mut self,
         room: &mut SentenceRoom,
-        sentence: &Sentence<'_>,
+        sentence: Sentence<'_>,
         time: u64,
     ) -> Result<Judged, BookFault>
-        requires sentence { IsSentence (fields_seen sentence.now) }
+        requires sentence { IsSentence (fields_seen sentence) }
         requires untold { self.old.told ≡ None }
         ensures judged { IfOk result (λ judged. (numbers : JudgingNumbers) (ranked : Bool) (taken : List Taken) (messages : List Sent)
             → JoinerStandsFor self.old.joiner taken → Keeps self.old.book self.old.ranks numbers ranked messages
-            → GoesOn numbers ranked self.new judged taken messages (Ok (record { sentence = fields_seen sentence.now; time = time }))) }
+            → GoesOn numbers ranked self.new judged taken messages (Ok (record { sentence = fields_seen sentence.entry; time = time }))) }
         ensures crowded { result ≡ Err TooManyVessels → (numbers : JudgingNumbers) (taken : List Taken) (messages : List Sent)
             → JoinerStandsFor self.old.joiner taken → BookStandsFor self.old.book numbers messages
-            → greatest_held < held_with numbers messages (sent_heard taken (Ok (record { sentence = fields_seen sentence.now; time = time }))) }
+            → greatest_held < held_with numbers messages (sent_heard taken (Ok (record { sentence = fields_seen sentence.entry; time = time }))) }
         ensures same { self.new ≡ record self.old { joiner = self.new.joiner; book = self.new.book; told = self.new.told; ranks = self.new.ranks } }
         ensures keeping { keeping_of self.new ≡ keeping_of self.old }
     {
-        match report_of(room, sentence) {
+        match report_of(room, &sentence) {
             Some(report) => self.judge_report(&report, time),
             None => self.judge_part(sentence, time),
         }
@@ -265,19 +265,19 @@ impl Judge {
 
     /// Judges a sentence that is in time, by way of the joiner.
     #[inline(never)]
-    fn judge_part(&mut self, sentence: &Sentence<'_>, time: u64) -> Result<Judged, BookFault>
-        requires sentence { IsSentence (fields_seen sentence.now) }
+    fn judge_part(&mut self, sentence: Sentence<'_>, time: u64) -> Result<Judged, BookFault>
+        requires sentence { IsSentence (fields_seen sentence) }
         requires untold { self.old.told ≡ None }
         ensures judged { IfOk result (λ judged. (numbers : JudgingNumbers) (ranked : Bool) (taken : List Taken) (messages : List Sent)
             → JoinerStandsFor self.old.joiner taken → Keeps self.old.book self.old.ranks numbers ranked messages
-            → GoesOn numbers ranked self.new judged taken messages (Ok (record { sentence = fields_seen sentence.now; time = time }))) }
+            → GoesOn numbers ranked self.new judged taken messages (Ok (record { sentence = fields_seen sentence.entry; time = time }))) }
         ensures crowded { result ≡ Err TooManyVessels → (numbers : JudgingNumbers) (taken : List Taken) (messages : List Sent)
             → JoinerStandsFor self.old.joiner taken → BookStandsFor self.old.book numbers messages
-            → greatest_held < held_with numbers messages (sent_heard taken (Ok (record { sentence = fields_seen sentence.now; time = time }))) }
+            → greatest_held < held_with numbers messages (sent_heard taken (Ok (record { sentence = fields_seen sentence.entry; time = time }))) }
         ensures same { self.new ≡ record self.old { joiner = self.new.joiner; book = self.new.book; told = self.new.told; ranks = self.new.ranks } }
         ensures keeping { keeping_of self.new ≡ keeping_of self.old }
     {
-        match self.joiner.take(sentence, time)? {
+        match self.joiner.take(&sentence, time)? {
             Joined::Message(bits) => self.judge_decoded(&decode(&bits), time),
             Joined::Waiting => Ok(Judged::Without(LineOutcome::Part)),
             Joined::Orphan => Ok(Judged::Without(LineOutcome::Orphan)),
@@ -289,22 +289,22 @@ impl Judge {
     fn judge_body(
         &mut self,
         room: &mut SentenceRoom,
-        body: &Body<'_>,
+        body: Body<'_>,
         time: u64,
     ) -> Result<Judged, BookFault>
-        requires sentence { IfSentence body.now (λ s. IsSentence (fields_seen s)) }
+        requires sentence { IfSentence body (λ s. IsSentence (fields_seen s)) }
         requires untold { self.old.told ≡ None }
         ensures judged { IfOk result (λ judged. (numbers : JudgingNumbers) (ranked : Bool) (taken : List Taken) (messages : List Sent)
             → JoinerStandsFor self.old.joiner taken → Keeps self.old.book self.old.ranks numbers ranked messages
-            → GoesOn numbers ranked self.new judged taken messages (heard_by self.old.times time (body_seen body.now))) }
+            → GoesOn numbers ranked self.new judged taken messages (heard_by self.old.times time (body_seen body.entry))) }
         ensures crowded { result ≡ Err TooManyVessels → (numbers : JudgingNumbers) (taken : List Taken) (messages : List Sent)
             → JoinerStandsFor self.old.joiner taken → BookStandsFor self.old.book numbers messages
-            → greatest_held < held_with numbers messages (sent_heard taken (heard_by self.old.times time (body_seen body.now))) }
+            → greatest_held < held_with numbers messages (sent_heard taken (heard_by self.old.times time (body_seen body.entry))) }
         ensures same { self.new ≡ record self.old { joiner = self.new.joiner; book = self.new.book; told = self.new.told; ranks = self.new.ranks } }
         ensures keeping { keeping_of self.new ≡ keeping_of self.old }
     {
         match body {
-            Body::Dropped(cause) => Ok(Judged::Without((*cause).into())),
+            Body::Dropped(cause) => Ok(Judged::Without(cause.into())),
             Body::Sentence(sentence) => match self.times.untimely(time) {
                 Some(outcome) => Ok(Judged::Without(outcome)),
                 None => self.judge_sentence(room, sentence, time),
@@ -327,7 +327,7 @@ impl Judge {
         let reading = read_line(line);
         let time = self.times.time(reading.stamp);
         self.told = None;
-        let judged = self.judge_body(room, &reading.body, time)?;
+        let judged = self.judge_body(room, reading.body, time)?;
         self.times.pass(reading.stamp);
         self.count(judged.outcome());
         Ok(judged)

@@ -11,7 +11,7 @@ use Rattle.log_lines.proofs.judge.Judge.judge_part.Goals as goal
 
 pub returns-in-Message-clause-judged : goal.returns-in-Message-clause-judged
 returns-in-Message-clause-judged c =
-    let next : Taken = record { sentence = fields_seen c.args.sentence.now; time = c.args.time } in
+    let next : Taken = record { sentence = fields_seen c.args.sentence; time = c.args.time } in
     let judge = c.judge_decoded.new.self in
     let kept = ap (λ (j : Judge). j.joiner) c.judge_decoded.ensures.same in
     IfOk-weaker c.judge_decoded.result _ _

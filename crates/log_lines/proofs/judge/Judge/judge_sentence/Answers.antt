@@ -14,7 +14,7 @@ use Rattle.log_lines.proofs.judge.Judge.judge_sentence.Goals as goal
 
 pub returns-in-Some-clause-judged : goal.returns-in-Some-clause-judged
 returns-in-Some-clause-judged c =
-    let next : Taken = record { sentence = fields_seen c.args.sentence.now; time = c.args.time } in
+    let next : Taken = record { sentence = fields_seen c.args.sentence; time = c.args.time } in
     let judge = c.judge_report.new.self in
     let kept = ap (λ (j : Judge). j.joiner) c.judge_report.ensures.same in
     let report = c.in-Some.ensures.report in
@@ -27,7 +27,7 @@ returns-in-Some-clause-judged c =
 
 pub returns-in-Some-clause-crowded : goal.returns-in-Some-clause-crowded
 returns-in-Some-clause-crowded c = λ fault numbers taken messages stands book.
-    let next : Taken = record { sentence = fields_seen c.args.sentence.now; time = c.args.time } in
+    let next : Taken = record { sentence = fields_seen c.args.sentence; time = c.args.time } in
     let report = c.in-Some.ensures.report in
     let whole = whole_message c.args.self.now.joiner taken next stands report.0 in
     crowded_message numbers taken messages next (joined.Message (part_bits next)) (decoded.Message (message.Position c.in-Some.report)) whole.0
