@@ -6,6 +6,7 @@ ghost use Rattle.fixed_geometry.specs.Sizes.{IsWithin};
 ghost use Rattle.hull_domains.specs.Crossings.{mediant, entry_moment, side_of};
 ghost use Rattle.hull_domains.specs.Domains.{IsInside, StaysOutside};
 ghost use Rattle.hull_domains.specs.Inner.EdgeSides.{IsBound, IsLow};
+ghost use Rattle.motion.specs.Steps.{RelativeMove};
 
 use crate::shape::Shape;
 use crate::sides::{Fraction, Side, earlier, is_less, later, side_beside, times};
@@ -54,24 +55,42 @@ fn keeps_off(p: i64, w: i64, radius: u64) -> bool
     radius + w.unsigned_abs() <= p.unsigned_abs()
 }
 
-/// Whether a step is separated by a radius in tenths of a millimetre. Where it keeps off along an axis, that is seen at once.
+/// Whether the distance along one of the axes is at least so much all the time, in tenths of a millimetre.
 #[tactic(auto, using(crate::proofs::Far::separated_along, crate::proofs::Far::separated_across))]
+fn keeps_off_by_an_axis(step: &Step, radius: u64) -> bool
+    requires { radius < 2 ^ 31 }
+    ensures { IsTrue result → IsSeparated step.now radius }
+{
+    let (p, w) = (step.p(), step.w());
+    keeps_off(p.x, w.x, radius) || keeps_off(p.y, w.y, radius)
+}
+
+/// Whether a step is separated by a radius in tenths of a millimetre. Where it keeps off along an axis, that is seen at once.
 fn is_separated(step: &Step, radius: u64) -> bool
     requires { radius < 2 ^ 31 }
     ensures { IsTrue result ↔ IsSeparated step.now radius }
 {
-    let (p, w) = (step.p(), step.w());
-    if keeps_off(p.x, w.x, radius) || keeps_off(p.y, w.y, radius) {
+    if keeps_off_by_an_axis(step, radius) {
         return true;
     }
     separated(step, radius)
 }
 
-/// Whether own ship stays out of a circle in which the whole shape lies, whatever the direction. It takes a fraction of the time that the edges take.
-fn stays_out_of_the_circle(step: &Step, shape: &Shape) -> bool
+/// The radius of a circle in which the whole shape lies, whatever the direction, in tenths of a millimetre.
+fn radius_about(shape: &Shape) -> u64
+    ensures small { result < 2 ^ 31 }
+    ensures outside { (step : RelativeMove) → IsSeparated step result → (direction : ℕ) → direction < 3600 → StaysOutside step direction shape.now }
+{
+    10_000 * (u64::from(shape.longest_way()) + 2)
+}
+
+/// Whether own ship keeps off the whole shape along one of the axes, whatever the direction. Most steps of a search do, and are told so at once; of the
+/// others [`enters`] tells.
+#[inline(always)]
+pub fn keeps_clear(step: &Step, shape: &Shape) -> bool
     ensures { IsTrue result → (direction : ℕ) → direction < 3600 → StaysOutside step.now direction shape.now }
 {
-    is_separated(step, 10_000 * (u64::from(shape.longest_way()) + 2))
+    keeps_off_by_an_axis(step, radius_about(shape))
 }
 
 /// A moment of the step at which own ship is inside the shape of a target that heads in this direction, tenths of a degree below 3600;
@@ -84,7 +103,8 @@ pub fn enters(step: &Step, direction: u16, shape: &Shape) -> Option<Moment>
     ensures instant { IfSome result (λ moment. (moment.a ≤ moment.b) × (0 < moment.b) × (moment.b < 2 ^ 60)) }
     ensures inside { IfSome result (λ moment. IsInside step.now direction shape.now moment.a moment.b) }
 {
-    if stays_out_of_the_circle(step, shape) {
+    // The circle takes a fraction of the time that the edges take.
+    if is_separated(step, radius_about(shape)) {
         return None;
     }
     let ahead = unit(direction);

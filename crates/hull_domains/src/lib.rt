@@ -13,5 +13,5 @@ mod entering;
 mod shape;
 mod sides;
 
-pub use entering::{enters, inside};
+pub use entering::{enters, inside, keeps_clear};
 pub use shape::Shape;

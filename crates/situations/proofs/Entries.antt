@@ -1,5 +1,5 @@
 -- Own ship is inside a domain at the moment that tells of it, or at no instant.
-use Rattle.std.proofs.Common.{◌≡◌, ◌∙◌, ℕ, ◌^◌, ◌<◌, ◌≤◌, List, refl, ap, arith, sym, subst₂, Some, None}
+use Rattle.std.proofs.Common.{◌≡◌, ◌∙◌, ℕ, ◌^◌, ◌<◌, ◌≤◌, List, refl, ap, arith, sym, subst, subst₂, Some, None}
 use Rattle.std.specs.Prelude.{Option, IfSome, IsNone, IsTrue, MatchOption, ◌↔◌, is_some, ℤ, Bool, true, false, pos, neg_ℤ, ◌*ℤ◌, int_le, unsigned_abs, if◌then◌else◌, not}
 use Rattle.fixed_geometry.specs.Plane.{dot_of, norm2_of}
 use Rattle.closest_approach.specs.Separation.{IsNearer, IsSeparated, nearest_of}
@@ -17,10 +17,6 @@ use Rattle.situations.specs.declared.situation.Target.{Target}
 
 abbrev pub IsCircle : Option (List (ℤ × ℤ)) → Option ℕ → Type 0
 IsCircle shape direction = (vertices : List (ℤ × ℤ)) (d : ℕ) → shape ≡ Some vertices → direction ≡ Some d → ⊥
-
-pub without_shape : (shape : Option (List (ℤ × ℤ))) (direction : Option ℕ) → is_some shape ≡ false → IsCircle shape direction
-without_shape None direction e = λ vertices d has heads. cc
-without_shape (Some shape) direction e = λ vertices d has heads. cc
 
 module _ (radius : ℕ) (step : RelativeMove) (a b : ℕ) where
   in_circle : (shape : Option (List (ℤ × ℤ))) (direction : Option ℕ) → IsCircle shape direction → IsInsideBy shape direction radius step a b → IsNearer step radius a b
@@ -51,6 +47,18 @@ unfolding nearest_of
 nearest_small step l e small =
     b_small (int_le (pos 0) (dot_of step.p step.w)) (int_le (pos 1 *ℤ norm2_of step.w) (neg_ℤ (dot_of step.p step.w))) (unsigned_abs (norm2_of step.w)) (unsigned_abs (dot_of step.p step.w))
     (let same : l ≡ unsigned_abs (norm2_of step.w) = ap unsigned_abs e in omega arith)
+
+-- ---- whether a moment was found
+
+module _ (step : RelativeMove) (d : ℕ) (shape : List (ℤ × ℤ)) where
+  pub outside_where_none : (o : Option Moment) (found : Bool) → found ≡ is_some o → (IsNone o ↔ StaysOutside step d shape) → found ≡ false → StaysOutside step d shape
+  outside_where_none None found is none not_found = none.0 refl
+  outside_where_none (Some moment) found is none not_found = absurd (let some : true ≡ false = sym is ∙ not_found in cc)
+
+  pub inside_where_some : (o : Option Moment) (found : Bool) → found ≡ is_some o → IfSome o (λ moment. (moment.a ≤ moment.b) × (0 < moment.b) × (moment.b < 2 ^ 60))
+      → IfSome o (λ moment. IsInside step d shape moment.a moment.b) → IsTrue found → (a b : ℕ) × (a ≤ b) × (0 < b) × IsInside step d shape a b
+  inside_where_some None found is instant inside told = absurd (let never : IsTrue false = subst IsTrue is told in cc)
+  inside_where_some (Some moment) found is instant inside told = (moment.a, moment.b, instant.0, instant.1, inside)
 
 -- ---- what the tests of a shape and of a circle tell
 
@@ -104,7 +112,3 @@ module _ (s : Situation) (T : Target) (pair : PairStep) where
 
   pub entry_enters : (moment : Moment) → IsEntry s T pair moment → Enters s T pair
   entry_enters moment h = record { a = moment.a; b = moment.b; within = h.within; some = h.some; inside = h.inside }
-
-  pub found_where_entered : (o : Option Moment) → MatchOption o (¬ Enters s T pair) (IsEntry s T pair) → IsTrue (is_some o) ↔ Enters s T pair
-  found_where_entered None h = (λ t. cc, λ enters. absurd (h enters))
-  found_where_entered (Some moment) h = (λ t. entry_enters moment h, λ enters. refl)

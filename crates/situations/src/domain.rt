@@ -1,8 +1,9 @@
 //! The domain of a target.
-ghost use Rattle.std.specs.Prelude.{◌≡◌, ◌≤◌, ◌<◌, ◌^◌, ◌↔◌, IfSome, IsNone, IsTrue, MatchOption, pos};
+ghost use Rattle.std.specs.Prelude.{◌≡◌, ◌≤◌, ◌<◌, ◌^◌, ◌↔◌, ℕ, false, IfSome, IsNone, IsTrue, MatchOption, pos};
 ghost use Rattle.closest_approach.specs.Separation.{IsNearer, IsSeparated, nearest_of};
 ghost use Rattle.encounters.specs.Directions.{HaveDirections};
 ghost use Rattle.fixed_geometry.specs.Plane.{norm2_of};
+ghost use Rattle.hull_domains.specs.Domains.{IsInside, StaysOutside};
 ghost use Rattle.situations.specs.Domains.{Enters, IsEntry};
 ghost use Rattle.situations.specs.Situations.{IsTarget};
 
@@ -10,7 +11,7 @@ use crate::situation::{Situation, Target};
 use closest_approach::{Moment, entry, separated};
 use encounters::PairStep;
 use fixed_geometry::norm2;
-use hull_domains::enters;
+use hull_domains::{Shape, enters, keeps_clear};
 use motion::Step;
 
 /// The water round a target that own ship is to stay out of: a circle. It yields to the situation's shape where there is one and the target
@@ -44,6 +45,16 @@ fn nearest_within(step: &Step, radius: u64) -> Option<Moment>
     Some(moment)
 }
 
+/// Whether own ship enters a shape in a step. It stands apart, so that the search's loop over steps keeps none of a moment's places.
+#[inline(never)]
+fn enters_shape(step: Step, direction: u16, shape: &Shape) -> bool
+    requires { direction < 3600 }
+    ensures outside { result ≡ false → StaysOutside step direction shape.now }
+    ensures inside { IsTrue result → (a b : ℕ) × (a ≤ b) × (0 < b) × IsInside step direction shape.now a b }
+{
+    enters(&step, direction, shape).is_some()
+}
+
 impl Situation {
     /// A moment of a step of both at which own ship is inside the target's domain, told by numbers below 2^60: for a shape one between the
     /// crossings of its edges, for a circle that of least distance. `None` where she is inside at no instant of the step.
@@ -58,26 +69,16 @@ impl Situation {
         }
     }
 
-    /// Whether own ship enters a target's domain in a step of both, where domains have a shape. It stands apart, so that the search's loop over
-    /// steps keeps none of a moment's places.
-    #[inline(never)]
-    fn enters_shape(&self, target: &Target, pair: PairStep) -> bool
-        requires target { IsTarget self.now target.now }
-        requires heads { HaveDirections pair }
-        ensures { IsTrue result ↔ Enters self.now target.now pair }
-    {
-        self.entry(target, &pair).is_some()
-    }
-
-    /// Whether she enters it. The search asks this at each step: for a circle no moment is made.
+    /// Whether she enters it. The search asks this at each step: no moment is made.
     pub fn enters(&self, target: &Target, pair: &PairStep) -> bool
         requires target { IsTarget self.now target.now }
         requires heads { HaveDirections pair.now }
         ensures { IsTrue result ↔ Enters self.now target.now pair.now }
     {
-        if self.shape.is_some() {
-            return self.enters_shape(target, *pair);
+        match (&self.shape, pair.b.direction) {
+            (Some(shape), Some(direction)) => !keeps_clear(&pair.step, shape)
+                && enters_shape(pair.step, direction, shape),
+            _ => !separated(&pair.step, target.domain.radius),
         }
-        !separated(&pair.step, target.domain.radius)
     }
 }
