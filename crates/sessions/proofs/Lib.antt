@@ -2,6 +2,7 @@ mod AtEnds
 mod Auditing
 mod AuditText
 mod EndedSessions
+mod EndedWork
 mod Feeding
 mod Meeting
 mod OneEnding

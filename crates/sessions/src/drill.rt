@@ -1,9 +1,10 @@
 //! The end of the report of `drill`.
-ghost use Rattle.std.specs.Prelude.{[], ℕ, List, IfErr, IfOk, OnOk, Ok, false};
+ghost use Rattle.std.specs.Prelude.{◌≡◌, [], ℕ, List, IfErr, IfOk, Ok, length};
 ghost use Rattle.audit_rows.specs.declared.row.Row.{Row};
-ghost use Rattle.log_lines.specs.Standing.{keeping_of};
+ghost use Rattle.log_lines.specs.LogLines.{lines_of};
+ghost use Rattle.log_lines.specs.Standing.{StandsFor as JudgeStandsFor, keeping_of};
 ghost use Rattle.scenario.specs.ScenarioValues.{IsInRange};
-ghost use Rattle.sessions.specs.DrillReport.{IsDrillReport};
+ghost use Rattle.sessions.specs.DrillReport.{IsDrillReport, drill_text};
 ghost use Rattle.settled_ticks.specs.Standing.{RemembersTicks};
 ghost use Rattle.settling.specs.Standing.{audited_ticks};
 ghost use Rattle.sessions.specs.Endings.{IsAnswerOf};
@@ -11,31 +12,50 @@ ghost use Rattle.sessions.specs.Inner.AtEnd.{IsAuditAtEnd, IsAuditOf};
 ghost use Rattle.sessions.specs.Inner.Faults.{EndCause};
 ghost use Rattle.command_line.specs.declared.mode.Mode.TheVariants.{Drill};
 
+use crate::ending::Ending;
 use crate::session_fault::SessionFault;
 use audit_report::ReportText;
+use auditor::AuditEnd;
 use log_lines::Judge;
+use outside::Memory;
 use report_parts::{write_counts, write_totals};
 use scenario::Scenario;
 use settling::SettledAudit;
 use std::alloc::Global;
 
-/// The report, of which nothing was given before. The audit's rows are not told.
+/// The report, from what the audit ends with. Its rows are not told.
+fn drill_report(
+    alloc: Global,
+    scenario: &Scenario,
+    end: &AuditEnd,
+    judge: &Judge,
+) -> Result<Vec<u8>, Memory>
+    requires { length end.now.totals.items ≡ length scenario.now.rules }
+    ensures { IfOk result (λ text. (log : List ℕ) → JudgeStandsFor judge.now scenario.now (lines_of log)
+        → text.items ≡ drill_text scenario.now log end.now.totals.items) }
+{
+    let mut text = ReportText::new(alloc);
+    write_totals(&mut text, &scenario.rules, end.totals.as_slice())?;
+    write_counts(&mut text, judge)?;
+    Ok(text.into_bytes()?)
+}
+
+/// Ends the audit, and gives the report, of which nothing was given before.
 pub(crate) fn end_drill(
     alloc: Global,
     scenario: &Scenario,
     audit: SettledAudit,
     judge: &Judge,
-) -> Result<Vec<u8>, SessionFault>
+) -> Result<Ending, SessionFault>
     requires in_range { IsInRange scenario.now }
     requires remembers { RemembersTicks (keeping_of judge.now) scenario.now (audited_ticks audit) }
     requires at_end { IsAuditAtEnd audit judge.now scenario.now }
-    ensures report { IfOk result (λ text. (log : List ℕ) (rows : List Row) → IsAuditOf audit judge.now scenario.now log rows → IsDrillReport scenario.now log text.items) }
-    ensures answer { OnOk result ((log : List ℕ) (rows : List Row) → IsAuditOf audit judge.now scenario.now log rows → IsAnswerOf Drill [] scenario.now log (Ok false)) }
+    ensures report { IfOk result (λ ending. (log : List ℕ) (rows : List Row) → IsAuditOf audit judge.now scenario.now log rows
+        → IsDrillReport scenario.now log ending.bytes.items) }
+    ensures answer { IfOk result (λ ending. (log : List ℕ) (rows : List Row) → IsAuditOf audit judge.now scenario.now log rows
+        → IsAnswerOf Drill [] scenario.now log (Ok ending.none)) }
     ensures cause { IfErr result (λ why. (log : List ℕ) (rows : List Row) → IsAuditOf audit judge.now scenario.now log rows → EndCause Drill [] scenario.now log why) }
 {
     let end = audit.end(scenario, judge)?;
-    let mut text = ReportText::new(alloc);
-    write_totals(&mut text, &scenario.rules, end.totals.as_slice())?;
-    write_counts(&mut text, judge)?;
-    Ok(text.into_bytes()?)
+    Ok(Ending::without_search(drill_report(alloc, scenario, &end, judge)?))
 }

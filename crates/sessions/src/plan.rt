@@ -2,12 +2,13 @@
 ghost use Rattle.std.specs.Prelude.{◌≡◌, ◌^◌, ◌++◌, ◌<◌, ◌≤◌, [], ℕ, List, All, IfErr, IfOk, IfSome, IsSome, OnOk, Ok, length, true};
 ghost use Rattle.std.specs.Option.{option_copied};
 ghost use Rattle.audit_report.specs.ReportTexts.{HasText};
-ghost use Rattle.log_lines.specs.JudgedLines.{numbers_of};
+ghost use Rattle.log_lines.specs.JudgedLines.{judged_lines, numbers_of};
 ghost use Rattle.log_lines.specs.LogLines.{lines_of};
 ghost use Rattle.log_lines.specs.Standing.{StandsFor as JudgeStandsFor, keeping_of};
 ghost use Rattle.lattice.specs.Grids.{choices_of};
 ghost use Rattle.lattice.specs.PlanNumbers.{IsPlan};
 ghost use Rattle.scenario.specs.ScenarioValues.{IsInRange};
+ghost use Rattle.scenario.specs.declared.values.Scenario.{Scenario};
 ghost use Rattle.tracks.specs.AcceptedReports.{JudgingNumbers};
 ghost use Rattle.tracks.specs.Standing.{StandsFor as BookStandsFor};
 ghost use Rattle.tracks.specs.VesselsHeld.{Sent, is_held};
@@ -17,11 +18,12 @@ ghost use Rattle.situations.specs.Situations.{IsSituation};
 ghost use Rattle.situations.specs.declared.near.Near.{Near};
 ghost use Rattle.planner.specs.Searches.{searched_situation};
 ghost use Rattle.sessions.specs.Endings.{IsAnswerOf};
+ghost use Rattle.report_parts.specs.OutcomeRows.{count_rows};
 ghost use Rattle.report_parts.specs.PlanRows.{manoeuvre_rows};
 ghost use Rattle.report_parts.specs.VesselRows.{near_rows};
 ghost use Rattle.sessions.specs.PlanReport.{IsManoeuvre, IsPlanReport};
 ghost use Rattle.sessions.specs.Inner.Faults.{EndCause};
-ghost use Rattle.sessions.specs.Inner.PlanWriting.{IsSought, SoughtCause};
+ghost use Rattle.sessions.specs.Inner.PlanWriting.{AreReasonsWhere, IsSought, SoughtCause};
 ghost use Rattle.command_line.specs.declared.mode.Mode.TheVariants as mode;
 
 use crate::ending::Ending;
@@ -112,7 +114,27 @@ fn write_search(
     Ok(PlanFound { search, none })
 }
 
-/// The report, of which nothing was given before. With `why` it says why every plan fails, if every plan does.
+/// The report, from its first rows and what the search found. With `why` it says why every plan fails, if every plan does.
+fn plan_report(
+    alloc: Global,
+    mut text: ReportText,
+    judge: &Judge,
+    found: &PlanFound,
+    why: bool,
+) -> Result<Vec<u8>, Memory>
+    requires situation { IsSituation (searched_situation found.now.search) }
+    requires fail { found.now.none ≡ true → AllFail (searched_situation found.now.search) }
+    ensures { IfOk result (λ bytes. (scenario : Scenario) (lines : List (List ℕ)) (front : List ℕ) → JudgeStandsFor judge.now scenario lines → HasText text front
+        → (reasons : List ℕ) × AreReasonsWhere why found.now.none (searched_situation found.now.search) reasons
+        × (bytes.items ≡ (front ++ count_rows (judged_lines scenario lines)) ++ reasons)) }
+{
+    write_counts(&mut text, judge)?;
+    let mut bytes = text.into_bytes()?;
+    add_reasons(alloc, found.search.situation(), why, found.none, &mut bytes)?;
+    Ok(bytes)
+}
+
+/// Seeks a plan, and gives the report, of which nothing was given before. With `why` it says why every plan fails, if every plan does.
 pub(crate) fn end_plan(
     alloc: Global,
     scenario: Scenario,
@@ -130,9 +152,9 @@ pub(crate) fn end_plan(
 {
     let mut text = ReportText::new(alloc);
     let found = write_search(alloc, scenario, judge.book(), &mut text)?;
-    write_counts(&mut text, judge)?;
-    let mut bytes = text.into_bytes()?;
-    let none = found.none;
-    add_reasons(alloc, found.search.situation(), why, none, &mut bytes)?;
-    Ok(Ending { bytes, none })
+    let bytes = plan_report(alloc, text, judge, &found, why)?;
+    Ok(Ending {
+        bytes,
+        none: found.none,
+    })
 }

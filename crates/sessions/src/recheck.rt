@@ -1,5 +1,5 @@
 //! The report of `recheck`, at a log's end.
-ghost use Rattle.std.specs.Prelude.{◌≡◌, ◌≤◌, ℕ, List, false, length, IfErr, IfOk, IsSome, OnOk, Ok};
+ghost use Rattle.std.specs.Prelude.{◌≡◌, ◌≤◌, ℕ, List, length, IfErr, IfOk, IsSome, Ok};
 ghost use Rattle.audit_report.specs.CsvRows.{row_of};
 ghost use Rattle.audit_report.specs.ReportRows.{no_plan_fields};
 ghost use Rattle.command_line.specs.declared.mode.Mode.TheVariants as mode;
@@ -15,6 +15,7 @@ ghost use Rattle.sessions.specs.RecheckReport.{IsRecheckReport};
 ghost use Rattle.sessions.specs.Inner.Faults.{EndCause};
 ghost use Rattle.sessions.specs.Inner.PlanWriting.{SoughtCause};
 
+use crate::ending::Ending;
 use crate::session_fault::SessionFault;
 use audit_report::{ReportRow, ReportText};
 use log_lines::Judge;
@@ -59,19 +60,19 @@ pub(crate) fn end_recheck(
     scenario: Scenario,
     judge: &Judge,
     rows: &[u8],
-) -> Result<Vec<u8>, SessionFault>
+) -> Result<Ending, SessionFault>
     requires in_range { IsInRange scenario }
     requires own { IsSome scenario.own }
     requires keeping { keeping_of judge.now ≡ Tracks }
     requires at_end { (log : List ℕ) × JudgeStandsFor judge.now scenario (lines_of log) }
     requires few { length rows.now ≤ GREATEST_TEXT }
-    ensures report { IfOk result (λ text. (log : List ℕ) → JudgeStandsFor judge.now scenario (lines_of log) → IsRecheckReport rows.now scenario log text.items) }
-    ensures answer { OnOk result ((log : List ℕ) → JudgeStandsFor judge.now scenario (lines_of log) → IsAnswerOf mode.Recheck rows.now scenario log (Ok false)) }
+    ensures report { IfOk result (λ ending. (log : List ℕ) → JudgeStandsFor judge.now scenario (lines_of log) → IsRecheckReport rows.now scenario log ending.bytes.items) }
+    ensures answer { IfOk result (λ ending. (log : List ℕ) → JudgeStandsFor judge.now scenario (lines_of log) → IsAnswerOf mode.Recheck rows.now scenario log (Ok ending.none)) }
     ensures cause { IfErr result (λ why. (log : List ℕ) → JudgeStandsFor judge.now scenario (lines_of log) → EndCause mode.Recheck rows.now scenario log why) }
 {
     let situation = situation_at_end(alloc, scenario, judge)?;
     match recheck(alloc, &situation, rows)? {
-        Checked::Right => Ok(no_plan(alloc, situation.lattice.plans())?),
+        Checked::Right => Ok(Ending::without_search(no_plan(alloc, situation.lattice.plans())?)),
         Checked::Bad(index) => Err(SessionFault::Entry(index)),
     }
 }

@@ -14,15 +14,10 @@ ghost use Rattle.rechecks.specs.declared.checked_text.TheConstants.{GREATEST_TEX
 ghost use Rattle.situations.specs.Situations.{IsSituation};
 
 use crate::asked::Asked;
-use crate::audit::end_audit;
-use crate::drill::end_drill;
 use crate::ending::Ending;
 use crate::modes::needs_own;
-use crate::plan::end_plan;
-use crate::points::end_points;
-use crate::recheck::{end_recheck, situation_at_end};
+use crate::recheck::situation_at_end;
 use crate::session_fault::SessionFault;
-use crate::watch::end_watch;
 use crate::work::Work;
 use audit_report::ReportText;
 use command_line::Mode;
@@ -238,27 +233,7 @@ impl Session {
             ..
         } = self;
         let ended = lines.end()?;
-        let judge = &ended.judge;
-        match work {
-            Work::Points => Ok(Ending::without_search(end_points(alloc, &ended)?)),
-            Work::Audit(audit) => {
-                let rest = end_audit(alloc, &scenario, audit, judge)?;
-                Ok(Ending::without_search(rest))
-            }
-            Work::Plan => end_plan(alloc, scenario, judge, asked.why),
-            Work::Drill(audit) => {
-                let rest = end_drill(alloc, &scenario, audit, judge)?;
-                Ok(Ending::without_search(rest))
-            }
-            Work::Recheck => {
-                let rest = end_recheck(alloc, scenario, judge, asked.rows)?;
-                Ok(Ending::without_search(rest))
-            }
-            Work::Watch(watch) => {
-                let rest = end_watch(alloc, &scenario, watch, judge)?;
-                Ok(Ending::without_search(rest))
-            }
-        }
+        work.end(alloc, scenario, &ended, asked)
     }
 
     /// Ends the log, and gives the situation in which own ship's plan is sought, of a mode that looks at her.

@@ -1,5 +1,5 @@
 //! The end of the report of `watch`.
-ghost use Rattle.std.specs.Prelude.{◌++◌, [], ℕ, List, IfErr, IfOk, OnOk, Ok, false};
+ghost use Rattle.std.specs.Prelude.{◌++◌, [], ℕ, List, IfErr, IfOk, Ok};
 ghost use Rattle.early_monitor.specs.declared.alarm.Alarm.{Alarm};
 ghost use Rattle.log_lines.specs.Standing.{keeping_of};
 ghost use Rattle.scenario.specs.ScenarioValues.{IsInRange};
@@ -12,6 +12,7 @@ ghost use Rattle.sessions.specs.Inner.AtEnd.{IsWatchAtEnd, IsWatchOf};
 ghost use Rattle.sessions.specs.Inner.Faults.{EndCause};
 ghost use Rattle.command_line.specs.declared.mode.Mode.TheVariants.{Watch};
 
+use crate::ending::Ending;
 use crate::session_fault::SessionFault;
 use audit_report::ReportText;
 use log_lines::Judge;
@@ -20,20 +21,20 @@ use scenario::Scenario;
 use settling::SettledWatch;
 use std::alloc::Global;
 
-/// The rest of the report, behind the rows of the alarms that the watch has given.
+/// Ends the watch, and gives the rest of the report, behind the rows of the alarms that the watch has given.
 pub(crate) fn end_watch(
     alloc: Global,
     scenario: &Scenario,
     watch: SettledWatch,
     judge: &Judge,
-) -> Result<Vec<u8>, SessionFault>
+) -> Result<Ending, SessionFault>
     requires in_range { IsInRange scenario.now }
     requires remembers { RemembersTicks (keeping_of judge.now) scenario.now (watched_ticks watch) }
     requires at_end { IsWatchAtEnd watch judge.now scenario.now }
-    ensures report { IfOk result (λ rest. (log : List ℕ) (given : List Alarm) → IsWatchOf watch judge.now scenario.now log given
-        → IsWatchReport scenario.now log (alarm_rows scenario.now.rules given ++ rest.items)) }
-    ensures answer { OnOk result ((log : List ℕ) (given : List Alarm) → IsWatchOf watch judge.now scenario.now log given
-        → IsAnswerOf Watch [] scenario.now log (Ok false)) }
+    ensures report { IfOk result (λ ending. (log : List ℕ) (given : List Alarm) → IsWatchOf watch judge.now scenario.now log given
+        → IsWatchReport scenario.now log (alarm_rows scenario.now.rules given ++ ending.bytes.items)) }
+    ensures answer { IfOk result (λ ending. (log : List ℕ) (given : List Alarm) → IsWatchOf watch judge.now scenario.now log given
+        → IsAnswerOf Watch [] scenario.now log (Ok ending.none)) }
     ensures cause { IfErr result (λ why. (log : List ℕ) (given : List Alarm) → IsWatchOf watch judge.now scenario.now log given
         → EndCause Watch [] scenario.now log why) }
 {
@@ -41,5 +42,5 @@ pub(crate) fn end_watch(
     let mut text = ReportText::new(alloc);
     write_alarms(&mut text, &scenario.rules, alarms.as_slice())?;
     write_counts(&mut text, judge)?;
-    Ok(text.into_bytes()?)
+    Ok(Ending::without_search(text.into_bytes()?))
 }

@@ -1,20 +1,30 @@
 //! What a session does on each line that is judged.
-ghost use Rattle.std.specs.Prelude.{◌≡◌, ◌≢◌, ◌++◌, [], ℕ, List, IfErr, IfOk, IfSome, IsTrue, OnOk, Err};
+ghost use Rattle.std.specs.Prelude.{◌≡◌, ◌≢◌, ◌≤◌, ◌++◌, [], ℕ, List, IfErr, IfOk, IfSome, IsSome, IsTrue, OnOk, Err, length};
 ghost use Rattle.audit_report.specs.ReportTexts.{HasText};
 ghost use Rattle.log_lines.specs.Standing.{keeping_of};
+ghost use Rattle.rechecks.specs.declared.checked_text.TheConstants.{GREATEST_TEXT};
 ghost use Rattle.scenario.specs.ScenarioValues.{IsInRange};
+ghost use Rattle.sessions.specs.Inner.AtEnd.{EndsAs, EndsFor, EndsIn, IsAtEnd};
 ghost use Rattle.sessions.specs.Inner.Working.{GoesOn, IsDone, IsReadyFor, Works};
-ghost use Rattle.sessions.specs.Modes.{reports};
+ghost use Rattle.sessions.specs.Modes.{needs_own, reports};
 ghost use Rattle.sessions.specs.Refusals.{HasManySettled};
 ghost use Rattle.sessions.specs.Standing.{KeepsEnough, keeping_by, mode_by};
 ghost use Rattle.sessions.specs.declared.session_fault.SessionFault.TheVariants as fault;
 ghost use Rattle.tracks.specs.Standing.{forgetting};
 ghost use Rattle.tracks.specs.declared.keeping.Keeping.{Keeping};
 
+use crate::asked::Asked;
+use crate::audit::end_audit;
+use crate::drill::end_drill;
+use crate::ending::Ending;
+use crate::plan::end_plan;
+use crate::points::end_points;
+use crate::recheck::end_recheck;
 use crate::session_fault::SessionFault;
+use crate::watch::end_watch;
 use audit_report::ReportText;
 use command_line::Mode;
-use log_lines::{Judge, Judged};
+use log_lines::{EndedLines, Judge, Judged};
 use outside::Memory;
 use report_parts::{write_alarms, write_line, write_stretches};
 use scenario::Scenario;
@@ -113,6 +123,34 @@ impl Work {
                 Ok(())
             }
             Work::Plan | Work::Recheck => Ok(()),
+        }
+    }
+
+    /// Ends the work at a log's end, when all its lines were judged, and gives the rest of the report that is asked for.
+    pub(crate) fn end(
+        self,
+        alloc: Global,
+        scenario: Scenario,
+        ended: &EndedLines,
+        asked: &Asked<'_>,
+    ) -> Result<Ending, SessionFault>
+        requires in_range { IsInRange scenario }
+        requires own { IsTrue (needs_own (mode_by self)) → IsSome scenario.own }
+        requires keeping { KeepsEnough self scenario (keeping_of ended.now.judge) }
+        requires rows { length asked.now.rows.now ≤ GREATEST_TEXT }
+        requires at_end { (log : List ℕ) × (given : List ℕ) × IsAtEnd self ended.now scenario log given }
+        ensures report { IfOk result (EndsIn self ended.now scenario asked.now) }
+        ensures answer { IfOk result (EndsAs self ended.now scenario asked.now) }
+        ensures cause { IfErr result (EndsFor self ended.now scenario asked.now) }
+    {
+        let judge = &ended.judge;
+        match self {
+            Work::Points => Ok(end_points(alloc, ended)?),
+            Work::Audit(audit) => end_audit(alloc, &scenario, audit, judge),
+            Work::Plan => end_plan(alloc, scenario, judge, asked.why),
+            Work::Drill(audit) => end_drill(alloc, &scenario, audit, judge),
+            Work::Recheck => end_recheck(alloc, scenario, judge, asked.rows),
+            Work::Watch(watch) => end_watch(alloc, &scenario, watch, judge),
         }
     }
 }

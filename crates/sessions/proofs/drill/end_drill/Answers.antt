@@ -1,19 +1,14 @@
-use Rattle.std.proofs.Common.{ℕ, List, ◌∙◌, ◌++◌, length, ap, subst, Err, []}
+use Rattle.std.proofs.Common.{ℕ, List, ◌∙◌, ◌++◌, ap, subst, Err}
 use Rattle.outside.proofs.ForCallers.{err_cause}
-use Rattle.auditor.specs.declared.total.Total.{Total}
 use Rattle.auditor.specs.AuditRows.{AreAuditRows}
 use Rattle.auditor.specs.AuditTotals.{AreTotals}
 use Rattle.traces.specs.ManyTraces.{HaveMoreThan}
-use Rattle.log_lines.specs.JudgedLines.{judged_lines}
-use Rattle.log_lines.specs.LogLines.{lines_of}
 use Rattle.log_lines.specs.SentLines.{sent}
 use Rattle.traces.specs.declared.all_traces.TheConstants.{MOST_TRACES}
 use Rattle.settled_ticks.specs.Sightings.{sighted}
 use Rattle.settling.specs.ScenarioAudit.{audit_numbers}
 use Rattle.sessions.specs.AuditReport.{sightings_of}
-use Rattle.report_parts.specs.OutcomeRows.{count_rows}
-use Rattle.report_parts.specs.TotalRows.{total_rows}
-use Rattle.sessions.specs.DrillReport.{drill_text}
+use Rattle.sessions.specs.declared.ending.Ending.{Ending}
 use Rattle.sessions.proofs.AtEnds.{judged_parts, of_one_log, of_whole}
 use Rattle.sessions.proofs.AuditText.{drill_cause}
 use Rattle.sessions.proofs.Meeting.{drill_done}
@@ -32,21 +27,18 @@ returns-in_err-end-clause-cause c =
     (λ pairs. of_whole judge scenario log given of (λ (lines : List (List ℕ)). HaveMoreThan MOST_TRACES (audit_numbers scenario) (sighted scenario (sent scenario lines)))
     (c.end.ensures.many (c.in_err-end.was ∙ ap Err pairs) of.lines of.more given of.stands (judged_parts judge scenario log given of))))
 
-pub write_totals-requires : goal.write_totals-requires
-write_totals-requires c =
+pub drill_report-requires : goal.drill_report-requires
+drill_report-requires c =
     let at = c.requires.at_end in
     let totals = c.in_ok-end.ensures.totals at.is.lines at.is.more at.given at.is.stands (judged_parts c.args.judge.now c.args.scenario.now at.log at.given at.is) in
-    ap length c.as_slice.ensures.value ∙ totals.count
+    totals.count
 
 pub returns-clause-report : goal.returns-clause-report
-unfolding sightings_of drill_text
+unfolding sightings_of
 returns-clause-report c = λ log given of.
     let scenario = c.args.scenario.now in
     let judge = c.args.judge.now in
-    let lines = lines_of log in
     let parts = judged_parts judge scenario log given of in
-    let totals = c.in_ok-write_totals.ensures [] c.new-text.ensures in
-    let counts = c.in_ok-write_counts.ensures scenario lines _ of.judged totals in
     record {
       rows = given ++ c.in_ok-end.end.rows.items;
       totals = c.in_ok-end.end.totals.items;
@@ -54,12 +46,12 @@ returns-clause-report c = λ log given of.
           (c.in_ok-end.ensures.rows of.lines of.more given of.stands parts);
       are_totals = of_whole judge scenario log given of (λ (ls : List (List ℕ)). AreTotals (audit_numbers scenario) (sighted scenario (sent scenario ls)) (given ++ c.in_ok-end.end.rows.items) c.in_ok-end.end.totals.items)
           (c.in_ok-end.ensures.totals of.lines of.more given of.stands parts);
-      is = c.in_ok-into_bytes.ensures _ counts ∙ ap (λ (ts : List Total). total_rows scenario.rules ts ++ count_rows (judged_lines scenario lines)) c.as_slice.ensures.value;
+      is = ap (λ (e : Ending). e.bytes.items) c.without_search.ensures ∙ c.in_ok-drill_report.ensures log of.judged;
     }
 
 pub returns-clause-answer : goal.returns-clause-answer
 unfolding sightings_of
 returns-clause-answer c = λ log given of.
     let scenario = c.args.scenario.now in
-    drill_done scenario log of.judged.calm (λ many. c.in_ok-end.ensures.few of.lines of.more given of.stands (judged_parts c.args.judge.now scenario log given of)
-    (subst (λ (ls : List (List ℕ)). HaveMoreThan MOST_TRACES (audit_numbers scenario) (sighted scenario (sent scenario ls))) of.whole many))
+    rw c.without_search.ensures (drill_done scenario log of.judged.calm (λ many. c.in_ok-end.ensures.few of.lines of.more given of.stands (judged_parts c.args.judge.now scenario log given of)
+    (subst (λ (ls : List (List ℕ)). HaveMoreThan MOST_TRACES (audit_numbers scenario) (sighted scenario (sent scenario ls))) of.whole many)))

@@ -1,6 +1,5 @@
-use Rattle.std.proofs.Common.{[], List, ℕ, ◌++◌, ◌∙◌, ap, refl, subst, sym}
+use Rattle.std.proofs.Common.{[], refl}
 use Rattle.command_line.specs.declared.mode.Mode.TheVariants as mode
-use Rattle.situations.specs.LeastPlans.{AllFail}
 use Rattle.outside.proofs.ForCallers.{err_cause}
 use Rattle.log_lines.specs.LogLines.{lines_of}
 use Rattle.log_lines.specs.SentLines.{sent}
@@ -33,8 +32,7 @@ returns-clause-report c = λ log stands.
     let lines = lines_of log in
     let messages = sent scenario lines in
     let found = c.in_ok-found.ensures.sought messages [] (few_messages c.args.judge.now scenario lines stands) (c.book.ensures.stands scenario lines stands) c.new-text.ensures in
-    let counts = c.in_ok-write_counts.ensures scenario lines _ stands found.has in
-    let (reasons, are, added) = c.in_ok-add_reasons.ensures in
+    let (reasons, are, is) = c.in_ok-bytes.ensures scenario lines _ stands found.has in
     record {
       own = found.own;
       ready = found.ready;
@@ -42,9 +40,6 @@ returns-clause-report c = λ log stands.
       manoeuvre = found.manoeuvre;
       is_first = found.is_first;
       reasons = reasons;
-      are_reasons = are_reasons c.args.why c.in_ok-found.found.none _ _ found.manoeuvre reasons (c.situation.ensures ∙ found.is_of) found.told are;
-      is = added ∙ ap (λ (t : List ℕ). t ++ reasons) (c.in_ok-bytes.ensures _ counts);
+      are_reasons = are_reasons c.args.why c.in_ok-found.found.none _ _ found.manoeuvre reasons found.is_of found.told are;
+      is = is;
     }
-
-pub add_reasons-requires-clause-fail : goal.add_reasons-requires-clause-fail
-add_reasons-requires-clause-fail c = λ none. subst AllFail (sym c.situation.ensures) (c.in_ok-found.ensures.fail none)

@@ -17,15 +17,16 @@ returns-in-Right-clause-report c = λ log judged.
     let s = c.in_ok-situation.situation in
     let rows = c.args.rows.now in
     let right : AreRight s (why_rows rows) = rw c.in-Right.is at c.in_ok-recheck.ensures.told in
-    recheck_report c.args.scenario log rows s (c.in_ok-situation.ensures.situation log judged) c.in_ok-no_plan-in-Right.field-0.items c.plans.result
-    right (c.in_ok-recheck.ensures.refutes c.in-Right.is) c.plans.ensures.value c.in_ok-no_plan-in-Right.ensures
+    rw c.without_search.ensures
+    (recheck_report c.args.scenario log rows s (c.in_ok-situation.ensures.situation log judged) c.in_ok-no_plan-in-Right.field-0.items c.plans.result
+    right (c.in_ok-recheck.ensures.refutes c.in-Right.is) c.plans.ensures.value c.in_ok-no_plan-in-Right.ensures)
 
 pub returns-in-Right-clause-answer : goal.returns-in-Right-clause-answer
 returns-in-Right-clause-answer c = λ log judged.
     let s = c.in_ok-situation.situation in
     let rows = c.args.rows.now in
     let right : AreRight s (why_rows rows) = rw c.in-Right.is at c.in_ok-recheck.ensures.told in
-    no_bad_entry c.args.scenario log rows s (c.in_ok-situation.ensures.situation log judged) judged.calm (λ k. not_both s (why_rows rows) k right)
+    rw c.without_search.ensures (no_bad_entry c.args.scenario log rows s (c.in_ok-situation.ensures.situation log judged) judged.calm (λ k. not_both s (why_rows rows) k right))
 
 pub returns-clause-cause : goal.returns-clause-cause
 returns-clause-cause c = λ log judged.

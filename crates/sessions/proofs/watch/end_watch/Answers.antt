@@ -8,6 +8,7 @@ use Rattle.settling.specs.ScenarioAudit.{audit_numbers}
 use Rattle.traces.specs.ManyTraces.{HaveMoreThan}
 use Rattle.traces.specs.declared.all_traces.TheConstants.{MOST_TRACES}
 use Rattle.sessions.specs.AuditReport.{sightings_of}
+use Rattle.sessions.specs.declared.ending.Ending.{Ending}
 use Rattle.sessions.proofs.AtEnds.{judged_parts, of_whole}
 use Rattle.sessions.proofs.Meeting.{watch_done}
 use Rattle.sessions.proofs.Watching.{alarms_of_rules, last_alarms, of_one_log, watch_cause, whole_watch}
@@ -45,12 +46,12 @@ returns-clause-report c = λ log given of.
     let told = rw c.as_slice.ensures.value at (c.in_ok-write_alarms.ensures [] c.new-text.ensures) in
     let counts = c.in_ok-write_counts.ensures scenario lines _ of.judged told in
     whole_watch scenario log given c.in_ok-alarms.alarms.items _ early
-    (c.in_ok-into_bytes.ensures _ counts)
+    (ap (λ (e : Ending). e.bytes.items) c.without_search.ensures ∙ c.in_ok-into_bytes.ensures _ counts)
 
 pub returns-clause-answer : goal.returns-clause-answer
 unfolding sightings_of
 returns-clause-answer c = λ log given of.
     let scenario = c.args.scenario.now in
     let judge = c.args.judge.now in
-    watch_done scenario log of.judged.calm (λ many. c.in_ok-alarms.ensures.few of.lines of.more given of.stands (judged_parts judge scenario log given of)
-    (subst (λ (ls : List (List ℕ)). HaveMoreThan MOST_TRACES (audit_numbers scenario) (sighted scenario (sent scenario ls))) of.whole many))
+    rw c.without_search.ensures (watch_done scenario log of.judged.calm (λ many. c.in_ok-alarms.ensures.few of.lines of.more given of.stands (judged_parts judge scenario log given of)
+    (subst (λ (ls : List (List ℕ)). HaveMoreThan MOST_TRACES (audit_numbers scenario) (sighted scenario (sent scenario ls))) of.whole many)))
