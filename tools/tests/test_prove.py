@@ -23,10 +23,12 @@ if sys.argv[1:3] == ["all", "check"]:
     print("== colregs\\n== summary\\nlow: ok\\nmiddle: ok")
     print("high: failed (1)\\ncolregs: not run, since high failed" if failed else "high: ok\\ncolregs: ok")
     sys.exit(1 if failed else 0)
-if sys.argv[1] == "run":
-    at_work("high")
+if sys.argv[1] == "lib":
+    at_work(os.path.basename(os.getcwd()))
     if "FAILS" in os.environ:
         sys.exit("error: this is why")
+if sys.argv[1] == "run":
+    at_work("colregs")
     if "UNLINKED" in os.environ:
         sys.exit("no linker")
     os.makedirs("out", exist_ok=True)
@@ -44,7 +46,7 @@ if sys.argv[1] == "try":
 class Prove(InFolder):
     def setUp(self):
         super().setUp()
-        for name in ("crates/colregs", "tools", "bin", "docs"):
+        for name in ("crates/colregs", "crates/high", "tools", "bin", "docs"):
             os.makedirs(self.path(name))
         for name in ("colregs", "tools/prove", "tools/unproved", "docs/colregs.1"):
             shutil.copy(os.path.join(TOP, name), self.path(name))
@@ -69,8 +71,8 @@ class Prove(InFolder):
         self.assertRegex(err, "^colregs: proving 4 crates, [0-9]+ at once")
         self.assertRegex(err, "(all 4|2 of 4) crates are proved")
         calls = text_of(self.calls).splitlines()
-        self.assertEqual([call.split(" --jobs ")[0] for call in calls], ["colregs all check", "colregs run"])
-        self.assertRegex(calls[1], "^colregs run --jobs [0-9]+$")
+        self.assertEqual([call.split(" --jobs ")[0] for call in calls if call[:8] != "high lib"], ["colregs all check", "colregs run"])
+        self.assertRegex(calls[-1], "^colregs run --jobs [0-9]+$")
         self.assertEqual(self.run_of("./colregs", "points", "a.toml"), (0, "ran points a.toml\na log\n", ""))
 
     def test_a_source_that_is_newer_builds_anew(self):
@@ -92,6 +94,14 @@ class Prove(InFolder):
         self.assertEqual(status, 0)
         self.assertIn("2 of 4 crates are proved, and the others wait for one another", err)
         self.assertRegex(err, r"colregs: crate 3 of 4, high, [012] s\n")
+        calls = text_of(self.calls).splitlines()
+        self.assertEqual([call.split(" --jobs ")[0] for call in calls], ["colregs all check", "high lib", "colregs run"])
+
+    def test_a_crate_that_fails_by_itself_is_told_with_its_words(self):
+        status, _, err = self.run_of(sys.executable, "tools/prove", TAKES="2.2", FAILS="1")
+        self.assertEqual(status, 1)
+        self.assertIn("error: this is why", err)
+        self.assertNotIn("colregs run", text_of(self.calls))
 
     def test_a_crate_that_fails_is_told_with_its_words(self):
         self.assertEqual(self.run_of("./colregs", "points", "a.toml", FAILS="1", TAKES="1")[0], 1)
