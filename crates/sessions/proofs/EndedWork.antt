@@ -17,7 +17,7 @@ use Rattle.settling.specs.declared.settled_audit.SettledAudit.{SettledAudit}
 use Rattle.settling.specs.declared.settled_watch.SettledWatch.{SettledWatch}
 use Rattle.sessions.specs.AuditReport.{IsAuditReport}
 use Rattle.sessions.specs.Endings.{IsReport}
-use Rattle.sessions.specs.Inner.AtEnd.{AreOfLog, EndsIn, IsAtEnd, IsAuditAtEnd, IsAuditOf, IsWatchAtEnd, IsWatchOf}
+use Rattle.sessions.specs.Inner.AtEnd.{AreOfLog, EndsWithReport, IsAtEnd, IsAuditAtEnd, IsAuditOf, IsWatchAtEnd, IsWatchOf}
 use Rattle.sessions.specs.PlanReport.{IsPlanReport}
 use Rattle.sessions.specs.PointsReport.{points_report}
 use Rattle.sessions.specs.RecheckReport.{IsRecheckReport}
@@ -72,34 +72,34 @@ module _ (ended : EndedLines) (scenario : Scenario) where
   -- ---- the report of each kind of work
 
   module _ (asked : Asked) (ending : Ending) where
-    pub points_in : ((s : Scenario) (log : List ℕ) → AreOfLog ended s log → point_rows (judged_lines s (ended_lines log)) ++ ending.bytes.items ≡ points_report s log)
-        → EndsIn work.Points ended scenario asked ending
-    points_in report log given at = ap (λ (g : List ℕ). g ++ ending.bytes.items) at.done.0 ∙ report scenario log at.of
+    pub points_reports : ((s : Scenario) (log : List ℕ) → AreOfLog ended s log → point_rows (judged_lines s (ended_lines log)) ++ ending.bytes.items ≡ points_report s log)
+        → EndsWithReport work.Points ended scenario asked ending
+    points_reports report log given at = ap (λ (g : List ℕ). g ++ ending.bytes.items) at.done.0 ∙ report scenario log at.of
 
-    pub audit_in : (audit : SettledAudit) → ((log : List ℕ) (rows : List Row) → IsAuditOf audit ended.judge scenario log rows
-        → IsAuditReport scenario log (stretch_rows scenario.rules rows ++ ending.bytes.items)) → EndsIn (work.Audit audit) ended scenario asked ending
-    audit_in audit report log given at =
+    pub audit_reports : (audit : SettledAudit) → ((log : List ℕ) (rows : List Row) → IsAuditOf audit ended.judge scenario log rows
+        → IsAuditReport scenario log (stretch_rows scenario.rules rows ++ ending.bytes.items)) → EndsWithReport (work.Audit audit) ended scenario asked ending
+    audit_reports audit report log given at =
         let of = audit_of audit log given at in
         subst (λ (g : List ℕ). IsAuditReport scenario log (g ++ ending.bytes.items)) (sym of.2) (report log of.0 of.1)
 
-    pub watch_in : (watch : SettledWatch) → ((log : List ℕ) (early : List Alarm) → IsWatchOf watch ended.judge scenario log early
-        → IsWatchReport scenario log (alarm_rows scenario.rules early ++ ending.bytes.items)) → EndsIn (work.Watch watch) ended scenario asked ending
-    watch_in watch report log given at =
+    pub watch_reports : (watch : SettledWatch) → ((log : List ℕ) (early : List Alarm) → IsWatchOf watch ended.judge scenario log early
+        → IsWatchReport scenario log (alarm_rows scenario.rules early ++ ending.bytes.items)) → EndsWithReport (work.Watch watch) ended scenario asked ending
+    watch_reports watch report log given at =
         let of = watch_of watch log given at in
         subst (λ (g : List ℕ). IsWatchReport scenario log (g ++ ending.bytes.items)) (sym of.2) (report log of.0 of.1)
 
-    pub drill_in : (audit : SettledAudit) → ((log : List ℕ) (rows : List Row) → IsAuditOf audit ended.judge scenario log rows
-        → IsReport mode.Drill asked.why asked.rows.now scenario log ending.bytes.items) → EndsIn (work.Drill audit) ended scenario asked ending
-    drill_in audit report log given at =
+    pub drill_reports : (audit : SettledAudit) → ((log : List ℕ) (rows : List Row) → IsAuditOf audit ended.judge scenario log rows
+        → IsReport mode.Drill asked.why asked.rows.now scenario log ending.bytes.items) → EndsWithReport (work.Drill audit) ended scenario asked ending
+    drill_reports audit report log given at =
         let of = drill_of audit log given at in
         subst (λ (g : List ℕ). IsReport mode.Drill asked.why asked.rows.now scenario log (g ++ ending.bytes.items)) (sym of.2) (report log of.0 of.1)
 
-    pub plan_in : ((log : List ℕ) → JudgeStandsFor ended.judge scenario (lines_of log) → IsPlanReport asked.why scenario log ending.bytes.items)
-        → EndsIn work.Plan ended scenario asked ending
-    plan_in report log given at =
+    pub plan_reports : ((log : List ℕ) → JudgeStandsFor ended.judge scenario (lines_of log) → IsPlanReport asked.why scenario log ending.bytes.items)
+        → EndsWithReport work.Plan ended scenario asked ending
+    plan_reports report log given at =
         subst (λ (g : List ℕ). IsPlanReport asked.why scenario log (g ++ ending.bytes.items)) (sym at.done.0) (report log at.of.judge)
 
-    pub recheck_in : ((log : List ℕ) → JudgeStandsFor ended.judge scenario (lines_of log) → IsRecheckReport asked.rows.now scenario log ending.bytes.items)
-        → EndsIn work.Recheck ended scenario asked ending
-    recheck_in report log given at =
+    pub recheck_reports : ((log : List ℕ) → JudgeStandsFor ended.judge scenario (lines_of log) → IsRecheckReport asked.rows.now scenario log ending.bytes.items)
+        → EndsWithReport work.Recheck ended scenario asked ending
+    recheck_reports report log given at =
         subst (λ (g : List ℕ). IsRecheckReport asked.rows.now scenario log (g ++ ending.bytes.items)) (sym at.done.0) (report log at.of.judge)

@@ -1,10 +1,10 @@
-//! What a session does on each line that is judged.
+//! What a session does on each line that is judged, and at the end of the log.
 ghost use Rattle.std.specs.Prelude.{◌≡◌, ◌≢◌, ◌≤◌, ◌++◌, [], ℕ, List, IfErr, IfOk, IfSome, IsSome, IsTrue, OnOk, Err, length};
 ghost use Rattle.audit_report.specs.ReportTexts.{HasText};
 ghost use Rattle.log_lines.specs.Standing.{keeping_of};
 ghost use Rattle.rechecks.specs.declared.checked_text.TheConstants.{GREATEST_TEXT};
 ghost use Rattle.scenario.specs.ScenarioValues.{IsInRange};
-ghost use Rattle.sessions.specs.Inner.AtEnd.{EndsAs, EndsFor, EndsIn, IsAtEnd};
+ghost use Rattle.sessions.specs.Inner.AtEnd.{EndsWithAnswer, EndsWithCause, EndsWithReport, IsAtEnd};
 ghost use Rattle.sessions.specs.Inner.Working.{GoesOn, IsDone, IsReadyFor, Works};
 ghost use Rattle.sessions.specs.Modes.{needs_own, reports};
 ghost use Rattle.sessions.specs.Refusals.{HasManySettled};
@@ -139,9 +139,9 @@ impl Work {
         requires keeping { KeepsEnough self scenario (keeping_of ended.now.judge) }
         requires rows { length asked.now.rows.now ≤ GREATEST_TEXT }
         requires at_end { (log : List ℕ) × (given : List ℕ) × IsAtEnd self ended.now scenario log given }
-        ensures report { IfOk result (EndsIn self ended.now scenario asked.now) }
-        ensures answer { IfOk result (EndsAs self ended.now scenario asked.now) }
-        ensures cause { IfErr result (EndsFor self ended.now scenario asked.now) }
+        ensures report { IfOk result (EndsWithReport self ended.now scenario asked.now) }
+        ensures answer { IfOk result (EndsWithAnswer self ended.now scenario asked.now) }
+        ensures cause { IfErr result (EndsWithCause self ended.now scenario asked.now) }
     {
         let judge = &ended.judge;
         match self {

@@ -34,18 +34,18 @@ pub record IsAtEnd (work : Work) (ended : EndedLines) (scenario : Scenario) (log
   pub of : AreOfLog ended scenario log
 
 -- What the end of the work comes to, of each log at whose end it stands: the report that is asked for, ..
-abbrev pub EndsIn : Work → EndedLines → Scenario → Asked → Ending → Type 0
-EndsIn work ended scenario asked ending = (log given : List ℕ) → IsAtEnd work ended scenario log given
+abbrev pub EndsWithReport : Work → EndedLines → Scenario → Asked → Ending → Type 0
+EndsWithReport work ended scenario asked ending = (log given : List ℕ) → IsAtEnd work ended scenario log given
     → IsReport (mode_by work) asked.why asked.rows.now scenario log (given ++ ending.bytes.items)
 
 -- .. the answer that it is, ..
-abbrev pub EndsAs : Work → EndedLines → Scenario → Asked → Ending → Type 0
-EndsAs work ended scenario asked ending = (log given : List ℕ) → IsAtEnd work ended scenario log given
+abbrev pub EndsWithAnswer : Work → EndedLines → Scenario → Asked → Ending → Type 0
+EndsWithAnswer work ended scenario asked ending = (log given : List ℕ) → IsAtEnd work ended scenario log given
     → IsAnswerOf (mode_by work) asked.rows.now scenario log (Ok ending.none)
 
 -- .. or why there is none.
-abbrev pub EndsFor : Work → EndedLines → Scenario → Asked → SessionFault → Type 0
-EndsFor work ended scenario asked why = (log given : List ℕ) → IsAtEnd work ended scenario log given → EndCause (mode_by work) asked.rows.now scenario log why
+abbrev pub EndsWithCause : Work → EndedLines → Scenario → Asked → SessionFault → Type 0
+EndsWithCause work ended scenario asked why = (log given : List ℕ) → IsAtEnd work ended scenario log given → EndCause (mode_by work) asked.rows.now scenario log why
 
 -- What is looked on stands for the first lines of the log, and has given these; and the judge has taken all lines.
 module _ {Item : Type 0} (Stands : List (List ℕ) → List Item → Type 0) (judge : Judge) (scenario : Scenario) (log : List ℕ) where

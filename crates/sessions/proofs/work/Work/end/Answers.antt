@@ -2,11 +2,11 @@ use Rattle.std.proofs.Common.{refl, sym, subst}
 use Rattle.std.proofs.lemmas.Result.{IfOk-weaker, IfErr-weaker}
 use Rattle.std.specs.Prelude.{IsTrue, IfOk, IfErr}
 use Rattle.log_lines.specs.Standing.{keeping_of}
-use Rattle.sessions.specs.Inner.AtEnd.{EndsAs, EndsFor, EndsIn}
+use Rattle.sessions.specs.Inner.AtEnd.{EndsWithAnswer, EndsWithCause, EndsWithReport}
 use Rattle.sessions.specs.Modes.{needs_own}
 use Rattle.sessions.specs.Standing.{KeepsEnough, mode_by}
 use Rattle.sessions.specs.declared.work.Work.{Work}
-use Rattle.sessions.proofs.EndedWork.{AtSomeEnd, audit_here, audit_in, audit_of, drill_here, drill_in, drill_of, judged_there, plan_in, points_in, recheck_in, watch_here, watch_in, watch_of}
+use Rattle.sessions.proofs.EndedWork.{AtSomeEnd, audit_here, audit_reports, audit_of, drill_here, drill_reports, drill_of, judged_there, plan_reports, points_reports, recheck_reports, watch_here, watch_reports, watch_of}
 use Rattle.sessions.proofs.Meeting.{points_done}
 use Rattle.sessions.proofs.work.Work.end.Goals as goal
 
@@ -52,7 +52,7 @@ end_recheck-requires-clause-own c = c.requires.own (subst (λ (w : Work). IsTrue
 
 pub returns-in_ok-end_points-in-Points-clause-report : goal.returns-in_ok-end_points-in-Points-clause-report
 returns-in_ok-end_points-in-Points-clause-report c =
-    rw c.in-Points.is (points_in c.args.ended.now c.args.scenario c.args.asked.now c.in_ok-end_points-in-Points.field-0 c.in_ok-end_points-in-Points.ensures.report)
+    rw c.in-Points.is (points_reports c.args.ended.now c.args.scenario c.args.asked.now c.in_ok-end_points-in-Points.field-0 c.in_ok-end_points-in-Points.ensures.report)
 
 pub returns-in_ok-end_points-in-Points-clause-answer : goal.returns-in_ok-end_points-in-Points-clause-answer
 returns-in_ok-end_points-in-Points-clause-answer c =
@@ -60,75 +60,75 @@ returns-in_ok-end_points-in-Points-clause-answer c =
 
 pub returns-in-Audit-clause-report : goal.returns-in-Audit-clause-report
 returns-in-Audit-clause-report c =
-    subst (λ (w : Work). IfOk c.end_audit.result (EndsIn w c.args.ended.now c.args.scenario c.args.asked.now)) (sym c.in-Audit.is)
-    (IfOk-weaker c.end_audit.result _ _ (λ ending report. audit_in c.args.ended.now c.args.scenario c.args.asked.now ending c.in-Audit.audit report) c.end_audit.ensures.report)
+    subst (λ (w : Work). IfOk c.end_audit.result (EndsWithReport w c.args.ended.now c.args.scenario c.args.asked.now)) (sym c.in-Audit.is)
+    (IfOk-weaker c.end_audit.result _ _ (λ ending report. audit_reports c.args.ended.now c.args.scenario c.args.asked.now ending c.in-Audit.audit report) c.end_audit.ensures.report)
 
 pub returns-in-Audit-clause-answer : goal.returns-in-Audit-clause-answer
 returns-in-Audit-clause-answer c =
-    subst (λ (w : Work). IfOk c.end_audit.result (EndsAs w c.args.ended.now c.args.scenario c.args.asked.now)) (sym c.in-Audit.is)
+    subst (λ (w : Work). IfOk c.end_audit.result (EndsWithAnswer w c.args.ended.now c.args.scenario c.args.asked.now)) (sym c.in-Audit.is)
     (IfOk-weaker c.end_audit.result _ _ (λ ending answer log given at. let of = audit_of c.args.ended.now c.args.scenario c.in-Audit.audit log given at in answer log of.0 of.1) c.end_audit.ensures.answer)
 
 pub returns-in-Audit-clause-cause : goal.returns-in-Audit-clause-cause
 returns-in-Audit-clause-cause c =
-    subst (λ (w : Work). IfErr c.end_audit.result (EndsFor w c.args.ended.now c.args.scenario c.args.asked.now)) (sym c.in-Audit.is)
+    subst (λ (w : Work). IfErr c.end_audit.result (EndsWithCause w c.args.ended.now c.args.scenario c.args.asked.now)) (sym c.in-Audit.is)
     (IfErr-weaker c.end_audit.result _ _ (λ why cause log given at. let of = audit_of c.args.ended.now c.args.scenario c.in-Audit.audit log given at in cause log of.0 of.1) c.end_audit.ensures.cause)
 
 pub returns-in-Drill-clause-report : goal.returns-in-Drill-clause-report
 returns-in-Drill-clause-report c =
-    subst (λ (w : Work). IfOk c.end_drill.result (EndsIn w c.args.ended.now c.args.scenario c.args.asked.now)) (sym c.in-Drill.is)
-    (IfOk-weaker c.end_drill.result _ _ (λ ending report. drill_in c.args.ended.now c.args.scenario c.args.asked.now ending c.in-Drill.audit report) c.end_drill.ensures.report)
+    subst (λ (w : Work). IfOk c.end_drill.result (EndsWithReport w c.args.ended.now c.args.scenario c.args.asked.now)) (sym c.in-Drill.is)
+    (IfOk-weaker c.end_drill.result _ _ (λ ending report. drill_reports c.args.ended.now c.args.scenario c.args.asked.now ending c.in-Drill.audit report) c.end_drill.ensures.report)
 
 pub returns-in-Drill-clause-answer : goal.returns-in-Drill-clause-answer
 returns-in-Drill-clause-answer c =
-    subst (λ (w : Work). IfOk c.end_drill.result (EndsAs w c.args.ended.now c.args.scenario c.args.asked.now)) (sym c.in-Drill.is)
+    subst (λ (w : Work). IfOk c.end_drill.result (EndsWithAnswer w c.args.ended.now c.args.scenario c.args.asked.now)) (sym c.in-Drill.is)
     (IfOk-weaker c.end_drill.result _ _ (λ ending answer log given at. let of = drill_of c.args.ended.now c.args.scenario c.in-Drill.audit log given at in answer log of.0 of.1) c.end_drill.ensures.answer)
 
 pub returns-in-Drill-clause-cause : goal.returns-in-Drill-clause-cause
 returns-in-Drill-clause-cause c =
-    subst (λ (w : Work). IfErr c.end_drill.result (EndsFor w c.args.ended.now c.args.scenario c.args.asked.now)) (sym c.in-Drill.is)
+    subst (λ (w : Work). IfErr c.end_drill.result (EndsWithCause w c.args.ended.now c.args.scenario c.args.asked.now)) (sym c.in-Drill.is)
     (IfErr-weaker c.end_drill.result _ _ (λ why cause log given at. let of = drill_of c.args.ended.now c.args.scenario c.in-Drill.audit log given at in cause log of.0 of.1) c.end_drill.ensures.cause)
 
 pub returns-in-Watch-clause-report : goal.returns-in-Watch-clause-report
 returns-in-Watch-clause-report c =
-    subst (λ (w : Work). IfOk c.end_watch.result (EndsIn w c.args.ended.now c.args.scenario c.args.asked.now)) (sym c.in-Watch.is)
-    (IfOk-weaker c.end_watch.result _ _ (λ ending report. watch_in c.args.ended.now c.args.scenario c.args.asked.now ending c.in-Watch.watch report) c.end_watch.ensures.report)
+    subst (λ (w : Work). IfOk c.end_watch.result (EndsWithReport w c.args.ended.now c.args.scenario c.args.asked.now)) (sym c.in-Watch.is)
+    (IfOk-weaker c.end_watch.result _ _ (λ ending report. watch_reports c.args.ended.now c.args.scenario c.args.asked.now ending c.in-Watch.watch report) c.end_watch.ensures.report)
 
 pub returns-in-Watch-clause-answer : goal.returns-in-Watch-clause-answer
 returns-in-Watch-clause-answer c =
-    subst (λ (w : Work). IfOk c.end_watch.result (EndsAs w c.args.ended.now c.args.scenario c.args.asked.now)) (sym c.in-Watch.is)
+    subst (λ (w : Work). IfOk c.end_watch.result (EndsWithAnswer w c.args.ended.now c.args.scenario c.args.asked.now)) (sym c.in-Watch.is)
     (IfOk-weaker c.end_watch.result _ _ (λ ending answer log given at. let of = watch_of c.args.ended.now c.args.scenario c.in-Watch.watch log given at in answer log of.0 of.1) c.end_watch.ensures.answer)
 
 pub returns-in-Watch-clause-cause : goal.returns-in-Watch-clause-cause
 returns-in-Watch-clause-cause c =
-    subst (λ (w : Work). IfErr c.end_watch.result (EndsFor w c.args.ended.now c.args.scenario c.args.asked.now)) (sym c.in-Watch.is)
+    subst (λ (w : Work). IfErr c.end_watch.result (EndsWithCause w c.args.ended.now c.args.scenario c.args.asked.now)) (sym c.in-Watch.is)
     (IfErr-weaker c.end_watch.result _ _ (λ why cause log given at. let of = watch_of c.args.ended.now c.args.scenario c.in-Watch.watch log given at in cause log of.0 of.1) c.end_watch.ensures.cause)
 
 pub returns-in-Plan-clause-report : goal.returns-in-Plan-clause-report
 returns-in-Plan-clause-report c =
-    subst (λ (w : Work). IfOk c.end_plan.result (EndsIn w c.args.ended.now c.args.scenario c.args.asked.now)) (sym c.in-Plan.is)
-    (IfOk-weaker c.end_plan.result _ _ (λ ending report. plan_in c.args.ended.now c.args.scenario c.args.asked.now ending report) c.end_plan.ensures.report)
+    subst (λ (w : Work). IfOk c.end_plan.result (EndsWithReport w c.args.ended.now c.args.scenario c.args.asked.now)) (sym c.in-Plan.is)
+    (IfOk-weaker c.end_plan.result _ _ (λ ending report. plan_reports c.args.ended.now c.args.scenario c.args.asked.now ending report) c.end_plan.ensures.report)
 
 pub returns-in-Plan-clause-answer : goal.returns-in-Plan-clause-answer
 returns-in-Plan-clause-answer c =
-    subst (λ (w : Work). IfOk c.end_plan.result (EndsAs w c.args.ended.now c.args.scenario c.args.asked.now)) (sym c.in-Plan.is)
+    subst (λ (w : Work). IfOk c.end_plan.result (EndsWithAnswer w c.args.ended.now c.args.scenario c.args.asked.now)) (sym c.in-Plan.is)
     (IfOk-weaker c.end_plan.result _ _ (λ ending answer log given at. answer log at.of.judge) c.end_plan.ensures.answer)
 
 pub returns-in-Plan-clause-cause : goal.returns-in-Plan-clause-cause
 returns-in-Plan-clause-cause c =
-    subst (λ (w : Work). IfErr c.end_plan.result (EndsFor w c.args.ended.now c.args.scenario c.args.asked.now)) (sym c.in-Plan.is)
+    subst (λ (w : Work). IfErr c.end_plan.result (EndsWithCause w c.args.ended.now c.args.scenario c.args.asked.now)) (sym c.in-Plan.is)
     (IfErr-weaker c.end_plan.result _ _ (λ why cause log given at. cause log at.of.judge) c.end_plan.ensures.cause)
 
 pub returns-in-Recheck-clause-report : goal.returns-in-Recheck-clause-report
 returns-in-Recheck-clause-report c =
-    subst (λ (w : Work). IfOk c.end_recheck.result (EndsIn w c.args.ended.now c.args.scenario c.args.asked.now)) (sym c.in-Recheck.is)
-    (IfOk-weaker c.end_recheck.result _ _ (λ ending report. recheck_in c.args.ended.now c.args.scenario c.args.asked.now ending report) c.end_recheck.ensures.report)
+    subst (λ (w : Work). IfOk c.end_recheck.result (EndsWithReport w c.args.ended.now c.args.scenario c.args.asked.now)) (sym c.in-Recheck.is)
+    (IfOk-weaker c.end_recheck.result _ _ (λ ending report. recheck_reports c.args.ended.now c.args.scenario c.args.asked.now ending report) c.end_recheck.ensures.report)
 
 pub returns-in-Recheck-clause-answer : goal.returns-in-Recheck-clause-answer
 returns-in-Recheck-clause-answer c =
-    subst (λ (w : Work). IfOk c.end_recheck.result (EndsAs w c.args.ended.now c.args.scenario c.args.asked.now)) (sym c.in-Recheck.is)
+    subst (λ (w : Work). IfOk c.end_recheck.result (EndsWithAnswer w c.args.ended.now c.args.scenario c.args.asked.now)) (sym c.in-Recheck.is)
     (IfOk-weaker c.end_recheck.result _ _ (λ ending answer log given at. answer log at.of.judge) c.end_recheck.ensures.answer)
 
 pub returns-in-Recheck-clause-cause : goal.returns-in-Recheck-clause-cause
 returns-in-Recheck-clause-cause c =
-    subst (λ (w : Work). IfErr c.end_recheck.result (EndsFor w c.args.ended.now c.args.scenario c.args.asked.now)) (sym c.in-Recheck.is)
+    subst (λ (w : Work). IfErr c.end_recheck.result (EndsWithCause w c.args.ended.now c.args.scenario c.args.asked.now)) (sym c.in-Recheck.is)
     (IfErr-weaker c.end_recheck.result _ _ (λ why cause log given at. cause log at.of.judge) c.end_recheck.ensures.cause)
