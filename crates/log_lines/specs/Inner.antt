@@ -1,2 +1,3 @@
 pub mod JudgeState
 pub mod Times
+pub mod OpenLines

@@ -1,6 +1,5 @@
 pub mod LogLines
 pub mod GrowingLog
-pub mod Pieces
 pub mod LineOutcomes
 pub mod JudgedLines
 pub mod EachLine

@@ -1,6 +1,6 @@
 -- What a judge stands for: the lines of a log that it was given, and what each of them came to. What an open line and streamed lines
 -- stand for: the bytes of a log so far.
-use Rattle.std.specs.Prelude.{ℕ, ◌≡◌, ◌≤◌, ◌<◌, ◌==◌, ◌^◌, Bool, false, count_by, length, slice_index, take, unwrap_or, List, Option, None}
+use Rattle.std.specs.Prelude.{ℕ, ◌≡◌, ◌≤◌, ◌<◌, ◌==◌, ◌^◌, Bool, false, count_by, length, slice_index, take, unwrap_or, List, MatchOption, Option, None}
 use Rattle.std.specs.List.{last_or}
 use Rattle.aivdm.specs.OpenMessages.{StandsFor as JoinerStandsFor}
 use Rattle.scenario.specs.declared.values.Scenario.{Scenario}
@@ -53,6 +53,10 @@ pub record StandsFor (judge : Judge) (scenario : Scenario) (lines : List (List �
 -- An open line stands for a log: of the part behind the last line feed its first bytes are kept, two more than a line may have.
 abbrev pub OpenLineStandsFor : OpenLine → List ℕ → Type 0
 OpenLineStandsFor line log = line.bytes.items ≡ take 1026 (open_part log)
+
+-- What is known of a line: its bytes, or that it is longer than a line may be.
+abbrev pub IsKnownLine : Option (List ℕ) → List ℕ → Type 0
+IsKnownLine known line = MatchOption known (1024 < length line) (λ (bytes : List ℕ). bytes ≡ line)
 
 -- how much streamed lines keep of each vessel
 abbrev pub kept_of : StreamedLines → Keeping

@@ -1,10 +1,11 @@
 //! What stands behind the last line feed of a log.
-ghost use Rattle.std.specs.Prelude.{◌≡◌, ◌==◌, ◌++◌, ◌∷◌, ◌<◌, [], ℕ, List, MatchOption, OnOk, false, length};
+ghost use Rattle.std.specs.Prelude.{◌≡◌, ◌==◌, ◌++◌, ◌∷◌, [], ℕ, List, OnOk, false, length};
 ghost use Rattle.std.specs.List.{All};
 ghost use Rattle.std.specs.Option.{option_copied};
 ghost use Rattle.log_lines.specs.LogLines.{is_line_feed, without_carriage_return};
 ghost use Rattle.log_lines.specs.GrowingLog.{open_part};
-ghost use Rattle.log_lines.specs.Standing.{OpenLineStandsFor};
+ghost use Rattle.log_lines.specs.Inner.OpenLines.{HasExtended};
+ghost use Rattle.log_lines.specs.Standing.{IsKnownLine, OpenLineStandsFor};
 
 use crate::line_feeds::strip_carriage_return;
 use outside::Memory;
@@ -50,13 +51,34 @@ impl OpenLine {
     /// The open line, without a carriage return at its end. `None` where it has more than 1024 bytes, though not each longer line
     /// is told so.
     pub fn line(&self) -> Option<&[u8]>
-        ensures { (log : List ℕ) → OpenLineStandsFor self.now log → MatchOption (option_copied result)
-            (1024 < length (without_carriage_return (open_part log))) (λ line. line ≡ without_carriage_return (open_part log)) }
+        ensures { (log : List ℕ) → OpenLineStandsFor self.now log → IsKnownLine (option_copied result) (without_carriage_return (open_part log)) }
     {
         if self.bytes.len() >= KEPT {
             return None;
         }
         Some(strip_carriage_return(self.bytes.as_slice()))
+    }
+
+    /// Goes on with the bytes before the line feed that ends it, where it has a byte. Where it has none, none is kept: they are the line.
+    pub(crate) fn extend_open(&mut self, part: &[u8]) -> Result<(), Memory>
+        requires { All (λ byte. is_line_feed byte ≡ false) part.now }
+        ensures { OnOk result ((log : List ℕ) → OpenLineStandsFor self.old log → HasExtended self.new log part.now) }
+    {
+        if self.is_empty() {
+            return Ok(());
+        }
+        self.extend(part)
+    }
+
+    /// The line that a line feed ends behind this part, where the line has gone on with it: the open line, or else the part in its place.
+    pub(crate) fn ended_by<'line>(&'line self, part: &'line [u8]) -> Option<&'line [u8]>
+        ensures { (log : List ℕ) → HasExtended self.now log part.now → IsKnownLine (option_copied result) (without_carriage_return (open_part log ++ part.now)) }
+    {
+        if self.is_empty() {
+            Some(strip_carriage_return(part))
+        } else {
+            self.line()
+        }
     }
 
     /// Ends it by a line feed: a new one begins.

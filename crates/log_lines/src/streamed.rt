@@ -1,69 +1,43 @@
 //! Lines that are judged as they end.
-ghost use Rattle.std.specs.Prelude.{◌≡◌, ◌+◌, ◌<◌, ◌^◌, ◌++◌, ◌∷◌, [], ℕ, List, IfOk, IfSome, IsNone, IsTrue, OnOk, Err, false, length};
+ghost use Rattle.std.specs.Prelude.{◌≡◌, ◌+◌, ◌<◌, ◌^◌, ◌++◌, ◌∷◌, [], ℕ, List, IfOk, IsTrue, OnOk, Err, false, if◌then◌else◌, length};
 ghost use Rattle.std.specs.List.{All};
-ghost use Rattle.std.specs.Option.{option_copied, option_to_list};
-ghost use Rattle.log_lines.specs.GrowingLog.{ended_lines, open_lines, open_part};
+ghost use Rattle.std.specs.Option.{option_copied};
+ghost use Rattle.log_lines.specs.GrowingLog.{ended_lines};
 ghost use Rattle.log_lines.specs.JudgedLines.{greatest_held, held_behind, is_crowded, judged_line, judged_lines};
-ghost use Rattle.log_lines.specs.LogLines.{is_line_feed, lines_of, without_carriage_return};
-ghost use Rattle.log_lines.specs.Standing.{LinesStandFor, OpenLineStandsFor, StandsFor as JudgeStandsFor, kept_of, keeping_of};
+ghost use Rattle.log_lines.specs.LogLines.{is_line_feed, lines_of};
+ghost use Rattle.log_lines.specs.Standing.{IsKnownLine, LinesStandFor, StandsFor as JudgeStandsFor, kept_of, keeping_of};
 ghost use Rattle.scenario.specs.ScenarioValues.{IsInRange};
 ghost use Rattle.scenario.specs.declared.values.Scenario.{Scenario};
-ghost use Rattle.log_lines.specs.Pieces.{IsPiece};
 ghost use Rattle.tracks.specs.Standing.{forgetting};
 ghost use Rattle.tracks.specs.declared.entry.BookFault.TheVariants.{TooManyVessels};
 
 use crate::judge::Judge;
 use crate::judged::Judged;
-use crate::line_feeds::strip_carriage_return;
 use crate::open_line::OpenLine;
 use aivdm::SentenceRoom;
+use outside::Memory;
 use scenario::Scenario;
 use std::alloc::Global;
 use tracks::{BookFault, Keeping};
 
-/// What stands before the line feed that ends a piece, if one does.
-fn before_line_feed(piece: &[u8]) -> Option<&[u8]>
-    requires { IsPiece piece.now }
-    ensures some { IfSome (option_copied result) (λ part. (piece.now ≡ part ++ 10 ∷ []) × All (λ byte. is_line_feed byte ≡ false) part) }
-    ensures none { IsNone result → All (λ byte. is_line_feed byte ≡ false) piece.now }
-{
-    let Some(last) = piece.len().checked_sub(1) else {
-        return None;
-    };
-    if piece[last] != b'\n' {
-        return None;
-    }
-    Some(&piece[..last])
-}
-
-/// Judges the line that is open.
-fn judge_open(
+/// Judges a line, or one of which it is only known that it is longer than a line may be.
+fn judge_line(
     judge: &mut Judge,
     room: &mut SentenceRoom,
-    line: &OpenLine,
+    line: Option<&[u8]>,
 ) -> Result<Judged, BookFault>
-    ensures judged { IfOk result (λ judged. (scenario : Scenario) (before : List (List ℕ)) (log : List ℕ) → JudgeStandsFor judge.old scenario before
-        → OpenLineStandsFor line.now log → judged ≡ judged_line scenario before (without_carriage_return (open_part log))) }
-    ensures stands { OnOk result ((scenario : Scenario) (before : List (List ℕ)) (log : List ℕ) → length before + 1 < 2 ^ 64
-        → JudgeStandsFor judge.old scenario before → OpenLineStandsFor line.now log
-        → JudgeStandsFor judge.new scenario (before ++ without_carriage_return (open_part log) ∷ [])) }
+    ensures judged { IfOk result (λ judged. (scenario : Scenario) (before : List (List ℕ)) (known : List ℕ) → JudgeStandsFor judge.old scenario before
+        → IsKnownLine (option_copied line.entry) known → judged ≡ judged_line scenario before known) }
+    ensures stands { OnOk result ((scenario : Scenario) (before : List (List ℕ)) (known : List ℕ) → length before + 1 < 2 ^ 64
+        → JudgeStandsFor judge.old scenario before → IsKnownLine (option_copied line.entry) known → JudgeStandsFor judge.new scenario (before ++ known ∷ [])) }
     ensures keeping { keeping_of judge.new ≡ keeping_of judge.old }
-    ensures crowded { result ≡ Err TooManyVessels → (scenario : Scenario) (before : List (List ℕ)) (log : List ℕ) → JudgeStandsFor judge.old scenario before
-        → OpenLineStandsFor line.now log → greatest_held < held_behind scenario before (without_carriage_return (open_part log)) }
+    ensures crowded { result ≡ Err TooManyVessels → (scenario : Scenario) (before : List (List ℕ)) (known : List ℕ) → JudgeStandsFor judge.old scenario before
+        → IsKnownLine (option_copied line.entry) known → greatest_held < held_behind scenario before known }
 {
-    match line.line() {
+    match line {
         Some(line) => judge.take(room, line),
         None => Ok(judge.take_long()),
     }
-}
-
-/// What the lines of a whole log came to.
-#[derive(Drop)]
-pub struct EndedLines {
-    /// The judge of all its lines.
-    pub judge: Judge,
-    /// What the last line came to, where no line feed ends it.
-    pub last: Option<Judged>,
 }
 
 /// The lines of a log that comes in pieces, each judged as it ends.
@@ -104,68 +78,39 @@ impl StreamedLines {
         self.judge.forget(time);
     }
 
-    /// Judges the line that these bytes and a line feed end.
-    fn end_line(&mut self, part: &[u8]) -> Result<Judged, BookFault>
+    /// Takes bytes of a log among which there is no line feed. After an `Err` the lines may only be dropped.
+    pub fn extend(&mut self, part: &[u8]) -> Result<(), Memory>
+        requires { All (λ byte. is_line_feed byte ≡ false) part.now }
+        ensures stands { OnOk result ((scenario : Scenario) (log : List ℕ) → LinesStandFor self.old scenario log → LinesStandFor self.new scenario (log ++ part.now)) }
+        ensures keeping { kept_of self.new ≡ kept_of self.old }
+    {
+        self.line.extend(part)
+    }
+
+    /// Takes bytes of a log among which there is no line feed, and the line feed behind them, and gives what the line came to that it ends.
+    /// After an `Err` the lines may only be dropped.
+    pub fn end_line(&mut self, part: &[u8]) -> Result<Judged, BookFault>
         requires { All (λ byte. is_line_feed byte ≡ false) part.now }
         ensures judged { IfOk result (λ judged. (scenario : Scenario) (log : List ℕ) → LinesStandFor self.old scenario log
-            → judged ≡ judged_line scenario (ended_lines log) (without_carriage_return (open_part log ++ part.now))) }
+            → judged_lines scenario (ended_lines (log ++ (part.now ++ 10 ∷ []))) ≡ judged_lines scenario (ended_lines log) ++ judged ∷ []) }
         ensures stands { OnOk result ((scenario : Scenario) (log : List ℕ) → length (ended_lines log) + 1 < 2 ^ 64 → LinesStandFor self.old scenario log
-            → LinesStandFor self.new scenario ((log ++ part.now) ++ 10 ∷ [])) }
+            → LinesStandFor self.new scenario (log ++ (part.now ++ 10 ∷ []))) }
         ensures keeping { kept_of self.new ≡ kept_of self.old }
         ensures crowded { result ≡ Err TooManyVessels → (scenario : Scenario) (log : List ℕ) → LinesStandFor self.old scenario log
-            → greatest_held < held_behind scenario (ended_lines log) (without_carriage_return (open_part log ++ part.now)) }
+            → IsTrue (is_crowded scenario (ended_lines (log ++ (part.now ++ 10 ∷ [])))) }
     {
-        if self.line.is_empty() {
-            return self.judge.take(&mut self.room, strip_carriage_return(part));
-        }
-        self.line.extend(part)?;
-        let judged = judge_open(&mut self.judge, &mut self.room, &self.line)?;
+        self.line.extend_open(part)?;
+        let line = self.line.ended_by(part);
+        let judged = judge_line(&mut self.judge, &mut self.room, line)?;
         self.line.end();
         Ok(judged)
     }
 
-    /// Takes the next piece of a log, in which no line feed stands but as its last byte, and gives what the line came to that it ends, if it
-    /// ends one. After an `Err` the lines may only be dropped.
-    pub fn take(&mut self, piece: &[u8]) -> Result<Option<Judged>, BookFault>
-        requires { IsPiece piece.now }
-        ensures judged { IfOk result (λ judged. (scenario : Scenario) (log : List ℕ) → LinesStandFor self.old scenario log
-            → judged_lines scenario (ended_lines (log ++ piece.now)) ≡ judged_lines scenario (ended_lines log) ++ option_to_list judged) }
-        ensures open { IfOk result (λ judged. IsNone judged → (log : List ℕ) → ended_lines (log ++ piece.now) ≡ ended_lines log) }
-        ensures stands { OnOk result ((scenario : Scenario) (log : List ℕ) → length (ended_lines log) + 1 < 2 ^ 64 → LinesStandFor self.old scenario log
-            → LinesStandFor self.new scenario (log ++ piece.now)) }
-        ensures keeping { kept_of self.new ≡ kept_of self.old }
-        ensures crowded { result ≡ Err TooManyVessels → (scenario : Scenario) (log : List ℕ) → LinesStandFor self.old scenario log
-            → IsTrue (is_crowded scenario (ended_lines (log ++ piece.now))) }
+    /// Whether a line is open: bytes came behind the last line feed. At a log's end one is a line all the same, as if a line feed ended it.
+    pub fn is_open(&self) -> bool
+        ensures { (scenario : Scenario) (log : List ℕ) → LinesStandFor self.now scenario log
+            → lines_of log ≡ (if result then ended_lines (log ++ 10 ∷ []) else ended_lines log) }
     {
-        match before_line_feed(piece) {
-            Some(part) => Ok(Some(self.end_line(part)?)),
-            None => {
-                self.line.extend(piece)?;
-                Ok(None)
-            }
-        }
-    }
-
-    /// Ends the log: judges the line that is left open, if it has a byte.
-    pub fn end(mut self) -> Result<EndedLines, BookFault>
-        ensures judged { IfOk result (λ ended. (scenario : Scenario) (log : List ℕ) → LinesStandFor self scenario log
-            → judged_lines scenario (lines_of log) ≡ judged_lines scenario (ended_lines log) ++ option_to_list ended.last) }
-        ensures stands { IfOk result (λ ended. (scenario : Scenario) (log : List ℕ) → length (ended_lines log) + 1 < 2 ^ 64 → LinesStandFor self scenario log
-            → JudgeStandsFor ended.judge scenario (lines_of log)) }
-        ensures keeping { IfOk result (λ ended. keeping_of ended.judge ≡ kept_of self) }
-        ensures crowded { result ≡ Err TooManyVessels → (scenario : Scenario) (log : List ℕ) → LinesStandFor self scenario log
-            → IsTrue (is_crowded scenario (lines_of log)) }
-    {
-        if self.line.is_empty() {
-            return Ok(EndedLines {
-                judge: self.judge,
-                last: None,
-            });
-        }
-        let judged = judge_open(&mut self.judge, &mut self.room, &self.line)?;
-        Ok(EndedLines {
-            judge: self.judge,
-            last: Some(judged),
-        })
+        !self.line.is_empty()
     }
 }

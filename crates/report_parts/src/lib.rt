@@ -16,7 +16,7 @@ mod vessels;
 pub use alarms::write_alarms;
 pub use outcome_rows::write_counts;
 pub use planned_legs::PlannedLegs;
-pub use points::{write_last, write_line};
+pub use points::write_line;
 pub use stretches::write_stretches;
 pub use totals::write_totals;
 pub use vessels::{write_near, write_vessels};

@@ -1,8 +1,7 @@
 //! The rows of `points`.
 ghost use Rattle.std.specs.Prelude.{◌++◌, ℕ, List, OnOk};
-ghost use Rattle.std.specs.Option.{option_copied, option_to_list};
 ghost use Rattle.audit_report.specs.ReportTexts.{HasText};
-ghost use Rattle.report_parts.specs.PointRows.{point_rows, rows_of_line};
+ghost use Rattle.report_parts.specs.PointRows.{rows_of_line};
 
 use audit_report::{ReportRow, ReportText};
 use log_lines::Judged;
@@ -22,15 +21,5 @@ pub fn write_line(text: &mut ReportText, judged: &Judged) -> Result<(), Memory>
             course: accepted.report.cog,
         }),
         Judged::Without(_) => Ok(()),
-    }
-}
-
-/// Writes the rows of the last line, where no line feed ends it.
-pub fn write_last(text: &mut ReportText, last: Option<&Judged>) -> Result<(), Memory>
-    ensures { OnOk result ((front : List ℕ) → HasText text.old front → HasText text.new (front ++ point_rows (option_to_list (option_copied last.entry)))) }
-{
-    match last {
-        Some(judged) => write_line(text, judged),
-        None => Ok(()),
     }
 }

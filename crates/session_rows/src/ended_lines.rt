@@ -1,10 +1,22 @@
 //! Lines that are judged as they end.
-use crate::compared::is;
+use crate::compared::{is, is_true};
 use log_lines::{StreamedLines, ToldStatic};
 use scenario::read;
 use scenario_rows::SCENARIO;
 use std::test::Fail;
 use tracks::{BookFault, Keeping};
+
+/// Takes bytes one at a time.
+fn take_all(lines: &mut StreamedLines, bytes: &[u8]) -> Result<(), BookFault> {
+    for byte in bytes {
+        if *byte == b'\n' {
+            lines.end_line(&[])?;
+        } else {
+            lines.extend(&[*byte])?;
+        }
+    }
+    Ok(())
+}
 
 #[test]
 fn a_line_is_judged_as_it_ends(rt: HostRuntime) -> Result<(), Fail> {
@@ -12,12 +24,14 @@ fn a_line_is_judged_as_it_ends(rt: HostRuntime) -> Result<(), Fail> {
         return Err("a scenario".into());
     };
     let mut lines = StreamedLines::new(rt.alloc(), Keeping::Latest, &scenario);
-    for byte in b"!AIVDM,1,1,,A,15P5TL0P2l00001wwHt000000000,0*5C\r\n!AIVDM" {
-        lines.take(&[*byte])?;
-    }
+    take_all(
+        &mut lines,
+        b"!AIVDM,1,1,,A,15P5TL0P2l00001wwHt000000000,0*5C\r\n!AIVDM",
+    )?;
     is(&rt, lines.judge().counts()[20], 1);
-    let ended = lines.end()?;
-    is(&rt, ended.judge.counts()[3], 1);
+    is_true(&rt, lines.is_open());
+    take_all(&mut lines, b"\n")?;
+    is(&rt, lines.judge().counts()[3], 1);
     Ok(())
 }
 
@@ -28,14 +42,6 @@ fn told(mmsi: u32, kind: Option<u8>) -> Option<ToldStatic> {
         time: 1700000100,
         kind,
     })
-}
-
-/// Takes bytes one at a time.
-fn take_all(lines: &mut StreamedLines, bytes: &[u8]) -> Result<(), BookFault> {
-    for byte in bytes {
-        lines.take(&[*byte])?;
-    }
-    Ok(())
 }
 
 // Messages 19, 24 A, 24 B and 1, off the air but for the last. The place of the first is far from the reference.

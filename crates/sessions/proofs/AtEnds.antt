@@ -1,5 +1,5 @@
 -- A report at a log's end.
-use Rattle.std.proofs.Common.{ℕ, ◌≡◌, ◌≢◌, ◌<◌, ◌^◌, ◌++◌, List, length, append_assoc, sym, ap, subst, arith, ◌∙◌}
+use Rattle.std.proofs.Common.{ℕ, ◌≡◌, ◌≢◌, ◌<◌, ◌^◌, ◌++◌, List, [], length, append-nil, append_assoc, sym, ap, subst, arith, ◌∙◌}
 use Rattle.std.proofs.lemmas.Grind.{flat_map-append}
 use Rattle.audit_report.specs.CsvRows.{row_of}
 use Rattle.audit_rows.specs.declared.row.Row.{Row}
@@ -23,11 +23,12 @@ use Rattle.report_parts.specs.StretchRows.{stretch_fields, stretch_rows}
 use Rattle.sessions.specs.Inner.AtEnd.{HasGiven, IsAuditAtEnd}
 
 module _ {Item : Type 0} {Stands : List (List ℕ) → List Item → Type 0} (judge : Judge) (scenario : Scenario) (log : List ℕ) (given : List Item) (of : HasGiven Stands judge scenario log given) where
-  pub judged_parts : JudgeStandsFor judge scenario (of.lines ++ of.more)
-  judged_parts = subst (JudgeStandsFor judge scenario) of.whole of.judged
+  pub judged_parts : JudgeStandsFor judge scenario (lines_of log ++ [])
+  judged_parts = subst (JudgeStandsFor judge scenario) (sym (append-nil (lines_of log))) of.judged
 
-  pub of_whole : (P : List (List ℕ) → Type 0) → P (of.lines ++ of.more) → P (lines_of log)
-  of_whole P holds = subst P (sym of.whole) holds
+-- no line more
+pub of_whole : (log : List ℕ) (P : List (List ℕ) → Type 0) → P (lines_of log ++ []) → P (lines_of log)
+of_whole log P holds = subst P (append-nil (lines_of log)) holds
 
 -- No more messages than can be counted.
 pub few_messages : (judge : Judge) (scenario : Scenario) (lines : List (List ℕ)) → JudgeStandsFor judge scenario lines → length (sent scenario lines) < 2 ^ 64
@@ -39,8 +40,8 @@ keeps_tracks keeping scenario count remembers is = subst (λ (k : Keeping). Reme
 
 pub of_one_log : (audit : SettledAudit) (judge : Judge) (scenario : Scenario) → IsAuditAtEnd audit judge scenario → AreOfOneLog audit scenario judge
 of_one_log audit judge scenario at = record {
-  lines = at.is.lines;
-  more = at.is.more;
+  lines = lines_of at.log;
+  more = [];
   given = at.given;
   stands = at.is.stands;
   judged = judged_parts judge scenario at.log at.given at.is;
@@ -49,17 +50,22 @@ of_one_log audit judge scenario at = record {
 stretches_on : (scenario : Scenario) (given rows : List Row) → stretch_rows scenario.rules given ++ stretch_rows scenario.rules rows ≡ stretch_rows scenario.rules (given ++ rows)
 stretches_on scenario given rows = sym (flat_map-append (λ (r : Row). row_of (stretch_fields scenario.rules r)) given rows)
 
-pub whole_report : (scenario : Scenario) (log : List ℕ) (given rows : List Row) (totals : List Total) (rest : List ℕ)
+-- behind what was given before, and what stands in the text
+pub whole_report : (scenario : Scenario) (log before front : List ℕ) (given rows : List Row) (totals : List Total) (rest : List ℕ)
     → AreAuditRows (audit_numbers scenario) (sightings_of scenario log) (given ++ rows) → AreTotals (audit_numbers scenario) (sightings_of scenario log) (given ++ rows) totals
-    → rest ≡ stretch_rows scenario.rules rows ++ rows_behind scenario log totals → IsAuditReport scenario log (stretch_rows scenario.rules given ++ rest)
-whole_report scenario log given rows totals rest are are_totals is =
-    let g = stretch_rows scenario.rules given in
+    → before ++ front ≡ stretch_rows scenario.rules given → rest ≡ front ++ (stretch_rows scenario.rules rows ++ rows_behind scenario log totals)
+    → IsAuditReport scenario log (before ++ rest)
+whole_report scenario log before front given rows totals rest are are_totals so_far is =
+    let s = stretch_rows scenario.rules rows in
+    let behind = rows_behind scenario log totals in
     record {
       rows = given ++ rows;
       totals = totals;
       are_rows = are;
       are_totals = are_totals;
-      is = ap (λ (l : List ℕ). g ++ l) is
-          ∙ sym (append_assoc g (stretch_rows scenario.rules rows) (rows_behind scenario log totals))
-          ∙ ap (λ (l : List ℕ). l ++ rows_behind scenario log totals) (stretches_on scenario given rows);
+      is = ap (λ (l : List ℕ). before ++ l) is
+          ∙ sym (append_assoc before front (s ++ behind))
+          ∙ ap (λ (l : List ℕ). l ++ (s ++ behind)) so_far
+          ∙ sym (append_assoc (stretch_rows scenario.rules given) s behind)
+          ∙ ap (λ (l : List ℕ). l ++ behind) (stretches_on scenario given rows);
     }

@@ -29,14 +29,15 @@ pub drill_cause : (scenario : Scenario) (log : List ℕ) (fault : AuditFault) �
 drill_cause scenario log audit.TooManyPairs calm many = too_many_drilled scenario log calm (many refl)
 drill_cause scenario log audit.Memory calm many = tt
 
--- the rows one after the other
-pub whole_text : (scenario : Scenario) (messages : List Sent) (rows : List Row) (totals totals' : List Total) (counts : List ℕ) → totals ≡ totals'
-    → ((stretch_rows scenario.rules rows ++ vessel_rows (numbers_of scenario) messages) ++ total_rows scenario.rules totals) ++ counts
-    ≡ stretch_rows scenario.rules rows ++ (vessel_rows (numbers_of scenario) messages ++ total_rows scenario.rules totals' ++ counts)
-whole_text scenario messages rows totals totals' counts same =
+-- the rows one after the other, behind what stands in the text
+pub whole_text : (scenario : Scenario) (messages : List Sent) (front : List ℕ) (rows : List Row) (totals totals' : List Total) (counts : List ℕ) → totals ≡ totals'
+    → (((front ++ stretch_rows scenario.rules rows) ++ vessel_rows (numbers_of scenario) messages) ++ total_rows scenario.rules totals) ++ counts
+    ≡ front ++ (stretch_rows scenario.rules rows ++ (vessel_rows (numbers_of scenario) messages ++ total_rows scenario.rules totals' ++ counts))
+whole_text scenario messages front rows totals totals' counts same =
     let s = stretch_rows scenario.rules rows in
     let v = vessel_rows (numbers_of scenario) messages in
     let t = total_rows scenario.rules totals in
-    ap (λ (l : List ℕ). l ++ counts) (append_assoc s v t)
-    ∙ append_assoc s (v ++ t) counts
-    ∙ ap (λ (ts : List Total). s ++ (v ++ total_rows scenario.rules ts ++ counts)) same
+    ap (λ (l : List ℕ). l ++ counts) (append_assoc (front ++ s) v t)
+    ∙ append_assoc (front ++ s) (v ++ t) counts
+    ∙ append_assoc front s ((v ++ t) ++ counts)
+    ∙ ap (λ (ts : List Total). front ++ (s ++ (v ++ total_rows scenario.rules ts ++ counts))) same

@@ -103,6 +103,10 @@ pub crowded_answer : (m : Mode) (rows : List ℕ) (scenario : Scenario) (log : L
     → IsAnswerOf m rows scenario log (Err fault.Vessels)
 crowded_answer m rows scenario log crowded = inl (crowded, refl)
 
+pub pairs_answer : (m : Mode) (rows : List ℕ) (scenario : Scenario) (log : List ℕ) → is_crowded scenario (lines_of log) ≡ false → HasManyTraces m scenario log
+    → IsAnswerOf m rows scenario log (Err fault.Pairs)
+pairs_answer m rows scenario log calm many = inr (not_crowded scenario log calm, inl (many, refl))
+
 no_entry : (m : Mode) (rows : List ℕ) (scenario : Scenario) (log : List ℕ) → ((k : ℕ) → ¬ HasBadEntry m rows scenario log k) → behind_search m rows scenario log (Ok false)
 no_entry m rows scenario log none = inr (none, refl)
 

@@ -12,13 +12,14 @@ use Rattle.log_lines.specs.LogLines.{is_line_feed}
 use Rattle.rechecks.specs.CheckedRows.{IsFirstBadRow, why_rows}
 use Rattle.scenario.specs.declared.values.Scenario.{Scenario}
 use Rattle.settling.specs.ManySettled.{HaveManySettled}
-use Rattle.log_lines.specs.Pieces.{IsPiece}
+use Rattle.sessions.specs.Inner.Pieces.{IsPiece}
 use Rattle.command_line.specs.declared.mode.Mode.{Mode}
 use Rattle.situations.specs.PlanSituations.{greatest_targets, targets_near}
 use Rattle.situations.specs.declared.readiness.Unready.{Unready}
 use Rattle.sessions.specs.Endings.{Came, First, HasBadEntry, MeetsTargetLimit, IsAnswerOf, OfOwn, Unless, lack_by, unready_of}
 use Rattle.sessions.specs.Modes.{Look, OfOwnShip, OfTicks, WhereChecked, each_line, each_tick, early_by, look_of, look_of, manner_of, needs_rows, nothing, own_ship}
 use Rattle.sessions.specs.PlanReport.{log_messages, situation_on}
+use Rattle.sessions.specs.Inner.Lines.{IsCause}
 use Rattle.sessions.specs.Refusals.{HasManySettled, IsMet, IsLogRefused, IsRefusedAt, IsStopped, IsUnrefused}
 use Rattle.sessions.specs.SettledText.{IsDecidedBy, IsDecidedText, IsSettledText}
 use Rattle.sessions.specs.Tasks.{Task}
@@ -64,6 +65,12 @@ many_on stay each_line scenario lines more many = many
 many_on stay (each_tick told) scenario lines more many = stay scenario lines more many
 many_on stay own_ship scenario lines more many = many
 many_on stay nothing scenario lines more many = many
+
+pub shorter_take : (i j : ℕ) (xs : List ℕ) → i ≤ j → take i (take j xs) ≡ take i xs
+shorter_take zero j xs le = refl
+shorter_take (suc i) zero xs le = absurd (omega arith)
+shorter_take (suc i) (suc j) [] le = refl
+shorter_take (suc i) (suc j) (x ∷ xs) le = ap (λ (l : List ℕ). x ∷ l) (shorter_take i j xs (omega arith))
 
 -- ---- what is not refused
 
@@ -134,12 +141,6 @@ module _ (stay : EndedStay) (settle : ManyStay) (m : Mode) (scenario : Scenario)
     no_feed k lt =
         let inner : take k (take (length piece - 1) piece) ≡ take k piece = shorter_take k (length piece - 1) piece (omega arith) in
         subst (All (λ (byte : ℕ). is_line_feed byte ≡ false)) inner (All-take (λ (byte : ℕ). is_line_feed byte ≡ false) k (take (length piece - 1) piece) is)
-      where
-        shorter_take : (i j : ℕ) (xs : List ℕ) → i ≤ j → take i (take j xs) ≡ take i xs
-        shorter_take zero j xs le = refl
-        shorter_take (suc i) zero xs le = absurd (omega arith)
-        shorter_take (suc i) (suc j) [] le = refl
-        shorter_take (suc i) (suc j) (x ∷ xs) le = ap (λ (l : List ℕ). x ∷ l) (shorter_take i j xs (omega arith))
 
     within_piece : (k : ℕ) → take (length fed + k) (fed ++ piece) ≡ fed ++ take k piece
     within_piece k = take-append-add fed piece k
@@ -172,22 +173,6 @@ module _ (stay : EndedStay) (settle : ManyStay) (m : Mode) (scenario : Scenario)
     -- ---- why a piece is refused
 
     module _ (some : 0 < length piece) (un : IsUnrefused m scenario fed) (text : List ℕ) (settled : IsSettledText m scenario fed text) where
-      pub stopped_bytes : scenario.log.max_bytes < length (fed ++ piece) → IsStopped m scenario (fed ++ piece) fault.LogBytes text
-      stopped_bytes long =
-          let most = scenario.log.max_bytes in
-          let short = un.short in
-          let taken = length-take-le (most + 1) (fed ++ piece) (omega arith) in
-          let last : (most + 1) - 1 ≡ most = omega arith in
-          record {
-            place = most + 1;
-            refused = record {
-              within = omega arith;
-              before = λ shorter lt. unrefused_within un shorter (omega arith) (omega arith);
-              here = inl (omega (arith, taken), refl);
-            };
-            settled = subst (λ (n : ℕ). IsSettledText m scenario (take n (fed ++ piece)) text) (sym last) (settled_within most text short long settled);
-          }
-
       at_end : (why : SessionFault) → length (fed ++ piece) ≤ scenario.log.max_bytes → IsLogRefused m scenario (fed ++ piece) (Err why) → IsStopped m scenario (fed ++ piece) why text
       at_end why short is =
           let all : take (length (fed ++ piece)) (fed ++ piece) ≡ fed ++ piece = take_all (length (fed ++ piece)) (fed ++ piece) (omega arith) in
@@ -202,12 +187,32 @@ module _ (stay : EndedStay) (settle : ManyStay) (m : Mode) (scenario : Scenario)
             settled = settled_within (length (fed ++ piece) - 1) text (omega (arith, long)) (omega (arith, long)) settled;
           }
 
-      pub stopped_vessels : length (fed ++ piece) ≤ scenario.log.max_bytes → IsTrue (is_crowded scenario (ended_lines (fed ++ piece))) → IsStopped m scenario (fed ++ piece) fault.Vessels text
-      stopped_vessels short crowded = at_end fault.Vessels short (inr ((λ long. absurd (omega arith)), inl (crowded, refl)))
+      pub stopped_by : (why : SessionFault) → length (fed ++ piece) ≤ scenario.log.max_bytes → IsCause why m scenario (ended_lines (fed ++ piece)) → IsStopped m scenario (fed ++ piece) why text
+      stopped_by fault.Vessels short crowded = at_end fault.Vessels short (inr ((λ long. absurd (omega arith)), inl (crowded, refl)))
+      stopped_by fault.Pairs short (calm, many) = at_end fault.Pairs short (inr ((λ long. absurd (omega arith)), inr ((λ crowded. cc (crowded, calm)), inl (many, refl))))
+      stopped_by fault.LogBytes short none = absurd none
+      stopped_by (fault.Own lack) short none = absurd none
+      stopped_by fault.Targets short none = absurd none
+      stopped_by (fault.Entry k) short none = absurd none
+      stopped_by fault.Memory short none = absurd none
 
-      pub stopped_pairs : length (fed ++ piece) ≤ scenario.log.max_bytes → is_crowded scenario (ended_lines (fed ++ piece)) ≡ false
-          → HasManySettled m scenario (ended_lines (fed ++ piece)) → IsStopped m scenario (fed ++ piece) fault.Pairs text
-      stopped_pairs short calm many = at_end fault.Pairs short (inr ((λ long. absurd (omega arith)), inr ((λ crowded. cc (crowded, calm)), inl (many, refl))))
+  -- ---- more bytes than the log may have
+
+  pub stopped_bytes : (log text : List ℕ) → IsUnrefused m scenario (take scenario.log.max_bytes log) → IsSettledText m scenario (take scenario.log.max_bytes log) text
+      → scenario.log.max_bytes < length log → IsStopped m scenario log fault.LogBytes text
+  stopped_bytes log text un settled long =
+      let most = scenario.log.max_bytes in
+      let taken = length-take-le (most + 1) log (omega arith) in
+      let last : (most + 1) - 1 ≡ most = omega arith in
+      record {
+        place = most + 1;
+        refused = record {
+          within = omega arith;
+          before = λ shorter lt. subst (IsUnrefused m scenario) (shorter_take shorter most log (omega arith)) (first_unrefused (take most log) shorter un);
+          here = inl (omega (arith, taken), refl);
+        };
+        settled = subst (λ (n : ℕ). IsSettledText m scenario (take n log) text) (sym last) settled;
+      }
 
 pub one_met : EndedStay → ManyStay → (task : Task) (scenario : Scenario) (log : List ℕ) (a b : Came) → IsMet task scenario log a → IsMet task scenario log b → a ≡ b
 one_met stay settle task scenario = one_met_in stay settle task.mode scenario task.why task.rows

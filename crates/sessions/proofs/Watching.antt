@@ -52,8 +52,8 @@ last_alarms rules given early all =
 
 pub of_one_log : (watch : SettledWatch) (judge : Judge) (scenario : Scenario) → IsWatchAtEnd watch judge scenario → AreOfOneLog watch scenario judge
 of_one_log watch judge scenario at = record {
-  lines = at.is.lines;
-  more = at.is.more;
+  lines = lines_of at.log;
+  more = [];
   given = at.given;
   stands = at.is.stands;
   judged = judged_parts judge scenario at.log at.given at.is;
@@ -64,16 +64,20 @@ pub watch_cause : (scenario : Scenario) (log : List ℕ) (fault : WatchFault) �
 watch_cause scenario log watch_fault.TooManyPairs calm many = too_many_watched scenario log calm (many refl)
 watch_cause scenario log watch_fault.Memory calm many = tt
 
-pub whole_watch : (scenario : Scenario) (log : List ℕ) (given early : List Alarm) (rest : List ℕ)
+-- behind what was given before, and what stands in the text
+pub whole_watch : (scenario : Scenario) (log before front : List ℕ) (given early : List Alarm) (rest : List ℕ)
     → AreAlarms (audit_numbers scenario) (sightings_of scenario log) (given ++ early)
-    → rest ≡ alarm_rows scenario.rules early ++ count_rows (judged_lines scenario (lines_of log)) → IsWatchReport scenario log (alarm_rows scenario.rules given ++ rest)
-whole_watch scenario log given early rest are is =
-    let g = alarm_rows scenario.rules given in
+    → before ++ front ≡ alarm_rows scenario.rules given → rest ≡ (front ++ alarm_rows scenario.rules early) ++ count_rows (judged_lines scenario (lines_of log))
+    → IsWatchReport scenario log (before ++ rest)
+whole_watch scenario log before front given early rest are so_far is =
+    let e = alarm_rows scenario.rules early in
     let counts = count_rows (judged_lines scenario (lines_of log)) in
     record {
       alarms = given ++ early;
       are_alarms = are;
-      is = ap (λ (l : List ℕ). g ++ l) is
-          ∙ sym (append_assoc g (alarm_rows scenario.rules early) counts)
+      is = ap (λ (l : List ℕ). before ++ l) is
+          ∙ sym (append_assoc before (front ++ e) counts)
+          ∙ ap (λ (l : List ℕ). l ++ counts) (sym (append_assoc before front e))
+          ∙ ap (λ (l : List ℕ). (l ++ e) ++ counts) so_far
           ∙ ap (λ (l : List ℕ). l ++ counts) (sym (flat_map-append (λ (a : Alarm). row_of (told_alarm scenario.rules a)) given early));
     }

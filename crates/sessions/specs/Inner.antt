@@ -2,4 +2,6 @@
 pub mod Faults
 pub mod Working
 pub mod AtEnd
+pub mod Lines
+pub mod Pieces
 pub mod PlanWriting

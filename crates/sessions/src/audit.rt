@@ -1,5 +1,6 @@
 //! The end of the report of `audit`.
 ghost use Rattle.std.specs.Prelude.{◌≡◌, ◌≢◌, ◌++◌, [], ℕ, List, IfErr, IfOk, Ok, length};
+ghost use Rattle.audit_report.specs.ReportTexts.{HasText};
 ghost use Rattle.audit_rows.specs.declared.row.Row.{Row};
 ghost use Rattle.log_lines.specs.LogLines.{lines_of};
 ghost use Rattle.log_lines.specs.Standing.{StandsFor as JudgeStandsFor, keeping_of};
@@ -23,11 +24,10 @@ use outside::Memory;
 use report_parts::{write_counts, write_stretches, write_totals, write_vessels};
 use scenario::Scenario;
 use settling::SettledAudit;
-use std::alloc::Global;
 
-/// The rest of the report, behind the rows of the stretches that the audit has given, from what it ends with.
+/// The rest of the report, behind the rows in the text, from what the audit ends with.
 fn rest_of_audit(
-    alloc: Global,
+    mut text: ReportText,
     scenario: &Scenario,
     end: &AuditEnd,
     judge: &Judge,
@@ -35,10 +35,9 @@ fn rest_of_audit(
     requires keeping { keeping_of judge.now ≢ Latest }
     requires rows { AreOfRules scenario.now.rules end.now.rows.items }
     requires totals { length end.now.totals.items ≡ length scenario.now.rules }
-    ensures { IfOk result (λ rest. (log : List ℕ) → JudgeStandsFor judge.now scenario.now (lines_of log)
-        → rest.items ≡ stretch_rows scenario.now.rules end.now.rows.items ++ rows_behind scenario.now log end.now.totals.items) }
+    ensures { IfOk result (λ rest. (log front : List ℕ) → HasText text front → JudgeStandsFor judge.now scenario.now (lines_of log)
+        → rest.items ≡ front ++ (stretch_rows scenario.now.rules end.now.rows.items ++ rows_behind scenario.now log end.now.totals.items)) }
 {
-    let mut text = ReportText::new(alloc);
     write_stretches(&mut text, &scenario.rules, end.rows.as_slice())?;
     write_vessels(&mut text, judge.book())?;
     write_totals(&mut text, &scenario.rules, end.totals.as_slice())?;
@@ -46,9 +45,9 @@ fn rest_of_audit(
     Ok(text.into_bytes()?)
 }
 
-/// Ends the audit, and gives the rest of the report.
+/// Ends the audit, and gives the rest of the report, behind the last rows that the audit has given, which stand in the text.
 pub(crate) fn end_audit(
-    alloc: Global,
+    text: ReportText,
     scenario: &Scenario,
     audit: SettledAudit,
     judge: &Judge,
@@ -56,13 +55,13 @@ pub(crate) fn end_audit(
     requires in_range { IsInRange scenario.now }
     requires remembers { RemembersTicks (keeping_of judge.now) scenario.now (audited_ticks audit) }
     requires at_end { IsAuditAtEnd audit judge.now scenario.now }
-    ensures report { IfOk result (λ ending. (log : List ℕ) (given : List Row) → IsAuditOf audit judge.now scenario.now log given
-        → IsAuditReport scenario.now log (stretch_rows scenario.now.rules given ++ ending.bytes.items)) }
+    ensures report { IfOk result (λ ending. (log before front : List ℕ) (given : List Row) → IsAuditOf audit judge.now scenario.now log given
+        → HasText text front → before ++ front ≡ stretch_rows scenario.now.rules given → IsAuditReport scenario.now log (before ++ ending.bytes.items)) }
     ensures answer { IfOk result (λ ending. (log : List ℕ) (given : List Row) → IsAuditOf audit judge.now scenario.now log given
         → IsAnswerOf Audit [] scenario.now log (Ok ending.none)) }
     ensures cause { IfErr result (λ why. (log : List ℕ) (given : List Row) → IsAuditOf audit judge.now scenario.now log given
         → EndCause Audit [] scenario.now log why) }
 {
     let end = audit.end(scenario, judge)?;
-    Ok(Ending::without_search(rest_of_audit(alloc, scenario, &end, judge)?))
+    Ok(Ending::without_search(rest_of_audit(text, scenario, &end, judge)?))
 }

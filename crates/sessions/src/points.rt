@@ -1,27 +1,24 @@
 //! The end of the report of `points`.
 ghost use Rattle.std.specs.Prelude.{◌≡◌, ◌++◌, ℕ, List, IfOk, false};
-ghost use Rattle.log_lines.specs.GrowingLog.{ended_lines};
+ghost use Rattle.audit_report.specs.ReportTexts.{HasText};
 ghost use Rattle.log_lines.specs.JudgedLines.{judged_lines};
-ghost use Rattle.report_parts.specs.PointRows.{point_rows};
+ghost use Rattle.log_lines.specs.LogLines.{lines_of};
+ghost use Rattle.log_lines.specs.Standing.{StandsFor as JudgeStandsFor};
+ghost use Rattle.report_parts.specs.OutcomeRows.{count_rows};
 ghost use Rattle.scenario.specs.declared.values.Scenario.{Scenario};
-ghost use Rattle.sessions.specs.Inner.AtEnd.{AreOfLog};
-ghost use Rattle.sessions.specs.PointsReport.{points_report};
 
 use crate::ending::Ending;
 use audit_report::ReportText;
-use log_lines::EndedLines;
+use log_lines::Judge;
 use outside::Memory;
-use report_parts::{write_counts, write_last};
-use std::alloc::Global;
+use report_parts::write_counts;
 
-/// The rest of the report, behind the rows of the lines that a line feed has ended.
-pub(crate) fn end_points(alloc: Global, ended: &EndedLines) -> Result<Ending, Memory>
-    ensures report { IfOk result (λ ending. (scenario : Scenario) (log : List ℕ) → AreOfLog ended.now scenario log
-        → point_rows (judged_lines scenario (ended_lines log)) ++ ending.bytes.items ≡ points_report scenario log) }
+/// The rest of the report, behind the rows of the last lines in the text.
+pub(crate) fn end_points(mut text: ReportText, judge: &Judge) -> Result<Ending, Memory>
+    ensures report { IfOk result (λ ending. (scenario : Scenario) (log front : List ℕ) → HasText text front → JudgeStandsFor judge.now scenario (lines_of log)
+        → ending.bytes.items ≡ front ++ count_rows (judged_lines scenario (lines_of log))) }
     ensures search { IfOk result (λ ending. ending.none ≡ false) }
 {
-    let mut text = ReportText::new(alloc);
-    write_last(&mut text, ended.last.as_ref())?;
-    write_counts(&mut text, &ended.judge)?;
+    write_counts(&mut text, judge)?;
     Ok(Ending::without_search(text.into_bytes()?))
 }

@@ -1,15 +1,16 @@
 //! A report on a log that comes in pieces.
-ghost use Rattle.std.specs.Prelude.{◌≡◌, ◌≤◌, ◌<◌, ◌+◌, ◌-◌, ◌++◌, [], ℕ, List, false, IfErr, IfOk, IsSome, IsTrue, OnOk, Err, Ok, length, take};
+ghost use Rattle.std.specs.Prelude.{◌≡◌, ◌≤◌, ◌<◌, ◌+◌, ◌-◌, ◌++◌, ◌∷◌, [], ℕ, List, All, false, IfErr, IfOk, IsSome, IsTrue, OnOk, Err, Ok, length, take};
 ghost use Rattle.audit_report.specs.ReportTexts.{HasText};
 ghost use Rattle.scenario.specs.ScenarioValues.{IsInRange};
 ghost use Rattle.sessions.specs.Endings.{IsAnswerTo, IsEnding};
 ghost use Rattle.sessions.specs.Feeding.{Refuses, TookPiece, UnlessMemory};
+ghost use Rattle.sessions.specs.Inner.Lines.{EndedLine, IsReadyToTake, RefusesLine, RefusesPiece, TookLines};
 ghost use Rattle.sessions.specs.Modes.{needs_own, reports, scenario_for};
 ghost use Rattle.sessions.specs.Refusals.{IsStopped};
 ghost use Rattle.sessions.specs.PlanReport.{IsSituationOn};
 ghost use Rattle.sessions.specs.Standing.{IsInUse, StandsFor, mode_of, session_scenario, taken_of};
 ghost use Rattle.sessions.specs.Tasks.{Task, task_by};
-ghost use Rattle.log_lines.specs.Pieces.{IsPiece};
+ghost use Rattle.log_lines.specs.LogLines.{is_line_feed};
 ghost use Rattle.rechecks.specs.declared.checked_text.TheConstants.{GREATEST_TEXT};
 ghost use Rattle.situations.specs.Situations.{IsSituation};
 
@@ -32,16 +33,14 @@ use std::alloc::Global;
 /// So many ticks are taken at least before what lies before them is forgotten.
 const TICKS_AT_LEAST: u32 = 64;
 
-/// How many bytes stand up to the first line feed, with it, or in all where there is none.
-fn piece_length(bytes: &[u8]) -> usize
-    requires { 0 < length bytes.now }
-    ensures some { 0 < result }
-    ensures within { result ≤ length bytes.now }
-    ensures piece { IsPiece (take result bytes.now) }
+/// So many of the first bytes of a piece as there is room for.
+fn fitting(piece: &[u8], room: u64) -> &[u8]
+    ensures { result.now ≡ take room piece.now }
 {
-    match first_line_feed(bytes) {
-        Some(at) => at + 1,
-        None => bytes.len(),
+    if piece.len() as u64 > room {
+        &piece[..room as usize]
+    } else {
+        piece
     }
 }
 
@@ -113,32 +112,45 @@ impl Session {
         self.scenario.log.max_bytes - self.taken
     }
 
-    /// Takes the next piece, in which no line feed stands but as its last byte, and writes what is decided by it.
-    fn take(&mut self, piece: &[u8], text: &mut ReportText) -> Result<(), SessionFault>
-        requires in_use { IsInUse self.old }
-        requires some { 0 < length piece.now }
-        requires piece { IsPiece piece.now }
+    /// Takes the bytes before a line feed and the line feed, and writes what is decided by the line that it ends.
+    fn take_line(&mut self, part: &[u8], text: &mut ReportText) -> Result<(), SessionFault>
+        requires ready { IsReadyToTake self.old (part.now ++ 10 ∷ []) }
+        requires part { All (λ byte. is_line_feed byte ≡ false) part.now }
         ensures mode { mode_of self.new ≡ mode_of self.old }
         ensures scenario { session_scenario self.new ≡ session_scenario self.old }
-        ensures count { OnOk result (taken_of self.new ≡ taken_of self.old + length piece.now) }
-        ensures taken { OnOk result ((front : List ℕ) → HasText text.old front → TookPiece self.old self.new piece.now front text.new) }
-        ensures refused { IfErr result (λ why. UnlessMemory why ((front : List ℕ) → HasText text.old front → Refuses self.old piece.now front text.new why)) }
+        ensures count { taken_of self.new ≡ taken_of self.old }
+        ensures taken { OnOk result ((front : List ℕ) → HasText text.old front → TookLines self.old self.new (part.now ++ 10 ∷ []) front text.new) }
+        ensures refused { IfErr result (λ why. UnlessMemory why ((text.new ≡ text.old) × RefusesPiece self.old (part.now ++ 10 ∷ []) why)) }
     {
         ended_lines_stay();
+        let judged = self.lines.end_line(part)?;
+        self.work
+            .go_on(&self.scenario, self.lines.judge(), &judged, text)
+    }
+
+    /// Takes the next bytes line by line, and writes what is decided by them. Every byte that is read of a log goes through this one loop,
+    /// and the line feed that ends an open line at its end: what is called for a line has one caller, and is put in line.
+    fn take_lines(&mut self, bytes: &[u8], text: &mut ReportText) -> Result<(), SessionFault>
+        requires ready { IsReadyToTake self.old bytes.now }
+        requires text { (front : List ℕ) × HasText text.old front }
+        ensures mode { mode_of self.new ≡ mode_of self.old }
+        ensures scenario { session_scenario self.new ≡ session_scenario self.old }
+        ensures count { taken_of self.new ≡ taken_of self.old }
+        ensures taken { OnOk result ((front : List ℕ) → HasText text.old front → TookLines self.old self.new bytes.now front text.new) }
+        ensures refused { IfErr result (λ why. UnlessMemory why ((front : List ℕ) → HasText text.old front → RefusesLine self.old bytes.now front text.new why)) }
+    {
         a_part_goes_on();
-        many_settled_stay();
-        if piece.len() as u64 > self.room() {
-            return Err(SessionFault::LogBytes);
+        let mut at = 0;
+        while at < bytes.len() {
+            let rest = &bytes[at..];
+            let Some(count) = first_line_feed(rest) else {
+                self.lines.extend(rest)?;
+                return Ok(());
+            };
+            self.take_line(&rest[..count], text)?;
+            at += count + 1;
         }
-        let judged = self.lines.take(piece)?;
-        self.taken += piece.len() as u64;
-        match judged {
-            Some(judged) => {
-                self.work
-                    .go_on(&self.scenario, self.lines.judge(), &judged, text)
-            }
-            None => Ok(()),
-        }
+        Ok(())
     }
 
     /// Forgets where vessels were before the latest tick that was taken, each time that as many have been taken as are remembered. So what is kept does
@@ -171,12 +183,14 @@ impl Session {
         ensures taken { OnOk result ((front : List ℕ) → HasText text.old front → TookPiece self.old self.new piece.now front text.new) }
         ensures refused { IfErr result (λ why. UnlessMemory why ((front : List ℕ) → HasText text.old front → Refuses self.old piece.now front text.new why)) }
     {
-        let mut at = 0;
-        while at < piece.len() {
-            let rest = &piece[at..];
-            let count = piece_length(rest);
-            self.take(&rest[..count], text)?;
-            at += count;
+        ended_lines_stay();
+        a_part_goes_on();
+        many_settled_stay();
+        let first = fitting(piece, self.room());
+        self.take_lines(first, text)?;
+        self.taken += first.len() as u64;
+        if first.len() < piece.len() {
+            return Err(SessionFault::LogBytes);
         }
         self.forget();
         Ok(())
@@ -198,6 +212,22 @@ impl Session {
         Ok(text.into_bytes()?)
     }
 
+    /// Ends the line that is open, if one is, as a line feed does, and writes what is decided by it.
+    fn end_line(&mut self, text: &mut ReportText) -> Result<(), SessionFault>
+        requires in_use { IsInUse self.old }
+        requires text { (front : List ℕ) × HasText text.old front }
+        ensures mode { mode_of self.new ≡ mode_of self.old }
+        ensures scenario { session_scenario self.new ≡ session_scenario self.old }
+        ensures ended { OnOk result ((front : List ℕ) → HasText text.old front → EndedLine self.old self.new front text.new) }
+        ensures refused { IfErr result (λ why. UnlessMemory why ((fed given : List ℕ) → StandsFor self.old fed given
+            → (task : Task) → task.mode ≡ mode_of self.old → IsAnswerTo task (session_scenario self.old) fed (Err why))) }
+    {
+        if !self.lines.is_open() {
+            return Ok(());
+        }
+        self.take_lines(b"\n", text)
+    }
+
     /// Ends the log, and gives the rest of the report, which does not say why every plan fails. Of a recheck it checks no rows.
     pub fn end(self) -> Result<Ending, SessionFault>
         requires in_use { IsInUse self }
@@ -215,7 +245,7 @@ impl Session {
     }
 
     /// Ends the log, and gives the rest of the report that is asked for. Rows that a recheck checks have at most 2^24 bytes.
-    pub fn finish(self, asked: &Asked<'_>) -> Result<Ending, SessionFault>
+    pub fn finish(mut self, asked: &Asked<'_>) -> Result<Ending, SessionFault>
         requires in_use { IsInUse self }
         requires rows { length asked.now.rows.now ≤ GREATEST_TEXT }
         ensures report { IfOk result (λ ending. (fed given : List ℕ) → StandsFor self fed given
@@ -225,6 +255,8 @@ impl Session {
         ensures refused { IfErr result (λ why. UnlessMemory why ((fed given : List ℕ) → StandsFor self fed given
             → IsAnswerTo (task_by (mode_of self) asked.now) (session_scenario self) fed (Err why))) }
     {
+        let mut text = ReportText::new(self.alloc);
+        self.end_line(&mut text)?;
         let Session {
             alloc,
             scenario,
@@ -232,12 +264,11 @@ impl Session {
             lines,
             ..
         } = self;
-        let ended = lines.end()?;
-        work.end(alloc, scenario, &ended, asked)
+        work.end(alloc, scenario, lines.judge(), asked, text)
     }
 
     /// Ends the log, and gives the situation in which own ship's plan is sought, of a mode that looks at her.
-    pub fn situation(self) -> Result<Situation, SessionFault>
+    pub fn situation(mut self) -> Result<Situation, SessionFault>
         requires in_use { IsInUse self }
         requires own { IsTrue (needs_own (mode_of self)) }
         ensures sound { IfOk result IsSituation }
@@ -245,13 +276,14 @@ impl Session {
         ensures refused { IfErr result (λ why. UnlessMemory why ((fed given : List ℕ) → StandsFor self fed given
             → (task : Task) → task.mode ≡ mode_of self → IsAnswerTo task (session_scenario self) fed (Err why))) }
     {
+        let mut text = ReportText::new(self.alloc);
+        self.end_line(&mut text)?;
         let Session {
             alloc,
             scenario,
             lines,
             ..
         } = self;
-        let ended = lines.end()?;
-        Ok(situation_at_end(alloc, scenario, &ended.judge)?)
+        Ok(situation_at_end(alloc, scenario, lines.judge())?)
     }
 }

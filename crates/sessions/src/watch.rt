@@ -1,5 +1,6 @@
 //! The end of the report of `watch`.
-ghost use Rattle.std.specs.Prelude.{◌++◌, [], ℕ, List, IfErr, IfOk, Ok};
+ghost use Rattle.std.specs.Prelude.{◌≡◌, ◌++◌, [], ℕ, List, IfErr, IfOk, Ok};
+ghost use Rattle.audit_report.specs.ReportTexts.{HasText};
 ghost use Rattle.early_monitor.specs.declared.alarm.Alarm.{Alarm};
 ghost use Rattle.log_lines.specs.Standing.{keeping_of};
 ghost use Rattle.scenario.specs.ScenarioValues.{IsInRange};
@@ -19,11 +20,10 @@ use log_lines::Judge;
 use report_parts::{write_alarms, write_counts};
 use scenario::Scenario;
 use settling::SettledWatch;
-use std::alloc::Global;
 
-/// Ends the watch, and gives the rest of the report, behind the rows of the alarms that the watch has given.
+/// Ends the watch, and gives the rest of the report, behind the last alarms that the watch has given, which stand in the text.
 pub(crate) fn end_watch(
-    alloc: Global,
+    mut text: ReportText,
     scenario: &Scenario,
     watch: SettledWatch,
     judge: &Judge,
@@ -31,15 +31,14 @@ pub(crate) fn end_watch(
     requires in_range { IsInRange scenario.now }
     requires remembers { RemembersTicks (keeping_of judge.now) scenario.now (watched_ticks watch) }
     requires at_end { IsWatchAtEnd watch judge.now scenario.now }
-    ensures report { IfOk result (λ ending. (log : List ℕ) (given : List Alarm) → IsWatchOf watch judge.now scenario.now log given
-        → IsWatchReport scenario.now log (alarm_rows scenario.now.rules given ++ ending.bytes.items)) }
+    ensures report { IfOk result (λ ending. (log before front : List ℕ) (given : List Alarm) → IsWatchOf watch judge.now scenario.now log given
+        → HasText text front → before ++ front ≡ alarm_rows scenario.now.rules given → IsWatchReport scenario.now log (before ++ ending.bytes.items)) }
     ensures answer { IfOk result (λ ending. (log : List ℕ) (given : List Alarm) → IsWatchOf watch judge.now scenario.now log given
         → IsAnswerOf Watch [] scenario.now log (Ok ending.none)) }
     ensures cause { IfErr result (λ why. (log : List ℕ) (given : List Alarm) → IsWatchOf watch judge.now scenario.now log given
         → EndCause Watch [] scenario.now log why) }
 {
     let alarms = watch.end(scenario, judge)?;
-    let mut text = ReportText::new(alloc);
     write_alarms(&mut text, &scenario.rules, alarms.as_slice())?;
     write_counts(&mut text, judge)?;
     Ok(Ending::without_search(text.into_bytes()?))

@@ -24,7 +24,7 @@ use crate::session_fault::SessionFault;
 use crate::watch::end_watch;
 use audit_report::ReportText;
 use command_line::Mode;
-use log_lines::{EndedLines, Judge, Judged};
+use log_lines::{Judge, Judged};
 use outside::Memory;
 use report_parts::{write_alarms, write_line, write_stretches};
 use scenario::Scenario;
@@ -126,31 +126,32 @@ impl Work {
         }
     }
 
-    /// Ends the work at a log's end, when all its lines were judged, and gives the rest of the report that is asked for.
+    /// Ends the work at a log's end, when it was done on all lines, and gives the rest of the report that is asked for, behind the rows in the
+    /// text, which are what the last lines decided.
     pub(crate) fn end(
         self,
         alloc: Global,
         scenario: Scenario,
-        ended: &EndedLines,
+        judge: &Judge,
         asked: &Asked<'_>,
+        text: ReportText,
     ) -> Result<Ending, SessionFault>
         requires in_range { IsInRange scenario }
         requires own { IsTrue (needs_own (mode_by self)) → IsSome scenario.own }
-        requires keeping { KeepsEnough self scenario (keeping_of ended.now.judge) }
+        requires keeping { KeepsEnough self scenario (keeping_of judge.now) }
         requires rows { length asked.now.rows.now ≤ GREATEST_TEXT }
-        requires at_end { (log : List ℕ) × (given : List ℕ) × IsAtEnd self ended.now scenario log given }
-        ensures report { IfOk result (EndsWithReport self ended.now scenario asked.now) }
-        ensures answer { IfOk result (EndsWithAnswer self ended.now scenario asked.now) }
-        ensures cause { IfErr result (EndsWithCause self ended.now scenario asked.now) }
+        requires at_end { (log : List ℕ) × (given : List ℕ) × IsAtEnd self judge.now scenario log given }
+        ensures report { IfOk result (EndsWithReport self judge.now scenario asked.now text) }
+        ensures answer { IfOk result (EndsWithAnswer self judge.now scenario asked.now) }
+        ensures cause { IfErr result (EndsWithCause self judge.now scenario asked.now) }
     {
-        let judge = &ended.judge;
         match self {
-            Work::Points => Ok(end_points(alloc, ended)?),
-            Work::Audit(audit) => end_audit(alloc, &scenario, audit, judge),
+            Work::Points => Ok(end_points(text, judge)?),
+            Work::Audit(audit) => end_audit(text, &scenario, audit, judge),
             Work::Plan => end_plan(alloc, scenario, judge, asked.why),
             Work::Drill(audit) => end_drill(alloc, &scenario, audit, judge),
             Work::Recheck => end_recheck(alloc, scenario, judge, asked.rows),
-            Work::Watch(watch) => end_watch(alloc, &scenario, watch, judge),
+            Work::Watch(watch) => end_watch(text, &scenario, watch, judge),
         }
     }
 }

@@ -1,5 +1,5 @@
 -- Lemmas for the crates above: no line decides nothing; where an audit or a watch stands for lines, no more traces begin at their
--- settled ticks; and marks go on from a front.
+-- settled ticks; where too many do at settled ticks, they do in all; and marks go on from a front.
 use Rattle.std.proofs.Common.{ℕ, List}
 use Rattle.audit_rows.specs.declared.row.Row.{Row}
 use Rattle.early_monitor.specs.declared.alarm.Alarm.{Alarm}
@@ -15,6 +15,7 @@ use Rattle.settling.proofs.TakenTicks.{few_taken}
 pub use Rattle.settling.proofs.MoreMarks.{GoOn, go_on}
 pub use Rattle.settling.proofs.NoLines.{no_alarms_decided, none_decided, none_many}
 pub use Rattle.settling.proofs.SomeMarks.{some_mark}
+pub use Rattle.settling.proofs.TakenTicks.{many_settled_in_all}
 
 pub few_settled : (scenario : Scenario) (audit : SettledAudit) (lines : List (List ℕ)) (given : List Row) → StandsFor audit scenario lines given → HaveManySettled scenario lines → ⊥
 few_settled scenario audit = few_taken scenario (audit_taker audit.audit) audit.ticks

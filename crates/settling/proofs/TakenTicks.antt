@@ -124,6 +124,14 @@ module _ (scenario : Scenario) where
     many = subst (HaveMoreThan MOST_TRACES (audit_numbers scenario)) (same_first lines more many.count many.settled) many.many;
   }
 
+  -- Where too many traces begin at settled ticks, they do so in the whole window.
+  pub many_settled_in_all : (lines : List (List ℕ)) → HaveManySettled scenario lines → HaveMoreThan MOST_TRACES (audit_numbers scenario) (sighted scenario (sent scenario lines))
+  many_settled_in_all lines many = many_later lines many.count (scenario.window.ticks + 1) (few many.count many.settled) many.many
+    where
+      few : (count : ℕ) → ((i : ℕ) → i < count → IsSettled scenario lines i) → count ≤ scenario.window.ticks + 1
+      few zero settled = omega arith
+      few (suc last) settled = let within = (settled last (omega arith)).within in omega (arith, within)
+
   -- ---- settled ticks
 
   pub settled_below : (lines : List (List ℕ)) (k next : ℕ) → next ≡ k + 1 → ((i : ℕ) → i < k → IsSettled scenario lines i) → IsSettled scenario lines k

@@ -1,9 +1,8 @@
 -- What is had at a log's end.
-use Rattle.std.specs.Prelude.{ℕ, ◌≡◌, List, ◌++◌, Ok}
-use Rattle.std.specs.Option.{option_to_list}
+use Rattle.std.specs.Prelude.{ℕ, List, ◌++◌, Ok}
+use Rattle.audit_report.specs.ReportTexts.{HasText}
+use Rattle.audit_report.specs.declared.report_text.ReportText.{ReportText}
 use Rattle.audit_rows.specs.declared.row.Row.{Row}
-use Rattle.log_lines.specs.GrowingLog.{ended_lines}
-use Rattle.log_lines.specs.JudgedLines.{judged_lines}
 use Rattle.log_lines.specs.LogLines.{lines_of}
 use Rattle.log_lines.specs.Standing.{StandsFor as JudgeStandsFor}
 use Rattle.log_lines.specs.declared.judge.Judge.{Judge}
@@ -13,7 +12,6 @@ use Rattle.settling.specs.Standing.{StandsFor as AuditStandsFor}
 use Rattle.settling.specs.WatchStanding.{StandsFor as WatchStandsFor}
 use Rattle.settling.specs.declared.settled_audit.SettledAudit.{SettledAudit}
 use Rattle.settling.specs.declared.settled_watch.SettledWatch.{SettledWatch}
-use Rattle.log_lines.specs.declared.streamed.EndedLines.{EndedLines}
 use Rattle.sessions.specs.Endings.{IsAnswerOf, IsReport}
 use Rattle.sessions.specs.Standing.{mode_by}
 use Rattle.sessions.specs.Inner.Faults.{EndCause}
@@ -23,37 +21,29 @@ use Rattle.sessions.specs.declared.ending.Ending.{Ending}
 use Rattle.sessions.specs.declared.session_fault.SessionFault.{SessionFault}
 use Rattle.sessions.specs.declared.work.Work.{Work}
 
--- All lines of the log were judged.
-pub record AreOfLog (ended : EndedLines) (scenario : Scenario) (log : List ℕ) : Type 0 where
-  pub judged : judged_lines scenario (lines_of log) ≡ judged_lines scenario (ended_lines log) ++ option_to_list ended.last
-  pub judge : JudgeStandsFor ended.judge scenario (lines_of log)
+-- The work was done on all lines of the log, all were judged, and the text that they decide was given.
+pub record IsAtEnd (work : Work) (judge : Judge) (scenario : Scenario) (log given : List ℕ) : Type 0 where
+  pub done : IsDone work scenario (lines_of log) given
+  pub judged : JudgeStandsFor judge scenario (lines_of log)
 
--- The work was done on the lines that a line feed ends in the log, this text was given, and all lines were judged.
-pub record IsAtEnd (work : Work) (ended : EndedLines) (scenario : Scenario) (log given : List ℕ) : Type 0 where
-  pub done : IsDone work scenario (ended_lines log) given
-  pub of : AreOfLog ended scenario log
-
--- What the end of the work comes to, of each log at whose end it stands: the report that is asked for, ..
-abbrev pub EndsWithReport : Work → EndedLines → Scenario → Asked → Ending → Type 0
-EndsWithReport work ended scenario asked ending = (log given : List ℕ) → IsAtEnd work ended scenario log given
+-- What the end of the work comes to, of each log at whose end it stands: the report that is asked for, of which a front stands in the text, ..
+abbrev pub EndsWithReport : Work → Judge → Scenario → Asked → ReportText → Ending → Type 0
+EndsWithReport work judge scenario asked text ending = (log given front : List ℕ) → HasText text front → IsAtEnd work judge scenario log (given ++ front)
     → IsReport (mode_by work) asked.why asked.rows.now scenario log (given ++ ending.bytes.items)
 
 -- .. the answer that it is, ..
-abbrev pub EndsWithAnswer : Work → EndedLines → Scenario → Asked → Ending → Type 0
-EndsWithAnswer work ended scenario asked ending = (log given : List ℕ) → IsAtEnd work ended scenario log given
+abbrev pub EndsWithAnswer : Work → Judge → Scenario → Asked → Ending → Type 0
+EndsWithAnswer work judge scenario asked ending = (log given : List ℕ) → IsAtEnd work judge scenario log given
     → IsAnswerOf (mode_by work) asked.rows.now scenario log (Ok ending.none)
 
 -- .. or why there is none.
-abbrev pub EndsWithCause : Work → EndedLines → Scenario → Asked → SessionFault → Type 0
-EndsWithCause work ended scenario asked why = (log given : List ℕ) → IsAtEnd work ended scenario log given → EndCause (mode_by work) asked.rows.now scenario log why
+abbrev pub EndsWithCause : Work → Judge → Scenario → Asked → SessionFault → Type 0
+EndsWithCause work judge scenario asked why = (log given : List ℕ) → IsAtEnd work judge scenario log given → EndCause (mode_by work) asked.rows.now scenario log why
 
--- What is looked on stands for the first lines of the log, and has given these; and the judge has taken all lines.
+-- What looks on stands for all lines of the log, and has given these; and the judge has taken them.
 module _ {Item : Type 0} (Stands : List (List ℕ) → List Item → Type 0) (judge : Judge) (scenario : Scenario) (log : List ℕ) where
   pub record HasGiven (given : List Item) : Type 0 where
-    pub lines : List (List ℕ)
-    pub more : List (List ℕ)
-    pub whole : lines_of log ≡ lines ++ more
-    pub stands : Stands lines given
+    pub stands : Stands (lines_of log) given
     pub judged : JudgeStandsFor judge scenario (lines_of log)
 
 -- An audit, and the rows that it has given.

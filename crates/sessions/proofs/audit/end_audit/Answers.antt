@@ -1,8 +1,9 @@
-use Rattle.std.proofs.Common.{ℕ, List, ◌∙◌, ◌++◌, length, ap, sym, Err, []}
+use Rattle.std.proofs.Common.{ℕ, List, [], append-nil, ◌∙◌, ◌++◌, ap, sym, subst, Err}
 use Rattle.outside.proofs.ForCallers.{err_cause}
 use Rattle.auditor.specs.AuditRows.{AreAuditRows}
 use Rattle.auditor.specs.AuditTotals.{AreTotals}
 use Rattle.traces.specs.ManyTraces.{HaveMoreThan}
+use Rattle.log_lines.specs.LogLines.{lines_of}
 use Rattle.log_lines.specs.SentLines.{sent}
 use Rattle.traces.specs.declared.all_traces.TheConstants.{MOST_TRACES}
 use Rattle.settled_ticks.specs.Sightings.{sighted}
@@ -26,8 +27,8 @@ returns-in_err-end-clause-cause c =
     let scenario = c.args.scenario.now in
     let judge = c.args.judge.now in
     audit_cause scenario log c.in_err-end.field-0.0 of.judged.calm
-    (λ pairs. of_whole judge scenario log given of (λ (lines : List (List ℕ)). HaveMoreThan MOST_TRACES (audit_numbers scenario) (sighted scenario (sent scenario lines)))
-    (c.end.ensures.many (c.in_err-end.was ∙ ap Err pairs) of.lines of.more given of.stands (judged_parts judge scenario log given of))))
+    (λ pairs. of_whole log (λ (lines : List (List ℕ)). HaveMoreThan MOST_TRACES (audit_numbers scenario) (sighted scenario (sent scenario lines)))
+    (c.end.ensures.many (c.in_err-end.was ∙ ap Err pairs) (lines_of log) [] given of.stands (judged_parts judge scenario log given of))))
 
 pub rest_of_audit-requires-clause-keeping : goal.rest_of_audit-requires-clause-keeping
 rest_of_audit-requires-clause-keeping c = keeps_tracks _ c.args.scenario.now (audited_ticks c.args.audit) c.requires.remembers
@@ -36,32 +37,32 @@ pub rest_of_audit-requires-clause-rows : goal.rest_of_audit-requires-clause-rows
 rest_of_audit-requires-clause-rows c =
     let at = c.requires.at_end in
     let scenario = c.args.scenario.now in
-    let rows = c.in_ok-end.ensures.rows at.is.lines at.is.more at.given at.is.stands (judged_parts c.args.judge.now scenario at.log at.given at.is) in
+    let rows = c.in_ok-end.ensures.rows (lines_of at.log) [] at.given at.is.stands (judged_parts c.args.judge.now scenario at.log at.given at.is) in
     last_of_rules scenario.rules at.given c.in_ok-end.end.rows.items (rows_of_rules (audit_numbers scenario) _ _ rows)
 
 pub rest_of_audit-requires-clause-totals : goal.rest_of_audit-requires-clause-totals
 rest_of_audit-requires-clause-totals c =
     let at = c.requires.at_end in
-    let totals = c.in_ok-end.ensures.totals at.is.lines at.is.more at.given at.is.stands (judged_parts c.args.judge.now c.args.scenario.now at.log at.given at.is) in
+    let totals = c.in_ok-end.ensures.totals (lines_of at.log) [] at.given at.is.stands (judged_parts c.args.judge.now c.args.scenario.now at.log at.given at.is) in
     totals.count
 
 pub returns-clause-report : goal.returns-clause-report
 unfolding sightings_of
-returns-clause-report c = λ log given of.
+returns-clause-report c = λ log before front given of has so_far.
     let scenario = c.args.scenario.now in
     let judge = c.args.judge.now in
     let parts = judged_parts judge scenario log given of in
-    let rows = of_whole judge scenario log given of (λ (ls : List (List ℕ)). AreAuditRows (audit_numbers scenario) (sighted scenario (sent scenario ls)) (given ++ c.in_ok-end.end.rows.items))
-    (c.in_ok-end.ensures.rows of.lines of.more given of.stands parts) in
-    let totals = of_whole judge scenario log given of (λ (ls : List (List ℕ)). AreTotals (audit_numbers scenario) (sighted scenario (sent scenario ls)) (given ++ c.in_ok-end.end.rows.items) c.in_ok-end.end.totals.items)
-    (c.in_ok-end.ensures.totals of.lines of.more given of.stands parts) in
-    whole_report scenario log given c.in_ok-end.end.rows.items c.in_ok-end.end.totals.items _ rows totals
-    (ap (λ (e : Ending). e.bytes.items) c.without_search.ensures ∙ c.in_ok-rest_of_audit.ensures log of.judged)
+    let rows = of_whole log (λ (ls : List (List ℕ)). AreAuditRows (audit_numbers scenario) (sighted scenario (sent scenario ls)) (given ++ c.in_ok-end.end.rows.items))
+    (c.in_ok-end.ensures.rows (lines_of log) [] given of.stands parts) in
+    let totals = of_whole log (λ (ls : List (List ℕ)). AreTotals (audit_numbers scenario) (sighted scenario (sent scenario ls)) (given ++ c.in_ok-end.end.rows.items) c.in_ok-end.end.totals.items)
+    (c.in_ok-end.ensures.totals (lines_of log) [] given of.stands parts) in
+    whole_report scenario log before front given c.in_ok-end.end.rows.items c.in_ok-end.end.totals.items _ rows totals so_far
+    (ap (λ (e : Ending). e.bytes.items) c.without_search.ensures ∙ c.in_ok-rest_of_audit.ensures log front has of.judged)
 
 pub returns-clause-answer : goal.returns-clause-answer
 unfolding sightings_of
 returns-clause-answer c = λ log given of.
     let scenario = c.args.scenario.now in
     let judge = c.args.judge.now in
-    rw c.without_search.ensures (audit_done scenario log of.judged.calm (λ many. c.in_ok-end.ensures.few of.lines of.more given of.stands (judged_parts judge scenario log given of)
-    (Rattle.std.proofs.Common.subst (λ (ls : List (List ℕ)). HaveMoreThan MOST_TRACES (audit_numbers scenario) (sighted scenario (sent scenario ls))) of.whole many)))
+    rw c.without_search.ensures (audit_done scenario log of.judged.calm (λ many. c.in_ok-end.ensures.few (lines_of log) [] given of.stands (judged_parts judge scenario log given of)
+    (subst (λ (ls : List (List ℕ)). HaveMoreThan MOST_TRACES (audit_numbers scenario) (sighted scenario (sent scenario ls))) (sym (append-nil (lines_of log))) many)))

@@ -1,4 +1,4 @@
-use Rattle.std.proofs.Common.{ap, sym, length, [], ◌∙◌}
+use Rattle.std.proofs.Common.{ap, sym, length, ◌∙◌}
 use Rattle.log_lines.specs.JudgedLines.{numbers_of}
 use Rattle.log_lines.specs.LogLines.{lines_of}
 use Rattle.log_lines.specs.SentLines.{sent}
@@ -18,12 +18,12 @@ write_totals-requires c = ap length c.as_slice-2.ensures.value ∙ c.requires.to
 
 pub returns : goal.returns
 unfolding rows_behind
-returns c = λ log stands.
+returns c = λ log front has stands.
     let scenario = c.args.scenario.now in
     let lines = lines_of log in
     let messages = sent scenario lines in
-    let stretches = rw c.as_slice.ensures.value at (c.in_ok-write_stretches.ensures [] c.new-text.ensures) in
+    let stretches = rw c.as_slice.ensures.value at (c.in_ok-write_stretches.ensures front has) in
     let vessels = c.in_ok-write_vessels.ensures (numbers_of scenario) messages _ (few_messages c.args.judge.now scenario lines stands) (c.book.ensures.stands scenario lines stands) stretches in
     let totalled = c.in_ok-write_totals.ensures _ vessels in
     let counts = c.in_ok-write_counts.ensures scenario lines _ stands totalled in
-    c.in_ok-into_bytes.ensures _ counts ∙ whole_text scenario messages c.args.end.now.rows.items _ _ _ c.as_slice-2.ensures.value
+    c.in_ok-into_bytes.ensures _ counts ∙ whole_text scenario messages front c.args.end.now.rows.items _ _ _ c.as_slice-2.ensures.value

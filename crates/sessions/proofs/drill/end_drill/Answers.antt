@@ -1,8 +1,9 @@
-use Rattle.std.proofs.Common.{ℕ, List, ◌∙◌, ◌++◌, ap, subst, Err}
+use Rattle.std.proofs.Common.{ℕ, List, [], append-nil, ◌∙◌, ◌++◌, ap, subst, sym, Err}
 use Rattle.outside.proofs.ForCallers.{err_cause}
 use Rattle.auditor.specs.AuditRows.{AreAuditRows}
 use Rattle.auditor.specs.AuditTotals.{AreTotals}
 use Rattle.traces.specs.ManyTraces.{HaveMoreThan}
+use Rattle.log_lines.specs.LogLines.{lines_of}
 use Rattle.log_lines.specs.SentLines.{sent}
 use Rattle.traces.specs.declared.all_traces.TheConstants.{MOST_TRACES}
 use Rattle.settled_ticks.specs.Sightings.{sighted}
@@ -24,13 +25,13 @@ returns-in_err-end-clause-cause c =
     let scenario = c.args.scenario.now in
     let judge = c.args.judge.now in
     drill_cause scenario log c.in_err-end.field-0.0 of.judged.calm
-    (λ pairs. of_whole judge scenario log given of (λ (lines : List (List ℕ)). HaveMoreThan MOST_TRACES (audit_numbers scenario) (sighted scenario (sent scenario lines)))
-    (c.end.ensures.many (c.in_err-end.was ∙ ap Err pairs) of.lines of.more given of.stands (judged_parts judge scenario log given of))))
+    (λ pairs. of_whole log (λ (lines : List (List ℕ)). HaveMoreThan MOST_TRACES (audit_numbers scenario) (sighted scenario (sent scenario lines)))
+    (c.end.ensures.many (c.in_err-end.was ∙ ap Err pairs) (lines_of log) [] given of.stands (judged_parts judge scenario log given of))))
 
 pub drill_report-requires : goal.drill_report-requires
 drill_report-requires c =
     let at = c.requires.at_end in
-    let totals = c.in_ok-end.ensures.totals at.is.lines at.is.more at.given at.is.stands (judged_parts c.args.judge.now c.args.scenario.now at.log at.given at.is) in
+    let totals = c.in_ok-end.ensures.totals (lines_of at.log) [] at.given at.is.stands (judged_parts c.args.judge.now c.args.scenario.now at.log at.given at.is) in
     totals.count
 
 pub returns-clause-report : goal.returns-clause-report
@@ -42,10 +43,10 @@ returns-clause-report c = λ log given of.
     record {
       rows = given ++ c.in_ok-end.end.rows.items;
       totals = c.in_ok-end.end.totals.items;
-      are_rows = of_whole judge scenario log given of (λ (ls : List (List ℕ)). AreAuditRows (audit_numbers scenario) (sighted scenario (sent scenario ls)) (given ++ c.in_ok-end.end.rows.items))
-          (c.in_ok-end.ensures.rows of.lines of.more given of.stands parts);
-      are_totals = of_whole judge scenario log given of (λ (ls : List (List ℕ)). AreTotals (audit_numbers scenario) (sighted scenario (sent scenario ls)) (given ++ c.in_ok-end.end.rows.items) c.in_ok-end.end.totals.items)
-          (c.in_ok-end.ensures.totals of.lines of.more given of.stands parts);
+      are_rows = of_whole log (λ (ls : List (List ℕ)). AreAuditRows (audit_numbers scenario) (sighted scenario (sent scenario ls)) (given ++ c.in_ok-end.end.rows.items))
+          (c.in_ok-end.ensures.rows (lines_of log) [] given of.stands parts);
+      are_totals = of_whole log (λ (ls : List (List ℕ)). AreTotals (audit_numbers scenario) (sighted scenario (sent scenario ls)) (given ++ c.in_ok-end.end.rows.items) c.in_ok-end.end.totals.items)
+          (c.in_ok-end.ensures.totals (lines_of log) [] given of.stands parts);
       is = ap (λ (e : Ending). e.bytes.items) c.without_search.ensures ∙ c.in_ok-drill_report.ensures log of.judged;
     }
 
@@ -53,5 +54,5 @@ pub returns-clause-answer : goal.returns-clause-answer
 unfolding sightings_of
 returns-clause-answer c = λ log given of.
     let scenario = c.args.scenario.now in
-    rw c.without_search.ensures (drill_done scenario log of.judged.calm (λ many. c.in_ok-end.ensures.few of.lines of.more given of.stands (judged_parts c.args.judge.now scenario log given of)
-    (subst (λ (ls : List (List ℕ)). HaveMoreThan MOST_TRACES (audit_numbers scenario) (sighted scenario (sent scenario ls))) of.whole many)))
+    rw c.without_search.ensures (drill_done scenario log of.judged.calm (λ many. c.in_ok-end.ensures.few (lines_of log) [] given of.stands (judged_parts c.args.judge.now scenario log given of)
+    (subst (λ (ls : List (List ℕ)). HaveMoreThan MOST_TRACES (audit_numbers scenario) (sighted scenario (sent scenario ls))) (sym (append-nil (lines_of log))) many)))

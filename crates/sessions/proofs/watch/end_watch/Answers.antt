@@ -1,4 +1,4 @@
-use Rattle.std.proofs.Common.{ℕ, List, ◌∙◌, ◌++◌, ap, subst, Err, []}
+use Rattle.std.proofs.Common.{ℕ, List, [], append-nil, ◌∙◌, ◌++◌, ap, subst, sym, Err}
 use Rattle.outside.proofs.ForCallers.{err_cause}
 use Rattle.early_monitor.specs.Alarms.{AreAlarms}
 use Rattle.log_lines.specs.LogLines.{lines_of}
@@ -24,28 +24,26 @@ returns-in_err-alarms-clause-cause c =
     let scenario = c.args.scenario.now in
     let judge = c.args.judge.now in
     watch_cause scenario log c.in_err-alarms.field-0.0 of.judged.calm
-    (λ pairs. of_whole judge scenario log given of (λ (lines : List (List ℕ)). HaveMoreThan MOST_TRACES (audit_numbers scenario) (sighted scenario (sent scenario lines)))
-    (c.end.ensures.many (c.in_err-alarms.was ∙ ap Err pairs) of.lines of.more given of.stands (judged_parts judge scenario log given of))))
+    (λ pairs. of_whole log (λ (lines : List (List ℕ)). HaveMoreThan MOST_TRACES (audit_numbers scenario) (sighted scenario (sent scenario lines)))
+    (c.end.ensures.many (c.in_err-alarms.was ∙ ap Err pairs) (lines_of log) [] given of.stands (judged_parts judge scenario log given of))))
 
 pub write_alarms-requires : goal.write_alarms-requires
 write_alarms-requires c =
     let at = c.requires.at_end in
     let scenario = c.args.scenario.now in
-    let early = c.in_ok-alarms.ensures.alarms at.is.lines at.is.more at.given at.is.stands (judged_parts c.args.judge.now scenario at.log at.given at.is) in
+    let early = c.in_ok-alarms.ensures.alarms (lines_of at.log) [] at.given at.is.stands (judged_parts c.args.judge.now scenario at.log at.given at.is) in
     rw c.as_slice.ensures.value (last_alarms scenario.rules at.given c.in_ok-alarms.alarms.items (alarms_of_rules (audit_numbers scenario) _ _ early))
 
 pub returns-clause-report : goal.returns-clause-report
 unfolding sightings_of
-returns-clause-report c = λ log given of.
+returns-clause-report c = λ log before front given of has so_far.
     let scenario = c.args.scenario.now in
     let judge = c.args.judge.now in
-    let lines = lines_of log in
-    let parts = judged_parts judge scenario log given of in
-    let early = of_whole judge scenario log given of (λ (ls : List (List ℕ)). AreAlarms (audit_numbers scenario) (sighted scenario (sent scenario ls)) (given ++ c.in_ok-alarms.alarms.items))
-    (c.in_ok-alarms.ensures.alarms of.lines of.more given of.stands parts) in
-    let told = rw c.as_slice.ensures.value at (c.in_ok-write_alarms.ensures [] c.new-text.ensures) in
-    let counts = c.in_ok-write_counts.ensures scenario lines _ of.judged told in
-    whole_watch scenario log given c.in_ok-alarms.alarms.items _ early
+    let early = of_whole log (λ (ls : List (List ℕ)). AreAlarms (audit_numbers scenario) (sighted scenario (sent scenario ls)) (given ++ c.in_ok-alarms.alarms.items))
+    (c.in_ok-alarms.ensures.alarms (lines_of log) [] given of.stands (judged_parts judge scenario log given of)) in
+    let told = rw c.as_slice.ensures.value at (c.in_ok-write_alarms.ensures front has) in
+    let counts = c.in_ok-write_counts.ensures scenario (lines_of log) _ of.judged told in
+    whole_watch scenario log before front given c.in_ok-alarms.alarms.items _ early so_far
     (ap (λ (e : Ending). e.bytes.items) c.without_search.ensures ∙ c.in_ok-into_bytes.ensures _ counts)
 
 pub returns-clause-answer : goal.returns-clause-answer
@@ -53,5 +51,5 @@ unfolding sightings_of
 returns-clause-answer c = λ log given of.
     let scenario = c.args.scenario.now in
     let judge = c.args.judge.now in
-    rw c.without_search.ensures (watch_done scenario log of.judged.calm (λ many. c.in_ok-alarms.ensures.few of.lines of.more given of.stands (judged_parts judge scenario log given of)
-    (subst (λ (ls : List (List ℕ)). HaveMoreThan MOST_TRACES (audit_numbers scenario) (sighted scenario (sent scenario ls))) of.whole many)))
+    rw c.without_search.ensures (watch_done scenario log of.judged.calm (λ many. c.in_ok-alarms.ensures.few (lines_of log) [] given of.stands (judged_parts judge scenario log given of)
+    (subst (λ (ls : List (List ℕ)). HaveMoreThan MOST_TRACES (audit_numbers scenario) (sighted scenario (sent scenario ls))) (sym (append-nil (lines_of log))) many)))

@@ -13,37 +13,37 @@ use Rattle.sessions.proofs.work.Work.end.Goals as goal
 -- ---- what each kind of work asks for
 
 pub end_audit-requires-clause-remembers : goal.end_audit-requires-clause-remembers
-end_audit-requires-clause-remembers c = subst (λ (w : Work). KeepsEnough w c.args.scenario (keeping_of c.args.ended.now.judge)) c.in-Audit.is c.requires.keeping
+end_audit-requires-clause-remembers c = subst (λ (w : Work). KeepsEnough w c.args.scenario (keeping_of c.args.judge.now)) c.in-Audit.is c.requires.keeping
 
 pub end_plan-requires-clause-keeping : goal.end_plan-requires-clause-keeping
-end_plan-requires-clause-keeping c = subst (λ (w : Work). KeepsEnough w c.args.scenario (keeping_of c.args.ended.now.judge)) c.in-Plan.is c.requires.keeping
+end_plan-requires-clause-keeping c = subst (λ (w : Work). KeepsEnough w c.args.scenario (keeping_of c.args.judge.now)) c.in-Plan.is c.requires.keeping
 
 pub end_drill-requires-clause-remembers : goal.end_drill-requires-clause-remembers
-end_drill-requires-clause-remembers c = subst (λ (w : Work). KeepsEnough w c.args.scenario (keeping_of c.args.ended.now.judge)) c.in-Drill.is c.requires.keeping
+end_drill-requires-clause-remembers c = subst (λ (w : Work). KeepsEnough w c.args.scenario (keeping_of c.args.judge.now)) c.in-Drill.is c.requires.keeping
 
 pub end_recheck-requires-clause-keeping : goal.end_recheck-requires-clause-keeping
-end_recheck-requires-clause-keeping c = subst (λ (w : Work). KeepsEnough w c.args.scenario (keeping_of c.args.ended.now.judge)) c.in-Recheck.is c.requires.keeping
+end_recheck-requires-clause-keeping c = subst (λ (w : Work). KeepsEnough w c.args.scenario (keeping_of c.args.judge.now)) c.in-Recheck.is c.requires.keeping
 
 pub end_watch-requires-clause-remembers : goal.end_watch-requires-clause-remembers
-end_watch-requires-clause-remembers c = subst (λ (w : Work). KeepsEnough w c.args.scenario (keeping_of c.args.ended.now.judge)) c.in-Watch.is c.requires.keeping
+end_watch-requires-clause-remembers c = subst (λ (w : Work). KeepsEnough w c.args.scenario (keeping_of c.args.judge.now)) c.in-Watch.is c.requires.keeping
 
 pub end_audit-requires-clause-at_end : goal.end_audit-requires-clause-at_end
-end_audit-requires-clause-at_end c = audit_here c.args.ended.now c.args.scenario c.in-Audit.audit (subst (λ (w : Work). AtSomeEnd w c.args.ended.now c.args.scenario) c.in-Audit.is c.requires.at_end)
+end_audit-requires-clause-at_end c = audit_here c.args.judge.now c.args.scenario c.in-Audit.audit (subst (λ (w : Work). AtSomeEnd w c.args.judge.now c.args.scenario) c.in-Audit.is c.requires.at_end)
 
 pub end_drill-requires-clause-at_end : goal.end_drill-requires-clause-at_end
-end_drill-requires-clause-at_end c = drill_here c.args.ended.now c.args.scenario c.in-Drill.audit (subst (λ (w : Work). AtSomeEnd w c.args.ended.now c.args.scenario) c.in-Drill.is c.requires.at_end)
+end_drill-requires-clause-at_end c = drill_here c.args.judge.now c.args.scenario c.in-Drill.audit (subst (λ (w : Work). AtSomeEnd w c.args.judge.now c.args.scenario) c.in-Drill.is c.requires.at_end)
 
 pub end_watch-requires-clause-at_end : goal.end_watch-requires-clause-at_end
-end_watch-requires-clause-at_end c = watch_here c.args.ended.now c.args.scenario c.in-Watch.watch (subst (λ (w : Work). AtSomeEnd w c.args.ended.now c.args.scenario) c.in-Watch.is c.requires.at_end)
+end_watch-requires-clause-at_end c = watch_here c.args.judge.now c.args.scenario c.in-Watch.watch (subst (λ (w : Work). AtSomeEnd w c.args.judge.now c.args.scenario) c.in-Watch.is c.requires.at_end)
 
 pub end_plan-requires-clause-at_end : goal.end_plan-requires-clause-at_end
-end_plan-requires-clause-at_end c = judged_there c.args.ended.now c.args.scenario c.args.self c.requires.at_end
+end_plan-requires-clause-at_end c = judged_there c.args.judge.now c.args.scenario c.args.self c.requires.at_end
 
 pub end_plan-requires-clause-own : goal.end_plan-requires-clause-own
 end_plan-requires-clause-own c = c.requires.own (subst (λ (w : Work). IsTrue (needs_own (mode_by w))) (sym c.in-Plan.is) refl)
 
 pub end_recheck-requires-clause-at_end : goal.end_recheck-requires-clause-at_end
-end_recheck-requires-clause-at_end c = judged_there c.args.ended.now c.args.scenario c.args.self c.requires.at_end
+end_recheck-requires-clause-at_end c = judged_there c.args.judge.now c.args.scenario c.args.self c.requires.at_end
 
 pub end_recheck-requires-clause-own : goal.end_recheck-requires-clause-own
 end_recheck-requires-clause-own c = c.requires.own (subst (λ (w : Work). IsTrue (needs_own (mode_by w))) (sym c.in-Recheck.is) refl)
@@ -52,83 +52,83 @@ end_recheck-requires-clause-own c = c.requires.own (subst (λ (w : Work). IsTrue
 
 pub returns-in_ok-end_points-in-Points-clause-report : goal.returns-in_ok-end_points-in-Points-clause-report
 returns-in_ok-end_points-in-Points-clause-report c =
-    rw c.in-Points.is (points_reports c.args.ended.now c.args.scenario c.args.asked.now c.in_ok-end_points-in-Points.field-0 c.in_ok-end_points-in-Points.ensures.report)
+    rw c.in-Points.is (points_reports c.args.judge.now c.args.scenario c.args.asked.now c.args.text c.in_ok-end_points-in-Points.field-0 c.in_ok-end_points-in-Points.ensures.report)
 
 pub returns-in_ok-end_points-in-Points-clause-answer : goal.returns-in_ok-end_points-in-Points-clause-answer
 returns-in_ok-end_points-in-Points-clause-answer c =
-    rw c.in-Points.is (λ log given at. rw c.in_ok-end_points-in-Points.ensures.search (points_done c.args.scenario log at.of.judge.calm))
+    rw c.in-Points.is (λ log given at. rw c.in_ok-end_points-in-Points.ensures.search (points_done c.args.scenario log at.judged.calm))
 
 pub returns-in-Audit-clause-report : goal.returns-in-Audit-clause-report
 returns-in-Audit-clause-report c =
-    subst (λ (w : Work). IfOk c.end_audit.result (EndsWithReport w c.args.ended.now c.args.scenario c.args.asked.now)) (sym c.in-Audit.is)
-    (IfOk-weaker c.end_audit.result _ _ (λ ending report. audit_reports c.args.ended.now c.args.scenario c.args.asked.now ending c.in-Audit.audit report) c.end_audit.ensures.report)
+    subst (λ (w : Work). IfOk c.end_audit.result (EndsWithReport w c.args.judge.now c.args.scenario c.args.asked.now c.args.text)) (sym c.in-Audit.is)
+    (IfOk-weaker c.end_audit.result _ _ (λ ending report. audit_reports c.args.judge.now c.args.scenario c.args.asked.now c.args.text ending c.in-Audit.audit report) c.end_audit.ensures.report)
 
 pub returns-in-Audit-clause-answer : goal.returns-in-Audit-clause-answer
 returns-in-Audit-clause-answer c =
-    subst (λ (w : Work). IfOk c.end_audit.result (EndsWithAnswer w c.args.ended.now c.args.scenario c.args.asked.now)) (sym c.in-Audit.is)
-    (IfOk-weaker c.end_audit.result _ _ (λ ending answer log given at. let of = audit_of c.args.ended.now c.args.scenario c.in-Audit.audit log given at in answer log of.0 of.1) c.end_audit.ensures.answer)
+    subst (λ (w : Work). IfOk c.end_audit.result (EndsWithAnswer w c.args.judge.now c.args.scenario c.args.asked.now)) (sym c.in-Audit.is)
+    (IfOk-weaker c.end_audit.result _ _ (λ ending answer log given at. let of = audit_of c.args.judge.now c.args.scenario c.in-Audit.audit log given at in answer log of.0 of.1) c.end_audit.ensures.answer)
 
 pub returns-in-Audit-clause-cause : goal.returns-in-Audit-clause-cause
 returns-in-Audit-clause-cause c =
-    subst (λ (w : Work). IfErr c.end_audit.result (EndsWithCause w c.args.ended.now c.args.scenario c.args.asked.now)) (sym c.in-Audit.is)
-    (IfErr-weaker c.end_audit.result _ _ (λ why cause log given at. let of = audit_of c.args.ended.now c.args.scenario c.in-Audit.audit log given at in cause log of.0 of.1) c.end_audit.ensures.cause)
+    subst (λ (w : Work). IfErr c.end_audit.result (EndsWithCause w c.args.judge.now c.args.scenario c.args.asked.now)) (sym c.in-Audit.is)
+    (IfErr-weaker c.end_audit.result _ _ (λ why cause log given at. let of = audit_of c.args.judge.now c.args.scenario c.in-Audit.audit log given at in cause log of.0 of.1) c.end_audit.ensures.cause)
 
 pub returns-in-Drill-clause-report : goal.returns-in-Drill-clause-report
 returns-in-Drill-clause-report c =
-    subst (λ (w : Work). IfOk c.end_drill.result (EndsWithReport w c.args.ended.now c.args.scenario c.args.asked.now)) (sym c.in-Drill.is)
-    (IfOk-weaker c.end_drill.result _ _ (λ ending report. drill_reports c.args.ended.now c.args.scenario c.args.asked.now ending c.in-Drill.audit report) c.end_drill.ensures.report)
+    subst (λ (w : Work). IfOk c.end_drill.result (EndsWithReport w c.args.judge.now c.args.scenario c.args.asked.now c.args.text)) (sym c.in-Drill.is)
+    (IfOk-weaker c.end_drill.result _ _ (λ ending report. drill_reports c.args.judge.now c.args.scenario c.args.asked.now c.args.text ending c.in-Drill.audit report) c.end_drill.ensures.report)
 
 pub returns-in-Drill-clause-answer : goal.returns-in-Drill-clause-answer
 returns-in-Drill-clause-answer c =
-    subst (λ (w : Work). IfOk c.end_drill.result (EndsWithAnswer w c.args.ended.now c.args.scenario c.args.asked.now)) (sym c.in-Drill.is)
-    (IfOk-weaker c.end_drill.result _ _ (λ ending answer log given at. let of = drill_of c.args.ended.now c.args.scenario c.in-Drill.audit log given at in answer log of.0 of.1) c.end_drill.ensures.answer)
+    subst (λ (w : Work). IfOk c.end_drill.result (EndsWithAnswer w c.args.judge.now c.args.scenario c.args.asked.now)) (sym c.in-Drill.is)
+    (IfOk-weaker c.end_drill.result _ _ (λ ending answer log given at. let of = drill_of c.args.judge.now c.args.scenario c.in-Drill.audit log given at in answer log of.0 of.1) c.end_drill.ensures.answer)
 
 pub returns-in-Drill-clause-cause : goal.returns-in-Drill-clause-cause
 returns-in-Drill-clause-cause c =
-    subst (λ (w : Work). IfErr c.end_drill.result (EndsWithCause w c.args.ended.now c.args.scenario c.args.asked.now)) (sym c.in-Drill.is)
-    (IfErr-weaker c.end_drill.result _ _ (λ why cause log given at. let of = drill_of c.args.ended.now c.args.scenario c.in-Drill.audit log given at in cause log of.0 of.1) c.end_drill.ensures.cause)
+    subst (λ (w : Work). IfErr c.end_drill.result (EndsWithCause w c.args.judge.now c.args.scenario c.args.asked.now)) (sym c.in-Drill.is)
+    (IfErr-weaker c.end_drill.result _ _ (λ why cause log given at. let of = drill_of c.args.judge.now c.args.scenario c.in-Drill.audit log given at in cause log of.0 of.1) c.end_drill.ensures.cause)
 
 pub returns-in-Watch-clause-report : goal.returns-in-Watch-clause-report
 returns-in-Watch-clause-report c =
-    subst (λ (w : Work). IfOk c.end_watch.result (EndsWithReport w c.args.ended.now c.args.scenario c.args.asked.now)) (sym c.in-Watch.is)
-    (IfOk-weaker c.end_watch.result _ _ (λ ending report. watch_reports c.args.ended.now c.args.scenario c.args.asked.now ending c.in-Watch.watch report) c.end_watch.ensures.report)
+    subst (λ (w : Work). IfOk c.end_watch.result (EndsWithReport w c.args.judge.now c.args.scenario c.args.asked.now c.args.text)) (sym c.in-Watch.is)
+    (IfOk-weaker c.end_watch.result _ _ (λ ending report. watch_reports c.args.judge.now c.args.scenario c.args.asked.now c.args.text ending c.in-Watch.watch report) c.end_watch.ensures.report)
 
 pub returns-in-Watch-clause-answer : goal.returns-in-Watch-clause-answer
 returns-in-Watch-clause-answer c =
-    subst (λ (w : Work). IfOk c.end_watch.result (EndsWithAnswer w c.args.ended.now c.args.scenario c.args.asked.now)) (sym c.in-Watch.is)
-    (IfOk-weaker c.end_watch.result _ _ (λ ending answer log given at. let of = watch_of c.args.ended.now c.args.scenario c.in-Watch.watch log given at in answer log of.0 of.1) c.end_watch.ensures.answer)
+    subst (λ (w : Work). IfOk c.end_watch.result (EndsWithAnswer w c.args.judge.now c.args.scenario c.args.asked.now)) (sym c.in-Watch.is)
+    (IfOk-weaker c.end_watch.result _ _ (λ ending answer log given at. let of = watch_of c.args.judge.now c.args.scenario c.in-Watch.watch log given at in answer log of.0 of.1) c.end_watch.ensures.answer)
 
 pub returns-in-Watch-clause-cause : goal.returns-in-Watch-clause-cause
 returns-in-Watch-clause-cause c =
-    subst (λ (w : Work). IfErr c.end_watch.result (EndsWithCause w c.args.ended.now c.args.scenario c.args.asked.now)) (sym c.in-Watch.is)
-    (IfErr-weaker c.end_watch.result _ _ (λ why cause log given at. let of = watch_of c.args.ended.now c.args.scenario c.in-Watch.watch log given at in cause log of.0 of.1) c.end_watch.ensures.cause)
+    subst (λ (w : Work). IfErr c.end_watch.result (EndsWithCause w c.args.judge.now c.args.scenario c.args.asked.now)) (sym c.in-Watch.is)
+    (IfErr-weaker c.end_watch.result _ _ (λ why cause log given at. let of = watch_of c.args.judge.now c.args.scenario c.in-Watch.watch log given at in cause log of.0 of.1) c.end_watch.ensures.cause)
 
 pub returns-in-Plan-clause-report : goal.returns-in-Plan-clause-report
 returns-in-Plan-clause-report c =
-    subst (λ (w : Work). IfOk c.end_plan.result (EndsWithReport w c.args.ended.now c.args.scenario c.args.asked.now)) (sym c.in-Plan.is)
-    (IfOk-weaker c.end_plan.result _ _ (λ ending report. plan_reports c.args.ended.now c.args.scenario c.args.asked.now ending report) c.end_plan.ensures.report)
+    subst (λ (w : Work). IfOk c.end_plan.result (EndsWithReport w c.args.judge.now c.args.scenario c.args.asked.now c.args.text)) (sym c.in-Plan.is)
+    (IfOk-weaker c.end_plan.result _ _ (λ ending report. plan_reports c.args.judge.now c.args.scenario c.args.asked.now c.args.text ending report) c.end_plan.ensures.report)
 
 pub returns-in-Plan-clause-answer : goal.returns-in-Plan-clause-answer
 returns-in-Plan-clause-answer c =
-    subst (λ (w : Work). IfOk c.end_plan.result (EndsWithAnswer w c.args.ended.now c.args.scenario c.args.asked.now)) (sym c.in-Plan.is)
-    (IfOk-weaker c.end_plan.result _ _ (λ ending answer log given at. answer log at.of.judge) c.end_plan.ensures.answer)
+    subst (λ (w : Work). IfOk c.end_plan.result (EndsWithAnswer w c.args.judge.now c.args.scenario c.args.asked.now)) (sym c.in-Plan.is)
+    (IfOk-weaker c.end_plan.result _ _ (λ ending answer log given at. answer log at.judged) c.end_plan.ensures.answer)
 
 pub returns-in-Plan-clause-cause : goal.returns-in-Plan-clause-cause
 returns-in-Plan-clause-cause c =
-    subst (λ (w : Work). IfErr c.end_plan.result (EndsWithCause w c.args.ended.now c.args.scenario c.args.asked.now)) (sym c.in-Plan.is)
-    (IfErr-weaker c.end_plan.result _ _ (λ why cause log given at. cause log at.of.judge) c.end_plan.ensures.cause)
+    subst (λ (w : Work). IfErr c.end_plan.result (EndsWithCause w c.args.judge.now c.args.scenario c.args.asked.now)) (sym c.in-Plan.is)
+    (IfErr-weaker c.end_plan.result _ _ (λ why cause log given at. cause log at.judged) c.end_plan.ensures.cause)
 
 pub returns-in-Recheck-clause-report : goal.returns-in-Recheck-clause-report
 returns-in-Recheck-clause-report c =
-    subst (λ (w : Work). IfOk c.end_recheck.result (EndsWithReport w c.args.ended.now c.args.scenario c.args.asked.now)) (sym c.in-Recheck.is)
-    (IfOk-weaker c.end_recheck.result _ _ (λ ending report. recheck_reports c.args.ended.now c.args.scenario c.args.asked.now ending report) c.end_recheck.ensures.report)
+    subst (λ (w : Work). IfOk c.end_recheck.result (EndsWithReport w c.args.judge.now c.args.scenario c.args.asked.now c.args.text)) (sym c.in-Recheck.is)
+    (IfOk-weaker c.end_recheck.result _ _ (λ ending report. recheck_reports c.args.judge.now c.args.scenario c.args.asked.now c.args.text ending report) c.end_recheck.ensures.report)
 
 pub returns-in-Recheck-clause-answer : goal.returns-in-Recheck-clause-answer
 returns-in-Recheck-clause-answer c =
-    subst (λ (w : Work). IfOk c.end_recheck.result (EndsWithAnswer w c.args.ended.now c.args.scenario c.args.asked.now)) (sym c.in-Recheck.is)
-    (IfOk-weaker c.end_recheck.result _ _ (λ ending answer log given at. answer log at.of.judge) c.end_recheck.ensures.answer)
+    subst (λ (w : Work). IfOk c.end_recheck.result (EndsWithAnswer w c.args.judge.now c.args.scenario c.args.asked.now)) (sym c.in-Recheck.is)
+    (IfOk-weaker c.end_recheck.result _ _ (λ ending answer log given at. answer log at.judged) c.end_recheck.ensures.answer)
 
 pub returns-in-Recheck-clause-cause : goal.returns-in-Recheck-clause-cause
 returns-in-Recheck-clause-cause c =
-    subst (λ (w : Work). IfErr c.end_recheck.result (EndsWithCause w c.args.ended.now c.args.scenario c.args.asked.now)) (sym c.in-Recheck.is)
-    (IfErr-weaker c.end_recheck.result _ _ (λ why cause log given at. cause log at.of.judge) c.end_recheck.ensures.cause)
+    subst (λ (w : Work). IfErr c.end_recheck.result (EndsWithCause w c.args.judge.now c.args.scenario c.args.asked.now)) (sym c.in-Recheck.is)
+    (IfErr-weaker c.end_recheck.result _ _ (λ why cause log given at. cause log at.judged) c.end_recheck.ensures.cause)
