@@ -17,7 +17,7 @@ fn compass_holds_the_published_sines_and_cosines(rt: HostRuntime) {
         (600, 866025, 500000),
     ];
     for (k, x, y) in rows {
-        assert_eq!(rt; unit(k), Point { x, y }, "{k}");
+        is(&rt, (k, unit(k)), (k, Point { x, y }));
     }
 }
 
@@ -53,7 +53,7 @@ fn velocities_are_in_tenths_of_a_millimetre_a_second(rt: HostRuntime) {
         (1800, 180, 0, -92600),
     ];
     for (course, speed, x, y) in rows {
-        assert_eq!(rt; velocity(course, speed), Point { x, y }, "{course} {speed}");
+        is(&rt, velocity(course, speed), Point { x, y });
     }
 }
 
@@ -66,7 +66,7 @@ fn bearings_are_clockwise_from_north(rt: HostRuntime) {
         (0, 0, None),
     ];
     for (x, y, k) in rows {
-        assert_eq!(rt; bearing(Point { x, y }), k, "{x} {y}");
+        is(&rt, (x, y, bearing(Point { x, y })), (x, y, k));
     }
     for (direction, port) in [
         (0, false),
@@ -75,10 +75,10 @@ fn bearings_are_clockwise_from_north(rt: HostRuntime) {
         (1801, true),
         (3599, true),
     ] {
-        assert_eq!(rt;
-            to_port(Point { x: 0, y: -1 }, direction),
-            Some(port),
-            "{direction}"
+        is(
+            &rt,
+            (direction, to_port(Point { x: 0, y: -1 }, direction)),
+            (direction, Some(port)),
         );
     }
     is(&rt, relative(100, 3500), 200);

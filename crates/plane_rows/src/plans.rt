@@ -23,22 +23,22 @@ fn numbers_of_plans(rt: HostRuntime) {
         1800,
         1022,
     );
-    assert_eq!(rt; lattice.choices(), 6);
-    assert_eq!(rt; lattice.plans(), 36);
-    assert_eq!(rt; lattice.positions(), 70);
-    assert_eq!(rt; lattice.legs(), 2);
-    assert_eq!(rt; lattice.leg_ticks(), 30);
+    is(&rt, lattice.choices(), 6);
+    is(&rt, lattice.plans(), 36);
+    is(&rt, lattice.positions(), 70);
+    is(&rt, lattice.legs(), 2);
+    is(&rt, lattice.leg_ticks(), 30);
     // 11 is 15 in base 6.
     let plan = lattice.plan(11);
-    assert_eq!(rt; plan.choices(), [1, 5].as_slice());
-    assert_eq!(rt; lattice.number(&plan), 11);
+    is(&rt, plan.choices(), [1, 5].as_slice());
+    is(&rt, lattice.number(&plan), 11);
     // The plans that begin with the choice 1 have the numbers 6 to 11.
-    assert_eq!(rt; lattice.block(&[1]), (6, 12));
+    is(&rt, lattice.block(&[1]), (6, 12));
     numbers_and_plans_are_inverse(&lattice);
-    assert_eq!(rt; lattice.course(&plan, 0, 500), 500);
-    assert_eq!(rt; lattice.speed(&plan, 0, 180), 130);
-    assert_eq!(rt; lattice.course(&plan, 1, 500), 3500);
-    assert_eq!(rt; lattice.speed(&plan, 1, 20), 0);
+    is(&rt, lattice.course(&plan, 0, 500), 500);
+    is(&rt, lattice.speed(&plan, 0, 180), 130);
+    is(&rt, lattice.course(&plan, 1, 500), 3500);
+    is(&rt, lattice.speed(&plan, 1, 20), 0);
 }
 
 #[test]
