@@ -15,18 +15,18 @@ use Rattle.traces.specs.declared.all_traces.TheConstants.{MOST_TRACES}
 use Rattle.traces.specs.declared.fault.TickFault.{TickFault as AuditFault}
 use Rattle.traces.specs.declared.fault.TickFault.TheVariants as audit
 use Rattle.sessions.specs.Inner.Faults.{EndCause, auditing_fault}
-use Rattle.sessions.proofs.Meeting.{too_many_drilled, too_many_traces}
+use Rattle.sessions.proofs.Meeting.{pairs_answer}
 use Rattle.command_line.specs.declared.mode.Mode.TheVariants as mode
 use Rattle.settling.specs.ScenarioAudit.{audit_numbers}
 
 pub audit_cause : (scenario : Scenario) (log : List ℕ) (fault : AuditFault) → is_crowded scenario (lines_of log) ≡ false
     → (fault ≡ audit.TooManyPairs → HaveMoreThan MOST_TRACES (audit_numbers scenario) (sightings_of scenario log)) → EndCause mode.Audit [] scenario log (auditing_fault fault)
-audit_cause scenario log audit.TooManyPairs calm many = too_many_traces scenario log calm (many refl)
+audit_cause scenario log audit.TooManyPairs calm many = pairs_answer mode.Audit [] scenario log calm (many refl)
 audit_cause scenario log audit.Memory calm many = tt
 
 pub drill_cause : (scenario : Scenario) (log : List ℕ) (fault : AuditFault) → is_crowded scenario (lines_of log) ≡ false
     → (fault ≡ audit.TooManyPairs → HaveMoreThan MOST_TRACES (audit_numbers scenario) (sightings_of scenario log)) → EndCause mode.Drill [] scenario log (auditing_fault fault)
-drill_cause scenario log audit.TooManyPairs calm many = too_many_drilled scenario log calm (many refl)
+drill_cause scenario log audit.TooManyPairs calm many = pairs_answer mode.Drill [] scenario log calm (many refl)
 drill_cause scenario log audit.Memory calm many = tt
 
 -- the rows one after the other, behind what stands in the text

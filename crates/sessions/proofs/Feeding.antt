@@ -6,7 +6,7 @@ use Rattle.std.proofs.lemmas.Bool.Decides.{nat_tests}
 use Rattle.std.proofs.lemmas.List.Quantifiers.{position-Some}
 use Rattle.std.proofs.lemmas.List.Splits.{length-slice_split}
 use Rattle.std.proofs.lemmas.List.Sums.{count_by-le-length}
-use Rattle.std.proofs.lemmas.List.{get_or-take, length-drop, length-map, length-take, length-take-le, take-append-drop, take_all}
+use Rattle.std.proofs.lemmas.List.{get_or-take, length-drop, length-map, length-take, length-take-le, take-append-drop, take-take, take_all}
 use Rattle.std.specs.List.{slice_split}
 use Rattle.outside.proofs.ForCallers.{err_cause}
 use Rattle.aivdm.proofs.Parts.{position-fails}
@@ -36,7 +36,7 @@ use Rattle.sessions.specs.declared.work.Work.{Work}
 use Rattle.tracks.specs.declared.entry.BookFault.{BookFault}
 use Rattle.tracks.specs.declared.entry.BookFault.TheVariants as book
 use Rattle.sessions.specs.Inner.Faults.{judging_fault}
-use Rattle.sessions.proofs.Refusing.{EndedStay, ManyStay, PartsGoOn, shorter_take, stopped_by, stopped_bytes, stopped_on}
+use Rattle.sessions.proofs.Refusing.{EndedStay, ManyStay, PartsGoOn, stopped_by, stopped_bytes, stopped_on}
 use Rattle.sessions.proofs.Working.{few_by}
 
 -- ---- how many lines there are
@@ -69,7 +69,7 @@ last_of_take : (bytes : List ℕ) (at : ℕ) → at < length bytes → take (len
 last_of_take bytes at lt =
     let long = length-take-le (at + 1) bytes (omega arith) in
     let last : length (take (at + 1) bytes) - 1 ≡ at = omega (arith, long) in
-    ap (λ (n : ℕ). take n (take (at + 1) bytes)) last ∙ shorter_take at (at + 1) bytes (omega arith)
+    ap (λ (n : ℕ). take n (take (at + 1) bytes)) last ∙ take-take at (at + 1) bytes (omega arith)
 
 pub piece_by_feed : (bytes : List ℕ) (at : ℕ) → position is_line_feed bytes ≡ Some at → IsPiece (take (at + 1) bytes)
 piece_by_feed bytes at is =

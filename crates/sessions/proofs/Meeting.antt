@@ -114,20 +114,11 @@ module _ (scenario : Scenario) (log : List ℕ) (calm : is_crowded scenario (lin
   pub points_done : IsAnswerOf mode.Points [] scenario log (Ok false)
   points_done = inr (not_crowded scenario log calm, inr (λ x. x, inr (λ x. x, inr (λ x. x, no_entry mode.Points [] scenario log (λ k x. x)))))
 
-  pub too_many_traces : HasManyTraces mode.Audit scenario log → IsAnswerOf mode.Audit [] scenario log (Err fault.Pairs)
-  too_many_traces many = inr (not_crowded scenario log calm, inl (many, refl))
-
   pub audit_done : ¬ HasManyTraces mode.Audit scenario log → IsAnswerOf mode.Audit [] scenario log (Ok false)
   audit_done few = inr (not_crowded scenario log calm, inr (few, inr (λ x. x, inr (λ x. x, no_entry mode.Audit [] scenario log (λ k x. x)))))
 
-  pub too_many_watched : HasManyTraces mode.Watch scenario log → IsAnswerOf mode.Watch [] scenario log (Err fault.Pairs)
-  too_many_watched many = inr (not_crowded scenario log calm, inl (many, refl))
-
   pub watch_done : ¬ HasManyTraces mode.Watch scenario log → IsAnswerOf mode.Watch [] scenario log (Ok false)
   watch_done few = inr (not_crowded scenario log calm, inr (few, inr (λ x. x, inr (λ x. x, no_entry mode.Watch [] scenario log (λ k x. x)))))
-
-  pub too_many_drilled : HasManyTraces mode.Drill scenario log → IsAnswerOf mode.Drill [] scenario log (Err fault.Pairs)
-  too_many_drilled many = inr (not_crowded scenario log calm, inl (many, refl))
 
   pub drill_done : ¬ HasManyTraces mode.Drill scenario log → IsAnswerOf mode.Drill [] scenario log (Ok false)
   drill_done few = inr (not_crowded scenario log calm, inr (few, inr (λ x. x, inr (λ x. x, no_entry mode.Drill [] scenario log (λ k x. x)))))

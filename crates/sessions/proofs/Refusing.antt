@@ -1,7 +1,7 @@
 -- Refusals, and the places where they stand.
 use Rattle.std.proofs.Common.{ℕ, zero, suc, ◌≡◌, ◌+◌, ◌-◌, ◌<◌, ◌≤◌, inl, inr, Bool, true, false, ◌||◌, IsTrue, List, [], ◌∷◌, ◌++◌, length, take, drop, nat_lt, Option, Some, None, Err, refl, sym, ap, subst, ◌∙◌, arith, length-append}
 use Rattle.std.proofs.lemmas.Bool.{cases_lt}
-use Rattle.std.proofs.lemmas.List.{length-take, length-take-le, take-append-drop, take-append-le, take_all}
+use Rattle.std.proofs.lemmas.List.{length-take, length-take-le, take-append-drop, take-append-le, take-take, take_all}
 use Rattle.std.proofs.lemmas.List.Elements.{All-take}
 use Rattle.std.proofs.Math.Seq.{take-append-add}
 use Rattle.std.specs.List.{All, list_any}
@@ -65,12 +65,6 @@ many_on stay each_line scenario lines more many = many
 many_on stay (each_tick told) scenario lines more many = stay scenario lines more many
 many_on stay own_ship scenario lines more many = many
 many_on stay nothing scenario lines more many = many
-
-pub shorter_take : (i j : ℕ) (xs : List ℕ) → i ≤ j → take i (take j xs) ≡ take i xs
-shorter_take zero j xs le = refl
-shorter_take (suc i) zero xs le = absurd (omega arith)
-shorter_take (suc i) (suc j) [] le = refl
-shorter_take (suc i) (suc j) (x ∷ xs) le = ap (λ (l : List ℕ). x ∷ l) (shorter_take i j xs (omega arith))
 
 -- ---- what is not refused
 
@@ -139,7 +133,7 @@ module _ (stay : EndedStay) (settle : ManyStay) (m : Mode) (scenario : Scenario)
   module _ (parts : PartsGoOn) (fed piece : List ℕ) (is : IsPiece piece) where
     no_feed : (k : ℕ) → k < length piece → All (λ byte. is_line_feed byte ≡ false) (take k piece)
     no_feed k lt =
-        let inner : take k (take (length piece - 1) piece) ≡ take k piece = shorter_take k (length piece - 1) piece (omega arith) in
+        let inner : take k (take (length piece - 1) piece) ≡ take k piece = take-take k (length piece - 1) piece (omega arith) in
         subst (All (λ (byte : ℕ). is_line_feed byte ≡ false)) inner (All-take (λ (byte : ℕ). is_line_feed byte ≡ false) k (take (length piece - 1) piece) is)
 
     within_piece : (k : ℕ) → take (length fed + k) (fed ++ piece) ≡ fed ++ take k piece
@@ -208,7 +202,7 @@ module _ (stay : EndedStay) (settle : ManyStay) (m : Mode) (scenario : Scenario)
         place = most + 1;
         refused = record {
           within = omega arith;
-          before = λ shorter lt. subst (IsUnrefused m scenario) (shorter_take shorter most log (omega arith)) (first_unrefused (take most log) shorter un);
+          before = λ shorter lt. subst (IsUnrefused m scenario) (take-take shorter most log (omega arith)) (first_unrefused (take most log) shorter un);
           here = inl (omega (arith, taken), refl);
         };
         settled = subst (λ (n : ℕ). IsSettledText m scenario (take n log) text) (sym last) settled;

@@ -29,7 +29,7 @@ use Rattle.sessions.specs.Inner.AtEnd.{IsWatchAtEnd}
 use Rattle.sessions.specs.Inner.Faults.{EndCause, auditing_fault}
 use Rattle.sessions.proofs.AtEnds.{judged_parts}
 use Rattle.sessions.proofs.Auditing.{all_of}
-use Rattle.sessions.proofs.Meeting.{too_many_watched}
+use Rattle.sessions.proofs.Meeting.{pairs_answer}
 
 -- ---- alarms tell of rules that are there
 
@@ -61,7 +61,7 @@ of_one_log watch judge scenario at = record {
 
 pub watch_cause : (scenario : Scenario) (log : List ℕ) (fault : WatchFault) → is_crowded scenario (lines_of log) ≡ false
     → (fault ≡ watch_fault.TooManyPairs → HaveMoreThan MOST_TRACES (audit_numbers scenario) (sightings_of scenario log)) → EndCause mode.Watch [] scenario log (auditing_fault fault)
-watch_cause scenario log watch_fault.TooManyPairs calm many = too_many_watched scenario log calm (many refl)
+watch_cause scenario log watch_fault.TooManyPairs calm many = pairs_answer mode.Watch [] scenario log calm (many refl)
 watch_cause scenario log watch_fault.Memory calm many = tt
 
 -- behind what was given before, and what stands in the text
