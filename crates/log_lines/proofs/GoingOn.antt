@@ -52,6 +52,15 @@ Enters-none numbers ranked judge came before untold keeps = record {
   keeps = subst (Keeps judge.book judge.ranks numbers ranked) (sym (append-nil before)) keeps;
 }
 
+-- the same, where no more than the report that was accepted last has changed
+pub Enters-latest : (numbers : JudgingNumbers) (ranked : Bool) (old new : Judge) (came : Judged) (before : List Sent) (next : Result Sent LineOutcome)
+    → new ≡ record old { latest = new.latest } → Enters numbers ranked old came before next → Enters numbers ranked new came before next
+Enters-latest numbers ranked old new came before next is enters = record {
+  is = enters.is;
+  told = ap (λ (j : Judge). j.told) is ∙ enters.told;
+  keeps = subst (λ (j : Judge). Keeps j.book j.ranks numbers ranked (before ++ listed next)) (sym is) enters.keeps;
+}
+
 -- ---- what a sentence that is in time comes to
 
 abbrev after : List Taken → Taken → List Taken
@@ -164,7 +173,7 @@ counted counts came = slice_set counts (outcome_index (outcome_of came)) (min (s
 
 pub stands_on : (old noted new : Judge) (came : Judged) (line : List ℕ) (scenario : Scenario) (before : List (List ℕ)) → length before + 1 < 2 ^ 64
     → StandsFor old scenario before → Judges old noted came line
-    → new ≡ record { times = times_behind old.times (stamp_of line); joiner = noted.joiner; book = noted.book; told = noted.told; ranks = noted.ranks; counts = counted old.counts came }
+    → new ≡ record { times = times_behind old.times (stamp_of line); joiner = noted.joiner; book = noted.book; told = noted.told; ranks = noted.ranks; latest = noted.latest; counts = counted old.counts came }
     → StandsFor new scenario (before ++ line ∷ [])
 unfolding sent_of held_behind told_of
 stands_on old noted new came line scenario before few stands judges is =
@@ -229,16 +238,17 @@ crowded_by old line scenario before time body small stands timed said more =
 
 -- the record that counting makes, in the words of the lemma above
 pub new_is : (old noted new : Judge) (came : Judged) (line : List ℕ) (times : LineTimes) (stamp : Option ℕ) (outcome : LineOutcome)
-    → noted ≡ record old { joiner = noted.joiner; book = noted.book; told = noted.told; ranks = noted.ranks } → times ≡ times_behind noted.times stamp → stamp ≡ stamp_of line → outcome ≡ outcome_of came
+    → noted ≡ record old { joiner = noted.joiner; book = noted.book; told = noted.told; ranks = noted.ranks; latest = noted.latest } → times ≡ times_behind noted.times stamp → stamp ≡ stamp_of line → outcome ≡ outcome_of came
     → new ≡ record {
       times = times;
       joiner = noted.joiner;
       book = noted.book;
       told = noted.told;
       ranks = noted.ranks;
+      latest = noted.latest;
       counts = slice_set noted.counts (outcome_index outcome) (min (slice_index noted.counts (outcome_index outcome) + 1) (2 ^ 64 - 1));
     }
-    → new ≡ record { times = times_behind old.times (stamp_of line); joiner = noted.joiner; book = noted.book; told = noted.told; ranks = noted.ranks; counts = counted old.counts came }
+    → new ≡ record { times = times_behind old.times (stamp_of line); joiner = noted.joiner; book = noted.book; told = noted.told; ranks = noted.ranks; latest = noted.latest; counts = counted old.counts came }
 new_is old noted new came line times stamp outcome same passed stamped told is =
     let kept : noted.times ≡ old.times = ap (λ (j : Judge). j.times) same in
     let counts : noted.counts ≡ old.counts = ap (λ (j : Judge). j.counts) same in
@@ -249,5 +259,6 @@ new_is old noted new came line times stamp outcome same passed stamped told is =
       book = noted.book;
       told = noted.told;
       ranks = noted.ranks;
+      latest = noted.latest;
       counts = slice_set (counts i) (outcome_index (told i)) (min (slice_index (counts i) (outcome_index (told i)) + 1) (2 ^ 64 - 1));
     })

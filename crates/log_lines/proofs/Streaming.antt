@@ -3,6 +3,7 @@ use Rattle.std.proofs.Common.{◌≡◌, ℕ, false, List, [], ◌∷◌, ◌++�
 use Rattle.std.specs.List.{All}
 use Rattle.std.specs.Prelude.{◌==◌, true}
 use Rattle.std.proofs.lemmas.Bool.Decides.{nat_tests}
+use Rattle.std.proofs.lemmas.List.{nil_from_length}
 use Rattle.log_lines.specs.GrowingLog.{ended_lines, open_part}
 use Rattle.log_lines.proofs.ForCallers.{ended_by_feed, ended_so_far, lines_ended_or_open, open_by_feed, open_so_far, judged-push}
 use Rattle.log_lines.specs.JudgedLines.{judged_line, judged_lines}
@@ -33,10 +34,6 @@ module _ (log part : List ℕ) (none : NoFeed part) where
       ap (judged_lines scenario) line_ends ∙ judged-push scenario (ended_lines log) (without_carriage_return (open_part log ++ part))
       ∙ ap (λ (j : Judged). judged_lines scenario (ended_lines log) ++ j ∷ []) (sym is)
 
-pub no_length : (part : List ℕ) → length part ≡ 0 → part ≡ []
-no_length [] is = refl
-no_length (byte ∷ part) is = absurd (omega (arith, is))
-
 -- ---- an open line that goes on
 
 module _ (line : OpenLine) (log part : List ℕ) where
@@ -44,7 +41,7 @@ module _ (line : OpenLine) (log part : List ℕ) where
   stays_without is stands = record {
     stood = log;
     stands = stands;
-    is = rw is (ap (λ (o : List ℕ). o ++ part) (sym (no_length (open_part log) (grind (arith, nat_tests, is)))));
+    is = rw is (ap (λ (o : List ℕ). o ++ part) (sym (nil_from_length (open_part log) (grind (arith, nat_tests, is)))));
   }
 
   pub goes_on_with : NoFeed part → (length (open_part log) == 0) ≡ false → OpenLineStandsFor line (log ++ part) → HasExtended line log part

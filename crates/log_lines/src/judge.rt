@@ -5,6 +5,7 @@ ghost use Rattle.aivdm.specs.FragmentJoining.{Taken};
 ghost use Rattle.aivdm.specs.OpenMessages.{StandsFor as JoinerStandsFor};
 ghost use Rattle.aivdm.specs.Sentences.{IfSentence, IsSentence, body_seen, fields_seen};
 ghost use Rattle.ais_messages.specs.MessageFields.{decoded_of, IfMessage, IsMessage, IsReport};
+ghost use Rattle.ais_messages.specs.declared.message.Message.{Message};
 ghost use Rattle.ais_messages.specs.declared.message.Message.TheVariants.{Position};
 ghost use Rattle.ais_messages.specs.declared.message.Decoded.TheVariants as decoded;
 ghost use Rattle.aivdm.specs.PayloadBits.{bits_of};
@@ -12,7 +13,7 @@ ghost use Rattle.scenario.specs.ScenarioValues.{IsInRange};
 ghost use Rattle.scenario.specs.declared.values.Scenario.{Scenario};
 ghost use Rattle.tracks.specs.AcceptedReports.{JudgingNumbers};
 ghost use Rattle.tracks.specs.Standing.{StandsFor as BookStandsFor, forgetting};
-ghost use Rattle.tracks.specs.VesselsHeld.{Sent, entry_of, held_of};
+ghost use Rattle.tracks.specs.VesselsHeld.{Sent, entry_of, held_of, report_in};
 ghost use Rattle.tracks.specs.declared.entry.BookFault.TheVariants.{TooManyVessels};
 ghost use Rattle.log_lines.specs.JudgedLines.{greatest_held, held_behind, judged_entry, judged_line, judged_lines, numbers_of};
 ghost use Rattle.log_lines.specs.LineTimes.{clock_of};
@@ -32,37 +33,13 @@ use scenario::Scenario;
 use std::alloc::Global;
 use tracks::{Accepted, Book, BookFault, Entry, Keeping};
 
-/// What a message comes to, from its entry in the book.
-fn judged(message: &Message, time: u64, entry: Entry) -> Judged
-    ensures { result ≡ judged_entry (record { message = message.now; time = time }) entry }
+/// The position report of a message, if it has one.
+fn position_report(message: &Message) -> Option<&PositionReport>
+    ensures { option_copied result ≡ report_in message.now }
 {
-    match entry {
-        Entry::Point(point) => match message {
-            Message::Position(report) | Message::Both(report, _) => Judged::Accepted(Accepted {
-                time,
-                point,
-                report: *report,
-            }),
-            Message::Static(_) => Judged::Without(LineOutcome::Static),
-        },
-        Entry::Static => Judged::Without(LineOutcome::Static),
-        Entry::Dropped(cause) => Judged::Without(cause.into()),
-    }
-}
-
-/// What a position report that is a message by itself comes to, from its entry in the book.
-#[inline(always)]
-fn judged_report(report: &PositionReport, time: u64, entry: Entry) -> Judged
-    ensures { result ≡ judged_entry (record { message = Position report.now; time = time }) entry }
-{
-    match entry {
-        Entry::Point(point) => Judged::Accepted(Accepted {
-            time,
-            point,
-            report: *report,
-        }),
-        Entry::Static => Judged::Without(LineOutcome::Static),
-        Entry::Dropped(cause) => Judged::Without(cause.into()),
+    match message {
+        Message::Position(report) | Message::Both(report, _) => Some(report),
+        Message::Static(_) => None,
     }
 }
 
@@ -80,6 +57,15 @@ fn report_of(room: &mut SentenceRoom, sentence: &Sentence<'_>) -> Option<Positio
     position(&room.bits_of(sentence))
 }
 
+/// What a line comes to, where a report that is accepted lies with the judge. It is handed from call to call in place of the report.
+#[derive(Clone, Copy)]
+pub(crate) enum Came {
+    /// Its report is accepted: it is the one that was accepted last.
+    Accepted,
+    /// It has no report that is accepted.
+    Without(LineOutcome),
+}
+
 /// What is kept of the lines of a log so far: it stands for the list of them.
 #[derive(Drop)]
 pub struct Judge {
@@ -90,6 +76,8 @@ pub struct Judge {
     told: Option<ToldStatic>,
     /// The ship types that vessels told, where ranks count.
     ranks: Option<Ranks>,
+    /// The report that was accepted last.
+    latest: Option<Accepted>,
     /// How many lines came to each outcome, by its index.
     counts: [u64; 21],
 }
@@ -98,7 +86,7 @@ impl Judge {
     ghost use Rattle.std.specs.Prelude.{◌-◌, min, slice_set};
     ghost use Rattle.log_lines.specs.LineOutcomes.{outcome_index};
     ghost use Rattle.log_lines.specs.Standing.{AreCounts, StandsFor, keeping_of};
-    ghost use Rattle.log_lines.specs.Inner.JudgeState.{Enters, GoesOn, Keeps, heard_by, held_with};
+    ghost use Rattle.log_lines.specs.Inner.JudgeState.{Enters, GoesOn, Keeps, heard_by, held_with, judged_by};
 
     /// A judge by the numbers of a scenario, to whom no line came yet, and whose book keeps so much of each vessel. This takes no
     /// memory.
@@ -119,6 +107,7 @@ impl Judge {
             ),
             told: None,
             ranks: no_ship_types(alloc, keeping, scenario),
+            latest: None,
             counts: [0; 21],
         }
     }
@@ -185,57 +174,90 @@ impl Judge {
         self.counts[place] = self.counts[place].saturating_add(1);
     }
 
+    /// Enters what a message comes to, whose position report is this, from its entry in the book.
+    #[inline(always)]
+    fn enter(&mut self, report: Option<&PositionReport>, time: u64, entry: Entry) -> Came
+        ensures came { (message : Message) → report_in message ≡ option_copied report.entry
+            → judged_by result self.new.latest ≡ judged_entry (record { message = message; time = time }) entry }
+        ensures same { self.new ≡ record self.old { latest = self.new.latest } }
+    {
+        match (entry, report) {
+            (Entry::Point(point), Some(report)) => {
+                self.latest = Some(Accepted {
+                    time,
+                    point,
+                    report: *report,
+                });
+                Came::Accepted
+            }
+            (Entry::Point(_), None) | (Entry::Static, _) => Came::Without(LineOutcome::Static),
+            (Entry::Dropped(cause), _) => Came::Without(cause.into()),
+        }
+    }
+
+    /// What the latest line comes to.
+    #[inline(always)]
+    fn judged(&self, came: Came) -> Judged
+        ensures { result ≡ judged_by came self.now.latest }
+    {
+        match (came, &self.latest) {
+            (Came::Accepted, Some(report)) => Judged::Accepted(*report),
+            (Came::Accepted, None) => Judged::Without(LineOutcome::Point),
+            (Came::Without(outcome), _) => Judged::Without(outcome),
+        }
+    }
+
     /// Judges a message, and keeps what it tells.
-    fn judge_message(&mut self, message: &Message, time: u64) -> Result<Judged, BookFault>
+    fn judge_message(&mut self, message: &Message, time: u64) -> Result<Came, BookFault>
         requires message { IsMessage message.now }
         requires untold { self.old.told ≡ None }
-        ensures judged { IfOk result (λ judged. (numbers : JudgingNumbers) (ranked : Bool) (before : List Sent)
+        ensures judged { IfOk result (λ came. (numbers : JudgingNumbers) (ranked : Bool) (before : List Sent)
             → Keeps self.old.book self.old.ranks numbers ranked before
-            → Enters numbers ranked self.new judged before (Ok (record { message = message.now; time = time }))) }
+            → Enters numbers ranked self.new (judged_by came self.new.latest) before (Ok (record { message = message.now; time = time }))) }
         ensures crowded { result ≡ Err TooManyVessels → (numbers : JudgingNumbers) (before : List Sent) → BookStandsFor self.old.book numbers before
             → greatest_held < held_with numbers before (Ok (record { message = message.now; time = time })) }
-        ensures same { self.new ≡ record self.old { book = self.new.book; told = self.new.told; ranks = self.new.ranks } }
+        ensures same { self.new ≡ record self.old { book = self.new.book; told = self.new.told; ranks = self.new.ranks; latest = self.new.latest } }
         ensures keeping { keeping_of self.new ≡ keeping_of self.old }
     {
         let entry = self.book.take(message, time)?;
         self.told = static_told(message, time);
         note(&mut self.ranks, self.told)?;
-        Ok(judged(message, time, entry))
+        Ok(self.enter(position_report(message), time, entry))
     }
 
     /// Judges what the bits of a message are read as.
-    fn judge_decoded(&mut self, decoded: &Decoded, time: u64) -> Result<Judged, BookFault>
+    fn judge_decoded(&mut self, decoded: &Decoded, time: u64) -> Result<Came, BookFault>
         requires message { IfMessage decoded.now IsMessage }
         requires untold { self.old.told ≡ None }
-        ensures judged { IfOk result (λ judged. (numbers : JudgingNumbers) (ranked : Bool) (before : List Sent)
+        ensures judged { IfOk result (λ came. (numbers : JudgingNumbers) (ranked : Bool) (before : List Sent)
             → Keeps self.old.book self.old.ranks numbers ranked before
-            → Enters numbers ranked self.new judged before (sent_decoded time decoded.now)) }
+            → Enters numbers ranked self.new (judged_by came self.new.latest) before (sent_decoded time decoded.now)) }
         ensures crowded { result ≡ Err TooManyVessels → (numbers : JudgingNumbers) (before : List Sent) → BookStandsFor self.old.book numbers before
             → greatest_held < held_with numbers before (sent_decoded time decoded.now) }
-        ensures same { self.new ≡ record self.old { book = self.new.book; told = self.new.told; ranks = self.new.ranks } }
+        ensures same { self.new ≡ record self.old { book = self.new.book; told = self.new.told; ranks = self.new.ranks; latest = self.new.latest } }
         ensures keeping { keeping_of self.new ≡ keeping_of self.old }
     {
         match decoded {
             Decoded::Message(message) => self.judge_message(message, time),
-            Decoded::Dropped(cause) => Ok(Judged::Without((*cause).into())),
+            Decoded::Dropped(cause) => Ok(Came::Without((*cause).into())),
         }
     }
 
     /// Judges a position report that is a message by itself.
     #[inline(always)]
-    fn judge_report(&mut self, report: &PositionReport, time: u64) -> Result<Judged, BookFault>
+    fn judge_report(&mut self, report: &PositionReport, time: u64) -> Result<Came, BookFault>
         requires report { IsReport report.now }
         requires untold { self.old.told ≡ None }
-        ensures judged { IfOk result (λ judged. (numbers : JudgingNumbers) (ranked : Bool) (before : List Sent)
+        ensures judged { IfOk result (λ came. (numbers : JudgingNumbers) (ranked : Bool) (before : List Sent)
             → Keeps self.old.book self.old.ranks numbers ranked before
-            → Enters numbers ranked self.new judged before (Ok (record { message = Position report.now; time = time }))) }
+            → Enters numbers ranked self.new (judged_by came self.new.latest) before (Ok (record { message = Position report.now; time = time }))) }
         ensures crowded { result ≡ Err TooManyVessels → (numbers : JudgingNumbers) (before : List Sent) → BookStandsFor self.old.book numbers before
             → greatest_held < held_with numbers before (Ok (record { message = Position report.now; time = time })) }
-        ensures same { self.new ≡ record self.old { book = self.new.book; told = self.new.told; ranks = self.new.ranks } }
+        ensures same { self.new ≡ record self.old { book = self.new.book; told = self.new.told; ranks = self.new.ranks; latest = self.new.latest } }
         ensures keeping { keeping_of self.new ≡ keeping_of self.old }
     {
         let entry = self.book.take_report(report, time)?;
-        Ok(judged_report(report, time, entry))
+        Ok(self.enter(Some(report), time, entry))
     }
 
     /// Judges a sentence that is in time. Most are position reports by themselves, and are read in place.
@@ -245,42 +267,42 @@ impl Judge {
         room: &mut SentenceRoom,
         sentence: Sentence<'_>,
         time: u64,
-    ) -> Result<Judged, BookFault>
+    ) -> Result<Came, BookFault>
         requires sentence { IsSentence (fields_seen sentence) }
         requires untold { self.old.told ≡ None }
-        ensures judged { IfOk result (λ judged. (numbers : JudgingNumbers) (ranked : Bool) (taken : List Taken) (messages : List Sent)
+        ensures judged { IfOk result (λ came. (numbers : JudgingNumbers) (ranked : Bool) (taken : List Taken) (messages : List Sent)
             → JoinerStandsFor self.old.joiner taken → Keeps self.old.book self.old.ranks numbers ranked messages
-            → GoesOn numbers ranked self.new judged taken messages (Ok (record { sentence = fields_seen sentence.entry; time = time }))) }
+            → GoesOn numbers ranked self.new (judged_by came self.new.latest) taken messages (Ok (record { sentence = fields_seen sentence.entry; time = time }))) }
         ensures crowded { result ≡ Err TooManyVessels → (numbers : JudgingNumbers) (taken : List Taken) (messages : List Sent)
             → JoinerStandsFor self.old.joiner taken → BookStandsFor self.old.book numbers messages
             → greatest_held < held_with numbers messages (sent_heard taken (Ok (record { sentence = fields_seen sentence.entry; time = time }))) }
-        ensures same { self.new ≡ record self.old { joiner = self.new.joiner; book = self.new.book; told = self.new.told; ranks = self.new.ranks } }
+        ensures same { self.new ≡ record self.old { joiner = self.new.joiner; book = self.new.book; told = self.new.told; ranks = self.new.ranks; latest = self.new.latest } }
         ensures keeping { keeping_of self.new ≡ keeping_of self.old }
     {
         match report_of(room, &sentence) {
             Some(report) => self.judge_report(&report, time),
-            None => self.judge_part(sentence, time),
+            None => self.judge_part(&sentence, time),
         }
     }
 
     /// Judges a sentence that is in time, by way of the joiner.
     #[inline(never)]
-    fn judge_part(&mut self, sentence: Sentence<'_>, time: u64) -> Result<Judged, BookFault>
-        requires sentence { IsSentence (fields_seen sentence) }
+    fn judge_part(&mut self, sentence: &Sentence<'_>, time: u64) -> Result<Came, BookFault>
+        requires sentence { IsSentence (fields_seen sentence.now) }
         requires untold { self.old.told ≡ None }
-        ensures judged { IfOk result (λ judged. (numbers : JudgingNumbers) (ranked : Bool) (taken : List Taken) (messages : List Sent)
+        ensures judged { IfOk result (λ came. (numbers : JudgingNumbers) (ranked : Bool) (taken : List Taken) (messages : List Sent)
             → JoinerStandsFor self.old.joiner taken → Keeps self.old.book self.old.ranks numbers ranked messages
-            → GoesOn numbers ranked self.new judged taken messages (Ok (record { sentence = fields_seen sentence.entry; time = time }))) }
+            → GoesOn numbers ranked self.new (judged_by came self.new.latest) taken messages (Ok (record { sentence = fields_seen sentence.now; time = time }))) }
         ensures crowded { result ≡ Err TooManyVessels → (numbers : JudgingNumbers) (taken : List Taken) (messages : List Sent)
             → JoinerStandsFor self.old.joiner taken → BookStandsFor self.old.book numbers messages
-            → greatest_held < held_with numbers messages (sent_heard taken (Ok (record { sentence = fields_seen sentence.entry; time = time }))) }
-        ensures same { self.new ≡ record self.old { joiner = self.new.joiner; book = self.new.book; told = self.new.told; ranks = self.new.ranks } }
+            → greatest_held < held_with numbers messages (sent_heard taken (Ok (record { sentence = fields_seen sentence.now; time = time }))) }
+        ensures same { self.new ≡ record self.old { joiner = self.new.joiner; book = self.new.book; told = self.new.told; ranks = self.new.ranks; latest = self.new.latest } }
         ensures keeping { keeping_of self.new ≡ keeping_of self.old }
     {
-        match self.joiner.take(&sentence, time)? {
+        match self.joiner.take(sentence, time)? {
             Joined::Message(bits) => self.judge_decoded(&decode(&bits), time),
-            Joined::Waiting => Ok(Judged::Without(LineOutcome::Part)),
-            Joined::Orphan => Ok(Judged::Without(LineOutcome::Orphan)),
+            Joined::Waiting => Ok(Came::Without(LineOutcome::Part)),
+            Joined::Orphan => Ok(Came::Without(LineOutcome::Orphan)),
         }
     }
 
@@ -291,22 +313,22 @@ impl Judge {
         room: &mut SentenceRoom,
         body: Body<'_>,
         time: u64,
-    ) -> Result<Judged, BookFault>
+    ) -> Result<Came, BookFault>
         requires sentence { IfSentence body (λ s. IsSentence (fields_seen s)) }
         requires untold { self.old.told ≡ None }
-        ensures judged { IfOk result (λ judged. (numbers : JudgingNumbers) (ranked : Bool) (taken : List Taken) (messages : List Sent)
+        ensures judged { IfOk result (λ came. (numbers : JudgingNumbers) (ranked : Bool) (taken : List Taken) (messages : List Sent)
             → JoinerStandsFor self.old.joiner taken → Keeps self.old.book self.old.ranks numbers ranked messages
-            → GoesOn numbers ranked self.new judged taken messages (heard_by self.old.times time (body_seen body.entry))) }
+            → GoesOn numbers ranked self.new (judged_by came self.new.latest) taken messages (heard_by self.old.times time (body_seen body.entry))) }
         ensures crowded { result ≡ Err TooManyVessels → (numbers : JudgingNumbers) (taken : List Taken) (messages : List Sent)
             → JoinerStandsFor self.old.joiner taken → BookStandsFor self.old.book numbers messages
             → greatest_held < held_with numbers messages (sent_heard taken (heard_by self.old.times time (body_seen body.entry))) }
-        ensures same { self.new ≡ record self.old { joiner = self.new.joiner; book = self.new.book; told = self.new.told; ranks = self.new.ranks } }
+        ensures same { self.new ≡ record self.old { joiner = self.new.joiner; book = self.new.book; told = self.new.told; ranks = self.new.ranks; latest = self.new.latest } }
         ensures keeping { keeping_of self.new ≡ keeping_of self.old }
     {
         match body {
-            Body::Dropped(cause) => Ok(Judged::Without(cause.into())),
+            Body::Dropped(cause) => Ok(Came::Without(cause.into())),
             Body::Sentence(sentence) => match self.times.untimely(time) {
-                Some(outcome) => Ok(Judged::Without(outcome)),
+                Some(outcome) => Ok(Came::Without(outcome)),
                 None => self.judge_sentence(room, sentence, time),
             },
         }
@@ -327,8 +349,9 @@ impl Judge {
         let reading = read_line(line);
         let time = self.times.time(reading.stamp);
         self.told = None;
-        let judged = self.judge_body(room, reading.body, time)?;
+        let came = self.judge_body(room, reading.body, time)?;
         self.times.pass(reading.stamp);
+        let judged = self.judged(came);
         self.count(judged.outcome());
         Ok(judged)
     }

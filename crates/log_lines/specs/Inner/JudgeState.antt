@@ -1,5 +1,5 @@
 -- What is kept of the lines of a log, behind one line more.
-use Rattle.std.specs.Prelude.{ℕ, ◌≡◌, ◌≤◌, Bool, length, List, [], ◌∷◌, ◌++◌, Option, Result, Ok, Err}
+use Rattle.std.specs.Prelude.{ℕ, ◌≡◌, ◌≤◌, Bool, length, List, [], ◌∷◌, ◌++◌, Option, Some, None, Result, Ok, Err}
 use Rattle.aivdm.specs.FragmentJoining.{Taken}
 use Rattle.aivdm.specs.OpenMessages.{StandsFor as JoinerStandsFor}
 use Rattle.aivdm.specs.Sentences.{SentenceFields}
@@ -8,6 +8,7 @@ use Rattle.ranks.specs.declared.change.Change.{Change}
 use Rattle.tracks.specs.AcceptedReports.{JudgingNumbers}
 use Rattle.tracks.specs.Standing.{BookValue, StandsFor as BookStandsFor}
 use Rattle.tracks.specs.VesselsHeld.{Sent, held_of}
+use Rattle.tracks.specs.declared.accepted.Accepted.{Accepted}
 use Rattle.log_lines.specs.JudgedLines.{greatest_held, judged_sent}
 use Rattle.log_lines.specs.LineOutcomes.{line_outcome}
 use Rattle.log_lines.specs.SentLines.{heard_unless, sent_heard}
@@ -15,9 +16,19 @@ use Rattle.log_lines.specs.ShipTypes.{AreNoted}
 use Rattle.log_lines.specs.StaticReports.{told_sent}
 use Rattle.log_lines.specs.Inner.Times.{untimely_by}
 use Rattle.log_lines.specs.declared.judged.Judged.{Judged}
+use Rattle.log_lines.specs.declared.judged.Judged.TheVariants as judged
+use Rattle.log_lines.specs.declared.judge.Came.{Came}
+use Rattle.log_lines.specs.declared.judge.Came.TheVariants as came
 use Rattle.log_lines.specs.declared.judge.Judge.{Judge}
 use Rattle.log_lines.specs.declared.line_times.LineTimes.{LineTimes}
 use Rattle.log_lines.specs.declared.outcome.LineOutcome.{LineOutcome}
+use Rattle.log_lines.specs.declared.outcome.LineOutcome.TheVariants as outcome
+
+-- what a line comes to, where this report was accepted last
+abbrev pub judged_by : Came → Option Accepted → Judged
+judged_by (came.Without outcome) latest = judged.Without outcome
+judged_by came.Accepted (Some report) = judged.Accepted report
+judged_by came.Accepted None = judged.Without outcome.Point
 
 -- the sentence that is heard on a line of this time, or what the line comes to without one
 abbrev pub heard_by : LineTimes → ℕ → Result SentenceFields LineCause → Result Taken LineOutcome

@@ -2,7 +2,7 @@ use Rattle.std.proofs.Common.{ap, refl, sym, ◌∙◌, Err}
 use Rattle.ais_messages.specs.declared.message.Message.TheVariants.{Position}
 use Rattle.tracks.specs.VesselsHeld.{Sent}
 use Rattle.log_lines.specs.JudgedLines.{judged_entry}
-use Rattle.log_lines.proofs.GoingOn.{few_unless}
+use Rattle.log_lines.proofs.GoingOn.{Enters-latest, few_unless}
 use Rattle.log_lines.proofs.Noting.{nothing_noted}
 use Rattle.log_lines.proofs.judge.Judge.judge_report.Goals as goal
 
@@ -14,12 +14,12 @@ returns-in_err-entry-clause-crowded c = λ told numbers before stands.
 pub returns-clause-judged : goal.returns-clause-judged
 returns-clause-judged c = λ numbers ranked before keeps.
     let one : Sent = record { message = Position c.args.report.now; time = c.args.time } in
-    record {
-      is = c.judged_report.ensures ∙ ap (judged_entry one) (c.in_ok-entry.ensures.entry numbers before keeps.book);
+    Enters-latest numbers ranked (record c.args.self.now { book = c.take_report.new.self }) c.enter.new.self _ before _ c.enter.ensures.same (record {
+      is = c.enter.ensures.came (Position c.args.report.now) refl ∙ ap (judged_entry one) (c.in_ok-entry.ensures.entry numbers before keeps.book);
       told = c.requires.untold;
       keeps = record {
         book = c.in_ok-entry.ensures.stands numbers before keeps.book;
         few = few_unless _ (λ more. cc ((c.in_ok-entry.ensures.too_many numbers before keeps.book).1 more));
         notes = nothing_noted ranked _ before one refl keeps.notes;
       };
-    }
+    })

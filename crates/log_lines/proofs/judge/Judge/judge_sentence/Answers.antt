@@ -8,6 +8,7 @@ use Rattle.aivdm.proofs.ForCallers.{whole_message}
 use Rattle.ais_messages.specs.declared.message.Decoded.TheVariants as decoded
 use Rattle.ais_messages.specs.declared.message.Message.TheVariants as message
 use Rattle.log_lines.specs.SentLines.{sent_decoded}
+use Rattle.log_lines.specs.Inner.JudgeState.{judged_by}
 use Rattle.log_lines.specs.declared.judge.Judge.{Judge}
 use Rattle.log_lines.proofs.GoingOn.{GoesOn-message, crowded_message}
 use Rattle.log_lines.proofs.judge.Judge.judge_sentence.Goals as goal
@@ -21,7 +22,7 @@ returns-in-Some-clause-judged c =
     IfOk-weaker c.judge_report.result _ _
     (λ came enters numbers ranked taken messages stands keeps.
     let whole = whole_message c.args.self.now.joiner taken next stands report.0 in
-    GoesOn-message numbers ranked judge came taken messages next (joined.Message (part_bits next)) (decoded.Message (message.Position c.in-Some.report)) whole.0
+    GoesOn-message numbers ranked judge (judged_by came judge.latest) taken messages next (joined.Message (part_bits next)) (decoded.Message (message.Position c.in-Some.report)) whole.0
     (ap (sent_decoded c.args.time) report.1) (subst (λ joiner. JoinerStandsFor joiner (taken ++ next ∷ [])) (sym kept) whole.1) (enters numbers ranked messages keeps))
     c.judge_report.ensures.judged
 
