@@ -1,10 +1,8 @@
-pub mod DrillLines
-pub mod DrillVessels
-pub mod FewDifferent
-pub mod OneDue
+pub mod DrillAnswers
 pub mod AskedLogs
 pub mod Due
 pub mod Migrating
+pub mod OneSetUp
 pub mod Refusals
 pub mod SettingUp
 pub mod StreamedReports

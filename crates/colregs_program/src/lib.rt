@@ -11,7 +11,6 @@
 
 mod fault_line;
 mod fetching;
-pub mod laws;
 mod migrate;
 mod program;
 mod report;

@@ -12,8 +12,8 @@ ghost use Rattle.colregs_program.specs.Inner.Streaming.{LogCount, OutCount, Repo
 use crate::set_up::SetUp;
 use crate::streaming::{StreamFault, write_report};
 use command_line::Request;
+use drill_fleet::laws::a_drill_meets_no_limit;
 use drill_log::DrillSource;
-use log_lines::laws::ended_lines_stay;
 use outside::{Sink, Source};
 use sessions::{Asked, SessionFault, reads_log};
 use std::alloc::Global;
@@ -61,7 +61,7 @@ pub(crate) fn report_on<S: Source, K: Sink>(
     if reads_log(mode) {
         return write_report(alloc, scenario, mode, &asked, log, out);
     }
-    ended_lines_stay();
+    a_drill_meets_no_limit();
     let mut made = DrillSource::new(alloc, &scenario, request.options.seed)?;
     match write_report(alloc, scenario, mode, &asked, &mut made, out) {
         Ok(none) => Ok(none),

@@ -7,7 +7,5 @@ pub mod FirstEntries
 pub mod Walking
 pub mod WrittenChoices
 pub mod ToldEntries
-pub mod OneList
-pub mod ForCallers
 pub mod FoundTargets
 pub mod Replays

@@ -1,10 +1,8 @@
 //! Laws of refutations. They do no work.
 ghost use Rattle.std.specs.Prelude.{ℕ, ◌≡◌, ◌↔◌, All, List, length, take};
 ghost use Rattle.situations.specs.LeastPlans.{AllFail};
-ghost use Rattle.situations.specs.Situations.{IsSituation};
 ghost use Rattle.situations.specs.Prefixes.{reached};
 ghost use Rattle.situations.specs.declared.situation.Target.{Target};
-ghost use Rattle.refutations.specs.CanonicalLists.{IsCanonical};
 ghost use Rattle.refutations.specs.GoodEntries.{Holds, HoldsFor};
 ghost use Rattle.refutations.specs.RightLists.{IsEntry, IsRight};
 ghost use Rattle.refutations.specs.declared.entry.Reason.{Reason};
@@ -29,9 +27,3 @@ pub fn a_right_list_refutes(situation: &Situation)
     failing_has_a_reason(situation);
     let _choices = situation.lattice.choices();
 }
-
-/// There is at most one canonical list.
-pub fn one_canonical_list(situation: &Situation)
-    requires { IsSituation situation.now }
-    ensures { (entries other : List WhyEntry) → IsCanonical situation.now entries → IsCanonical situation.now other → entries ≡ other }
-{}

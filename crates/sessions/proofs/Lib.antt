@@ -5,14 +5,11 @@ mod EndedSessions
 mod EndedWork
 mod Feeding
 mod Meeting
-mod OneEnding
 mod OneManoeuvre
 mod OneOwn
 mod Rechecking
 mod Refusing
 mod Seeking
-mod SettledTexts
-mod SomeAnswer
 mod TakingLines
 mod Watching
 mod Working

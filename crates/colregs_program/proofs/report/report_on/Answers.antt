@@ -1,10 +1,11 @@
-use Rattle.std.proofs.Common.{◌∙◌, sym}
+use Rattle.std.proofs.Common.{◌∙◌, subst, sym}
 use Rattle.std.proofs.lemmas.Result.{IfErr-weaker}
 use Rattle.outside.proofs.ForCallers.{err_cause}
+use Rattle.drill_fleet.specs.Limits.{MeetsNoLimit}
 use Rattle.sessions.specs.declared.asked.Asked.{Asked}
 use Rattle.colregs_program.specs.AskedScenarios.{log_of}
 use Rattle.colregs_program.proofs.AskedLogs.{cause_of_made, cause_of_read, drills}
-use Rattle.colregs_program.proofs.DrillVessels.{drill_faults, drill_reports}
+use Rattle.colregs_program.proofs.DrillAnswers.{drill_faults, drill_reports}
 use Rattle.colregs_program.proofs.StreamedReports.{none_begun}
 use Rattle.colregs_program.proofs.report.report_on.Goals as goal
 
@@ -25,13 +26,15 @@ returns-clause-cause g c =
 
 pub returns-clause-drill : goal.returns-clause-drill
 returns-clause-drill g c = λ makes.
+    let within = subst (MeetsNoLimit c.args.set_up.scenario) (sym c.in_ok-made.ensures.left) (c.a_drill_meets_no_limit.ensures c.args.set_up.scenario c.args.request.now.options.seed c.requires.in_range.window) in
     let asked : Asked = record { why = c.args.request.now.options.why; rows = c.as_slice.result } in
     rw c.made_fault.ensures
-    (drill_faults c.args.set_up.scenario c.args.request.now.options.seed c.requires.in_range.window c.ended_lines_stay.ensures.all c.in_ok-made.made.left c.in_ok-made.ensures.left
+    (drill_faults c.args.set_up.scenario c.in_ok-made.made.left within
     c.args.request.now.mode (drills c.args.request.now.mode makes c.requires.reports) asked _ _ _ c.in-Err.fault c.in-Err.ensures.cause)
 
 pub returns-in-Ok-clause-drill : goal.returns-in-Ok-clause-drill
 returns-in-Ok-clause-drill g c = λ makes.
+    let within = subst (MeetsNoLimit c.args.set_up.scenario) (sym c.in_ok-made.ensures.left) (c.a_drill_meets_no_limit.ensures c.args.set_up.scenario c.args.request.now.options.seed c.requires.in_range.window) in
     let asked : Asked = record { why = c.args.request.now.options.why; rows = c.as_slice.result } in
-    drill_reports c.args.set_up.scenario c.args.request.now.options.seed c.requires.in_range.window c.ended_lines_stay.ensures.all c.in_ok-made.made.left c.in_ok-made.ensures.left
+    drill_reports c.args.set_up.scenario c.in_ok-made.made.left within
     c.args.request.now.mode (drills c.args.request.now.mode makes c.requires.reports) asked c.in-Ok.none _ _ c.in-Ok.ensures.report

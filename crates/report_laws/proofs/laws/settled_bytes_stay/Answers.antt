@@ -1,5 +1,5 @@
-use Rattle.sessions.proofs.SettledTexts.{Fronts, settled_begins, settled_on}
-use Rattle.sessions.proofs.laws.settled_bytes_stay.Goals as goal
+use Rattle.report_laws.proofs.SettledTexts.{Fronts, settled_begins, settled_on}
+use Rattle.report_laws.proofs.laws.settled_bytes_stay.Goals as goal
 
 pub returns-clause-longer : goal.returns-clause-longer
 returns-clause-longer c =

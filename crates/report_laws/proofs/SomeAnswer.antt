@@ -12,7 +12,7 @@ use Rattle.sessions.specs.Endings.{Came, First, FirstOf, HasBadEntry, HasManyTra
 use Rattle.sessions.specs.Refusals.{HasManySettled, IsLogRefused, IsMet, IsRefusedAt, IsUnrefused}
 use Rattle.sessions.specs.Tasks.{Task}
 use Rattle.sessions.specs.declared.session_fault.SessionFault.TheVariants as fault
-use Rattle.sessions.proofs.Meeting.{behind_own, behind_search, behind_targets, behind_traces, behind_vessels, entry_fault, reported}
+use Rattle.sessions.proofs.ForCallers.{behind_own, behind_search, behind_targets, behind_traces, behind_vessels, entry_fault, reported}
 
 -- that there is none is refuted
 abbrev pub ComesToSome : (Came → Type 0) → Type 0

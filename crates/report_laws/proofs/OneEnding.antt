@@ -20,7 +20,7 @@ use Rattle.sessions.specs.AuditReport.{IsAuditReport, rows_behind, sightings_of}
 use Rattle.lattice.specs.Grids.{plans_of}
 use Rattle.log_lines.specs.JudgedLines.{numbers_of}
 use Rattle.refutations.specs.EntryRows.{entry_text}
-use Rattle.refutations.proofs.ForCallers.{one_list}
+use Rattle.report_laws.proofs.OneList.{one_list}
 use Rattle.situations.proofs.ForCallers.{situation_in_order}
 use Rattle.situations.specs.declared.situation.Situation.{Situation}
 use Rattle.situations.specs.declared.situation.Target.{Target}
@@ -32,8 +32,8 @@ use Rattle.sessions.specs.Tasks.{Task}
 use Rattle.sessions.specs.PlanReport.{AreReasons, IsManoeuvre, IsOwn, IsPlanReport, log_messages, plan_text, situation_on}
 use Rattle.sessions.specs.RecheckReport.{IsRecheckReport}
 use Rattle.sessions.specs.WatchReport.{IsWatchReport}
-use Rattle.sessions.proofs.OneManoeuvre.{one_manoeuvre}
-use Rattle.sessions.proofs.OneOwn.{one_own, one_ready}
+use Rattle.sessions.proofs.ForCallers.{one_manoeuvre}
+use Rattle.sessions.proofs.ForCallers.{one_own, one_ready}
 use Rattle.command_line.specs.declared.mode.Mode.{Mode}
 use Rattle.command_line.specs.declared.mode.Mode.TheVariants as mode
 use Rattle.settling.specs.ScenarioAudit.{audit_numbers}

@@ -1,27 +1,24 @@
--- A drill has forty vessels, so it meets no limit but that of its log.
+-- A drill has forty vessels, so its log meets no limit of vessels or traces.
 use Rattle.std.proofs.Math.ListN.{get_or}
 use Rattle.std.proofs.lemmas.List.{get_or-map, length-map}
-use Rattle.std.proofs.Common.{ℕ, zero, suc, ap₂, ◌≡◌, ◌≢◌, ◌≤◌, ◌<◌, ◌+◌, ◌*◌, ◌⊎◌, inl, inr, ◌==◌, Bool, true, false, IsTrue, List, [], ◌∷◌, ◌++◌, length, take, drop, map, Option, None, Some, Result, Ok, Err, refl, sym, ap, subst, ◌∙◌, arith}
+use Rattle.std.proofs.Common.{ℕ, zero, suc, ap₂, ◌≡◌, ◌≢◌, ◌≤◌, ◌<◌, ◌+◌, ◌*◌, ◌==◌, Bool, true, false, List, [], ◌∷◌, ◌++◌, length, take, drop, map, Option, None, Some, Result, Ok, Err, refl, sym, ap, subst, ◌∙◌, arith}
 use Rattle.std.specs.Prelude.{All, IfOk, fold, nat_lt}
 use Rattle.std.specs.List.{AllPairs, filter_map, range_with_len}
 use Rattle.std.proofs.lemmas.Bool.Decides.{nat_tests}
 use Rattle.std.proofs.lemmas.List.Elements.{All-cons, All-filter, All-head, All-map, All-nil, All-push, All-tail, All-weaker}
 use Rattle.std.proofs.lemmas.List.Folds.{list_any_none}
 use Rattle.aivdm.specs.FragmentJoining.{Taken, joined_of}
-use Rattle.drill_log.specs.DrillLog.{drill_log_of}
 use Rattle.log_lines.specs.EachLine.{each_after, each_line, ok_value}
 use Rattle.log_lines.specs.JudgedLines.{greatest_held, held_behind, is_crowded, numbers_of}
 use Rattle.log_lines.specs.LogLines.{lines_of}
 use Rattle.log_lines.specs.SentLines.{heard, heard_of, heard_unless, sent, sent_heard, sent_of, untimely}
 use Rattle.log_lines.specs.LineTimes.{clock_of, time_of}
 use Rattle.log_lines.specs.declared.outcome.LineOutcome.{LineOutcome}
-use Rattle.scenario.specs.ScenarioValues.{IsWindow}
 use Rattle.scenario.specs.declared.values.Scenario.{Scenario}
 use Rattle.tracks.specs.AcceptedReports.{JudgingNumbers}
-use Rattle.tracks.specs.VesselsHeld.{Sent, held_of, is_held, sender_of, senders_of, with_number}
+use Rattle.tracks.specs.VesselsHeld.{Sent, held_of, is_held, legs_of, sender_of, senders_of, with_number}
 use Rattle.tracks.proofs.ForCallers.{held_in_order}
 use Rattle.tracks.specs.SeenVessels.{seen_of, seen_vessel}
-use Rattle.tracks.specs.VesselsHeld.{legs_of}
 use Rattle.motion.specs.TickStates.{state_at as leg_state}
 use Rattle.motion.specs.declared.leg.Leg.{Leg}
 use Rattle.motion.specs.declared.leg.TickState.{TickState}
@@ -29,29 +26,15 @@ use Rattle.meetings.specs.Traces.{AreInContact}
 use Rattle.meetings.specs.declared.pair.Pair.{Pair}
 use Rattle.traces.specs.Audited.{Begins, AuditNumbers, SeenVessels, Sighting, seen_state_at, sighting_at, state_in}
 use Rattle.traces.specs.ManyTraces.{HaveMoreThan}
-use Rattle.command_line.specs.declared.mode.Mode.{Mode}
-use Rattle.command_line.specs.declared.mode.Mode.TheVariants as mode
-use Rattle.sessions.specs.AuditReport.{sightings_of}
-use Rattle.colregs_program.proofs.DrillLines.{InFleet, IsFleetLine, fleet_lines}
-use Rattle.colregs_program.proofs.FewDifferent.{few_between}
 use Rattle.settled_ticks.specs.Sightings.{seen_first, sighted, sighting_by}
 use Rattle.settling.specs.ManySettled.{HaveManySettled}
 use Rattle.settling.specs.ScenarioAudit.{audit_numbers}
 use Rattle.std.proofs.lemmas.List.{take-append-drop}
 use Rattle.log_lines.specs.GrowingLog.{ended_lines}
-use Rattle.sessions.specs.Modes.{reports}
-use Rattle.sessions.specs.AuditReport.{sightings_of}
-use Rattle.sessions.specs.Endings.{Came, HasManyTraces, IsAnswerOf}
-use Rattle.sessions.specs.Refusals.{IsMet, IsLogRefused, IsStopped}
-use Rattle.sessions.specs.declared.session_fault.SessionFault.{SessionFault}
-use Rattle.sessions.specs.Tasks.{Task, task_by}
-use Rattle.sessions.specs.declared.asked.Asked.{Asked}
-use Rattle.sessions.specs.declared.session_fault.SessionFault.TheVariants as why
 use Rattle.traces.specs.declared.all_traces.TheConstants.{MOST_TRACES}
-use Rattle.colregs_program.specs.LogAnswers.{Reports}
-use Rattle.colregs_program.specs.Inner.Streaming.{Ends, StreamCause, Stops, is_of_drill, made_fault}
-use Rattle.colregs_program.specs.declared.streaming.StreamFault.{StreamFault}
-use Rattle.colregs_program.specs.declared.streaming.StreamFault.TheVariants as fault
+use Rattle.drill_fleet.specs.Limits.{MeetsNoLimit}
+use Rattle.drill_fleet.proofs.FewDifferent.{few_between}
+use Rattle.drill_fleet.proofs.FleetLines.{InFleet, IsFleetLine}
 
 -- ---- the messages
 
@@ -106,7 +89,7 @@ senders_so had [] all of = all
 senders_so had (one ∷ more) all of =
     senders_so (with_number (sender_of one.message) had) more (with_so (sender_of one.message) had (All-head OfFleet one more of) all) (All-tail OfFleet one more of)
 
-pub held_so : (numbers : JudgingNumbers) (messages : List Sent) → All OfFleet messages → All InFleet (held_of numbers messages)
+held_so : (numbers : JudgingNumbers) (messages : List Sent) → All OfFleet messages → All InFleet (held_of numbers messages)
 unfolding held_of
 held_so numbers messages of = All-filter (is_held numbers messages) InFleet (senders_of messages) (senders_so [] messages (All-nil InFleet) of)
 
@@ -119,7 +102,7 @@ few_held numbers messages of =
 not_more : (n : ℕ) → n ≤ 40 → nat_lt greatest_held n ≡ false
 not_more n le = grind (arith, nat_tests)
 
-pub not_crowded : (scenario : Scenario) (lines : List (List ℕ)) → All IsFleetLine lines → is_crowded scenario lines ≡ false
+not_crowded : (scenario : Scenario) (lines : List (List ℕ)) → All IsFleetLine lines → is_crowded scenario lines ≡ false
 unfolding is_crowded held_behind
 not_crowded scenario lines all =
     list_any_none (λ held. nat_lt greatest_held held) (each_line (held_behind scenario) lines)
@@ -212,119 +195,45 @@ few_traces numbers ticks all many =
     (All-weaker (λ pair. (start : ℕ) × Begins numbers ticks pair start) IsFleetPair (λ pair begins. pair_so numbers ticks all pair begins.0 begins.1) many.pairs many.begin) in
     omega (arith, few, many.many)
 
--- ---- the answers
+-- ---- a log of the fleet
 
-module _ (scenario : Scenario) (seed : ℕ) (in_range : IsWindow scenario.window) where
-  abbrev log : List ℕ
-  log = drill_log_of scenario seed
+abbrev Stays : Type 0
+Stays = (front more : List ℕ) → (lines : List (List ℕ)) × (lines_of (front ++ more) ≡ ended_lines front ++ lines)
 
-  few_in_drill : HasManyTraces mode.Drill scenario log → ⊥
-  unfolding sightings_of sighting_by
-  few_in_drill many =
+module _ (scenario : Scenario) (log : List ℕ) (fleet : All IsFleetLine (lines_of log)) where
+  few_in_all : HaveMoreThan MOST_TRACES (audit_numbers scenario) (sighted scenario (sent scenario (lines_of log))) → ⊥
+  unfolding sighting_by
+  few_in_all many =
       let messages = sent scenario (lines_of log) in
-      let of = sent_so scenario (lines_of log) (fleet_lines scenario seed in_range) in
+      let of = sent_so scenario (lines_of log) fleet in
       few_traces (audit_numbers scenario) (sighted scenario messages)
       (All-map SightsFleet (sighting_by scenario messages) (range_with_len 0 (scenario.window.ticks + 1)) (λ k d lt. seen_so (numbers_of scenario) messages _ of))
       many
 
-  -- no front of it is refused but for its bytes, and its end comes to a report
-  fleet_front : (stay : (l more : List ℕ) → (lines : List (List ℕ)) × (lines_of (l ++ more) ≡ ended_lines l ++ lines)) (place : ℕ) → All IsFleetLine (ended_lines (take place log))
-  fleet_front stay place =
-      let lines = stay (take place log) (drop place log) in
-      let whole = subst (All IsFleetLine) (ap lines_of (sym (take-append-drop place log)) ∙ lines.1) (fleet_lines scenario seed in_range) in
+  first_all : (P : List ℕ → Type 0) (xs ys : List (List ℕ)) → All P (xs ++ ys) → All P xs
+  first_all P [] ys all = All-nil P
+  first_all P (x ∷ xs) ys all = All-cons P x xs (All-head P x (xs ++ ys) all) (first_all P xs ys (All-tail P x (xs ++ ys) all))
+
+  -- what is ended of a front are lines of the log
+  front_so : Stays → (place : ℕ) → All IsFleetLine (ended_lines (take place log))
+  front_so stays place =
+      let lines = stays (take place log) (drop place log) in
+      let whole = subst (All IsFleetLine) (ap lines_of (sym (take-append-drop place log)) ∙ lines.1) fleet in
       first_all IsFleetLine (ended_lines (take place log)) lines.0 whole
-    where
-      first_all : (P : List ℕ → Type 0) (xs ys : List (List ℕ)) → All P (xs ++ ys) → All P xs
-      first_all P [] ys all = All-nil P
-      first_all P (x ∷ xs) ys all = All-cons P x xs (All-head P x (xs ++ ys) all) (first_all P xs ys (All-tail P x (xs ++ ys) all))
 
-  not_stopped : (stay : (l more : List ℕ) → (lines : List (List ℕ)) × (lines_of (l ++ more) ≡ ended_lines l ++ lines)) (place : ℕ) → is_crowded scenario (ended_lines (take place log)) ≡ false
-  not_stopped stay place = not_crowded scenario (ended_lines (take place log)) (fleet_front stay place)
-
-  few_in_front : (stay : (l more : List ℕ) → (lines : List (List ℕ)) × (lines_of (l ++ more) ≡ ended_lines l ++ lines)) (place : ℕ)
-      → HaveManySettled scenario (ended_lines (take place log)) → ⊥
+  few_in_front : Stays → (place : ℕ) → HaveManySettled scenario (ended_lines (take place log)) → ⊥
   unfolding sighting_by
-  few_in_front stay place many =
-      let lines = ended_lines (take place log) in
-      let messages = sent scenario lines in
-      let of = sent_so scenario lines (fleet_front stay place) in
+  few_in_front stays place many =
+      let messages = sent scenario (ended_lines (take place log)) in
+      let of = sent_so scenario (ended_lines (take place log)) (front_so stays place) in
       few_traces (audit_numbers scenario) (seen_first scenario messages many.count)
       (All-map SightsFleet (sighting_by scenario messages) (range_with_len 0 many.count) (λ k d lt. seen_so (numbers_of scenario) messages _ of))
       many.many
 
-  no_refusal : (stay : (l more : List ℕ) → (lines : List (List ℕ)) × (lines_of (l ++ more) ≡ ended_lines l ++ lines)) (place : ℕ) (came : Came)
-      → IsLogRefused mode.Drill scenario (take place log) came → came ≡ Err why.LogBytes
-  no_refusal stay place came (inl (long, is)) = is
-  no_refusal stay place came (inr (short, inl (crowded, is))) = let calm = not_stopped stay place in cc (crowded, calm)
-  no_refusal stay place came (inr (short, inr (calm, inl (many, is)))) = absurd (few_in_front stay place many)
-  no_refusal stay place came (inr (short, inr (calm, inr (few, none)))) = absurd none
-
-  at_its_end : (came : Came) → IsAnswerOf mode.Drill [] scenario log came → came ≡ Ok false
-  at_its_end came (inl (crowded, is)) = let calm = not_crowded scenario (lines_of log) (fleet_lines scenario seed in_range) in cc (crowded, calm)
-  at_its_end came (inr (calm, inl (many, is))) = absurd (few_in_drill many)
-  at_its_end came (inr (calm, inr (few, inl (many, is)))) = absurd many
-  at_its_end came (inr (calm, inr (few, inr (own, inl (none, is))))) = absurd none
-  at_its_end came (inr (calm, inr (few, inr (own, inr (some, inl (k, bad, is)))))) = absurd bad
-  at_its_end came (inr (calm, inr (few, inr (own, inr (some, inr (good, is)))))) = is
-
--- ---- of a drill's log
-
-module _ (scenario : Scenario) (seed : ℕ) (in_range : IsWindow scenario.window) (stay : (l more : List ℕ) → (lines : List (List ℕ)) × (lines_of (l ++ more) ≡ ended_lines l ++ lines))
-    (made : List ℕ) (same : made ≡ drill_log_of scenario seed) where
-  abbrev drilled : Bool → List ℕ → Task
-  drilled says rows = record { mode = mode.Drill; why = says; rows = rows }
-
-  -- what it comes to
-  pub drill_comes_to : (says : Bool) (rows : List ℕ) (came : Came) → IsMet (drilled says rows) scenario made came → (came ≡ Err why.LogBytes) ⊎ (came ≡ Ok false)
-  drill_comes_to says rows came met = go (subst (λ (l : List ℕ). IsMet (drilled says rows) scenario l came) same met)
-    where
-      go : IsMet (drilled says rows) scenario (drill_log_of scenario seed) came → (came ≡ Err why.LogBytes) ⊎ (came ≡ Ok false)
-      go (inl (place, at)) = inl (no_refusal scenario seed in_range stay place came at.here)
-      go (inr (un, answer)) = inr (at_its_end scenario seed in_range came answer)
-
-  met_where_stopped : (because : SessionFault) (text : List ℕ) → IsStopped mode.Drill scenario made because text → IsMet (drilled false []) scenario made (Err because)
-  met_where_stopped because text stop = inl (stop.place, stop.refused)
-
-  drill_only : (b : SessionFault) (came : Came) → came ≡ Err b → (came ≡ Err why.LogBytes) ⊎ (came ≡ Ok false) → IsTrue (is_of_drill (fault.Unreported b))
-  drill_only why.LogBytes came is so = refl
-  drill_only why.Memory came is so = refl
-  drill_only why.Vessels came is (inl same) = cc (is, same)
-  drill_only why.Vessels came is (inr same) = cc (is, same)
-  drill_only why.Pairs came is (inl same) = cc (is, same)
-  drill_only why.Pairs came is (inr same) = cc (is, same)
-  drill_only (why.Own lack) came is (inl same) = cc (is, same)
-  drill_only (why.Own lack) came is (inr same) = cc (is, same)
-  drill_only why.Targets came is (inl same) = cc (is, same)
-  drill_only why.Targets came is (inr same) = cc (is, same)
-  drill_only (why.Entry index) came is (inl same) = cc (is, same)
-  drill_only (why.Entry index) came is (inr same) = cc (is, same)
-
-  stopped_so : (because : SessionFault) (contents contents' : Option (List ℕ)) → Stops mode.Drill scenario (Some made) contents contents' because → IsTrue (is_of_drill (fault.Unreported because))
-  stopped_so because contents contents' stops = drill_only because (Err because) refl (drill_comes_to false [] (Err because) (met_where_stopped because stops.stops.0 stops.stops.1))
-
-  ended_so : (asked : Asked) (because : SessionFault) (left' contents contents' : Option (List ℕ)) → Ends (task_by mode.Drill asked) scenario (Some made) left' contents contents' because
-      → IsTrue (is_of_drill (fault.Unreported because))
-  ended_so asked because left' contents contents' ends = drill_only because (Err because) refl (drill_comes_to asked.why asked.rows.now (Err because) (inr (ends.ends.0, ends.ends.1)))
-
-  drill_cause : (asked : Asked) (left' contents contents' : Option (List ℕ)) (because : StreamFault) → StreamCause (task_by mode.Drill asked) scenario (Some made) left' contents contents' because
-      → IsTrue (is_of_drill (made_fault because))
-  drill_cause asked left' contents contents' fault.NotRead cause = refl
-  drill_cause asked left' contents contents' fault.NotWritten cause = refl
-  drill_cause asked left' contents contents' (fault.Unreported why.Vessels) (inl stops) = stopped_so why.Vessels contents contents' stops
-  drill_cause asked left' contents contents' (fault.Unreported why.Vessels) (inr ends) = ended_so asked why.Vessels left' contents contents' ends
-  drill_cause asked left' contents contents' (fault.Unreported why.Pairs) (inl stops) = stopped_so why.Pairs contents contents' stops
-  drill_cause asked left' contents contents' (fault.Unreported why.Pairs) (inr ends) = ended_so asked why.Pairs left' contents contents' ends
-  drill_cause asked left' contents contents' (fault.Unreported why.LogBytes) cause = refl
-  drill_cause asked left' contents contents' (fault.Unreported (why.Own lack)) cause = ended_so asked (why.Own lack) left' contents contents' cause.0
-  drill_cause asked left' contents contents' (fault.Unreported why.Targets) cause = ended_so asked why.Targets left' contents contents' cause.0
-  drill_cause asked left' contents contents' (fault.Unreported (why.Entry index)) cause = ended_so asked (why.Entry index) left' contents contents' cause.0
-  drill_cause asked left' contents contents' (fault.Unreported why.Memory) cause = refl
-
-  pub drill_faults : (m : Mode) → m ≡ mode.Drill → (asked : Asked) (left' contents contents' : Option (List ℕ)) (because : StreamFault)
-      → StreamCause (task_by m asked) scenario (Some made) left' contents contents' because → IsTrue (is_of_drill (made_fault because))
-  drill_faults m is asked left' contents contents' because cause =
-      drill_cause asked left' contents contents' because (subst (λ (n : Mode). StreamCause (task_by n asked) scenario (Some made) left' contents contents' because) is cause)
-
-  pub drill_reports : (m : Mode) → m ≡ mode.Drill → (asked : Asked) (none : Bool) (contents contents' : Option (List ℕ)) → Reports (task_by m asked) scenario made none contents contents' → none ≡ false
-  drill_reports m is asked none contents contents' reports =
-      elim (drill_comes_to asked.why asked.rows.now (Ok none) (subst (λ (n : Mode). IsMet (task_by n asked) scenario made (Ok none)) is reports.met)) [ inl same ↦ cc same | inr same ↦ cc same ]
+  pub no_limit : Stays → MeetsNoLimit scenario log
+  no_limit stays = record {
+    calm = not_crowded scenario (lines_of log) fleet;
+    few = few_in_all;
+    front_calm = λ place. not_crowded scenario (ended_lines (take place log)) (front_so stays place);
+    front_few = few_in_front stays;
+  }

@@ -1,0 +1,3 @@
+mod FewDifferent
+mod Fleet
+mod FleetLines

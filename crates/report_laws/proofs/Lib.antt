@@ -1,0 +1,5 @@
+mod OneDue
+mod OneEnding
+mod OneList
+mod SettledTexts
+mod SomeAnswer
