@@ -21,6 +21,27 @@ verdict,369190000,477553000,r8d,broken,18,21
 verdict,477553000,369190000,r8d,broken,18,21
 ";
 
+/// The line that tells that the log was not read.
+const NOT_READ: &[u8] = b"log: not read\n";
+
+/// How a run ends, with its number.
+type End = (Status, u8);
+
+const READ_FAULT: End = (Status::ReadFault, 5);
+
+const WRITE_FAULT: End = (Status::WriteFault, 6);
+
+/// A run ends like this.
+fn has_end(ended: &RunEnd, end: End) -> Result<(), Fail> {
+    is((ended.status, ended.status.number()), end)
+}
+
+/// A run ends like this, and has written these bytes.
+fn has_ended(ended: &RunEnd, end: End, out: &[u8]) -> Result<(), Fail> {
+    has_end(ended, end)?;
+    is(ended.out.bytes(), out)
+}
+
 // What is left of the log shows that nothing is read behind the fault.
 #[test]
 fn a_source_that_fails_after_a_hundred_bytes(rt: HostRuntime) -> Result<(), Fail> {
@@ -32,12 +53,8 @@ fn a_source_that_fails_after_a_hundred_bytes(rt: HostRuntime) -> Result<(), Fail
     };
     let log = [b'#'; 150];
     let ended = ended(rt.alloc(), POINTS, scenario.as_str(), &log, devices)?;
-    is(ended.status, Status::ReadFault)?;
-    is(ended.status.number(), 5)?;
-    is(ended.err.bytes(), b"log: not read\n".as_slice())?;
-    is_true(ended.out.bytes().is_empty())?;
-    is(ended.next, Taken::Got(50))?;
-    Ok(())
+    has_ended(&ended, READ_FAULT, b"")?;
+    is((ended.err.bytes(), ended.next), (NOT_READ, Taken::Got(50)))
 }
 
 /// Runs `audit` on the head-on log and one line more.
@@ -58,9 +75,7 @@ fn a_read_that_fails_leaves_the_rows_that_are_settled(rt: HostRuntime) -> Result
         ..SOUND
     };
     let ended = audited(rt.alloc(), last, devices)?;
-    is(ended.status, Status::ReadFault)?;
-    is(ended.out.bytes(), FIRST_TWO)?;
-    Ok(())
+    has_ended(&ended, READ_FAULT, FIRST_TWO)
 }
 
 /// A line that settles four rows. It ends in the seventh piece.
@@ -76,15 +91,23 @@ fn each_read_that_fails_leaves_what_was_settled(rt: HostRuntime) -> Result<(), F
             ..SOUND
         };
         let ended = audited(rt.alloc(), SETTLES, devices)?;
-        if call < 8 {
-            is(ended.status, Status::ReadFault)?;
-            let settled: &[u8] = if call < 7 { b"" } else { FIRST_FOUR };
-            is(ended.out.bytes(), settled)?;
-        } else {
-            is(ended.status, Status::Done)?;
+        match call {
+            0..7 => has_ended(&ended, READ_FAULT, b"")?,
+            7 => has_ended(&ended, READ_FAULT, FIRST_FOUR)?,
+            _ => is(ended.status, Status::Done)?,
         }
     }
     Ok(())
+}
+
+/// A run whose writes may fail has written a front of what this one has written, and is done only where it has written all.
+fn is_front_of(ended: &RunEnd, whole: &RunEnd) -> Result<(), Fail> {
+    is_true(whole.out.bytes().starts_with(ended.out.bytes()))?;
+    if ended.out.bytes().len() < whole.out.bytes().len() {
+        has_end(ended, WRITE_FAULT)
+    } else {
+        is(ended.status, Status::Done)
+    }
 }
 
 #[test]
@@ -98,14 +121,17 @@ fn each_write_that_fails_leaves_a_front_of_the_report(rt: HostRuntime) -> Result
             ..SOUND
         };
         let ended = audited(rt.alloc(), SETTLES, devices)?;
-        is_true(whole.out.bytes().starts_with(ended.out.bytes()))?;
-        if ended.out.bytes().len() < whole.out.bytes().len() {
-            is(ended.status, Status::WriteFault)?;
-        } else {
-            is(ended.status, Status::Done)?;
-        }
+        is_front_of(&ended, &whole)?;
     }
     Ok(())
+}
+
+/// The run's write failed behind so many bytes of the report of points, and it told nothing.
+fn is_cut_off_at(ended: &RunEnd, length: usize) -> Result<(), Fail> {
+    has_end(ended, WRITE_FAULT)?;
+    is(ended.out.bytes().len(), length)?;
+    is_true(REPORT.starts_with(ended.out.bytes()))?;
+    is_true(ended.err.bytes().is_empty())
 }
 
 // A failing standard error changes no status. The log's one row is written before its end is read, and the rest in pieces of 100 bytes.
@@ -119,11 +145,7 @@ fn each_write_that_fails_leaves_the_front_before_it(rt: HostRuntime) -> Result<(
             ..SOUND
         };
         let ended = ended(rt.alloc(), POINTS, scenario.as_str(), LOG, devices)?;
-        is(ended.status, Status::WriteFault)?;
-        is(ended.status.number(), 6)?;
-        is(ended.out.bytes().len(), length)?;
-        is_true(REPORT.starts_with(ended.out.bytes()))?;
-        is_true(ended.err.bytes().is_empty())?;
+        is_cut_off_at(&ended, length)?;
     }
     Ok(())
 }

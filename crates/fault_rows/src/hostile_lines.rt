@@ -53,7 +53,7 @@ const JUMPS: &[u8] = b"\\c:1700000000*5F\\!AIVDM,1,1,,A,15P5TL0P2l00001wwHt00000
 ";
 
 /// Logs, each with the rows of the counts that are not 0.
-const TABLE: [(&[u8], &str); 11] = [
+static TABLE: [(&[u8], &str); 11] = [
     (b"\n", "lines,empty,1,,,,\n"),
     (b"!AIVDM\n$GPGGA,1\n", "lines,other,2,,,,\n"),
     (TAGS, "lines,tag,2,,,,\n"),
@@ -78,8 +78,8 @@ const TABLE: [(&[u8], &str); 11] = [
 
 #[test]
 fn each_hostile_line_comes_to_its_outcome(rt: HostRuntime) -> Result<(), Fail> {
-    for (log, counts) in TABLE {
-        is(counted(rt.alloc(), log)?.as_str(), counts)?;
+    for (log, counts) in &TABLE {
+        is(counted(rt.alloc(), log)?.as_str(), *counts)?;
     }
     Ok(())
 }

@@ -21,7 +21,7 @@ const NOT_READY: Row = Row {
 
 const TEN_BYTES: Edit = ("max_speed = 500\n", "max_speed = 500\nmax_bytes = 10\n");
 
-const REFUSALS: [Row; 14] = [
+static REFUSALS: [Row; 14] = [
     Row {
         shows: "a single word",
         words: &["points"],

@@ -1,5 +1,4 @@
 //! What no clause says: worked texts, faults by number, and the limits.
-ghost use Rattle.std.specs.Prelude.{◌≤◌, length};
 ghost use Rattle.mtl_formulas.specs.FormulaText.{IsTick};
 
 use crate::compared::is;
@@ -8,20 +7,34 @@ use mtl_formulas::{
     value, weight,
 };
 use std::alloc::{AllocError, Global};
-use std::process::Abort;
 use std::test::Fail;
 
-/// Parses a text and prints the formula.
-fn reprinted(alloc: Global, text: &[u8], tick: u32) -> Result<Vec<u8>, ParseFault>
-    requires text { length text.now ≤ 1024 }
-    requires tick { IsTick tick }
+/// How the formula of a text is printed at a tick of 10 seconds.
+fn reprinted(alloc: Global, text: &[u8]) -> Result<Vec<u8>, Fail> {
+    if text.len() > 1024 {
+        return Err("a text of more than 1024 bytes".into());
+    }
+    let formula = parse(alloc, text, 10)?;
+    Ok(print(alloc, &formula, 10)?)
+}
+
+/// The fault of a text at this tick, if it has one.
+fn fault(alloc: Global, text: &[u8], tick: u32) -> Result<Option<ParseFault>, Fail>
+    requires { IsTick tick }
 {
-    let formula = parse(alloc, text, tick)?;
-    Ok(print(alloc, &formula, tick)?)
+    if text.len() > 1024 {
+        return Err("a text of more than 1024 bytes".into());
+    }
+    Ok(parse(alloc, text, tick).err())
 }
 
 /// The text as often as said, and then the end.
-fn repeated(alloc: Global, text: &[u8], times: u8, end: &[u8]) -> Result<Vec<u8>, AllocError> {
+pub(crate) fn repeated(
+    alloc: Global,
+    text: &[u8],
+    times: u8,
+    end: &[u8],
+) -> Result<Vec<u8>, AllocError> {
     let mut all = Vec::new(alloc);
     for _ in 0..times {
         all.extend_from_slice(text)?;
@@ -30,121 +43,83 @@ fn repeated(alloc: Global, text: &[u8], times: u8, end: &[u8]) -> Result<Vec<u8>
     Ok(all)
 }
 
-fn is_taken(rt: &impl Abort, alloc: Global, text: &[u8]) {
-    assert!(rt; text.len() <= 1024);
-    assert_eq!(rt; parse(alloc, text, 1).err(), None);
-}
-
-fn is_too_large(rt: &impl Abort, alloc: Global, text: &[u8]) {
-    assert!(rt; text.len() <= 1024);
-    assert_eq!(rt; parse(alloc, text, 1).err(), Some(ParseFault::Size));
-}
+/// Texts, and how their formulas are printed: operators and spaces in one way.
+static PRINTED: [(&[u8], &[u8]); 3] = [
+    (b"F[0,20] risk & !seen", b"(F[0,20] risk & !seen)"),
+    (
+        b" risk->seen ->age( 0020)|close(7) ",
+        b"(risk -> (seen -> (age(20) | close(7))))",
+    ),
+    (b"rank_gives U[0,20]!begin", b"(rank_gives U[0,20] !begin)"),
+];
 
 #[test]
 fn operators_and_spaces_are_printed_in_one_way(rt: HostRuntime) -> Result<(), Fail> {
-    let alloc = rt.alloc();
-    let text = reprinted(alloc, b"F[0,20] risk & !seen", 10)?;
-    is(&rt, text.as_slice(), b"(F[0,20] risk & !seen)".as_slice());
-    let text = reprinted(alloc, b" risk->seen ->age( 0020)|close(7) ", 10)?;
-    is(
-        &rt,
-        text.as_slice(),
-        b"(risk -> (seen -> (age(20) | close(7))))".as_slice(),
-    );
-    let text = reprinted(alloc, b"rank_gives U[0,20]!begin", 10)?;
-    is(
-        &rt,
-        text.as_slice(),
-        b"(rank_gives U[0,20] !begin)".as_slice(),
-    );
+    for (text, printed) in &PRINTED {
+        is(&rt, reprinted(rt.alloc(), text)?.as_slice(), printed);
+    }
     Ok(())
 }
 
-#[test]
-fn a_wrong_token_is_told_by_its_index(rt: HostRuntime) {
-    let alloc = rt.alloc();
-    is(
-        &rt,
-        parse(alloc, b"risk &", 10).err(),
-        Some(ParseFault::Syntax(6)),
-    );
-    is(
-        &rt,
-        parse(alloc, b"", 10).err(),
-        Some(ParseFault::Syntax(0)),
-    );
-    is(
-        &rt,
-        parse(alloc, b"risky", 10).err(),
-        Some(ParseFault::Syntax(0)),
-    );
-    is(
-        &rt,
-        parse(alloc, b"risk\t& seen", 10).err(),
-        Some(ParseFault::Syntax(4)),
-    );
-    is(
-        &rt,
-        parse(alloc, b"F[0,1234567890] risk", 10).err(),
-        Some(ParseFault::Syntax(4)),
-    );
-    is(
-        &rt,
-        parse(alloc, b"risk U[0,10] seen U[0,10] risk", 10).err(),
-        Some(ParseFault::Syntax(18)),
-    );
-}
+/// Texts, and the index at which each is refused at a tick of 10 seconds.
+static REFUSED: [(&[u8], ParseFault); 10] = [
+    // wrong tokens
+    (b"risk &", ParseFault::Syntax(6)),
+    (b"", ParseFault::Syntax(0)),
+    (b"risky", ParseFault::Syntax(0)),
+    (b"risk\t& seen", ParseFault::Syntax(4)),
+    (b"F[0,1234567890] risk", ParseFault::Syntax(4)),
+    (b"risk U[0,10] seen U[0,10] risk", ParseFault::Syntax(18)),
+    // refused numbers, and a wrong token behind one
+    (b"F[0,25] risk", ParseFault::Number(4)),
+    (b"F[20,10] risk", ParseFault::Number(5)),
+    (b"clear(100001)", ParseFault::Number(6)),
+    (b"F[0,25] risk risk", ParseFault::Syntax(13)),
+];
 
 #[test]
-fn a_refused_number_is_told_by_its_index(rt: HostRuntime) {
-    let alloc = rt.alloc();
-    is(
-        &rt,
-        parse(alloc, b"F[0,25] risk", 10).err(),
-        Some(ParseFault::Number(4)),
-    );
-    is(
-        &rt,
-        parse(alloc, b"F[20,10] risk", 10).err(),
-        Some(ParseFault::Number(5)),
-    );
-    is(
-        &rt,
-        parse(alloc, b"clear(100001)", 10).err(),
-        Some(ParseFault::Number(6)),
-    );
-    is(
-        &rt,
-        parse(alloc, b"F[0,25] risk risk", 10).err(),
-        Some(ParseFault::Syntax(13)),
-    );
+fn a_wrong_token_or_a_refused_number_is_told_by_its_index(rt: HostRuntime) -> Result<(), Fail> {
+    for (text, expected) in &REFUSED {
+        let found = fault(rt.alloc(), text, 10)?;
+        is(&rt, (text, found), (text, Some(*expected)));
+    }
+    Ok(())
 }
 
 #[test]
 fn depth_64_is_taken(rt: HostRuntime) -> Result<(), Fail> {
-    let alloc = rt.alloc();
-    is_taken(&rt, alloc, &repeated(alloc, b"!", 63, b"risk")?);
-    is_too_large(&rt, alloc, &repeated(alloc, b"!", 64, b"risk")?);
+    for (depth, expected) in [(63, None), (64, Some(ParseFault::Size))] {
+        let text = repeated(rt.alloc(), b"!", depth, b"risk")?;
+        is(&rt, fault(rt.alloc(), &text, 1)?, expected);
+    }
     Ok(())
+}
+
+/// Four groups of 32 atoms, joined, and the whole so often negated: 4 * 63 + 3 nodes, and one for each negation.
+fn groups(alloc: Global, negations: u8) -> Result<Vec<u8>, AllocError> {
+    let group = repeated(alloc, b"true|", 31, b"true)&(")?;
+    let last = repeated(alloc, b"true|", 31, b"true))")?;
+    let all = repeated(alloc, &group, 3, &last)?;
+    let opened = repeated(alloc, b"((", 1, &all)?;
+    repeated(alloc, b"!", negations, &opened)
 }
 
 #[test]
 fn nodes_256_are_taken(rt: HostRuntime) -> Result<(), Fail> {
-    let alloc = rt.alloc();
-    // Four groups of 32 atoms, joined, and negated: 4 * 63 + 3 + 1 nodes.
-    let group = repeated(alloc, b"true|", 31, b"true)&(")?;
-    let last = repeated(alloc, b"true|", 31, b"true))")?;
-    let groups = repeated(alloc, &group, 3, &last)?;
-    is_taken(&rt, alloc, &repeated(alloc, b"!((", 1, &groups)?);
-    is_too_large(&rt, alloc, &repeated(alloc, b"!!((", 1, &groups)?);
+    for (negations, expected) in [(1, None), (2, Some(ParseFault::Size))] {
+        let text = groups(rt.alloc(), negations)?;
+        is(&rt, fault(rt.alloc(), &text, 1)?, expected);
+    }
     Ok(())
 }
 
 #[test]
-fn reach_7200_is_taken(rt: HostRuntime) {
+fn reach_7200_is_taken(rt: HostRuntime) -> Result<(), Fail> {
     let alloc = rt.alloc();
-    is_taken(&rt, alloc, b"F[0,7200] O[0,1] risk");
-    is_too_large(&rt, alloc, b"F[0,7200] G[0,1] risk");
+    is(&rt, fault(alloc, b"F[0,7200] O[0,1] risk", 1)?, None);
+    let large = fault(alloc, b"F[0,7200] G[0,1] risk", 1)?;
+    is(&rt, large, Some(ParseFault::Size));
+    Ok(())
 }
 
 #[test]

@@ -1,5 +1,5 @@
 //! What no clause says: worked rows, many random formulas, and that each call can succeed.
-ghost use Rattle.std.specs.Prelude.{◌≡◌, ◌≤◌, ◌<◌, ◌+◌, ◌^◌, length, IfOk, if◌then◌else◌};
+ghost use Rattle.std.specs.Prelude.{◌≡◌, ◌<◌, length, IfOk, if◌then◌else◌};
 ghost use Rattle.mtl_formulas.specs.FormulaTree.{tree_of};
 ghost use Rattle.mtl_formulas.specs.FormulaMeasures.{IsValid};
 ghost use Rattle.mtl_formulas.specs.declared.atom.Atom.TheVariants.{Risk};
@@ -8,6 +8,7 @@ ghost use Rattle.mtl_monitor.specs.Following.{count_of};
 ghost use Rattle.mtl_monitor.specs.Monitoring.{fed_rows, past_rows};
 
 use crate::compared::is;
+use crate::formulas::repeated;
 use mtl_formulas::{Atom, Atoms, Formula, Verdict, future_reach, parse, value};
 use mtl_monitor::{Monitor, Program, TraceState};
 use outside::Memory;
@@ -46,16 +47,6 @@ const YES: Row = Row {
     other: Verdict::Yes,
 };
 
-/// The monitor of a text at a tick of 10 seconds.
-fn monitor_of(alloc: Global, text: &[u8]) -> Result<Monitor, Fail>
-    requires { length text.now ≤ 1024 }
-    ensures fed { IfOk result (λ m. fed_rows m ≡ 0) }
-    ensures past { IfOk result (λ m. past_rows m ≡ 0) }
-{
-    let formula = parse(alloc, text, 10)?;
-    Ok(Monitor::new(alloc, &formula)?)
-}
-
 /// Feeds the rows, and then finishes: all answers in order.
 fn answers(
     alloc: Global,
@@ -76,72 +67,95 @@ fn answers(
     Ok(all)
 }
 
-#[test]
-fn a_window_ahead_is_answered_late_and_open_at_the_end(rt: HostRuntime) -> Result<(), Fail> {
-    let alloc = rt.alloc();
-    let mut monitor = monitor_of(alloc, b"F[0,20] risk")?;
-    let all = answers(alloc, &mut monitor, &[NO, NO, NO, NO])?;
-    let expected = [
-        None,
-        None,
-        Some((0, Verdict::No)),
-        Some((1, Verdict::No)),
-        Some((2, Verdict::Open)),
-        Some((3, Verdict::Open)),
-        None,
-        None,
-    ];
-    is(&rt, all.as_slice(), expected.as_slice());
-    Ok(())
+/// All answers of the monitor of a text at a tick of 10 seconds, over fewer than a thousand rows.
+fn answers_of(
+    alloc: Global,
+    text: &[u8],
+    rows: &[Row],
+) -> Result<Vec<Option<(u32, Verdict)>>, Fail> {
+    if text.len() > 1024 || rows.len() >= 1000 {
+        return Err("a text or a trace that is too long".into());
+    }
+    let formula = parse(alloc, text, 10)?;
+    let mut monitor = Monitor::new(alloc, &formula)?;
+    Ok(answers(alloc, &mut monitor, rows)?)
 }
 
-#[test]
-fn once_and_then_soon(rt: HostRuntime) -> Result<(), Fail> {
-    let alloc = rt.alloc();
-    let mut monitor = monitor_of(alloc, b"F[0,10] O[0,10] risk")?;
-    let all = answers(alloc, &mut monitor, &[NO, YES, NO])?;
-    let expected = [
-        None,
-        Some((0, Verdict::Yes)),
-        Some((1, Verdict::Yes)),
-        Some((2, Verdict::Yes)),
-        None,
-        None,
-    ];
-    is(&rt, all.as_slice(), expected.as_slice());
-    Ok(())
-}
+/// What a run shows, its formula and its rows, and the answers: those to each row, and then those of the end.
+type Run = (
+    &'static str,
+    &'static [u8],
+    &'static [Row],
+    &'static [Option<(u32, Verdict)>],
+);
+
+static RUNS: [Run; 4] = [
+    (
+        "a window ahead is answered late, and open at the end",
+        b"F[0,20] risk",
+        &[NO, NO, NO, NO],
+        &[
+            None,
+            None,
+            Some((0, Verdict::No)),
+            Some((1, Verdict::No)),
+            Some((2, Verdict::Open)),
+            Some((3, Verdict::Open)),
+            None,
+            None,
+        ],
+    ),
+    (
+        "once, and then soon",
+        b"F[0,10] O[0,10] risk",
+        &[NO, YES, NO],
+        &[
+            None,
+            Some((0, Verdict::Yes)),
+            Some((1, Verdict::Yes)),
+            Some((2, Verdict::Yes)),
+            None,
+            None,
+        ],
+    ),
+    (
+        "the past of the future at the beginning: once",
+        b"O[10,20] F[0,10] risk",
+        &[NO, NO, YES, NO],
+        &[
+            None,
+            Some((0, Verdict::No)),
+            Some((1, Verdict::No)),
+            Some((2, Verdict::Yes)),
+            Some((3, Verdict::Yes)),
+            None,
+            None,
+            None,
+        ],
+    ),
+    (
+        "the past of the future at the beginning: historically",
+        b"H[10,20] F[0,10] risk",
+        &[NO, NO, YES, NO],
+        &[
+            None,
+            Some((0, Verdict::Yes)),
+            Some((1, Verdict::No)),
+            Some((2, Verdict::No)),
+            Some((3, Verdict::Yes)),
+            None,
+            None,
+            None,
+        ],
+    ),
+];
 
 #[test]
-fn the_past_of_the_future_at_the_beginning(rt: HostRuntime) -> Result<(), Fail> {
-    let alloc = rt.alloc();
-    let rows = [NO, NO, YES, NO];
-    let mut once = monitor_of(alloc, b"O[10,20] F[0,10] risk")?;
-    let all = answers(alloc, &mut once, &rows)?;
-    let expected = [
-        None,
-        Some((0, Verdict::No)),
-        Some((1, Verdict::No)),
-        Some((2, Verdict::Yes)),
-        Some((3, Verdict::Yes)),
-        None,
-        None,
-        None,
-    ];
-    is(&rt, all.as_slice(), expected.as_slice());
-    let mut historically = monitor_of(alloc, b"H[10,20] F[0,10] risk")?;
-    let all = answers(alloc, &mut historically, &rows)?;
-    let expected = [
-        None,
-        Some((0, Verdict::Yes)),
-        Some((1, Verdict::No)),
-        Some((2, Verdict::No)),
-        Some((3, Verdict::Yes)),
-        None,
-        None,
-        None,
-    ];
-    is(&rt, all.as_slice(), expected.as_slice());
+fn each_run_has_its_answers(rt: HostRuntime) -> Result<(), Fail> {
+    for (name, text, rows, expected) in &RUNS {
+        let all = answers_of(rt.alloc(), text, rows)?;
+        is(&rt, (name, all.as_slice()), (name, expected));
+    }
     Ok(())
 }
 
@@ -158,15 +172,8 @@ fn count(answers: &[Option<(u32, Verdict)>], wanted: Verdict) -> usize {
 
 #[test]
 fn many_windows_in_one_another(rt: HostRuntime) -> Result<(), Fail> {
-    let alloc = rt.alloc();
-    let mut text = Vec::new(alloc);
-    for _ in 0..16u8 {
-        text.extend_from_slice(b"G[0,100] ")?;
-    }
-    text.extend_from_slice(b"seen")?;
-    assert!(rt; text.len() <= 1024);
-    let mut monitor = monitor_of(alloc, &text)?;
-    let all = answers(alloc, &mut monitor, &[YES; 40])?;
+    let text = repeated(rt.alloc(), b"G[0,100] ", 16, b"seen")?;
+    let all = answers_of(rt.alloc(), &text, &[YES; 40])?;
     is(&rt, count(&all, Verdict::Open), 40);
     is(&rt, count(&all, Verdict::Yes), 0);
     Ok(())
@@ -289,9 +296,12 @@ fn one_agrees(rt: &impl Abort, alloc: Global, source: &mut Pcg32, depth: u8) -> 
     let mut text = String::new(alloc);
     write_random(source, &mut text, depth)?;
     let rows = random_rows(alloc, source)?;
-    assert!(rt; text.len() <= 1024);
+    if text.len() > 1024 {
+        return Err("a text of more than 1024 bytes".into());
+    }
     let formula = parse(alloc, text.as_bytes(), 10)?;
-    assert!(rt; agrees(alloc, &formula, &rows)?, "{text}");
+    let right = agrees(alloc, &formula, &rows)?;
+    is(rt, (text.as_str(), right), (text.as_str(), true));
     Ok(())
 }
 
@@ -321,8 +331,7 @@ fn program_of_two(alloc: Global) -> Result<Program, Fail>
 fn two_formulas_over_two_traces(rt: HostRuntime) -> Result<(), Fail> {
     let alloc = rt.alloc();
     let program = program_of_two(alloc)?;
-    is(&rt, program.formula_count(), 2);
-    is(&rt, program.reach(), 1);
+    is(&rt, (program.formula_count(), program.reach()), (2, 1));
     let mut one = TraceState::new(alloc, &program)?;
     let mut two = TraceState::new(alloc, &program)?;
     let _first = one.feed(&program, &NO);
@@ -330,13 +339,18 @@ fn two_formulas_over_two_traces(rt: HostRuntime) -> Result<(), Fail> {
     is(&rt, one.answer(&program, 0), None);
     let _second = one.feed(&program, &YES);
     let _second = two.feed(&program, &NO);
-    is(&rt, one.answer(&program, 0), Some((0, Verdict::Yes)));
-    is(&rt, one.answer(&program, 1), Some((0, Verdict::No)));
-    is(&rt, two.answer(&program, 1), Some((0, Verdict::Yes)));
+    let (yes, no) = (Some((0, Verdict::Yes)), Some((0, Verdict::No)));
+    let of_one = (one.answer(&program, 0), one.answer(&program, 1));
+    is(&rt, of_one, (yes, no));
+    is(&rt, two.answer(&program, 1), yes);
     two.copy_from(&program, &one);
     two.pass_end(&program);
-    is(&rt, two.answer(&program, 0), Some((1, Verdict::Yes)));
-    is(&rt, two.answer(&program, 1), Some((1, Verdict::No)));
+    let of_two = (two.answer(&program, 0), two.answer(&program, 1));
+    is(
+        &rt,
+        of_two,
+        (Some((1, Verdict::Yes)), Some((1, Verdict::No))),
+    );
     Ok(())
 }
 

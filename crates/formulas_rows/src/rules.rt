@@ -1,6 +1,4 @@
 //! The texts of the rules, their weights, and rules that are added.
-ghost use Rattle.std.specs.Prelude.{◌<◌, ◌≤◌, length};
-
 use crate::compared::is;
 use mtl_formulas::{parse, print, weight};
 use rule_set::{Name, RuleNumbers, RuleSet, Safe};
@@ -40,10 +38,11 @@ fn is_printed(
     name: &[u8],
     text: &[u8],
 ) -> Result<(), Fail> {
-    assert!(rt; k < set.len());
-    assert_eq!(rt; set.name(k), name);
+    if set.len() <= k {
+        return Err("no such rule".into());
+    }
     let printed = print(alloc, set.formula(k), TICK)?;
-    assert_eq!(rt; printed.as_slice(), text);
+    is(rt, (set.name(k), printed.as_slice()), (name, text));
     Ok(())
 }
 
@@ -55,16 +54,17 @@ fn is_meant(
     k: usize,
     text: &[u8],
 ) -> Result<(), Fail> {
-    assert!(rt; k < set.len());
-    assert!(rt; text.len() <= 1024);
+    if set.len() <= k || text.len() > 1024 {
+        return Err("no such rule, or a text that is too long".into());
+    }
     let meant = print(alloc, &parse(alloc, text, TICK)?, TICK)?;
     let printed = print(alloc, set.formula(k), TICK)?;
-    assert_eq!(rt; printed.as_slice(), meant.as_slice());
+    is(rt, printed.as_slice(), meant.as_slice());
     Ok(())
 }
 
 /// The rules in their order: the name of each, how it is printed, and a text that means it.
-const RULES: [(&[u8], &[u8], &[u8]); 11] = [
+static RULES: [(&[u8], &[u8], &[u8]); 11] = [
     (
         b"r8b",
         b"(alters -> F[0,60] (apparent | !engaged))",
@@ -131,7 +131,7 @@ fn each_rule_is_printed_as_its_text_means(rt: HostRuntime) -> Result<(), Fail> {
 }
 
 /// The same of the rules with ranks: the name of each, and how it is printed.
-const RANKED: [(&[u8], &[u8]); 12] = [
+static RANKED: [(&[u8], &[u8]); 12] = [
     (b"r8b", b"(alters -> F[0,60] (apparent | !engaged))"),
     (b"r8d", b"(engaged -> clear(200))"),
     (b"r13", b"((engaged & overtaking) -> clear(250))"),
@@ -225,16 +225,23 @@ fn the_rules_have_their_weights(rt: HostRuntime) -> Result<(), Fail> {
     Ok(())
 }
 
+/// The eleven rules, and one of the name `mine`.
+fn with_mine(alloc: Global) -> Result<RuleSet, Fail> {
+    let mut set = RuleSet::new(alloc, &NUMBERS, TICK)?;
+    let name = Name::of(b"mine");
+    if set.len() >= 17 || set.holds(name.bytes()) {
+        return Err("no place for a new rule".into());
+    }
+    match set.add(name.same(), parse(alloc, b"F[0,20] risk", TICK)?) {
+        Ok(()) => Ok(set),
+        Err(_) => Err("the rule is not added".into()),
+    }
+}
+
 #[test]
 fn a_rule_is_added_behind_the_eleven(rt: HostRuntime) -> Result<(), Fail> {
-    let alloc = rt.alloc();
-    let mut set = RuleSet::new(alloc, &NUMBERS, TICK)?;
-    assert!(rt; set.holds(b"r17c"));
-    let name = Name::of(b"mine");
-    assert!(rt; set.len() < 17 && !set.holds(name.bytes()));
-    let added = set.add(name.same(), parse(alloc, b"F[0,20] risk", TICK)?);
-    assert!(rt; added.is_ok());
-    assert!(rt; set.holds(name.bytes()));
-    is(&rt, set.len(), 12);
-    is_printed(&rt, alloc, &set, 11, b"mine", b"F[0,20] risk")
+    let set = with_mine(rt.alloc())?;
+    let held = (set.holds(b"r17c"), set.holds(b"mine"));
+    is(&rt, (held, set.len()), ((true, true), 12));
+    is_printed(&rt, rt.alloc(), &set, 11, b"mine", b"F[0,20] risk")
 }

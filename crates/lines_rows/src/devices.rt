@@ -1,44 +1,48 @@
 //! One happy path of each kind, its failing call, and pieces of one byte.
 use crate::compared::{is, is_true};
 use outside::{
-    Fetched, FileShelf, MemoryShelf, MemorySink, MemorySource, PlainShelf, PlainSource, Put,
-    ReadFault, Shelf, Sink, Source, StdSink, StdSource, Taken, Word, put_all, read_whole,
+    Fetched, FileShelf, Memory, MemoryShelf, MemorySink, MemorySource, PlainShelf, PlainSource,
+    Put, ReadFault, Shelf, Sink, Source, StdSink, StdSource, Taken, Word, put_all, read_whole,
 };
+use std::alloc::Global;
 use std::io::{self, Write};
+use std::process::Abort;
 use std::test::Fail;
 use std::{env, fs, process};
 
 #[test]
-fn a_word_is_its_text(rt: HostRuntime) -> Result<(), Fail> {
+fn a_word_is_its_text(rt: HostRuntime) -> Result<(), Memory> {
     let name = Word::new(rt.alloc(), "Lübeck.toml")?;
     is(&rt, name.text(), "Lübeck.toml");
     is(&rt, name.bytes().len(), 12);
     Ok(())
 }
 
-#[test]
-fn a_plain_source_gives_its_bytes_one_by_one(rt: HostRuntime) -> Result<(), Fail> {
-    let mut source = PlainSource::new(b"ab".to_vec(rt.alloc())?, 1);
+/// What a read gives, and the first byte of the room, which is 0 where nothing is put there.
+fn read(source: &mut impl Source) -> (Taken, u8) {
     let mut room = [0u8; 8];
-    is(&rt, source.read(&mut room), Taken::Got(1));
-    is(&rt, room[0], b'a');
-    is(&rt, source.read(&mut room), Taken::Got(1));
-    is(&rt, room[0], b'b');
-    is(&rt, source.read(&mut room), Taken::End);
+    let taken = source.read(&mut room);
+    (taken, room[0])
+}
+
+#[test]
+fn a_plain_source_gives_its_bytes_one_by_one(rt: HostRuntime) -> Result<(), Memory> {
+    let mut source = PlainSource::new(b"ab".to_vec(rt.alloc())?, 1);
+    is(&rt, read(&mut source), (Taken::Got(1), b'a'));
+    is(&rt, read(&mut source), (Taken::Got(1), b'b'));
+    is(&rt, read(&mut source), (Taken::End, 0));
     Ok(())
 }
 
 #[test]
-fn a_listed_read_fails_and_loses_nothing(rt: HostRuntime) -> Result<(), Fail> {
+fn a_listed_read_fails_and_loses_nothing(rt: HostRuntime) -> Result<(), Memory> {
     let fails = vec![in rt.alloc(); 1, 2]?;
     let mut source = MemorySource::new(b"abc".to_vec(rt.alloc())?, 2, fails);
-    let mut room = [0u8; 8];
-    is(&rt, source.read(&mut room), Taken::Got(2));
-    is(&rt, source.read(&mut room), Taken::Failed);
-    is(&rt, source.read(&mut room), Taken::Failed);
-    is(&rt, source.read(&mut room), Taken::Got(1));
-    is(&rt, room[0], b'c');
-    is(&rt, source.read(&mut room), Taken::End);
+    is(&rt, read(&mut source), (Taken::Got(2), b'a'));
+    is(&rt, read(&mut source), (Taken::Failed, 0));
+    is(&rt, read(&mut source), (Taken::Failed, 0));
+    is(&rt, read(&mut source), (Taken::Got(1), b'c'));
+    is(&rt, read(&mut source), (Taken::End, 0));
     Ok(())
 }
 
@@ -51,7 +55,7 @@ fn all_is_put_in_pieces_of_one(rt: HostRuntime) {
 }
 
 #[test]
-fn a_listed_write_leaves_a_front(rt: HostRuntime) -> Result<(), Fail> {
+fn a_listed_write_leaves_a_front(rt: HostRuntime) -> Result<(), Memory> {
     let mut sink = MemorySink::new(rt.alloc(), 2, vec![in rt.alloc(); 1]?);
     is_true(&rt, !put_all(&mut sink, b"green"));
     is(&rt, sink.bytes(), b"gr".as_slice());
@@ -59,35 +63,55 @@ fn a_listed_write_leaves_a_front(rt: HostRuntime) -> Result<(), Fail> {
     Ok(())
 }
 
+/// The bytes that were fetched, or why there are none.
+fn found(fetched: &Fetched) -> Result<&[u8], &'static str> {
+    match fetched {
+        Fetched::Bytes(bytes) => Ok(bytes.as_slice()),
+        Fetched::TooLong => Err("too long"),
+        Fetched::Failed => Err("failed"),
+        Fetched::Memory => Err("no memory"),
+    }
+}
+
+/// What a shelf gives under a name.
+fn fetched(shelf: &mut impl Shelf, alloc: Global, name: &str, limit: u64) -> Fetched {
+    match Word::new(alloc, name) {
+        Ok(name) => shelf.fetch(alloc, &name, limit),
+        Err(_) => Fetched::Memory,
+    }
+}
+
+/// A name and a limit, and what is fetched, or why there is nothing.
+type Fetch = (&'static str, u64, Result<&'static [u8], &'static str>);
+
+/// Compares what a shelf gives.
+fn gives(rt: &impl Abort, alloc: Global, shelf: &mut impl Shelf, fetches: &[Fetch]) {
+    for (name, limit, wanted) in fetches {
+        is(rt, found(&fetched(shelf, alloc, name, *limit)), *wanted);
+    }
+}
+
 #[test]
-fn a_shelf_gives_what_is_no_longer_than_the_limit(rt: HostRuntime) -> Result<(), Fail> {
-    let (name, other) = (Word::new(rt.alloc(), "log")?, Word::new(rt.alloc(), "lo")?);
-    let held = Word::new(rt.alloc(), "log")?;
-    let bytes = b"12345".to_vec(rt.alloc())?;
-    let mut shelf = PlainShelf::new(vec![in rt.alloc(); (held, bytes)]?);
-    is(
-        &rt,
-        shelf.fetch(rt.alloc(), &name, 5),
-        Fetched::Bytes(b"12345".to_vec(rt.alloc())?),
-    );
-    is(&rt, shelf.fetch(rt.alloc(), &name, 4), Fetched::TooLong);
-    is(&rt, shelf.fetch(rt.alloc(), &other, 5), Fetched::Failed);
+fn a_shelf_gives_what_is_no_longer_than_the_limit(rt: HostRuntime) -> Result<(), Memory> {
+    let file = (Word::new(rt.alloc(), "log")?, b"12345".to_vec(rt.alloc())?);
+    let mut shelf = PlainShelf::new(vec![in rt.alloc(); file]?);
+    let fetches: [Fetch; 3] = [
+        ("log", 5, Ok(b"12345")),
+        ("log", 4, Err("too long")),
+        ("lo", 5, Err("failed")),
+    ];
+    gives(&rt, rt.alloc(), &mut shelf, &fetches);
     Ok(())
 }
 
 #[test]
-fn a_listed_fetch_fails(rt: HostRuntime) -> Result<(), Fail> {
-    let name = Word::new(rt.alloc(), "log")?;
+fn a_listed_fetch_fails(rt: HostRuntime) -> Result<(), Memory> {
     let first = (Word::new(rt.alloc(), "log")?, Vec::new(rt.alloc()));
     let second = (Word::new(rt.alloc(), "rows")?, Vec::new(rt.alloc()));
     let files = vec![in rt.alloc(); first, second]?;
     let mut shelf = MemoryShelf::new(files, vec![in rt.alloc(); 0]?);
-    is(&rt, shelf.fetch(rt.alloc(), &name, 0), Fetched::Failed);
-    is(
-        &rt,
-        shelf.fetch(rt.alloc(), &name, 0),
-        Fetched::Bytes(Vec::new(rt.alloc())),
-    );
+    let fetches: [Fetch; 2] = [("log", 0, Err("failed")), ("log", 0, Ok(b""))];
+    gives(&rt, rt.alloc(), &mut shelf, &fetches);
     Ok(())
 }
 
@@ -136,63 +160,65 @@ fn each_write_is_flushed(rt: HostRuntime) {
 
 // One byte behind the limit is read, and no more.
 #[test]
-fn what_is_too_long_is_read_up_to_the_byte_behind_the_limit(rt: HostRuntime) -> Result<(), Fail> {
+fn what_is_too_long_is_read_up_to_the_byte_behind_the_limit(rt: HostRuntime) -> Result<(), Memory> {
     let mut source = PlainSource::new(b"abcdef".to_vec(rt.alloc())?, 3);
-    is(
-        &rt,
-        read_whole(rt.alloc(), &mut source, 4),
-        Err(ReadFault::TooLong),
-    );
-    is(
-        &rt,
-        read_whole(rt.alloc(), &mut source, 1),
-        Ok(b"f".to_vec(rt.alloc())?),
-    );
+    let too_long = read_whole(rt.alloc(), &mut source, 4);
+    is(&rt, too_long, Err(ReadFault::TooLong));
+    let rest = read_whole(rt.alloc(), &mut source, 1);
+    is(&rt, rest, Ok(b"f".to_vec(rt.alloc())?));
     Ok(())
+}
+
+/// The path of a file of this process in the folder for such files.
+fn path_of(rt: &HostRuntime, name: &str) -> Result<String, Fail> {
+    let folder = env::temp_dir(rt)?;
+    let process = process::id(rt.process());
+    Ok(format!(in rt.alloc(); "{}/{name}_{process}", folder.as_str())?)
 }
 
 // A folder can be opened and cannot be read.
 #[test]
 fn a_folder_is_a_fault_and_no_file(rt: HostRuntime) -> Result<(), Fail> {
     let folder = env::temp_dir(&rt)?;
-    let path = format!(in rt.alloc(); "{}", folder.display())?;
-    let name = Word::new(rt.alloc(), path.as_str())?;
     let mut shelf = FileShelf::new(rt.clone()?);
-    is(&rt, shelf.fetch(rt.alloc(), &name, 0), Fetched::Failed);
+    let fetched = fetched(&mut shelf, rt.alloc(), folder.as_str(), 0);
+    is(&rt, found(&fetched), Err("failed"));
     Ok(())
+}
+
+/// What is fetched of the second of two files, which hold "red" and "green".
+fn fetched_of_two(rt: &HostRuntime, first: &str, second: &str) -> Result<Fetched, Fail> {
+    fs::write(rt, first, b"red")?;
+    fs::write(rt, second, b"green")?;
+    let mut shelf = FileShelf::new(rt.clone()?);
+    let fetched = fetched(&mut shelf, rt.alloc(), second, 5);
+    fs::remove_file(rt, first)?;
+    fs::remove_file(rt, second)?;
+    Ok(fetched)
 }
 
 #[test]
 fn of_two_files_the_named_one_is_fetched(rt: HostRuntime) -> Result<(), Fail> {
-    let folder = env::temp_dir(&rt)?;
-    let process = process::id(rt.process());
-    let first = format!(in rt.alloc(); "{}/first_{process}", folder.display())?;
-    let second = format!(in rt.alloc(); "{}/second_{process}", folder.display())?;
-    let name = Word::new(rt.alloc(), second.as_str())?;
-    fs::write(&rt, first.as_str(), b"red")?;
-    fs::write(&rt, second.as_str(), b"green")?;
-    let fetched = FileShelf::new(rt.clone()?).fetch(rt.alloc(), &name, 5);
-    fs::remove_file(&rt, first.as_str())?;
-    fs::remove_file(&rt, second.as_str())?;
-    is(&rt, fetched, Fetched::Bytes(b"green".to_vec(rt.alloc())?));
+    let first = path_of(&rt, "first")?;
+    let second = path_of(&rt, "second")?;
+    let fetched = fetched_of_two(&rt, first.as_str(), second.as_str())?;
+    is(&rt, found(&fetched), Ok(b"green".as_slice()));
     Ok(())
 }
 
 // The file has more than one block, so that its end is met in a later read.
 #[test]
 fn a_file_is_fetched_whole(rt: HostRuntime) -> Result<(), Fail> {
-    let folder = env::temp_dir(&rt)?;
-    let process = process::id(rt.process());
-    let path = format!(in rt.alloc(); "{}/fetched_whole_{process}", folder.display())?;
-    let name = Word::new(rt.alloc(), path.as_str())?;
+    let path = path_of(&rt, "fetched_whole")?;
     let bytes = vec![in rt.alloc(); b'x'; 70_000]?;
     fs::write(&rt, path.as_str(), bytes.as_slice())?;
     let mut shelf = FileShelf::new(rt.clone()?);
-    let whole = shelf.fetch(rt.alloc(), &name, 70_000);
-    let too_long = shelf.fetch(rt.alloc(), &name, 69_999);
+    let whole = fetched(&mut shelf, rt.alloc(), path.as_str(), 70_000);
+    let too_long = fetched(&mut shelf, rt.alloc(), path.as_str(), 69_999);
     fs::remove_file(&rt, path.as_str())?;
-    is(&rt, whole, Fetched::Bytes(bytes));
-    is(&rt, too_long, Fetched::TooLong);
-    is(&rt, shelf.fetch(rt.alloc(), &name, 70_000), Fetched::Failed);
+    is(&rt, found(&whole), Ok(bytes.as_slice()));
+    is(&rt, found(&too_long), Err("too long"));
+    let gone = fetched(&mut shelf, rt.alloc(), path.as_str(), 70_000);
+    is(&rt, found(&gone), Err("failed"));
     Ok(())
 }

@@ -29,23 +29,19 @@ const LONG_AHEAD: [(i32, i32); 6] = [
 ];
 
 /// A domain, the displacement to the target at a step's beginning and its change, her direction, and the moment of the entry.
-type Row = (
-    [(i32, i32); 6],
-    (i64, i64),
-    (i64, i64),
-    u16,
-    Option<(u64, u64)>,
-);
+type Row = ([(i32, i32); 6], (i64, i64), (i64, i64), u16, Option<Moment>);
+
+const HALF_WAY: Moment = Moment { a: 1, b: 2 };
 
 const ROWS: [Row; 6] = [
     // along an edge
     (EVEN, (-1_000_000, -2_000_000), (0, 4_000_000), 0, None),
     // at rest 250 m ahead of her, and then the same place aft of her
-    (LONG_AHEAD, (0, -2_500_000), (0, 0), 0, Some((1, 2))),
+    (LONG_AHEAD, (0, -2_500_000), (0, 0), 0, Some(HALF_WAY)),
     (LONG_AHEAD, (0, -2_500_000), (0, 0), 1800, None),
     // at rest 250 m to the east of a vessel that heads north, and of one that heads east
     (EVEN, (-2_500_000, 0), (0, 0), 0, None),
-    (EVEN, (-2_500_000, 0), (0, 0), 900, Some((1, 2))),
+    (EVEN, (-2_500_000, 0), (0, 0), 900, Some(HALF_WAY)),
     // two miles away
     (EVEN, (-37_040_000, 0), (0, 0), 900, None),
 ];
@@ -56,11 +52,10 @@ fn step(p: (i64, i64), w: (i64, i64)) -> Option<Step> {
 
 #[test]
 fn a_domain_is_entered_as_it_turns(rt: HostRuntime) -> Result<(), Fail> {
-    for (vertices, p, w, direction, wanted) in ROWS {
-        let shape = Shape::new(&vertices).ok_or("a shape")?;
-        let step = step(p, w).ok_or("a step")?;
-        let wanted = wanted.map(|(a, b)| Moment { a, b });
-        is(&rt, enters(&step, direction, &shape), wanted);
+    for (vertices, p, w, direction, wanted) in &ROWS {
+        let shape = Shape::new(vertices).ok_or("a shape")?;
+        let step = step(*p, *w).ok_or("a step")?;
+        is(&rt, enters(&step, *direction, &shape), *wanted);
     }
     Ok(())
 }

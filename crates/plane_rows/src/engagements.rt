@@ -117,30 +117,22 @@ fn steps_that_are_taken_in_place(rt: HostRuntime) -> Result<(), Fail> {
     Ok(())
 }
 
+/// Whether there is risk, whether the two open, and whether A is past and clear, where she is so far north of B.
 #[test]
 fn risk_until_past_and_clear(rt: HostRuntime) -> Result<(), Fail> {
-    let ahead = northward(Point {
-        x: -3_000_000,
-        y: 20_000_000,
-    })
-    .ok_or("a step")?;
-    is_true(&rt, risk(&DETECT, &ahead.step));
-    is_true(&rt, !opening(&ahead.step));
-    is_true(&rt, !past_clear(&DETECT, &ahead.step));
-    let near = northward(Point {
-        x: -6_000_000,
-        y: -5_000_000,
-    })
-    .ok_or("a step")?;
-    is_true(&rt, !risk(&DETECT, &near.step));
-    is_true(&rt, opening(&near.step));
-    is_true(&rt, !past_clear(&DETECT, &near.step));
-    let clear = northward(Point {
-        x: -6_000_000,
-        y: -8_000_000,
-    })
-    .ok_or("a step")?;
-    is_true(&rt, past_clear(&DETECT, &clear.step));
+    for (x, y, risks, opens, clear) in [
+        (-3_000_000, 20_000_000, true, false, false),
+        (-6_000_000, -5_000_000, false, true, false),
+        (-6_000_000, -8_000_000, false, true, true),
+    ] {
+        let step = northward(Point { x, y }).ok_or("a step")?.step;
+        let found = (
+            risk(&DETECT, &step),
+            opening(&step),
+            past_clear(&DETECT, &step),
+        );
+        is(&rt, (y, found), (y, (risks, opens, clear)));
+    }
     Ok(())
 }
 

@@ -4,6 +4,8 @@ use fixed_geometry::Point;
 use lattice::Lattice;
 use lattice::laws::{numbers_and_plans_are_inverse, orders_are_taken_at_once};
 use motion::TickState;
+use std::process::Abort;
+use std::test::Fail;
 
 const NORTHWARD: TickState = TickState {
     point: Point { x: 0, y: 0 },
@@ -11,8 +13,30 @@ const NORTHWARD: TickState = TickState {
     speed: Some(180),
 };
 
+/// The plan of a number makes these choices, and has this number again.
+fn is_plan(rt: &impl Abort, lattice: &Lattice, number: u32, choices: &[u16]) -> Result<(), Fail> {
+    if number >= lattice.plans() {
+        return Err("no such plan".into());
+    }
+    let plan = lattice.plan(number);
+    is(rt, plan.choices(), choices);
+    is(rt, lattice.number(&plan), number);
+    Ok(())
+}
+
+/// The course and the speed that the plan of a number orders in a leg, for these at now.
+fn ordered(lattice: &Lattice, number: u32, leg: u8, now: (u16, u16)) -> Option<(u16, u16)> {
+    let (course, speed) = now;
+    if number >= lattice.plans() || leg >= lattice.legs() || course >= 3600 || speed > 1022 {
+        return None;
+    }
+    let plan = lattice.plan(number);
+    let course = lattice.course(&plan, leg, course);
+    Some((course, lattice.speed(&plan, leg, speed)))
+}
+
 #[test]
-fn numbers_of_plans(rt: HostRuntime) {
+fn numbers_of_plans(rt: HostRuntime) -> Result<(), Fail> {
     let lattice = Lattice::new(
         rt.alloc(),
         &[0, 300, -600],
@@ -23,77 +47,60 @@ fn numbers_of_plans(rt: HostRuntime) {
         1800,
         1022,
     );
-    is(&rt, lattice.choices(), 6);
-    is(&rt, lattice.plans(), 36);
-    is(&rt, lattice.positions(), 70);
-    is(&rt, lattice.legs(), 2);
-    is(&rt, lattice.leg_ticks(), 30);
-    // 11 is 15 in base 6.
-    let plan = lattice.plan(11);
-    is(&rt, plan.choices(), [1, 5].as_slice());
-    is(&rt, lattice.number(&plan), 11);
+    let counts = (lattice.choices(), lattice.plans(), lattice.positions());
+    is(&rt, counts, (6, 36, 70));
+    is(&rt, (lattice.legs(), lattice.leg_ticks()), (2, 30));
     // The plans that begin with the choice 1 have the numbers 6 to 11.
     is(&rt, lattice.block(&[1]), (6, 12));
     numbers_and_plans_are_inverse(&lattice);
-    is(&rt, lattice.course(&plan, 0, 500), 500);
-    is(&rt, lattice.speed(&plan, 0, 180), 130);
-    is(&rt, lattice.course(&plan, 1, 500), 3500);
-    is(&rt, lattice.speed(&plan, 1, 20), 0);
+    is(&rt, ordered(&lattice, 11, 0, (500, 180)), Some((500, 130)));
+    is(&rt, ordered(&lattice, 11, 1, (500, 20)), Some((3500, 0)));
+    // 11 is 15 in base 6.
+    is_plan(&rt, &lattice, 11, &[1, 5])
+}
+
+/// Own ship's state so many ticks of 10 seconds after now, where the lattice has such a plan and so many ticks.
+fn state_after(lattice: &Lattice, number: u32, ticks: u32) -> Option<TickState> {
+    let positions = lattice.positions();
+    if number >= lattice.plans() || ticks > positions || positions > 100 {
+        return None;
+    }
+    Some(lattice.own_motion(&NORTHWARD, &lattice.plan(number), 10, ticks))
+}
+
+fn state(x: i64, y: i64, direction: u16, speed: u16) -> Option<TickState> {
+    Some(TickState {
+        point: Point { x, y },
+        direction: Some(direction),
+        speed: Some(speed),
+    })
 }
 
 #[test]
 fn a_turn_at_a_rate(rt: HostRuntime) {
     let lattice = Lattice::new(rt.alloc(), &[300], &[0], 1, 30, 10, 100, 1022);
-    let state = lattice.own_motion(&NORTHWARD, &lattice.plan(0), 10, 1);
-    is(
-        &rt,
-        state.point,
-        Point {
-            x: 160_800,
-            y: 911_930,
-        },
-    );
-    is(&rt, state.direction, Some(200));
-    is(&rt, state.speed, Some(180));
+    let after = state_after(&lattice, 0, 1);
+    is(&rt, after, state(160_800, 911_930, 200, 180));
 }
 
 #[test]
 fn a_turn_at_once(rt: HostRuntime) {
     let lattice = Lattice::new(rt.alloc(), &[0, 300, 600], &[0], 1, 30, 10, 1800, 1022);
     orders_are_taken_at_once(&lattice);
-    let state = lattice.own_motion(&NORTHWARD, &lattice.plan(1), 10, 1);
     // Against a vessel that comes south at 18 knots the relative move is (-463000, -1727940).
-    is(
-        &rt,
-        state.point,
-        Point {
-            x: 463_000,
-            y: 801_940,
-        },
-    );
-    is(&rt, state.direction, Some(300));
+    let after = state_after(&lattice, 1, 1);
+    is(&rt, after, state(463_000, 801_940, 300, 180));
 }
 
 #[test]
 fn the_last_leg_is_held(rt: HostRuntime) {
     let lattice = Lattice::new(rt.alloc(), &[0, 900], &[0, 22], 2, 2, 1, 1800, 11);
-    let plan = lattice.plan(3);
-    let before = lattice.own_motion(&NORTHWARD, &plan, 10, 1);
-    is(&rt, before.direction, Some(0));
-    is(&rt, before.speed, Some(180));
-    let turned = lattice.own_motion(&NORTHWARD, &plan, 10, 2);
-    is(&rt, turned.direction, Some(900));
-    is(&rt, turned.speed, Some(191));
-    let last = lattice.own_motion(&NORTHWARD, &plan, 10, 5);
-    is(&rt, last.direction, Some(900));
-    is(&rt, last.speed, Some(202));
     // Two ticks to the north at 18 knots, then three to the east at 19.1, 20.2 and 20.2: 98,259 and 103,918 a second.
-    is(
-        &rt,
-        last.point,
-        Point {
-            x: 3_060_950,
-            y: 1_852_000,
-        },
-    );
+    for (ticks, after) in [
+        (1, state(0, 926_000, 0, 180)),
+        (2, state(0, 1_852_000, 900, 191)),
+        (5, state(3_060_950, 1_852_000, 900, 202)),
+    ] {
+        is(&rt, state_after(&lattice, 3, ticks), after);
+    }
 }

@@ -1,6 +1,5 @@
 //! The answers of two vessels' steps to the atoms.
 ghost use Rattle.std.specs.Prelude.{◌≡◌, ◌<◌, IfSome};
-ghost use Rattle.std.specs.Option.{option_copied};
 ghost use Rattle.mtl_formulas.specs.FormulaMeasures.{IsValidAtom};
 ghost use Rattle.encounters.specs.Directions.{HasDirection, HaveDirections};
 
@@ -11,6 +10,7 @@ use meetings::{AtomRow, Follower, Pair, PairTrace, atoms_at, contact, step_betwe
 use motion::{Step, TickState};
 use mtl_formulas::{Atom, Atoms, Verdict};
 use sectors::{Angles, Class};
+use std::alloc::Global;
 use std::process::Abort;
 use std::test::Fail;
 
@@ -84,12 +84,21 @@ fn pair_step(p: (i64, i64), w: (i64, i64), a: Option<u16>, b: Option<u16>) -> Op
     })
 }
 
-/// What a step answers where the vessels are apart.
-fn answer(seen: Option<&PairStep>, atom: Atom) -> Verdict
-    requires seen { IfSome (option_copied seen) HaveDirections }
+/// What a step with these numbers answers where the vessels are apart.
+fn answer(
+    atom: Atom,
+    p: (i64, i64),
+    w: (i64, i64),
+    a: Option<u16>,
+    b: Option<u16>,
+) -> Option<Verdict>
     requires atom { IsValidAtom atom }
+    requires a { IfSome a (λ d. d < 3600) }
+    requires b { IfSome b (λ d. d < 3600) }
 {
-    atoms_at(&DETECT, &EngagementState::Apart, seen, &ACT, 10).value(atom)
+    let pair = pair_step(p, w, a, b)?;
+    let row = atoms_at(&DETECT, &EngagementState::Apart, Some(&pair), &ACT, 10);
+    Some(row.value(atom))
 }
 
 fn told(holds: bool) -> Verdict {
@@ -115,14 +124,27 @@ fn is_as_worked_out(rt: &impl Abort, row: &AtomRow, i: usize) {
     }
 }
 
+/// The thirty steps of two that meet head-on.
+fn head_on_trace(alloc: Global) -> Result<PairTrace, Fail> {
+    let mut trace = PairTrace::new(alloc, PAIR, DETECT, ACT, 10);
+    for i in 0..30 {
+        trace.push(head_on(i))?;
+    }
+    Ok(trace)
+}
+
 #[test]
-fn two_that_meet_head_on(rt: HostRuntime) -> Result<(), Fail> {
-    let mut trace = PairTrace::new(rt.alloc(), PAIR, DETECT, ACT, 10);
+fn two_that_meet_head_on_are_past_and_clear_from_step_26_on(rt: HostRuntime) -> Result<(), Fail> {
     for i in 0..30 {
         let pair = head_on(i).ok_or("a step")?;
-        is(&rt, past_clear(&DETECT, &pair.step), i >= 26);
-        trace.push(Some(pair))?;
+        is(&rt, (i, past_clear(&DETECT, &pair.step)), (i, i >= 26));
     }
+    Ok(())
+}
+
+#[test]
+fn two_that_meet_head_on(rt: HostRuntime) -> Result<(), Fail> {
+    let trace = head_on_trace(rt.alloc())?;
     for (i, row) in trace.rows().iter().enumerate() {
         is_as_worked_out(&rt, row, i);
     }
@@ -148,20 +170,25 @@ fn a_step_that_is_not_seen(rt: HostRuntime) -> Result<(), Fail> {
     );
     let row = follower.step(None);
     is(&rt, follower.state(), EngagementState::Apart);
-    for atom in [Atom::Seen, Atom::Risk, Atom::BothPower, Atom::Alters] {
-        is(&rt, row.value(atom), Verdict::No);
+    for (atom, expected) in [
+        (Atom::Seen, Verdict::No),
+        (Atom::Risk, Verdict::No),
+        (Atom::BothPower, Verdict::No),
+        (Atom::Alters, Verdict::No),
+        (Atom::Opening, Verdict::Open),
+        (Atom::OtherOnPort, Verdict::Open),
+        (Atom::Ahead, Verdict::Open),
+        (Atom::Clear(1), Verdict::Open),
+        (Atom::Close(1), Verdict::Open),
+    ] {
+        is(&rt, (atom, row.value(atom)), (atom, expected));
     }
-    for atom in [Atom::Opening, Atom::OtherOnPort, Atom::Ahead] {
-        is(&rt, row.value(atom), Verdict::Open);
-    }
-    is(&rt, row.value(Atom::Clear(1)), Verdict::Open);
-    is(&rt, row.value(Atom::Close(1)), Verdict::Open);
     Ok(())
 }
 
 /// B heads north, and A moves along a line on which she is seen from B at `-p`, and then at `-(p + w)`.
 #[test]
-fn ahead_of_the_bow(rt: HostRuntime) -> Result<(), Fail> {
+fn ahead_of_the_bow(rt: HostRuntime) {
     let cases = [
         ("ahead, from starboard", (-10, -5), (20, 0), Verdict::Yes),
         ("ahead, from port", (10, -5), (-20, 0), Verdict::Yes),
@@ -173,31 +200,28 @@ fn ahead_of_the_bow(rt: HostRuntime) -> Result<(), Fail> {
         ("on one side", (-10, -5), (9, 0), Verdict::No),
     ];
     for (name, p, w, expected) in cases {
-        let pair = pair_step(p, w, None, Some(0)).ok_or(name)?;
-        is(&rt, answer(Some(&pair), Atom::Ahead), expected);
+        let found = answer(Atom::Ahead, p, w, None, Some(0));
+        is(&rt, (name, found), (name, Some(expected)));
     }
-    let pair = pair_step((-10, -5), (20, 0), Some(0), None).ok_or("a step")?;
-    is(&rt, answer(Some(&pair), Atom::Ahead), Verdict::Open);
-    Ok(())
+    let found = answer(Atom::Ahead, (-10, -5), (20, 0), Some(0), None);
+    is(&rt, found, Some(Verdict::Open));
 }
 
-/// B bears 1800 from A.
+/// B bears 1800 from A, and is in the same place in the last row.
 #[test]
-fn the_other_on_port(rt: HostRuntime) -> Result<(), Fail> {
+fn the_other_on_port(rt: HostRuntime) {
     let cases = [
-        (Some(0), Verdict::No),
-        (Some(3599), Verdict::Yes),
-        (Some(1801), Verdict::Yes),
-        (Some(1800), Verdict::No),
-        (None, Verdict::Open),
+        ((0, -5), Some(0), Verdict::No),
+        ((0, -5), Some(3599), Verdict::Yes),
+        ((0, -5), Some(1801), Verdict::Yes),
+        ((0, -5), Some(1800), Verdict::No),
+        ((0, -5), None, Verdict::Open),
+        ((0, 0), Some(0), Verdict::Open),
     ];
-    for (direction, expected) in cases {
-        let pair = pair_step((0, -5), (0, 0), direction, None).ok_or("a step")?;
-        is(&rt, answer(Some(&pair), Atom::OtherOnPort), expected);
+    for (p, direction, expected) in cases {
+        let found = answer(Atom::OtherOnPort, p, (0, 0), direction, None);
+        is(&rt, (direction, found), (direction, Some(expected)));
     }
-    let pair = pair_step((0, 0), (0, 0), Some(0), None).ok_or("a step")?;
-    is(&rt, answer(Some(&pair), Atom::OtherOnPort), Verdict::Open);
-    Ok(())
 }
 
 #[test]
@@ -210,23 +234,19 @@ fn alterations_since_the_beginning(rt: HostRuntime) -> Result<(), Fail> {
     };
     let pair = pair_step((10, 10), (0, 0), Some(200), Some(2700)).ok_or("a step")?;
     let row = atoms_at(&DETECT, &since, Some(&pair), &ACT, 10);
-    for atom in [
-        Atom::CrossingGives,
-        Atom::Alters,
-        Atom::Apparent,
-        Atom::ToStarboard,
+    for (atom, holds) in [
+        (Atom::CrossingGives, true),
+        (Atom::Alters, true),
+        (Atom::Apparent, true),
+        (Atom::ToStarboard, true),
+        (Atom::BothPower, true),
+        (Atom::Begin, false),
+        (Atom::ToPort, false),
+        (Atom::OtherApparent, false),
+        (Atom::RankGives, false),
     ] {
-        is(&rt, row.value(atom), Verdict::Yes);
+        is(&rt, (atom, row.value(atom)), (atom, told(holds)));
     }
-    for atom in [
-        Atom::Begin,
-        Atom::ToPort,
-        Atom::OtherApparent,
-        Atom::RankGives,
-    ] {
-        is(&rt, row.value(atom), Verdict::No);
-    }
-    is(&rt, row.value(Atom::BothPower), Verdict::Yes);
     Ok(())
 }
 
@@ -248,10 +268,10 @@ fn ranks_where_an_engagement_begins(rt: HostRuntime) -> Result<(), Fail> {
         (false, false, true),
     ] {
         let row = with_ranks(&power, gives, stands, both_power);
-        is(&rt, row.value(Atom::RankGives), told(gives));
-        is(&rt, row.value(Atom::RankStands), told(stands));
-        is(&rt, row.value(Atom::BothPower), told(both_power));
-        is(&rt, row.value(Atom::CrossingStands), Verdict::Yes);
+        let ranks = (row.value(Atom::RankGives), row.value(Atom::RankStands));
+        is(&rt, ranks, (told(gives), told(stands)));
+        let others = (row.value(Atom::BothPower), row.value(Atom::CrossingStands));
+        is(&rt, others, (told(both_power), Verdict::Yes));
     }
     Ok(())
 }
@@ -264,10 +284,9 @@ fn contact_and_steps(rt: HostRuntime) -> Result<(), Fail> {
     is_true(&rt, !contact(&a, &b, 4));
     let later = state(1, 0, Some(0));
     let pair = step_between(Some(&a), Some(&b), Some(&later), Some(&b)).ok_or("a step")?;
-    is(&rt, pair.step.p(), Point { x: 3, y: 4 });
-    is(&rt, pair.step.w(), Point { x: -1, y: 0 });
-    is(&rt, pair.a, a);
-    is(&rt, pair.b, b);
+    let (p, w) = (Point { x: 3, y: 4 }, Point { x: -1, y: 0 });
+    is(&rt, (pair.step.p(), pair.step.w()), (p, w));
+    is(&rt, (pair.a, pair.b), (a, b));
     is_true(
         &rt,
         step_between(Some(&a), Some(&b), None, Some(&b)).is_none(),

@@ -41,7 +41,7 @@ const SECOND_WRONG: Row = Row {
     ..FIRST_WRONG
 };
 
-const RECHECKS: [Row; 14] = [
+static RECHECKS: [Row; 14] = [
     Row {
         shows: "a row that is right",
         rows: Some(RIGHT),

@@ -3,10 +3,11 @@ use colregs_program::Status;
 use compared::{is, is_true};
 use log_lines::laws;
 use scenario_rows::HEAD_ON;
+use std::alloc::Global;
 use std::test::Fail;
 use whole_runs::{
     ABOUT_SEATTLE, AUDIT, Devices, Edit, HEAD_ON_NOW, LOG, NOTHING, ONE_COURSE, ONE_TICK, OWN,
-    POINTS, REPORT, Row, SOUND, Written, edited, ended, is_as_worked_out,
+    POINTS, REPORT, Row, RunEnd, SOUND, Written, edited, ended, is_as_worked_out,
 };
 
 /// The row of that report.
@@ -150,7 +151,7 @@ const OWN_FISHES_NOW: &[u8] = b"\\c:1700000000*5F\\!AIVDM,1,1,,A,15P5TL7P2l00001
 \\c:1700000000*5F\\!AIVDM,1,1,,A,177KQJ0P2lOwwtp00W4725`00000,0*31
 ";
 
-const REPORTS: [Row; 16] = [
+static REPORTS: [Row; 16] = [
     Row {
         shows: "a log without its last line feed",
         edits: &[ABOUT_SEATTLE],
@@ -362,23 +363,30 @@ fn a_log_of_three_hundred_lines(rt: HostRuntime) -> Result<(), Fail> {
     Ok(())
 }
 
-// The log of the migration fails at its first read, so it is not read; its options count for nothing.
-#[test]
-fn a_migrated_scenario_audits_the_head_on_log_alike(rt: HostRuntime) -> Result<(), Fail> {
+/// What a migration writes whose log fails at its first read, so it is not read; its options count for nothing.
+fn migrated(alloc: Global) -> Result<RunEnd, Fail> {
     let words = ["migrate", "scenario.toml", "--ticks", "7", "--seed=3"];
     let devices = Devices {
         failing_read: Some(0),
         ..SOUND
     };
-    let scenario = edited(rt.alloc(), &[])?;
-    let migrated = ended(rt.alloc(), &words, scenario.as_str(), b"", devices)?;
+    let scenario = edited(alloc, &[])?;
+    ended(alloc, &words, scenario.as_str(), b"", devices)
+}
+
+/// By this scenario the head-on log is audited as it was worked out.
+fn audits_head_on(alloc: Global, scenario: &str) -> Result<(), Fail> {
+    let ended = ended(alloc, AUDIT, scenario, HEAD_ON, SOUND)?;
+    is_true(ended.out.bytes().starts_with(HEAD_ON_AUDITED))
+}
+
+#[test]
+fn a_migrated_scenario_audits_the_head_on_log_alike(rt: HostRuntime) -> Result<(), Fail> {
+    let migrated = migrated(rt.alloc())?;
     is(migrated.status, Status::Done)?;
-    let text = match std::str::from_utf8(migrated.out.bytes()) {
-        Ok(text) => text,
-        Err(_) => "",
+    let Ok(text) = std::str::from_utf8(migrated.out.bytes()) else {
+        return Err("it is a text".into());
     };
     is_true(text.contains("ticks = 40\n"))?;
-    let again = ended(rt.alloc(), AUDIT, text, HEAD_ON, SOUND)?;
-    is_true(again.out.bytes().starts_with(HEAD_ON_AUDITED))?;
-    Ok(())
+    audits_head_on(rt.alloc(), text)
 }

@@ -6,6 +6,8 @@ mod compared;
 #[cfg(test)]
 mod drill;
 #[cfg(test)]
+mod good;
+#[cfg(test)]
 mod migrations;
 #[cfg(test)]
 mod refusals;

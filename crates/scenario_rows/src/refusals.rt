@@ -1,71 +1,51 @@
 //! Scenarios that are refused: each key with each of its causes.
 use crate::compared::is;
-use crate::values::{
-    good, second_version, with_formulas, with_own, with_predictions, with_ranks, with_ranks_and_own,
+use crate::good::{
+    FIRST, SECOND, WITH_FORMULAS, WITH_OWN, WITH_PREDICTIONS, WITH_RANKS, WITH_RANKS_AND_OWN,
 };
-use scenario::read;
+use scenario::{ScenarioFault, read};
 use std::alloc::{AllocError, Global};
+use std::process::Abort;
 
 /// What is put for a part of a scenario, and the fault of what this gives.
 type Case = (&'static str, &'static str, &'static str);
 
-/// A scenario without a fault.
-#[derive(Clone, Copy)]
-enum Faultless {
-    First,
-    Second,
-    WithFormulas,
-    WithOwn,
-    WithPredictions,
-    WithRanks,
-    WithRanksAndOwn,
-}
-
-impl Faultless {
-    fn text(self, alloc: Global) -> Result<String, AllocError> {
-        match self {
-            Faultless::First => good(alloc),
-            Faultless::Second => second_version(alloc),
-            Faultless::WithFormulas => with_formulas(alloc),
-            Faultless::WithOwn => with_own(alloc),
-            Faultless::WithPredictions => with_predictions(alloc),
-            Faultless::WithRanks => with_ranks(alloc),
-            Faultless::WithRanksAndOwn => with_ranks_and_own(alloc),
-        }
-    }
-
-    fn needs_own(self) -> bool {
-        matches!(
-            self,
-            Faultless::WithOwn | Faultless::WithPredictions | Faultless::WithRanksAndOwn
-        )
+/// The text of a fault, and an empty one where there is none.
+pub(crate) fn told(alloc: Global, fault: Option<ScenarioFault>) -> Result<String, AllocError> {
+    match fault {
+        None => Ok(String::new(alloc)),
+        Some(fault) => format!(in alloc; "{fault}"),
     }
 }
 
-/// The text of the fault of a scenario, and an empty one where it has none.
-pub(crate) fn told(alloc: Global, text: &str, need_own: bool) -> Result<String, AllocError> {
-    match read(alloc, text.as_bytes(), need_own) {
-        Ok(_) => Ok(String::new(alloc)),
-        Err(fault) => format!(in alloc; "{fault}"),
-    }
+/// What is told of a scenario.
+pub(crate) fn told_of(alloc: Global, text: &str, need_own: bool) -> Result<String, AllocError> {
+    told(alloc, read(alloc, text.as_bytes(), need_own).err())
 }
 
-fn is_told(alloc: Global, good: &str, case: Case, need_own: bool) -> Result<bool, AllocError> {
-    let (old, new, expected) = case;
-    let text = good.replace(alloc, old, new)?;
-    let told = told(alloc, text.as_str(), need_own)?;
-    Ok(told.as_str() == expected)
+/// What is told of a scenario in parts, in which one text stands in place of another.
+fn told_of_changed(
+    alloc: Global,
+    parts: &[&str],
+    case: &Case,
+    need_own: bool,
+) -> Result<String, AllocError> {
+    let (old, new, _) = case;
+    let good = parts.concat(alloc)?;
+    let text = good.as_str().replace(alloc, *old, new)?;
+    told_of(alloc, text.as_str(), need_own)
 }
 
 /// The index of the first case that is told otherwise.
 fn first_otherwise(
     alloc: Global,
-    good: &str,
+    parts: &[&str],
     cases: &[Case],
     need_own: bool,
 ) -> Result<Option<usize>, AllocError> {
     for (index, case) in cases.iter().enumerate() {
-        if !is_told(alloc, good, *case, need_own)? {
+        let told = told_of_changed(alloc, parts, case, need_own)?;
+        if told.as_str() != case.2 {
             return Ok(Some(index));
         }
     }
@@ -74,7 +54,7 @@ fn first_otherwise(
 
 /// Faults of the first keys.
 #[rattlefmt::skip]
-const FIRST: [Case; 48] = [
+static FIRST_KEYS: [Case; 48] = [
     ("version = 1", "version = = 1", "document: not toml"),
     ("600", "9223372036854775808", "document: not toml"),
     ("version = 1\n", "", "version: missing"),
@@ -127,7 +107,7 @@ const FIRST: [Case; 48] = [
 
 /// Faults of the keys of `detect`.
 #[rattlefmt::skip]
-const DETECT: [Case; 31] = [
+static DETECT: [Case; 31] = [
     ("[detect]", "[[detect]]", "detect.watch: type"),
     ("\nwatch = 5000\n", "\n", "detect.watch: missing"),
     ("\nwatch = 5000\n", "\nwatch = 5000.0\n", "detect.watch: type"),
@@ -163,7 +143,7 @@ const DETECT: [Case; 31] = [
 
 /// Faults of the keys of `act`.
 #[rattlefmt::skip]
-const ACT: [Case; 17] = [
+static ACT: [Case; 17] = [
     ("[act]", "[[act]]", "act.steady_turn: type"),
     ("\nsteady_turn = 50\n", "\n", "act.steady_turn: missing"),
     ("\nsteady_turn = 50\n", "\nsteady_turn = 50.0\n", "act.steady_turn: type"),
@@ -185,7 +165,7 @@ const ACT: [Case; 17] = [
 
 /// Faults of the keys of `rules`.
 #[rattlefmt::skip]
-const RULES: [Case; 40] = [
+static RULES: [Case; 40] = [
     ("version = 1", "version = 2", "rules.safe_head_on: missing"),
     ("[rules]", "[[rules]]", "rules.safe: type"),
     ("\nsafe = 201\n", "\n", "rules.safe: missing"),
@@ -230,7 +210,7 @@ const RULES: [Case; 40] = [
 
 /// Faults of `subjects`.
 #[rattlefmt::skip]
-const SUBJECTS: [Case; 6] = [
+static SUBJECTS: [Case; 6] = [
     ("version = 1\n", "version = 1\nsubjects = 1\n", "subjects[0]: type"),
     ("version = 1\n", "version = 1\nsubjects = [200000000, 1.5]\n", "subjects[1]: type"),
     ("version = 1\n", "version = 1\nsubjects = [199999999, 1.5]\n", "subjects[1]: type"),
@@ -241,7 +221,7 @@ const SUBJECTS: [Case; 6] = [
 
 /// Faults of `formula`, and formulas that have none.
 #[rattlefmt::skip]
-const FORMULAS: [Case; 27] = [
+static FORMULAS: [Case; 27] = [
     ("version = 1", "version = 1\nformula = 1", "formula: type"),
     ("version = 1", "version = 1\nformula = {}", "formula: type"),
     ("version = 1", "version = 1\nformula = [{}, 1]", "formula: type"),
@@ -273,7 +253,7 @@ const FORMULAS: [Case; 27] = [
 
 /// Two formulas in place of the good ones: what is put for the name and the text of the second, and the fault of all.
 #[rattlefmt::skip]
-const SECOND: [Case; 3] = [
+static SECOND_FORMULA: [Case; 3] = [
     ("'r18'", "'u1'", "formula.name[1]: range"),
     ("'seen'", "'seen)'", "formula.text[1]: formula at 4"),
     ("'r18'", "'u2'", ""),
@@ -282,7 +262,7 @@ const SECOND: [Case; 3] = [
 /// The eleven rules of the good scenario weigh 515. With the first three formulas they weigh 65,535, and with the last, of one
 /// node, 65,536; `!seen` has two.
 #[rattlefmt::skip]
-const WEIGHTS: [Case; 2] = [
+static WEIGHTS: [Case; 2] = [
     ("version = 1", "version = 1\nformula = [{ name = 'a', text = 'F[0,7200] F[0,7200] F[0,7200] F[0,7200] F[0,7200] F[0,7200] F[0,7200] F[0,7200] seen' }, { name = 'b', text = 'F[0,7200] F[0,7200] seen' }, { name = 'c', text = 'F[0,5450] seen' }, { name = 'd', text = 'seen' }]", ""),
     ("version = 1", "version = 1\nformula = [{ name = 'a', text = 'F[0,7200] F[0,7200] F[0,7200] F[0,7200] F[0,7200] F[0,7200] F[0,7200] F[0,7200] seen' }, { name = 'b', text = 'F[0,7200] F[0,7200] seen' }, { name = 'c', text = 'F[0,5450] seen' }, { name = 'd', text = '!seen' }]", "formulas: product"),
 ];
@@ -290,7 +270,7 @@ const WEIGHTS: [Case; 2] = [
 /// Faults where ranks count: `r18` is a rule's name, and there are twelve rules to weigh. They weigh 592, and with the first three formulas
 /// 65,534.
 #[rattlefmt::skip]
-const RANKS: [Case; 11] = [
+static RANKS: [Case; 11] = [
     ("ranks = 1\n", "ranks = 2\n", "rules.ranks: range"),
     ("ranks = 1\n", "ranks = -1\n", "rules.ranks: range"),
     ("ranks = 1\n", "ranks = true\n", "rules.ranks: type"),
@@ -306,7 +286,7 @@ const RANKS: [Case; 11] = [
 
 /// The same where own ship is needed: ranks do not count, but their key is tested.
 #[rattlefmt::skip]
-const RANKS_AND_OWN: [Case; 3] = [
+static RANKS_WITH_OWN: [Case; 3] = [
     ("ranks = 1\n", "ranks = 2\n", "rules.ranks: range"),
     ("version = 1", "version = 1\nformula = [{ name = 'r18', text = 'seen' }]", ""),
     ("version = 1", "version = 1\nformula = [{ name = 'a', text = 'F[0,7200] F[0,7200] F[0,7200] F[0,7200] F[0,7200] F[0,7200] F[0,7200] F[0,7200] seen' }, { name = 'b', text = 'F[0,7200] F[0,7200] seen' }, { name = 'c', text = 'F[0,5190] seen' }, { name = 'd', text = 'seen & seen' }]", ""),
@@ -314,20 +294,22 @@ const RANKS_AND_OWN: [Case; 3] = [
 
 /// The good scenario with a formula of one word and so many spaces.
 fn with_spaces(alloc: Global, spaces: usize) -> Result<String, AllocError> {
-    let mut text = good(alloc)?;
-    text.push_str("[[formula]]\nname = 'u'\ntext = 'seen")?;
-    for _ in 0..spaces {
-        text.push_str(" ")?;
-    }
-    text.push_str("'\n")?;
-    Ok(text)
+    let good = FIRST.concat(alloc)?;
+    let spaces = " ".repeat(alloc, spaces)?;
+    [
+        good.as_str(),
+        "[[formula]]\nname = 'u'\ntext = 'seen",
+        spaces.as_str(),
+        "'\n",
+    ]
+    .concat(alloc)
 }
 
 #[test]
 fn a_formula_has_at_most_1024_bytes(rt: HostRuntime) -> Result<(), AllocError> {
     for (spaces, expected) in [(1020, ""), (1021, "formula.text[0]: range")] {
         let text = with_spaces(rt.alloc(), spaces)?;
-        let told = told(rt.alloc(), text.as_str(), false)?;
+        let told = told_of(rt.alloc(), text.as_str(), false)?;
         is(&rt, told.as_str(), expected);
     }
     Ok(())
@@ -335,7 +317,7 @@ fn a_formula_has_at_most_1024_bytes(rt: HostRuntime) -> Result<(), AllocError> {
 
 /// Faults of two keys: the first in the order of the keys is told, wherever they stand.
 #[rattlefmt::skip]
-const ORDER: [Case; 4] = [
+static ORDER: [Case; 4] = [
     ("tick = 10", "tick = 61", "window.tick: range"),
     ("version = 1\n[window]", "[other]", "version: missing"),
     ("tick = 10\nticks = 40", "ticks = 0", "window.tick: missing"),
@@ -344,7 +326,7 @@ const ORDER: [Case; 4] = [
 
 /// Faults of the keys of version 2.
 #[rattlefmt::skip]
-const VERSION_TWO: [Case; 10] = [
+static VERSION_TWO: [Case; 10] = [
     ("safe_head_on = 1\n", "", "rules.safe_head_on: missing"),
     ("safe_head_on = 1\n", "safe_head_on = 0\n", "rules.safe_head_on: range"),
     ("safe_overtaking = 2", "safe_overtaking = 100001", "rules.safe_overtaking: range"),
@@ -359,7 +341,7 @@ const VERSION_TWO: [Case; 10] = [
 
 /// Faults of the keys of own ship.
 #[rattlefmt::skip]
-const OWN: [Case; 54] = [
+static OWN: [Case; 54] = [
     ("[own]", "[other]", "own.mmsi: missing"),
     ("[own]", "[[own]]", "own.mmsi: type"),
     ("\nmmsi = 369190000\n", "\n", "own.mmsi: missing"),
@@ -418,7 +400,7 @@ const OWN: [Case; 54] = [
 
 /// Faults of own ship's shape, in the order in which they are tested, and a fault before them.
 #[rattlefmt::skip]
-const SHAPE: [Case; 20] = [
+static SHAPE: [Case; 20] = [
     ("turn_rate = 100", "shape = 1", "own.shape[0]: type"),
     ("turn_rate = 100", "shape = {}", "own.shape[0]: type"),
     ("turn_rate = 100", "shape = [300, 0]", "own.shape[0]: type"),
@@ -443,7 +425,7 @@ const SHAPE: [Case; 20] = [
 
 /// What stands just within the bounds.
 #[rattlefmt::skip]
-const WITHIN: [Case; 5] = [
+static WITHIN: [Case; 5] = [
     ("[0, 300, -600]\nspeeds = [0, -5]\nlegs = 3", "[0, 0, 0, 0, 0, 0, 0, 0, 0, 0, 0, 0, 0, 0, 0, 0, 0, 0, 0, 0, 0, 0, 0, 0, 0, 0, 0, 0, 0, 0, 0, 0]\nspeeds = [0, -5]\nlegs = 5", ""),
     ("leg_ticks = 30\ntail = 10", "leg_ticks = 236\ntail = 12", ""),
     ("turn_rate = 100", "turn_rate = 1800\nspeed_rate = 1022", ""),
@@ -453,16 +435,15 @@ const WITHIN: [Case; 5] = [
 
 #[test]
 fn own_ship_is_not_looked_at_where_she_is_not_needed(rt: HostRuntime) -> Result<(), AllocError> {
-    let good = with_own(rt.alloc())?;
-    let text = good.as_str().replace(rt.alloc(), "legs = 3", "legs = 0")?;
-    let told = told(rt.alloc(), text.as_str(), false)?;
-    is(&rt, told.as_str(), "");
+    let case = ("legs = 3", "legs = 0", "");
+    let told = told_of_changed(rt.alloc(), WITH_OWN, &case, false)?;
+    is(&rt, told.as_str(), case.2);
     Ok(())
 }
 
 /// Faults of `predict`, and predictions that have none.
 #[rattlefmt::skip]
-const PREDICT: [Case; 34] = [
+static PREDICT: [Case; 34] = [
     ("range = 50000\n", "", "own.range: missing"),
     ("turn_rate = 100\n[[predict]]\nmmsi = 477553000\n", "turn_rate = 0\n[[predict]]\n", "predict.mmsi[0]: missing"),
     ("turn_rate = 100\n[[predict]]", "turn_rate = 0\n[[predict]]", "own.turn_rate: range"),
@@ -501,7 +482,7 @@ const PREDICT: [Case; 34] = [
 
 /// Other lists in place of the tables of `predict`.
 #[rattlefmt::skip]
-const NO_PREDICTIONS: [Case; 4] = [
+static NO_PREDICTIONS: [Case; 4] = [
     ("version = 1", "version = 1\npredict = 1", "predict: type"),
     ("version = 1", "version = 1\npredict = {}", "predict: type"),
     ("version = 1", "version = 1\npredict = [{}, []]", "predict: type"),
@@ -510,58 +491,89 @@ const NO_PREDICTIONS: [Case; 4] = [
 
 /// The good scenario with own ship and so many empty tables of `predict`.
 fn with_tables(alloc: Global, many: usize) -> Result<String, AllocError> {
-    let mut text = with_own(alloc)?;
-    for _ in 0..many {
-        text.push_str("[[predict]]\n")?;
-    }
-    Ok(text)
+    let good = WITH_OWN.concat(alloc)?;
+    let tables = "[[predict]]\n".repeat(alloc, many)?;
+    [good.as_str(), tables.as_str()].concat(alloc)
 }
 
 #[test]
 fn at_most_64_vessels_are_predicted(rt: HostRuntime) -> Result<(), AllocError> {
     for (many, expected) in [(64, "predict.mmsi[0]: missing"), (65, "predict: range")] {
         let text = with_tables(rt.alloc(), many)?;
-        let told = told(rt.alloc(), text.as_str(), true)?;
+        let told = told_of(rt.alloc(), text.as_str(), true)?;
         is(&rt, told.as_str(), expected);
     }
     Ok(())
 }
 
-/// What the cases of a table show, the scenario whose parts they replace, and the cases.
-const TABLES: [(&str, Faultless, &[Case]); 17] = [
-    ("the first keys", Faultless::First, &FIRST),
-    ("keys of detect", Faultless::First, &DETECT),
-    ("keys of act", Faultless::First, &ACT),
-    ("keys of rules", Faultless::First, &RULES),
-    ("items of subjects", Faultless::First, &SUBJECTS),
-    ("names and texts of formulas", Faultless::First, &FORMULAS),
-    (
-        "the second of two formulas",
-        Faultless::WithFormulas,
-        &SECOND,
-    ),
-    ("weights of formulas", Faultless::First, &WEIGHTS),
-    ("ranks", Faultless::WithRanks, &RANKS),
-    (
-        "ranks for own ship",
-        Faultless::WithRanksAndOwn,
-        &RANKS_AND_OWN,
-    ),
-    ("the first of two faults", Faultless::First, &ORDER),
-    ("keys of version 2", Faultless::Second, &VERSION_TWO),
-    ("keys of own ship", Faultless::WithOwn, &OWN),
-    ("own ship's shape", Faultless::WithOwn, &SHAPE),
-    ("bounds of own ship", Faultless::WithOwn, &WITHIN),
-    ("what is predicted", Faultless::WithPredictions, &PREDICT),
-    ("lists of predictions", Faultless::WithOwn, &NO_PREDICTIONS),
-];
+/// Compares the fault by which each of these cases is told, in these parts of a scenario, where own ship is needed or not.
+fn are_told(
+    rt: &impl Abort,
+    alloc: Global,
+    name: &str,
+    parts: &[&str],
+    need_own: bool,
+    cases: &[Case],
+) -> Result<(), AllocError> {
+    let otherwise = first_otherwise(alloc, parts, cases, need_own)?;
+    is(rt, (name, otherwise), (name, None));
+    Ok(())
+}
 
 #[test]
 fn each_scenario_is_told_by_its_first_fault(rt: HostRuntime) -> Result<(), AllocError> {
-    for (name, good, cases) in &TABLES {
-        let text = good.text(rt.alloc())?;
-        let otherwise = first_otherwise(rt.alloc(), text.as_str(), cases, good.needs_own())?;
-        assert_eq!(rt; otherwise, None, "{name}");
-    }
+    let alloc = rt.alloc();
+    are_told(&rt, alloc, "the first keys", FIRST, false, &FIRST_KEYS)?;
+    are_told(&rt, alloc, "keys of detect", FIRST, false, &DETECT)?;
+    are_told(&rt, alloc, "keys of act", FIRST, false, &ACT)?;
+    are_told(&rt, alloc, "keys of rules", FIRST, false, &RULES)?;
+    are_told(&rt, alloc, "items of subjects", FIRST, false, &SUBJECTS)?;
+    are_told(
+        &rt,
+        alloc,
+        "names and texts of formulas",
+        FIRST,
+        false,
+        &FORMULAS,
+    )?;
+    are_told(
+        &rt,
+        alloc,
+        "the second of two formulas",
+        WITH_FORMULAS,
+        false,
+        &SECOND_FORMULA,
+    )?;
+    are_told(&rt, alloc, "weights of formulas", FIRST, false, &WEIGHTS)?;
+    are_told(&rt, alloc, "ranks", WITH_RANKS, false, &RANKS)?;
+    are_told(
+        &rt,
+        alloc,
+        "ranks for own ship",
+        WITH_RANKS_AND_OWN,
+        true,
+        &RANKS_WITH_OWN,
+    )?;
+    are_told(&rt, alloc, "the first of two faults", FIRST, false, &ORDER)?;
+    are_told(&rt, alloc, "keys of version 2", SECOND, false, &VERSION_TWO)?;
+    are_told(&rt, alloc, "keys of own ship", WITH_OWN, true, &OWN)?;
+    are_told(&rt, alloc, "own ship's shape", WITH_OWN, true, &SHAPE)?;
+    are_told(&rt, alloc, "bounds of own ship", WITH_OWN, true, &WITHIN)?;
+    are_told(
+        &rt,
+        alloc,
+        "what is predicted",
+        WITH_PREDICTIONS,
+        true,
+        &PREDICT,
+    )?;
+    are_told(
+        &rt,
+        alloc,
+        "lists of predictions",
+        WITH_OWN,
+        true,
+        &NO_PREDICTIONS,
+    )?;
     Ok(())
 }

@@ -1,8 +1,12 @@
 //! Lines that are judged as they end.
+ghost use Rattle.std.specs.Prelude.{◌<◌};
+
 use crate::compared::{is, is_true};
 use log_lines::{StreamedLines, ToldStatic};
 use scenario::read;
 use scenario_rows::SCENARIO;
+use std::alloc::Global;
+use std::process::Abort;
 use std::test::Fail;
 use tracks::{BookFault, Keeping};
 
@@ -18,60 +22,86 @@ fn take_all(lines: &mut StreamedLines, bytes: &[u8]) -> Result<(), BookFault> {
     Ok(())
 }
 
+/// No line yet, by the scenario of the rows.
+fn no_lines(alloc: Global) -> Result<StreamedLines, Fail> {
+    match read(alloc, SCENARIO.as_bytes(), false) {
+        Ok(scenario) => Ok(StreamedLines::new(alloc, Keeping::Latest, &scenario)),
+        Err(_) => Err("a scenario".into()),
+    }
+}
+
+/// Whether one line has come to the outcome at this index, once these bytes are taken.
+fn has_one(
+    rt: &impl Abort,
+    lines: &mut StreamedLines,
+    bytes: &[u8],
+    place: usize,
+) -> Result<(), BookFault>
+    requires { place < 21 }
+{
+    take_all(lines, bytes)?;
+    is(rt, lines.judge().counts()[place], 1);
+    Ok(())
+}
+
+/// A line that is a point, and the beginning of one that is no sentence of a kind that is read.
+const ONE_AND_A_PART: &[u8] = b"!AIVDM,1,1,,A,15P5TL0P2l00001wwHt000000000,0*5C\r\n!AIVDM";
+
 #[test]
 fn a_line_is_judged_as_it_ends(rt: HostRuntime) -> Result<(), Fail> {
-    let Ok(scenario) = read(rt.alloc(), SCENARIO.as_bytes(), false) else {
-        return Err("a scenario".into());
-    };
-    let mut lines = StreamedLines::new(rt.alloc(), Keeping::Latest, &scenario);
-    take_all(
-        &mut lines,
-        b"!AIVDM,1,1,,A,15P5TL0P2l00001wwHt000000000,0*5C\r\n!AIVDM",
-    )?;
-    is(&rt, lines.judge().counts()[20], 1);
+    let mut lines = no_lines(rt.alloc())?;
+    has_one(&rt, &mut lines, ONE_AND_A_PART, 20)?;
     is_true(&rt, lines.is_open());
-    take_all(&mut lines, b"\n")?;
-    is(&rt, lines.judge().counts()[3], 1);
-    Ok(())
+    Ok(has_one(&rt, &mut lines, b"\n", 3)?)
 }
 
-/// What a line tells of a vessel's static data, at second 100.
-fn told(mmsi: u32, kind: Option<u8>) -> Option<ToldStatic> {
-    Some(ToldStatic {
-        mmsi,
-        time: 1700000100,
-        kind,
-    })
-}
+/// When they come.
+const AT: u64 = 1700000100;
 
 // Messages 19, 24 A, 24 B and 1, off the air but for the last. The place of the first is far from the reference.
-#[test]
-fn static_reports_are_told(rt: HostRuntime) -> Result<(), Fail> {
-    let Ok(scenario) = read(rt.alloc(), SCENARIO.as_bytes(), false) else {
-        return Err("a scenario".into());
-    };
-    let rows = [
-        (
-            b"\\c:1700000100*5E\\!AIVDM,1,1,,B,C5N3SRgPEnJGEBT>NhWAwwo862PaLELTBJ:V00000000S0D:R220,0*0B\n".as_slice(),
-            told(367059850, Some(70)),
-        ),
-        (
-            b"!AIVDM,1,1,,A,H42O55i18tMET00000000000000,2*6D\n".as_slice(),
-            told(271041815, None),
-        ),
-        (
-            b"!AIVDM,1,1,,A,H42O55lti4hhhilD3nink000?050,0*40\n".as_slice(),
-            told(271041815, Some(60)),
-        ),
-        (
-            b"!AIVDM,1,1,,A,15P5TL0P2l00001wwHt000000000,0*5C\n".as_slice(),
-            None,
-        ),
-    ];
-    let mut lines = StreamedLines::new(rt.alloc(), Keeping::Latest, &scenario);
+static STATIC_REPORTS: [(&[u8], Option<ToldStatic>); 4] = [
+    (
+        b"\\c:1700000100*5E\\!AIVDM,1,1,,B,C5N3SRgPEnJGEBT>NhWAwwo862PaLELTBJ:V00000000S0D:R220,0*0B\n",
+        Some(ToldStatic {
+            mmsi: 367059850,
+            time: AT,
+            kind: Some(70),
+        }),
+    ),
+    (
+        b"!AIVDM,1,1,,A,H42O55i18tMET00000000000000,2*6D\n",
+        Some(ToldStatic {
+            mmsi: 271041815,
+            time: AT,
+            kind: None,
+        }),
+    ),
+    (
+        b"!AIVDM,1,1,,A,H42O55lti4hhhilD3nink000?050,0*40\n",
+        Some(ToldStatic {
+            mmsi: 271041815,
+            time: AT,
+            kind: Some(60),
+        }),
+    ),
+    (b"!AIVDM,1,1,,A,15P5TL0P2l00001wwHt000000000,0*5C\n", None),
+];
+
+/// Whether these lines tell what stands beside them.
+fn tell(
+    rt: &impl Abort,
+    lines: &mut StreamedLines,
+    rows: &[(&[u8], Option<ToldStatic>)],
+) -> Result<(), BookFault> {
     for (line, expected) in rows {
-        take_all(&mut lines, line)?;
-        is(&rt, lines.judge().told(), expected);
+        take_all(lines, line)?;
+        is(rt, lines.judge().told(), *expected);
     }
     Ok(())
+}
+
+#[test]
+fn static_reports_are_told(rt: HostRuntime) -> Result<(), Fail> {
+    let mut lines = no_lines(rt.alloc())?;
+    Ok(tell(&rt, &mut lines, &STATIC_REPORTS)?)
 }

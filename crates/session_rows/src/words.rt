@@ -59,7 +59,7 @@ fn are_asked(rt: &impl Abort, alloc: Global, rows: &[Asked]) {
                 is(rt, request.name.text(), *name);
                 are_given(rt, &request.options, options);
             }
-            Err(_) => assert!(rt; false, "{name}"),
+            Err(_) => is(rt, (*name, false), (*name, true)),
         }
     }
 }
@@ -71,7 +71,7 @@ fn are_usage(rt: &impl Abort, alloc: Global, rows: &[&'static [&'static str]]) {
     }
 }
 
-const OF_EVERY_MODE: [Asked; 8] = [
+static OF_EVERY_MODE: [Asked; 8] = [
     (&["points", "a.toml"], Mode::Points, "a.toml", BARE),
     (&["audit", "a.toml"], Mode::Audit, "a.toml", BARE),
     (&["plan", "a.toml"], Mode::Plan, "a.toml", BARE),
@@ -120,7 +120,7 @@ const ROWS: Given = Given {
 };
 
 #[rattlefmt::skip]
-const WITH_OPTIONS: [Asked; 13] = [
+static WITH_OPTIONS: [Asked; 13] = [
     (&["audit", "a", "--ticks", "4"], Mode::Audit, "a", FOUR),
     (&["--ticks", "4", "audit", "a"], Mode::Audit, "a", FOUR),
     (&["audit", "--ticks=4", "a"], Mode::Audit, "a", FOUR),
@@ -142,7 +142,7 @@ fn options_stand_anywhere(rt: HostRuntime) {
 }
 
 #[rattlefmt::skip]
-const NO_NUMBERS: [&[&str]; 11] = [
+static NO_NUMBERS: [&[&str]; 11] = [
     &["audit", "a", "--ticks", "0"],
     &["audit", "a", "--ticks", "20001"],
     &["audit", "a", "--ticks", "x"],
@@ -162,7 +162,7 @@ fn numbers_out_of_form_or_range(rt: HostRuntime) {
 }
 
 #[rattlefmt::skip]
-const NO_COMMAND_LINES: [&[&str]; 11] = [
+static NO_COMMAND_LINES: [&[&str]; 11] = [
     &[],
     &["audit"],
     &["fly", "a"],
@@ -177,7 +177,7 @@ const NO_COMMAND_LINES: [&[&str]; 11] = [
 ];
 
 #[rattlefmt::skip]
-const NO_FLAGS_OR_TEXTS: [&[&str]; 8] = [
+static NO_FLAGS_OR_TEXTS: [&[&str]; 8] = [
     &["plan", "a", "--why", "--why"],
     &["plan", "a", "--why=true"],
     &["plan", "a", "--why="],
@@ -204,7 +204,7 @@ fn told(alloc: Global, texts: &[&str]) -> Result<Option<Told>, Memory> {
 }
 
 /// Words, and what they ask the program to tell of itself.
-const TOLD: [(&[&str], Option<Told>); 7] = [
+static TOLD: [(&[&str], Option<Told>); 7] = [
     (&["--help"], Some(Told::Help)),
     (&["-h"], Some(Told::Summary)),
     (&["--version"], Some(Told::Version)),
@@ -216,8 +216,8 @@ const TOLD: [(&[&str], Option<Told>); 7] = [
 
 #[test]
 fn a_single_word_is_told(rt: HostRuntime) -> Result<(), Memory> {
-    for (texts, expected) in TOLD {
-        is(&rt, told(rt.alloc(), texts)?, expected);
+    for (texts, expected) in &TOLD {
+        is(&rt, told(rt.alloc(), texts)?, *expected);
     }
     Ok(())
 }
@@ -231,7 +231,7 @@ fn holds(text: &Result<String, Memory>, part: &str) -> bool {
 
 /// What stands in the texts that the program tells of itself.
 #[rattlefmt::skip]
-const PARTS: [(Told, &str); 13] = [
+static PARTS: [(Told, &str); 13] = [
     (Told::Help, "- points: "),
     (Told::Help, "- audit:  "),
     (Told::Help, "- plan:   "),
@@ -249,7 +249,11 @@ const PARTS: [(Told, &str); 13] = [
 
 #[test]
 fn help_names_modes_options_statuses_and_an_example(rt: HostRuntime) {
-    for (word, part) in PARTS {
-        assert!(rt; holds(&told_text(rt.alloc(), word), part), "{part}");
+    for (word, part) in &PARTS {
+        is(
+            &rt,
+            (*part, holds(&told_text(rt.alloc(), *word), part)),
+            (*part, true),
+        );
     }
 }

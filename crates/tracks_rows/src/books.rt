@@ -1,5 +1,5 @@
 //! What reports come to in a book of vessels.
-ghost use Rattle.std.specs.Prelude.{◌≡◌, ◌≤◌, ◌<◌, IfOk, unsigned_abs};
+ghost use Rattle.std.specs.Prelude.{◌≡◌, ◌≤◌, ◌<◌, IfOk, IfSome, unsigned_abs};
 ghost use Rattle.ais_messages.specs.MessageFields.{IsMessage, IsReport, IsStatic};
 ghost use Rattle.tracks.specs.declared.keeping.Keeping.TheVariants.{Tracks};
 
@@ -11,7 +11,9 @@ use motion::TickState;
 use std::alloc::Global;
 use std::process::Abort;
 use std::test::Fail;
-use tracks::{Book, BookFault, Counts, Entry, Keeping, ReportCause, laws, reported_direction};
+use tracks::{
+    Book, BookFault, Counts, Entry, HeldVessel, Keeping, ReportCause, laws, reported_direction,
+};
 
 /// A report of a vessel from a latitude on the meridian of Greenwich, in 1/10000 minute.
 fn report(mmsi: u32, latitude: i32) -> PositionReport
@@ -75,27 +77,46 @@ const OWN: u32 = 369190000;
 
 const OTHER: u32 = 477553000;
 
+/// A position report of a ship: her identity, her latitude, when it comes, and what it results in.
+type Reported = (u32, i32, u64, Entry);
+
+/// The point on the meridian so many millimetres north.
+fn at(y: i64) -> Entry {
+    Entry::Point(Point { x: 0, y })
+}
+
+/// What a position report results in, where it is of a ship and of a place on the Earth.
+fn entry(book: &mut Book, mmsi: u32, latitude: i32, time: u64) -> Option<Result<Entry, BookFault>> {
+    if mmsi < 200000000 || 799999999 < mmsi || 54000000 < latitude.unsigned_abs() {
+        return None;
+    }
+    Some(book.take(&Message::Position(report(mmsi, latitude)), time))
+}
+
+/// Compares what position reports result in, each with its time.
+fn are_entered(rt: &impl Abort, book: &mut Book, reports: &[Reported]) {
+    for (mmsi, latitude, time, wanted) in reports {
+        let found = entry(book, *mmsi, *latitude, *time);
+        is(rt, (*time, found), (*time, Some(Ok(*wanted))));
+    }
+}
+
+/// How many reports of a ship are kept, and how many legs, if she is held.
+fn kept(book: &Book, mmsi: u32) -> Option<(usize, usize)> {
+    let legs = book.legs(mmsi)?;
+    Some((book.points(mmsi).len(), legs.len()))
+}
+
 #[test]
 fn repeats_and_jumps(rt: HostRuntime) -> Result<(), Fail> {
     let mut book = book(rt.alloc(), 500)?;
-    let first = Message::Position(report(OWN, 0));
-    let away = Message::Position(report(OWN, 10800));
-    is(
-        &rt,
-        book.take(&first, 1700000000),
-        Ok(Entry::Point(Point { x: 0, y: 0 })),
-    );
-    is(
-        &rt,
-        book.take(&first, 1700000005),
-        Ok(Entry::Dropped(ReportCause::Repeat)),
-    );
-    is(
-        &rt,
-        book.take(&away, 1700000010),
-        Ok(Entry::Dropped(ReportCause::Jump)),
-    );
-    is(&rt, book.points(OWN).len(), 1);
+    let reports = [
+        (OWN, 0, 1700000000, at(0)),
+        (OWN, 0, 1700000005, Entry::Dropped(ReportCause::Repeat)),
+        (OWN, 10800, 1700000010, Entry::Dropped(ReportCause::Jump)),
+    ];
+    are_entered(&rt, &mut book, &reports);
+    is(&rt, kept(&book, OWN), Some((1, 0)));
     is(&rt, book.vessels(), 1);
     Ok(())
 }
@@ -103,94 +124,53 @@ fn repeats_and_jumps(rt: HostRuntime) -> Result<(), Fail> {
 #[test]
 fn equal_reports_30_and_31_seconds_apart(rt: HostRuntime) -> Result<(), Fail> {
     let mut book = book(rt.alloc(), 500)?;
-    let still = Message::Position(report(OWN, 0));
-    is_true(&rt, book.take(&still, 1000).is_ok());
-    is(
-        &rt,
-        book.take(&still, 1000),
-        Ok(Entry::Dropped(ReportCause::Back)),
-    );
-    is(
-        &rt,
-        book.take(&still, 1030),
-        Ok(Entry::Dropped(ReportCause::Repeat)),
-    );
-    is(
-        &rt,
-        book.take(&still, 1031),
-        Ok(Entry::Point(Point { x: 0, y: 0 })),
-    );
-    let legs = book.legs(OWN).ok_or("the vessel is held")?;
-    is(&rt, legs.len(), 1);
+    let reports = [
+        (OWN, 0, 1000, at(0)),
+        (OWN, 0, 1000, Entry::Dropped(ReportCause::Back)),
+        (OWN, 0, 1030, Entry::Dropped(ReportCause::Repeat)),
+        (OWN, 0, 1031, at(0)),
+    ];
+    are_entered(&rt, &mut book, &reports);
+    is(&rt, kept(&book, OWN), Some((2, 1)));
     Ok(())
 }
 
 #[test]
 fn the_greatest_speed_exactly(rt: HostRuntime) -> Result<(), Fail> {
     let mut book = book(rt.alloc(), 18)?;
-    is_true(
-        &rt,
-        book.take(&Message::Position(report(OWN, 0)), 1000).is_ok(),
-    );
-    is_true(
-        &rt,
-        book.take(&Message::Position(report(OTHER, 0)), 1000)
-            .is_ok(),
-    );
-    is(
-        &rt,
-        book.take(&Message::Position(report(OWN, 5)), 1001),
-        Ok(Entry::Point(Point { x: 0, y: 9260 })),
-    );
-    is(
-        &rt,
-        book.take(&Message::Position(report(OTHER, 6)), 1001),
-        Ok(Entry::Dropped(ReportCause::Jump)),
-    );
+    let reports = [
+        (OWN, 0, 1000, at(0)),
+        (OTHER, 0, 1000, at(0)),
+        (OWN, 5, 1001, at(9260)),
+        (OTHER, 6, 1001, Entry::Dropped(ReportCause::Jump)),
+    ];
+    are_entered(&rt, &mut book, &reports);
     Ok(())
 }
 
 #[test]
 fn more_than_the_gap_later_is_no_jump(rt: HostRuntime) -> Result<(), Fail> {
     let mut book = book(rt.alloc(), 18)?;
-    let away = Message::Position(report(OWN, 1000000));
-    is_true(
-        &rt,
-        book.take(&Message::Position(report(OWN, 0)), 1000).is_ok(),
-    );
-    is(
-        &rt,
-        book.take(&away, 1900),
-        Ok(Entry::Dropped(ReportCause::Jump)),
-    );
-    is(
-        &rt,
-        book.take(&away, 1901),
-        Ok(Entry::Point(Point {
-            x: 0,
-            y: 1852000000,
-        })),
-    );
-    is(&rt, book.points(OWN).len(), 2);
-    let legs = book.legs(OWN).ok_or("the vessel is held")?;
-    is_true(&rt, legs.is_empty());
+    let reports = [
+        (OWN, 0, 1000, at(0)),
+        (OWN, 1000000, 1900, Entry::Dropped(ReportCause::Jump)),
+        (OWN, 1000000, 1901, at(1852000000)),
+    ];
+    are_entered(&rt, &mut book, &reports);
+    is(&rt, kept(&book, OWN), Some((2, 0)));
     Ok(())
 }
 
 #[test]
 fn a_dropped_position_leaves_its_static_part(rt: HostRuntime) -> Result<(), Fail> {
     let mut book = book(rt.alloc(), 500)?;
+    let far = (OTHER, 1200001, 1000, Entry::Dropped(ReportCause::Far));
+    are_entered(&rt, &mut book, &[far]);
+    is(&rt, book.vessels(), 0);
     let lost = PositionReport {
         place: None,
         ..report(OWN, 0)
     };
-    let far = Message::Position(report(OTHER, 1200001));
-    is(
-        &rt,
-        book.take(&far, 1000),
-        Ok(Entry::Dropped(ReportCause::Far)),
-    );
-    is(&rt, book.vessels(), 0);
     let both = Message::Both(lost, hull(OWN, 90));
     is(
         &rt,
@@ -198,43 +178,45 @@ fn a_dropped_position_leaves_its_static_part(rt: HostRuntime) -> Result<(), Fail
         Ok(Entry::Dropped(ReportCause::NoPos)),
     );
     is(&rt, book.vessels(), 1);
-    is_true(&rt, book.points(OWN).is_empty());
+    is(&rt, kept(&book, OWN), Some((0, 0)));
     let statics = book.statics(OWN).ok_or("the vessel is held")?;
     is_true(&rt, statics.name.is_none());
-    let ship = statics.ship.ok_or("she told her size")?;
-    is(&rt, ship.bow, 90);
+    is(&rt, statics.ship, hull(OWN, 90).ship);
     is_true(&rt, book.statics(OTHER).is_none());
     Ok(())
+}
+
+/// All that is kept of the vessel at an index.
+fn held(book: &Book, k: usize) -> Option<HeldVessel<'_>> {
+    if k < book.vessels() {
+        return Some(book.held(k));
+    }
+    None
+}
+
+/// Who she is, how many reports and legs are kept of her, and her length.
+fn numbers(vessel: &HeldVessel<'_>) -> (u32, usize, usize, u32) {
+    let (points, legs) = (vessel.points.len(), vessel.legs.len());
+    (vessel.mmsi, points, legs, vessel.statics.length())
 }
 
 #[test]
 fn all_that_is_kept_of_a_vessel(rt: HostRuntime) -> Result<(), Fail> {
     let mut book = book(rt.alloc(), 500)?;
-    for (mmsi, north, time) in [(OTHER, 0, 1000), (OWN, 0, 1000), (OWN, 10, 1100)] {
-        let message = Message::Position(report(mmsi, north));
-        is_true(&rt, book.take(&message, time).is_ok());
-    }
+    let reports = [
+        (OTHER, 0, 1000, at(0)),
+        (OWN, 0, 1000, at(0)),
+        (OWN, 10, 1100, at(18520)),
+    ];
+    are_entered(&rt, &mut book, &reports);
     let told = Message::Static(hull(OWN, 90));
-    is_true(&rt, book.take(&told, 1100).is_ok());
+    is(&rt, book.take(&told, 1100), Ok(Entry::Static));
     is(&rt, book.vessels(), 2);
-    if book.vessels() != 2 {
-        return Err("two vessels".into());
-    }
-    let own = book.held(0);
-    is(
-        &rt,
-        (own.mmsi, own.points.len(), own.legs.len()),
-        (OWN, 2, 1),
-    );
-    is(&rt, own.statics.length(), 180);
-    let other = book.held(1);
-    is(
-        &rt,
-        (other.mmsi, other.points.len(), other.legs.len()),
-        (OTHER, 1, 0),
-    );
-    is(&rt, other.statics.length(), 0);
-    let found = book.find(OTHER).ok_or("the vessel is held")?;
+    let own = held(&book, 0).ok_or("own ship is held")?;
+    is(&rt, numbers(&own), (OWN, 2, 1, 180));
+    let other = held(&book, 1).ok_or("the other ship is held")?;
+    is(&rt, numbers(&other), (OTHER, 1, 0, 0));
+    let found = book.find(OTHER).ok_or("the other ship is found")?;
     is(&rt, (found.mmsi, found.points), (OTHER, other.points));
     is_true(&rt, book.find(200000000).is_none());
     Ok(())
@@ -258,33 +240,35 @@ fn directions_by_heading_or_course(rt: HostRuntime) {
     }
 }
 
-/// The message of a line that has a sentence.
-fn message_of(alloc: Global, line: &[u8]) -> Result<Message, Fail>
-    ensures { IfOk result IsMessage }
+/// What a line completes, where it is a sentence.
+fn joined(joiner: &mut Joiner, line: &[u8]) -> Option<Joined> {
+    match read_line(line).body {
+        Body::Sentence(sentence) => joiner.take(&sentence, 0).ok(),
+        Body::Dropped(_) => None,
+    }
+}
+
+/// The message of a line that has one.
+fn message_of(alloc: Global, line: &[u8]) -> Option<Message>
+    ensures { IfSome result IsMessage }
 {
-    let Body::Sentence(sentence) = read_line(line).body else {
-        return Err("it is a sentence".into());
+    let mut joiner = Joiner::new(alloc);
+    let Some(Joined::Message(bits)) = joined(&mut joiner, line) else {
+        return None;
     };
-    let Ok(Joined::Message(bits)) = Joiner::new(alloc).take(&sentence, 0) else {
-        return Err("it is whole".into());
-    };
-    let Decoded::Message(message) = decode(&bits) else {
-        return Err("it is a message".into());
-    };
-    Ok(message)
+    match decode(&bits) {
+        Decoded::Message(message) => Some(message),
+        Decoded::Dropped(_) => None,
+    }
 }
 
 #[test]
 fn a_name_stays_when_ship_data_comes(rt: HostRuntime) -> Result<(), Fail> {
     let mut book = book(rt.alloc(), 500)?;
-    let name = message_of(
-        rt.alloc(),
-        b"!AIVDM,1,1,,A,H42O55i18tMET000000000000000,0*5F",
-    )?;
-    let ship = message_of(
-        rt.alloc(),
-        b"!AIVDM,1,1,,A,H42O55lti4hhhilD3nink000?050,0*40",
-    )?;
+    let name = b"!AIVDM,1,1,,A,H42O55i18tMET000000000000000,0*5F";
+    let name = message_of(rt.alloc(), name).ok_or("it tells a name")?;
+    let ship = b"!AIVDM,1,1,,A,H42O55lti4hhhilD3nink000?050,0*40";
+    let ship = message_of(rt.alloc(), ship).ok_or("it tells ship's data")?;
     is(&rt, book.take(&name, 1000), Ok(Entry::Static));
     is(&rt, book.take(&ship, 1000), Ok(Entry::Static));
     is(&rt, book.vessels(), 1);
@@ -297,37 +281,24 @@ fn a_name_stays_when_ship_data_comes(rt: HostRuntime) -> Result<(), Fail> {
     Ok(())
 }
 
+/// The identity of the vessel at an index.
+fn vessel(book: &Book, k: usize) -> Option<u32> {
+    if k < book.vessels() {
+        return Some(book.vessel(k));
+    }
+    None
+}
+
 #[test]
 fn vessels_in_ascending_order(rt: HostRuntime) -> Result<(), Fail> {
     let mut book = book(rt.alloc(), 500)?;
-    is(
-        &rt,
-        book.take(&Message::Static(hull(OTHER, 20)), 1000),
-        Ok(Entry::Static),
-    );
-    is(
-        &rt,
-        book.take(&Message::Static(hull(OWN, 90)), 1000),
-        Ok(Entry::Static),
-    );
-    is(
-        &rt,
-        book.take(&Message::Static(hull(OTHER, 30)), 1000),
-        Ok(Entry::Static),
-    );
+    for (mmsi, bow) in [(OTHER, 20), (OWN, 90), (OTHER, 30)] {
+        let told = Message::Static(hull(mmsi, bow));
+        is(&rt, book.take(&told, 1000), Ok(Entry::Static));
+    }
     is(&rt, book.vessels(), 2);
-    let first = if book.vessels() == 2 {
-        book.vessel(0)
-    } else {
-        0
-    };
-    let second = if book.vessels() == 2 {
-        book.vessel(1)
-    } else {
-        0
-    };
-    is(&rt, first, OWN);
-    is(&rt, second, OTHER);
+    is(&rt, vessel(&book, 0), Some(OWN));
+    is(&rt, vessel(&book, 1), Some(OTHER));
     Ok(())
 }
 
@@ -340,66 +311,89 @@ fn state(north: i64) -> TickState {
     }
 }
 
+/// Compares who is seen at a time, and where.
+fn are_seen(
+    rt: &impl Abort,
+    book: &Book,
+    seen: &mut Vec<(u32, TickState)>,
+    time: u64,
+    wanted: &[(u32, TickState)],
+) {
+    is(rt, book.look(time, seen), Ok(()));
+    is(rt, seen.as_slice(), wanted);
+}
+
 #[test]
 fn vessels_seen_in_ascending_order(rt: HostRuntime) -> Result<(), Fail> {
     let mut book = book(rt.alloc(), 500)?;
     book.comes_to_latest(OTHER);
-    let north = Message::Position(report(OTHER, 10));
-    let south = Message::Position(report(OTHER, 0));
-    let still = Message::Position(report(OWN, 0));
-    is_true(&rt, book.take(&south, 1000).is_ok());
-    is_true(&rt, book.take(&still, 1000).is_ok());
-    is_true(&rt, book.take(&still, 1050).is_ok());
-    is_true(&rt, book.take(&north, 1100).is_ok());
+    let reports = [
+        (OTHER, 0, 1000, at(0)),
+        (OWN, 0, 1000, at(0)),
+        (OWN, 0, 1050, at(0)),
+        (OTHER, 10, 1100, at(18520)),
+    ];
+    are_entered(&rt, &mut book, &reports);
     book.moves_little();
     let mut seen = Vec::new(rt.alloc());
-    book.look(1050, &mut seen)?;
-    is(
-        &rt,
-        seen.as_slice(),
-        [(OWN, state(0)), (OTHER, state(9260))].as_slice(),
-    );
-    book.look(1100, &mut seen)?;
-    is(&rt, seen.as_slice(), [(OTHER, state(18520))].as_slice());
+    let both = [(OWN, state(0)), (OTHER, state(9260))];
+    are_seen(&rt, &book, &mut seen, 1050, &both);
+    are_seen(&rt, &book, &mut seen, 1100, &[(OTHER, state(18520))]);
     Ok(())
+}
+
+/// How many reports and legs of a ship are kept, and how many there were.
+fn counted(book: &Book, mmsi: u32) -> Option<(usize, usize, Counts)> {
+    let vessel = book.find(mmsi)?;
+    Some((vessel.points.len(), vessel.legs.len(), vessel.counts))
 }
 
 #[test]
 fn what_lies_before_a_time_is_forgotten_but_counted(rt: HostRuntime) -> Result<(), Fail> {
     let mut book = book(rt.alloc(), 500)?;
-    for (north, time) in [(0, 1000), (10, 1100), (20, 1200), (30, 1300)] {
-        let message = Message::Position(report(OWN, north));
-        is_true(&rt, book.take(&message, time).is_ok());
-    }
+    let reports = [
+        (OWN, 0, 1000, at(0)),
+        (OWN, 10, 1100, at(18520)),
+        (OWN, 20, 1200, at(37040)),
+        (OWN, 30, 1300, at(55560)),
+    ];
+    are_entered(&rt, &mut book, &reports);
     book.forget(1200);
-    let vessel = book.find(OWN).ok_or("the vessel is held")?;
-    // The report of second 1100 is the last one before that time.
-    is(&rt, vessel.points.len(), 3);
-    is(&rt, vessel.legs.len(), 2);
     let all = Counts {
         reports: 4,
         legs: 3,
     };
-    is(&rt, vessel.counts, all);
+    // The report of second 1100 is the last one before that time.
+    is(&rt, counted(&book, OWN), Some((3, 2, all)));
     let mut seen = Vec::new(rt.alloc());
-    book.look(1200, &mut seen)?;
-    is(&rt, seen.as_slice(), [(OWN, state(37040))].as_slice());
+    are_seen(&rt, &book, &mut seen, 1200, &[(OWN, state(37040))]);
     Ok(())
 }
 
-/// Gives two books a report of own ship from so far north, and compares what it comes to.
-fn take_in_both(rt: &impl Abort, latest: &mut Book, tracks: &mut Book, north: u16, time: u64) {
-    let message = Message::Position(report(OWN, i32::from(north)));
-    is(rt, latest.take(&message, time), tracks.take(&message, time));
+/// Gives two books position reports of own ship, and compares what they result in, each with its time.
+fn take_in_both(rt: &impl Abort, latest: &mut Book, tracks: &mut Book, reports: &[(i32, u64)]) {
+    for (latitude, time) in reports {
+        let found = entry(latest, OWN, *latitude, *time);
+        let wanted = entry(tracks, OWN, *latitude, *time);
+        is(rt, (*time, found), (*time, wanted));
+    }
+}
+
+/// Compares what a book of the latest reports and one of all of them keep of own ship.
+fn keep_as_told(rt: &impl Abort, latest: &Book, tracks: &Book) {
+    is(rt, latest.vessels(), 1);
+    is(rt, kept(tracks, OWN), Some((5, 2)));
+    is(rt, kept(latest, OWN), Some((1, 0)));
+    is(rt, latest.points(OWN).last(), tracks.points(OWN).last());
+    is(rt, latest.statics(OWN), tracks.statics(OWN));
 }
 
 #[test]
 fn the_latest_report_alone_serves_to_judge(rt: HostRuntime) -> Result<(), Fail> {
     let mut latest = book_of(rt.alloc(), Keeping::Latest, 500)?;
     let mut tracks = book_of(rt.alloc(), Keeping::Tracks, 500)?;
-    let moved = report(OWN, 10);
     // A first report, a repeat, a jump, a repeat, the same half a minute later, back, a second report, and one past the gap.
-    for (north, time) in [
+    let reports = [
         (0, 1000),
         (0, 1005),
         (10800, 1010),
@@ -408,9 +402,9 @@ fn the_latest_report_alone_serves_to_judge(rt: HostRuntime) -> Result<(), Fail> 
         (10, 1020),
         (10, 1100),
         (10800, 2001),
-    ] {
-        take_in_both(&rt, &mut latest, &mut tracks, north, time);
-    }
+    ];
+    take_in_both(&rt, &mut latest, &mut tracks, &reports);
+    let moved = report(OWN, 10);
     is(
         &rt,
         latest.take_report(&moved, 3000),
@@ -422,13 +416,7 @@ fn the_latest_report_alone_serves_to_judge(rt: HostRuntime) -> Result<(), Fail> 
     };
     let both = Message::Both(lost, hull(OWN, 90));
     is(&rt, latest.take(&both, 3100), tracks.take(&both, 3100));
-    is(&rt, latest.vessels(), 1);
-    is(&rt, tracks.points(OWN).len(), 5);
-    is(&rt, latest.points(OWN).len(), 1);
-    is(&rt, latest.points(OWN).last(), tracks.points(OWN).last());
-    is(&rt, latest.statics(OWN), tracks.statics(OWN));
-    let legs = latest.legs(OWN).ok_or("the vessel is held")?;
-    is_true(&rt, legs.is_empty());
+    keep_as_told(&rt, &latest, &tracks);
     Ok(())
 }
 
@@ -438,11 +426,11 @@ fn take_many(rt: &impl Abort, book: &mut Book, count: u32) -> u32
 {
     let mut refused = 0u32;
     for k in 0..count {
-        let entry = book.take(&Message::Position(report(200000000 + k, 0)), 1000);
-        if entry == Err(BookFault::TooManyVessels) {
+        let entry = entry(book, 200000000 + k, 0, 1000);
+        if entry == Some(Err(BookFault::TooManyVessels)) {
             refused = refused.saturating_add(1);
         } else {
-            is_true(rt, entry.is_ok());
+            is_true(rt, matches!(entry, Some(Ok(_))));
         }
     }
     refused

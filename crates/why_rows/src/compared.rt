@@ -7,8 +7,3 @@ use std::process::Abort;
 pub(crate) fn is<T: PartialEq + Debug + Drop>(rt: &impl Abort, found: T, wanted: T) {
     assert_eq!(rt; found, wanted);
 }
-
-/// What is claimed holds.
-pub(crate) fn is_true(rt: &impl Abort, claim: bool) {
-    assert!(rt; claim);
-}

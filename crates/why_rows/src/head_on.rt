@@ -78,7 +78,7 @@ leg_ticks = 30
 pub fn situation_with(alloc: Global, legs: &str, courses: &str) -> Result<Option<Situation>, Fail>
     ensures { IfOk result (λ found. IfSome found IsSituation) }
 {
-    let text = format!(in alloc; "{SCENARIO}{legs}courses = {courses}\n")?;
+    let text = [SCENARIO, legs, "courses = ", courses, "\n"].concat(alloc)?;
     let Ok(scenario) = read(alloc, text.as_bytes(), true) else {
         return Ok(None);
     };

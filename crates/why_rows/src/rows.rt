@@ -3,13 +3,14 @@ ghost use Rattle.std.specs.Prelude.{◌<◌, ◌^◌, All, IfOk, IfSome, length}
 ghost use Rattle.situations.specs.Situations.{IsSituation};
 ghost use Rattle.refutations.specs.RightLists.{IsEntry};
 
-use crate::compared::{is, is_true};
+use crate::compared::is;
 use crate::head_on::{ONE_LEG, situation_with};
 use csv::{ByteRecord, ReaderBuilder};
 use outside::Memory;
 use refutations::{Checked, WhyEntry, check, entry_bytes, explain, read_entry};
 use situations::Situation;
 use std::alloc::Global;
+use std::process::Abort;
 use std::test::Fail;
 
 /// The entries that rows tell, four at most. `None` where one of the rows tells no entry.
@@ -64,88 +65,114 @@ fn told(alloc: Global, situation: &Situation) -> Result<Vec<u8>, Memory>
     Ok(text)
 }
 
+/// Whether these rows are told, and right where there are any.
+fn is_told(rt: &impl Abort, alloc: Global, situation: &Situation, rows: &[u8]) -> Result<(), Memory>
+    requires { IsSituation situation.now }
+{
+    let text = told(alloc, situation)?;
+    is(rt, text.as_slice(), rows);
+    let right = judged(alloc, situation, &text)? == Some(Checked::Right);
+    is(rt, right, !rows.is_empty());
+    Ok(())
+}
+
+/// Whether a check tells these of rows.
+fn are_judged(
+    rt: &impl Abort,
+    alloc: Global,
+    situation: &Situation,
+    rows: &[(&[u8], Option<Checked>)],
+) -> Result<(), Memory>
+    requires { IsSituation situation.now }
+{
+    for (text, expected) in rows {
+        is(rt, judged(alloc, situation, text)?, *expected);
+    }
+    Ok(())
+}
+
+/// The courses that own ship may take, and the rows of the canonical list.
+static CANONICAL: [(&str, &[u8]); 3] = [
+    ("[0]", b"why,0,477553000,domain,18,1,1\n"),
+    (
+        "[0, 10]",
+        b"why,0,477553000,domain,18,1,1\nwhy,1,477553000,domain,18,1,1\n",
+    ),
+    ("[0, 600]", b""),
+];
+
 /// Own ship is nearer than 300 metres in the steps from tick 18 to tick 21, and the rule named `domain` is broken from 19 on.
 #[test]
 fn the_canonical_list_is_told_and_right(rt: HostRuntime) -> Result<(), Fail> {
     let alloc = rt.alloc();
-    let tables = [
-        ("[0]", b"why,0,477553000,domain,18,1,1\n".as_slice()),
-        (
-            "[0, 10]",
-            b"why,0,477553000,domain,18,1,1\nwhy,1,477553000,domain,18,1,1\n".as_slice(),
-        ),
-        ("[0, 600]", b"".as_slice()),
-    ];
-    for (courses, rows) in tables {
-        let found = situation_with(alloc, ONE_LEG, courses)?;
-        is_true(&rt, found.is_some());
-        if let Some(situation) = found {
-            let text = told(alloc, &situation)?;
-            is(&rt, text.as_slice(), rows);
-            let right = judged(alloc, &situation, &text)? == Some(Checked::Right);
-            is(&rt, right, !rows.is_empty());
-        }
+    for (courses, rows) in &CANONICAL {
+        let Some(situation) = situation_with(alloc, ONE_LEG, courses)? else {
+            return Err("a situation".into());
+        };
+        is_told(&rt, alloc, &situation, rows)?;
     }
     Ok(())
 }
+
+const RIGHT: Option<Checked> = Some(Checked::Right);
+
+const BAD: Option<Checked> = Some(Checked::Bad(0));
+
+/// Rows, and what a check tells of them.
+static ABOUT_ONE_PLAN: [(&[u8], Option<Checked>); 21] = [
+    (b"", BAD),
+    (b"why,0,477553000,domain,17,1,1", BAD),
+    (b"why,0,477553000,domain,18,2,2", RIGHT),
+    (b"why,0,477553000,domain,18,1,4", BAD),
+    (b"why,0,477553000,domain,18,2,1", BAD),
+    (b"why,0,477553000,domain,21,0,1", RIGHT),
+    (b"why,0,477553000,domain,22,0,1", BAD),
+    (b"why,0,477553000,domain,18,,", BAD),
+    (b"why,0,477553000,domain,19,,", RIGHT),
+    (b"why,0,477553000,domain,21,,", RIGHT),
+    (b"why,0,477553000,domain,22,,", BAD),
+    (b"why,0,477553000,r14a,0,,", RIGHT),
+    (b"why,0,477553000,r14a,1,,", BAD),
+    (b"why,0,477553001,domain,18,1,1", BAD),
+    (
+        b"\"why\",\"0\",\"477553000\",\"r14a\",\"0\",\"\",\"\"",
+        RIGHT,
+    ),
+    (b"why,00,477553000,domain,18,1,1", None),
+    (b"why,0,477553000,domain,018,1,1", None),
+    (b"why,1,477553000,domain,18,1,1", None),
+    (b"why,0.0,477553000,domain,18,1,1", None),
+    (b"why,0,477553000,r99,0,,", None),
+    (b"why,0,477553000,domain,18,1,", None),
+];
 
 #[test]
 fn rows_about_one_plan(rt: HostRuntime) -> Result<(), Fail> {
     let alloc = rt.alloc();
-    let right = Some(Checked::Right);
-    let bad = Some(Checked::Bad(0));
-    let rows = [
-        (b"".as_slice(), bad),
-        (b"why,0,477553000,domain,17,1,1".as_slice(), bad),
-        (b"why,0,477553000,domain,18,2,2".as_slice(), right),
-        (b"why,0,477553000,domain,18,1,4".as_slice(), bad),
-        (b"why,0,477553000,domain,18,2,1".as_slice(), bad),
-        (b"why,0,477553000,domain,21,0,1".as_slice(), right),
-        (b"why,0,477553000,domain,22,0,1".as_slice(), bad),
-        (b"why,0,477553000,domain,18,,".as_slice(), bad),
-        (b"why,0,477553000,domain,19,,".as_slice(), right),
-        (b"why,0,477553000,domain,21,,".as_slice(), right),
-        (b"why,0,477553000,domain,22,,".as_slice(), bad),
-        (b"why,0,477553000,r14a,0,,".as_slice(), right),
-        (b"why,0,477553000,r14a,1,,".as_slice(), bad),
-        (b"why,0,477553001,domain,18,1,1".as_slice(), bad),
-        (
-            b"\"why\",\"0\",\"477553000\",\"r14a\",\"0\",\"\",\"\"".as_slice(),
-            right,
-        ),
-        (b"why,00,477553000,domain,18,1,1".as_slice(), None),
-        (b"why,0,477553000,domain,018,1,1".as_slice(), None),
-        (b"why,1,477553000,domain,18,1,1".as_slice(), None),
-        (b"why,0.0,477553000,domain,18,1,1".as_slice(), None),
-        (b"why,0,477553000,r99,0,,".as_slice(), None),
-        (b"why,0,477553000,domain,18,1,".as_slice(), None),
-    ];
-    if let Some(situation) = situation_with(alloc, ONE_LEG, "[0]")? {
-        for (text, expected) in rows {
-            is(&rt, judged(alloc, &situation, text)?, expected);
-        }
-    }
-    Ok(())
+    let Some(situation) = situation_with(alloc, ONE_LEG, "[0]")? else {
+        return Err("a situation".into());
+    };
+    Ok(are_judged(&rt, alloc, &situation, &ABOUT_ONE_PLAN)?)
 }
+
+/// The same of rows about two plans.
+static ABOUT_TWO_PLANS: [(&[u8], Option<Checked>); 3] = [
+    (
+        b"why,1,477553000,domain,18,1,1\nwhy,0,477553000,domain,18,1,1\n",
+        BAD,
+    ),
+    (
+        b"why,0,477553000,domain,18,1,1\nwhy,0,477553000,domain,18,1,1\n",
+        Some(Checked::Bad(1)),
+    ),
+    (b"why,0,477553000,r14a,0,,\n", Some(Checked::Bad(1))),
+];
 
 #[test]
 fn rows_about_two_plans(rt: HostRuntime) -> Result<(), Fail> {
     let alloc = rt.alloc();
-    let rows = [
-        (
-            b"why,1,477553000,domain,18,1,1\nwhy,0,477553000,domain,18,1,1\n".as_slice(),
-            Checked::Bad(0),
-        ),
-        (
-            b"why,0,477553000,domain,18,1,1\nwhy,0,477553000,domain,18,1,1\n".as_slice(),
-            Checked::Bad(1),
-        ),
-        (b"why,0,477553000,r14a,0,,\n".as_slice(), Checked::Bad(1)),
-    ];
-    if let Some(situation) = situation_with(alloc, ONE_LEG, "[0, 10]")? {
-        for (text, expected) in rows {
-            is(&rt, judged(alloc, &situation, text)?, Some(expected));
-        }
-    }
-    Ok(())
+    let Some(situation) = situation_with(alloc, ONE_LEG, "[0, 10]")? else {
+        return Err("a situation".into());
+    };
+    Ok(are_judged(&rt, alloc, &situation, &ABOUT_TWO_PLANS)?)
 }

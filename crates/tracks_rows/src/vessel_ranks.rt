@@ -4,10 +4,9 @@ ghost use Rattle.std.specs.Prelude.{◌≡◌, ◌≤◌};
 use crate::compared::is;
 use ais_messages::PositionReport;
 use fixed_geometry::Point;
+use outside::Memory;
 use ranks::{Rank, Ranks, gives};
 use std::alloc::Global;
-use std::process::Abort;
-use std::test::Fail;
 use tracks::Accepted;
 
 const OWN: u32 = 369190000;
@@ -42,7 +41,7 @@ fn rank(ranks: &Ranks, mmsi: u32, status: u8, time: u64) -> Rank
 }
 
 #[test]
-fn each_status(rt: HostRuntime) -> Result<(), Fail> {
+fn each_status(rt: HostRuntime) -> Result<(), Memory> {
     let mut ranks = Ranks::new(rt.alloc());
     ranks.note(OWN, 1000, 36)?;
     for status in 0..16 {
@@ -59,14 +58,14 @@ fn each_status(rt: HostRuntime) -> Result<(), Fail> {
 }
 
 /// The rank at status 15 of a vessel whose type was noted.
-fn rank_of_type(alloc: Global, kind: u8) -> Result<Rank, Fail> {
+fn rank_of_type(alloc: Global, kind: u8) -> Result<Rank, Memory> {
     let mut ranks = Ranks::new(alloc);
     ranks.note(OWN, 1000, kind)?;
     Ok(rank(&ranks, OWN, 15, 1000))
 }
 
 #[test]
-fn each_ship_type(rt: HostRuntime) -> Result<(), Fail> {
+fn each_ship_type(rt: HostRuntime) -> Result<(), Memory> {
     for kind in 0..=255 {
         let wanted = match kind {
             30 => Rank::Fishing,
@@ -79,7 +78,7 @@ fn each_ship_type(rt: HostRuntime) -> Result<(), Fail> {
 }
 
 #[test]
-fn a_type_that_comes_late_and_one_that_comes_back(rt: HostRuntime) -> Result<(), Fail> {
+fn a_type_that_comes_late_and_one_that_comes_back(rt: HostRuntime) -> Result<(), Memory> {
     let mut ranks = Ranks::new(rt.alloc());
     is(&rt, rank(&ranks, OWN, 15, 1000), Rank::Power);
     ranks.note(OWN, 2000, 30)?;
@@ -100,7 +99,7 @@ fn a_type_that_comes_late_and_one_that_comes_back(rt: HostRuntime) -> Result<(),
 }
 
 #[test]
-fn an_earlier_time_on_a_later_line(rt: HostRuntime) -> Result<(), Fail> {
+fn an_earlier_time_on_a_later_line(rt: HostRuntime) -> Result<(), Memory> {
     let mut ranks = Ranks::new(rt.alloc());
     ranks.note(OWN, 2000, 30)?;
     ranks.note(OWN, 3000, 70)?;
@@ -120,7 +119,7 @@ fn an_earlier_time_on_a_later_line(rt: HostRuntime) -> Result<(), Fail> {
 }
 
 #[test]
-fn lines_that_tell_nothing_new(rt: HostRuntime) -> Result<(), Fail> {
+fn lines_that_tell_nothing_new(rt: HostRuntime) -> Result<(), Memory> {
     let mut ranks = Ranks::new(rt.alloc());
     for time in 1000..1100 {
         ranks.note(OWN, time, 36)?;
@@ -134,7 +133,7 @@ fn lines_that_tell_nothing_new(rt: HostRuntime) -> Result<(), Fail> {
 }
 
 #[test]
-fn the_last_report_that_has_come(rt: HostRuntime) -> Result<(), Fail> {
+fn the_last_report_that_has_come(rt: HostRuntime) -> Result<(), Memory> {
     let ranks = Ranks::new(rt.alloc());
     let points = [accepted(1000, 7), accepted(1060, 0), accepted(1120, 3)];
     for (time, wanted) in [
