@@ -1,14 +1,13 @@
--- A hexadecimal digit is told by one bit, and its value by a sum.
-use Rattle.std.proofs.Common.{◌≡◌, ◌<◌, ℕ, ◌+◌, ◌*◌, ◌/◌, ◌%◌, ◌^◌, Bool, true, nat_eq, nat_lt, ◌&&◌, ◌||◌, not, refl}
+-- The table of hexadecimal digits: the checker computes all of its entries.
+use Rattle.std.proofs.Common.{◌≡◌, ◌<◌, ℕ, nat_eq, refl, if◌then◌else◌, true}
 use Rattle.std.specs.Char.{digit_value, is_digit}
-use Rattle.std.proofs.lemmas.Bool.{agree_below_at}
+use Rattle.std.specs.Prelude.{slice_index}
+use Rattle.std.proofs.lemmas.Bool.{agree_below_at, eqb-true}
+use Rattle.aivdm.specs.declared.checksum.TheConstants.{VALUES}
 
-abbrev is_marked : ℕ → Bool
-is_marked byte = nat_lt ((byte + 208) % 256) 55 && not (nat_eq (35465847073801215 / 2 ^ ((byte + 208) % 256) % 2) 0)
+abbrev pub value_of : ℕ → ℕ
+value_of byte = if is_digit byte 16 then digit_value byte else 16
 
-pub marks : (byte : ℕ) → byte < 256 → is_marked byte ≡ is_digit byte 16
-marks byte small = agree_below_at is_marked (λ b. is_digit b 16) 256 byte refl small
-
-pub values : (byte : ℕ) → byte < 256 → (not (is_digit byte 16) || (nat_eq (digit_value byte) (byte % 16 + 9 * (byte / 64)) && nat_lt (digit_value byte) 16)) ≡ true
+pub values : (byte : ℕ) → byte < 256 → slice_index VALUES byte ≡ value_of byte
 values byte small =
-    agree_below_at (λ b. not (is_digit b 16) || (nat_eq (digit_value b) (b % 16 + 9 * (b / 64)) && nat_lt (digit_value b) 16)) (λ b. true) 256 byte refl small
+    eqb-true (slice_index VALUES byte) (value_of byte) (agree_below_at (λ b. nat_eq (slice_index VALUES b) (value_of b)) (λ b. true) 256 byte refl small)

@@ -1,5 +1,5 @@
 //! The sum that a sentence and a tag block tell of themselves.
-ghost use Rattle.std.specs.Prelude.{◌≡◌, ◌<◌, ◌≤◌, ◌*◌, ◌/◌, bit_xor, drop, fold, length, replicate, None, Some, IfSome, if◌then◌else◌};
+ghost use Rattle.std.specs.Prelude.{◌≡◌, ◌<◌, ◌≤◌, ◌*◌, ◌/◌, bit_xor, drop, fold, length, replicate, if◌then◌else◌};
 ghost use Rattle.std.specs.Char.{digit_value, is_digit};
 ghost use Rattle.std.specs.Simd.{first_chunks};
 ghost use Rattle.std.specs.Simd.Lanes.{zip2};
@@ -53,24 +53,33 @@ fn behind_blocks(bytes: &[u8]) -> u8x16
 pub(crate) fn hexadecimal(high: u8, low: u8) -> Option<u8>
     ensures { result ≡ hexadecimal high low }
 {
-    let high = digit(high)?;
-    let low = digit(low)?;
+    let high = digit(high);
+    let low = digit(low);
+    if high >= 16 || low >= 16 {
+        return None;
+    }
     Some(16 * high + low)
 }
 
-/// Which of the 55 bytes from `0` on are hexadecimal digits of either case, a bit to each, the lowest first.
-const DIGITS: u64 = 0x007E_0000_007E_03FF;
-
-/// The value of a hexadecimal digit of either case, by a bit and a sum: a branch on whether it is a letter is guessed wrong on near to half of
-/// all lines.
+/// The value of a hexadecimal digit of either case, by the table: a branch on whether it is a letter is guessed wrong on near to half of all lines.
 #[inline(always)]
-fn digit(byte: u8) -> Option<u8>
-    ensures value { result ≡ (if is_digit byte 16 then Some (digit_value byte) else None) }
-    ensures bound { IfSome result (λ value. value < 16) }
+fn digit(byte: u8) -> u8
+    ensures { result ≡ (if is_digit byte 16 then digit_value byte else 16) }
 {
-    let place = byte.wrapping_sub(b'0');
-    if place >= 55 || (DIGITS >> place) % 2 == 0 {
-        return None;
-    }
-    Some(byte % 16 + 9 * (byte / 64))
+    VALUES[usize::from(byte)]
 }
+
+/// The value of each byte as a hexadecimal digit of either case, and 16 where it is none.
+static VALUES: [u8; 256] = [
+    16, 16, 16, 16, 16, 16, 16, 16, 16, 16, 16, 16, 16, 16, 16, 16, 16, 16, 16, 16, 16, 16, 16, 16,
+    16, 16, 16, 16, 16, 16, 16, 16, 16, 16, 16, 16, 16, 16, 16, 16, 16, 16, 16, 16, 16, 16, 16, 16,
+    0, 1, 2, 3, 4, 5, 6, 7, 8, 9, 16, 16, 16, 16, 16, 16, 16, 10, 11, 12, 13, 14, 15, 16, 16, 16,
+    16, 16, 16, 16, 16, 16, 16, 16, 16, 16, 16, 16, 16, 16, 16, 16, 16, 16, 16, 16, 16, 16, 16, 10,
+    11, 12, 13, 14, 15, 16, 16, 16, 16, 16, 16, 16, 16, 16, 16, 16, 16, 16, 16, 16, 16, 16, 16, 16,
+    16, 16, 16, 16, 16, 16, 16, 16, 16, 16, 16, 16, 16, 16, 16, 16, 16, 16, 16, 16, 16, 16, 16, 16,
+    16, 16, 16, 16, 16, 16, 16, 16, 16, 16, 16, 16, 16, 16, 16, 16, 16, 16, 16, 16, 16, 16, 16, 16,
+    16, 16, 16, 16, 16, 16, 16, 16, 16, 16, 16, 16, 16, 16, 16, 16, 16, 16, 16, 16, 16, 16, 16, 16,
+    16, 16, 16, 16, 16, 16, 16, 16, 16, 16, 16, 16, 16, 16, 16, 16, 16, 16, 16, 16, 16, 16, 16, 16,
+    16, 16, 16, 16, 16, 16, 16, 16, 16, 16, 16, 16, 16, 16, 16, 16, 16, 16, 16, 16, 16, 16, 16, 16,
+    16, 16, 16, 16, 16, 16, 16, 16, 16, 16, 16, 16, 16, 16,
+];

@@ -1,40 +1,37 @@
 //! Cuts at a byte that is likely near.
 ghost use Rattle.std.specs.Prelude.{◌≡◌, ◌==◌, ◌+◌, ◌<◌, ◌≤◌, drop, length, position, take};
-ghost use Rattle.std.specs.List.{position_or_len};
 ghost use Rattle.aivdm.specs.Inner.LineCuts.{before_byte, after_byte};
 
 use std::simd::prelude::*;
 
-/// How many of 16 bytes come before the first that is this one.
+/// Where the byte first stands among 16 bytes.
 #[inline(always)]
-fn before_in_lanes(byte: u8, bytes: &[u8], at: usize) -> usize
+fn first_of_sixteen(byte: u8, bytes: &[u8], at: usize) -> Option<usize>
     requires { at + 16 ≤ length bytes.now }
-    ensures { result ≡ position_or_len (λ other. other == byte) (take 16 (drop at bytes.now)) }
+    ensures { result ≡ position (λ other. other == byte) (take 16 (drop at bytes.now)) }
 {
     let mask = u8x16::from_slice(&bytes[at..])
         .simd_eq(u8x16::splat(byte))
         .to_bitmask();
     if mask == 0 {
-        16
-    } else {
-        mask.trailing_zeros() as usize
+        return None;
     }
+    Some(mask.trailing_zeros() as usize)
 }
 
-/// How many of 8 bytes come before the first that is this one.
+/// Where the byte first stands among 8 bytes.
 #[inline(always)]
-fn before_in_eight(byte: u8, bytes: &[u8], at: usize) -> usize
+fn first_of_eight(byte: u8, bytes: &[u8], at: usize) -> Option<usize>
     requires { at + 8 ≤ length bytes.now }
-    ensures { result ≡ position_or_len (λ other. other == byte) (take 8 (drop at bytes.now)) }
+    ensures { result ≡ position (λ other. other == byte) (take 8 (drop at bytes.now)) }
 {
     let mask = u8x8::from_slice(&bytes[at..])
         .simd_eq(u8x8::splat(byte))
         .to_bitmask();
     if mask == 0 {
-        8
-    } else {
-        mask.trailing_zeros() as usize
+        return None;
     }
+    Some(mask.trailing_zeros() as usize)
 }
 
 /// Where the byte first stands. 16 bytes are compared at a time: over single bytes, the searches of a line took most of its time. The last
@@ -46,20 +43,17 @@ pub(crate) fn first_of(byte: u8, bytes: &[u8]) -> Option<usize>
     if bytes.len() < 16 {
         return first_of_few(byte, bytes);
     }
-    let mut at = 0;
-    'vectors: while bytes.len() - at > 16 {
-        let before = before_in_lanes(byte, bytes, at);
-        if before < 16 {
-            return Some(at + before);
-        }
-        at += 16;
-    }
     let last = bytes.len() - 16;
-    let before_last = before_in_lanes(byte, bytes, last);
-    if before_last < 16 {
-        Some(last + before_last)
-    } else {
-        None
+    let mut at = 0;
+    'vectors: while at < last {
+        match first_of_sixteen(byte, bytes, at) {
+            Some(before) => return Some(at + before),
+            None => at += 16,
+        }
+    }
+    match first_of_sixteen(byte, bytes, last) {
+        Some(before) => Some(last + before),
+        None => None,
     }
 }
 
@@ -72,16 +66,14 @@ fn first_of_few(byte: u8, bytes: &[u8]) -> Option<usize>
     if bytes.len() < 8 {
         return bytes.iter().position(|other| *other == byte);
     }
-    let before = before_in_eight(byte, bytes, 0);
-    if before < 8 {
-        return Some(before);
-    }
     let last = bytes.len() - 8;
-    let before_last = before_in_eight(byte, bytes, last);
-    if before_last < 8 {
-        Some(last + before_last)
-    } else {
-        None
+    match (
+        first_of_eight(byte, bytes, 0),
+        first_of_eight(byte, bytes, last),
+    ) {
+        (Some(before), _) => Some(before),
+        (None, Some(before)) => Some(last + before),
+        (None, None) => None,
     }
 }
 

@@ -1,5 +1,6 @@
 //! The tag block before a sentence, and the time in it.
-ghost use Rattle.std.specs.Prelude.{◌≡◌, ◌==◌, ◌≤◌, ◌∷◌, [], Err, Ok, None, Some, length, not, if◌then◌else◌};
+ghost use Rattle.std.specs.Prelude.{◌≡◌, ◌==◌, ◌+◌, ◌≤◌, ◌∷◌, [], Err, Ok, None, Some, drop, length, not, take, true, if◌then◌else◌};
+ghost use Rattle.std.specs.Char.{is_ascii_digit};
 ghost use Rattle.std.specs.List.{list_all, slice_split};
 ghost use Rattle.std.specs.Str.{all_ascii_digits};
 ghost use Rattle.std.specs.Str.Parse.{digits_value};
@@ -10,6 +11,7 @@ ghost use Rattle.aivdm.specs.Inner.Seen.{end_seen, parts_left, tagged_seen};
 use crate::checksum::{hexadecimal, sum_of};
 use crate::search::{cut, first_of};
 use crate::sentence::LineCause;
+use std::simd::prelude::*;
 
 /// A line without its tag block.
 #[derive(Clone, Copy)]
@@ -128,17 +130,60 @@ fn seconds_of(time: u64) -> u64
     }
 }
 
+/// How many digits a time in seconds has, from the year 2001 to the year 2286.
+const SECONDS_DIGITS: usize = 10;
+
 /// The number that decimal digits spell.
 fn decimal(digits: &[u8]) -> Option<u64>
     requires { length digits.now ≤ 15 }
     ensures { result ≡ (if all_ascii_digits digits.now then Some (digits_value 10 digits.now) else None) }
 {
+    if !are_digits(digits) {
+        return None;
+    }
+    // Where the count is known ahead, the compiler writes the digits out one after the other.
+    if digits.len() == SECONDS_DIGITS {
+        Some(spelled(&digits[..SECONDS_DIGITS]))
+    } else {
+        Some(spelled(digits))
+    }
+}
+
+/// Whether all of at most 16 bytes are decimal digits. Those that two vectors of 8 bytes both hold are compared twice.
+#[inline(always)]
+fn are_digits(bytes: &[u8]) -> bool
+    requires { length bytes.now ≤ 16 }
+    ensures { result ≡ list_all is_ascii_digit bytes.now }
+{
+    if bytes.len() < 8 {
+        return bytes.iter().all(|byte| byte.is_ascii_digit());
+    }
+    let front = are_digits_at(bytes, 0);
+    let back = are_digits_at(bytes, bytes.len() - 8);
+    front && back
+}
+
+/// Whether the 8 bytes from a place on are decimal digits.
+#[inline(always)]
+fn are_digits_at(bytes: &[u8], at: usize) -> bool
+    requires { at + 8 ≤ length bytes.now }
+    ensures { result ≡ list_all is_ascii_digit (take 8 (drop at bytes.now)) }
+{
+    let values = u8x8::from_slice(&bytes[at..]) - u8x8::splat(b'0');
+    values.simd_ge(u8x8::splat(10)).to_bitmask() == 0
+}
+
+/// The number that these digits spell.
+#[inline(always)]
+fn spelled(digits: &[u8]) -> u64
+    requires few { length digits.now ≤ 15 }
+    requires decimal { all_ascii_digits digits.now ≡ true }
+    ensures { result ≡ digits_value 10 digits.now }
+{
     let mut number = 0;
     for digit in digits {
-        if !digit.is_ascii_digit() {
-            return None;
-        }
-        number = 10 * number + u64::from(*digit - b'0');
+        let value = u64::from(*digit) - u64::from(b'0');
+        number = 10 * number + value;
     }
-    Some(number)
+    number
 }
