@@ -16,7 +16,8 @@ use Rattle.scenario_keys.specs.declared.cause.Cause.{Cause}
 use Rattle.scenario_keys.specs.declared.cause.Cause.TheVariants as cause
 use Rattle.scenario_keys.proofs.ForCallers.{all_head, all_tail, some_found}
 use Rattle.added_rules.specs.FormulaTables.{formula_cause, formula_name_in, is_name_taken, name_cause, string_in, string_of, IsBytesCause, IsFormulaFault, IsStringCause, IsTableFault, IsTextCause, IsTextFault}
-use Rattle.added_rules.specs.ScenarioRules.{total_weight, weight_cause, AreAdded, AreScenarioRules, IsWeightFault}
+use Rattle.added_rules.specs.ScenarioRules.{weight_cause, AreAdded, AreScenarioRules, IsWeightFault}
+use Rattle.scenario_values.specs.LightRules.{total_weight}
 
 -- ---- some fault or none
 

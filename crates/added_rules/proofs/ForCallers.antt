@@ -16,7 +16,8 @@ use Rattle.scenario_keys.specs.declared.cause.Cause.{Cause}
 use Rattle.scenario_keys.proofs.ForCallers.{one_found}
 use Rattle.scenario_keys.specs.KeyValues.{member_at}
 use Rattle.added_rules.specs.FormulaTables.{formula_cause, is_name_taken, name_cause, IsBytesCause, IsFormulaFault, IsStringCause, IsTableFault, IsTextCause, IsTextFault}
-use Rattle.added_rules.specs.ScenarioRules.{total_weight, weight_cause, AreAdded, AreScenarioRules, IsWeightFault}
+use Rattle.added_rules.specs.ScenarioRules.{weight_cause, AreAdded, AreScenarioRules, IsWeightFault}
+use Rattle.scenario_values.specs.LightRules.{total_weight}
 
 one_bytes_cause : (tick : ℕ) (text : List ℕ) (a b : Option Cause) → IsBytesCause tick text a → IsBytesCause tick text b → a ≡ b
 one_bytes_cause tick text a b (inl h) (inl k) =

@@ -1,12 +1,12 @@
--- The rules of a scenario: those of the COLREGs 1972, eleven or with ranks twelve, and behind them the formulas of its tables; and how
--- much they weigh.
-use Rattle.std.specs.Prelude.{◌≡◌, ◌≤◌, ℕ, nat_le, if◌then◌else◌, List, [], ◌∷◌, ◌++◌, sum_by, Option, Some, None}
+-- The rules of a scenario: those of the COLREGs 1972, eleven or with ranks twelve, and behind them the formulas of its tables; and what
+-- the test of their weight finds.
+use Rattle.std.specs.Prelude.{◌≡◌, ℕ, nat_le, if◌then◌else◌, List, [], ◌∷◌, ◌++◌, Option, Some, None}
 use Rattle.toml.specs.Data.{Data}
-use Rattle.mtl_formulas.specs.FormulaMeasures.{weight_of}
 use Rattle.mtl_formulas.specs.FormulaReading.{tree, IsMeaning}
-use Rattle.rule_set.specs.NamedTrees.{NamedTree, rules_by, AreRules}
+use Rattle.rule_set.specs.NamedTrees.{NamedTree, rules_by}
 use Rattle.rule_set.specs.declared.numbers.RuleNumbers.{RuleNumbers}
 use Rattle.rule_set.specs.declared.ranking.Ranking.{Ranking}
+use Rattle.scenario_values.specs.LightRules.{greatest_weight, total_weight}
 use Rattle.scenario_keys.specs.ToldFaults.{fault_by}
 use Rattle.scenario_keys.specs.declared.key.Key.{Key}
 use Rattle.scenario_keys.specs.declared.cause.Cause.{Cause}
@@ -29,13 +29,6 @@ pub record AreScenarioRules (ranks : Ranking) (tick : ℕ) (numbers : RuleNumber
   pub order : rules ≡ rules_by ranks tick numbers ++ added
   pub are_added : AreAdded tick tables added
 
--- how much rules weigh together, of which a monitor's memory is made
-abbrev pub total_weight : List NamedTree → ℕ
-total_weight rules = sum_by (λ (rule : NamedTree). weight_of rule.tree) rules
-
-abbrev pub greatest_weight : ℕ
-greatest_weight = 65536
-
 -- what the test of their weight finds
 
 abbrev pub weight_cause : ℕ → Option Cause
@@ -44,8 +37,3 @@ weight_cause weight = if nat_le weight greatest_weight then None else Some cause
 abbrev pub IsWeightFault : Ranking → ℕ → RuleNumbers → List Data → Option (Key × Cause) → Type 0
 IsWeightFault ranks tick numbers tables told =
     (rules : List NamedTree) × AreScenarioRules ranks tick numbers tables rules × (told ≡ fault_by 34 (weight_cause (total_weight rules)))
-
--- The rules are right: not too many, with different names, each a valid formula, and light enough together.
-pub record AreLightRules (rules : List NamedTree) : Type 0 where
-  pub right : AreRules rules
-  pub light : total_weight rules ≤ greatest_weight

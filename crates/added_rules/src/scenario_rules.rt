@@ -6,7 +6,8 @@ ghost use Rattle.rule_set.specs.NamedTrees.{has_rule, rules_by, AreRules};
 ghost use Rattle.rule_set.specs.RuleTrees.{AreRuleNumbers};
 ghost use Rattle.scenario_keys.specs.ToldFaults.{IfFault};
 ghost use Rattle.added_rules.specs.FormulaTables.{IsFaultBy, IsFormulaFault};
-ghost use Rattle.added_rules.specs.ScenarioRules.{greatest_weight, total_weight, AreLightRules, AreScenarioRules, IsWeightFault};
+ghost use Rattle.added_rules.specs.ScenarioRules.{AreScenarioRules, IsWeightFault};
+ghost use Rattle.scenario_values.specs.LightRules.{greatest_weight, total_weight, AreLightRules};
 ghost use Rattle.added_rules.specs.Inner.{Adds};
 
 use crate::formula_names::name_in;

@@ -25,7 +25,7 @@ use outside::Memory;
 use ranks::Rank;
 use rule_program::program_of;
 use rule_set::RuleSet;
-use scenario::Window;
+use scenario_values::Window;
 use std::alloc::Global;
 use traces::{AllTraces, TickFault};
 

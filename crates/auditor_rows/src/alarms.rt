@@ -10,7 +10,7 @@ use early_monitor::{Alarm, Watch};
 use meetings::Pair;
 use mtl_formulas::parse;
 use rule_set::{Name, RuleSet};
-use scenario::Window;
+use scenario_values::Window;
 use std::alloc::{AllocError, Global};
 use std::test::Fail;
 

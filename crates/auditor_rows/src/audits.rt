@@ -12,7 +12,7 @@ use fixed_geometry::Point;
 use meetings::Pair;
 use motion::TickState;
 use rule_set::{RuleNumbers, RuleSet, Safe};
-use scenario::Window;
+use scenario_values::Window;
 use sectors::{Angles, Class};
 use std::alloc::Global;
 use std::test::Fail;

@@ -12,7 +12,7 @@ use fixed_geometry::Point;
 use motion::TickState;
 use ranks::Rank;
 use rule_set::RuleSet;
-use scenario::Window;
+use scenario_values::Window;
 use std::alloc::Global;
 use std::test::Fail;
 

@@ -6,7 +6,7 @@ use Rattle.command_line.specs.declared.mode.Mode.{Mode}
 use Rattle.command_line.specs.declared.mode.Mode.TheVariants as mode
 use Rattle.command_line.specs.declared.request.Request.{Request}
 use Rattle.drill_log.specs.DrillLog.{drill_log_of}
-use Rattle.scenario.specs.declared.values.Scenario.{Scenario}
+use Rattle.scenario_values.specs.declared.values.Scenario.{Scenario}
 use Rattle.sessions.specs.Endings.{IsAnswerTo}
 use Rattle.sessions.specs.Modes.{reads_log, reports}
 use Rattle.sessions.specs.Refusals.{IsStopped, IsUnrefused}

@@ -1,7 +1,7 @@
 -- The answer that words, shelf and log call for, step by step.
 use Rattle.std.proofs.Common.{ℕ, ◌≡◌, ◌≤◌, ◌<◌, inl, inr, Bool, true, false, IsTrue, List, length, Option, Some, Result, Ok, Err, refl, ap, sym, subst}
 use Rattle.outside.specs.Shelves.{Files, IsMissing}
-use Rattle.scenario.specs.declared.values.Scenario.{Scenario}
+use Rattle.scenario_values.specs.declared.values.Scenario.{Scenario}
 use Rattle.colregs_program.specs.Answers.{AreRows, AreRowsWhere, CanMigrate, HasLongRows, HasScenario, IsDue, IsRefusedBy, LiesUnder, MeetsAnswer, MissesFile, Requested, greatest_scenario}
 use Rattle.sessions.specs.Modes.{needs_rows, reports}
 use Rattle.colregs_program.specs.Inner.Migrating.{IsMigrationDue}

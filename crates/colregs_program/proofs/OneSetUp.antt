@@ -4,7 +4,7 @@ use Rattle.outside.specs.Shelves.{Files, content_of}
 use Rattle.command_line.specs.Requests.{AskFor}
 use Rattle.command_line.specs.declared.request.Request.{Request}
 use Rattle.scenario.specs.ScenarioReading.{IsRefused}
-use Rattle.scenario.specs.declared.values.Scenario.{Scenario}
+use Rattle.scenario_values.specs.declared.values.Scenario.{Scenario}
 use Rattle.scenario.proofs.ForCallers.{meant_or_refused, one_meaning, one_refusal}
 use Rattle.scenario_keys.specs.declared.key.Key.{Key}
 use Rattle.scenario_keys.specs.declared.cause.Cause.{Cause}

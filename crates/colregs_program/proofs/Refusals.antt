@@ -6,7 +6,7 @@ use Rattle.outside.specs.Causes.{Rose, one_more}
 use Rattle.outside.specs.Shelves.{Files}
 use Rattle.outside.specs.WholeReading.{StopsAt}
 use Rattle.outside.specs.declared.whole.ReadFault.TheVariants as read
-use Rattle.scenario.specs.declared.values.Scenario.{Scenario}
+use Rattle.scenario_values.specs.declared.values.Scenario.{Scenario}
 use Rattle.sessions.specs.Endings.{Came}
 use Rattle.sessions.specs.Modes.{needs_rows, reads_log, reports}
 use Rattle.sessions.specs.Refusals.{IsMet}

@@ -5,10 +5,11 @@ use Rattle.outside.specs.Shelves.{Files, Fetches, IsMissing, content_of}
 use Rattle.outside.specs.declared.shelf.Fetched.TheVariants as fetched
 use Rattle.std.specs.Prelude.{IfSome, IsErrAnd, IsSome, unwrap_or}
 use Rattle.scenario.specs.ScenarioReading.{IsRefused, Means}
-use Rattle.scenario.specs.ScenarioValues.{IsInRange, scenario_with}
+use Rattle.scenario.specs.ScenarioValues.{scenario_with}
+use Rattle.scenario_values.specs.ValueRanges.{IsInRange}
 use Rattle.scenario_keys.specs.declared.key.Key.{Key}
 use Rattle.scenario_keys.specs.declared.cause.Cause.{Cause}
-use Rattle.scenario.specs.declared.values.Scenario.{Scenario}
+use Rattle.scenario_values.specs.declared.values.Scenario.{Scenario}
 use Rattle.scenario_keys.specs.declared.fault.ScenarioFault.{ScenarioFault}
 use Rattle.scenario_keys.specs.declared.fault.ScenarioFault.TheVariants as refusal
 use Rattle.colregs_program.specs.Answers.{greatest_scenario, IsRefusedBy, LiesUnder}

@@ -11,7 +11,7 @@ use Rattle.scenario.specs.Migration.{IsMigrated, IsNotMigrated}
 use Rattle.scenario.specs.ScenarioReading.{IsRefused, Means}
 use Rattle.scenario_keys.specs.declared.key.Key.{Key}
 use Rattle.scenario_keys.specs.declared.cause.Cause.{Cause}
-use Rattle.scenario.specs.declared.values.Scenario.{Scenario}
+use Rattle.scenario_values.specs.declared.values.Scenario.{Scenario}
 use Rattle.colregs_program.specs.LogAnswers.{GainsPart, IsAnswered, IsStoppedBy, GainsSettled, LeavesPart}
 use Rattle.colregs_program.specs.Stages.{is_at_end, is_before_log, is_in_log, stage_of}
 use Rattle.colregs_program.specs.AskedScenarios.{log_of, task_of, with_options}

@@ -5,7 +5,7 @@ use Rattle.outside.specs.Streams.{AppendsPart}
 use Rattle.command_line.specs.declared.mode.Mode.{Mode}
 use Rattle.log_lines.specs.JudgedLines.{greatest_held}
 use Rattle.situations.specs.PlanSituations.{greatest_targets}
-use Rattle.scenario.specs.declared.values.Scenario.{Scenario}
+use Rattle.scenario_values.specs.declared.values.Scenario.{Scenario}
 use Rattle.sessions.specs.Endings.{Came, IsEnding}
 use Rattle.sessions.specs.Refusals.{IsMet, IsStopped, IsUnrefused}
 use Rattle.sessions.specs.SettledText.{IsSettledText}

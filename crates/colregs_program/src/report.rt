@@ -2,7 +2,7 @@
 ghost use Rattle.std.specs.Prelude.{◌≡◌, ◌≤◌, length, false, IfErr, IfOk, IfSome, IsSome, IsTrue, MatchResult, None, OnOk};
 ghost use Rattle.std.specs.Io.KnownBytes.{Keeps};
 ghost use Rattle.rechecks.specs.declared.checked_text.TheConstants.{GREATEST_TEXT};
-ghost use Rattle.scenario.specs.ScenarioValues.{IsInRange};
+ghost use Rattle.scenario_values.specs.ValueRanges.{IsInRange};
 ghost use Rattle.sessions.specs.Modes.{needs_own, reads_log, reports};
 ghost use Rattle.colregs_program.specs.Answers.{IsReadBy};
 ghost use Rattle.colregs_program.specs.AskedScenarios.{log_of, task_of};

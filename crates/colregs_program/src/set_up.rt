@@ -1,8 +1,8 @@
 //! The scenario of a run and the rows that it needs, from the shelf.
 ghost use Rattle.std.specs.Prelude.{◌≡◌, ◌≢◌, ◌⊎◌, ◌≤◌, ℕ, List, length, false, IfOk, IfErr, IsSome, IsTrue, Result, Err, None, if◌then◌else◌};
 ghost use Rattle.outside.specs.Causes.{one_more};
-ghost use Rattle.scenario.specs.ScenarioValues.{IsInRange};
-ghost use Rattle.scenario.specs.declared.values.Scenario.{Scenario};
+ghost use Rattle.scenario_values.specs.ValueRanges.{IsInRange};
+ghost use Rattle.scenario_values.specs.declared.values.Scenario.{Scenario};
 ghost use Rattle.colregs_program.specs.Answers.{AreRows, HoldsUnder, IsScenario};
 ghost use Rattle.colregs_program.specs.AskedScenarios.{with_options};
 ghost use Rattle.sessions.specs.Modes.{needs_own, needs_rows, reports};

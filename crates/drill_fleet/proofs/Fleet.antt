@@ -14,7 +14,7 @@ use Rattle.log_lines.specs.LogLines.{lines_of}
 use Rattle.log_lines.specs.SentLines.{heard, heard_of, heard_unless, sent, sent_heard, sent_of, untimely}
 use Rattle.log_lines.specs.LineTimes.{clock_of, time_of}
 use Rattle.log_lines.specs.declared.outcome.LineOutcome.{LineOutcome}
-use Rattle.scenario.specs.declared.values.Scenario.{Scenario}
+use Rattle.scenario_values.specs.declared.values.Scenario.{Scenario}
 use Rattle.tracks.specs.AcceptedReports.{JudgingNumbers}
 use Rattle.tracks.specs.VesselsHeld.{Sent, held_of, is_held, legs_of, sender_of, senders_of, with_number}
 use Rattle.tracks.proofs.ForCallers.{held_in_order}

@@ -20,9 +20,9 @@ use Rattle.drill_log.specs.DrillLog.{TimedReport, drill_log_of, drill_reports, r
 use Rattle.drill_log.proofs.ReadAgain.{no_line_end, read_again}
 use Rattle.drill_log.proofs.Reports.{all_reports}
 use Rattle.log_lines.specs.LogLines.{is_line_feed, lines_among, lines_of, without_carriage_return}
-use Rattle.scenario.specs.ScenarioValues.{IsWindow}
-use Rattle.scenario.specs.declared.values.Scenario.{Scenario}
-use Rattle.scenario.specs.declared.values.Window.{Window}
+use Rattle.scenario_values.specs.ValueRanges.{IsWindow}
+use Rattle.scenario_values.specs.declared.values.Scenario.{Scenario}
+use Rattle.scenario_values.specs.declared.values.Window.{Window}
 
 -- the forty vessels
 abbrev pub InFleet : ℕ → Type 0

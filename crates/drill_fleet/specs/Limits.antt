@@ -4,7 +4,7 @@ use Rattle.log_lines.specs.GrowingLog.{ended_lines}
 use Rattle.log_lines.specs.JudgedLines.{is_crowded}
 use Rattle.log_lines.specs.LogLines.{lines_of}
 use Rattle.log_lines.specs.SentLines.{sent}
-use Rattle.scenario.specs.declared.values.Scenario.{Scenario}
+use Rattle.scenario_values.specs.declared.values.Scenario.{Scenario}
 use Rattle.settled_ticks.specs.Sightings.{sighted}
 use Rattle.settling.specs.ManySettled.{HaveManySettled}
 use Rattle.settling.specs.ScenarioAudit.{audit_numbers}

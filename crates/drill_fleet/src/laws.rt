@@ -1,7 +1,7 @@
 //! What may be relied on of the log of a drill. The law stands over the definitions alone.
 ghost use Rattle.std.specs.Prelude.{ℕ};
-ghost use Rattle.scenario.specs.ScenarioValues.{IsWindow};
-ghost use Rattle.scenario.specs.declared.values.Scenario.{Scenario};
+ghost use Rattle.scenario_values.specs.ValueRanges.{IsWindow};
+ghost use Rattle.scenario_values.specs.declared.values.Scenario.{Scenario};
 ghost use Rattle.drill_log.specs.DrillLog.{drill_log_of};
 ghost use Rattle.drill_fleet.specs.Limits.{MeetsNoLimit};
 

@@ -6,7 +6,7 @@ use Rattle.std.specs.List.{range_with_len, flat_map}
 use Rattle.aivdm.specs.SentenceWriting.{line_of}
 use Rattle.ais_messages.specs.PositionWriting.{encoded_of}
 use Rattle.ais_messages.specs.declared.message.PositionReport.{PositionReport}
-use Rattle.scenario.specs.declared.values.Scenario.{Scenario}
+use Rattle.scenario_values.specs.declared.values.Scenario.{Scenario}
 use Rattle.drill_log.specs.DrillLog.{TimedReport, report_line, vessel_report, reports_at}
 use Rattle.drill_log.specs.Inner.VesselFigures.{report_by, vessel_of}
 use Rattle.drill_log.specs.declared.vessel.Vessel.{Vessel}

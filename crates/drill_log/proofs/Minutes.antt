@@ -6,7 +6,7 @@ use Rattle.drill_log.specs.DrillLog.{drill_log_of, minutes_in, report_line, repo
 use Rattle.drill_log.specs.Inner.MinuteLines.{lines_at}
 use Rattle.drill_log.specs.Inner.VesselFigures.{vessel_of}
 use Rattle.drill_log.specs.declared.vessel.Vessel.{Vessel}
-use Rattle.scenario.specs.declared.values.Scenario.{Scenario}
+use Rattle.scenario_values.specs.declared.values.Scenario.{Scenario}
 use Rattle.drill_log.proofs.Lists.{range_split}
 use Rattle.drill_log.proofs.Logs.{minute_lines}
 

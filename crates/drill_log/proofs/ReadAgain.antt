@@ -10,8 +10,8 @@ use Rattle.ais_messages.specs.declared.message.Message.TheVariants.{Position}
 use Rattle.ais_messages.specs.declared.message.PositionReport.{PositionReport}
 use Rattle.ais_messages.proofs.ReadAgain.{read_again_a}
 use Rattle.ais_messages.proofs.Writing.{length-written, widths_of}
-use Rattle.scenario.specs.ScenarioValues.{IsWindow}
-use Rattle.scenario.specs.declared.values.Window.{Window}
+use Rattle.scenario_values.specs.ValueRanges.{IsWindow}
+use Rattle.scenario_values.specs.declared.values.Window.{Window}
 use Rattle.drill_log.specs.DrillFacts.{IsDrillReport}
 use Rattle.drill_log.specs.DrillLog.{TimedReport}
 use Rattle.drill_log.proofs.Lines.{line_visible}

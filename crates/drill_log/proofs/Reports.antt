@@ -12,8 +12,8 @@ use Rattle.fixed_geometry.specs.Bearing.{bearing_of, greatest_below, has_turned,
 use Rattle.fixed_geometry.specs.Place.{Place}
 use Rattle.fixed_geometry.specs.Plane.{norm2_of}
 use Rattle.fixed_geometry.specs.declared.point.Point.{Point}
-use Rattle.scenario.specs.declared.values.Scenario.{Scenario}
-use Rattle.scenario.specs.declared.values.Window.{Window}
+use Rattle.scenario_values.specs.declared.values.Scenario.{Scenario}
+use Rattle.scenario_values.specs.declared.values.Window.{Window}
 use Rattle.drill_log.specs.DrillFacts.{IsDrillReport}
 use Rattle.drill_log.specs.DrillLog.{centred, drill_reports, minutes_in, coordinate_after, vessel_report, reports_at, root_of, speed_of, start_of, state_of, way_of, TimedReport}
 

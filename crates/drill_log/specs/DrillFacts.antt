@@ -1,7 +1,7 @@
 -- What may be relied on of each report of a drill.
 use Rattle.std.specs.Prelude.{◌≡◌, ◌+◌, ◌*◌, ◌≤◌}
 use Rattle.ais_messages.specs.MessageFields.{IsReport}
-use Rattle.scenario.specs.declared.values.Window.{Window}
+use Rattle.scenario_values.specs.declared.values.Window.{Window}
 use Rattle.drill_log.specs.DrillLog.{TimedReport}
 
 -- It is of one of the forty vessels and in the window.

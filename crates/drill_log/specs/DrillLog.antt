@@ -11,8 +11,8 @@ use Rattle.fixed_geometry.specs.Bearing.{bearing_of, greatest_below}
 use Rattle.fixed_geometry.specs.Place.{Place}
 use Rattle.fixed_geometry.specs.Plane.{norm2_of}
 use Rattle.fixed_geometry.specs.declared.point.Point.{Point}
-use Rattle.scenario.specs.declared.values.Scenario.{Scenario}
-use Rattle.scenario.specs.declared.values.Window.{Window}
+use Rattle.scenario_values.specs.declared.values.Scenario.{Scenario}
+use Rattle.scenario_values.specs.declared.values.Window.{Window}
 
 -- ---- what is drawn
 

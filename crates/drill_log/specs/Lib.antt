@@ -2,4 +2,4 @@ pub mod DrillFacts
 pub mod DrillLog
 pub mod MadeLog
 pub mod Inner
-pub use Rattle.scenario.specs.ScenarioValues
+pub use Rattle.scenario_values.specs.ValueRanges

@@ -5,9 +5,9 @@ ghost use Rattle.ais_messages.specs.MessageFields.{decoded_of};
 ghost use Rattle.ais_messages.specs.PositionWriting.{encoded_of};
 ghost use Rattle.ais_messages.specs.declared.message.Decoded.TheVariants as decoded;
 ghost use Rattle.ais_messages.specs.declared.message.Message.TheVariants.{Position};
-ghost use Rattle.scenario.specs.ScenarioValues.{IsWindow};
-ghost use Rattle.scenario.specs.declared.values.Scenario.{Scenario};
-ghost use Rattle.scenario.specs.declared.values.Window.{Window};
+ghost use Rattle.scenario_values.specs.ValueRanges.{IsWindow};
+ghost use Rattle.scenario_values.specs.declared.values.Scenario.{Scenario};
+ghost use Rattle.scenario_values.specs.declared.values.Window.{Window};
 ghost use Rattle.drill_log.specs.DrillFacts.{IsDrillReport};
 ghost use Rattle.drill_log.specs.DrillLog.{drill_reports, TimedReport};
 

@@ -2,7 +2,7 @@
 ghost use Rattle.std.specs.Prelude.{◌≡◌, ◌+◌, ◌-◌, ◌*◌, ◌<◌, ◌≤◌, ◌++◌, All, IfOk, OnOk, flat_map};
 ghost use Rattle.std.specs.List.{range_with_len};
 ghost use Rattle.ais_messages.specs.MessageFields.{IsReport};
-ghost use Rattle.scenario.specs.ScenarioValues.{IsWindow};
+ghost use Rattle.scenario_values.specs.ValueRanges.{IsWindow};
 ghost use Rattle.drill_log.specs.DrillLog.{drill_log_of, minutes_in, report_line};
 ghost use Rattle.drill_log.specs.Inner.MinuteLines.{lines_at};
 ghost use Rattle.drill_log.specs.Inner.VesselFigures.{report_by, IsVessel};
@@ -12,7 +12,7 @@ use ais_messages::{PositionReport, encode_position};
 use aivdm::write_sentence;
 use fixed_geometry::Reference;
 use outside::Memory;
-use scenario::{Scenario, Window};
+use scenario_values::{Scenario, Window};
 use std::alloc::Global;
 
 /// A line has at most so many bytes: 18 of the tag block, 47 of the sentence, and LF.

@@ -2,7 +2,7 @@
 ghost use Rattle.std.specs.Prelude.{◌≡◌, ◌+◌, ◌-◌, ◌*◌, ◌<◌, ◌≤◌, [], All, IfOk, Some, false, flat_map, length, true};
 ghost use Rattle.std.specs.List.{range_with_len};
 ghost use Rattle.outside.specs.Streams.{Gives, ReadCause};
-ghost use Rattle.scenario.specs.ScenarioValues.{IsWindow};
+ghost use Rattle.scenario_values.specs.ValueRanges.{IsWindow};
 ghost use Rattle.drill_log.specs.DrillLog.{drill_log_of};
 ghost use Rattle.drill_log.specs.Inner.VesselFigures.{IsVessel};
 ghost use Rattle.drill_log.specs.Inner.MinuteLines.{left_of, lines_at};
@@ -11,7 +11,7 @@ use crate::log::{lines_between, minutes_in};
 use crate::minute_log::MinuteLog;
 use crate::vessel::vessels;
 use outside::{Memory, PlainSource, Source, Taken};
-use scenario::Scenario;
+use scenario_values::Scenario;
 use std::alloc::Global;
 
 /// The lines of so many minutes are made at a time, which are about a block.

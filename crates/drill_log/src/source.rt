@@ -1,12 +1,12 @@
 //! The log of the drill as a source.
 ghost use Rattle.std.specs.Prelude.{◌≡◌, ◌<◌, ◌≤◌, IfOk, Some, length};
 ghost use Rattle.outside.specs.Streams.{Gives, ReadCause};
-ghost use Rattle.scenario.specs.ScenarioValues.{IsWindow};
+ghost use Rattle.scenario_values.specs.ValueRanges.{IsWindow};
 ghost use Rattle.drill_log.specs.DrillLog.{drill_log_of};
 
 use crate::minute_log::MinuteLog;
 use outside::{Memory, Source, Taken};
-use scenario::Scenario;
+use scenario_values::Scenario;
 use std::alloc::Global;
 use std::marker::Model;
 

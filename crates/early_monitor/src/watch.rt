@@ -19,7 +19,7 @@ use motion::TickState;
 use outside::Memory;
 use ranks::Rank;
 use rule_set::RuleSet;
-use scenario::Window;
+use scenario_values::Window;
 use std::alloc::Global;
 use std::collections::BTreeSet;
 use traces::{AllTraces, TickFault};

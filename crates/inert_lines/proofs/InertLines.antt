@@ -22,7 +22,7 @@ use Rattle.tracks.specs.declared.entry.Entry.{Entry}
 use Rattle.tracks.specs.declared.entry.Entry.TheVariants as entry
 use Rattle.tracks.specs.declared.entry.ReportCause.{ReportCause}
 use Rattle.tracks.specs.declared.entry.ReportCause.TheVariants as report_cause
-use Rattle.scenario.specs.declared.values.Scenario.{Scenario}
+use Rattle.scenario_values.specs.declared.values.Scenario.{Scenario}
 use Rattle.log_lines.specs.EachLine.{each_after, each_line, ok_value}
 use Rattle.log_lines.specs.JudgedLines.{accepted_at, judged_entry, judged_line, judged_lines, judged_sent, numbers_of, outcome_of}
 use Rattle.log_lines.specs.LineOutcomes.{line_outcome, message_outcome, report_outcome}

@@ -19,7 +19,7 @@ use Rattle.log_lines.specs.declared.judged.Judged.{Judged}
 use Rattle.log_lines.specs.declared.judged.Judged.TheVariants as judged
 use Rattle.log_lines.specs.declared.outcome.LineOutcome.{LineOutcome}
 use Rattle.situations.specs.PlanSituations.{own_readiness, situation_of, vessels_near}
-use Rattle.scenario.specs.declared.values.Scenario.{Scenario}
+use Rattle.scenario_values.specs.declared.values.Scenario.{Scenario}
 use Rattle.sessions.specs.AuditReport.{IsAuditReport, rows_behind, sightings_of}
 use Rattle.report_parts.specs.AlarmRows.{alarm_rows}
 use Rattle.report_parts.specs.OutcomeRows.{count_rows}

@@ -12,7 +12,7 @@ use Rattle.log_lines.specs.LineOutcomes.{all_outcomes, line_outcome, outcome_ind
 use Rattle.log_lines.specs.LineTimes.{stamp_of}
 use Rattle.log_lines.specs.LogLines.{is_line_feed}
 use Rattle.log_lines.specs.declared.outcome.LineOutcome.{LineOutcome}
-use Rattle.scenario.specs.declared.values.Scenario.{Scenario}
+use Rattle.scenario_values.specs.declared.values.Scenario.{Scenario}
 
 -- The bytes of one line stand between others of a log, with the line feed that ends them, or none at the end of the log.
 pub record IsOneLine (before part ending after : List ℕ) : Type 0 where

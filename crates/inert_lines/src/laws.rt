@@ -5,7 +5,7 @@ ghost use Rattle.inert_lines.specs.InertLines.{IsInert, IsOneLine, IsWithoutLine
 ghost use Rattle.log_lines.specs.GrowingLog.{ended_lines};
 ghost use Rattle.log_lines.specs.LineOutcomes.{line_outcome};
 ghost use Rattle.log_lines.specs.LogLines.{without_carriage_return};
-ghost use Rattle.scenario.specs.declared.values.Scenario.{Scenario};
+ghost use Rattle.scenario_values.specs.declared.values.Scenario.{Scenario};
 ghost use Rattle.sessions.specs.Endings.{IsEnding};
 ghost use Rattle.sessions.specs.Tasks.{Task};
 

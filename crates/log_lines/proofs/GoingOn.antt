@@ -9,7 +9,7 @@ use Rattle.aivdm.specs.declared.joiner.Joined.{Joined}
 use Rattle.aivdm.specs.declared.sentence.LineCause.{LineCause}
 use Rattle.aivdm.specs.declared.sentence.LineCause.TheVariants as line_cause
 use Rattle.ais_messages.specs.declared.message.Decoded.{Decoded}
-use Rattle.scenario.specs.declared.values.Scenario.{Scenario}
+use Rattle.scenario_values.specs.declared.values.Scenario.{Scenario}
 use Rattle.tracks.specs.AcceptedReports.{JudgingNumbers}
 use Rattle.tracks.specs.Standing.{StandsFor as BookStandsFor}
 use Rattle.tracks.specs.VesselsHeld.{Sent, held_of}

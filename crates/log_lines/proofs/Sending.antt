@@ -1,6 +1,6 @@
 -- How many messages lines send.
 use Rattle.std.proofs.Common.{◌≤◌, ℕ, List, [], length, arith}
-use Rattle.scenario.specs.declared.values.Scenario.{Scenario}
+use Rattle.scenario_values.specs.declared.values.Scenario.{Scenario}
 use Rattle.tracks.proofs.ForCallers.{filter_map_fewer}
 use Rattle.log_lines.specs.EachLine.{each_line, ok_value}
 use Rattle.log_lines.specs.SentLines.{sent, sent_of}

@@ -12,7 +12,7 @@ use Rattle.log_lines.specs.Inner.OpenLines.{HasExtended}
 use Rattle.log_lines.specs.Standing.{OpenLineStandsFor}
 use Rattle.log_lines.specs.declared.open_line.OpenLine.{OpenLine}
 use Rattle.log_lines.specs.declared.judged.Judged.{Judged}
-use Rattle.scenario.specs.declared.values.Scenario.{Scenario}
+use Rattle.scenario_values.specs.declared.values.Scenario.{Scenario}
 
 abbrev pub NoFeed : List ℕ → Type 0
 NoFeed part = All (λ byte. is_line_feed byte ≡ false) part

@@ -6,7 +6,7 @@ use Rattle.std.proofs.lemmas.List.Elements.{filter-append, filter_map-append}
 use Rattle.log_lines.specs.LineTimes.{clock_of, greatest, is_in_window, stamp_of, stamps_of, time_of}
 use Rattle.log_lines.specs.Inner.Times.{KeepsTimes, at_least, clock_behind, is_between, nearest_of, times_behind}
 use Rattle.log_lines.specs.declared.line_times.LineTimes.{LineTimes}
-use Rattle.scenario.specs.declared.values.Scenario.{Scenario}
+use Rattle.scenario_values.specs.declared.values.Scenario.{Scenario}
 use Rattle.tracks.proofs.Lasts.{last_or-push}
 
 -- the list of a stamp, if there is one

@@ -3,7 +3,7 @@ use Rattle.std.specs.Prelude.{ℕ, ◌==◌, ◌∷◌, [], ◌++◌, Bool, coun
 use Rattle.std.specs.List.{list_any}
 use Rattle.ais_messages.specs.declared.message.PositionReport.{PositionReport}
 use Rattle.fixed_geometry.specs.declared.point.Point.{Point}
-use Rattle.scenario.specs.declared.values.Scenario.{Scenario}
+use Rattle.scenario_values.specs.declared.values.Scenario.{Scenario}
 use Rattle.tracks.specs.AcceptedReports.{JudgingNumbers}
 use Rattle.tracks.specs.VesselsHeld.{Sent, entry_of, held_of, report_in}
 use Rattle.tracks.specs.declared.entry.Entry.{Entry}

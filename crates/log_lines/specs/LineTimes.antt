@@ -2,10 +2,10 @@
 use Rattle.std.specs.Prelude.{ℕ, ◌+◌, max, Bool, false, ◌&&◌, nat_le, nat_lt, List, [], ◌∷◌, filter, Option, Some, None, unwrap_or}
 use Rattle.std.specs.List.{filter_map, last_or}
 use Rattle.aivdm.specs.ReadingOf.{reading_of}
-use Rattle.scenario.specs.declared.own_part.OwnPart.{OwnPart}
-use Rattle.scenario.specs.declared.values.Scenario.{Scenario}
-use Rattle.scenario.specs.declared.values.Window.{Window}
-use Rattle.scenario.specs.Ticks.{window_end}
+use Rattle.scenario_values.specs.declared.own_part.OwnPart.{OwnPart}
+use Rattle.scenario_values.specs.declared.values.Scenario.{Scenario}
+use Rattle.scenario_values.specs.declared.values.Window.{Window}
+use Rattle.scenario_values.specs.Ticks.{window_end}
 
 abbrev pub stamp_of : List ℕ → Option ℕ
 stamp_of line = (reading_of line).stamp

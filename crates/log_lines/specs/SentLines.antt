@@ -16,7 +16,7 @@ use Rattle.log_lines.specs.LineOutcomes.{line_outcome, message_outcome}
 use Rattle.log_lines.specs.LineTimes.{clock_of, is_in_window, is_late, time_of}
 use Rattle.log_lines.specs.declared.outcome.LineOutcome.{LineOutcome}
 use Rattle.log_lines.specs.declared.outcome.LineOutcome.TheVariants as outcome
-use Rattle.scenario.specs.declared.values.Scenario.{Scenario}
+use Rattle.scenario_values.specs.declared.values.Scenario.{Scenario}
 
 -- ---- the sentences
 

@@ -10,7 +10,7 @@ use Rattle.tracks.specs.declared.keeping.Keeping.{Keeping}
 use Rattle.tracks.specs.declared.keeping.Keeping.TheVariants.{Latest}
 use Rattle.log_lines.specs.StaticReports.{static_told}
 use Rattle.log_lines.specs.declared.told_static.ToldStatic.{ToldStatic}
-use Rattle.scenario.specs.declared.values.Scenario.{Scenario}
+use Rattle.scenario_values.specs.declared.values.Scenario.{Scenario}
 
 -- the ship type that a static report tells, where it has ship data
 abbrev pub note_told : ToldStatic → Option Note

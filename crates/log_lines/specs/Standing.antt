@@ -3,7 +3,7 @@
 use Rattle.std.specs.Prelude.{ℕ, ◌≡◌, ◌≤◌, ◌<◌, ◌==◌, ◌^◌, Bool, false, count_by, length, slice_index, take, unwrap_or, List, MatchOption, Option, None}
 use Rattle.std.specs.List.{last_or}
 use Rattle.aivdm.specs.OpenMessages.{StandsFor as JoinerStandsFor}
-use Rattle.scenario.specs.declared.values.Scenario.{Scenario}
+use Rattle.scenario_values.specs.declared.values.Scenario.{Scenario}
 use Rattle.tracks.specs.Standing.{StandsFor as BookStandsFor}
 use Rattle.tracks.specs.VesselsHeld.{held_of}
 use Rattle.log_lines.specs.EachLine.{each_line}

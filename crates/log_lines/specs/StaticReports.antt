@@ -8,7 +8,7 @@ use Rattle.tracks.specs.VesselsHeld.{Sent, static_in}
 use Rattle.log_lines.specs.SentLines.{sent, sent_of}
 use Rattle.log_lines.specs.declared.outcome.LineOutcome.{LineOutcome}
 use Rattle.log_lines.specs.declared.told_static.ToldStatic.{ToldStatic}
-use Rattle.scenario.specs.declared.values.Scenario.{Scenario}
+use Rattle.scenario_values.specs.declared.values.Scenario.{Scenario}
 
 -- the type of ship and cargo that is told, if one is
 abbrev pub type_told : Option ShipData → Option ℕ

@@ -5,7 +5,7 @@ ghost use Rattle.log_lines.specs.GrowingLog.{ended_lines, open_lines, open_part}
 ghost use Rattle.log_lines.specs.JudgedLines.{count_of, judged_lines};
 ghost use Rattle.log_lines.specs.LineOutcomes.{all_outcomes};
 ghost use Rattle.log_lines.specs.LogLines.{is_line_feed, lines_of, without_carriage_return};
-ghost use Rattle.scenario.specs.declared.values.Scenario.{Scenario};
+ghost use Rattle.scenario_values.specs.declared.values.Scenario.{Scenario};
 
 /// Each line of a log has exactly one outcome: the counts of the outcomes sum to the number of lines.
 pub fn each_line_has_one_outcome()

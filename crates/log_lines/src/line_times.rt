@@ -3,7 +3,7 @@ ghost use Rattle.std.specs.Prelude.{◌≡◌, unwrap_or};
 ghost use Rattle.log_lines.specs.LineTimes.{is_late, reach_behind};
 
 use crate::outcome::LineOutcome;
-use scenario::{Scenario, Window};
+use scenario_values::{Scenario, Window};
 
 /// How far the window of lines reaches behind the last tick, in seconds: a gap, and not at all where own ship is planned for.
 fn reach_behind(scenario: &Scenario) -> u32

@@ -7,7 +7,7 @@ ghost use Rattle.tracks.specs.VesselsHeld.{Sent};
 use crate::told_static::ToldStatic;
 use outside::Memory;
 use ranks::Ranks;
-use scenario::Scenario;
+use scenario_values::Scenario;
 use std::alloc::Global;
 use tracks::Keeping;
 

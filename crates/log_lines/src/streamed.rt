@@ -6,8 +6,8 @@ ghost use Rattle.log_lines.specs.GrowingLog.{ended_lines};
 ghost use Rattle.log_lines.specs.JudgedLines.{greatest_held, held_behind, is_crowded, judged_line, judged_lines};
 ghost use Rattle.log_lines.specs.LogLines.{is_line_feed, lines_of};
 ghost use Rattle.log_lines.specs.Standing.{IsKnownLine, LinesStandFor, StandsFor as JudgeStandsFor, kept_of, keeping_of};
-ghost use Rattle.scenario.specs.ScenarioValues.{IsInRange};
-ghost use Rattle.scenario.specs.declared.values.Scenario.{Scenario};
+ghost use Rattle.scenario_values.specs.ValueRanges.{IsInRange};
+ghost use Rattle.scenario_values.specs.declared.values.Scenario.{Scenario};
 ghost use Rattle.tracks.specs.Standing.{forgetting};
 ghost use Rattle.tracks.specs.declared.entry.BookFault.TheVariants.{TooManyVessels};
 
@@ -16,7 +16,7 @@ use crate::judged::Judged;
 use crate::open_line::OpenLine;
 use aivdm::SentenceRoom;
 use outside::Memory;
-use scenario::Scenario;
+use scenario_values::Scenario;
 use std::alloc::Global;
 use tracks::{BookFault, Keeping};
 

@@ -5,7 +5,7 @@ use Rattle.outside.specs.Shelves.{Files, content_of}
 use Rattle.command_line.specs.Requests.{AskFor, AskForNothing}
 use Rattle.command_line.specs.declared.request.Request.{Request}
 use Rattle.scenario.specs.ScenarioReading.{Means}
-use Rattle.scenario.specs.declared.values.Scenario.{Scenario}
+use Rattle.scenario_values.specs.declared.values.Scenario.{Scenario}
 use Rattle.scenario.proofs.ForCallers.{has_one_reading, one_reason}
 use Rattle.scenario_keys.specs.declared.key.Key.{Key}
 use Rattle.scenario_keys.specs.declared.cause.Cause.{Cause}

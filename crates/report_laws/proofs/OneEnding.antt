@@ -15,7 +15,7 @@ use Rattle.log_lines.specs.LogLines.{lines_of}
 use Rattle.report_parts.specs.AlarmRows.{alarm_rows}
 use Rattle.report_parts.specs.OutcomeRows.{count_rows}
 use Rattle.report_parts.specs.StretchRows.{stretch_rows}
-use Rattle.scenario.specs.declared.values.Scenario.{Scenario}
+use Rattle.scenario_values.specs.declared.values.Scenario.{Scenario}
 use Rattle.sessions.specs.AuditReport.{IsAuditReport, rows_behind, sightings_of}
 use Rattle.lattice.specs.Grids.{plans_of}
 use Rattle.log_lines.specs.JudgedLines.{numbers_of}
@@ -25,7 +25,7 @@ use Rattle.situations.proofs.ForCallers.{situation_in_order}
 use Rattle.situations.specs.declared.situation.Situation.{Situation}
 use Rattle.situations.specs.declared.situation.Target.{Target}
 use Rattle.situations.specs.declared.readiness.Ready.{Ready}
-use Rattle.scenario.specs.declared.own_part.OwnPart.{OwnPart}
+use Rattle.scenario_values.specs.declared.own_part.OwnPart.{OwnPart}
 use Rattle.sessions.specs.DrillReport.{IsDrillReport, drill_text}
 use Rattle.sessions.specs.Endings.{IsEnding, IsReport}
 use Rattle.sessions.specs.Tasks.{Task}

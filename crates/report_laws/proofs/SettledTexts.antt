@@ -12,7 +12,7 @@ use Rattle.log_lines.specs.LogLines.{lines_of}
 use Rattle.log_lines.specs.SentLines.{sent}
 use Rattle.log_lines.specs.declared.judged.Judged.{Judged}
 use Rattle.log_lines.proofs.ForCallers.{judged-push}
-use Rattle.scenario.specs.declared.values.Scenario.{Scenario}
+use Rattle.scenario_values.specs.declared.values.Scenario.{Scenario}
 use Rattle.settling.specs.DecidedAlarms.{AreDecidedAlarms}
 use Rattle.settling.specs.DecidedRows.{AreDecided}
 use Rattle.settled_ticks.specs.Sightings.{sighted}

@@ -16,10 +16,11 @@ use Rattle.scenario.specs.KeyFaults.{basis_of, counts, is_two, is_version_two, t
 use Rattle.scenario.specs.PlanFaults.{sizes_of}
 use Rattle.scenario.specs.Purposes.{is_one, ranking_of, wants_ranks}
 use Rattle.scenario.specs.RuleValues.{formula_tables}
-use Rattle.scenario.specs.ScenarioValues.{act_of, detect_of, greatest_log, grid_of, log_numbers_of, own_of, own_where, reference_of, scenario_of, scenario_with, units_at, window_of}
+use Rattle.scenario.specs.ScenarioValues.{act_of, detect_of, grid_of, log_numbers_of, own_of, own_where, reference_of, scenario_of, scenario_with, units_at, window_of}
+use Rattle.scenario_values.specs.ValueRanges.{greatest_log}
 use Rattle.scenario.specs.Migration.{for_migration, found_at, has_own, kept_by, known_members, new_value}
 use Rattle.scenario.specs.Inner.PutTogether.{migrated}
-use Rattle.scenario.specs.declared.own_part.OwnPart.{OwnPart}
+use Rattle.scenario_values.specs.declared.own_part.OwnPart.{OwnPart}
 use Rattle.scenario.specs.declared.purpose.Purpose.{Purpose}
 use Rattle.scenario.proofs.KnownLists.{formula_kept, list_kept, predict_kept, predictions_kept}
 use Rattle.scenario.proofs.MovedKeys.{all_rows, is_moved, row_held, row_moved, IsMoved, IsRow}

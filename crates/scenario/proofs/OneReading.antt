@@ -26,7 +26,7 @@ use Rattle.scenario.specs.ScenarioReading.{HasOneReading, IsRefused, Means, Read
 use Rattle.scenario.specs.ScenarioValues.{scenario_of, scenario_with}
 use Rattle.scenario.specs.declared.basis.Basis.{Basis}
 use Rattle.scenario.specs.declared.purpose.Purpose.{Purpose}
-use Rattle.scenario.specs.declared.values.Scenario.{Scenario}
+use Rattle.scenario_values.specs.declared.values.Scenario.{Scenario}
 use Rattle.scenario.proofs.Single.{meant_or_refused, one_meaning, one_refusal}
 
 abbrev Told : Type 0

@@ -7,7 +7,7 @@ use Rattle.scenario.specs.Purposes.{are_counted, purpose_by, ranking_of, wants_r
 use Rattle.scenario.specs.ScenarioReading.{Means}
 use Rattle.scenario.specs.ScenarioValues.{scenario_of, scenario_with}
 use Rattle.scenario.specs.declared.purpose.Purpose.{Purpose}
-use Rattle.scenario.specs.declared.values.Scenario.{Scenario}
+use Rattle.scenario_values.specs.declared.values.Scenario.{Scenario}
 
 pub ranks_read : (purpose : Purpose) (document : Members) (rules : List NamedTree) → (scenario_of purpose document rules).ranks ≡ are_counted (ranking_of purpose document)
 unfolding scenario_with

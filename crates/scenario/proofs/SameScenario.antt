@@ -7,7 +7,8 @@ use Rattle.rule_set.specs.NamedTrees.{rules_by, NamedTree}
 use Rattle.rule_set.specs.declared.numbers.RuleNumbers.{RuleNumbers}
 use Rattle.rule_set.specs.declared.numbers.Safe.TheVariants as safe
 use Rattle.added_rules.specs.FormulaTables.{IsFormulaFault}
-use Rattle.added_rules.specs.ScenarioRules.{greatest_weight, total_weight, weight_cause, AreAdded, IsWeightFault}
+use Rattle.added_rules.specs.ScenarioRules.{weight_cause, AreAdded, IsWeightFault}
+use Rattle.scenario_values.specs.LightRules.{greatest_weight, total_weight}
 use Rattle.scenario_keys.specs.KeyValues.{integer_at, integer_found, natural_at, natural_of}
 use Rattle.scenario_keys.specs.ScenarioKeys.{first_rows, from_to, own_row, own_rows, Row}
 use Rattle.scenario_keys.specs.FirstFaults.{IsFound}
@@ -24,7 +25,7 @@ use Rattle.scenario.specs.ScenarioReading.{IsRefused, Means, Reads}
 use Rattle.scenario.specs.Migration.{for_migration, found_at, has_own, IsMigrated, MeansTheSame}
 use Rattle.scenario.specs.Inner.PutTogether.{migrated}
 use Rattle.scenario.specs.declared.purpose.Purpose.{Purpose}
-use Rattle.scenario.specs.declared.values.Scenario.{Scenario}
+use Rattle.scenario_values.specs.declared.values.Scenario.{Scenario}
 use Rattle.scenario.proofs.Firsts.{faultless, first_in_formulas, first_plain, formulas_none, formulas_some, none_told, own_plain, IsPlain}
 use Rattle.scenario.proofs.KnownLists.{added_kept, formulas_kept}
 use Rattle.scenario.proofs.ListsHeld.{nat_le-true}

@@ -20,7 +20,7 @@ use Rattle.scenario_keys.specs.declared.fault.ScenarioFault.TheVariants as refus
 use Rattle.scenario_keys.specs.declared.key.Key.{Key}
 use Rattle.scenario.specs.declared.basis.Basis.{Basis}
 use Rattle.scenario.specs.declared.purpose.Purpose.{Purpose}
-use Rattle.scenario.specs.declared.values.Scenario.{Scenario}
+use Rattle.scenario_values.specs.declared.values.Scenario.{Scenario}
 
 -- the test of a key finds one thing
 

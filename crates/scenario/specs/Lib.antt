@@ -5,10 +5,12 @@ pub mod Purposes
 pub mod RuleValues
 pub mod DocumentFaults
 pub mod ScenarioValues
-pub mod Ticks
 pub mod ScenarioReading
 pub mod Migration
 pub mod Inner
+pub use Rattle.scenario_values.specs.LightRules
+pub use Rattle.scenario_values.specs.ValueRanges
+pub use Rattle.scenario_values.specs.Ticks
 pub use Rattle.scenario_keys.specs.ScenarioKeys
 pub use Rattle.scenario_keys.specs.ScenarioTexts
 pub use Rattle.scenario_keys.specs.FirstFaults

@@ -10,7 +10,7 @@ use Rattle.rule_set.specs.declared.numbers.RuleNumbers.{RuleNumbers}
 use Rattle.rule_set.specs.declared.numbers.Safe.TheVariants as safe
 use Rattle.rule_set.specs.declared.ranking.Ranking.{Ranking}
 use Rattle.rule_set.specs.declared.ranking.Ranking.TheVariants.{Counted}
-use Rattle.added_rules.specs.ScenarioRules.{greatest_weight, total_weight}
+use Rattle.scenario_values.specs.LightRules.{greatest_weight, total_weight}
 use Rattle.scenario_keys.specs.KeyValues.{found_in, member_at, table_at}
 use Rattle.scenario_keys.specs.ListFaults.{elements}
 use Rattle.scenario_keys.specs.ScenarioKeys.{rows, Row}
@@ -26,7 +26,7 @@ use Rattle.scenario.specs.KeyFaults.{is_version_two}
 use Rattle.scenario.specs.Purposes.{are_counted}
 use Rattle.scenario.specs.ScenarioReading.{IsNoToml, IsRefused, Means, Reads}
 use Rattle.scenario.specs.declared.purpose.Purpose.{Purpose}
-use Rattle.scenario.specs.declared.values.Scenario.{Scenario}
+use Rattle.scenario_values.specs.declared.values.Scenario.{Scenario}
 
 -- of a table of `formula` its name and its text, and of one of `predict` its changes and its ship
 

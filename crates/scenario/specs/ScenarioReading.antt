@@ -9,7 +9,7 @@ use Rattle.scenario.specs.ScenarioValues.{scenario_of}
 use Rattle.scenario_keys.specs.declared.key.Key.{Key}
 use Rattle.scenario_keys.specs.declared.cause.Cause.{Cause}
 use Rattle.scenario_keys.specs.declared.cause.Cause.TheVariants as cause
-use Rattle.scenario.specs.declared.values.Scenario.{Scenario}
+use Rattle.scenario_values.specs.declared.values.Scenario.{Scenario}
 
 -- The bytes are a text that TOML reads as this document.
 pub record Reads (bytes : List ℕ) (document : Members) : Type 0 where

@@ -3,7 +3,7 @@ ghost use Rattle.std.specs.Prelude.{◌≡◌, ℕ, List, Bool};
 ghost use Rattle.toml.specs.Data.{Members};
 ghost use Rattle.scenario.specs.Migration.{IsMigrated, IsMigratedDocument, MeansTheSame};
 ghost use Rattle.scenario.specs.ScenarioReading.{HasOneReading, Means};
-ghost use Rattle.scenario.specs.declared.values.Scenario.{Scenario};
+ghost use Rattle.scenario_values.specs.declared.values.Scenario.{Scenario};
 
 /// Bytes, whatever they are, have exactly one reading, with own ship or without: they mean one scenario, or they are refused at one key for
 /// one cause, the first in the order of the keys, and never both.

@@ -19,13 +19,10 @@ mod purpose;
 mod reading;
 mod rules;
 mod shapes;
-mod subjects;
 mod values;
 
 pub use migration::migrate;
-pub use own_part::OwnPart;
 pub use predictions::{Change, Changes, Predict, Predictions};
 pub use reading::read;
 pub use scenario_keys::{Cause, Key, ScenarioFault};
-pub use subjects::Subjects;
-pub use values::{LogNumbers, Scenario, Window};
+pub use scenario_values::{LogNumbers, OwnPart, Scenario, Subjects, Window};

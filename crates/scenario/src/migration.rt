@@ -16,7 +16,7 @@ ghost use Rattle.scenario_keys.specs.declared.cause.Cause.{Cause};
 ghost use Rattle.scenario.specs.Migration.{for_migration, found_at, has_own, kept, kept_by, known_members, new_value, table_names, two_of, IsMigrated, IsNotMigrated, MeansTheSame};
 ghost use Rattle.scenario.specs.Inner.PutTogether.{keys_of, migrated, with_found, with_key, with_keys, with_member, with_table, with_tables};
 ghost use Rattle.scenario.specs.ScenarioReading.{Means, Reads};
-ghost use Rattle.scenario.specs.declared.values.Scenario.{Scenario};
+ghost use Rattle.scenario_values.specs.declared.values.Scenario.{Scenario};
 
 use crate::basis::is_version_two;
 use crate::purpose::Purpose;

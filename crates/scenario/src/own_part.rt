@@ -6,34 +6,17 @@ ghost use Rattle.scenario.specs.KeyFaults.{tick_of};
 ghost use Rattle.scenario.specs.Inner.NoFaults.{HaveNoFault};
 ghost use Rattle.scenario_keys.specs.KeyValues.{integers_at, list_at, natural_at};
 ghost use Rattle.predictions.specs.PredictValues.{predictions_of, ArePredictions};
-ghost use Rattle.scenario.specs.ScenarioValues.{grid_of, own_of, own_where, IsOwnPart};
+ghost use Rattle.scenario.specs.ScenarioValues.{grid_of, own_of, own_where};
+ghost use Rattle.scenario_values.specs.ValueRanges.{IsOwnPart};
 
 use crate::integers::{natural, optional};
 use crate::listed::{shorts, values_at};
 use crate::shapes::shape_at;
-use hull_domains::Shape;
 use lattice::Lattice;
 use predictions::{Predictions, predictions_of};
+use scenario_values::OwnPart;
 use std::alloc::{AllocError, Global};
 use toml::{Table, Value};
-
-/// Own ship, and the plans among which a manoeuvre is sought.
-#[derive(Drop)]
-pub struct OwnPart {
-    /// Her MMSI.
-    pub mmsi: u32,
-    pub lattice: Lattice,
-    /// The radius of her domain, in metres, 0 to 100,000, but for what her length adds.
-    pub base: u32,
-    /// How many of her lengths the radius has besides, 0 to 100.
-    pub lengths: u32,
-    /// How near, in metres, 1 to 100,000, a vessel is a target.
-    pub range: u32,
-    /// What is predicted of other vessels; their courses and speeds of now hold until then.
-    pub predict: Predictions,
-    /// The domain of a vessel that has a direction, with which it turns. `None` where the radius stands for it.
-    pub shape: Option<Shape>,
-}
 
 #[tactic(auto, unfolding(crate::specs::Inner::KnownKeys::kind_at, scenario_keys::specs::ScenarioKeys::own_rows))]
 fn courses_in(alloc: Global, document: &Table) -> Result<Vec<i16>, AllocError>

@@ -7,15 +7,17 @@ ghost use Rattle.scenario_keys.specs.declared.cause.Cause.{Cause};
 ghost use Rattle.scenario.specs.DocumentFaults.{IsFaultless, IsFirstFault};
 ghost use Rattle.scenario.specs.RuleValues.{AreRulesOf};
 ghost use Rattle.scenario.specs.ScenarioReading.{IsNoToml, IsRefused, Means, Reads};
-ghost use Rattle.scenario.specs.ScenarioValues.{scenario_of, IsInRange};
-ghost use Rattle.scenario.specs.declared.values.Scenario.{Scenario};
+ghost use Rattle.scenario.specs.ScenarioValues.{scenario_of};
+ghost use Rattle.scenario_values.specs.ValueRanges.{IsInRange};
+ghost use Rattle.scenario_values.specs.declared.values.Scenario.{Scenario};
 
 use crate::basis::basis_of;
 use crate::first::{first_fault, own_fault};
 use crate::purpose::{Purpose, purpose_by};
 use crate::rules::rules_in;
-use crate::values::{Scenario, scenario_in};
+use crate::values::scenario_in;
 use scenario_keys::{Cause, Key, ScenarioFault};
+use scenario_values::Scenario;
 use std::alloc::Global;
 use toml::Table;
 

@@ -5,7 +5,7 @@ ghost use Rattle.rule_set.specs.RuleTrees.{AreRuleNumbers, AreSafeMetres};
 ghost use Rattle.scenario_keys.specs.FirstFaults.{IsFound};
 ghost use Rattle.scenario_keys.specs.ScenarioKeys.{formula_rows};
 ghost use Rattle.scenario_keys.specs.ToldFaults.{IfFault};
-ghost use Rattle.added_rules.specs.ScenarioRules.{AreLightRules};
+ghost use Rattle.scenario_values.specs.LightRules.{AreLightRules};
 ghost use Rattle.scenario.specs.DocumentFaults.{IsTold};
 ghost use Rattle.scenario.specs.Inner.NoFaults.{HaveNoFault};
 ghost use Rattle.scenario.specs.KeyFaults.{basis_of, tick_of};

@@ -14,7 +14,7 @@ use Rattle.tracks.specs.declared.keeping.Keeping.{Keeping}
 use Rattle.tracks.specs.declared.keeping.Keeping.TheVariants.{Latest}
 use Rattle.log_lines.specs.Standing.{StandsFor as JudgeStandsFor}
 use Rattle.log_lines.specs.declared.judge.Judge.{Judge}
-use Rattle.scenario.specs.declared.values.Scenario.{Scenario}
+use Rattle.scenario_values.specs.declared.values.Scenario.{Scenario}
 use Rattle.settling.specs.ScenarioAudit.{audit_numbers}
 use Rattle.settling.specs.Standing.{AreOfOneLog}
 use Rattle.settling.specs.declared.settled_audit.SettledAudit.{SettledAudit}

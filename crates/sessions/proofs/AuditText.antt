@@ -5,7 +5,7 @@ use Rattle.auditor.specs.declared.total.Total.{Total}
 use Rattle.traces.specs.ManyTraces.{HaveMoreThan}
 use Rattle.log_lines.specs.JudgedLines.{is_crowded, numbers_of}
 use Rattle.log_lines.specs.LogLines.{lines_of}
-use Rattle.scenario.specs.declared.values.Scenario.{Scenario}
+use Rattle.scenario_values.specs.declared.values.Scenario.{Scenario}
 use Rattle.tracks.specs.VesselsHeld.{Sent}
 use Rattle.sessions.specs.AuditReport.{sightings_of}
 use Rattle.report_parts.specs.StretchRows.{stretch_rows}

@@ -15,7 +15,7 @@ use Rattle.traces.specs.Audited.{AuditNumbers, Sighting}
 use Rattle.auditor.specs.AuditRows.{AreAuditRows, IsAuditRow}
 use Rattle.log_lines.specs.SentLines.{sent}
 use Rattle.rule_set.specs.NamedTrees.{NamedTree}
-use Rattle.scenario.specs.declared.values.Scenario.{Scenario}
+use Rattle.scenario_values.specs.declared.values.Scenario.{Scenario}
 use Rattle.settling.specs.DecidedRows.{AreDecided}
 use Rattle.settled_ticks.specs.Sightings.{sighted}
 use Rattle.settling.specs.ScenarioAudit.{audit_numbers}

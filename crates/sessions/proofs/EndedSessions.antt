@@ -8,7 +8,7 @@ use Rattle.log_lines.specs.Standing.{StandsFor as JudgeStandsFor, LinesStandFor,
 use Rattle.tracks.specs.declared.keeping.Keeping.{Keeping}
 use Rattle.tracks.specs.declared.keeping.Keeping.TheVariants.{Tracks}
 use Rattle.log_lines.specs.declared.judge.Judge.{Judge}
-use Rattle.scenario.specs.declared.values.Scenario.{Scenario}
+use Rattle.scenario_values.specs.declared.values.Scenario.{Scenario}
 use Rattle.settling.proofs.ForCallers.{many_settled_in_all}
 use Rattle.settling.specs.ManySettled.{HaveManySettled}
 use Rattle.settling.specs.ScenarioAudit.{audit_numbers}

@@ -12,7 +12,7 @@ use Rattle.log_lines.specs.declared.judge.Judge.{Judge}
 use Rattle.report_parts.specs.AlarmRows.{alarm_rows}
 use Rattle.report_parts.specs.OutcomeRows.{count_rows}
 use Rattle.report_parts.specs.StretchRows.{stretch_rows}
-use Rattle.scenario.specs.declared.values.Scenario.{Scenario}
+use Rattle.scenario_values.specs.declared.values.Scenario.{Scenario}
 use Rattle.settling.specs.declared.settled_audit.SettledAudit.{SettledAudit}
 use Rattle.settling.specs.declared.settled_watch.SettledWatch.{SettledWatch}
 use Rattle.sessions.specs.AuditReport.{IsAuditReport}

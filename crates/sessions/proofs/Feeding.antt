@@ -18,7 +18,7 @@ use Rattle.log_lines.specs.LogLines.{is_line_feed, without_carriage_return}
 use Rattle.log_lines.specs.Standing.{StandsFor as JudgeStandsFor, LinesStandFor, keeping_of, kept_of}
 use Rattle.log_lines.specs.declared.judge.Judge.{Judge}
 use Rattle.log_lines.specs.declared.judged.Judged.{Judged}
-use Rattle.scenario.specs.declared.values.Scenario.{Scenario}
+use Rattle.scenario_values.specs.declared.values.Scenario.{Scenario}
 use Rattle.sessions.specs.Inner.Pieces.{IsPiece}
 use Rattle.log_lines.specs.declared.streamed.StreamedLines.{StreamedLines}
 use Rattle.command_line.specs.declared.mode.Mode.{Mode}

@@ -1,14 +1,14 @@
 -- What a log comes to at its end.
 use Rattle.std.proofs.Common.{ℕ, ◌≡◌, inl, inr, Bool, true, false, IsTrue, List, [], Option, None, Some, Ok, Err, refl, sym, ap, subst, subst₂, ◌∙◌}
 use Rattle.situations.specs.declared.readiness.Unready.{Unready}
-use Rattle.scenario.specs.declared.values.Scenario.{Scenario}
+use Rattle.scenario_values.specs.declared.values.Scenario.{Scenario}
 use Rattle.log_lines.specs.JudgedLines.{is_crowded}
 use Rattle.log_lines.specs.LogLines.{lines_of}
 use Rattle.command_line.specs.declared.mode.Mode.{Mode}
 use Rattle.command_line.specs.declared.mode.Mode.TheVariants as mode
 use Rattle.rechecks.specs.CheckedRows.{IsFirstBadRow, why_rows}
 use Rattle.rechecks.proofs.ForCallers.{one_index}
-use Rattle.scenario.specs.declared.own_part.OwnPart.{OwnPart}
+use Rattle.scenario_values.specs.declared.own_part.OwnPart.{OwnPart}
 use Rattle.settling.specs.ScenarioAudit.{audit_numbers}
 use Rattle.situations.specs.declared.readiness.Ready.{Ready}
 use Rattle.traces.specs.ManyTraces.{HaveMoreThan}

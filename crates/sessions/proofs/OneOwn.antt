@@ -1,7 +1,7 @@
 -- Own ship is one, and what she is planned from.
 use Rattle.std.proofs.Common.{ℕ, ◌≡◌, List}
-use Rattle.scenario.specs.declared.own_part.OwnPart.{OwnPart}
-use Rattle.scenario.specs.declared.values.Scenario.{Scenario}
+use Rattle.scenario_values.specs.declared.own_part.OwnPart.{OwnPart}
+use Rattle.scenario_values.specs.declared.values.Scenario.{Scenario}
 use Rattle.situations.specs.declared.readiness.Ready.{Ready}
 use Rattle.sessions.specs.PlanReport.{IsOwn}
 

@@ -13,8 +13,8 @@ use Rattle.situations.specs.Preparing.{IsPrepared}
 use Rattle.situations.specs.declared.preparation.Prepared.{Prepared}
 use Rattle.situations.specs.declared.readiness.Ready.{Ready}
 use Rattle.situations.specs.declared.situation.Situation.{Situation}
-use Rattle.scenario.specs.declared.own_part.OwnPart.{OwnPart}
-use Rattle.scenario.specs.declared.values.Scenario.{Scenario}
+use Rattle.scenario_values.specs.declared.own_part.OwnPart.{OwnPart}
+use Rattle.scenario_values.specs.declared.values.Scenario.{Scenario}
 use Rattle.command_line.specs.declared.mode.Mode.TheVariants as mode
 use Rattle.sessions.specs.Endings.{HasBadEntry, IsAnswerOf}
 use Rattle.sessions.specs.PlanReport.{IsOwn, IsSituationOn, log_messages, situation_on}

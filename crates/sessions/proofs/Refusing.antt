@@ -10,7 +10,7 @@ use Rattle.log_lines.specs.EachLine.{each_after}
 use Rattle.log_lines.specs.JudgedLines.{greatest_held, held_behind, is_crowded, numbers_of}
 use Rattle.log_lines.specs.LogLines.{is_line_feed}
 use Rattle.rechecks.specs.CheckedRows.{IsFirstBadRow, why_rows}
-use Rattle.scenario.specs.declared.values.Scenario.{Scenario}
+use Rattle.scenario_values.specs.declared.values.Scenario.{Scenario}
 use Rattle.settling.specs.ManySettled.{HaveManySettled}
 use Rattle.sessions.specs.Inner.Pieces.{IsPiece}
 use Rattle.command_line.specs.declared.mode.Mode.{Mode}

@@ -16,8 +16,8 @@ use Rattle.situations.specs.declared.readiness.Ready.{Ready}
 use Rattle.situations.specs.declared.readiness.Unready.{Unready}
 use Rattle.situations.specs.LeastPlans.{AllFail}
 use Rattle.situations.specs.declared.situation.Situation.{Situation}
-use Rattle.scenario.specs.declared.own_part.OwnPart.{OwnPart}
-use Rattle.scenario.specs.declared.values.Scenario.{Scenario}
+use Rattle.scenario_values.specs.declared.own_part.OwnPart.{OwnPart}
+use Rattle.scenario_values.specs.declared.values.Scenario.{Scenario}
 use Rattle.tracks.specs.VesselsHeld.{Sent}
 use Rattle.sessions.specs.Endings.{MeetsTargetLimit, HasNoManoeuvre, IsAnswerOf, OfOwn, lack_by, lack_of, lack_where, unready_of}
 use Rattle.refutations.specs.CanonicalLists.{IsCanonical}

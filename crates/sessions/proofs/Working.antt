@@ -13,7 +13,7 @@ use Rattle.log_lines.specs.Standing.{StandsFor as JudgeStandsFor, keeping_of}
 use Rattle.log_lines.specs.declared.judge.Judge.{Judge}
 use Rattle.log_lines.specs.declared.judged.Judged.{Judged}
 use Rattle.log_lines.proofs.ForCallers.{nothing_judged}
-use Rattle.scenario.specs.declared.values.Scenario.{Scenario}
+use Rattle.scenario_values.specs.declared.values.Scenario.{Scenario}
 use Rattle.settling.specs.DecidedAlarms.{AreDecidedAlarms}
 use Rattle.settling.specs.DecidedRows.{AreDecided}
 use Rattle.settling.specs.ManySettled.{HaveManySettled}

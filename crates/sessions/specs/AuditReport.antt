@@ -9,7 +9,7 @@ use Rattle.auditor.specs.AuditTotals.{AreTotals}
 use Rattle.log_lines.specs.JudgedLines.{judged_lines, numbers_of}
 use Rattle.log_lines.specs.LogLines.{lines_of}
 use Rattle.log_lines.specs.SentLines.{sent}
-use Rattle.scenario.specs.declared.values.Scenario.{Scenario}
+use Rattle.scenario_values.specs.declared.values.Scenario.{Scenario}
 use Rattle.settled_ticks.specs.Sightings.{sighted}
 use Rattle.settling.specs.ScenarioAudit.{audit_numbers}
 use Rattle.report_parts.specs.OutcomeRows.{count_rows}

@@ -8,8 +8,8 @@ use Rattle.situations.specs.declared.readiness.Ready.{Ready}
 use Rattle.situations.specs.declared.readiness.Unready.{Unready}
 use Rattle.situations.specs.LeastPlans.{AllFail}
 use Rattle.rechecks.specs.CheckedRows.{IsFirstBadRow, why_rows}
-use Rattle.scenario.specs.declared.own_part.OwnPart.{OwnPart}
-use Rattle.scenario.specs.declared.values.Scenario.{Scenario}
+use Rattle.scenario_values.specs.declared.own_part.OwnPart.{OwnPart}
+use Rattle.scenario_values.specs.declared.values.Scenario.{Scenario}
 use Rattle.sessions.specs.AuditReport.{IsAuditReport, sightings_of}
 use Rattle.sessions.specs.DrillReport.{IsDrillReport}
 use Rattle.sessions.specs.Modes.{Look, OfOwnShip, OfTicks, WhereChecked, WhereSought, look_of, needs_rows, own_ship}

@@ -1,6 +1,6 @@
 -- What each mode looks at, and in which log: one row a mode. What is asked of a mode elsewhere follows from its row.
 use Rattle.std.specs.Prelude.{Bool, true, false, None, if◌then◌else◌}
-use Rattle.scenario.specs.declared.values.Scenario.{Scenario}
+use Rattle.scenario_values.specs.declared.values.Scenario.{Scenario}
 use Rattle.command_line.specs.declared.mode.Mode.{Mode}
 use Rattle.command_line.specs.declared.mode.Mode.TheVariants as mode
 

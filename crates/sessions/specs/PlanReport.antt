@@ -11,8 +11,8 @@ use Rattle.situations.specs.PlanSituations.{greatest_targets, own_readiness, sit
 use Rattle.situations.specs.declared.readiness.Ready.{Ready}
 use Rattle.situations.specs.LeastPlans.{AllFail, IsLeastPlan}
 use Rattle.situations.specs.declared.situation.Situation.{Situation}
-use Rattle.scenario.specs.declared.own_part.OwnPart.{OwnPart}
-use Rattle.scenario.specs.declared.values.Scenario.{Scenario}
+use Rattle.scenario_values.specs.declared.own_part.OwnPart.{OwnPart}
+use Rattle.scenario_values.specs.declared.values.Scenario.{Scenario}
 use Rattle.tracks.specs.VesselsHeld.{Sent}
 use Rattle.report_parts.specs.OutcomeRows.{count_rows}
 use Rattle.report_parts.specs.PlanRows.{manoeuvre_rows}

@@ -4,7 +4,7 @@ use Rattle.log_lines.specs.JudgedLines.{judged_lines}
 use Rattle.log_lines.specs.LogLines.{lines_of}
 use Rattle.report_parts.specs.OutcomeRows.{count_rows}
 use Rattle.report_parts.specs.PointRows.{point_rows}
-use Rattle.scenario.specs.declared.values.Scenario.{Scenario}
+use Rattle.scenario_values.specs.declared.values.Scenario.{Scenario}
 
 -- the report on a log
 unfoldable pub points_report : Scenario → List ℕ → List ℕ

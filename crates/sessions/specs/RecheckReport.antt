@@ -6,8 +6,8 @@ use Rattle.lattice.specs.Grids.{plans_of}
 use Rattle.rechecks.specs.CheckedRows.{why_rows, AreRight}
 use Rattle.situations.specs.LeastPlans.{AllFail}
 use Rattle.situations.specs.declared.readiness.Ready.{Ready}
-use Rattle.scenario.specs.declared.own_part.OwnPart.{OwnPart}
-use Rattle.scenario.specs.declared.values.Scenario.{Scenario}
+use Rattle.scenario_values.specs.declared.own_part.OwnPart.{OwnPart}
+use Rattle.scenario_values.specs.declared.values.Scenario.{Scenario}
 use Rattle.sessions.specs.PlanReport.{IsOwn, situation_on}
 
 -- The rows `why` of a text are right on a log, so that every plan fails, and the report says that there is none.

@@ -4,7 +4,7 @@ use Rattle.audit_rows.specs.declared.row.Row.{Row}
 use Rattle.early_monitor.specs.declared.alarm.Alarm.{Alarm}
 use Rattle.log_lines.specs.GrowingLog.{ended_lines}
 use Rattle.log_lines.specs.JudgedLines.{judged_lines}
-use Rattle.scenario.specs.declared.values.Scenario.{Scenario}
+use Rattle.scenario_values.specs.declared.values.Scenario.{Scenario}
 use Rattle.settling.specs.DecidedAlarms.{AreDecidedAlarms}
 use Rattle.settling.specs.DecidedRows.{AreDecided}
 use Rattle.command_line.specs.declared.mode.Mode.{Mode}

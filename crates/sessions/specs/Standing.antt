@@ -2,8 +2,8 @@
 use Rattle.std.specs.Prelude.{ℕ, ◌≡◌, length, List, IsSome, IsTrue}
 use Rattle.audit_rows.specs.declared.row.Row.{Row}
 use Rattle.log_lines.specs.GrowingLog.{ended_lines}
-use Rattle.scenario.specs.ScenarioValues.{IsInRange}
-use Rattle.scenario.specs.declared.values.Scenario.{Scenario}
+use Rattle.scenario_values.specs.ValueRanges.{IsInRange}
+use Rattle.scenario_values.specs.declared.values.Scenario.{Scenario}
 use Rattle.settled_ticks.specs.Standing.{RemembersTicks}
 use Rattle.settling.specs.Standing.{StandsFor as AuditStandsFor, audited_ticks}
 use Rattle.settling.specs.WatchStanding.{StandsFor as WatchStandsFor, watched_ticks}

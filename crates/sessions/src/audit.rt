@@ -4,7 +4,7 @@ ghost use Rattle.audit_report.specs.ReportTexts.{HasText};
 ghost use Rattle.audit_rows.specs.declared.row.Row.{Row};
 ghost use Rattle.log_lines.specs.LogLines.{lines_of};
 ghost use Rattle.log_lines.specs.Standing.{StandsFor as JudgeStandsFor, keeping_of};
-ghost use Rattle.scenario.specs.ScenarioValues.{IsInRange};
+ghost use Rattle.scenario_values.specs.ValueRanges.{IsInRange};
 ghost use Rattle.sessions.specs.AuditReport.{IsAuditReport, rows_behind};
 ghost use Rattle.report_parts.specs.StretchRows.{AreOfRules, stretch_rows};
 ghost use Rattle.settled_ticks.specs.Standing.{RemembersTicks};
@@ -22,7 +22,7 @@ use auditor::AuditEnd;
 use log_lines::Judge;
 use outside::Memory;
 use report_parts::{write_counts, write_stretches, write_totals, write_vessels};
-use scenario::Scenario;
+use scenario_values::Scenario;
 use settling::SettledAudit;
 
 /// The rest of the report, behind the rows in the text, from what the audit ends with.

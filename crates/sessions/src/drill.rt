@@ -3,7 +3,7 @@ ghost use Rattle.std.specs.Prelude.{◌≡◌, [], ℕ, List, IfErr, IfOk, Ok, l
 ghost use Rattle.audit_rows.specs.declared.row.Row.{Row};
 ghost use Rattle.log_lines.specs.LogLines.{lines_of};
 ghost use Rattle.log_lines.specs.Standing.{StandsFor as JudgeStandsFor, keeping_of};
-ghost use Rattle.scenario.specs.ScenarioValues.{IsInRange};
+ghost use Rattle.scenario_values.specs.ValueRanges.{IsInRange};
 ghost use Rattle.sessions.specs.DrillReport.{IsDrillReport, drill_text};
 ghost use Rattle.settled_ticks.specs.Standing.{RemembersTicks};
 ghost use Rattle.settling.specs.Standing.{audited_ticks};
@@ -19,7 +19,7 @@ use auditor::AuditEnd;
 use log_lines::Judge;
 use outside::Memory;
 use report_parts::{write_counts, write_totals};
-use scenario::Scenario;
+use scenario_values::Scenario;
 use settling::SettledAudit;
 use std::alloc::Global;
 

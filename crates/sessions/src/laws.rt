@@ -1,6 +1,6 @@
 //! The law of answers that a run needs, which stands over the definitions alone. The others are in the crate `report_laws`.
 ghost use Rattle.std.specs.Prelude.{◌≡◌, ℕ, List};
-ghost use Rattle.scenario.specs.declared.values.Scenario.{Scenario};
+ghost use Rattle.scenario_values.specs.declared.values.Scenario.{Scenario};
 ghost use Rattle.sessions.specs.Endings.{Came};
 ghost use Rattle.sessions.specs.Tasks.{Task};
 ghost use Rattle.sessions.specs.Refusals.{IsMet};

@@ -5,7 +5,7 @@ ghost use Rattle.log_lines.specs.JudgedLines.{judged_lines};
 ghost use Rattle.log_lines.specs.LogLines.{lines_of};
 ghost use Rattle.log_lines.specs.Standing.{StandsFor as JudgeStandsFor};
 ghost use Rattle.report_parts.specs.OutcomeRows.{count_rows};
-ghost use Rattle.scenario.specs.declared.values.Scenario.{Scenario};
+ghost use Rattle.scenario_values.specs.declared.values.Scenario.{Scenario};
 
 use crate::ending::Ending;
 use audit_report::ReportText;

@@ -6,7 +6,7 @@ ghost use Rattle.command_line.specs.declared.mode.Mode.TheVariants as mode;
 ghost use Rattle.log_lines.specs.LogLines.{lines_of};
 ghost use Rattle.log_lines.specs.Standing.{StandsFor as JudgeStandsFor, keeping_of};
 ghost use Rattle.rechecks.specs.declared.checked_text.TheConstants.{GREATEST_TEXT};
-ghost use Rattle.scenario.specs.ScenarioValues.{IsInRange};
+ghost use Rattle.scenario_values.specs.ValueRanges.{IsInRange};
 ghost use Rattle.situations.specs.Situations.{IsSituation};
 ghost use Rattle.tracks.specs.declared.keeping.Keeping.TheVariants.{Tracks};
 ghost use Rattle.sessions.specs.Endings.{IsAnswerOf};
@@ -22,7 +22,7 @@ use log_lines::Judge;
 use outside::Memory;
 use rechecks::recheck;
 use refutations::Checked;
-use scenario::Scenario;
+use scenario_values::Scenario;
 use situations::{PrepareFault, Situation, prepare};
 use std::alloc::Global;
 

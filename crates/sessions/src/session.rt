@@ -1,7 +1,7 @@
 //! A report on a log that comes in pieces.
 ghost use Rattle.std.specs.Prelude.{◌≡◌, ◌≤◌, ◌<◌, ◌+◌, ◌-◌, ◌++◌, ◌∷◌, [], ℕ, List, All, false, IfErr, IfOk, IsSome, IsTrue, OnOk, Err, Ok, length, take};
 ghost use Rattle.audit_report.specs.ReportTexts.{HasText};
-ghost use Rattle.scenario.specs.ScenarioValues.{IsInRange};
+ghost use Rattle.scenario_values.specs.ValueRanges.{IsInRange};
 ghost use Rattle.sessions.specs.Endings.{IsAnswerTo, IsEnding};
 ghost use Rattle.sessions.specs.Feeding.{Refuses, TookPiece, UnlessMemory};
 ghost use Rattle.sessions.specs.Inner.Lines.{EndedLine, IsReadyToTake, RefusesLine, RefusesPiece, TookLines};
@@ -25,7 +25,7 @@ use command_line::Mode;
 use log_lines::laws::{a_part_goes_on, ended_lines_stay};
 use log_lines::{StreamedLines, first_line_feed};
 use outside::Memory;
-use scenario::Scenario;
+use scenario_values::Scenario;
 use settling::laws::many_settled_stay;
 use situations::Situation;
 use std::alloc::Global;

@@ -3,7 +3,7 @@ ghost use Rattle.std.specs.Prelude.{◌≡◌, ◌++◌, [], ℕ, List, IfErr, I
 ghost use Rattle.audit_report.specs.ReportTexts.{HasText};
 ghost use Rattle.early_monitor.specs.declared.alarm.Alarm.{Alarm};
 ghost use Rattle.log_lines.specs.Standing.{keeping_of};
-ghost use Rattle.scenario.specs.ScenarioValues.{IsInRange};
+ghost use Rattle.scenario_values.specs.ValueRanges.{IsInRange};
 ghost use Rattle.sessions.specs.WatchReport.{IsWatchReport};
 ghost use Rattle.report_parts.specs.AlarmRows.{alarm_rows};
 ghost use Rattle.settled_ticks.specs.Standing.{RemembersTicks};
@@ -18,7 +18,7 @@ use crate::session_fault::SessionFault;
 use audit_report::ReportText;
 use log_lines::Judge;
 use report_parts::{write_alarms, write_counts};
-use scenario::Scenario;
+use scenario_values::Scenario;
 use settling::SettledWatch;
 
 /// Ends the watch, and gives the rest of the report, behind the last alarms that the watch has given, which stand in the text.

@@ -3,7 +3,7 @@ ghost use Rattle.std.specs.Prelude.{◌≡◌, ◌≢◌, ◌≤◌, ◌++◌, [
 ghost use Rattle.audit_report.specs.ReportTexts.{HasText};
 ghost use Rattle.log_lines.specs.Standing.{keeping_of};
 ghost use Rattle.rechecks.specs.declared.checked_text.TheConstants.{GREATEST_TEXT};
-ghost use Rattle.scenario.specs.ScenarioValues.{IsInRange};
+ghost use Rattle.scenario_values.specs.ValueRanges.{IsInRange};
 ghost use Rattle.sessions.specs.Inner.AtEnd.{EndsWithAnswer, EndsWithCause, EndsWithReport, IsAtEnd};
 ghost use Rattle.sessions.specs.Inner.Working.{GoesOn, IsDone, IsReadyFor, Works};
 ghost use Rattle.sessions.specs.Modes.{needs_own, reports};
@@ -27,7 +27,7 @@ use command_line::Mode;
 use log_lines::{Judge, Judged};
 use outside::Memory;
 use report_parts::{write_alarms, write_line, write_stretches};
-use scenario::Scenario;
+use scenario_values::Scenario;
 use settling::{SettledAudit, SettledWatch};
 use std::alloc::Global;
 use tracks::Keeping;

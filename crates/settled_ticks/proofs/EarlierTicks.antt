@@ -4,9 +4,9 @@ use Rattle.std.specs.Prelude.{IsSomeAnd}
 use Rattle.std.specs.List.{filter}
 use Rattle.std.proofs.lemmas.List.Elements.{filter-append, filter_map-append}
 use Rattle.log_lines.specs.LineTimes.{clock_of, greatest, is_in_window, stamp_of, stamps_of}
-use Rattle.scenario.specs.declared.values.Scenario.{Scenario}
-use Rattle.scenario.specs.declared.values.Window.{Window}
-use Rattle.scenario.specs.Ticks.{time_of_tick}
+use Rattle.scenario_values.specs.declared.values.Scenario.{Scenario}
+use Rattle.scenario_values.specs.declared.values.Window.{Window}
+use Rattle.scenario_values.specs.Ticks.{time_of_tick}
 use Rattle.settled_ticks.specs.Settled.{IsSettled}
 
 -- ---- the clock

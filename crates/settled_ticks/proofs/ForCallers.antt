@@ -2,7 +2,7 @@
 -- remembered.
 use Rattle.std.proofs.Common.{ℕ, []}
 use Rattle.log_lines.specs.LineTimes.{clock_of, greatest}
-use Rattle.scenario.specs.declared.values.Scenario.{Scenario}
+use Rattle.scenario_values.specs.declared.values.Scenario.{Scenario}
 use Rattle.settled_ticks.specs.Settled.{IsSettled}
 pub use Rattle.settled_ticks.proofs.MovesLittle.{first_push}
 pub use Rattle.settled_ticks.proofs.SeenStays.{what_is_settled_stays}

@@ -13,9 +13,9 @@ use Rattle.motion.specs.declared.leg.TickState.{TickState}
 use Rattle.meetings.specs.Traces.{IsShortMove}
 use Rattle.traces.specs.Audited.{MoveLittle, SeenVessels, Sighting, last_sighting, nothing_seen, state_in}
 use Rattle.log_lines.specs.JudgedLines.{numbers_of}
-use Rattle.scenario.specs.ScenarioValues.{IsInRange}
-use Rattle.scenario.specs.Ticks.{time_of_tick}
-use Rattle.scenario.specs.declared.values.Scenario.{Scenario}
+use Rattle.scenario_values.specs.ValueRanges.{IsInRange}
+use Rattle.scenario_values.specs.Ticks.{time_of_tick}
+use Rattle.scenario_values.specs.declared.values.Scenario.{Scenario}
 use Rattle.settled_ticks.specs.Sightings.{seen_first, sighting_by}
 use Rattle.settled_ticks.proofs.RankedVessels.{vessels_by}
 use Rattle.tracks.specs.AcceptedReports.{JudgingNumbers}

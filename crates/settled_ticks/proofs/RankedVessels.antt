@@ -12,8 +12,8 @@ use Rattle.ranks.specs.declared.rank.Rank.{Rank}
 use Rattle.log_lines.specs.JudgedLines.{numbers_of}
 use Rattle.log_lines.specs.SentLines.{sent}
 use Rattle.log_lines.specs.declared.judge.Judge.{Judge}
-use Rattle.scenario.specs.Ticks.{time_of_tick}
-use Rattle.scenario.specs.declared.values.Scenario.{Scenario}
+use Rattle.scenario_values.specs.Ticks.{time_of_tick}
+use Rattle.scenario_values.specs.declared.values.Scenario.{Scenario}
 use Rattle.settled_ticks.specs.Sightings.{ranks_of, seen_ranked, sighting_by}
 use Rattle.settled_ticks.specs.Standing.{AreSeen, HasReported}
 use Rattle.tracks.specs.AcceptedReports.{JudgingNumbers}

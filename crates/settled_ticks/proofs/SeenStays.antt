@@ -17,8 +17,8 @@ use Rattle.ais_messages.specs.declared.message.Decoded.TheVariants as decoded
 use Rattle.motion.specs.TickStates.{state_at}
 use Rattle.motion.specs.declared.leg.TickState.{TickState}
 use Rattle.ranks.specs.VesselRanks.{rank_at, rank_by_report}
-use Rattle.scenario.specs.declared.values.Scenario.{Scenario}
-use Rattle.scenario.specs.Ticks.{time_of_tick}
+use Rattle.scenario_values.specs.declared.values.Scenario.{Scenario}
+use Rattle.scenario_values.specs.Ticks.{time_of_tick}
 use Rattle.tracks.specs.AcceptedReports.{JudgingNumbers}
 use Rattle.tracks.specs.JoinedReports.{legs_between}
 use Rattle.tracks.specs.SeenVessels.{seen_of, seen_vessel}

@@ -1,8 +1,8 @@
 -- Which ticks no later line of a log can change.
 use Rattle.std.specs.Prelude.{ℕ, ◌+◌, ◌<◌, ◌≤◌, List, IsSomeAnd}
 use Rattle.log_lines.specs.LineTimes.{clock_of}
-use Rattle.scenario.specs.declared.values.Scenario.{Scenario}
-use Rattle.scenario.specs.Ticks.{time_of_tick}
+use Rattle.scenario_values.specs.declared.values.Scenario.{Scenario}
+use Rattle.scenario_values.specs.Ticks.{time_of_tick}
 
 -- The tick is one of the window's, and the clock behind the lines is past it by more than the gap and the slack: a later message
 -- in time comes more than the gap behind it.

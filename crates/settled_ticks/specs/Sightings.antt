@@ -7,8 +7,8 @@ use Rattle.ranks.specs.declared.rank.Rank.{Rank}
 use Rattle.traces.specs.Audited.{SeenVessels, Sighting}
 use Rattle.log_lines.specs.JudgedLines.{numbers_of}
 use Rattle.log_lines.specs.ShipTypes.{noted}
-use Rattle.scenario.specs.declared.values.Scenario.{Scenario}
-use Rattle.scenario.specs.Ticks.{time_of_tick}
+use Rattle.scenario_values.specs.declared.values.Scenario.{Scenario}
+use Rattle.scenario_values.specs.Ticks.{time_of_tick}
 use Rattle.tracks.specs.SeenVessels.{seen_of}
 use Rattle.tracks.specs.VesselsHeld.{Sent, accepted_of}
 

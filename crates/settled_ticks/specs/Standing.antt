@@ -6,8 +6,8 @@ use Rattle.log_lines.specs.SentLines.{sent}
 use Rattle.log_lines.specs.Standing.{StandsFor as JudgeStandsFor}
 use Rattle.log_lines.specs.declared.judge.Judge.{Judge}
 use Rattle.ranks.specs.VesselRanks.{report_at}
-use Rattle.scenario.specs.Ticks.{time_of_tick}
-use Rattle.scenario.specs.declared.values.Scenario.{Scenario}
+use Rattle.scenario_values.specs.Ticks.{time_of_tick}
+use Rattle.scenario_values.specs.declared.values.Scenario.{Scenario}
 use Rattle.settled_ticks.specs.Sightings.{seen_first, sighting_by}
 use Rattle.settled_ticks.specs.declared.settled_ticks.SettledTicks.{SettledTicks}
 use Rattle.tracks.specs.SeenVessels.{seen_of}

@@ -1,7 +1,7 @@
 //! Laws of settled ticks, which stand over the definitions alone.
 ghost use Rattle.std.specs.Prelude.{ℕ, ◌≡◌, ◌≤◌, ◌++◌, List};
 ghost use Rattle.log_lines.specs.SentLines.{sent};
-ghost use Rattle.scenario.specs.declared.values.Scenario.{Scenario};
+ghost use Rattle.scenario_values.specs.declared.values.Scenario.{Scenario};
 ghost use Rattle.settled_ticks.specs.Settled.{IsSettled};
 ghost use Rattle.settled_ticks.specs.Sightings.{sighting_by};
 

@@ -2,7 +2,7 @@
 ghost use Rattle.std.specs.Prelude.{◌≡◌, ◌+◌, ◌<◌, ◌≤◌, [], ℕ, List, IfOk, OnOk, true, false};
 ghost use Rattle.log_lines.specs.SentLines.{sent};
 ghost use Rattle.log_lines.specs.Standing.{StandsFor as JudgeStandsFor, keeping_of};
-ghost use Rattle.scenario.specs.ScenarioValues.{IsInRange};
+ghost use Rattle.scenario_values.specs.ValueRanges.{IsInRange};
 ghost use Rattle.settled_ticks.specs.Inner.{is_past};
 ghost use Rattle.settled_ticks.specs.Settled.{IsSettled};
 ghost use Rattle.settled_ticks.specs.Sightings.{seen_first, sighting_by};
@@ -15,7 +15,7 @@ use log_lines::Judge;
 use motion::TickState;
 use outside::Memory;
 use ranks::Rank;
-use scenario::Scenario;
+use scenario_values::Scenario;
 use std::alloc::Global;
 
 /// Whether the clock is past a time.

@@ -5,7 +5,7 @@ ghost use Rattle.log_lines.specs.SentLines.{sent};
 ghost use Rattle.log_lines.specs.ShipTypes.{noted};
 ghost use Rattle.log_lines.specs.Standing.{StandsFor as JudgeStandsFor, keeping_of};
 ghost use Rattle.ranks.specs.Standing.{StandsFor as RanksStandFor};
-ghost use Rattle.scenario.specs.declared.values.Scenario.{Scenario};
+ghost use Rattle.scenario_values.specs.declared.values.Scenario.{Scenario};
 ghost use Rattle.settled_ticks.specs.Sightings.{ranks_of, vessel_rank};
 ghost use Rattle.settled_ticks.specs.Standing.{AreSeen, HasReported};
 ghost use Rattle.tracks.specs.Standing.{Remembers, kept_points};

@@ -7,7 +7,7 @@ use Rattle.early_monitor.specs.Alarms.{AreAlarms, InOrder, IsAlarm, alarm_cmp}
 use Rattle.early_monitor.specs.declared.alarm.Alarm.{Alarm}
 use Rattle.early_monitor.proofs.ForCallers.{alarm_total, decided_within, earlier_first, in_order, itself, same_alarms}
 use Rattle.log_lines.specs.SentLines.{sent}
-use Rattle.scenario.specs.declared.values.Scenario.{Scenario}
+use Rattle.scenario_values.specs.declared.values.Scenario.{Scenario}
 use Rattle.settled_ticks.specs.Settled.{IsSettled}
 use Rattle.settled_ticks.specs.Sightings.{seen_first, sighted}
 use Rattle.settled_ticks.proofs.ForCallers.{settled_ticks_stay}

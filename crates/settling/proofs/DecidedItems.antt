@@ -7,7 +7,7 @@ use Rattle.std.specs.Cmp.{IsTotalOrder}
 use Rattle.std.specs.declared.cmp.Ordering.{Ordering}
 use Rattle.std.specs.declared.cmp.Ordering.TheVariants.{Less}
 use Rattle.log_lines.specs.SentLines.{sent}
-use Rattle.scenario.specs.declared.values.Scenario.{Scenario}
+use Rattle.scenario_values.specs.declared.values.Scenario.{Scenario}
 use Rattle.settled_ticks.specs.Settled.{IsSettled}
 use Rattle.settled_ticks.specs.Sightings.{seen_first, sighted}
 use Rattle.settled_ticks.proofs.ForCallers.{settled_ticks_are_first}

@@ -10,7 +10,7 @@ use Rattle.audit_rows.proofs.ForCallers.{earlier_first, place_total, same_list}
 use Rattle.auditor.specs.AuditRows.{AreAuditRows, AreAuditRowsBelow, IsAuditRow}
 use Rattle.auditor.specs.SettledRows.{audit_reach, settled_by}
 use Rattle.log_lines.specs.SentLines.{sent}
-use Rattle.scenario.specs.declared.values.Scenario.{Scenario}
+use Rattle.scenario_values.specs.declared.values.Scenario.{Scenario}
 use Rattle.settled_ticks.specs.Settled.{IsSettled}
 use Rattle.settled_ticks.specs.Sightings.{seen_first, sighted}
 use Rattle.settled_ticks.proofs.ForCallers.{settled_ticks_stay}

@@ -3,7 +3,7 @@
 use Rattle.std.proofs.Common.{ℕ, List}
 use Rattle.audit_rows.specs.declared.row.Row.{Row}
 use Rattle.early_monitor.specs.declared.alarm.Alarm.{Alarm}
-use Rattle.scenario.specs.declared.values.Scenario.{Scenario}
+use Rattle.scenario_values.specs.declared.values.Scenario.{Scenario}
 use Rattle.settling.specs.Inner.AuditedTicks.{audit_taker}
 use Rattle.settling.specs.Inner.WatchedTicks.{watch_taker}
 use Rattle.settling.specs.ManySettled.{HaveManySettled}

@@ -3,7 +3,7 @@ use Rattle.std.proofs.Common.{ℕ, ◌+◌, ◌<◌, zero, suc, [], arith}
 use Rattle.std.specs.List.Sorted.{IsStrictlySortedBy}
 use Rattle.audit_rows.specs.Order.{last_step_of}
 use Rattle.auditor.specs.SettledRows.{audit_reach}
-use Rattle.scenario.specs.declared.values.Scenario.{Scenario}
+use Rattle.scenario_values.specs.declared.values.Scenario.{Scenario}
 use Rattle.settling.specs.DecidedAlarms.{AreDecidedAlarms}
 use Rattle.settling.specs.DecidedRows.{AreDecided}
 use Rattle.settling.specs.ManySettled.{HaveManySettled}

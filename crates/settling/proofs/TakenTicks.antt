@@ -9,7 +9,7 @@ use Rattle.log_lines.specs.Standing.{StandsFor as JudgeStandsFor}
 use Rattle.log_lines.specs.declared.judge.Judge.{Judge}
 use Rattle.meetings.specs.declared.pair.Pair.{Pair}
 use Rattle.ranks.specs.declared.rank.Rank.{Rank}
-use Rattle.scenario.specs.declared.values.Scenario.{Scenario}
+use Rattle.scenario_values.specs.declared.values.Scenario.{Scenario}
 use Rattle.settled_ticks.specs.Settled.{IsSettled}
 use Rattle.settled_ticks.specs.Sightings.{seen_first, sighted, sighting_by}
 use Rattle.settled_ticks.specs.Standing.{IsHandedOut, handed_out, latest_sighting as sighting_of}

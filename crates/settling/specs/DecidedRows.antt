@@ -6,7 +6,7 @@ use Rattle.audit_rows.specs.declared.row.Row.{Row}
 use Rattle.auditor.specs.AuditRows.{IsAuditRow}
 use Rattle.auditor.specs.SettledRows.{audit_reach}
 use Rattle.log_lines.specs.SentLines.{sent}
-use Rattle.scenario.specs.declared.values.Scenario.{Scenario}
+use Rattle.scenario_values.specs.declared.values.Scenario.{Scenario}
 use Rattle.settled_ticks.specs.Settled.{IsSettled}
 use Rattle.settled_ticks.specs.Sightings.{sighted}
 use Rattle.settling.specs.ScenarioAudit.{audit_numbers}

@@ -1,6 +1,6 @@
 -- The numbers of a scenario's audit.
 use Rattle.traces.specs.Audited.{AuditNumbers}
-use Rattle.scenario.specs.declared.values.Scenario.{Scenario}
+use Rattle.scenario_values.specs.declared.values.Scenario.{Scenario}
 
 abbrev pub audit_numbers : Scenario → AuditNumbers
 audit_numbers scenario = record {

@@ -2,7 +2,7 @@
 use Rattle.std.specs.Prelude.{ℕ, List}
 use Rattle.audit_rows.specs.declared.row.Row.{Row}
 use Rattle.log_lines.specs.declared.judge.Judge.{Judge}
-use Rattle.scenario.specs.declared.values.Scenario.{Scenario}
+use Rattle.scenario_values.specs.declared.values.Scenario.{Scenario}
 use Rattle.settled_ticks.specs.Standing.{handed_out}
 use Rattle.settling.specs.Inner.AuditedTicks.{audit_taker}
 use Rattle.settling.specs.Inner.TakenTicks.{HasTakenOneLog, HasTakenSettled}

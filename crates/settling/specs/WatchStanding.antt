@@ -2,7 +2,7 @@
 use Rattle.std.specs.Prelude.{ℕ, List}
 use Rattle.early_monitor.specs.declared.alarm.Alarm.{Alarm}
 use Rattle.log_lines.specs.declared.judge.Judge.{Judge}
-use Rattle.scenario.specs.declared.values.Scenario.{Scenario}
+use Rattle.scenario_values.specs.declared.values.Scenario.{Scenario}
 use Rattle.settled_ticks.specs.Standing.{handed_out}
 use Rattle.settling.specs.Inner.TakenTicks.{HasTakenOneLog, HasTakenSettled}
 use Rattle.settling.specs.Inner.WatchedTicks.{watch_taker}

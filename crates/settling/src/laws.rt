@@ -8,7 +8,7 @@ ghost use Rattle.auditor.specs.SettledRows.{audit_reach, settled_by};
 ghost use Rattle.early_monitor.specs.Alarms.{AreAlarms, IsAlarm};
 ghost use Rattle.early_monitor.specs.declared.alarm.Alarm.{Alarm};
 ghost use Rattle.log_lines.specs.SentLines.{sent};
-ghost use Rattle.scenario.specs.declared.values.Scenario.{Scenario};
+ghost use Rattle.scenario_values.specs.declared.values.Scenario.{Scenario};
 ghost use Rattle.settling.specs.DecidedAlarms.{AreDecidedAlarms};
 ghost use Rattle.settling.specs.DecidedRows.{AreDecided};
 ghost use Rattle.settled_ticks.specs.Settled.{IsSettled};

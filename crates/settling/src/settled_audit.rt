@@ -7,7 +7,7 @@ ghost use Rattle.traces.specs.ManyTraces.{HaveMoreThan};
 ghost use Rattle.traces.specs.declared.fault.TickFault.TheVariants.{TooManyPairs};
 ghost use Rattle.log_lines.specs.SentLines.{sent};
 ghost use Rattle.log_lines.specs.Standing.{StandsFor as JudgeStandsFor, keeping_of};
-ghost use Rattle.scenario.specs.ScenarioValues.{IsInRange};
+ghost use Rattle.scenario_values.specs.ValueRanges.{IsInRange};
 ghost use Rattle.settling.specs.DecidedRows.{AreDecided};
 ghost use Rattle.settling.specs.Inner.AuditedTicks.{audit_taker};
 ghost use Rattle.settling.specs.Inner.TakenTicks.{HasTaken, IsReady};
@@ -22,7 +22,7 @@ use crate::lists::add;
 use auditor::{Audit, AuditEnd, AuditFault, Row};
 use log_lines::Judge;
 use outside::Memory;
-use scenario::Scenario;
+use scenario_values::Scenario;
 use settled_ticks::SettledTicks;
 use std::alloc::Global;
 

@@ -4,7 +4,7 @@ ghost use Rattle.early_monitor.specs.Alarms.{AreAlarms};
 ghost use Rattle.early_monitor.specs.declared.alarm.Alarm.{Alarm};
 ghost use Rattle.log_lines.specs.SentLines.{sent};
 ghost use Rattle.log_lines.specs.Standing.{StandsFor as JudgeStandsFor, keeping_of};
-ghost use Rattle.scenario.specs.ScenarioValues.{IsInRange};
+ghost use Rattle.scenario_values.specs.ValueRanges.{IsInRange};
 ghost use Rattle.settled_ticks.specs.Sightings.{sighted};
 ghost use Rattle.settled_ticks.specs.Standing.{RemembersTicks, latest_time};
 ghost use Rattle.settling.specs.DecidedAlarms.{AreDecidedAlarms};
@@ -19,7 +19,7 @@ use crate::lists::add;
 use early_monitor::{Alarm, Watch, WatchFault};
 use log_lines::Judge;
 use outside::Memory;
-use scenario::Scenario;
+use scenario_values::Scenario;
 use settled_ticks::SettledTicks;
 use std::alloc::Global;
 

@@ -7,7 +7,7 @@ use Rattle.auditor.specs.AuditRows.{AreAuditRows}
 use Rattle.auditor.proofs.ForCallers.{one_list_of_rows}
 use Rattle.log_lines.specs.LineTimes.{clock_of, time_of}
 use Rattle.log_lines.specs.SentLines.{heard, heard_of, sent, sent_of}
-use Rattle.scenario.specs.declared.values.Scenario.{Scenario}
+use Rattle.scenario_values.specs.declared.values.Scenario.{Scenario}
 use Rattle.sessions.specs.AuditReport.{IsAuditReport, rows_behind, sightings_of}
 use Rattle.report_parts.specs.StretchRows.{stretch_rows}
 use Rattle.settled_ticks.specs.Sightings.{sighting_by, vessel_rank}

@@ -10,8 +10,8 @@ use Rattle.log_lines.specs.SentLines.{sent}
 use Rattle.log_lines.specs.ShipTypes.{noted}
 use Rattle.motion.specs.TickStates.{state_at}
 use Rattle.ranks.specs.VesselRanks.{rank_at}
-use Rattle.scenario.specs.Ticks.{time_of_tick}
-use Rattle.scenario.specs.declared.values.Scenario.{Scenario}
+use Rattle.scenario_values.specs.Ticks.{time_of_tick}
+use Rattle.scenario_values.specs.declared.values.Scenario.{Scenario}
 use Rattle.sessions.specs.AuditReport.{sightings_of}
 use Rattle.settling.specs.ScenarioAudit.{audit_numbers}
 use Rattle.tracks.specs.AcceptedReports.{JudgingNumbers, accepted_list}

@@ -17,8 +17,8 @@ use Rattle.motion.specs.TickStates.{holds, state_at, state_on}
 use Rattle.motion.specs.declared.leg.Leg.{Leg}
 use Rattle.motion.specs.declared.leg.TickState.{TickState}
 use Rattle.ranks.specs.VesselRanks.{Note, rank_at, rank_by_report, rank_by_type, report_at}
-use Rattle.scenario.specs.Ticks.{time_of_tick, window_end}
-use Rattle.scenario.specs.declared.values.Scenario.{Scenario}
+use Rattle.scenario_values.specs.Ticks.{time_of_tick, window_end}
+use Rattle.scenario_values.specs.declared.values.Scenario.{Scenario}
 use Rattle.sessions.specs.AuditReport.{sightings_of}
 use Rattle.settling.specs.ScenarioAudit.{audit_numbers}
 use Rattle.traces.specs.Audited.{AuditNumbers}

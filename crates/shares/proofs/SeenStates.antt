@@ -16,8 +16,8 @@ use Rattle.outside.proofs.Members.{in_cons, in_none}
 use Rattle.ranks.specs.VesselRanks.{Note, rank_at, rank_by_report, rank_by_type, report_at}
 use Rattle.ranks.specs.declared.rank.Rank.{Rank}
 use Rattle.ranks.specs.declared.rank.Rank.TheVariants.{Power}
-use Rattle.scenario.specs.Ticks.{time_of_tick}
-use Rattle.scenario.specs.declared.values.Scenario.{Scenario}
+use Rattle.scenario_values.specs.Ticks.{time_of_tick}
+use Rattle.scenario_values.specs.declared.values.Scenario.{Scenario}
 use Rattle.sessions.specs.AuditReport.{sightings_of}
 use Rattle.settled_ticks.specs.Sightings.{ranks_of, sighting_by, vessel_rank}
 use Rattle.tracks.specs.AcceptedReports.{JudgingNumbers}

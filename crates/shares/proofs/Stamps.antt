@@ -5,7 +5,7 @@ use Rattle.std.specs.List.{cons_option, filter, last_or}
 use Rattle.aivdm.specs.ReadingOf.{reading_of}
 use Rattle.log_lines.specs.LineTimes.{clock_of, greatest, is_in_window, stamp_of, stamps_of, time_of}
 use Rattle.log_lines.specs.SentLines.{heard_in, heard_of}
-use Rattle.scenario.specs.declared.values.Scenario.{Scenario}
+use Rattle.scenario_values.specs.declared.values.Scenario.{Scenario}
 
 consed : (o : Option ℕ) (xs ys : List ℕ) → cons_option o (xs ++ ys) ≡ cons_option o xs ++ ys
 consed None xs ys = refl

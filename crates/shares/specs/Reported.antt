@@ -4,7 +4,7 @@ use Rattle.meetings.specs.declared.pair.Pair.{Pair}
 use Rattle.audit_rows.specs.declared.row.Row.{Row}
 use Rattle.audit_rows.specs.declared.row.Row.TheVariants as row
 use Rattle.auditor.specs.AuditRows.{AreAuditRows, IsAuditRow}
-use Rattle.scenario.specs.declared.values.Scenario.{Scenario}
+use Rattle.scenario_values.specs.declared.values.Scenario.{Scenario}
 use Rattle.sessions.specs.AuditReport.{sightings_of}
 use Rattle.settling.specs.ScenarioAudit.{audit_numbers}
 

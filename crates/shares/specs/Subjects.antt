@@ -4,7 +4,7 @@ use Rattle.std.specs.List.{Contains}
 use Rattle.audit_rows.specs.Order.{InOrder}
 use Rattle.audit_rows.specs.declared.row.Row.{Row}
 use Rattle.traces.specs.Audited.{AuditNumbers, seen_state_at}
-use Rattle.scenario.specs.declared.values.Scenario.{Scenario}
+use Rattle.scenario_values.specs.declared.values.Scenario.{Scenario}
 use Rattle.sessions.specs.AuditReport.{sightings_of}
 use Rattle.shares.specs.Reported.{AreReported, pair_of}
 

@@ -4,7 +4,7 @@ use Rattle.ranks.specs.VesselRanks.{rank_by_type}
 use Rattle.log_lines.specs.LogLines.{lines_of}
 use Rattle.log_lines.specs.SentLines.{sent}
 use Rattle.log_lines.specs.ShipTypes.{noted}
-use Rattle.scenario.specs.declared.values.Scenario.{Scenario}
+use Rattle.scenario_values.specs.declared.values.Scenario.{Scenario}
 use Rattle.traces.specs.Audited.{Sighting, rank_in, seen_state_at, sighting_at}
 use Rattle.tracks.specs.VesselsHeld.{messages_of}
 

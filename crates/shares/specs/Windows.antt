@@ -13,8 +13,8 @@ use Rattle.log_lines.specs.LogLines.{lines_of}
 use Rattle.log_lines.specs.SentLines.{sent}
 use Rattle.log_lines.specs.ShipTypes.{noted}
 use Rattle.ranks.specs.VesselRanks.{rank_by_type}
-use Rattle.scenario.specs.Ticks.{window_end}
-use Rattle.scenario.specs.declared.values.Scenario.{Scenario}
+use Rattle.scenario_values.specs.Ticks.{window_end}
+use Rattle.scenario_values.specs.declared.values.Scenario.{Scenario}
 use Rattle.tracks.specs.VesselsHeld.{accepted_of}
 use Rattle.tracks.specs.declared.accepted.Accepted.{Accepted}
 use Rattle.shares.specs.Lookback.{lookback_of}

@@ -7,7 +7,7 @@ ghost use Rattle.auditor.specs.AuditRows.{IsAuditRow};
 ghost use Rattle.auditor.specs.SettledRows.{audit_reach};
 ghost use Rattle.log_lines.specs.LineTimes.{stamps_of};
 ghost use Rattle.log_lines.specs.SentLines.{heard_of};
-ghost use Rattle.scenario.specs.declared.values.Scenario.{Scenario};
+ghost use Rattle.scenario_values.specs.declared.values.Scenario.{Scenario};
 ghost use Rattle.sessions.specs.AuditReport.{IsAuditReport, sightings_of};
 ghost use Rattle.report_parts.specs.StretchRows.{stretch_rows};
 ghost use Rattle.settling.specs.ScenarioAudit.{audit_numbers};

@@ -15,8 +15,8 @@ use Rattle.motion.specs.declared.leg.Leg.{Leg}
 use Rattle.motion.specs.declared.leg.TickState.{TickState}
 use Rattle.situations.specs.Prediction.{point_after, predicted_state}
 use Rattle.predictions.specs.declared.changes.Change.{Change}
-use Rattle.scenario.specs.Ticks.{window_end, time_of_tick}
-use Rattle.scenario.specs.declared.values.Window.{Window}
+use Rattle.scenario_values.specs.Ticks.{window_end, time_of_tick}
+use Rattle.scenario_values.specs.declared.values.Window.{Window}
 use Rattle.tracks.specs.declared.accepted.Accepted.{Accepted}
 use Rattle.situations.specs.KnownStates.{known_state}
 use Rattle.situations.specs.Inner.Facts.{IsFresh, IsTrack, known_at, legs_known, predicted_at}

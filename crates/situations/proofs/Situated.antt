@@ -19,10 +19,10 @@ use Rattle.situations.specs.Prediction.{predicted_state}
 use Rattle.situations.specs.Situations.{IsSituation, IsTarget, IsTracked, now_of, sighting}
 use Rattle.situations.specs.declared.situation.Situation.{Situation}
 use Rattle.situations.specs.declared.situation.Target.{Target}
-use Rattle.scenario.specs.ScenarioValues.{IsInRange, IsOwnPart}
-use Rattle.scenario.specs.Ticks.{window_end}
-use Rattle.scenario.specs.declared.own_part.OwnPart.{OwnPart}
-use Rattle.scenario.specs.declared.values.Scenario.{Scenario}
+use Rattle.scenario_values.specs.ValueRanges.{IsInRange, IsOwnPart}
+use Rattle.scenario_values.specs.Ticks.{window_end}
+use Rattle.scenario_values.specs.declared.own_part.OwnPart.{OwnPart}
+use Rattle.scenario_values.specs.declared.values.Scenario.{Scenario}
 use Rattle.tracks.specs.AcceptedReports.{JudgingNumbers}
 use Rattle.tracks.specs.VesselsHeld.{Sent, legs_of}
 use Rattle.situations.specs.NearVessels.{point_now}

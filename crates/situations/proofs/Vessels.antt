@@ -16,8 +16,8 @@ use Rattle.situations.specs.declared.situation.Target.{Target}
 use Rattle.predictions.specs.PredictValues.{AreTimed}
 use Rattle.predictions.specs.declared.changes.Change.{Change}
 use Rattle.predictions.specs.declared.predictions.Predict.{Predict}
-use Rattle.scenario.specs.Ticks.{window_end, time_of_tick}
-use Rattle.scenario.specs.declared.values.Window.{Window}
+use Rattle.scenario_values.specs.Ticks.{window_end, time_of_tick}
+use Rattle.scenario_values.specs.declared.values.Window.{Window}
 use Rattle.tracks.specs.AcceptedReports.{JudgingNumbers}
 use Rattle.tracks.specs.Standing.{kept_legs}
 use Rattle.tracks.specs.VesselsHeld.{Sent, accepted_of, is_held, legs_of}

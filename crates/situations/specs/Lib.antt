@@ -11,7 +11,7 @@ pub use Rattle.lattice.specs.PlanNumbers
 pub use Rattle.meetings.specs.Atoms
 pub use Rattle.meetings.specs.Traces
 pub use Rattle.rule_set.specs.NamedTrees
-pub use Rattle.scenario.specs.Ticks
+pub use Rattle.scenario_values.specs.Ticks
 pub mod Prediction
 pub mod Situations
 pub mod Domains

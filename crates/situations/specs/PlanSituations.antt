@@ -7,10 +7,10 @@ use Rattle.situations.specs.Prediction.{predicted_state}
 use Rattle.situations.specs.declared.situation.Situation.{Situation}
 use Rattle.situations.specs.declared.situation.Target.{Target}
 use Rattle.predictions.specs.declared.changes.Change.{Change}
-use Rattle.scenario.specs.Ticks.{window_end, time_of_tick}
-use Rattle.scenario.specs.declared.own_part.OwnPart.{OwnPart}
-use Rattle.scenario.specs.declared.values.Scenario.{Scenario}
-use Rattle.scenario.specs.declared.values.Window.{Window}
+use Rattle.scenario_values.specs.Ticks.{window_end, time_of_tick}
+use Rattle.scenario_values.specs.declared.own_part.OwnPart.{OwnPart}
+use Rattle.scenario_values.specs.declared.values.Scenario.{Scenario}
+use Rattle.scenario_values.specs.declared.values.Window.{Window}
 use Rattle.tracks.specs.AcceptedReports.{JudgingNumbers}
 use Rattle.tracks.specs.Lengths.{length_of}
 use Rattle.tracks.specs.VesselsHeld.{Sent, legs_of, statics_of}

@@ -1,8 +1,8 @@
 -- What preparing a plan of own ship comes to.
 use Rattle.std.specs.Prelude.{◌≡◌, ◌≤◌, ◌<◌, List, length, All, true, Ok}
 use Rattle.situations.specs.Situations.{IsSituation}
-use Rattle.scenario.specs.declared.own_part.OwnPart.{OwnPart}
-use Rattle.scenario.specs.declared.values.Scenario.{Scenario}
+use Rattle.scenario_values.specs.declared.own_part.OwnPart.{OwnPart}
+use Rattle.scenario_values.specs.declared.values.Scenario.{Scenario}
 use Rattle.tracks.specs.AcceptedReports.{JudgingNumbers}
 use Rattle.tracks.specs.Standing.{BookValue, StandsFor}
 use Rattle.tracks.specs.VesselsHeld.{Sent, is_held}

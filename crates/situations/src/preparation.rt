@@ -1,8 +1,8 @@
 //! The situation in which a plan of own ship is sought.
 ghost use Rattle.std.specs.Prelude.{ℕ, ◌≡◌, ◌≤◌, ◌<◌, ◌+◌, ◌*◌, List, length, All, IfOk, IfSome, IsSome, Err, Ok, Some};
 ghost use Rattle.motion.specs.TickStates.{IsTickState};
-ghost use Rattle.scenario.specs.ScenarioValues.{IsInRange, IsWindow};
-ghost use Rattle.scenario.specs.Ticks.{window_end};
+ghost use Rattle.scenario_values.specs.ValueRanges.{IsInRange, IsWindow};
+ghost use Rattle.scenario_values.specs.Ticks.{window_end};
 ghost use Rattle.tracks.specs.AcceptedReports.{JudgingNumbers};
 ghost use Rattle.tracks.specs.Standing.{StandsFor};
 ghost use Rattle.tracks.specs.VesselsHeld.{Sent};
@@ -23,7 +23,7 @@ use crate::targets::{Setting, count_others};
 use lattice::Lattice;
 use motion::TickState;
 use outside::Memory;
-use scenario::{Scenario, Window};
+use scenario_values::{Scenario, Window};
 use std::alloc::Global;
 use tracks::Book;
 

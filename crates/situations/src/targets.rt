@@ -5,7 +5,7 @@ ghost use Rattle.lattice.specs.Grids.{positions_of};
 ghost use Rattle.situations.specs.Prediction.{AreChanges};
 ghost use Rattle.situations.specs.Domains.{IsDomain};
 ghost use Rattle.situations.specs.Situations.{sighting};
-ghost use Rattle.scenario.specs.Ticks.{window_end};
+ghost use Rattle.scenario_values.specs.Ticks.{window_end};
 ghost use Rattle.tracks.specs.AcceptedReports.{JudgingNumbers};
 ghost use Rattle.tracks.specs.Lengths.{length_of};
 ghost use Rattle.tracks.specs.Standing.{StandsFor};
@@ -21,7 +21,7 @@ use crate::situation::Target;
 use crate::track::{KnownTrack, changes_for};
 use outside::Memory;
 use predictions::Change;
-use scenario::{OwnPart, Window};
+use scenario_values::{OwnPart, Window};
 use std::alloc::Global;
 use tracks::Book;
 

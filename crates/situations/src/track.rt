@@ -6,7 +6,7 @@ ghost use Rattle.meetings.specs.Traces.{IsShortMove};
 ghost use Rattle.motion.specs.TickStates.{IsTickState};
 ghost use Rattle.situations.specs.Prediction.{predicted_state};
 ghost use Rattle.situations.specs.Situations.{sighting};
-ghost use Rattle.scenario.specs.Ticks.{window_end, time_of_tick};
+ghost use Rattle.scenario_values.specs.Ticks.{window_end, time_of_tick};
 ghost use Rattle.predictions.specs.declared.predictions.Predict.{Predict as PredictValue};
 ghost use Rattle.situations.specs.KnownStates.{changes_for};
 ghost use Rattle.situations.specs.Inner.Facts.{known_at, predicted_at, IsKnownBelow, IsTrack};
@@ -16,7 +16,7 @@ use crate::prediction::predicted;
 use motion::{Legs, TickState};
 use outside::Memory;
 use predictions::{Change, Predict};
-use scenario::Window;
+use scenario_values::Window;
 use std::alloc::Global;
 use tracks::Accepted;
 

@@ -3,8 +3,8 @@ use Rattle.std.proofs.Common.{ℕ, ◌≡◌, ◌+◌, ◌++◌, ◌∷◌, [], 
 use Rattle.std.specs.Prelude.{Option, Bool, IfSome, is_some, not}
 use Rattle.log_lines.specs.Standing.{StandsFor}
 use Rattle.log_lines.specs.declared.judge.Judge.{Judge}
-use Rattle.scenario.specs.declared.own_part.OwnPart.{OwnPart}
-use Rattle.scenario.specs.declared.values.Scenario.{Scenario}
+use Rattle.scenario_values.specs.declared.own_part.OwnPart.{OwnPart}
+use Rattle.scenario_values.specs.declared.values.Scenario.{Scenario}
 use Rattle.situations.specs.Preparing.{IsPrepared}
 use Rattle.situations.specs.Situations.{IsSituation}
 use Rattle.situations.specs.declared.preparation.Prepared.{Prepared}

@@ -6,7 +6,7 @@ use Rattle.log_lines.specs.declared.outcome.LineOutcome.{LineOutcome}
 use Rattle.log_lines.specs.declared.outcome.LineOutcome.TheVariants as outcome
 use Rattle.log_lines.specs.declared.line_times.LineTimes.{LineTimes}
 use Rattle.log_lines.specs.declared.line_times.LineWindow.{LineWindow}
-use Rattle.scenario.specs.declared.values.Scenario.{Scenario}
+use Rattle.scenario_values.specs.declared.values.Scenario.{Scenario}
 
 -- The time is not before the first of the window of lines, nor behind the last.
 abbrev pub is_between : LineWindow → ℕ → Bool

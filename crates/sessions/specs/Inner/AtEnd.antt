@@ -6,7 +6,7 @@ use Rattle.audit_rows.specs.declared.row.Row.{Row}
 use Rattle.log_lines.specs.LogLines.{lines_of}
 use Rattle.log_lines.specs.Standing.{StandsFor as JudgeStandsFor}
 use Rattle.log_lines.specs.declared.judge.Judge.{Judge}
-use Rattle.scenario.specs.declared.values.Scenario.{Scenario}
+use Rattle.scenario_values.specs.declared.values.Scenario.{Scenario}
 use Rattle.early_monitor.specs.declared.alarm.Alarm.{Alarm}
 use Rattle.settling.specs.Standing.{StandsFor as AuditStandsFor}
 use Rattle.settling.specs.WatchStanding.{StandsFor as WatchStandsFor}

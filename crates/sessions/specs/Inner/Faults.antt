@@ -6,7 +6,7 @@ use Rattle.situations.specs.declared.preparation.PrepareFault.{PrepareFault}
 use Rattle.situations.specs.declared.preparation.PrepareFault.TheVariants as prepare
 use Rattle.tracks.specs.declared.entry.BookFault.{BookFault}
 use Rattle.tracks.specs.declared.entry.BookFault.TheVariants as book
-use Rattle.scenario.specs.declared.values.Scenario.{Scenario}
+use Rattle.scenario_values.specs.declared.values.Scenario.{Scenario}
 use Rattle.command_line.specs.declared.mode.Mode.{Mode}
 use Rattle.sessions.specs.Endings.{IsAnswerOf}
 use Rattle.sessions.specs.Feeding.{UnlessMemory}

@@ -8,8 +8,8 @@ use Rattle.log_lines.specs.JudgedLines.{is_crowded}
 use Rattle.log_lines.specs.LogLines.{lines_of}
 use Rattle.sessions.specs.Inner.Pieces.{IsPiece}
 use Rattle.log_lines.specs.Standing.{LinesStandFor, kept_of}
-use Rattle.scenario.specs.ScenarioValues.{IsInRange}
-use Rattle.scenario.specs.declared.values.Scenario.{Scenario}
+use Rattle.scenario_values.specs.ValueRanges.{IsInRange}
+use Rattle.scenario_values.specs.declared.values.Scenario.{Scenario}
 use Rattle.sessions.specs.Inner.Working.{IsDone}
 use Rattle.sessions.specs.Modes.{needs_own}
 use Rattle.sessions.specs.Refusals.{HasManySettled}

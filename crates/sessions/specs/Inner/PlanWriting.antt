@@ -12,8 +12,8 @@ use Rattle.situations.specs.declared.preparation.PrepareFault.{PrepareFault}
 use Rattle.situations.specs.declared.preparation.PrepareFault.TheVariants as prepare
 use Rattle.situations.specs.declared.readiness.Ready.{Ready}
 use Rattle.situations.specs.declared.situation.Situation.{Situation}
-use Rattle.scenario.specs.declared.own_part.OwnPart.{OwnPart}
-use Rattle.scenario.specs.declared.values.Scenario.{Scenario}
+use Rattle.scenario_values.specs.declared.own_part.OwnPart.{OwnPart}
+use Rattle.scenario_values.specs.declared.values.Scenario.{Scenario}
 use Rattle.tracks.specs.VesselsHeld.{Sent}
 use Rattle.sessions.specs.PlanReport.{IsManoeuvre}
 use Rattle.report_parts.specs.PlanRows.{manoeuvre_rows}

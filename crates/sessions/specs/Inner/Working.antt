@@ -6,7 +6,7 @@ use Rattle.log_lines.specs.JudgedLines.{judged_lines}
 use Rattle.log_lines.specs.Standing.{StandsFor as JudgeStandsFor, keeping_of}
 use Rattle.log_lines.specs.declared.judge.Judge.{Judge}
 use Rattle.log_lines.specs.declared.judged.Judged.{Judged}
-use Rattle.scenario.specs.declared.values.Scenario.{Scenario}
+use Rattle.scenario_values.specs.declared.values.Scenario.{Scenario}
 use Rattle.sessions.specs.SettledText.{IsDecidedText}
 use Rattle.sessions.specs.Standing.{HasAudited, KeepsEnough, mode_by}
 use Rattle.sessions.specs.declared.work.Work.{Work}

@@ -12,10 +12,10 @@ use Rattle.situations.specs.Prediction.{AreChanges, predicted_state}
 use Rattle.situations.specs.Domains.{IsDomain}
 use Rattle.situations.specs.Situations.{IsTracked, sighting}
 use Rattle.situations.specs.declared.situation.Target.{Target}
-use Rattle.scenario.specs.ScenarioValues.{IsOwnPart, IsWindow}
-use Rattle.scenario.specs.Ticks.{window_end, time_of_tick}
-use Rattle.scenario.specs.declared.own_part.OwnPart.{OwnPart}
-use Rattle.scenario.specs.declared.values.Window.{Window}
+use Rattle.scenario_values.specs.ValueRanges.{IsOwnPart, IsWindow}
+use Rattle.scenario_values.specs.Ticks.{window_end, time_of_tick}
+use Rattle.scenario_values.specs.declared.own_part.OwnPart.{OwnPart}
+use Rattle.scenario_values.specs.declared.values.Window.{Window}
 use Rattle.tracks.specs.AcceptedReports.{JudgingNumbers}
 use Rattle.tracks.specs.Standing.{BookValue, IsAccepted, StandsFor}
 use Rattle.tracks.specs.VesselsHeld.{Sent}

@@ -1,5 +1,5 @@
 use Rattle.std.proofs.Common.{◌≡◌, ◌+◌, take}
-use Rattle.added_rules.specs.ScenarioRules.{greatest_weight, total_weight}
+use Rattle.scenario_values.specs.LightRules.{greatest_weight, total_weight}
 use Rattle.added_rules.proofs.scenario_rules.are_light.Given as goal
 
 abbrev pub invariant-loop-k : goal.invariant-loop-k

@@ -1,7 +1,7 @@
 use Rattle.std.proofs.Common.{◌≡◌, ◌∙◌, inr, Ok, Err, None, subst, sym, IsTrue}
 use Rattle.std.specs.Prelude.{IsSome}
-use Rattle.scenario.specs.ScenarioValues.{IsInRange}
-use Rattle.scenario.specs.declared.values.Scenario.{Scenario}
+use Rattle.scenario_values.specs.ValueRanges.{IsInRange}
+use Rattle.scenario_values.specs.declared.values.Scenario.{Scenario}
 use Rattle.colregs_program.proofs.SettingUp.{due-from_read, in_range, own_needed, own_unneeded}
 use Rattle.colregs_program.proofs.set_up.scenario_of.Goals as goal
 

@@ -1,6 +1,6 @@
 use Rattle.std.proofs.Common.{Ok, refl, ap, arith}
 use Rattle.outside.proofs.ForCallers.{err_cause}
-use Rattle.scenario.specs.declared.values.Scenario.{Scenario}
+use Rattle.scenario_values.specs.declared.values.Scenario.{Scenario}
 use Rattle.sessions.specs.Standing.{mode_of, session_scenario}
 use Rattle.colregs_program.proofs.StreamedReports.{cause_by, none_begun, written_from}
 use Rattle.colregs_program.proofs.streaming.feed_log.Goals as goal

@@ -10,7 +10,7 @@ use Rattle.scenario.specs.KeyFaults.{basis_of}
 use Rattle.scenario.specs.Purposes.{ranking_of}
 use Rattle.scenario.specs.RuleValues.{AreRulesOf}
 use Rattle.scenario.specs.ScenarioValues.{scenario_of, scenario_with}
-use Rattle.scenario.specs.declared.values.Scenario.{Scenario}
+use Rattle.scenario_values.specs.declared.values.Scenario.{Scenario}
 use Rattle.scenario.proofs.Firsts.{faultless, first_in_formulas, first_in_front, first_in_own, first_plain, no_fault, read_from}
 use Rattle.scenario.proofs.Held.{without_own}
 use Rattle.scenario.proofs.reading.values_of.Goals as goal

@@ -1,5 +1,5 @@
 use Rattle.std.proofs.Common.{ℕ, subst, IfSome}
-use Rattle.scenario.specs.ScenarioValues.{AreDetectNumbers, AreLogNumbers, IsOwnPart}
+use Rattle.scenario_values.specs.ValueRanges.{AreDetectNumbers, AreLogNumbers, IsOwnPart}
 use Rattle.scenario.proofs.values.with_lists.Goals as goal
 
 pub returns-clause-in_range : goal.returns-clause-in_range

@@ -3,7 +3,7 @@ use Rattle.log_lines.specs.SentLines.{sent}
 use Rattle.log_lines.specs.ShipTypes.{noted}
 use Rattle.log_lines.specs.Standing.{StandsFor as JudgeStandsFor}
 use Rattle.ranks.specs.Standing.{StandsFor as RanksStandFor}
-use Rattle.scenario.specs.declared.values.Scenario.{Scenario}
+use Rattle.scenario_values.specs.declared.values.Scenario.{Scenario}
 use Rattle.settled_ticks.specs.Sightings.{vessel_rank}
 use Rattle.settled_ticks.proofs.vessel_ranks.rank_all.Given as goal
 

@@ -6,9 +6,9 @@ use Rattle.lattice.specs.Grids.{positions_of}
 use Rattle.situations.specs.Inner.Facts.{IsSized, IsTargetOver}
 use Rattle.situations.specs.declared.situation.Situation.{Situation}
 use Rattle.situations.specs.declared.situation.Target.{Target}
-use Rattle.scenario.specs.ScenarioValues.{IsOwnPart}
-use Rattle.scenario.specs.Ticks.{window_end}
-use Rattle.scenario.specs.declared.own_part.OwnPart.{OwnPart}
+use Rattle.scenario_values.specs.ValueRanges.{IsOwnPart}
+use Rattle.scenario_values.specs.Ticks.{window_end}
+use Rattle.scenario_values.specs.declared.own_part.OwnPart.{OwnPart}
 use Rattle.tracks.specs.VesselsHeld.{is_held}
 use Rattle.situations.specs.NearVessels.{near_of, others_of, point_now}
 use Rattle.situations.specs.PlanSituations.{greatest_targets, metre, own_readiness, situation_of, target_of, vessels_near}

@@ -2,7 +2,7 @@ use Rattle.std.proofs.Common.{[], ◌++◌, Ok, Err, refl, subst₂}
 use Rattle.std.proofs.lemmas.Result.{IfOk-weaker, IfErr-weaker}
 use Rattle.outside.proofs.ForCallers.{err_cause}
 use Rattle.command_line.specs.declared.mode.Mode.{Mode}
-use Rattle.scenario.specs.declared.values.Scenario.{Scenario}
+use Rattle.scenario_values.specs.declared.values.Scenario.{Scenario}
 use Rattle.sessions.specs.Endings.{IsAnswerOf, IsAnswerTo, IsReport}
 use Rattle.sessions.specs.Inner.Faults.{EndCause}
 use Rattle.sessions.specs.Standing.{mode_of, session_scenario}

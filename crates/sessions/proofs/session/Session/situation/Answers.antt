@@ -1,7 +1,7 @@
 use Rattle.std.proofs.Common.{List, ℕ, [], ◌++◌, IsTrue, sym, subst}
 use Rattle.outside.proofs.ForCallers.{err_cause}
 use Rattle.command_line.specs.declared.mode.Mode.{Mode}
-use Rattle.scenario.specs.declared.values.Scenario.{Scenario}
+use Rattle.scenario_values.specs.declared.values.Scenario.{Scenario}
 use Rattle.log_lines.specs.LogLines.{lines_of}
 use Rattle.log_lines.specs.Standing.{StandsFor as JudgeStandsFor}
 use Rattle.sessions.specs.Inner.Faults.{preparing_fault}

@@ -3,7 +3,7 @@ use Rattle.std.specs.List.{range_with_len}
 use Rattle.lattice.specs.Grids.{positions_of}
 use Rattle.situations.specs.Prediction.{AreChanges}
 use Rattle.situations.specs.declared.situation.Target.{Target}
-use Rattle.scenario.specs.declared.values.Window.{Window}
+use Rattle.scenario_values.specs.declared.values.Window.{Window}
 use Rattle.situations.specs.KnownStates.{changes_for}
 use Rattle.situations.specs.PlanSituations.{target_of}
 use Rattle.situations.specs.Inner.Facts.{IsTargetOver, predicted_at}

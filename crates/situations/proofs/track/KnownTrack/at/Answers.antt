@@ -2,7 +2,7 @@ use Rattle.std.proofs.Common.{◌∙◌, ◌<◌, ap, ap₂, sym, subst, arith}
 use Rattle.std.specs.Option.{option_copied}
 use Rattle.meetings.specs.Traces.{IsShortMove}
 use Rattle.motion.specs.TickStates.{state_at}
-use Rattle.scenario.specs.Ticks.{window_end, time_of_tick}
+use Rattle.scenario_values.specs.Ticks.{window_end, time_of_tick}
 use Rattle.situations.specs.Inner.Facts.{known_at, legs_known}
 use Rattle.situations.proofs.Moving.{known_before, none_seen, on_legs}
 use Rattle.situations.proofs.track.KnownTrack.at.Goals as goal

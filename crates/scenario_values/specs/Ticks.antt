@@ -1,6 +1,6 @@
 -- The times of a window's ticks, in seconds since 1970.
 use Rattle.std.specs.Prelude.{ℕ, ◌+◌, ◌*◌}
-use Rattle.scenario.specs.declared.values.Window.{Window}
+use Rattle.scenario_values.specs.declared.values.Window.{Window}
 
 -- the time of a tick
 abbrev pub time_of_tick : Window → ℕ → ℕ

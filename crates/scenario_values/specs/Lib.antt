@@ -1,0 +1,3 @@
+pub mod LightRules
+pub mod ValueRanges
+pub mod Ticks
