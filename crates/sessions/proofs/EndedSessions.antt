@@ -17,16 +17,13 @@ use Rattle.traces.specs.declared.all_traces.TheConstants.{MOST_TRACES}
 use Rattle.sessions.specs.AuditReport.{sightings_of}
 use Rattle.sessions.specs.Feeding.{UnlessMemory}
 use Rattle.sessions.specs.Modes.{Look, OfTicks, each_line, each_tick, is_own, look_of, needs_own, nothing, own_ship}
-use Rattle.sessions.specs.PlanReport.{log_messages}
 use Rattle.sessions.specs.Endings.{IsAnswerOf, IsAnswerTo}
 use Rattle.sessions.specs.Tasks.{Task}
 use Rattle.sessions.specs.Standing.{KeepsEnough, StandsFor, mode_by, mode_of, session_scenario}
-use Rattle.sessions.specs.Inner.Faults.{preparing_fault}
 use Rattle.sessions.specs.Inner.Lines.{Follows, HasRoomFor, IsCause, IsEnded, IsReadyToTake, RefusesLine}
-use Rattle.sessions.specs.Inner.PlanWriting.{SoughtCause}
 use Rattle.sessions.specs.Inner.Working.{IsDone}
-use Rattle.situations.specs.declared.preparation.PrepareFault.{PrepareFault}
 use Rattle.sessions.specs.Inner.AtEnd.{IsAtEnd}
+use Rattle.sessions.specs.Inner.Faults.{EndCause}
 use Rattle.sessions.specs.declared.session.Session.{Session}
 use Rattle.sessions.specs.declared.session_fault.SessionFault.{SessionFault}
 use Rattle.sessions.specs.declared.session_fault.SessionFault.TheVariants as why
@@ -34,7 +31,6 @@ use Rattle.sessions.specs.declared.work.Work.{Work}
 use Rattle.sessions.specs.declared.work.Work.TheVariants as work
 use Rattle.sessions.proofs.Feeding.{follows_of}
 use Rattle.sessions.proofs.Meeting.{crowded_answer, pairs_answer}
-use Rattle.sessions.proofs.Seeking.{own_cause}
 
 -- what holds for each log that was fed, but for want of memory
 pub all_causes : (because : SessionFault) (self : Session) (P : List ℕ → Type 0) → ((fed given : List ℕ) → StandsFor self fed given → UnlessMemory because (P fed))
@@ -147,16 +143,14 @@ NoSituation self because = UnlessMemory because ((fed given : List ℕ) → Stan
     → IsAnswerTo task (session_scenario self) fed (Err because))
 
 module _ (self : Session) (judge : Judge) (judges : (fed given : List ℕ) → StandsFor self fed given → JudgeStandsFor judge self.scenario (lines_of fed)) (needs : IsTrue (needs_own (mode_of self))) where
-  pub no_situation : (fault : PrepareFault) → ((log : List ℕ) → JudgeStandsFor judge self.scenario (lines_of log) → SoughtCause self.scenario (log_messages self.scenario log) fault)
-      → NoSituation self (preparing_fault fault)
-  no_situation fault cause = all_causes (preparing_fault fault) self
-      (λ fed. (task : Task) → task.mode ≡ mode_of self → IsAnswerTo task (session_scenario self) fed (Err (preparing_fault fault)))
-      (λ fed given stands. (
-      let judged = judges fed given stands in
-      let own = stands.own needs in
-      each_task (preparing_fault fault) fed (λ task same.
-      own_cause self.scenario fed judged.calm task.mode task.rows (ap look_of same ∙ looks_at_own (look_of (mode_of self)) needs) own fault (cause fed judged))
-      ))
+  pub no_situation : (because : SessionFault)
+      → ((log : List ℕ) → JudgeStandsFor judge self.scenario (lines_of log) → (mode : Mode) (rows : List ℕ) → look_of mode ≡ own_ship → EndCause mode rows self.scenario log because)
+      → NoSituation self because
+  no_situation because cause = all_causes because self
+      (λ fed. (task : Task) → task.mode ≡ mode_of self → IsAnswerTo task (session_scenario self) fed (Err because))
+      (λ fed given stands.
+      each_task because fed (λ task same.
+      cause fed (judges fed given stands) task.mode task.rows (ap look_of same ∙ looks_at_own (look_of (mode_of self)) needs)))
     where
       each_task : (because : SessionFault) (fed : List ℕ) → ((task : Task) → task.mode ≡ mode_of self → UnlessMemory because (IsAnswerTo task self.scenario fed (Err because)))
           → UnlessMemory because ((task : Task) → task.mode ≡ mode_of self → IsAnswerTo task self.scenario fed (Err because))

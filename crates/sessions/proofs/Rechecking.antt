@@ -17,8 +17,11 @@ use Rattle.scenario_values.specs.declared.own_part.OwnPart.{OwnPart}
 use Rattle.scenario_values.specs.declared.values.Scenario.{Scenario}
 use Rattle.command_line.specs.declared.mode.Mode.TheVariants as mode
 use Rattle.sessions.specs.Endings.{HasBadEntry, IsAnswerOf}
+use Rattle.sessions.specs.Inner.Faults.{EndCause}
+use Rattle.sessions.specs.Inner.Rechecking.{IsBadText}
 use Rattle.sessions.specs.PlanReport.{IsOwn, IsSituationOn, log_messages, situation_on}
 use Rattle.sessions.specs.RecheckReport.{IsRecheckReport}
+use Rattle.sessions.specs.declared.session_fault.SessionFault.{SessionFault}
 use Rattle.sessions.specs.declared.session_fault.SessionFault.TheVariants as fault
 use Rattle.sessions.proofs.Meeting.{a_bad_entry, a_report}
 use Rattle.sessions.proofs.OneOwn.{one_own, one_ready}
@@ -69,3 +72,12 @@ module _ (scenario : Scenario) (log rows : List ℕ) (s : Situation) (on : IsSit
         a_bad_entry scenario log calm mode.Recheck rows refl (lacks scenario log calm mode.Recheck rows refl on.own (Ok on.ready) on.is_own.needed on.is_own.is_ready)
         (few_targets scenario log calm on.own on.ready on.is_own on.few) (λ none. none) k
         (on.own, on.ready, on.is_own, subst (λ (x : Situation). IsFirstBadRow x (why_rows rows) k) on.is bad)
+
+    pub bad_cause : (why : SessionFault) → IsBadText s rows why → EndCause mode.Recheck rows scenario log why
+    bad_cause (fault.Entry k) bad = bad_entry k bad
+    bad_cause fault.Memory bad = tt
+    bad_cause fault.Vessels bad = absurd bad
+    bad_cause fault.Pairs bad = absurd bad
+    bad_cause fault.LogBytes bad = absurd bad
+    bad_cause (fault.Own lack) bad = absurd bad
+    bad_cause fault.Targets bad = absurd bad

@@ -5,3 +5,4 @@ pub mod AtEnd
 pub mod Lines
 pub mod Pieces
 pub mod PlanWriting
+pub mod Rechecking

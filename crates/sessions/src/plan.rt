@@ -23,6 +23,7 @@ ghost use Rattle.report_parts.specs.PlanRows.{manoeuvre_rows};
 ghost use Rattle.report_parts.specs.VesselRows.{near_rows};
 ghost use Rattle.sessions.specs.PlanReport.{IsManoeuvre, IsPlanReport};
 ghost use Rattle.sessions.specs.Inner.Faults.{EndCause};
+ghost use Rattle.sessions.specs.declared.session_fault.SessionFault.TheVariants as fault;
 ghost use Rattle.sessions.specs.Inner.PlanWriting.{AreReasonsWhere, IsSought, SoughtCause};
 ghost use Rattle.command_line.specs.declared.mode.Mode.TheVariants as mode;
 
@@ -121,17 +122,22 @@ fn plan_report(
     judge: &Judge,
     found: &PlanFound,
     why: bool,
-) -> Result<Vec<u8>, Memory>
+) -> Result<Ending, SessionFault>
     requires situation { IsSituation (searched_situation found.now.search) }
     requires fail { found.now.none ≡ true → AllFail (searched_situation found.now.search) }
-    ensures { IfOk result (λ bytes. (scenario : Scenario) (lines : List (List ℕ)) (front : List ℕ) → JudgeStandsFor judge.now scenario lines → HasText text front
+    ensures report { IfOk result (λ ending. (scenario : Scenario) (lines : List (List ℕ)) (front : List ℕ) → JudgeStandsFor judge.now scenario lines → HasText text front
         → (reasons : List ℕ) × AreReasonsWhere why found.now.none (searched_situation found.now.search) reasons
-        × (bytes.items ≡ (front ++ count_rows (judged_lines scenario lines)) ++ reasons)) }
+        × (ending.bytes.items ≡ (front ++ count_rows (judged_lines scenario lines)) ++ reasons)) }
+    ensures none { IfOk result (λ ending. ending.none ≡ found.now.none) }
+    ensures memory { IfErr result (λ why. why ≡ fault.Memory) }
 {
     write_counts(&mut text, judge)?;
     let mut bytes = text.into_bytes()?;
     add_reasons(alloc, found.search.situation(), why, found.none, &mut bytes)?;
-    Ok(bytes)
+    Ok(Ending {
+        bytes,
+        none: found.none,
+    })
 }
 
 /// Seeks a plan, and gives the report, of which nothing was given before. With `why` it says why every plan fails, if every plan does.
@@ -152,9 +158,5 @@ pub(crate) fn end_plan(
 {
     let mut text = ReportText::new(alloc);
     let found = write_search(alloc, scenario, judge.book(), &mut text)?;
-    let bytes = plan_report(alloc, text, judge, &found, why)?;
-    Ok(Ending {
-        bytes,
-        none: found.none,
-    })
+    plan_report(alloc, text, judge, &found, why)
 }

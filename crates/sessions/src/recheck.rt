@@ -2,6 +2,7 @@
 ghost use Rattle.std.specs.Prelude.{◌≡◌, ◌≤◌, ℕ, List, length, IfErr, IfOk, IsSome, Ok};
 ghost use Rattle.audit_report.specs.CsvRows.{row_of};
 ghost use Rattle.audit_report.specs.ReportRows.{no_plan_fields};
+ghost use Rattle.command_line.specs.declared.mode.Mode.{Mode};
 ghost use Rattle.command_line.specs.declared.mode.Mode.TheVariants as mode;
 ghost use Rattle.log_lines.specs.LogLines.{lines_of};
 ghost use Rattle.log_lines.specs.Standing.{StandsFor as JudgeStandsFor, keeping_of};
@@ -10,10 +11,11 @@ ghost use Rattle.scenario_values.specs.ValueRanges.{IsInRange};
 ghost use Rattle.situations.specs.Situations.{IsSituation};
 ghost use Rattle.tracks.specs.declared.keeping.Keeping.TheVariants.{Tracks};
 ghost use Rattle.sessions.specs.Endings.{IsAnswerOf};
-ghost use Rattle.sessions.specs.PlanReport.{IsSituationOn, log_messages};
+ghost use Rattle.sessions.specs.Modes.{look_of, own_ship};
+ghost use Rattle.sessions.specs.PlanReport.{IsSituationOn};
 ghost use Rattle.sessions.specs.RecheckReport.{IsRecheckReport};
 ghost use Rattle.sessions.specs.Inner.Faults.{EndCause};
-ghost use Rattle.sessions.specs.Inner.PlanWriting.{SoughtCause};
+ghost use Rattle.sessions.specs.Inner.Rechecking.{IsBadText, IsCheckedReport};
 
 use crate::ending::Ending;
 use crate::session_fault::SessionFault;
@@ -23,7 +25,7 @@ use outside::Memory;
 use rechecks::recheck;
 use refutations::Checked;
 use scenario_values::Scenario;
-use situations::{PrepareFault, Situation, prepare};
+use situations::{Situation, prepare};
 use std::alloc::Global;
 
 /// The situation in which own ship's plan is sought.
@@ -31,15 +33,15 @@ pub(crate) fn situation_at_end(
     alloc: Global,
     scenario: Scenario,
     judge: &Judge,
-) -> Result<Situation, PrepareFault>
+) -> Result<Situation, SessionFault>
     requires in_range { IsInRange scenario }
     requires own { IsSome scenario.own }
     requires keeping { keeping_of judge.now ≡ Tracks }
     requires at_end { (log : List ℕ) × JudgeStandsFor judge.now scenario (lines_of log) }
     ensures sound { IfOk result IsSituation }
     ensures situation { IfOk result (λ situation. (log : List ℕ) → JudgeStandsFor judge.now scenario (lines_of log) → IsSituationOn scenario log situation) }
-    ensures cause { IfErr result (λ fault. (log : List ℕ) → JudgeStandsFor judge.now scenario (lines_of log)
-        → SoughtCause scenario (log_messages scenario log) fault) }
+    ensures cause { IfErr result (λ why. (log : List ℕ) → JudgeStandsFor judge.now scenario (lines_of log)
+        → (mode : Mode) (rows : List ℕ) → look_of mode ≡ own_ship → EndCause mode rows scenario log why) }
 {
     let prepared = prepare(alloc, scenario, judge.book())?;
     Ok(prepared.situation)
@@ -52,6 +54,19 @@ fn no_plan(alloc: Global, plans: u32) -> Result<Vec<u8>, Memory>
     let mut text = ReportText::new(alloc);
     text.write(&ReportRow::NoPlan { plans })?;
     Ok(text.into_bytes()?)
+}
+
+/// The report of a situation in which these rows are checked.
+fn checked_report(alloc: Global, situation: &Situation, rows: &[u8]) -> Result<Ending, SessionFault>
+    requires sound { IsSituation situation.now }
+    requires few { length rows.now ≤ GREATEST_TEXT }
+    ensures right { IfOk result (IsCheckedReport situation.now rows.now) }
+    ensures bad { IfErr result (IsBadText situation.now rows.now) }
+{
+    match recheck(alloc, situation, rows)? {
+        Checked::Right => Ok(Ending::without_search(no_plan(alloc, situation.lattice.plans())?)),
+        Checked::Bad(index) => Err(SessionFault::Entry(index)),
+    }
 }
 
 /// The report, of which nothing was given before: that there is no plan, where the rows `why` of a text say rightly why.
@@ -71,8 +86,5 @@ pub(crate) fn end_recheck(
     ensures cause { IfErr result (λ why. (log : List ℕ) → JudgeStandsFor judge.now scenario (lines_of log) → EndCause mode.Recheck rows.now scenario log why) }
 {
     let situation = situation_at_end(alloc, scenario, judge)?;
-    match recheck(alloc, &situation, rows)? {
-        Checked::Right => Ok(Ending::without_search(no_plan(alloc, situation.lattice.plans())?)),
-        Checked::Bad(index) => Err(SessionFault::Entry(index)),
-    }
+    checked_report(alloc, &situation, rows)
 }

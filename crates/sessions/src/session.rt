@@ -212,20 +212,21 @@ impl Session {
         Ok(text.into_bytes()?)
     }
 
-    /// Ends the line that is open, if one is, as a line feed does, and writes what is decided by it.
-    fn end_line(&mut self, text: &mut ReportText) -> Result<(), SessionFault>
-        requires in_use { IsInUse self.old }
-        requires text { (front : List ℕ) × HasText text.old front }
+    /// Ends the line that is open, if one is, as a line feed does, and gives the text of what is decided by it.
+    fn end_line(&mut self) -> Result<ReportText, SessionFault>
+        requires { IsInUse self.old }
         ensures mode { mode_of self.new ≡ mode_of self.old }
         ensures scenario { session_scenario self.new ≡ session_scenario self.old }
-        ensures ended { OnOk result ((front : List ℕ) → HasText text.old front → EndedLine self.old self.new front text.new) }
+        ensures ended { IfOk result (EndedLine self.old self.new []) }
         ensures refused { IfErr result (λ why. UnlessMemory why ((fed given : List ℕ) → StandsFor self.old fed given
             → (task : Task) → task.mode ≡ mode_of self.old → IsAnswerTo task (session_scenario self.old) fed (Err why))) }
     {
+        let mut text = ReportText::new(self.alloc);
         if !self.lines.is_open() {
-            return Ok(());
+            return Ok(text);
         }
-        self.take_lines(b"\n", text)
+        self.take_lines(b"\n", &mut text)?;
+        Ok(text)
     }
 
     /// Ends the log, and gives the rest of the report, which does not say why every plan fails. Of a recheck it checks no rows.
@@ -255,8 +256,7 @@ impl Session {
         ensures refused { IfErr result (λ why. UnlessMemory why ((fed given : List ℕ) → StandsFor self fed given
             → IsAnswerTo (task_by (mode_of self) asked.now) (session_scenario self) fed (Err why))) }
     {
-        let mut text = ReportText::new(self.alloc);
-        self.end_line(&mut text)?;
+        let text = self.end_line()?;
         let Session {
             alloc,
             scenario,
@@ -276,14 +276,13 @@ impl Session {
         ensures refused { IfErr result (λ why. UnlessMemory why ((fed given : List ℕ) → StandsFor self fed given
             → (task : Task) → task.mode ≡ mode_of self → IsAnswerTo task (session_scenario self) fed (Err why))) }
     {
-        let mut text = ReportText::new(self.alloc);
-        self.end_line(&mut text)?;
+        self.end_line()?;
         let Session {
             alloc,
             scenario,
             lines,
             ..
         } = self;
-        Ok(situation_at_end(alloc, scenario, lines.judge())?)
+        situation_at_end(alloc, scenario, lines.judge())
     }
 }

@@ -146,7 +146,7 @@ impl Work {
         ensures cause { IfErr result (EndsWithCause self judge.now scenario asked.now) }
     {
         match self {
-            Work::Points => Ok(end_points(text, judge)?),
+            Work::Points => end_points(text, judge),
             Work::Audit(audit) => end_audit(text, &scenario, audit, judge),
             Work::Plan => end_plan(alloc, scenario, judge, asked.why),
             Work::Drill(audit) => end_drill(alloc, &scenario, audit, judge),

@@ -1,9 +1,13 @@
-use Rattle.std.proofs.Common.{[], refl}
+use Rattle.std.proofs.Common.{Bool, [], Ok, refl, subst, sym}
+use Rattle.std.proofs.lemmas.Result.{IfErr-weaker, IfOk-weaker}
 use Rattle.command_line.specs.declared.mode.Mode.TheVariants as mode
 use Rattle.outside.proofs.ForCallers.{err_cause}
 use Rattle.log_lines.specs.LogLines.{lines_of}
 use Rattle.log_lines.specs.SentLines.{sent}
+use Rattle.sessions.specs.Endings.{IsAnswerOf}
+use Rattle.sessions.specs.Inner.Faults.{EndCause}
 use Rattle.sessions.specs.PlanReport.{plan_text}
+use Rattle.sessions.specs.declared.session_fault.SessionFault.{SessionFault}
 use Rattle.sessions.proofs.AtEnds.{few_messages}
 use Rattle.sessions.proofs.Seeking.{are_reasons, own_cause, plan_answer}
 use Rattle.sessions.proofs.plan.end_plan.Goals as goal
@@ -20,19 +24,23 @@ returns-in_err-found-clause-cause c =
     (c.in_err-found.ensures.cause (sent c.args.scenario (lines_of log)) (c.book.ensures.stands c.args.scenario (lines_of log) stands)))
 
 pub returns-clause-answer : goal.returns-clause-answer
-returns-clause-answer c = λ log stands.
+returns-clause-answer c =
     let scenario = c.args.scenario in
-    plan_answer scenario log stands.calm c.write_search.new.text [] _ c.in_ok-found.found.none
-    (c.in_ok-found.ensures.sought (sent scenario (lines_of log)) [] (few_messages c.args.judge.now scenario (lines_of log) stands) (c.book.ensures.stands scenario (lines_of log) stands) c.new-text.ensures)
+    IfOk-weaker c.plan_report.result _ _ (λ ending none log stands.
+    subst (λ (b : Bool). IsAnswerOf mode.Plan [] scenario log (Ok b)) (sym none)
+    (plan_answer scenario log stands.calm c.write_search.new.text [] _ c.in_ok-found.found.none
+    (c.in_ok-found.ensures.sought (sent scenario (lines_of log)) [] (few_messages c.args.judge.now scenario (lines_of log) stands) (c.book.ensures.stands scenario (lines_of log) stands) c.new-text.ensures)))
+    c.plan_report.ensures.none
 
 pub returns-clause-report : goal.returns-clause-report
 unfolding plan_text
-returns-clause-report c = λ log stands.
+returns-clause-report c =
     let scenario = c.args.scenario in
+    IfOk-weaker c.plan_report.result _ _ (λ ending report log stands.
     let lines = lines_of log in
     let messages = sent scenario lines in
     let found = c.in_ok-found.ensures.sought messages [] (few_messages c.args.judge.now scenario lines stands) (c.book.ensures.stands scenario lines stands) c.new-text.ensures in
-    let (reasons, are, is) = c.in_ok-bytes.ensures scenario lines _ stands found.has in
+    let (reasons, are, is) = report scenario lines _ stands found.has in
     record {
       own = found.own;
       ready = found.ready;
@@ -42,4 +50,8 @@ returns-clause-report c = λ log stands.
       reasons = reasons;
       are_reasons = are_reasons c.args.why c.in_ok-found.found.none _ _ found.manoeuvre reasons found.is_of found.told are;
       is = is;
-    }
+    }) c.plan_report.ensures.report
+
+pub returns-clause-cause : goal.returns-clause-cause
+returns-clause-cause c =
+    IfErr-weaker c.plan_report.result _ _ (λ why memory log stands. subst (λ (f : SessionFault). EndCause mode.Plan [] c.args.scenario log f) (sym memory) tt) c.plan_report.ensures.memory

@@ -7,8 +7,8 @@ use Rattle.sessions.proofs.plan.plan_report.Goals as goal
 pub add_reasons-requires-clause-fail : goal.add_reasons-requires-clause-fail
 add_reasons-requires-clause-fail c = λ none. subst AllFail (sym c.situation.ensures) (c.requires.fail none)
 
-pub returns : goal.returns
-returns c = λ scenario lines front stands has.
+pub returns-clause-report : goal.returns-clause-report
+returns-clause-report c = λ scenario lines front stands has.
     let counts = c.in_ok-write_counts.ensures scenario lines front stands has in
     let (reasons, are, added) = c.in_ok-add_reasons.ensures in (
       reasons,

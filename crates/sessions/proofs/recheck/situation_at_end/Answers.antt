@@ -6,7 +6,7 @@ use Rattle.log_lines.specs.SentLines.{sent}
 use Rattle.situations.specs.Preparing.{IsPrepared}
 use Rattle.sessions.specs.PlanReport.{log_messages}
 use Rattle.sessions.proofs.Rechecking.{prepared_on}
-use Rattle.sessions.proofs.Seeking.{own_of, search_cause}
+use Rattle.sessions.proofs.Seeking.{own_cause, own_of, search_cause}
 use Rattle.sessions.proofs.recheck.situation_at_end.Goals as goal
 
 pub prepare-requires-clause-stands : goal.prepare-requires-clause-stands
@@ -16,11 +16,14 @@ prepare-requires-clause-stands c =
 
 pub returns-in_err-prepared-clause-cause : goal.returns-in_err-prepared-clause-cause
 returns-in_err-prepared-clause-cause c =
-    err_cause _ _ _ c.from_residual.ensures.1 (λ log judged.
-    let stands = c.book.ensures.stands c.args.scenario (lines_of log) judged in
-    search_cause c.args.scenario (log_messages c.args.scenario log) c.in_err-prepared.field-0.0
-    (λ why is. c.in_err-prepared.ensures.unready why (ap Err is) (numbers_of c.args.scenario) (log_messages c.args.scenario log) stands)
-    (λ is. c.in_err-prepared.ensures.many (ap Err is) (numbers_of c.args.scenario) (log_messages c.args.scenario log) stands))
+    let scenario = c.args.scenario in
+    let fault = c.in_err-prepared.field-0.0 in
+    err_cause _ _ _ c.from_residual.ensures.1 (λ log judged m rows looks.
+    let stands = c.book.ensures.stands scenario (lines_of log) judged in
+    own_cause scenario log judged.calm m rows looks c.requires.own fault
+    (search_cause scenario (log_messages scenario log) fault
+    (λ why is. c.in_err-prepared.ensures.unready why (ap Err is) (numbers_of scenario) (log_messages scenario log) stands)
+    (λ is. c.in_err-prepared.ensures.many (ap Err is) (numbers_of scenario) (log_messages scenario log) stands)))
 
 pub returns-clause-situation : goal.returns-clause-situation
 returns-clause-situation c = λ log judged.

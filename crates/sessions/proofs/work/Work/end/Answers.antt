@@ -50,13 +50,20 @@ end_recheck-requires-clause-own c = c.requires.own (subst (λ (w : Work). IsTrue
 
 -- ---- what its end comes to
 
-pub returns-in_ok-end_points-in-Points-clause-report : goal.returns-in_ok-end_points-in-Points-clause-report
-returns-in_ok-end_points-in-Points-clause-report c =
-    rw c.in-Points.is (points_reports c.args.judge.now c.args.scenario c.args.asked.now c.args.text c.in_ok-end_points-in-Points.field-0 c.in_ok-end_points-in-Points.ensures.report)
+pub returns-in-Points-clause-report : goal.returns-in-Points-clause-report
+returns-in-Points-clause-report c =
+    subst (λ (w : Work). IfOk c.end_points.result (EndsWithReport w c.args.judge.now c.args.scenario c.args.asked.now c.args.text)) (sym c.in-Points.is)
+    (IfOk-weaker c.end_points.result _ _ (λ ending report. points_reports c.args.judge.now c.args.scenario c.args.asked.now c.args.text ending report) c.end_points.ensures.report)
 
-pub returns-in_ok-end_points-in-Points-clause-answer : goal.returns-in_ok-end_points-in-Points-clause-answer
-returns-in_ok-end_points-in-Points-clause-answer c =
-    rw c.in-Points.is (λ log given at. rw c.in_ok-end_points-in-Points.ensures.search (points_done c.args.scenario log at.judged.calm))
+pub returns-in-Points-clause-answer : goal.returns-in-Points-clause-answer
+returns-in-Points-clause-answer c =
+    subst (λ (w : Work). IfOk c.end_points.result (EndsWithAnswer w c.args.judge.now c.args.scenario c.args.asked.now)) (sym c.in-Points.is)
+    (IfOk-weaker c.end_points.result _ _ (λ ending none log given at. rw none (points_done c.args.scenario log at.judged.calm)) c.end_points.ensures.search)
+
+pub returns-in-Points-clause-cause : goal.returns-in-Points-clause-cause
+returns-in-Points-clause-cause c =
+    subst (λ (w : Work). IfErr c.end_points.result (EndsWithCause w c.args.judge.now c.args.scenario c.args.asked.now)) (sym c.in-Points.is)
+    (IfErr-weaker c.end_points.result _ _ (λ why memory log given at. rw memory tt) c.end_points.ensures.memory)
 
 pub returns-in-Audit-clause-report : goal.returns-in-Audit-clause-report
 returns-in-Audit-clause-report c =
