@@ -5,9 +5,7 @@ use outside::Taken;
 use scenario_rows::HEAD_ON;
 use std::alloc::Global;
 use std::test::Fail;
-use whole_runs::{
-    ABOUT_SEATTLE, AUDIT, Devices, LOG, POINTS, REPORT, RunEnd, SOUND, edited, ended,
-};
+use whole_runs::{ABOUT_SEATTLE, AUDIT, Devices, LOG, POINTS, REPORT, RunEnd, SOUND, ended_with};
 
 /// What the clock of a line at second 741 settles of the log of two vessels that meet head on.
 const FIRST_TWO: &[u8] = b"verdict,369190000,477553000,r14a,broken,0,0
@@ -31,38 +29,41 @@ const READ_FAULT: End = (Status::ReadFault, 5);
 
 const WRITE_FAULT: End = (Status::WriteFault, 6);
 
-/// A run ends like this.
-fn has_end(ended: &RunEnd, end: End) -> Result<(), Fail> {
-    is((ended.status, ended.status.number()), end)
+/// How this run ended.
+fn end_of(ended: &RunEnd) -> End {
+    (ended.status, ended.status.number())
 }
 
 /// A run ends like this, and has written these bytes.
 fn has_ended(ended: &RunEnd, end: End, out: &[u8]) -> Result<(), Fail> {
-    has_end(ended, end)?;
-    is(ended.out.bytes(), out)
+    is((end_of(ended), ended.out.bytes()), (end, out))
 }
 
 // What is left of the log shows that nothing is read behind the fault.
 #[test]
 fn a_source_that_fails_after_a_hundred_bytes(rt: HostRuntime) -> Result<(), Fail> {
-    let scenario = edited(rt.alloc(), &[])?;
     let devices = Devices {
         piece: 100,
         failing_read: Some(1),
         ..SOUND
     };
-    let log = [b'#'; 150];
-    let ended = ended(rt.alloc(), POINTS, scenario.as_str(), &log, devices)?;
-    has_ended(&ended, READ_FAULT, b"")?;
-    is((ended.err.bytes(), ended.next), (NOT_READ, Taken::Got(50)))
+    let ended = ended_with(rt.alloc(), POINTS, &[], &[b'#'; 150], devices)?;
+    is(
+        (
+            end_of(&ended),
+            ended.out.bytes(),
+            ended.err.bytes(),
+            ended.next,
+        ),
+        (READ_FAULT, b"".as_slice(), NOT_READ, Taken::Got(50)),
+    )
 }
 
 /// Runs `audit` on the head-on log and one line more.
 fn audited(alloc: Global, last: &[u8], devices: Devices) -> Result<RunEnd, Fail> {
-    let scenario = edited(alloc, &[])?;
     let mut log = HEAD_ON.to_vec(alloc)?;
     log.extend_from_slice(last)?;
-    ended(alloc, AUDIT, scenario.as_str(), log.as_slice(), devices)
+    ended_with(alloc, AUDIT, &[], log.as_slice(), devices)
 }
 
 // The clock of the whole lines settles the first two rows, and the read behind them fails.
@@ -81,6 +82,15 @@ fn a_read_that_fails_leaves_the_rows_that_are_settled(rt: HostRuntime) -> Result
 /// A line that settles four rows. It ends in the seventh piece.
 const SETTLES: &[u8] = b"\\c:1700000951*52\\x\n";
 
+/// Whether a run whose read of this number fails has written what was settled by then.
+fn has_settled(ended: &RunEnd, call: u32) -> Result<(), Fail> {
+    match call {
+        0..7 => has_ended(ended, READ_FAULT, b""),
+        7 => has_ended(ended, READ_FAULT, FIRST_FOUR),
+        _ => is(ended.status, Status::Done),
+    }
+}
+
 // Standard error fails each time, and changes no status.
 #[test]
 fn each_read_that_fails_leaves_what_was_settled(rt: HostRuntime) -> Result<(), Fail> {
@@ -91,11 +101,7 @@ fn each_read_that_fails_leaves_what_was_settled(rt: HostRuntime) -> Result<(), F
             ..SOUND
         };
         let ended = audited(rt.alloc(), SETTLES, devices)?;
-        match call {
-            0..7 => has_ended(&ended, READ_FAULT, b"")?,
-            7 => has_ended(&ended, READ_FAULT, FIRST_FOUR)?,
-            _ => is(ended.status, Status::Done)?,
-        }
+        has_settled(&ended, call)?;
     }
     Ok(())
 }
@@ -104,15 +110,14 @@ fn each_read_that_fails_leaves_what_was_settled(rt: HostRuntime) -> Result<(), F
 fn is_front_of(ended: &RunEnd, whole: &RunEnd) -> Result<(), Fail> {
     is_true(whole.out.bytes().starts_with(ended.out.bytes()))?;
     if ended.out.bytes().len() < whole.out.bytes().len() {
-        has_end(ended, WRITE_FAULT)
+        is(end_of(ended), WRITE_FAULT)
     } else {
         is(ended.status, Status::Done)
     }
 }
 
-#[test]
-fn each_write_that_fails_leaves_a_front_of_the_report(rt: HostRuntime) -> Result<(), Fail> {
-    let whole = audited(rt.alloc(), SETTLES, SOUND)?;
+/// Whether runs of which one write fails have written fronts of what this one has written.
+fn has_fronts(alloc: Global, whole: &RunEnd) -> Result<(), Fail> {
     is(whole.status, Status::Done)?;
     for call in 0..20u32 {
         let devices = Devices {
@@ -120,31 +125,37 @@ fn each_write_that_fails_leaves_a_front_of_the_report(rt: HostRuntime) -> Result
             failing_line: Some(0),
             ..SOUND
         };
-        let ended = audited(rt.alloc(), SETTLES, devices)?;
-        is_front_of(&ended, &whole)?;
+        let ended = audited(alloc, SETTLES, devices)?;
+        is_front_of(&ended, whole)?;
     }
     Ok(())
 }
 
+#[test]
+fn each_write_that_fails_leaves_a_front_of_the_report(rt: HostRuntime) -> Result<(), Fail> {
+    let whole = audited(rt.alloc(), SETTLES, SOUND)?;
+    has_fronts(rt.alloc(), &whole)
+}
+
 /// The run's write failed behind so many bytes of the report of points, and it told nothing.
 fn is_cut_off_at(ended: &RunEnd, length: usize) -> Result<(), Fail> {
-    has_end(ended, WRITE_FAULT)?;
-    is(ended.out.bytes().len(), length)?;
     is_true(REPORT.starts_with(ended.out.bytes()))?;
-    is_true(ended.err.bytes().is_empty())
+    is(
+        (end_of(ended), ended.out.bytes().len(), ended.err.bytes()),
+        (WRITE_FAULT, length, b"".as_slice()),
+    )
 }
 
 // A failing standard error changes no status. The log's one row is written before its end is read, and the rest in pieces of 100 bytes.
 #[test]
 fn each_write_that_fails_leaves_the_front_before_it(rt: HostRuntime) -> Result<(), Fail> {
-    let scenario = edited(rt.alloc(), &[ABOUT_SEATTLE])?;
     for (call, length) in [(0, 0usize), (1, 42), (2, 142), (3, 242)] {
         let devices = Devices {
             failing_write: Some(call),
             failing_line: Some(0),
             ..SOUND
         };
-        let ended = ended(rt.alloc(), POINTS, scenario.as_str(), LOG, devices)?;
+        let ended = ended_with(rt.alloc(), POINTS, &[ABOUT_SEATTLE], LOG, devices)?;
         is_cut_off_at(&ended, length)?;
     }
     Ok(())

@@ -2,14 +2,12 @@
 use compared::is;
 use std::alloc::Global;
 use std::test::Fail;
-use whole_runs::{POINTS, SOUND, edited, ended};
+use whole_runs::{POINTS, SOUND, ended_with};
 
-/// The rows of the counts that are not 0 at the end of the report on a log.
-fn counted(alloc: Global, log: &[u8]) -> Result<String, Fail> {
-    let scenario = edited(alloc, &[])?;
-    let ended = ended(alloc, POINTS, scenario.as_str(), log, SOUND)?;
+/// The rows of the counts that are not 0 in a report.
+fn counts_in(alloc: Global, report: &[u8]) -> Result<String, Fail> {
     let mut counts = String::new(alloc);
-    if let Ok(text) = std::str::from_utf8(ended.out.bytes()) {
+    if let Ok(text) = std::str::from_utf8(report) {
         for line in text.lines() {
             if line.starts_with("lines,") && !line.ends_with(",0,,,,") {
                 counts.push_str(line)?;
@@ -18,6 +16,12 @@ fn counted(alloc: Global, log: &[u8]) -> Result<String, Fail> {
         }
     }
     Ok(counts)
+}
+
+/// The rows of the counts that are not 0 at the end of the report on a log.
+fn counted(alloc: Global, log: &[u8]) -> Result<String, Fail> {
+    let ended = ended_with(alloc, POINTS, &[], log, SOUND)?;
+    counts_in(alloc, ended.out.bytes())
 }
 
 const TAGS: &[u8] =
@@ -89,6 +93,5 @@ fn lines_of_the_greatest_length_and_of_a_byte_more(rt: HostRuntime) -> Result<()
     let mut log = vec![in rt.alloc(); b'x'; 2050]?;
     log[1025] = b'\n';
     let counts = counted(rt.alloc(), log.as_slice())?;
-    is(counts.as_str(), "lines,long,1,,,,\nlines,other,1,,,,\n")?;
-    Ok(())
+    is(counts.as_str(), "lines,long,1,,,,\nlines,other,1,,,,\n")
 }

@@ -161,7 +161,11 @@ fn marks(alloc: Global, count: usize) -> Result<String, Fail> {
 fn a_scenario_one_byte_too_long(rt: HostRuntime) -> Result<(), Fail> {
     let long = marks(rt.alloc(), 1048577)?;
     let ended = ended(rt.alloc(), POINTS, long.as_str(), LOG, SOUND)?;
-    is(ended.status, Status::Limit(Which::Scenario, 1048576))?;
-    is(ended.err.bytes(), b"limit: scenario 1048576\n".as_slice())?;
-    Ok(())
+    is(
+        (ended.status, ended.err.bytes()),
+        (
+            Status::Limit(Which::Scenario, 1048576),
+            b"limit: scenario 1048576\n".as_slice(),
+        ),
+    )
 }

@@ -157,7 +157,11 @@ fn rows_one_byte_too_long(rt: HostRuntime) -> Result<(), Fail> {
         rows: Some(rows.as_slice()),
     };
     let ended = ended_on(alloc, RECHECK, shelved, HEAD_ON_NOW, SOUND)?;
-    is(ended.status, Status::Limit(Which::Rows, 16777216))?;
-    is(ended.err.bytes(), b"limit: rows 16777216\n".as_slice())?;
-    Ok(())
+    is(
+        (ended.status, ended.err.bytes()),
+        (
+            Status::Limit(Which::Rows, 16777216),
+            b"limit: rows 16777216\n".as_slice(),
+        ),
+    )
 }

@@ -7,7 +7,7 @@ use std::alloc::Global;
 use std::test::Fail;
 use whole_runs::{
     ABOUT_SEATTLE, AUDIT, Devices, Edit, HEAD_ON_NOW, LOG, NOTHING, ONE_COURSE, ONE_TICK, OWN,
-    POINTS, REPORT, Row, RunEnd, SOUND, Written, edited, ended, is_as_worked_out,
+    POINTS, REPORT, Row, RunEnd, SOUND, Written, ended, ended_with, is_as_worked_out,
 };
 
 /// The row of that report.
@@ -324,43 +324,47 @@ fn each_mode_writes_the_report_that_was_worked_out(rt: HostRuntime) -> Result<()
 
 #[test]
 fn a_log_in_pieces_of_any_length(rt: HostRuntime) -> Result<(), Fail> {
-    let scenario = edited(rt.alloc(), &[ABOUT_SEATTLE])?;
     for piece in [1, 7, 46, 4096] {
         let devices = Devices { piece, ..SOUND };
-        let ended = ended(rt.alloc(), POINTS, scenario.as_str(), LOG, devices)?;
-        is(ended.status, Status::Done)?;
-        is(ended.out.bytes(), REPORT)?;
-        is_true(ended.err.bytes().is_empty())?;
+        let ended = ended_with(rt.alloc(), POINTS, &[ABOUT_SEATTLE], LOG, devices)?;
+        is(
+            (ended.status, ended.out.bytes(), ended.err.bytes()),
+            (Status::Done, REPORT, b"".as_slice()),
+        )?;
     }
     Ok(())
+}
+
+/// So many copies of a line.
+fn copies(alloc: Global, line: &[u8], count: u32) -> Result<Vec<u8>, Fail> {
+    let mut log = Vec::new(alloc);
+    for _ in 0..count {
+        log.extend_from_slice(line)?;
+    }
+    Ok(log)
 }
 
 // Long enough that each of its lines, and the report, ask for memory more than once.
 #[test]
 fn a_log_of_three_hundred_lines(rt: HostRuntime) -> Result<(), Fail> {
-    let scenario = edited(rt.alloc(), &[ABOUT_SEATTLE])?;
-    let mut log = Vec::new(rt.alloc());
-    for _ in 0..300u32 {
-        log.extend_from_slice(LOG)?;
-    }
+    let log = copies(rt.alloc(), LOG, 300)?;
     let devices = Devices {
         piece: 1000,
         ..SOUND
     };
-    let ended = ended(
+    let ended = ended_with(
         rt.alloc(),
         POINTS,
-        scenario.as_str(),
+        &[ABOUT_SEATTLE],
         log.as_slice(),
         devices,
     )?;
-    is(ended.status, Status::Done)?;
-    is_true(
-        ended.out.bytes().ends_with(
-            b"lines,back,299,,,,\nlines,repeat,0,,,,\nlines,jump,0,,,,\nlines,static,0,,,,\nlines,point,1,,,,\n",
-        ),
-    )?;
-    Ok(())
+    let last =
+        b"lines,back,299,,,,\nlines,repeat,0,,,,\nlines,jump,0,,,,\nlines,static,0,,,,\nlines,point,1,,,,\n";
+    is(
+        (ended.status, ended.out.bytes().ends_with(last)),
+        (Status::Done, true),
+    )
 }
 
 /// What a migration writes whose log fails at its first read, so it is not read; its options count for nothing.
@@ -370,8 +374,7 @@ fn migrated(alloc: Global) -> Result<RunEnd, Fail> {
         failing_read: Some(0),
         ..SOUND
     };
-    let scenario = edited(alloc, &[])?;
-    ended(alloc, &words, scenario.as_str(), b"", devices)
+    ended_with(alloc, &words, &[], b"", devices)
 }
 
 /// By this scenario the head-on log is audited as it was worked out.
@@ -380,13 +383,18 @@ fn audits_head_on(alloc: Global, scenario: &str) -> Result<(), Fail> {
     is_true(ended.out.bytes().starts_with(HEAD_ON_AUDITED))
 }
 
-#[test]
-fn a_migrated_scenario_audits_the_head_on_log_alike(rt: HostRuntime) -> Result<(), Fail> {
-    let migrated = migrated(rt.alloc())?;
+/// What this run has written is a scenario by which the head-on log is audited as it was worked out.
+fn migrates(alloc: Global, migrated: &RunEnd) -> Result<(), Fail> {
     is(migrated.status, Status::Done)?;
     let Ok(text) = std::str::from_utf8(migrated.out.bytes()) else {
         return Err("it is a text".into());
     };
     is_true(text.contains("ticks = 40\n"))?;
-    audits_head_on(rt.alloc(), text)
+    audits_head_on(alloc, text)
+}
+
+#[test]
+fn a_migrated_scenario_audits_the_head_on_log_alike(rt: HostRuntime) -> Result<(), Fail> {
+    let migrated = migrated(rt.alloc())?;
+    migrates(rt.alloc(), &migrated)
 }

@@ -7,5 +7,5 @@ mod whole_run;
 mod worked_row;
 
 pub use logs::{ABOUT_SEATTLE, HEAD_ON_NOW, LOG, ONE_COURSE, ONE_TICK, OWN, REPORT};
-pub use whole_run::{Devices, Edit, RunEnd, SOUND, Shelved, edited, ended, ended_on};
+pub use whole_run::{Devices, Edit, RunEnd, SOUND, Shelved, edited, ended, ended_on, ended_with};
 pub use worked_row::{AUDIT, NOTHING, POINTS, Row, Written, is_as_worked_out};

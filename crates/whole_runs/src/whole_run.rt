@@ -124,3 +124,15 @@ pub fn edited(alloc: Global, edits: &[Edit]) -> Result<String, Fail> {
     }
     Ok(text)
 }
+
+/// Runs the program with these words, where the scenario of the worked rows with these parts replaced lies under `scenario.toml`, on a log.
+pub fn ended_with(
+    alloc: Global,
+    texts: &[&str],
+    edits: &[Edit],
+    log: &[u8],
+    devices: Devices,
+) -> Result<RunEnd, Fail> {
+    let scenario = edited(alloc, edits)?;
+    ended(alloc, texts, scenario.as_str(), log, devices)
+}

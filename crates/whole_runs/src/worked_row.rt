@@ -1,5 +1,5 @@
 //! A worked row: what a run is given, and what it ends with.
-use crate::whole_run::{Devices, Edit, SOUND, Shelved, edited, ended_on};
+use crate::whole_run::{Devices, Edit, RunEnd, SOUND, Shelved, edited, ended_on};
 use colregs_program::Status;
 use std::alloc::Global;
 use std::test::Fail;
@@ -73,7 +73,21 @@ fn unlike(row: &Row, what: &str) -> Fail {
     Fail::new(format_args!("{}: {what}", row.shows))
 }
 
-/// Runs the program as the row has it, and compares how it ends. What fails is told by what the row shows.
+/// A run ended as the row has it. What is unlike is told by what the row shows.
+fn is_like(ended: &RunEnd, row: &Row) -> Result<(), Fail> {
+    if ended.status != row.status || ended.status.number() != row.number {
+        return Err(Fail::new(format_args!("{}: ended with {:?}", row.shows, ended.status)));
+    }
+    if !is_written(ended.out.bytes(), &row.out) {
+        return Err(unlike(row, "another report"));
+    }
+    if ended.err.bytes() != row.err {
+        return Err(unlike(row, "another line on standard error"));
+    }
+    Ok(())
+}
+
+/// Runs the program as the row has it, and compares how it ends.
 pub fn is_as_worked_out(alloc: Global, row: &Row) -> Result<(), Fail> {
     let scenario = edited(alloc, row.edits)?;
     let log = joined(alloc, row.log)?;
@@ -86,14 +100,5 @@ pub fn is_as_worked_out(alloc: Global, row: &Row) -> Result<(), Fail> {
         rows: row.rows,
     };
     let ended = ended_on(alloc, row.words, shelved, log.as_slice(), devices)?;
-    if ended.status != row.status || ended.status.number() != row.number {
-        return Err(Fail::new(format_args!("{}: ended with {:?}", row.shows, ended.status)));
-    }
-    if !is_written(ended.out.bytes(), &row.out) {
-        return Err(unlike(row, "another report"));
-    }
-    if ended.err.bytes() != row.err {
-        return Err(unlike(row, "another line on standard error"));
-    }
-    Ok(())
+    is_like(&ended, row)
 }
