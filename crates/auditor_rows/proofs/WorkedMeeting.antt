@@ -1,5 +1,5 @@
 -- The two vessels of the worked meeting move as a step may say.
-use Rattle.std.proofs.Common.{ℕ, ◌+◌, ◌*◌, ◌^◌, true, false, cond, [], arith}
+use Rattle.std.proofs.Common.{ℕ, Bool, ◌+◌, ◌*◌, ◌^◌, true, false, cond, [], arith}
 use Rattle.std.specs.Prelude.{Some, None, pos, neg_ℤ, ◌-ℤ◌, ◌==◌, Option}
 use Rattle.std.specs.Option.{option_map}
 use Rattle.std.proofs.lemmas.Int.{ints}
@@ -8,7 +8,7 @@ use Rattle.motion.specs.Displacement.{displacement}
 use Rattle.motion.specs.declared.leg.TickState.{TickState}
 use Rattle.meetings.specs.Traces.{IsShortMove}
 use Rattle.traces.specs.Audited.{MoveLittle, SeenVessels}
-use Rattle.auditor_rows.specs.WorkedMeeting.{head_on_at, overtaking_at, own_at, two_vessels}
+use Rattle.auditor_rows.specs.WorkedMeeting.{head_on_at, overtaking_at, own_at, seen_at, two_vessels}
 
 pub from_none : (seen : SeenVessels) → MoveLittle [] seen
 from_none seen mmsi = tt
@@ -34,3 +34,9 @@ moves_at k = two_move _ _ _ _ (own_moves k) (record { x = omega (arith, ints); y
 
 pub moves_past : (k : ℕ) → MoveLittle (overtaking_at k) (overtaking_at (k + 1))
 moves_past k = two_move _ _ _ _ (own_moves k) (record { x = omega (arith, ints); y = omega (arith, ints) })
+
+pub moves_on : (still : Bool) (k : ℕ) → MoveLittle (seen_at still k) (seen_at still (k + 1))
+moves_on still k = elim still as (λ t. MoveLittle (seen_at t k) (seen_at t (k + 1))) [
+  | true ↦ moves_past k
+  | false ↦ moves_at k
+]

@@ -1,5 +1,5 @@
 -- The worked meetings: the two vessels at a tick.
-use Rattle.std.specs.Prelude.{ℕ, ◌*◌, [], ◌∷◌, Some, pos, neg_ℤ, ◌-ℤ◌}
+use Rattle.std.specs.Prelude.{ℕ, Bool, cond, ◌*◌, [], ◌∷◌, Some, pos, neg_ℤ, ◌-ℤ◌}
 use Rattle.motion.specs.declared.leg.TickState.{TickState}
 use Rattle.traces.specs.Audited.{SeenVessels}
 
@@ -17,3 +17,7 @@ head_on_at k =
 -- The other lies still and heads the same way.
 abbrev pub overtaking_at : ℕ → SeenVessels
 overtaking_at k = two_vessels (own_at k) (record { point = record { x = neg_ℤ (pos 185200); y = pos 0 }; direction = Some 0; speed = Some 0 })
+
+-- The one or the other.
+abbrev pub seen_at : Bool → ℕ → SeenVessels
+seen_at still k = cond still (overtaking_at k) (head_on_at k)

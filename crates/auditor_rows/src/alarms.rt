@@ -4,18 +4,20 @@ ghost use Rattle.traces.specs.Audited.{MoveLittle};
 ghost use Rattle.early_monitor.specs.Watching.{IsSound, given_of, last_tick_of, latest_vessels};
 ghost use Rattle.auditor_rows.specs.WorkedMeeting.{head_on_at};
 
-use crate::audits::{ACT, DETECT, NUMBERS, OTHER, OWN, head_on};
+use crate::audits::{ACT, ALL, BACK, DETECT, NUMBERS, PAIR, UNRANKED, head_on};
 use crate::compared::is;
-use early_monitor::{Alarm, Watch};
+use early_monitor::{Alarm, Watch, WatchFault};
 use meetings::Pair;
 use mtl_formulas::parse;
+use outside::Memory;
 use rule_set::{Name, RuleSet};
 use scenario_values::Window;
-use std::alloc::{AllocError, Global};
+use std::alloc::Global;
+use std::process::Abort;
 use std::test::Fail;
 
 /// A watch of 40 ticks of 10 seconds, by these rules.
-fn watch(alloc: Global, rules: &RuleSet) -> Result<Watch, Fail>
+fn watch(alloc: Global, rules: &RuleSet) -> Result<Watch, Memory>
     ensures sound { IfOk result (λ watch. IsSound watch) }
     ensures none { IfOk result (λ watch. given_of watch ≡ 0) }
     ensures last { IfOk result (λ watch. last_tick_of watch ≡ 40) }
@@ -26,11 +28,19 @@ fn watch(alloc: Global, rules: &RuleSet) -> Result<Watch, Fail>
         tick: 10,
         ticks: 40,
     };
-    Ok(Watch::new(alloc, rules, DETECT, ACT, &[], window)?)
+    Watch::new(alloc, rules, DETECT, ACT, &ALL, window)
+}
+
+/// Keeps alarms, each with the tick at which it came.
+fn keep(alarms: &mut Vec<(u32, Alarm)>, k: u32, given: &[Alarm]) -> Result<(), Memory> {
+    for alarm in given {
+        alarms.push((k, *alarm))?;
+    }
+    Ok(())
 }
 
 /// Takes a tick of the meeting, and keeps the alarms that come with it.
-fn take(watch: &mut Watch, k: u32, alarms: &mut Vec<(u32, Alarm)>) -> Result<(), Fail>
+fn take(watch: &mut Watch, k: u32, alarms: &mut Vec<(u32, Alarm)>) -> Result<(), WatchFault>
     requires sound { IsSound watch.old }
     requires at { given_of watch.old ≡ k }
     requires within { k ≤ last_tick_of watch.old }
@@ -42,114 +52,125 @@ fn take(watch: &mut Watch, k: u32, alarms: &mut Vec<(u32, Alarm)>) -> Result<(),
     ensures moves { OnOk result (MoveLittle (latest_vessels watch.new) (head_on_at (k + 1))) }
 {
     let seen = head_on(k);
-    let given = watch.step(&seen, &[])?;
-    for alarm in given {
-        alarms.push((k, alarm))?;
+    let given = watch.step(&seen, &UNRANKED)?;
+    Ok(keep(alarms, k, &given)?)
+}
+
+/// Takes all ticks of the meeting, and keeps the alarms that come with them.
+fn take_all(watch: &mut Watch, alarms: &mut Vec<(u32, Alarm)>) -> Result<(), WatchFault>
+    requires sound { IsSound watch.old }
+    requires none { given_of watch.old ≡ 0 }
+    requires last { last_tick_of watch.old ≡ 40 }
+    requires latest { latest_vessels watch.old ≡ [] }
+{
+    for k in 0..41_u32 {
+        take(watch, k, alarms)?;
     }
     Ok(())
 }
 
-/// The alarms of the meeting by these rules, each with the tick at which it came.
-fn watched(alloc: Global, rules: &RuleSet) -> Result<Vec<(u32, Alarm)>, Fail> {
-    let mut watch = watch(alloc, rules)?;
-    let mut alarms = Vec::new(alloc);
-    for k in 0..41_u32 {
-        take(&mut watch, k, &mut alarms)?;
-    }
-    Ok(alarms)
-}
-
-/// Where a rule is broken by the step that decides it, as the alarm of a pair, with the tick at which it comes.
-fn alarm(pair: Pair, rule: u32, position: u32, decided: u32) -> (u32, Alarm)
-    requires { decided ≤ 40 }
-{
-    (
-        decided + 1,
-        Alarm {
-            decided,
-            pair,
-            rule,
-            position,
-        },
-    )
-}
-
-/// The alarms of a pair that a step decides. The fourth rule is broken at step 0, as step 6 decides; the second at steps 18 to 21, at
-/// which the vessels are not clear, as each of them decides. So a rule that they be clear for 600 seconds is broken up to step 21,
-/// and step 18 decides that of all steps before it.
-fn push_decided(
+/// Keeps the alarms of the meeting by these rules, each with the tick at which it came.
+fn keep_all(
+    alloc: Global,
+    rules: &RuleSet,
     alarms: &mut Vec<(u32, Alarm)>,
-    pair: Pair,
-    decided: u32,
-    is_early: bool,
-) -> Result<(), AllocError>
-    requires { decided ≤ 40 }
-{
-    if decided == 6 {
-        alarms.push(alarm(pair, 3, 0, decided))?;
-    }
-    if decided < 18 || decided > 21 {
-        return Ok(());
-    }
-    alarms.push(alarm(pair, 1, decided, decided))?;
-    if is_early {
-        let first = if decided == 18 { 0 } else { decided };
-        for position in first..decided + 1 {
-            alarms.push(alarm(pair, 11, position, decided))?;
+) -> Result<(), WatchFault> {
+    let mut watch = watch(alloc, rules)?;
+    take_all(&mut watch, alarms)
+}
+
+/// The tick at which alarms come, the step that decides them, their pair and rule, and their positions, from one up to another.
+type Told = (u32, u32, Pair, u32, u32, u32);
+
+/// Each alarm by itself.
+fn listed(alloc: Global, told: &[Told]) -> Result<Vec<(u32, Alarm)>, Memory> {
+    let mut alarms = Vec::new(alloc);
+    for (tick, decided, pair, rule, first, end) in told {
+        for position in *first..*end {
+            let alarm = Alarm {
+                decided: *decided,
+                pair: *pair,
+                rule: *rule,
+                position,
+            };
+            alarms.push((*tick, alarm))?;
         }
     }
+    Ok(alarms)
+}
+
+/// By these rules the alarms of the meeting are these.
+fn are_told(
+    rt: &impl Abort,
+    alloc: Global,
+    rules: &RuleSet,
+    told: &[Told],
+) -> Result<(), WatchFault> {
+    let wanted = listed(alloc, told)?;
+    let mut alarms = Vec::new(alloc);
+    keep_all(alloc, rules, &mut alarms)?;
+    is(rt, alarms.as_slice(), wanted.as_slice());
     Ok(())
 }
 
-/// The alarms of the meeting, with such a rule behind the eleven or without.
-fn wanted(alloc: Global, is_early: bool) -> Result<Vec<(u32, Alarm)>, AllocError> {
-    let mut alarms = Vec::new(alloc);
-    for decided in 0..40_u32 {
-        push_decided(
-            &mut alarms,
-            Pair {
-                subject: OWN,
-                other: OTHER,
-            },
-            decided,
-            is_early,
-        )?;
-        push_decided(
-            &mut alarms,
-            Pair {
-                subject: OTHER,
-                other: OWN,
-            },
-            decided,
-            is_early,
-        )?;
-    }
-    Ok(alarms)
-}
+/// The fourth rule is broken at step 0, as step 6 decides; the second at steps 18 to 21, at which the vessels are not clear, as each
+/// of them decides.
+static BY_ELEVEN_RULES: [Told; 10] = [
+    (7, 6, PAIR, 3, 0, 1),
+    (7, 6, BACK, 3, 0, 1),
+    (19, 18, PAIR, 1, 18, 19),
+    (19, 18, BACK, 1, 18, 19),
+    (20, 19, PAIR, 1, 19, 20),
+    (20, 19, BACK, 1, 19, 20),
+    (21, 20, PAIR, 1, 20, 21),
+    (21, 20, BACK, 1, 20, 21),
+    (22, 21, PAIR, 1, 21, 22),
+    (22, 21, BACK, 1, 21, 22),
+];
 
 #[test]
 fn head_on_where_nobody_alters_is_told_at_the_steps_that_decide_it(
     rt: HostRuntime,
-) -> Result<(), Fail> {
-    let alloc = rt.alloc();
-    let rules = RuleSet::new(alloc, &NUMBERS, 10)?;
-    let alarms = watched(alloc, &rules)?;
-    is(&rt, alarms.as_slice(), wanted(alloc, false)?.as_slice());
+) -> Result<(), WatchFault> {
+    let rules = RuleSet::new(rt.alloc(), &NUMBERS, 10)?;
+    are_told(&rt, rt.alloc(), &rules, &BY_ELEVEN_RULES)
+}
+
+/// Adds a rule that the vessels be clear for 600 seconds.
+fn add_long_rule(rt: &impl Abort, alloc: Global, rules: &mut RuleSet) -> Result<(), Fail> {
+    assert!(rt; rules.len() < 17 && !rules.holds(b"u1"));
+    let always = parse(alloc, b"G[0,600] clear(200)", 10)?;
+    is(rt, rules.add(Name::of(b"u1"), always).is_ok(), true);
     Ok(())
 }
+
+/// A rule that the vessels be clear for 600 seconds is broken up to step 21, and step 18 decides that of all steps before it.
+static WITH_A_LONG_RULE: [Told; 18] = [
+    (7, 6, PAIR, 3, 0, 1),
+    (7, 6, BACK, 3, 0, 1),
+    (19, 18, PAIR, 1, 18, 19),
+    (19, 18, PAIR, 11, 0, 19),
+    (19, 18, BACK, 1, 18, 19),
+    (19, 18, BACK, 11, 0, 19),
+    (20, 19, PAIR, 1, 19, 20),
+    (20, 19, PAIR, 11, 19, 20),
+    (20, 19, BACK, 1, 19, 20),
+    (20, 19, BACK, 11, 19, 20),
+    (21, 20, PAIR, 1, 20, 21),
+    (21, 20, PAIR, 11, 20, 21),
+    (21, 20, BACK, 1, 20, 21),
+    (21, 20, BACK, 11, 20, 21),
+    (22, 21, PAIR, 1, 21, 22),
+    (22, 21, PAIR, 11, 21, 22),
+    (22, 21, BACK, 1, 21, 22),
+    (22, 21, BACK, 11, 21, 22),
+];
 
 #[test]
 fn a_rule_over_a_long_time_is_told_with_the_step_that_breaks_it(
     rt: HostRuntime,
 ) -> Result<(), Fail> {
-    let alloc = rt.alloc();
-    let mut rules = RuleSet::new(alloc, &NUMBERS, 10)?;
-    let always = parse(alloc, b"G[0,600] clear(200)", 10)?;
-    assert!(rt; rules.len() < 17);
-    assert!(rt; !rules.holds(b"u1"));
-    let added = rules.add(Name::of(b"u1"), always);
-    assert!(rt; added.is_ok());
-    let alarms = watched(alloc, &rules)?;
-    is(&rt, alarms.as_slice(), wanted(alloc, true)?.as_slice());
-    Ok(())
+    let mut rules = RuleSet::new(rt.alloc(), &NUMBERS, 10)?;
+    add_long_rule(&rt, rt.alloc(), &mut rules)?;
+    Ok(are_told(&rt, rt.alloc(), &rules, &WITH_A_LONG_RULE)?)
 }

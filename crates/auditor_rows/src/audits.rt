@@ -1,21 +1,24 @@
 //! Whole audits of a few vessels.
 ghost use Rattle.std.specs.Prelude.{ℤ, ◌≡◌, ◌+◌, ◌*◌, ◌<◌, ◌≤◌, ◌-ℤ◌, pos, [], IfOk, OnOk};
 ghost use Rattle.traces.specs.Audited.{AreAscending, ArePlaced, MoveLittle};
-ghost use Rattle.auditor_rows.specs.WorkedMeeting.{head_on_at};
+ghost use Rattle.auditor_rows.specs.WorkedMeeting.{head_on_at, overtaking_at, seen_at};
 ghost use Rattle.auditor.specs.Standing.{IsSound, given_of, last_tick_of, latest_vessels};
 
-use crate::compared::{is, is_true};
+use crate::compared::is;
+use crate::queues::NO_ROWS;
 use audit_rows::Row;
 use auditor::{Audit, AuditEnd, AuditFault, Total};
 use encounters::{Act, Detect};
 use fixed_geometry::Point;
 use meetings::Pair;
 use motion::TickState;
+use outside::Memory;
+use ranks::Rank;
 use rule_set::{RuleNumbers, RuleSet, Safe};
 use scenario_values::Window;
 use sectors::{Angles, Class};
 use std::alloc::Global;
-use std::test::Fail;
+use std::process::Abort;
 
 pub(crate) const DETECT: Detect = Detect {
     watch: 50_000_000,
@@ -47,29 +50,56 @@ pub(crate) const NUMBERS: RuleNumbers = RuleNumbers {
     te: 600,
 };
 
+/// No subjects are named, so that all vessels are.
+pub(crate) static ALL: [u32; 0] = [];
+
+/// The ranks where they do not count.
+pub(crate) static UNRANKED: [Rank; 0] = [];
+
 pub(crate) const OWN: u32 = 369_190_000;
 
 pub(crate) const OTHER: u32 = 477_553_000;
 
-/// An audit of so many ticks of 10 seconds, by the eleven rules.
-fn audit(alloc: Global, ticks: u32) -> Result<Audit, Fail>
+/// The duties of the first vessel towards the second.
+pub(crate) const PAIR: Pair = Pair {
+    subject: OWN,
+    other: OTHER,
+};
+
+/// Those of the second.
+pub(crate) const BACK: Pair = Pair {
+    subject: OTHER,
+    other: OWN,
+};
+
+/// The eleven rules, or the twelve of an audit with ranks.
+fn rules(alloc: Global, ranked: bool) -> Result<RuleSet, Memory> {
+    if ranked {
+        RuleSet::new_ranked(alloc, &NUMBERS, 10)
+    } else {
+        RuleSet::new(alloc, &NUMBERS, 10)
+    }
+}
+
+/// An audit of so many ticks of 10 seconds.
+fn audit(alloc: Global, ranked: bool, ticks: u32) -> Result<Audit, Memory>
     requires { ticks ≤ 20000 }
     ensures sound { IfOk result (λ audit. IsSound audit) }
     ensures none { IfOk result (λ audit. given_of audit ≡ 0) }
     ensures last { IfOk result (λ audit. last_tick_of audit ≡ ticks) }
     ensures latest { IfOk result (λ audit. latest_vessels audit ≡ []) }
 {
-    let rules = RuleSet::new(alloc, &NUMBERS, 10)?;
+    let rules = rules(alloc, ranked)?;
     let window = Window {
         start: 1_700_000_000,
         tick: 10,
         ticks,
     };
-    Ok(Audit::new(alloc, &rules, DETECT, ACT, &[], window)?)
+    Audit::new(alloc, &rules, DETECT, ACT, &ALL, window)
 }
 
 /// How far north of the middle the first vessel is at a tick.
-pub(crate) fn north(k: u32) -> i64
+fn north(k: u32) -> i64
     requires { k ≤ 40 }
     ensures { result ≡ pos (926000 * k) -ℤ pos 18520000 }
 {
@@ -112,125 +142,225 @@ pub(crate) fn head_on(k: u32) -> [(u32, TickState); 2]
     ]
 }
 
+/// A vessel that overtakes another, which lies still, 18.52 metres aside of her, at a tick.
+fn overtaking(k: u32) -> [(u32, TickState); 2]
+    requires { k ≤ 40 }
+    ensures { result ≡ overtaking_at k }
+{
+    [
+        (
+            OWN,
+            TickState {
+                point: Point { x: 0, y: north(k) },
+                direction: Some(0),
+                speed: Some(180),
+            },
+        ),
+        (
+            OTHER,
+            TickState {
+                point: Point { x: -185_200, y: 0 },
+                direction: Some(0),
+                speed: Some(0),
+            },
+        ),
+    ]
+}
+
+/// A meeting of the two vessels: whether the second lies still, and the ranks at the first tick and at all later ones, which are none
+/// where ranks do not count.
+pub(crate) struct Encounter {
+    pub(crate) still: bool,
+    pub(crate) first: &'static [Rank],
+    pub(crate) later: &'static [Rank],
+}
+
+/// The vessels at a tick.
+fn seen_at(still: bool, k: u32) -> [(u32, TickState); 2]
+    requires { k ≤ 40 }
+    ensures vessels { result ≡ seen_at still k }
+    ensures ascending { AreAscending result }
+    ensures placed { ArePlaced result }
+{
+    if still { overtaking(k) } else { head_on(k) }
+}
+
+/// The rows that come with a tick of these vessels.
+fn given(
+    audit: &mut Audit,
+    seen: &[(u32, TickState)],
+    ranks: &[Rank],
+) -> Result<Vec<Row>, AuditFault>
+    requires sound { IsSound audit.old }
+    requires within { given_of audit.old ≤ last_tick_of audit.old }
+    requires ascending { AreAscending seen.now }
+    requires placed { ArePlaced seen.now }
+    requires moves { MoveLittle (latest_vessels audit.old) seen.now }
+    ensures sound { OnOk result (IsSound audit.new) }
+    ensures given { OnOk result (given_of audit.new ≡ given_of audit.old + 1) }
+    ensures last { OnOk result (last_tick_of audit.new ≡ last_tick_of audit.old) }
+    ensures latest { OnOk result (latest_vessels audit.new ≡ seen.now) }
+{
+    if ranks.is_empty() {
+        audit.step(seen)
+    } else {
+        audit.step_ranked(seen, ranks)
+    }
+}
+
+/// Keeps rows, each with the tick at which it came.
+fn keep(rows: &mut Vec<(u32, Row)>, k: u32, given: &[Row]) -> Result<(), Memory> {
+    for row in given {
+        rows.push((k, *row))?;
+    }
+    Ok(())
+}
+
 /// Takes a tick of the meeting, and keeps the rows that come with it.
-fn take(audit: &mut Audit, k: u32, rows: &mut Vec<(u32, Row)>) -> Result<(), Fail>
+fn take(
+    audit: &mut Audit,
+    encounter: &Encounter,
+    k: u32,
+    rows: &mut Vec<(u32, Row)>,
+) -> Result<(), AuditFault>
     requires sound { IsSound audit.old }
     requires at { given_of audit.old ≡ k }
     requires within { k ≤ last_tick_of audit.old }
     requires small { k ≤ 40 }
-    requires moves { MoveLittle (latest_vessels audit.old) (head_on_at k) }
+    requires moves { MoveLittle (latest_vessels audit.old) (seen_at encounter.now.still k) }
     ensures sound { OnOk result (IsSound audit.new) }
     ensures at { OnOk result (given_of audit.new ≡ k + 1) }
     ensures last { OnOk result (last_tick_of audit.new ≡ last_tick_of audit.old) }
-    ensures moves { OnOk result (MoveLittle (latest_vessels audit.new) (head_on_at (k + 1))) }
+    ensures moves { OnOk result (MoveLittle (latest_vessels audit.new) (seen_at encounter.now.still (k + 1))) }
 {
-    let seen = head_on(k);
-    let given = audit.step(&seen)?;
-    for row in given {
-        rows.push((k, row))?;
+    let seen = seen_at(encounter.still, k);
+    let ranks = if k == 0 {
+        encounter.first
+    } else {
+        encounter.later
+    };
+    let given = given(audit, &seen, ranks)?;
+    Ok(keep(rows, k, &given)?)
+}
+
+/// Takes all ticks of the meeting, and keeps the rows that come with them.
+fn take_all(
+    audit: &mut Audit,
+    encounter: &Encounter,
+    ticks: u32,
+    rows: &mut Vec<(u32, Row)>,
+) -> Result<(), AuditFault>
+    requires small { ticks ≤ 40 }
+    requires sound { IsSound audit.old }
+    requires none { given_of audit.old ≡ 0 }
+    requires last { last_tick_of audit.old ≡ ticks }
+    requires latest { latest_vessels audit.old ≡ [] }
+    ensures sound { OnOk result (IsSound audit.new) }
+    ensures all { OnOk result (given_of audit.new ≡ last_tick_of audit.new + 1) }
+{
+    for k in 0..ticks + 1 {
+        take(audit, encounter, k, rows)?;
     }
     Ok(())
 }
 
-/// The meeting in a window of so many ticks: the rows, each with the tick at which it came, and what the end brings.
-fn audited(alloc: Global, ticks: u32) -> Result<(Vec<(u32, Row)>, AuditEnd), Fail>
+/// Audits the meeting in a window of so many ticks, keeps the rows that come before its end, and gives what the end brings.
+pub(crate) fn audited(
+    alloc: Global,
+    encounter: &Encounter,
+    ticks: u32,
+    rows: &mut Vec<(u32, Row)>,
+) -> Result<AuditEnd, AuditFault>
     requires { ticks ≤ 40 }
 {
-    let mut audit = audit(alloc, ticks)?;
+    let mut audit = audit(alloc, !encounter.first.is_empty(), ticks)?;
+    take_all(&mut audit, encounter, ticks, rows)?;
+    Ok(audit.end()?)
+}
+
+/// The totals of the meeting in a window of so many ticks, where these rows come before its end, each with its tick, and these with it.
+pub(crate) fn totals_behind(
+    rt: &impl Abort,
+    alloc: Global,
+    encounter: &Encounter,
+    ticks: u32,
+    before: &[(u32, Row)],
+    last: &[Row],
+) -> Result<Vec<Total>, AuditFault>
+    requires { ticks ≤ 40 }
+{
     let mut rows = Vec::new(alloc);
-    for k in 0..ticks + 1 {
-        take(&mut audit, k, &mut rows)?;
-    }
-    let end = audit.end()?;
-    Ok((rows, end))
+    let AuditEnd { rows: rest, totals } = audited(alloc, encounter, ticks, &mut rows)?;
+    is(rt, rows.as_slice(), before);
+    is(rt, rest.as_slice(), last);
+    Ok(totals)
 }
 
-pub(crate) fn verdict(
-    subject: u32,
-    other: u32,
-    rule: u32,
-    undecided: bool,
-    first: u32,
-    last: u32,
-) -> Row {
-    Row::Verdict {
-        pair: Pair { subject, other },
-        rule,
-        undecided,
-        first,
-        last,
-    }
-}
+static COMING_HEAD_ON: Encounter = Encounter {
+    still: false,
+    first: &[],
+    later: &[],
+};
 
-pub(crate) fn meeting(subject: u32, other: u32, last: u32, least: u64) -> Row {
-    Row::Meeting {
-        pair: Pair { subject, other },
-        kind: Class::HeadOn,
-        first: 0,
-        last,
-        least,
-    }
-}
+#[rattlefmt::skip]
+pub(crate) static HEAD_ON_ROWS: [(u32, Row); 6] = [
+    (8, Row::Verdict { pair: PAIR, rule: 3, undecided: false, first: 0, last: 0 }),
+    (8, Row::Verdict { pair: BACK, rule: 3, undecided: false, first: 0, last: 0 }),
+    (29, Row::Verdict { pair: PAIR, rule: 1, undecided: false, first: 18, last: 21 }),
+    (29, Row::Verdict { pair: BACK, rule: 1, undecided: false, first: 18, last: 21 }),
+    (33, Row::Meeting { pair: PAIR, kind: Class::HeadOn, first: 0, last: 25, least: 185_200 }),
+    (33, Row::Meeting { pair: BACK, kind: Class::HeadOn, first: 0, last: 25, least: 185_200 }),
+];
+
+#[rattlefmt::skip]
+static HEAD_ON_TOTALS: [Total; 11] = [
+    Total { positions: 80, yes: 80, no: 0, undecided: 0, runs: 0 },
+    Total { positions: 80, yes: 72, no: 8, undecided: 0, runs: 2 },
+    Total { positions: 80, yes: 80, no: 0, undecided: 0, runs: 0 },
+    Total { positions: 80, yes: 78, no: 2, undecided: 0, runs: 2 },
+    Total { positions: 80, yes: 80, no: 0, undecided: 0, runs: 0 },
+    Total { positions: 80, yes: 80, no: 0, undecided: 0, runs: 0 },
+    Total { positions: 80, yes: 80, no: 0, undecided: 0, runs: 0 },
+    Total { positions: 80, yes: 80, no: 0, undecided: 0, runs: 0 },
+    Total { positions: 80, yes: 80, no: 0, undecided: 0, runs: 0 },
+    Total { positions: 80, yes: 80, no: 0, undecided: 0, runs: 0 },
+    Total { positions: 80, yes: 80, no: 0, undecided: 0, runs: 0 },
+];
 
 #[test]
-fn head_on_where_nobody_alters(rt: HostRuntime) -> Result<(), Fail> {
-    let (rows, end) = audited(rt.alloc(), 40)?;
-    is(
+fn head_on_where_nobody_alters(rt: HostRuntime) -> Result<(), AuditFault> {
+    let totals = totals_behind(
         &rt,
-        rows.as_slice(),
-        [
-            (8, verdict(OWN, OTHER, 3, false, 0, 0)),
-            (8, verdict(OTHER, OWN, 3, false, 0, 0)),
-            (29, verdict(OWN, OTHER, 1, false, 18, 21)),
-            (29, verdict(OTHER, OWN, 1, false, 18, 21)),
-            (33, meeting(OWN, OTHER, 25, 185_200)),
-            (33, meeting(OTHER, OWN, 25, 185_200)),
-        ]
-        .as_slice(),
-    );
-    is_true(&rt, end.rows.is_empty());
-    is(&rt, end.totals.len(), 11);
-    for (rule, total) in end.totals.iter().enumerate() {
-        let no = match rule {
-            1 => 8,
-            3 => 2,
-            _ => 0,
-        };
-        is(
-            &rt,
-            *total,
-            Total {
-                positions: 80,
-                yes: 80 - no,
-                no,
-                undecided: 0,
-                runs: no.min(2),
-            },
-        );
-    }
+        rt.alloc(),
+        &COMING_HEAD_ON,
+        40,
+        &HEAD_ON_ROWS,
+        &NO_ROWS,
+    )?;
+    is(&rt, totals.as_slice(), HEAD_ON_TOTALS.as_slice());
     Ok(())
 }
 
+static NOT_YET: [(u32, Row); 0] = [];
+
+#[rattlefmt::skip]
+static LEFT_OPEN: [Row; 4] = [
+    Row::Verdict { pair: PAIR, rule: 3, undecided: true, first: 0, last: 0 },
+    Row::Verdict { pair: BACK, rule: 3, undecided: true, first: 0, last: 0 },
+    Row::Meeting { pair: PAIR, kind: Class::HeadOn, first: 0, last: 3, least: 29_632_578 },
+    Row::Meeting { pair: BACK, kind: Class::HeadOn, first: 0, last: 3, least: 29_632_578 },
+];
+
 #[test]
-fn a_window_that_ends_early_leaves_open_what_is_not_decided(rt: HostRuntime) -> Result<(), Fail> {
-    let (rows, end) = audited(rt.alloc(), 4)?;
-    is_true(&rt, rows.is_empty());
-    is(
-        &rt,
-        end.rows.as_slice(),
-        [
-            verdict(OWN, OTHER, 3, true, 0, 0),
-            verdict(OTHER, OWN, 3, true, 0, 0),
-            meeting(OWN, OTHER, 3, 29_632_578),
-            meeting(OTHER, OWN, 3, 29_632_578),
-        ]
-        .as_slice(),
-    );
+fn a_window_that_ends_early_leaves_open_what_is_not_decided(
+    rt: HostRuntime,
+) -> Result<(), AuditFault> {
+    let _totals = totals_behind(&rt, rt.alloc(), &COMING_HEAD_ON, 4, &NOT_YET, &LEFT_OPEN)?;
     Ok(())
 }
 
 /// So many vessels that lie still in one point.
-fn still(alloc: Global, vessels: u32) -> Result<Vec<(u32, TickState)>, Fail>
+fn still(alloc: Global, vessels: u32) -> Result<Vec<(u32, TickState)>, Memory>
     requires { vessels ≤ 1000 }
     ensures ascending { IfOk result (λ seen. AreAscending seen.items) }
     ensures placed { IfOk result (λ seen. ArePlaced seen.items) }
@@ -249,19 +379,18 @@ fn still(alloc: Global, vessels: u32) -> Result<Vec<(u32, TickState)>, Fail>
     Ok(seen)
 }
 
-/// The first tick of an audit of vessels that lie still.
-fn first_tick(alloc: Global, vessels: u32) -> Result<Result<Vec<Row>, AuditFault>, Fail>
+/// The rows of the first tick of so many vessels that lie still.
+fn first_tick(alloc: Global, vessels: u32) -> Result<Vec<Row>, AuditFault>
     requires { vessels ≤ 1000 }
 {
-    let mut audit = audit(alloc, 4)?;
     let seen = still(alloc, vessels)?;
-    Ok(audit.step(&seen))
+    let mut audit = audit(alloc, false, 4)?;
+    audit.step(&seen)
 }
 
 #[test]
-fn sixty_five_vessels_are_too_many_pairs(rt: HostRuntime) -> Result<(), Fail> {
-    is_true(&rt, first_tick(rt.alloc(), 64)?.is_ok());
-    let many = first_tick(rt.alloc(), 65)?;
-    is_true(&rt, matches!(many, Err(AuditFault::TooManyPairs)));
-    Ok(())
+fn sixty_five_vessels_are_too_many_pairs(rt: HostRuntime) {
+    is(&rt, first_tick(rt.alloc(), 64).is_ok(), true);
+    let fault = first_tick(rt.alloc(), 65).err();
+    is(&rt, fault, Some(AuditFault::TooManyPairs));
 }

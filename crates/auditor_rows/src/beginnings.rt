@@ -4,24 +4,24 @@ ghost use Rattle.traces.specs.Audited.{MoveLittle};
 ghost use Rattle.traces.specs.Standing.{IsSound, latest_vessels};
 ghost use Rattle.auditor_rows.specs.WorkedMeeting.{head_on_at};
 
-use crate::audits::{ACT, DETECT, OTHER, OWN, head_on};
-use crate::compared::{is, is_true};
+use crate::audits::{ACT, ALL, BACK, DETECT, PAIR, UNRANKED, head_on};
+use crate::compared::is;
 use encounters::EngagementState;
 use meetings::Pair;
 use sectors::Class;
 use std::alloc::Global;
-use std::test::Fail;
-use traces::AllTraces;
+use std::process::Abort;
+use traces::{AllTraces, TickFault};
 
 /// The traces of the meeting after its first tick, in a window of so many ticks.
-fn begun(alloc: Global, last_tick: u32) -> Result<AllTraces, Fail>
+fn begun(alloc: Global, last_tick: u32) -> Result<AllTraces, TickFault>
     requires { last_tick ≤ 40 }
     ensures sound { IfOk result (λ traces. IsSound traces) }
     ensures moves { IfOk result (λ traces. MoveLittle (latest_vessels traces) (head_on_at 1)) }
 {
-    let mut traces = AllTraces::new(alloc, DETECT, ACT, &[], 10, last_tick)?;
+    let mut traces = AllTraces::new(alloc, DETECT, ACT, &ALL, 10, last_tick)?;
     let seen = head_on(0);
-    traces.tick(&seen, &[])?;
+    traces.tick(&seen, &UNRANKED)?;
     Ok(traces)
 }
 
@@ -34,76 +34,71 @@ fn pair_at(traces: &AllTraces, index: usize) -> Option<Pair> {
     }
 }
 
-/// The state of the engagement of a trace, where there is one of this index.
-fn state_at(traces: &AllTraces, index: usize) -> Option<EngagementState> {
-    if index < traces.len() {
-        Some(traces.state(index))
-    } else {
-        None
-    }
+/// The pairs of the first three traces, and how many ticks were given, the last one's number and how many traces there are.
+type Summary = ([Option<Pair>; 3], u32, u32, usize);
+
+fn told(traces: &AllTraces) -> Summary {
+    let pairs = [pair_at(traces, 0), pair_at(traces, 1), pair_at(traces, 2)];
+    (pairs, traces.given(), traces.last_tick(), traces.len())
 }
 
-/// Takes the step to the second tick, where there is a trace of this index, and tells whether both vessels are seen at it.
-fn take_first_step(traces: &mut AllTraces, index: usize) -> bool
-    requires sound { IsSound traces.old }
-    requires moves { MoveLittle (latest_vessels traces.old) (head_on_at 1) }
+/// They are these for the traces of the meeting after its first tick.
+fn are_begun(
+    rt: &impl Abort,
+    alloc: Global,
+    last_tick: u32,
+    wanted: Summary,
+) -> Result<(), TickFault>
+    requires { last_tick ≤ 40 }
 {
-    let seen = head_on(1);
-    if index < traces.len() {
-        let step = traces.next_step(index, &seen);
-        let _row = traces.take_step(index, step.as_ref());
-        step.is_some()
-    } else {
-        false
-    }
+    let traces = begun(alloc, last_tick)?;
+    is(rt, told(&traces), wanted);
+    Ok(())
 }
 
 #[test]
 fn both_orders_of_two_vessels_begin_at_the_tick_at_which_they_are_near(
     rt: HostRuntime,
-) -> Result<(), Fail> {
-    let traces = begun(rt.alloc(), 4)?;
-    is(&rt, traces.given(), 1);
-    is(&rt, traces.last_tick(), 4);
-    is(&rt, traces.len(), 2);
-    let own = Pair {
-        subject: OWN,
-        other: OTHER,
-    };
-    let other = Pair {
-        subject: OTHER,
-        other: OWN,
-    };
-    is(&rt, pair_at(&traces, 0), Some(own));
-    is(&rt, pair_at(&traces, 1), Some(other));
-    is(&rt, pair_at(&traces, 2), None);
-    Ok(())
+) -> Result<(), TickFault> {
+    let pairs = [Some(PAIR), Some(BACK), None];
+    are_begun(&rt, rt.alloc(), 4, (pairs, 1, 4, 2))
 }
 
 #[test]
-fn no_trace_begins_at_the_last_tick(rt: HostRuntime) -> Result<(), Fail> {
-    let traces = begun(rt.alloc(), 0)?;
-    is(&rt, traces.len(), 0);
-    Ok(())
+fn no_trace_begins_at_the_last_tick(rt: HostRuntime) -> Result<(), TickFault> {
+    are_begun(&rt, rt.alloc(), 0, ([None; 3], 1, 0, 0))
+}
+
+/// The kind of the engagement, where the vessels are engaged.
+fn kind_of(state: &EngagementState) -> Option<Class> {
+    match state {
+        EngagementState::Apart => None,
+        EngagementState::Engaged { kind, .. } => Some(*kind),
+    }
+}
+
+/// The kinds of the engagement of a trace before and at the step to the second tick, and whether both vessels are seen at that step.
+type Stepped = (Option<Class>, Option<Class>, bool);
+
+/// Takes this step, where there is a trace of this index.
+fn take_first_step(traces: &mut AllTraces, index: usize) -> Option<Stepped>
+    requires sound { IsSound traces.old }
+    requires moves { MoveLittle (latest_vessels traces.old) (head_on_at 1) }
+{
+    if index >= traces.len() {
+        return None;
+    }
+    let seen = head_on(1);
+    let was = kind_of(&traces.state(index));
+    let step = traces.next_step(index, &seen);
+    let _row = traces.take_step(index, step.as_ref());
+    Some((was, kind_of(&traces.state(index)), step.is_some()))
 }
 
 #[test]
-fn the_first_step_of_a_meeting_begins_an_engagement(rt: HostRuntime) -> Result<(), Fail> {
+fn the_first_step_of_a_meeting_begins_an_engagement(rt: HostRuntime) -> Result<(), TickFault> {
     let mut traces = begun(rt.alloc(), 4)?;
-    is_true(
-        &rt,
-        matches!(&state_at(&traces, 1), Some(EngagementState::Apart)),
-    );
-    is_true(&rt, take_first_step(&mut traces, 1));
-    is_true(
-        &rt,
-        matches!(
-            &state_at(&traces, 1),
-            Some(EngagementState::Engaged {
-                kind: Class::HeadOn,
-                ..
-            })
-        ),
-    );
+    let stepped = take_first_step(&mut traces, 1);
+    is(&rt, stepped, Some((None, Some(Class::HeadOn), true)));
     Ok(())
 }

@@ -4,13 +4,13 @@ ghost use Rattle.encounters.specs.Directions.{HasDirection};
 ghost use Rattle.fixed_geometry.specs.Sizes.{IsBelow};
 ghost use Rattle.traces.specs.Audited.{AreAscending, ArePlaced};
 
-use crate::compared::{is, is_true};
+use crate::compared::is;
 use fixed_geometry::Point;
 use meetings::{Pair, contact};
 use motion::TickState;
 use outside::Memory;
 use std::alloc::Global;
-use std::test::Fail;
+use std::process::Abort;
 use traces::{contacts, state_of};
 
 fn vessel(mmsi: u32, x: i32, y: i32) -> (u32, TickState)
@@ -44,32 +44,50 @@ fn fleet(alloc: Global, points: &[(i32, i32)]) -> Result<Vec<(u32, TickState)>, 
     Ok(seen)
 }
 
-#[test]
-fn vessels_exactly_the_watch_distance_apart_are_in_contact(rt: HostRuntime) -> Result<(), Fail> {
-    let points = [(3001, 4000), (0, 0), (3000, 4000), (-5000, 0), (-5001, 0)];
-    let seen = fleet(rt.alloc(), &points)?;
-    let mut pairs = contacts(rt.alloc(), &[], &seen, 5000)?;
+static POINTS: [(i32, i32); 5] = [(3001, 4000), (0, 0), (3000, 4000), (-5000, 0), (-5001, 0)];
+
+/// The vessels at the points of which one is a subject, or all where there are no subjects, are in contact in these pairs, at a watch
+/// distance of 5000.
+fn are_in_contact(
+    rt: &impl Abort,
+    alloc: Global,
+    subjects: &[u32],
+    wanted: &[Pair],
+) -> Result<(), Memory> {
+    let seen = fleet(alloc, &POINTS)?;
+    let mut pairs = contacts(alloc, subjects, &seen, 5000)?;
     pairs.sort_unstable();
-    let expected = [(10, 30), (20, 30), (20, 40), (40, 50)];
-    is(&rt, pairs.len(), expected.len());
-    for (pair, expected) in pairs.iter().zip(&expected) {
-        is(&rt, (pair.subject, pair.other), *expected);
-    }
+    is(rt, pairs.as_slice(), wanted);
     Ok(())
 }
 
+static NO_SUBJECTS: [u32; 0] = [];
+
+#[rattlefmt::skip]
+static EACH: [Pair; 4] = [
+    Pair { subject: 10, other: 30 },
+    Pair { subject: 20, other: 30 },
+    Pair { subject: 20, other: 40 },
+    Pair { subject: 40, other: 50 },
+];
+
 #[test]
-fn of_the_others_none_but_those_near_a_subject_are_found(rt: HostRuntime) -> Result<(), Fail> {
-    let points = [(3001, 4000), (0, 0), (3000, 4000), (-5000, 0), (-5001, 0)];
-    let seen = fleet(rt.alloc(), &points)?;
-    let mut pairs = contacts(rt.alloc(), &[30, 50], &seen, 5000)?;
-    pairs.sort_unstable();
-    let expected = [(10, 30), (20, 30), (40, 50)];
-    is(&rt, pairs.len(), expected.len());
-    for (pair, expected) in pairs.iter().zip(&expected) {
-        is(&rt, (pair.subject, pair.other), *expected);
-    }
-    Ok(())
+fn vessels_exactly_the_watch_distance_apart_are_in_contact(rt: HostRuntime) -> Result<(), Memory> {
+    are_in_contact(&rt, rt.alloc(), &NO_SUBJECTS, &EACH)
+}
+
+static SUBJECTS: [u32; 2] = [30, 50];
+
+#[rattlefmt::skip]
+static NEAR_A_SUBJECT: [Pair; 3] = [
+    Pair { subject: 10, other: 30 },
+    Pair { subject: 20, other: 30 },
+    Pair { subject: 40, other: 50 },
+];
+
+#[test]
+fn of_the_others_none_but_those_near_a_subject_are_found(rt: HostRuntime) -> Result<(), Memory> {
+    are_in_contact(&rt, rt.alloc(), &SUBJECTS, &NEAR_A_SUBJECT)
 }
 
 /// Points as a linear congruence gives them.
@@ -83,6 +101,7 @@ fn scatter(points: &mut [(i32, i32)]) {
     }
 }
 
+/// Each pair of vessels in contact, the one of the lesser MMSI first, as each vessel is held against each.
 fn all_against_all(
     alloc: Global,
     seen: &[(u32, TickState)],
@@ -92,9 +111,9 @@ fn all_against_all(
     requires watch { watch ≤ 1000000000 }
 {
     let mut pairs = Vec::new(alloc);
-    for (index, subject) in seen.iter().enumerate() {
-        for other in &seen[index + 1..] {
-            if contact(&subject.1, &other.1, watch) {
+    for subject in seen {
+        for other in seen {
+            if subject.0 < other.0 && contact(&subject.1, &other.1, watch) {
                 pairs.push(Pair {
                     subject: subject.0,
                     other: other.0,
@@ -105,27 +124,63 @@ fn all_against_all(
     Ok(pairs)
 }
 
-#[test]
-fn the_sweep_finds_what_all_against_all_finds(rt: HostRuntime) -> Result<(), Fail> {
+/// A hundred vessels.
+fn scattered(alloc: Global) -> Result<Vec<(u32, TickState)>, Memory>
+    ensures ascending { IfOk result (λ seen. AreAscending seen.items) }
+    ensures placed { IfOk result (λ seen. ArePlaced seen.items) }
+{
     let mut points = [(0, 0); 100];
     scatter(&mut points);
-    let seen = fleet(rt.alloc(), &points)?;
-    let mut found = contacts(rt.alloc(), &[], &seen, 2000000)?;
+    fleet(alloc, &points)
+}
+
+#[test]
+fn the_sweep_finds_what_all_against_all_finds(rt: HostRuntime) -> Result<(), Memory> {
+    let seen = scattered(rt.alloc())?;
+    let mut found = contacts(rt.alloc(), &NO_SUBJECTS, &seen, 2000000)?;
     found.sort_unstable();
     let expected = all_against_all(rt.alloc(), &seen, 2000000)?;
-    is_true(&rt, expected.len() > 100);
-    is_true(&rt, expected.len() < 500);
-    is_true(&rt, found == expected);
+    is(&rt, found.as_slice(), expected.as_slice());
+    let count = expected.len();
+    is(&rt, (count > 100, count < 500), (true, true));
+    Ok(())
+}
+
+/// Where the vessel of an MMSI is, if she is seen.
+fn point_of(seen: &[(u32, TickState)], mmsi: u32) -> Option<Point>
+    requires { AreAscending seen.now }
+{
+    Some(state_of(seen, mmsi)?.point)
+}
+
+static THREE: [(i32, i32); 3] = [(1, 2), (3, 4), (5, 6)];
+
+static SOUGHT: [(u32, Option<Point>); 6] = [
+    (20, Some(Point { x: 3, y: 4 })),
+    (0, None),
+    (9, None),
+    (11, None),
+    (25, None),
+    (31, None),
+];
+
+/// Of vessels at these points those that are sought have these points.
+fn are_found(
+    rt: &impl Abort,
+    alloc: Global,
+    points: &[(i32, i32)],
+    sought: &[(u32, Option<Point>)],
+) -> Result<(), Memory>
+    requires { length points.now ≤ 1000 }
+{
+    let seen = fleet(alloc, points)?;
+    for (mmsi, point) in sought {
+        is(rt, (*mmsi, point_of(&seen, *mmsi)), (*mmsi, *point));
+    }
     Ok(())
 }
 
 #[test]
-fn a_vessel_that_is_not_seen_has_no_state(rt: HostRuntime) -> Result<(), Fail> {
-    let seen = fleet(rt.alloc(), &[(1, 2), (3, 4), (5, 6)])?;
-    let state = state_of(&seen, 20).ok_or("a state")?;
-    is(&rt, state.point, Point { x: 3, y: 4 });
-    for mmsi in [0, 9, 11, 25, 31] {
-        assert!(rt; state_of(&seen, mmsi).is_none(), "at {mmsi}");
-    }
-    Ok(())
+fn a_vessel_that_is_not_seen_has_no_state(rt: HostRuntime) -> Result<(), Memory> {
+    are_found(&rt, rt.alloc(), &THREE, &SOUGHT)
 }

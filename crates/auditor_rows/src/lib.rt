@@ -14,6 +14,8 @@ mod contacts;
 #[cfg(test)]
 mod marks;
 #[cfg(test)]
+mod queues;
+#[cfg(test)]
 mod ranked;
 #[cfg(test)]
 mod row_texts;

@@ -1,10 +1,10 @@
 //! The marks of traces, their rows and their totals.
-use crate::compared::is;
-use audit_rows::{Mark, Row, RowQueue};
-use auditor::{Total, begin_tracks, totals_of};
+use crate::queues::{Step, comes_to};
+use audit_rows::{Mark, Row};
+use auditor::Total;
 use meetings::Pair;
+use outside::Memory;
 use sectors::Class;
-use std::test::Fail;
 
 const PAIR: Pair = Pair {
     subject: 1,
@@ -16,123 +16,70 @@ const REVERSE: Pair = Pair {
     other: 1,
 };
 
-fn meeting(first: u32, last: u32, least: u64) -> Row {
-    Row::Meeting {
-        pair: PAIR,
-        kind: Class::HeadOn,
-        first,
-        last,
-        least,
-    }
-}
+#[rattlefmt::skip]
+static ONE_TRACE: [Step; 10] = [
+    Step::Trace(PAIR, 1),
+    Step::Mark(0, 0, Mark::Engaged { kind: Class::HeadOn, least: 300 }),
+    Step::Mark(0, 1, Mark::Engaged { kind: Class::HeadOn, least: 200 }),
+    Step::Mark(0, 2, Mark::Nothing),
+    Step::Mark(0, 3, Mark::Engaged { kind: Class::HeadOn, least: 400 }),
+    Step::Mark(1, 0, Mark::Nothing),
+    Step::Mark(1, 1, Mark::Broken),
+    Step::Mark(1, 2, Mark::Broken),
+    Step::Below(2, &[Row::Meeting { pair: PAIR, kind: Class::HeadOn, first: 0, last: 1, least: 200 }]),
+    Step::Mark(1, 3, Mark::Undecided),
+];
 
-fn verdict(pair: Pair, rule: u32, undecided: bool, first: u32, last: u32) -> Row {
-    Row::Verdict {
-        pair,
-        rule,
-        undecided,
-        first,
-        last,
-    }
-}
+#[rattlefmt::skip]
+static LATE_ROWS: [Row; 3] = [
+    Row::Verdict { pair: PAIR, rule: 0, undecided: false, first: 1, last: 2 },
+    Row::Meeting { pair: PAIR, kind: Class::HeadOn, first: 3, last: 3, least: 400 },
+    Row::Verdict { pair: PAIR, rule: 0, undecided: true, first: 3, last: 3 },
+];
 
-fn engaged(least: u64) -> Mark {
-    Mark::Engaged {
-        kind: Class::HeadOn,
-        least,
-    }
-}
-
-#[test]
-fn a_trace_gives_its_rows_as_they_are_decided_and_its_total(rt: HostRuntime) -> Result<(), Fail> {
-    let mut queue = RowQueue::new(rt.alloc());
-    begin_tracks(&mut queue, PAIR, 1)?;
-    queue.mark(0, 0, engaged(300))?;
-    queue.mark(0, 1, engaged(200))?;
-    queue.mark(0, 2, Mark::Nothing)?;
-    queue.mark(0, 3, engaged(400))?;
-    queue.mark(1, 0, Mark::Nothing)?;
-    queue.mark(1, 1, Mark::Broken)?;
-    queue.mark(1, 2, Mark::Broken)?;
-    let early = queue.rows_below(2)?;
-    is(&rt, early.as_slice(), [meeting(0, 1, 200)].as_slice());
-    queue.mark(1, 3, Mark::Undecided)?;
-    let totals = totals_of(rt.alloc(), &queue, 1, 4)?;
-    let late = queue.finish(4)?;
-    is(
-        &rt,
-        late.as_slice(),
-        [
-            verdict(PAIR, 0, false, 1, 2),
-            meeting(3, 3, 400),
-            verdict(PAIR, 0, true, 3, 3),
-        ]
-        .as_slice(),
-    );
-    is(
-        &rt,
-        totals.as_slice(),
-        [Total {
-            positions: 4,
-            yes: 1,
-            no: 2,
-            undecided: 1,
-            runs: 1,
-        }]
-        .as_slice(),
-    );
-    Ok(())
-}
+#[rattlefmt::skip]
+static TOTAL: [Total; 1] = [
+    Total { positions: 4, yes: 1, no: 2, undecided: 1, runs: 1 },
+];
 
 #[test]
-fn each_rule_has_one_total_over_the_traces_of_all_pairs(rt: HostRuntime) -> Result<(), Fail> {
-    let mut queue = RowQueue::new(rt.alloc());
-    begin_tracks(&mut queue, PAIR, 2)?;
-    begin_tracks(&mut queue, REVERSE, 2)?;
-    for index in [0, 3] {
-        queue.mark(index, 5, Mark::Nothing)?;
-        queue.mark(index, 6, Mark::Nothing)?;
-    }
-    queue.mark(1, 5, Mark::Broken)?;
-    queue.mark(1, 6, Mark::Nothing)?;
-    queue.mark(2, 5, Mark::Nothing)?;
-    queue.mark(2, 6, Mark::Nothing)?;
-    queue.mark(4, 5, Mark::Broken)?;
-    queue.mark(4, 6, Mark::Nothing)?;
-    queue.mark(5, 5, Mark::Undecided)?;
-    queue.mark(5, 6, Mark::Undecided)?;
-    let totals = totals_of(rt.alloc(), &queue, 2, 7)?;
-    let rows = queue.finish(7)?;
-    is(
-        &rt,
-        rows.as_slice(),
-        [
-            verdict(PAIR, 0, false, 5, 5),
-            verdict(REVERSE, 0, false, 5, 5),
-            verdict(REVERSE, 1, true, 5, 6),
-        ]
-        .as_slice(),
-    );
-    is(
-        &rt,
-        totals.as_slice(),
-        [
-            Total {
-                positions: 4,
-                yes: 2,
-                no: 2,
-                undecided: 0,
-                runs: 2,
-            },
-            Total {
-                positions: 4,
-                yes: 2,
-                no: 0,
-                undecided: 2,
-                runs: 0,
-            },
-        ]
-        .as_slice(),
-    );
-    Ok(())
+fn a_trace_gives_its_rows_as_they_are_decided_and_its_total(rt: HostRuntime) -> Result<(), Memory> {
+    comes_to(&rt, rt.alloc(), &ONE_TRACE, 4, &LATE_ROWS, &TOTAL)
+}
+
+static TWO_TRACES: [Step; 14] = [
+    Step::Trace(PAIR, 2),
+    Step::Trace(REVERSE, 2),
+    // the meetings
+    Step::Mark(0, 5, Mark::Nothing),
+    Step::Mark(0, 6, Mark::Nothing),
+    Step::Mark(3, 5, Mark::Nothing),
+    Step::Mark(3, 6, Mark::Nothing),
+    // the rules
+    Step::Mark(1, 5, Mark::Broken),
+    Step::Mark(1, 6, Mark::Nothing),
+    Step::Mark(2, 5, Mark::Nothing),
+    Step::Mark(2, 6, Mark::Nothing),
+    Step::Mark(4, 5, Mark::Broken),
+    Step::Mark(4, 6, Mark::Nothing),
+    Step::Mark(5, 5, Mark::Undecided),
+    Step::Mark(5, 6, Mark::Undecided),
+];
+
+#[rattlefmt::skip]
+static ROWS: [Row; 3] = [
+    Row::Verdict { pair: PAIR, rule: 0, undecided: false, first: 5, last: 5 },
+    Row::Verdict { pair: REVERSE, rule: 0, undecided: false, first: 5, last: 5 },
+    Row::Verdict { pair: REVERSE, rule: 1, undecided: true, first: 5, last: 6 },
+];
+
+#[rattlefmt::skip]
+static TOTALS: [Total; 2] = [
+    Total { positions: 4, yes: 2, no: 2, undecided: 0, runs: 2 },
+    Total { positions: 4, yes: 2, no: 0, undecided: 2, runs: 0 },
+];
+
+#[test]
+fn each_rule_has_one_total_over_the_traces_of_all_pairs(rt: HostRuntime) -> Result<(), Memory> {
+    comes_to(&rt, rt.alloc(), &TWO_TRACES, 7, &ROWS, &TOTALS)
 }

@@ -1,195 +1,77 @@
 //! Audits with ranks.
-ghost use Rattle.std.specs.Prelude.{◌≡◌, ◌+◌, ◌≤◌, [], IfOk, OnOk};
-ghost use Rattle.traces.specs.Audited.{AreAscending, ArePlaced, MoveLittle};
-ghost use Rattle.auditor.specs.Standing.{IsSound, given_of, last_tick_of, latest_vessels};
-ghost use Rattle.auditor_rows.specs.WorkedMeeting.{head_on_at, overtaking_at};
-
-use crate::audits::{ACT, DETECT, NUMBERS, OTHER, OWN, head_on, meeting, north, verdict};
-use crate::compared::{is, is_true};
+use crate::audits::{BACK, Encounter, HEAD_ON_ROWS, OWN, PAIR, audited, totals_behind};
+use crate::compared::is;
+use crate::queues::NO_ROWS;
 use audit_rows::Row;
-use auditor::{Audit, AuditEnd};
-use fixed_geometry::Point;
-use motion::TickState;
+use auditor::{AuditFault, Total};
+use outside::Memory;
 use ranks::Rank;
-use rule_set::RuleSet;
-use scenario_values::Window;
+use sectors::Class;
 use std::alloc::Global;
-use std::test::Fail;
+use std::process::Abort;
 
-/// An audit of 40 ticks of 10 seconds, by the twelve rules.
-fn audit(alloc: Global) -> Result<Audit, Fail>
-    ensures sound { IfOk result (λ audit. IsSound audit) }
-    ensures none { IfOk result (λ audit. given_of audit ≡ 0) }
-    ensures last { IfOk result (λ audit. last_tick_of audit ≡ 40) }
-    ensures latest { IfOk result (λ audit. latest_vessels audit ≡ []) }
-{
-    let rules = RuleSet::new_ranked(alloc, &NUMBERS, 10)?;
-    let window = Window {
-        start: 1_700_000_000,
-        tick: 10,
-        ticks: 40,
-    };
-    Ok(Audit::new(alloc, &rules, DETECT, ACT, &[], window)?)
+/// How many positions broke `r18`, the last of the twelve rules.
+fn broken_by_rank(totals: &[Total]) -> Option<u64> {
+    Some(totals.get(11)?.no)
 }
 
-/// Takes a tick of two vessels with their ranks, and keeps the rows that come with it.
-fn take(
-    audit: &mut Audit,
-    seen: &[(u32, TickState)],
-    ranks: &[Rank],
-    rows: &mut Vec<(u32, Row)>,
-    k: u32,
-) -> Result<(), Fail>
-    requires sound { IsSound audit.old }
-    requires within { given_of audit.old ≤ last_tick_of audit.old }
-    requires ascending { AreAscending seen.now }
-    requires placed { ArePlaced seen.now }
-    requires moves { MoveLittle (latest_vessels audit.old) seen.now }
-    ensures sound { OnOk result (IsSound audit.new) }
-    ensures given { OnOk result (given_of audit.new ≡ given_of audit.old + 1) }
-    ensures last { OnOk result (last_tick_of audit.new ≡ last_tick_of audit.old) }
-    ensures latest { OnOk result (latest_vessels audit.new ≡ seen.now) }
-{
-    let given = audit.step_ranked(seen, ranks)?;
-    for row in given {
-        rows.push((k, row))?;
-    }
+/// These are the rows of 40 ticks, none of which comes with the end, and so many positions broke the last of twelve rules.
+fn comes_to(
+    rt: &impl Abort,
+    alloc: Global,
+    encounter: &Encounter,
+    rows: &[(u32, Row)],
+    broken: u64,
+) -> Result<(), AuditFault> {
+    let totals = totals_behind(rt, alloc, encounter, 40, rows, &NO_ROWS)?;
+    let found = (totals.len(), broken_by_rank(&totals));
+    is(rt, found, (12, Some(broken)));
     Ok(())
 }
 
-/// The same of the head-on meeting.
-fn take_head_on(
-    audit: &mut Audit,
-    ranks: &[Rank],
-    rows: &mut Vec<(u32, Row)>,
-    k: u32,
-) -> Result<(), Fail>
-    requires sound { IsSound audit.old }
-    requires within { given_of audit.old ≤ last_tick_of audit.old }
-    requires small { k ≤ 40 }
-    requires moves { MoveLittle (latest_vessels audit.old) (head_on_at k) }
-    ensures sound { OnOk result (IsSound audit.new) }
-    ensures given { OnOk result (given_of audit.new ≡ given_of audit.old + 1) }
-    ensures last { OnOk result (last_tick_of audit.new ≡ last_tick_of audit.old) }
-    ensures latest { OnOk result (latest_vessels audit.new ≡ head_on_at k) }
-{
-    let seen = head_on(k);
-    take(audit, &seen, ranks, rows, k)
-}
+const POWER: &[Rank] = &[Rank::Power, Rank::Power];
 
-/// The head-on meeting, with these ranks at its first tick and those at all later ones: the rows, each with the tick at which it came,
-/// and what the end brings.
-fn head_on_audited(
-    alloc: Global,
-    first: [Rank; 2],
-    later: [Rank; 2],
-) -> Result<(Vec<(u32, Row)>, AuditEnd), Fail> {
-    let mut audit = audit(alloc)?;
-    let mut rows = Vec::new(alloc);
-    for k in 0..41_u32 {
-        let ranks = if k == 0 { first } else { later };
-        take_head_on(&mut audit, &ranks, &mut rows, k)?;
-    }
-    Ok((rows, audit.end()?))
-}
+const FISHING: &[Rank] = &[Rank::Power, Rank::Fishing];
 
-/// A vessel that overtakes another, which lies still, 18.52 metres aside of her, at a tick.
-fn overtaking(k: u32) -> [(u32, TickState); 2]
-    requires { k ≤ 40 }
-    ensures { result ≡ overtaking_at k }
-{
-    [
-        (
-            OWN,
-            TickState {
-                point: Point { x: 0, y: north(k) },
-                direction: Some(0),
-                speed: Some(180),
-            },
-        ),
-        (
-            OTHER,
-            TickState {
-                point: Point { x: -185_200, y: 0 },
-                direction: Some(0),
-                speed: Some(0),
-            },
-        ),
-    ]
-}
+static FISHES: Encounter = Encounter {
+    still: false,
+    first: FISHING,
+    later: FISHING,
+};
 
-/// The overtaking, with these ranks.
-fn overtaking_audited(
-    alloc: Global,
-    ranks: [Rank; 2],
-) -> Result<(Vec<(u32, Row)>, AuditEnd), Fail> {
-    let mut audit = audit(alloc)?;
-    let mut rows = Vec::new(alloc);
-    for k in 0..41_u32 {
-        take(&mut audit, &overtaking(k), &ranks, &mut rows, k)?;
-    }
-    Ok((rows, audit.end()?))
-}
-
-/// How many positions broke `r18`, the last of the twelve rules.
-fn broken_by_rank(end: &AuditEnd) -> Option<u64> {
-    Some(end.totals.get(11)?.no)
-}
+#[rattlefmt::skip]
+static FISHES_ROWS: [(u32, Row); 7] = [
+    (8, Row::Verdict { pair: PAIR, rule: 7, undecided: false, first: 0, last: 0 }),
+    (29, Row::Verdict { pair: PAIR, rule: 1, undecided: false, first: 18, last: 21 }),
+    (29, Row::Verdict { pair: PAIR, rule: 11, undecided: false, first: 18, last: 21 }),
+    (29, Row::Verdict { pair: BACK, rule: 1, undecided: false, first: 18, last: 21 }),
+    (29, Row::Verdict { pair: BACK, rule: 9, undecided: false, first: 19, last: 21 }),
+    (33, Row::Meeting { pair: PAIR, kind: Class::HeadOn, first: 0, last: 25, least: 185_200 }),
+    (33, Row::Meeting { pair: BACK, kind: Class::HeadOn, first: 0, last: 25, least: 185_200 }),
+];
 
 /// A power-driven vessel keeps out of the way of one that fishes, and may go to port of her (Rule 18 (a)).
 #[test]
-fn head_on_with_a_vessel_that_fishes(rt: HostRuntime) -> Result<(), Fail> {
-    let ranks = [Rank::Power, Rank::Fishing];
-    let (rows, end) = head_on_audited(rt.alloc(), ranks, ranks)?;
-    is(
-        &rt,
-        rows.as_slice(),
-        [
-            (8, verdict(OWN, OTHER, 7, false, 0, 0)),
-            (29, verdict(OWN, OTHER, 1, false, 18, 21)),
-            (29, verdict(OWN, OTHER, 11, false, 18, 21)),
-            (29, verdict(OTHER, OWN, 1, false, 18, 21)),
-            (29, verdict(OTHER, OWN, 9, false, 19, 21)),
-            (33, meeting(OWN, OTHER, 25, 185_200)),
-            (33, meeting(OTHER, OWN, 25, 185_200)),
-        ]
-        .as_slice(),
-    );
-    is_true(&rt, end.rows.is_empty());
-    is(&rt, end.totals.len(), 12);
-    is(&rt, broken_by_rank(&end), Some(4));
-    Ok(())
+fn head_on_with_a_vessel_that_fishes(rt: HostRuntime) -> Result<(), AuditFault> {
+    comes_to(&rt, rt.alloc(), &FISHES, &FISHES_ROWS, 4)
 }
 
-/// Her rank where the engagement began counts, so that both stay power-driven.
+static BEGINS_TO_FISH: Encounter = Encounter {
+    still: false,
+    first: POWER,
+    later: FISHING,
+};
+
+/// Her rank where the engagement began counts, so that both stay power-driven, as where ranks do not count.
 #[test]
-fn a_vessel_that_begins_to_fish_during_an_engagement(rt: HostRuntime) -> Result<(), Fail> {
-    let first = [Rank::Power, Rank::Power];
-    let (rows, end) = head_on_audited(rt.alloc(), first, [Rank::Power, Rank::Fishing])?;
-    is(
-        &rt,
-        rows.as_slice(),
-        [
-            (8, verdict(OWN, OTHER, 3, false, 0, 0)),
-            (8, verdict(OTHER, OWN, 3, false, 0, 0)),
-            (29, verdict(OWN, OTHER, 1, false, 18, 21)),
-            (29, verdict(OTHER, OWN, 1, false, 18, 21)),
-            (33, meeting(OWN, OTHER, 25, 185_200)),
-            (33, meeting(OTHER, OWN, 25, 185_200)),
-        ]
-        .as_slice(),
-    );
-    is(&rt, broken_by_rank(&end), Some(0));
-    Ok(())
+fn a_vessel_that_begins_to_fish_during_an_engagement(rt: HostRuntime) -> Result<(), AuditFault> {
+    comes_to(&rt, rt.alloc(), &BEGINS_TO_FISH, &HEAD_ON_ROWS, 0)
 }
 
-/// Whatever the ranks, an overtaking vessel keeps out of the way by Rule 13 and not by Rule 18. She is within 200 metres of the other
-/// while she is less than 199.1 metres short of her or past her: at 92.6 metres a tick, in the steps 17 to 22.
-#[test]
-fn a_vessel_that_fishes_is_overtaken(rt: HostRuntime) -> Result<(), Fail> {
-    let (rows, end) = overtaking_audited(rt.alloc(), [Rank::Power, Rank::Fishing])?;
-    let mut own = Vec::new(rt.alloc());
-    for (_, row) in rows.iter() {
+/// The verdicts on the first vessel in these rows: the rule of each, and its first and last step.
+fn own_verdicts(alloc: Global, rows: &[(u32, Row)]) -> Result<Vec<(u32, u32, u32)>, Memory> {
+    let mut own = Vec::new(alloc);
+    for (_, row) in rows {
         if let Row::Verdict {
             pair,
             rule,
@@ -203,11 +85,34 @@ fn a_vessel_that_fishes_is_overtaken(rt: HostRuntime) -> Result<(), Fail> {
             }
         }
     }
-    is(
-        &rt,
-        own.as_slice(),
-        [(7, 0, 0), (1, 17, 22), (2, 17, 22)].as_slice(),
-    );
-    is(&rt, broken_by_rank(&end), Some(0));
+    Ok(own)
+}
+
+static OVERTAKES: Encounter = Encounter {
+    still: true,
+    first: FISHING,
+    later: FISHING,
+};
+
+static OVERTAKES_VERDICTS: [(u32, u32, u32); 3] = [(7, 0, 0), (1, 17, 22), (2, 17, 22)];
+
+/// The verdicts on the first vessel in 40 ticks, and how many positions broke the last rule.
+fn verdicts_on_own(
+    alloc: Global,
+    encounter: &Encounter,
+) -> Result<(Vec<(u32, u32, u32)>, Option<u64>), AuditFault> {
+    let mut rows = Vec::new(alloc);
+    let end = audited(alloc, encounter, 40, &mut rows)?;
+    let own = own_verdicts(alloc, rows.as_slice())?;
+    Ok((own, broken_by_rank(&end.totals)))
+}
+
+/// Whatever the ranks, an overtaking vessel keeps out of the way by Rule 13 and not by Rule 18. She is within 200 metres of the other
+/// while she is less than 199.1 metres short of her or past her: at 92.6 metres a tick, in the steps 17 to 22.
+#[test]
+fn a_vessel_that_fishes_is_overtaken(rt: HostRuntime) -> Result<(), AuditFault> {
+    let (own, broken) = verdicts_on_own(rt.alloc(), &OVERTAKES)?;
+    is(&rt, own.as_slice(), OVERTAKES_VERDICTS.as_slice());
+    is(&rt, broken, Some(0));
     Ok(())
 }

@@ -1,9 +1,12 @@
 //! Rows of stretches of marks.
-use crate::compared::{is, is_true};
+use crate::compared::is;
+use crate::queues::{NO_ROWS, NO_TOTALS, Step, comes_to, take_all};
 use audit_rows::{Mark, MarkCounts, Row, RowQueue, Topic};
 use meetings::Pair;
+use outside::Memory;
 use sectors::Class;
-use std::test::Fail;
+use std::alloc::Global;
+use std::process::Abort;
 
 const PAIR: Pair = Pair {
     subject: 1,
@@ -20,170 +23,177 @@ const THIRD: Pair = Pair {
     other: 3,
 };
 
-/// Gives the marks of one track, from step 0 on.
-fn give(queue: &mut RowQueue, index: usize, marks: &[Mark]) -> Result<(), Fail> {
-    for (mark, step) in marks.iter().zip(0..100) {
-        queue.mark(index, step, *mark)?;
-    }
-    Ok(())
-}
+static UNDECIDED: [Step; 4] = [
+    Step::Track(Topic::Verdict(PAIR, 3)),
+    Step::Mark(0, 0, Mark::Broken),
+    Step::Mark(0, 1, Mark::Undecided),
+    Step::Mark(0, 2, Mark::Undecided),
+];
 
-fn engaged(least: u64) -> Mark {
-    Mark::Engaged {
-        kind: Class::HeadOn,
-        least,
-    }
-}
-
-fn meeting(pair: Pair, first: u32, last: u32, least: u64) -> Row {
-    Row::Meeting {
-        pair,
-        kind: Class::HeadOn,
-        first,
-        last,
-        least,
-    }
-}
-
-fn verdict(pair: Pair, rule: u32, undecided: bool, first: u32, last: u32) -> Row {
-    Row::Verdict {
-        pair,
-        rule,
-        undecided,
-        first,
-        last,
-    }
-}
+#[rattlefmt::skip]
+static UNDECIDED_ROWS: [Row; 2] = [
+    Row::Verdict { pair: PAIR, rule: 3, undecided: false, first: 0, last: 0 },
+    Row::Verdict { pair: PAIR, rule: 3, undecided: true, first: 1, last: 2 },
+];
 
 #[test]
-fn undecided_to_the_end_of_a_track(rt: HostRuntime) -> Result<(), Fail> {
-    let mut queue = RowQueue::new(rt.alloc());
-    let index = queue.begin(Topic::Verdict(PAIR, 3))?;
-    give(
-        &mut queue,
-        index,
-        &[Mark::Broken, Mark::Undecided, Mark::Undecided],
-    )?;
-    let rows = queue.finish(3)?;
-    let all = [verdict(PAIR, 3, false, 0, 0), verdict(PAIR, 3, true, 1, 2)];
-    is(&rt, &rows[..], &all[..]);
-    Ok(())
+fn undecided_to_the_end_of_a_track(rt: HostRuntime) -> Result<(), Memory> {
+    comes_to(&rt, rt.alloc(), &UNDECIDED, 3, &UNDECIDED_ROWS, &NO_TOTALS)
 }
 
-#[test]
-fn rows_that_end_together_in_their_order(rt: HostRuntime) -> Result<(), Fail> {
-    let mut queue = RowQueue::new(rt.alloc());
-    let verdicts = [(BACK, 0), (THIRD, 0), (PAIR, 1), (PAIR, 0)];
-    for (pair, rule) in verdicts {
-        let index = queue.begin(Topic::Verdict(pair, rule))?;
-        give(&mut queue, index, &[Mark::Nothing, Mark::Broken])?;
-    }
-    for pair in [BACK, THIRD, PAIR] {
-        let index = queue.begin(Topic::Meeting(pair))?;
-        give(&mut queue, index, &[engaged(9), engaged(7)])?;
-    }
-    let rows = queue.finish(2)?;
-    let all = [
-        meeting(PAIR, 0, 1, 7),
-        meeting(THIRD, 0, 1, 7),
-        meeting(BACK, 0, 1, 7),
-        verdict(PAIR, 0, false, 1, 1),
-        verdict(PAIR, 1, false, 1, 1),
-        verdict(THIRD, 0, false, 1, 1),
-        verdict(BACK, 0, false, 1, 1),
-    ];
-    is(&rt, &rows[..], &all[..]);
-    Ok(())
-}
+#[rattlefmt::skip]
+static TOGETHER: [Step; 21] = [
+    Step::Track(Topic::Verdict(BACK, 0)),
+    Step::Mark(0, 0, Mark::Nothing),
+    Step::Mark(0, 1, Mark::Broken),
+    Step::Track(Topic::Verdict(THIRD, 0)),
+    Step::Mark(1, 0, Mark::Nothing),
+    Step::Mark(1, 1, Mark::Broken),
+    Step::Track(Topic::Verdict(PAIR, 1)),
+    Step::Mark(2, 0, Mark::Nothing),
+    Step::Mark(2, 1, Mark::Broken),
+    Step::Track(Topic::Verdict(PAIR, 0)),
+    Step::Mark(3, 0, Mark::Nothing),
+    Step::Mark(3, 1, Mark::Broken),
+    Step::Track(Topic::Meeting(BACK)),
+    Step::Mark(4, 0, Mark::Engaged { kind: Class::HeadOn, least: 9 }),
+    Step::Mark(4, 1, Mark::Engaged { kind: Class::HeadOn, least: 7 }),
+    Step::Track(Topic::Meeting(THIRD)),
+    Step::Mark(5, 0, Mark::Engaged { kind: Class::HeadOn, least: 9 }),
+    Step::Mark(5, 1, Mark::Engaged { kind: Class::HeadOn, least: 7 }),
+    Step::Track(Topic::Meeting(PAIR)),
+    Step::Mark(6, 0, Mark::Engaged { kind: Class::HeadOn, least: 9 }),
+    Step::Mark(6, 1, Mark::Engaged { kind: Class::HeadOn, least: 7 }),
+];
+
+#[rattlefmt::skip]
+static TOGETHER_ROWS: [Row; 7] = [
+    Row::Meeting { pair: PAIR, kind: Class::HeadOn, first: 0, last: 1, least: 7 },
+    Row::Meeting { pair: THIRD, kind: Class::HeadOn, first: 0, last: 1, least: 7 },
+    Row::Meeting { pair: BACK, kind: Class::HeadOn, first: 0, last: 1, least: 7 },
+    Row::Verdict { pair: PAIR, rule: 0, undecided: false, first: 1, last: 1 },
+    Row::Verdict { pair: PAIR, rule: 1, undecided: false, first: 1, last: 1 },
+    Row::Verdict { pair: THIRD, rule: 0, undecided: false, first: 1, last: 1 },
+    Row::Verdict { pair: BACK, rule: 0, undecided: false, first: 1, last: 1 },
+];
 
 #[test]
-fn kind_of_the_first_step_and_least_of_all(rt: HostRuntime) -> Result<(), Fail> {
-    let mut queue = RowQueue::new(rt.alloc());
-    let index = queue.begin(Topic::Meeting(PAIR))?;
-    let passing = Mark::Engaged {
-        kind: Class::Passing,
-        least: 90,
-    };
-    give(
-        &mut queue,
-        index,
-        &[engaged(50), engaged(30), passing, Mark::Nothing],
-    )?;
-    let rows = queue.finish(4)?;
-    is(&rt, &rows[..], &[meeting(PAIR, 0, 2, 30)][..]);
-    Ok(())
+fn rows_that_end_together_in_their_order(rt: HostRuntime) -> Result<(), Memory> {
+    comes_to(&rt, rt.alloc(), &TOGETHER, 2, &TOGETHER_ROWS, &NO_TOTALS)
 }
 
-#[test]
-fn a_row_comes_at_its_bound(rt: HostRuntime) -> Result<(), Fail> {
-    let mut queue = RowQueue::new(rt.alloc());
-    let meetings = queue.begin(Topic::Meeting(PAIR))?;
-    let verdicts = queue.begin(Topic::Verdict(PAIR, 0))?;
-    give(
-        &mut queue,
-        meetings,
-        &[engaged(5), engaged(6), Mark::Nothing, Mark::Nothing],
-    )?;
-    give(
-        &mut queue,
-        verdicts,
-        &[Mark::Broken, Mark::Undecided, Mark::Nothing, Mark::Nothing],
-    )?;
-    let early = queue.rows_below(1)?;
-    is(&rt, &early[..], &[verdict(PAIR, 0, false, 0, 0)][..]);
-    let further = queue.rows_below(2)?;
-    let both = [meeting(PAIR, 0, 1, 5), verdict(PAIR, 0, true, 1, 1)];
-    is(&rt, &further[..], &both[..]);
-    let rest = queue.finish(4)?;
-    is_true(&rt, rest.is_empty());
-    Ok(())
-}
+#[rattlefmt::skip]
+static OF_TWO_KINDS: [Step; 5] = [
+    Step::Track(Topic::Meeting(PAIR)),
+    Step::Mark(0, 0, Mark::Engaged { kind: Class::HeadOn, least: 50 }),
+    Step::Mark(0, 1, Mark::Engaged { kind: Class::HeadOn, least: 30 }),
+    Step::Mark(0, 2, Mark::Engaged { kind: Class::Passing, least: 90 }),
+    Step::Mark(0, 3, Mark::Nothing),
+];
+
+#[rattlefmt::skip]
+static OF_THE_FIRST_KIND: [Row; 1] = [
+    Row::Meeting { pair: PAIR, kind: Class::HeadOn, first: 0, last: 2, least: 30 },
+];
 
 #[test]
-fn rows_that_are_left_stand_behind_those_before(rt: HostRuntime) -> Result<(), Fail> {
-    let mut queue = RowQueue::new(rt.alloc());
-    let index = queue.begin(Topic::Verdict(PAIR, 0))?;
-    give(
-        &mut queue,
-        index,
-        &[Mark::Broken, Mark::Undecided, Mark::Nothing, Mark::Broken],
-    )?;
+fn kind_of_the_first_step_and_least_of_all(rt: HostRuntime) -> Result<(), Memory> {
+    comes_to(
+        &rt,
+        rt.alloc(),
+        &OF_TWO_KINDS,
+        4,
+        &OF_THE_FIRST_KIND,
+        &NO_TOTALS,
+    )
+}
+
+#[rattlefmt::skip]
+static BOUNDED: [Step; 12] = [
+    Step::Track(Topic::Meeting(PAIR)),
+    Step::Track(Topic::Verdict(PAIR, 0)),
+    Step::Mark(0, 0, Mark::Engaged { kind: Class::HeadOn, least: 5 }),
+    Step::Mark(0, 1, Mark::Engaged { kind: Class::HeadOn, least: 6 }),
+    Step::Mark(0, 2, Mark::Nothing),
+    Step::Mark(0, 3, Mark::Nothing),
+    Step::Mark(1, 0, Mark::Broken),
+    Step::Mark(1, 1, Mark::Undecided),
+    Step::Mark(1, 2, Mark::Nothing),
+    Step::Mark(1, 3, Mark::Nothing),
+    Step::Below(1, &[Row::Verdict { pair: PAIR, rule: 0, undecided: false, first: 0, last: 0 }]),
+    Step::Below(2, &[
+        Row::Meeting { pair: PAIR, kind: Class::HeadOn, first: 0, last: 1, least: 5 },
+        Row::Verdict { pair: PAIR, rule: 0, undecided: true, first: 1, last: 1 },
+    ]),
+];
+
+#[test]
+fn a_row_comes_at_its_bound(rt: HostRuntime) -> Result<(), Memory> {
+    comes_to(&rt, rt.alloc(), &BOUNDED, 4, &NO_ROWS, &NO_TOTALS)
+}
+
+static WITH_A_LATE_MARK: [Step; 5] = [
+    Step::Track(Topic::Verdict(PAIR, 0)),
+    Step::Mark(0, 0, Mark::Broken),
+    Step::Mark(0, 1, Mark::Undecided),
+    Step::Mark(0, 2, Mark::Nothing),
+    Step::Mark(0, 3, Mark::Broken),
+];
+
+#[rattlefmt::skip]
+static ALL_ROWS: [Row; 3] = [
+    Row::Verdict { pair: PAIR, rule: 0, undecided: false, first: 0, last: 0 },
+    Row::Verdict { pair: PAIR, rule: 0, undecided: true, first: 1, last: 1 },
+    Row::Verdict { pair: PAIR, rule: 0, undecided: false, first: 3, last: 3 },
+];
+
+/// The rows below step 1, and behind them those that are left where all tracks end at step 4, are these.
+fn early_and_late_are(
+    rt: &impl Abort,
+    alloc: Global,
+    steps: &[Step],
+    wanted: &[Row],
+) -> Result<(), Memory> {
+    let mut queue = RowQueue::new(alloc);
+    take_all(rt, &mut queue, steps)?;
     let mut rows = queue.rows_below(1)?;
     queue.finish_into(4, &mut rows)?;
-    let all = [
-        verdict(PAIR, 0, false, 0, 0),
-        verdict(PAIR, 0, true, 1, 1),
-        verdict(PAIR, 0, false, 3, 3),
-    ];
-    is(&rt, &rows[..], &all[..]);
+    is(rt, rows.as_slice(), wanted);
     Ok(())
 }
 
 #[test]
-fn counts_of_a_track(rt: HostRuntime) -> Result<(), Fail> {
+fn rows_that_are_left_stand_behind_those_before(rt: HostRuntime) -> Result<(), Memory> {
+    early_and_late_are(&rt, rt.alloc(), &WITH_A_LATE_MARK, &ALL_ROWS)
+}
+
+static COUNTED: [Step; 7] = [
+    Step::Track(Topic::Verdict(PAIR, 0)),
+    Step::Mark(0, 0, Mark::Broken),
+    Step::Mark(0, 1, Mark::Nothing),
+    Step::Mark(0, 2, Mark::Undecided),
+    Step::Mark(0, 3, Mark::Broken),
+    Step::Mark(0, 4, Mark::Broken),
+    Step::Mark(0, 5, Mark::Undecided),
+];
+
+const COUNTS: MarkCounts = MarkCounts {
+    all: 6,
+    nothing: 1,
+    broken: 3,
+    undecided: 2,
+    runs: 2,
+};
+
+#[test]
+fn counts_of_a_track(rt: HostRuntime) -> Result<(), Memory> {
     let mut queue = RowQueue::new(rt.alloc());
-    let topic = Topic::Verdict(PAIR, 0);
-    let index = queue.begin(topic)?;
-    give(
-        &mut queue,
-        index,
-        &[
-            Mark::Broken,
-            Mark::Nothing,
-            Mark::Undecided,
-            Mark::Broken,
-            Mark::Broken,
-            Mark::Undecided,
-        ],
-    )?;
-    let counts = MarkCounts {
-        all: 6,
-        nothing: 1,
-        broken: 3,
-        undecided: 2,
-        runs: 2,
-    };
-    is(&rt, queue.counts(index, 6), Some((topic, counts)));
+    take_all(&rt, &mut queue, &COUNTED)?;
+    is(
+        &rt,
+        queue.counts(0, 6),
+        Some((Topic::Verdict(PAIR, 0), COUNTS)),
+    );
     is(&rt, queue.track_count(), 1);
     Ok(())
 }

@@ -1,46 +1,23 @@
 //! A worked trace.
-ghost use Rattle.std.specs.Prelude.{◌≡◌, ◌+◌, ◌<◌, ◌^◌, IfOk, IfSome, OnOk, length};
+ghost use Rattle.std.specs.Prelude.{◌≡◌, ◌+◌, ◌<◌, ◌≤◌, ◌^◌, IfOk, IfSome, OnOk, length};
 ghost use Rattle.encounters.specs.Directions.{HasDirection, HaveDirections};
 ghost use Rattle.mtl_monitor.specs.Following.{count_of};
 ghost use Rattle.auditor.specs.TraceKeeping.{IsReady, steps_of};
 
-use crate::compared::is;
+use crate::audits::{ACT, DETECT, PAIR};
+use crate::queues::{NO_ROWS, NO_TOTALS, ends_with};
 use audit_rows::{Row, RowQueue};
-use auditor::{AuditTrace, NextRow, Total, begin_tracks, totals_of};
-use encounters::{Act, Detect, PairStep};
+use auditor::{AuditTrace, NextRow, Total, begin_tracks};
+use encounters::PairStep;
 use fixed_geometry::Point;
-use meetings::{Follower, Pair};
+use meetings::Follower;
 use motion::{Step, TickState};
 use mtl_formulas::parse;
 use mtl_monitor::Program;
 use outside::Memory;
-use sectors::{Angles, Class};
+use sectors::Class;
 use std::alloc::Global;
 use std::test::Fail;
-
-const DETECT: Detect = Detect {
-    watch: 50_000_000,
-    risk: 5_000_000,
-    clear: 10_000_000,
-    horizon: 60,
-    angles: Angles {
-        doubt: 0,
-        ahead: 100,
-        reciprocal: 100,
-    },
-};
-
-const ACT: Act = Act {
-    steady_turn: 50,
-    apparent_turn: 200,
-    steady_speed: 10,
-    apparent_speed: 50,
-};
-
-const PAIR: Pair = Pair {
-    subject: 369_190_000,
-    other: 477_553_000,
-};
 
 fn state(direction: u16) -> TickState
     requires { direction < 3600 }
@@ -120,95 +97,76 @@ fn take_all(
     Ok(())
 }
 
-/// Whether the vessels are engaged, and whether they are so within two steps, at a tick of 10 seconds.
+/// A program with one more formula, at a tick of 10 seconds.
+fn with_formula(alloc: Global, program: Program, text: &[u8]) -> Result<Program, Fail>
+    requires { length text.now ≤ 1024 }
+    ensures { IfOk result (λ more. count_of more ≡ count_of program + 1) }
+{
+    let formula = parse(alloc, text, 10)?;
+    Ok(program.with(&formula)?)
+}
+
+/// Whether the vessels are engaged, and whether they are so within two steps.
 fn two_rules(alloc: Global) -> Result<Program, Fail>
     ensures { IfOk result (λ program. count_of program ≡ 2) }
 {
-    let engaged = parse(alloc, b"engaged", 10)?;
-    let soon = parse(alloc, b"F[0,20] engaged", 10)?;
-    Ok(Program::new(alloc).with(&engaged)?.with(&soon)?)
+    let engaged = with_formula(alloc, Program::new(alloc), b"engaged")?;
+    with_formula(alloc, engaged, b"F[0,20] engaged")
 }
+
+/// Begins a trace at step 5, takes these steps, and ends it.
+fn take_whole(
+    alloc: Global,
+    program: &Program,
+    steps: &[(u32, i64)],
+    queue: &mut RowQueue,
+) -> Result<(), Memory>
+    requires few { length steps.now < 2 ^ 31 }
+    requires room { count_of program.now < 2 ^ 31 }
+{
+    begin_tracks(queue, PAIR, program.formula_count())?;
+    let mut trace = AuditTrace::new(alloc, program, 5)?;
+    let mut follower = Follower::new(DETECT, ACT, 10);
+    take_all(&mut trace, &mut follower, program, steps, queue)?;
+    trace.end(program, queue, 0)
+}
+
+/// The tracks of a trace of these steps by the two rules.
+fn tracks_of(alloc: Global, steps: &[(u32, i64)]) -> Result<RowQueue, Fail>
+    requires { length steps.now < 2 ^ 31 }
+{
+    let program = two_rules(alloc)?;
+    let mut queue = RowQueue::new(alloc);
+    take_whole(alloc, &program, steps, &mut queue)?;
+    Ok(queue)
+}
+
+/// They pass at the end of the first step, are 1111 metres past each other at the end of the second, and are clear in the third.
+static STEPS: [(u32, i64); 3] = [(5, 1_852_000), (6, -9_260_000), (7, -11_112_000)];
+
+#[rattlefmt::skip]
+static ROWS: [Row; 3] = [
+    Row::Meeting { pair: PAIR, kind: Class::HeadOn, first: 5, last: 6, least: 185_200 },
+    Row::Verdict { pair: PAIR, rule: 0, undecided: false, first: 7, last: 7 },
+    Row::Verdict { pair: PAIR, rule: 1, undecided: true, first: 7, last: 7 },
+];
+
+#[rattlefmt::skip]
+static TOTALS: [Total; 2] = [
+    Total { positions: 3, yes: 2, no: 1, undecided: 0, runs: 1 },
+    Total { positions: 3, yes: 2, no: 0, undecided: 1, runs: 0 },
+];
 
 #[test]
 fn an_engagement_that_ends_at_the_last_step(rt: HostRuntime) -> Result<(), Fail> {
-    let alloc = rt.alloc();
-    let program = two_rules(alloc)?;
-    let mut queue = RowQueue::new(alloc);
-    begin_tracks(&mut queue, PAIR, program.formula_count())?;
-    let mut trace = AuditTrace::new(alloc, &program, 5)?;
-    let mut follower = Follower::new(DETECT, ACT, 10);
-    // They pass at the end of the first step, are 1111 metres past each other at the end of the second, and are clear in the third.
-    take_all(
-        &mut trace,
-        &mut follower,
-        &program,
-        &[(5, 1_852_000), (6, -9_260_000), (7, -11_112_000)],
-        &mut queue,
-    )?;
-    trace.end(&program, &mut queue, 0)?;
-    let totals = totals_of(alloc, &queue, 2, 8)?;
-    let rows = queue.finish(8)?;
-    is(
-        &rt,
-        rows.as_slice(),
-        [
-            Row::Meeting {
-                pair: PAIR,
-                kind: Class::HeadOn,
-                first: 5,
-                last: 6,
-                least: 185_200,
-            },
-            Row::Verdict {
-                pair: PAIR,
-                rule: 0,
-                undecided: false,
-                first: 7,
-                last: 7,
-            },
-            Row::Verdict {
-                pair: PAIR,
-                rule: 1,
-                undecided: true,
-                first: 7,
-                last: 7,
-            },
-        ]
-        .as_slice(),
-    );
-    is(
-        &rt,
-        totals.as_slice(),
-        [
-            Total {
-                positions: 3,
-                yes: 2,
-                no: 1,
-                undecided: 0,
-                runs: 1,
-            },
-            Total {
-                positions: 3,
-                yes: 2,
-                no: 0,
-                undecided: 1,
-                runs: 0,
-            },
-        ]
-        .as_slice(),
-    );
-    Ok(())
+    let queue = tracks_of(rt.alloc(), &STEPS)?;
+    Ok(ends_with(&rt, rt.alloc(), queue, 8, &ROWS, &TOTALS)?)
 }
+
+static NO_STEPS: [(u32, i64); 0] = [];
 
 #[test]
 fn a_trace_of_no_steps_has_no_rows(rt: HostRuntime) -> Result<(), Fail> {
-    let alloc = rt.alloc();
-    let program = two_rules(alloc)?;
-    let mut queue = RowQueue::new(alloc);
-    begin_tracks(&mut queue, PAIR, program.formula_count())?;
-    let mut trace = AuditTrace::new(alloc, &program, 5)?;
-    trace.end(&program, &mut queue, 0)?;
-    let rows = queue.finish(5)?;
-    is(&rt, rows.len(), 0);
-    Ok(())
+    let queue = tracks_of(rt.alloc(), &NO_STEPS)?;
+    Ok(ends_with(&rt, rt.alloc(), queue, 5, &NO_ROWS, &NO_TOTALS)?)
 }

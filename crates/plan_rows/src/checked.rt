@@ -9,10 +9,12 @@ ghost use Rattle.motion.specs.Displacement.{displacement};
 ghost use Rattle.motion.specs.TickStates.{IsTickState};
 ghost use Rattle.situations.specs.Situations.{end_of, known_at, now_of, sighting, target_at, IsSituation, IsTarget, IsTracked};
 
+use crate::compared::is_true;
 use encounters::Detect;
 use fixed_geometry::Point;
 use motion::TickState;
 use planner::{Situation, Target};
+use std::process::Abort;
 
 fn is_within(point: &Point, size: u64) -> bool
     ensures { IsTrue result → IsWithin size point.now }
@@ -209,13 +211,9 @@ fn is_situation(situation: &Situation) -> bool
         && are_targets(situation, now, positions as usize)
 }
 
-/// The situation, where it is one with at most one target that a search may be asked about.
-pub(crate) fn checked(situation: Situation) -> Option<Situation>
-    ensures { IfSome result IsSituation }
+/// The situation is one with at most one target that a search may be asked about.
+pub(crate) fn is_checked(rt: &impl Abort, situation: &Situation)
+    ensures { IsSituation situation.now }
 {
-    if is_situation(&situation) {
-        Some(situation)
-    } else {
-        None
-    }
+    is_true(rt, is_situation(situation));
 }

@@ -1,5 +1,8 @@
 //! What a test compares, in one place each: a test that calls them is proved in a fraction of the time that the macros take in it. What fails is
 //! told with both values, by the name of its test.
+ghost use Rattle.std.specs.Prelude.{IsTrue};
+
+use outside::Memory;
 use std::fmt::Debug;
 use std::process::Abort;
 
@@ -9,6 +12,18 @@ pub(crate) fn is<T: PartialEq + Debug + Drop>(rt: &impl Abort, found: T, wanted:
 }
 
 /// What is claimed holds.
-pub(crate) fn is_true(rt: &impl Abort, claim: bool) {
+pub(crate) fn is_true(rt: &impl Abort, claim: bool)
+    ensures { IsTrue claim }
+{
     assert!(rt; claim);
+}
+
+/// What was found is what was wanted, where memory was left to find it.
+pub(crate) fn is_found<T: PartialEq + Debug + Drop>(
+    rt: &impl Abort,
+    found: Result<T, Memory>,
+    wanted: T,
+) -> Result<(), Memory> {
+    is(rt, found?, wanted);
+    Ok(())
 }

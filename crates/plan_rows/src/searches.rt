@@ -2,10 +2,11 @@
 ghost use Rattle.std.specs.Prelude.{◌≤◌, ◌<◌, IfSome};
 ghost use Rattle.lattice.specs.Grids.{choices_of};
 ghost use Rattle.lattice.specs.PlanNumbers.{IsPlan};
+ghost use Rattle.planner.specs.Searches.{IsSound};
 ghost use Rattle.situations.specs.Situations.{IsSituation};
 
-use crate::checked::checked;
-use crate::compared::{is, is_true};
+use crate::checked::is_checked;
+use crate::compared::{is, is_found};
 use ais_messages::PositionReport;
 use encounters::{Act, Detect};
 use fixed_geometry::Point;
@@ -21,10 +22,9 @@ use rule_set::{RuleNumbers, RuleSet, Safe};
 use sectors::Angles;
 use std::alloc::Global;
 use std::process::Abort;
-use std::test::Fail;
 use tracks::Accepted;
 
-const DETECT: Detect = Detect {
+static DETECT: Detect = Detect {
     watch: 50_000_000,
     risk: 5_000_000,
     clear: 10_000_000,
@@ -36,14 +36,14 @@ const DETECT: Detect = Detect {
     },
 };
 
-const ACT: Act = Act {
+static ACT: Act = Act {
     steady_turn: 50,
     apparent_turn: 200,
     steady_speed: 10,
     apparent_speed: 50,
 };
 
-const NUMBERS: RuleNumbers = RuleNumbers {
+static NUMBERS: RuleNumbers = RuleNumbers {
     safe: Safe::One(200),
     overtake: 200,
     close: 300,
@@ -55,7 +55,7 @@ const NUMBERS: RuleNumbers = RuleNumbers {
 };
 
 /// A domain that is longer ahead than aft.
-pub(crate) const LONG_AHEAD: [(i32, i32); 6] = [
+static LONG_AHEAD: [(i32, i32); 6] = [
     (600, 0),
     (300, 150),
     (-100, 150),
@@ -64,71 +64,194 @@ pub(crate) const LONG_AHEAD: [(i32, i32); 6] = [
     (300, -150),
 ];
 
-/// A vessel at 18 knots.
-fn at(x: i64, y: i64, direction: u16) -> TickState {
-    TickState {
-        point: Point { x, y },
-        direction: Some(direction),
-        speed: Some(180),
+/// A vessel that moves by so much from each tick to the next, at 18 knots as she tells. She has no direction from a tick on, and is not seen at
+/// each tick up to now whose bit is set.
+#[derive(Drop)]
+struct Line {
+    from: Point,
+    step: Point,
+    direction: u16,
+    lost: u32,
+    missed: u32,
+}
+
+impl Line {
+    fn at(&self, k: u32) -> TickState {
+        let ticks = i64::from(k);
+        TickState {
+            point: Point {
+                x: self.from.x.wrapping_add(self.step.x.wrapping_mul(ticks)),
+                y: self.from.y.wrapping_add(self.step.y.wrapping_mul(ticks)),
+            },
+            direction: if k < self.lost {
+                Some(self.direction)
+            } else {
+                None
+            },
+            speed: Some(180),
+        }
+    }
+
+    /// How she is seen at a tick up to now.
+    fn seen_at(&self, k: u32) -> Option<TickState>
+        requires { k ≤ 20 }
+    {
+        match self.missed >> k & 1 {
+            0 => Some(self.at(k)),
+            _ => None,
+        }
     }
 }
 
-/// Own ship at tick k: she heads north at 18 knots from the origin, at a tick of 10 seconds.
-fn northward(k: u32) -> TickState {
-    at(0, 926_000 * i64::from(k), 0)
+/// Both, where memory was left for them.
+fn both<A: Drop, B: Drop>(
+    first: Result<A, Memory>,
+    second: Result<B, Memory>,
+) -> Result<(A, B), Memory> {
+    Ok((first?, second?))
 }
 
-/// A situation with one target, where own ship has headed north up to the tick of now.
-fn towards(alloc: Global, now: u32, lattice: Lattice, target: Target) -> Result<Situation, Memory>
+/// How she is seen at the ticks up to now.
+fn past_on(alloc: Global, line: &Line, now: u32) -> Result<Past, Memory>
     requires { now ≤ 20 }
 {
-    let mut own_past = Vec::new(alloc);
+    let mut past = Vec::new(alloc);
     for k in 0..now + 1 {
-        own_past.push(Some(northward(k)))?;
+        past.push(line.seen_at(k))?;
     }
+    Ok(Past::new(past))
+}
+
+/// How she is predicted from now on, up to so many ticks later.
+fn ahead_on(alloc: Global, line: &Line, now: u32, positions: u32) -> Result<Ahead, Memory>
+    requires now { now ≤ 20 }
+    requires positions { positions ≤ 7200 }
+{
+    let mut ahead = Vec::new(alloc);
+    for k in now..now + positions + 1 {
+        ahead.push(line.at(k))?;
+    }
+    Ok(Ahead::new(ahead))
+}
+
+/// A target on a line.
+fn target_on(
+    alloc: Global,
+    line: &Line,
+    radius: u64,
+    now: u32,
+    positions: u32,
+) -> Result<Target, Memory>
+    requires now { now ≤ 20 }
+    requires positions { positions ≤ 7200 }
+{
+    let past = past_on(alloc, line, now);
+    let (past, ahead) = both(past, ahead_on(alloc, line, now, positions))?;
+    Ok(Target {
+        mmsi: 477_553_000,
+        past,
+        ahead,
+        domain: Domain { radius },
+    })
+}
+
+/// Own ship: she heads north at 18 knots from the origin, at a tick of 10 seconds.
+static NORTHWARD: Line = Line {
+    from: Point { x: 0, y: 0 },
+    step: Point { x: 0, y: 926_000 },
+    direction: 0,
+    lost: u32::MAX,
+    missed: 0,
+};
+
+/// One target, which is on a line.
+fn targets_on(
+    alloc: Global,
+    line: &Line,
+    radius: u64,
+    now: u32,
+    positions: u32,
+) -> Result<Targets, Memory>
+    requires now { now ≤ 20 }
+    requires positions { positions ≤ 7200 }
+{
+    let target = target_on(alloc, line, radius, now, positions)?;
+    Ok(Targets::new(vec![in alloc; target]?))
+}
+
+/// Own ship up to the tick of now, a target on a line, and the rules.
+fn surroundings(
+    alloc: Global,
+    line: &Line,
+    radius: u64,
+    now: u32,
+    positions: u32,
+) -> Result<((Past, Targets), RuleSet), Memory>
+    requires now { now ≤ 20 }
+    requires positions { positions ≤ 7200 }
+{
+    let targets = targets_on(alloc, line, radius, now, positions);
+    let vessels = both(past_on(alloc, &NORTHWARD, now), targets);
+    both(vessels, RuleSet::new(alloc, &NUMBERS, 10))
+}
+
+/// A situation with one target, on a line, where own ship has headed north up to the tick of now.
+fn towards(
+    alloc: Global,
+    line: &Line,
+    radius: u64,
+    now: u32,
+    lattice: Lattice,
+    shape: Option<Shape>,
+) -> Result<Situation, Memory>
+    requires { now ≤ 20 }
+{
+    let around = surroundings(alloc, line, radius, now, lattice.positions());
+    let (lattice, ((own_past, targets), rules)) = both(Ok(lattice), around)?;
     Ok(Situation {
-        own_past: Past::new(own_past),
-        start: northward(now),
-        targets: Targets::new(vec![in alloc; target]?),
-        rules: RuleSet::new(alloc, &NUMBERS, 10)?,
+        own_past,
+        start: NORTHWARD.at(now),
+        targets,
+        rules,
         detect: DETECT,
         act: ACT,
         lattice,
         tick: 10,
-        shape: None,
+        shape,
     })
 }
 
-/// Two vessels that meet head-on at 18 knots each, 18.52 metres aside of each other. Now is tick 1.
-pub(crate) fn head_on(alloc: Global, lattice: Lattice) -> Result<Situation, Memory> {
-    head_on_until(alloc, lattice, u32::MAX)
-}
-
-/// The same, where the other has no direction from a tick on.
-pub(crate) fn head_on_until(
+/// Two vessels that meet head-on at 18 knots each, 18.52 metres aside of each other. Now is tick 1. The other has no direction from a tick on.
+pub(crate) fn head_on(
     alloc: Global,
     lattice: Lattice,
+    shape: Option<Shape>,
     lost: u32,
 ) -> Result<Situation, Memory> {
-    let mut past = Vec::new(alloc);
-    let mut ahead = Vec::new(alloc);
-    for k in 0..2_u32 {
-        past.push(Some(at(-185_200, 37_040_000 - 926_000 * i64::from(k), 1800)))?;
-    }
-    for k in 1..lattice.positions() + 2 {
-        let mut state = at(-185_200, 37_040_000 - 926_000 * i64::from(k), 1800);
-        if k >= lost {
-            state.direction = None;
-        }
-        ahead.push(state)?;
-    }
-    let target = Target {
-        mmsi: 477_553_000,
-        past: Past::new(past),
-        ahead: Ahead::new(ahead),
-        domain: Domain { radius: 3_000_000 },
+    let line = Line {
+        from: Point {
+            x: -185_200,
+            y: 37_040_000,
+        },
+        step: Point { x: 0, y: -926_000 },
+        direction: 1800,
+        lost,
+        missed: 0,
     };
-    towards(alloc, 1, lattice, target)
+    towards(alloc, &line, 3_000_000, 1, lattice, shape)
+}
+
+/// Own ship's one plan is to keep on.
+pub(crate) fn keeping_on(alloc: Global) -> Lattice {
+    Lattice::new(alloc, &[0], &[0], 1, 30, 10, 1800, 1022)
+}
+
+/// She keeps on, or turns to starboard by 30 or 60 degrees, by so much in a tick.
+fn turning(alloc: Global, turn_rate: u16) -> Lattice
+    requires some { 1 ≤ turn_rate }
+    requires few { turn_rate ≤ 1800 }
+{
+    Lattice::new(alloc, &[0, 300, 600], &[0], 1, 30, 10, turn_rate, 1022)
 }
 
 fn number_in(lattice: &Lattice, plan: Option<Plan>) -> Option<u32>
@@ -140,80 +263,131 @@ fn number_in(lattice: &Lattice, plan: Option<Plan>) -> Option<u32>
     }
 }
 
-/// The number of the least plan that does not fail: the flat list gives it, and the pruned search each time that it is asked.
-fn least(rt: &impl Abort, alloc: Global, situation: Situation) -> Result<Option<u32>, Memory>
+/// The number of the least plan that does not fail, as the flat list gives it.
+fn flat_answer(alloc: Global, situation: &Situation) -> Result<Option<u32>, Memory>
+    requires { IsSituation situation.now }
+{
+    let plan = least_plan(alloc, situation)?;
+    Ok(number_in(&situation.lattice, plan))
+}
+
+/// The number of the least plan that does not fail, as the pruned search gives it.
+fn pruned_answer(search: &mut Search) -> Option<u32>
+    requires { IsSound search.old }
+    ensures { IsSound search.new }
+{
+    let plan = search.run();
+    number_in(&search.situation().lattice, plan)
+}
+
+/// What a search answers, and what it answers when it is asked again.
+fn answers_of(mut search: Search) -> [Option<u32>; 2]
+    requires { IsSound search }
+{
+    let first = pruned_answer(&mut search);
+    let second = pruned_answer(&mut search);
+    drop(search);
+    [first, second]
+}
+
+/// What the pruned search answers each time.
+fn pruned_answers(alloc: Global, situation: Situation) -> Result<[Option<u32>; 2], Memory>
     requires { IsSituation situation }
 {
-    let flat = least_plan(alloc, &situation)?;
-    let flat = number_in(&situation.lattice, flat);
-    let mut search = Search::new(alloc, situation)?;
-    let first = search.run();
-    let first = number_in(&search.situation().lattice, first);
-    let again = search.run();
-    let again = number_in(&search.situation().lattice, again);
-    is(rt, first, flat);
-    is(rt, again, flat);
+    Ok(answers_of(Search::new(alloc, situation)?))
+}
+
+/// The answer of the flat list, which the pruned search gives each time.
+fn agreed(
+    rt: &impl Abort,
+    flat: Result<Option<u32>, Memory>,
+    pruned: Result<[Option<u32>; 2], Memory>,
+) -> Result<Option<u32>, Memory> {
+    let flat = flat?;
+    is_found(rt, pruned, [flat, flat])?;
     Ok(flat)
 }
 
+/// The number of the least plan that does not fail: the flat list gives it, and the pruned search each time that it is asked.
+fn least(rt: &impl Abort, alloc: Global, situation: Situation) -> Result<Option<u32>, Memory> {
+    is_checked(rt, &situation);
+    let flat = flat_answer(alloc, &situation);
+    agreed(rt, flat, pruned_answers(alloc, situation))
+}
+
 /// The answer of the situation of two vessels head-on.
-fn least_head_on(rt: &impl Abort, alloc: Global, lattice: Lattice) -> Result<Option<u32>, Fail> {
-    let situation = checked(head_on(alloc, lattice)?);
-    is_true(rt, situation.is_some());
-    match situation {
-        Some(situation) => Ok(least(rt, alloc, situation)?),
-        None => Ok(None),
-    }
+fn least_head_on(
+    rt: &impl Abort,
+    alloc: Global,
+    lattice: Lattice,
+    shape: Option<Shape>,
+) -> Result<Option<u32>, Memory> {
+    least(rt, alloc, head_on(alloc, lattice, shape, u32::MAX)?)
+}
+
+/// The same, where she may turn to starboard by so much in a tick.
+fn least_turning(
+    rt: &impl Abort,
+    alloc: Global,
+    turn_rate: u16,
+    shape: Option<Shape>,
+) -> Result<Option<u32>, Memory>
+    requires some { 1 ≤ turn_rate }
+    requires few { turn_rate ≤ 1800 }
+{
+    least_head_on(rt, alloc, turning(alloc, turn_rate), shape)
+}
+
+/// She keeps on, or turns to starboard by 30 degrees, on each of two legs.
+fn two_legs(alloc: Global) -> Lattice {
+    Lattice::new(alloc, &[0, 300], &[0], 2, 15, 10, 1800, 1022)
 }
 
 #[test]
-fn two_vessels_head_on(rt: HostRuntime) -> Result<(), Fail> {
+fn two_vessels_head_on(rt: HostRuntime) -> Result<(), Memory> {
     let alloc = rt.alloc();
-    let three = Lattice::new(alloc, &[0, 300, 600], &[0], 1, 30, 10, 1800, 1022);
-    is(&rt, least_head_on(&rt, alloc, three)?, Some(1));
-    let ahead = Lattice::new(alloc, &[0], &[0], 1, 30, 10, 1800, 1022);
-    is(&rt, least_head_on(&rt, alloc, ahead)?, None);
-    let two_legs = Lattice::new(alloc, &[0, 300], &[0], 2, 15, 10, 1800, 1022);
-    is(&rt, least_head_on(&rt, alloc, two_legs)?, Some(2));
-    Ok(())
+    is_found(&rt, least_turning(&rt, alloc, 1800, None), Some(1))?;
+    is_found(
+        &rt,
+        least_head_on(&rt, alloc, keeping_on(alloc), None),
+        None,
+    )?;
+    is_found(
+        &rt,
+        least_head_on(&rt, alloc, two_legs(alloc), None),
+        Some(2),
+    )
 }
 
 #[test]
-fn two_vessels_head_on_with_a_shape(rt: HostRuntime) -> Result<(), Fail> {
-    let alloc = rt.alloc();
-    let three = Lattice::new(alloc, &[0, 300, 600], &[0], 1, 30, 10, 1800, 1022);
-    let mut situation = head_on(alloc, three)?;
-    situation.shape = Shape::new(&LONG_AHEAD);
-    let situation = checked(situation);
-    is_true(&rt, situation.is_some());
-    if let Some(situation) = situation {
-        is(&rt, least(&rt, alloc, situation)?, Some(1));
-    }
-    Ok(())
+fn two_vessels_head_on_with_a_shape(rt: HostRuntime) -> Result<(), Memory> {
+    let shape = Shape::new(&LONG_AHEAD);
+    is_found(&rt, least_turning(&rt, rt.alloc(), 1800, shape), Some(1))
 }
 
 #[test]
-fn a_turn_at_a_rate_passes_or_comes_too_late(rt: HostRuntime) -> Result<(), Fail> {
-    let alloc = rt.alloc();
-    let turning = Lattice::new(alloc, &[0, 300, 600], &[0], 1, 30, 10, 100, 1022);
-    is(&rt, least_head_on(&rt, alloc, turning)?, Some(1));
-    let slow = Lattice::new(alloc, &[0, 300, 600], &[0], 1, 30, 10, 20, 1022);
-    is(&rt, least_head_on(&rt, alloc, slow)?, None);
-    Ok(())
+fn a_turn_at_a_rate_passes_or_comes_too_late(rt: HostRuntime) -> Result<(), Memory> {
+    is_found(&rt, least_turning(&rt, rt.alloc(), 100, None), Some(1))?;
+    is_found(&rt, least_turning(&rt, rt.alloc(), 20, None), None)
 }
 
-#[test]
-fn all_plans_of_the_greatest_lattice_fail_in_their_first_leg(rt: HostRuntime) -> Result<(), Fail> {
-    let alloc = rt.alloc();
+/// What the pruned search answers of 2^30 plans, too many for the flat list.
+fn answers_of_the_greatest_lattice(
+    rt: &impl Abort,
+    alloc: Global,
+) -> Result<[Option<u32>; 2], Memory> {
     let greatest = Lattice::new(alloc, &[0; 4], &[0; 8], 6, 30, 10, 1800, 1022);
-    let situation = checked(head_on(alloc, greatest)?);
-    is_true(&rt, situation.is_some());
-    if let Some(situation) = situation {
-        let mut search = Search::new(alloc, situation)?;
-        is_true(&rt, search.run().is_none());
-        is_true(&rt, search.run().is_none());
-    }
-    Ok(())
+    let situation = head_on(alloc, greatest, None, u32::MAX)?;
+    is_checked(rt, &situation);
+    pruned_answers(alloc, situation)
+}
+
+#[test]
+fn all_plans_of_the_greatest_lattice_fail_in_their_first_leg(
+    rt: HostRuntime,
+) -> Result<(), Memory> {
+    let answers = answers_of_the_greatest_lattice(&rt, rt.alloc());
+    is_found(&rt, answers, [None, None])
 }
 
 /// One of so many, at most 2^24.
@@ -241,29 +415,8 @@ fn random_lattice(alloc: Global, source: &mut Pcg32) -> Lattice {
     }
 }
 
-/// A vessel that moves by so much from each tick to the next.
-#[derive(Drop)]
-struct Line {
-    from: Point,
-    step: Point,
-    direction: u16,
-}
-
-impl Line {
-    fn at(&self, k: u32) -> TickState {
-        let k = i64::from(k);
-        at(
-            self.from.x.wrapping_add(self.step.x.wrapping_mul(k)),
-            self.from.y.wrapping_add(self.step.y.wrapping_mul(k)),
-            self.direction,
-        )
-    }
-}
-
-/// A target on a random line, which is not seen at some ticks, and a random lattice. In about one of two situations domains are shapes.
-fn random_situation(alloc: Global, source: &mut Pcg32) -> Result<Situation, Memory> {
-    let lattice = random_lattice(alloc, source);
-    let line = Line {
+fn random_line(source: &mut Pcg32) -> Line {
+    Line {
         from: Point {
             x: about(source, 8_000_000),
             y: about(source, 8_000_000),
@@ -273,60 +426,74 @@ fn random_situation(alloc: Global, source: &mut Pcg32) -> Result<Situation, Memo
             y: about(source, 900_000),
         },
         direction: below(source, 3600) as u16,
-    };
-    let now = 1 + below(source, 4);
-    let mut past = Vec::new(alloc);
-    let mut ahead = Vec::new(alloc);
+        lost: u32::MAX,
+        missed: 0,
+    }
+}
+
+/// About one of eight of the ticks up to now.
+fn random_ticks(source: &mut Pcg32, now: u32) -> u32
+    requires { now ≤ 20 }
+{
+    let mut ticks = 0;
     for k in 0..now + 1 {
-        let seen = if below(source, 8) == 0 {
-            None
-        } else {
-            Some(line.at(k))
-        };
-        past.push(seen)?;
+        if below(source, 8) == 0 {
+            ticks |= 1 << k;
+        }
     }
-    for k in now..now + lattice.positions() + 1 {
-        ahead.push(line.at(k))?;
+    ticks
+}
+
+fn random_shape(source: &mut Pcg32) -> Option<Shape> {
+    match below(source, 2) {
+        0 => Shape::new(&LONG_AHEAD),
+        _ => None,
     }
-    let target = Target {
-        mmsi: 477_553_000,
-        past: Past::new(past),
-        ahead: Ahead::new(ahead),
-        domain: Domain {
-            radius: u64::from(below(source, 4_000_000)),
-        },
-    };
-    let mut situation = towards(alloc, now, lattice, target)?;
-    if below(source, 2) == 0 {
-        situation.shape = Shape::new(&LONG_AHEAD);
+}
+
+/// A target on a random line, which is not seen at some ticks, and a random lattice. In about one of two situations domains are shapes.
+fn random_situation(alloc: Global, source: &mut Pcg32) -> Result<Situation, Memory> {
+    let lattice = random_lattice(alloc, source);
+    let line = random_line(source);
+    let now = 1 + below(source, 4);
+    let missed = random_ticks(source, now);
+    let radius = u64::from(below(source, 4_000_000));
+    let shape = random_shape(source);
+    towards(alloc, &Line { missed, ..line }, radius, now, lattice, shape)
+}
+
+fn least_of_random(
+    rt: &impl Abort,
+    alloc: Global,
+    source: &mut Pcg32,
+) -> Result<Option<u32>, Memory> {
+    least(rt, alloc, random_situation(alloc, source)?)
+}
+
+/// The first plan of all, a later one, or none.
+fn kind_of(answer: Option<u32>) -> usize
+    ensures { result < 3 }
+{
+    match answer {
+        Some(0) => 0,
+        Some(_) => 1,
+        None => 2,
     }
-    Ok(situation)
 }
 
 #[test]
-fn the_pruned_search_agrees_with_the_flat_list(rt: HostRuntime) -> Result<(), Fail> {
-    let alloc = rt.alloc();
+fn the_pruned_search_agrees_with_the_flat_list(rt: HostRuntime) -> Result<(), Memory> {
     let mut source = Pcg32::new(42, 54);
-    let mut first = false;
-    let mut later = false;
-    let mut none = false;
+    let mut came = [false; 3];
     for _ in 0..120u8 {
-        let situation = checked(random_situation(alloc, &mut source)?);
-        is_true(&rt, situation.is_some());
-        if let Some(situation) = situation {
-            match least(&rt, alloc, situation)? {
-                Some(0) => first = true,
-                Some(_) => later = true,
-                None => none = true,
-            }
-        }
+        came[kind_of(least_of_random(&rt, rt.alloc(), &mut source)?)] = true;
     }
-    is_true(&rt, first && later && none);
+    is(&rt, came, [true; 3]);
     Ok(())
 }
 
 /// A vessel that heads north at 18 knots, and has reported it at second 1000 from the origin.
-const REPORTED: Accepted = Accepted {
+static REPORTED: Accepted = Accepted {
     time: 1000,
     point: Point { x: 0, y: 0 },
     report: PositionReport {
@@ -341,27 +508,52 @@ const REPORTED: Accepted = Accepted {
     },
 };
 
+/// After 10 seconds she heads east at 9 knots.
+static EAST: [Change; 1] = [Change {
+    after: 10,
+    course: 900,
+    speed: 90,
+}];
+
+/// What is predicted of her so many seconds after her report.
+fn predicted_after(seconds: u8) -> TickState {
+    predicted(&REPORTED, &EAST, 1000, 1000 + u64::from(seconds))
+}
+
+/// Seconds, and what is predicted after them.
+static ON_THE_WAY: [(u8, TickState); 3] = [
+    (
+        9,
+        TickState {
+            point: Point { x: 0, y: 833_400 },
+            direction: Some(0),
+            speed: Some(180),
+        },
+    ),
+    (
+        10,
+        TickState {
+            point: Point { x: 0, y: 926_000 },
+            direction: Some(900),
+            speed: Some(90),
+        },
+    ),
+    (
+        20,
+        TickState {
+            point: Point {
+                x: 463_000,
+                y: 926_000,
+            },
+            direction: Some(900),
+            speed: Some(90),
+        },
+    ),
+];
+
 #[test]
 fn a_change_of_course_on_the_way(rt: HostRuntime) {
-    let east = Change {
-        after: 10,
-        course: 900,
-        speed: 90,
-    };
-    let before = predicted(&REPORTED, &[east], 1000, 1009);
-    is(&rt, before.point, Point { x: 0, y: 833_400 });
-    is(&rt, before.direction, Some(0));
-    let turned = predicted(&REPORTED, &[east], 1000, 1010);
-    is(&rt, turned.point, Point { x: 0, y: 926_000 });
-    is(&rt, turned.direction, Some(900));
-    is(&rt, turned.speed, Some(90));
-    let after = predicted(&REPORTED, &[east], 1000, 1020);
-    is(
-        &rt,
-        after.point,
-        Point {
-            x: 463_000,
-            y: 926_000,
-        },
-    );
+    for (seconds, state) in &ON_THE_WAY {
+        is(&rt, predicted_after(*seconds), *state);
+    }
 }

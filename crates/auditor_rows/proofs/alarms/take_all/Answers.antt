@@ -2,14 +2,14 @@ use Rattle.std.proofs.Common.{sym, subst, ◌∙◌}
 use Rattle.traces.specs.Audited.{MoveLittle, SeenVessels}
 use Rattle.auditor_rows.specs.WorkedMeeting.{head_on_at}
 use Rattle.auditor_rows.proofs.WorkedMeeting.{from_none}
-use Rattle.auditor_rows.proofs.alarms.watched.Goals as goal
+use Rattle.auditor_rows.proofs.alarms.take_all.Goals as goal
 
 pub loop-k-init : goal.loop-k-init
 loop-k-init c = record {
-  sound = c.in_ok-watch.ensures.sound;
-  at = c.in_ok-watch.ensures.none;
-  last = c.in_ok-watch.ensures.last;
-  moves = subst (λ (s : SeenVessels). MoveLittle s (head_on_at 0)) (sym c.in_ok-watch.ensures.latest) (from_none (head_on_at 0));
+  sound = c.requires.sound;
+  at = c.requires.none;
+  last = c.requires.last;
+  moves = subst (λ (s : SeenVessels). MoveLittle s (head_on_at 0)) (sym c.requires.latest) (from_none (head_on_at 0));
 }
 
 pub loop-k-preserved : goal.loop-k-preserved

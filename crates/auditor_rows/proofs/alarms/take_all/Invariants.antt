@@ -2,7 +2,7 @@ use Rattle.std.proofs.Common.{◌≡◌}
 use Rattle.traces.specs.Audited.{MoveLittle}
 use Rattle.early_monitor.specs.Watching.{IsSound, given_of, last_tick_of, latest_vessels}
 use Rattle.auditor_rows.specs.WorkedMeeting.{head_on_at}
-use Rattle.auditor_rows.proofs.alarms.watched.Given as goal
+use Rattle.auditor_rows.proofs.alarms.take_all.Given as goal
 
 abbrev pub invariant-loop-k : goal.invariant-loop-k
 invariant-loop-k l = record {

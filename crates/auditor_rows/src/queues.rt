@@ -1,0 +1,103 @@
+//! What a queue does with the marks of tracks.
+use crate::compared::is;
+use audit_rows::{Mark, Row, RowQueue, Topic};
+use auditor::{Total, begin_tracks, totals_of};
+use meetings::Pair;
+use outside::Memory;
+use std::alloc::Global;
+use std::process::Abort;
+
+/// What is done to a queue.
+pub(crate) enum Step {
+    /// The tracks of a pair's trace begin, by so many rules.
+    Trace(Pair, u16),
+    /// A track begins.
+    Track(Topic),
+    /// The track at an index gets the mark for a step.
+    Mark(usize, u32, Mark),
+    /// The further rows below a bound are taken, which are these.
+    Below(u32, &'static [Row]),
+}
+
+pub(crate) static NO_ROWS: [Row; 0] = [];
+
+/// The totals of no rule.
+pub(crate) static NO_TOTALS: [Total; 0] = [];
+
+/// A queue gives these rows below a bound.
+fn gives_below(
+    rt: &impl Abort,
+    queue: &mut RowQueue,
+    bound: u32,
+    wanted: &[Row],
+) -> Result<(), Memory> {
+    let rows = queue.rows_below(bound)?;
+    is(rt, rows.as_slice(), wanted);
+    Ok(())
+}
+
+fn take(rt: &impl Abort, queue: &mut RowQueue, step: &Step) -> Result<(), Memory> {
+    match step {
+        Step::Trace(pair, rules) => begin_tracks(queue, *pair, usize::from(*rules)),
+        Step::Track(topic) => {
+            queue.begin(*topic)?;
+            Ok(())
+        }
+        Step::Mark(index, step, mark) => queue.mark(*index, *step, *mark),
+        Step::Below(bound, rows) => gives_below(rt, queue, *bound, rows),
+    }
+}
+
+/// Does all this.
+pub(crate) fn take_all(
+    rt: &impl Abort,
+    queue: &mut RowQueue,
+    steps: &[Step],
+) -> Result<(), Memory> {
+    for step in steps {
+        take(rt, queue, step)?;
+    }
+    Ok(())
+}
+
+/// Where all tracks end at a step, the rules come to these totals.
+fn has_totals(
+    rt: &impl Abort,
+    alloc: Global,
+    queue: &RowQueue,
+    end: u32,
+    wanted: &[Total],
+) -> Result<(), Memory> {
+    let totals = totals_of(alloc, queue, wanted.len(), end)?;
+    is(rt, totals.as_slice(), wanted);
+    Ok(())
+}
+
+/// Where all tracks end at a step, a queue gives these rows, and the rules come to these totals.
+pub(crate) fn ends_with(
+    rt: &impl Abort,
+    alloc: Global,
+    queue: RowQueue,
+    end: u32,
+    rows: &[Row],
+    totals: &[Total],
+) -> Result<(), Memory> {
+    has_totals(rt, alloc, &queue, end, totals)?;
+    let found = queue.finish(end)?;
+    is(rt, found.as_slice(), rows);
+    Ok(())
+}
+
+/// The same of a queue to which this is done.
+pub(crate) fn comes_to(
+    rt: &impl Abort,
+    alloc: Global,
+    steps: &[Step],
+    end: u32,
+    rows: &[Row],
+    totals: &[Total],
+) -> Result<(), Memory> {
+    let mut queue = RowQueue::new(alloc);
+    take_all(rt, &mut queue, steps)?;
+    ends_with(rt, alloc, queue, end, rows, totals)
+}
