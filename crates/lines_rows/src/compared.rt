@@ -1,5 +1,5 @@
 //! What a test compares, in one place each: a test that calls them is proved in a fraction of the time that the macros take in it. What fails is
-//! told with both values, by the name of its test or by what its row shows.
+//! told with both values, by the name of its test. Where a table has many rows, both have what the row shows beside them.
 use std::fmt::Debug;
 use std::process::Abort;
 
@@ -8,17 +8,7 @@ pub(crate) fn is<T: PartialEq + Debug + Drop>(rt: &impl Abort, found: T, wanted:
     assert_eq!(rt; found, wanted);
 }
 
-/// What was found for a row of a table is what was wanted.
-pub(crate) fn is_in<T: PartialEq + Debug + Drop>(
-    rt: &impl Abort,
-    shows: &str,
-    found: T,
-    wanted: T,
-) {
-    assert_eq!(rt; found, wanted, "{shows}");
-}
-
 /// What is claimed holds.
 pub(crate) fn is_true(rt: &impl Abort, claim: bool) {
-    assert!(rt; claim);
+    is(rt, claim, true);
 }

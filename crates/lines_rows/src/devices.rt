@@ -7,6 +7,7 @@ use outside::{
 use std::alloc::Global;
 use std::io::{self, Write};
 use std::process::Abort;
+use std::rt::Files;
 use std::test::Fail;
 use std::{env, fs, process};
 
@@ -25,24 +26,39 @@ fn read(source: &mut impl Source) -> (Taken, u8) {
     (taken, room[0])
 }
 
+/// Compares what each read of a source gives.
+fn are_read(rt: &impl Abort, source: &mut impl Source, reads: &[(Taken, u8)]) {
+    for wanted in reads {
+        is(rt, read(source), *wanted);
+    }
+}
+
+static ONE_BY_ONE: [(Taken, u8); 3] = [
+    (Taken::Got(1), b'a'),
+    (Taken::Got(1), b'b'),
+    (Taken::End, 0),
+];
+
 #[test]
 fn a_plain_source_gives_its_bytes_one_by_one(rt: HostRuntime) -> Result<(), Memory> {
     let mut source = PlainSource::new(b"ab".to_vec(rt.alloc())?, 1);
-    is(&rt, read(&mut source), (Taken::Got(1), b'a'));
-    is(&rt, read(&mut source), (Taken::Got(1), b'b'));
-    is(&rt, read(&mut source), (Taken::End, 0));
+    are_read(&rt, &mut source, &ONE_BY_ONE);
     Ok(())
 }
 
+static PAST_TWO_FAULTS: [(Taken, u8); 5] = [
+    (Taken::Got(2), b'a'),
+    (Taken::Failed, 0),
+    (Taken::Failed, 0),
+    (Taken::Got(1), b'c'),
+    (Taken::End, 0),
+];
+
 #[test]
 fn a_listed_read_fails_and_loses_nothing(rt: HostRuntime) -> Result<(), Memory> {
-    let fails = vec![in rt.alloc(); 1, 2]?;
-    let mut source = MemorySource::new(b"abc".to_vec(rt.alloc())?, 2, fails);
-    is(&rt, read(&mut source), (Taken::Got(2), b'a'));
-    is(&rt, read(&mut source), (Taken::Failed, 0));
-    is(&rt, read(&mut source), (Taken::Failed, 0));
-    is(&rt, read(&mut source), (Taken::Got(1), b'c'));
-    is(&rt, read(&mut source), (Taken::End, 0));
+    let bytes = b"abc".to_vec(rt.alloc())?;
+    let mut source = MemorySource::new(bytes, 2, vec![in rt.alloc(); 1, 2]?);
+    are_read(&rt, &mut source, &PAST_TWO_FAULTS);
     Ok(())
 }
 
@@ -81,28 +97,43 @@ fn fetched(shelf: &mut impl Shelf, alloc: Global, name: &str, limit: u64) -> Fet
     }
 }
 
+/// Compares what a shelf gives under a name.
+fn is_given(
+    rt: &impl Abort,
+    alloc: Global,
+    shelf: &mut impl Shelf,
+    name: &str,
+    limit: u64,
+    wanted: Result<&[u8], &'static str>,
+) {
+    is(rt, found(&fetched(shelf, alloc, name, limit)), wanted);
+}
+
 /// A name and a limit, and what is fetched, or why there is nothing.
 type Fetch = (&'static str, u64, Result<&'static [u8], &'static str>);
 
 /// Compares what a shelf gives.
 fn gives(rt: &impl Abort, alloc: Global, shelf: &mut impl Shelf, fetches: &[Fetch]) {
     for (name, limit, wanted) in fetches {
-        is(rt, found(&fetched(shelf, alloc, name, *limit)), *wanted);
+        is_given(rt, alloc, shelf, name, *limit, *wanted);
     }
 }
+
+static LIMITS: [Fetch; 3] = [
+    ("log", 5, Ok(b"12345")),
+    ("log", 4, Err("too long")),
+    ("lo", 5, Err("failed")),
+];
 
 #[test]
 fn a_shelf_gives_what_is_no_longer_than_the_limit(rt: HostRuntime) -> Result<(), Memory> {
     let file = (Word::new(rt.alloc(), "log")?, b"12345".to_vec(rt.alloc())?);
     let mut shelf = PlainShelf::new(vec![in rt.alloc(); file]?);
-    let fetches: [Fetch; 3] = [
-        ("log", 5, Ok(b"12345")),
-        ("log", 4, Err("too long")),
-        ("lo", 5, Err("failed")),
-    ];
-    gives(&rt, rt.alloc(), &mut shelf, &fetches);
+    gives(&rt, rt.alloc(), &mut shelf, &LIMITS);
     Ok(())
 }
+
+static FAILED_ONCE: [Fetch; 2] = [("log", 0, Err("failed")), ("log", 0, Ok(b""))];
 
 #[test]
 fn a_listed_fetch_fails(rt: HostRuntime) -> Result<(), Memory> {
@@ -110,8 +141,7 @@ fn a_listed_fetch_fails(rt: HostRuntime) -> Result<(), Memory> {
     let second = (Word::new(rt.alloc(), "rows")?, Vec::new(rt.alloc()));
     let files = vec![in rt.alloc(); first, second]?;
     let mut shelf = MemoryShelf::new(files, vec![in rt.alloc(); 0]?);
-    let fetches: [Fetch; 2] = [("log", 0, Err("failed")), ("log", 0, Ok(b""))];
-    gives(&rt, rt.alloc(), &mut shelf, &fetches);
+    gives(&rt, rt.alloc(), &mut shelf, &FAILED_ONCE);
     Ok(())
 }
 
@@ -158,14 +188,26 @@ fn each_write_is_flushed(rt: HostRuntime) {
     is(&rt, writer.count, 2);
 }
 
+/// Compares what is read of the rest of a source, up to a limit.
+fn is_whole(
+    rt: &impl Abort,
+    alloc: Global,
+    source: &mut impl Source,
+    limit: u64,
+    wanted: Result<&[u8], ReadFault>,
+) {
+    match read_whole(alloc, source, limit) {
+        Ok(bytes) => is(rt, Ok(bytes.as_slice()), wanted),
+        Err(fault) => is(rt, Err(fault), wanted),
+    }
+}
+
 // One byte behind the limit is read, and no more.
 #[test]
 fn what_is_too_long_is_read_up_to_the_byte_behind_the_limit(rt: HostRuntime) -> Result<(), Memory> {
     let mut source = PlainSource::new(b"abcdef".to_vec(rt.alloc())?, 3);
-    let too_long = read_whole(rt.alloc(), &mut source, 4);
-    is(&rt, too_long, Err(ReadFault::TooLong));
-    let rest = read_whole(rt.alloc(), &mut source, 1);
-    is(&rt, rest, Ok(b"f".to_vec(rt.alloc())?));
+    is_whole(&rt, rt.alloc(), &mut source, 4, Err(ReadFault::TooLong));
+    is_whole(&rt, rt.alloc(), &mut source, 1, Ok(b"f"));
     Ok(())
 }
 
@@ -181,28 +223,54 @@ fn path_of(rt: &HostRuntime, name: &str) -> Result<String, Fail> {
 fn a_folder_is_a_fault_and_no_file(rt: HostRuntime) -> Result<(), Fail> {
     let folder = env::temp_dir(&rt)?;
     let mut shelf = FileShelf::new(rt.clone()?);
-    let fetched = fetched(&mut shelf, rt.alloc(), folder.as_str(), 0);
-    is(&rt, found(&fetched), Err("failed"));
+    is_given(
+        &rt,
+        rt.alloc(),
+        &mut shelf,
+        folder.as_str(),
+        0,
+        Err("failed"),
+    );
     Ok(())
 }
 
-/// What is fetched of the second of two files, which hold "red" and "green".
-fn fetched_of_two(rt: &HostRuntime, first: &str, second: &str) -> Result<Fetched, Fail> {
+/// Of two files, which hold "red" and "green", the second is fetched.
+fn is_fetched_of_two<R: Abort + Files>(
+    rt: &R,
+    alloc: Global,
+    shelf: &mut impl Shelf,
+    first: &str,
+    second: &str,
+) -> io::Result<()> {
     fs::write(rt, first, b"red")?;
     fs::write(rt, second, b"green")?;
-    let mut shelf = FileShelf::new(rt.clone()?);
-    let fetched = fetched(&mut shelf, rt.alloc(), second, 5);
+    is_given(rt, alloc, shelf, second, 5, Ok(b"green"));
     fs::remove_file(rt, first)?;
-    fs::remove_file(rt, second)?;
-    Ok(fetched)
+    fs::remove_file(rt, second)
 }
 
 #[test]
 fn of_two_files_the_named_one_is_fetched(rt: HostRuntime) -> Result<(), Fail> {
     let first = path_of(&rt, "first")?;
     let second = path_of(&rt, "second")?;
-    let fetched = fetched_of_two(&rt, first.as_str(), second.as_str())?;
-    is(&rt, found(&fetched), Ok(b"green".as_slice()));
+    let mut shelf = FileShelf::new(rt.clone()?);
+    is_fetched_of_two(&rt, rt.alloc(), &mut shelf, first.as_str(), second.as_str())?;
+    Ok(())
+}
+
+/// A file of these bytes is fetched whole while it is there.
+fn is_fetched_whole<R: Abort + Files>(
+    rt: &R,
+    alloc: Global,
+    shelf: &mut impl Shelf,
+    path: &str,
+    bytes: &[u8],
+) -> io::Result<()> {
+    fs::write(rt, path, bytes)?;
+    is_given(rt, alloc, shelf, path, 70_000, Ok(bytes));
+    is_given(rt, alloc, shelf, path, 69_999, Err("too long"));
+    fs::remove_file(rt, path)?;
+    is_given(rt, alloc, shelf, path, 70_000, Err("failed"));
     Ok(())
 }
 
@@ -211,14 +279,7 @@ fn of_two_files_the_named_one_is_fetched(rt: HostRuntime) -> Result<(), Fail> {
 fn a_file_is_fetched_whole(rt: HostRuntime) -> Result<(), Fail> {
     let path = path_of(&rt, "fetched_whole")?;
     let bytes = vec![in rt.alloc(); b'x'; 70_000]?;
-    fs::write(&rt, path.as_str(), bytes.as_slice())?;
     let mut shelf = FileShelf::new(rt.clone()?);
-    let whole = fetched(&mut shelf, rt.alloc(), path.as_str(), 70_000);
-    let too_long = fetched(&mut shelf, rt.alloc(), path.as_str(), 69_999);
-    fs::remove_file(&rt, path.as_str())?;
-    is(&rt, found(&whole), Ok(bytes.as_slice()));
-    is(&rt, found(&too_long), Err("too long"));
-    let gone = fetched(&mut shelf, rt.alloc(), path.as_str(), 70_000);
-    is(&rt, found(&gone), Err("failed"));
+    is_fetched_whole(&rt, rt.alloc(), &mut shelf, path.as_str(), bytes.as_slice())?;
     Ok(())
 }

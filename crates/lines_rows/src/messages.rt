@@ -1,5 +1,5 @@
 //! Messages with known fields.
-use crate::compared::{is, is_in};
+use crate::compared::is;
 use crate::sentences::{are_written, joined};
 use ais_messages::{
     Decoded, Message, MessageCause, PositionReport, ShipData, StaticReport, decode,
@@ -35,10 +35,11 @@ fn said(decoded: &Decoded) -> Result<Said<'_>, MessageCause> {
     }
 }
 
-/// The lines of one message, and what it says.
+/// The lines of one message, those before the last and the last, and what it says.
 struct Row {
     shows: &'static str,
-    lines: &'static [&'static [u8]],
+    first: &'static [&'static [u8]],
+    last: &'static [u8],
     says: Result<Said<'static>, MessageCause>,
 }
 
@@ -83,10 +84,11 @@ const MITCHELL: Told<'static> = (
     }),
 );
 
-static ROWS: [Row; 13] = [
-    Row {
+static ROWS: [&Row; 13] = [
+    &Row {
         shows: "a moored ship",
-        lines: &[b"!AIVDM,1,1,,B,177KQJ5000G?tO`K>RA1wUbN0TKH,0*5C"],
+        first: &[],
+        last: b"!AIVDM,1,1,,B,177KQJ5000G?tO`K>RA1wUbN0TKH,0*5C",
         says: Ok((
             Some(PositionReport {
                 kind: 1,
@@ -101,14 +103,16 @@ static ROWS: [Row; 13] = [
             None,
         )),
     },
-    Row {
+    &Row {
         shows: "a ship under way",
-        lines: &[b"!AIVDM,1,1,,A,15P5TL0P2l00001wwHt000000000,0*5C"],
+        first: &[],
+        last: b"!AIVDM,1,1,,A,15P5TL0P2l00001wwHt000000000,0*5C",
         says: Ok((Some(UNDER_WAY), None)),
     },
-    Row {
+    &Row {
         shows: "a long-range report, in 96 bits",
-        lines: &[b"!AIVDM,1,1,,A,K5P5TL0000?ws900,0*27"],
+        first: &[],
+        last: b"!AIVDM,1,1,,A,K5P5TL0000?ws900,0*27",
         says: Ok((
             Some(PositionReport {
                 kind: 27,
@@ -120,9 +124,10 @@ static ROWS: [Row; 13] = [
         )),
     },
     // The payloads of the next four are those of an encoder in Python.
-    Row {
+    &Row {
         shows: "the greatest values that say something",
-        lines: &[b"!AIVDM,1,1,,A,12vg200P?v<ovH0kOqP>3s?n0000,0*68"],
+        first: &[],
+        last: b"!AIVDM,1,1,,A,12vg200P?v<ovH0kOqP>3s?n0000,0*68",
         says: Ok((
             Some(PositionReport {
                 place: Some((54000000, 108000000)),
@@ -134,9 +139,10 @@ static ROWS: [Row; 13] = [
             None,
         )),
     },
-    Row {
+    &Row {
         shows: "the least values",
-        lines: &[b"!AIVDM,1,1,,A,12vg200P00C81`1<P6P0001n0000,0*28"],
+        first: &[],
+        last: b"!AIVDM,1,1,,A,12vg200P00C81`1<P6P0001n0000,0*28",
         says: Ok((
             Some(PositionReport {
                 place: Some((-54000000, -108000000)),
@@ -148,35 +154,41 @@ static ROWS: [Row; 13] = [
             None,
         )),
     },
-    Row {
+    &Row {
         shows: "the first values behind the greatest, and a place too far north",
-        lines: &[b"!AIVDM,1,1,,A,12vg200P?w<ovH0kOqPN4;An0000,0*28"],
+        first: &[],
+        last: b"!AIVDM,1,1,,A,12vg200P?w<ovH0kOqPN4;An0000,0*28",
         says: Ok((Some(UNKNOWN), None)),
     },
-    Row {
+    &Row {
         shows: "the first values behind the greatest, and a place too far west",
-        lines: &[b"!AIVDM,1,1,,A,12vg200P?wC81Ww<P6P>4;An0000,0*60"],
+        first: &[],
+        last: b"!AIVDM,1,1,,A,12vg200P?wC81Ww<P6P>4;An0000,0*60",
         says: Ok((Some(UNKNOWN), None)),
     },
-    Row {
+    &Row {
         shows: "a ship by her name and size",
-        lines: &[FIRST, b"!AIVDM,2,2,3,B,1@0000000000000,2*55"],
+        first: &[FIRST],
+        last: b"!AIVDM,2,2,3,B,1@0000000000000,2*55",
         says: Ok((None, Some(MITCHELL))),
     },
-    Row {
+    &Row {
         shows: "the same message with the 422 bits that a message 5 needs",
-        lines: &[FIRST, b"!AIVDM,2,2,3,B,1@0000000000000,4*53"],
+        first: &[FIRST],
+        last: b"!AIVDM,2,2,3,B,1@0000000000000,4*53",
         says: Ok((None, Some(MITCHELL))),
     },
-    Row {
+    &Row {
         shows: "the same message with one bit fewer",
-        lines: &[FIRST, b"!AIVDM,2,2,3,B,1@0000000000000,5*52"],
+        first: &[FIRST],
+        last: b"!AIVDM,2,2,3,B,1@0000000000000,5*52",
         says: Err(MessageCause::Short),
     },
     // The next three are off the air, from the samples of GPSD.
-    Row {
+    &Row {
         shows: "place and name in one message 19: CAPT.J.RIMES",
-        lines: &[b"!AIVDM,1,1,,B,C5N3SRgPEnJGEBT>NhWAwwo862PaLELTBJ:V00000000S0D:R220,0*0B"],
+        first: &[],
+        last: b"!AIVDM,1,1,,B,C5N3SRgPEnJGEBT>NhWAwwo862PaLELTBJ:V00000000S0D:R220,0*0B",
         says: Ok((
             Some(PositionReport {
                 kind: 19,
@@ -201,14 +213,16 @@ static ROWS: [Row; 13] = [
             )),
         )),
     },
-    Row {
+    &Row {
         shows: "the name of PROGUY in the first part of a message 24",
-        lines: &[b"!AIVDM,1,1,,A,H42O55i18tMET00000000000000,2*6D"],
+        first: &[],
+        last: b"!AIVDM,1,1,,A,H42O55i18tMET00000000000000,2*6D",
         says: Ok((None, Some((271041815, Some(b"PROGUY"), None)))),
     },
-    Row {
+    &Row {
         shows: "her size in the second part",
-        lines: &[b"!AIVDM,1,1,,A,H42O55lti4hhhilD3nink000?050,0*40"],
+        first: &[],
+        last: b"!AIVDM,1,1,,A,H42O55lti4hhhilD3nink000?050,0*40",
         says: Ok((
             None,
             Some((
@@ -226,24 +240,31 @@ static ROWS: [Row; 13] = [
     },
 ];
 
-/// The message that the last of some lines completes.
-fn message(alloc: Global, lines: &[&[u8]]) -> Option<Decoded> {
-    let mut joiner = Joiner::new(alloc);
-    let mut message = None;
-    for line in lines {
-        message = match joined(&mut joiner, line, 0) {
-            Some(Joined::Message(bits)) => Some(decode(&bits)),
-            _ => None,
-        };
+/// Compares what a message says.
+fn is_said(rt: &impl Abort, row: &Row, decoded: &Decoded) {
+    is(rt, (row.shows, said(decoded)), (row.shows, row.says));
+}
+
+/// Compares what the last of some lines completes.
+fn is_completed(rt: &impl Abort, row: &Row, joined: Option<Joined>) {
+    match joined {
+        Some(Joined::Message(bits)) => is_said(rt, row, &decode(&bits)),
+        _ => is(rt, (row.shows, false), (row.shows, true)),
     }
-    message
+}
+
+/// Gives the lines of a row to a joiner.
+fn are_received(rt: &impl Abort, joiner: &mut Joiner, row: &Row) {
+    for first in row.first {
+        drop(joined(joiner, first, 0));
+    }
+    is_completed(rt, row, joined(joiner, row.last, 0));
 }
 
 /// Compares what the lines of each row say.
-fn say(rt: &impl Abort, alloc: Global, rows: &[Row]) {
+fn say(rt: &impl Abort, alloc: Global, rows: &[&Row]) {
     for row in rows {
-        let message = message(alloc, row.lines);
-        is_in(rt, row.shows, message.as_ref().map(said), Some(row.says));
+        are_received(rt, &mut Joiner::new(alloc), row);
     }
 }
 
@@ -253,48 +274,52 @@ fn what_messages_say(rt: HostRuntime) {
 }
 
 /// Compares what is read of the bits of a report.
-fn is_read_again(rt: &impl Abort, bits: &Bits, report: PositionReport) {
+fn is_read_again(rt: &impl Abort, bits: &Bits, report: &PositionReport) {
     is(rt, bits.len(), 168);
-    is(
-        rt,
-        decode(bits),
-        Decoded::Message(Message::Position(report)),
-    );
+    let wanted = Decoded::Message(Message::Position(*report));
+    is(rt, decode(bits), wanted);
 }
+
+static WRITTEN: PositionReport = UNDER_WAY;
 
 #[test]
 fn report_written_as_a_sentence(rt: HostRuntime) -> Result<(), Memory> {
-    let bits = encode_position(rt.alloc(), &UNDER_WAY)?;
-    is_read_again(&rt, &bits, UNDER_WAY);
+    let bits = encode_position(rt.alloc(), &WRITTEN)?;
+    is_read_again(&rt, &bits, &WRITTEN);
     are_written(&rt, rt.alloc(), &bits);
     Ok(())
 }
 
+static ABSENT: PositionReport = PositionReport {
+    kind: 18,
+    mmsi: 799999999,
+    status: 15,
+    second: 63,
+    ..UNKNOWN
+};
+
 // A report without a place, speed, course and heading is written and read again.
 #[test]
 fn absent_fields_are_read_as_absent(rt: HostRuntime) -> Result<(), Memory> {
-    let report = PositionReport {
-        kind: 18,
-        mmsi: 799999999,
-        status: 15,
-        second: 63,
-        ..UNKNOWN
-    };
-    is_read_again(&rt, &encode_position(rt.alloc(), &report)?, report);
+    let bits = encode_position(rt.alloc(), &ABSENT)?;
+    is_read_again(&rt, &bits, &ABSENT);
     Ok(())
 }
+
+/// Identities, and whether they are those of ships.
+static IDENTITIES: [(u32, bool); 6] = [
+    (2006, false),
+    (199999999, false),
+    (200000000, true),
+    (369190000, true),
+    (799999999, true),
+    (800000000, false),
+];
 
 // The first three digits of a ship's identity are a country's, from 200 to 799.
 #[test]
 fn identities_of_ships(rt: HostRuntime) {
-    for (mmsi, ship) in [
-        (2006, false),
-        (199999999, false),
-        (200000000, true),
-        (369190000, true),
-        (799999999, true),
-        (800000000, false),
-    ] {
-        is(&rt, is_ship(mmsi), ship);
+    for (mmsi, ship) in &IDENTITIES {
+        is(&rt, (*mmsi, is_ship(*mmsi)), (*mmsi, *ship));
     }
 }

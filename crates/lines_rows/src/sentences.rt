@@ -1,5 +1,5 @@
 //! Lines as sentences, and sentences joined to messages.
-use crate::compared::{is, is_in, is_true};
+use crate::compared::{is, is_true};
 use aivdm::{Bits, Body, Joined, Joiner, LineCause, read_line, write_sentence};
 use outside::Memory;
 use std::alloc::Global;
@@ -13,25 +13,22 @@ pub(crate) fn joined(joiner: &mut Joiner, line: &[u8], time: u64) -> Option<Join
     }
 }
 
-/// What a line completes.
-#[derive(Clone, Copy, Debug, PartialEq, Eq)]
-enum Completes {
-    /// A message of so many bits.
-    Message(usize),
-    NothingYet,
-    Nothing,
-    /// It is no sentence, or there is no memory.
-    Unread,
-}
+/// A message of so many bits, or why a line completes none.
+type Completes = Result<usize, &'static str>;
 
+/// What a line completes.
 fn completion_of(joined: &Option<Joined>) -> Completes {
     match joined {
-        Some(Joined::Message(bits)) => Completes::Message(bits.len()),
-        Some(Joined::Waiting) => Completes::NothingYet,
-        Some(Joined::Orphan) => Completes::Nothing,
-        None => Completes::Unread,
+        Some(Joined::Message(bits)) => Ok(bits.len()),
+        Some(Joined::Waiting) => NOTHING_YET,
+        Some(Joined::Orphan) => NOTHING,
+        None => Err("no sentence, or no memory"),
     }
 }
+
+const NOTHING_YET: Completes = Err("nothing yet");
+
+const NOTHING: Completes = Err("nothing");
 
 /// How a number is written in bits.
 #[derive(Clone, Copy)]
@@ -59,7 +56,7 @@ fn number(bits: &Bits, first: usize, width: u32, form: Form) -> Option<i64> {
 fn hold(rt: &impl Abort, shows: &str, bits: &Bits, fields: &[Field]) {
     for (first, width, form, wanted) in fields {
         let found = number(bits, *first, *width, *form);
-        is_in(rt, shows, (*first, found), (*first, Some(*wanted)));
+        is(rt, (shows, *first, found), (shows, *first, Some(*wanted)));
     }
 }
 
@@ -79,7 +76,7 @@ static ROWS: [Row; 5] = [
         lines: &[(
             b"!AIVDM,1,1,,B,177KQJ5000G?tO`K>RA1wUbN0TKH,0*5C",
             0,
-            Completes::Message(168),
+            Ok(168),
             &[
                 (0, 6, Form::Unsigned, 1),
                 (8, 30, Form::Unsigned, 477553000),
@@ -97,43 +94,38 @@ static ROWS: [Row; 5] = [
             (
                 b"!AIVDM,2,1,3,B,55P5TL01VIaAL@7WKO@mBplU@<PDhh000000001S;AJ::4A80?4i@E53,0*3E",
                 0,
-                Completes::NothingYet,
+                NOTHING_YET,
                 &[],
             ),
             (
                 b"!AIVDM,2,2,3,B,1@0000000000000,2*55",
                 0,
-                Completes::Message(424),
+                Ok(424),
                 &[
                     (0, 6, Form::Unsigned, 5),
                     (8, 30, Form::Unsigned, 369190000),
                     (232, 8, Form::Unsigned, 99),
                 ],
             ),
-            (
-                b"!AIVDM,2,2,3,B,1@0000000000000,2*55",
-                0,
-                Completes::Nothing,
-                &[],
-            ),
+            (b"!AIVDM,2,2,3,B,1@0000000000000,2*55", 0, NOTHING, &[]),
         ],
     },
     // 1 and 3 in six bits each, and 2 and 4, without the last two bits.
     Row {
         shows: "two keys interleaved",
         lines: &[
-            (b"!AIVDM,2,1,3,A,1,0*27", 0, Completes::NothingYet, &[]),
-            (b"!AIVDM,2,1,3,B,2,0*27", 0, Completes::NothingYet, &[]),
+            (b"!AIVDM,2,1,3,A,1,0*27", 0, NOTHING_YET, &[]),
+            (b"!AIVDM,2,1,3,B,2,0*27", 0, NOTHING_YET, &[]),
             (
                 b"!AIVDM,2,2,3,A,3,2*24",
                 0,
-                Completes::Message(10),
+                Ok(10),
                 &[(0, 10, Form::Unsigned, 0b000001_0000)],
             ),
             (
                 b"!AIVDM,2,2,3,B,4,2*20",
                 0,
-                Completes::Message(10),
+                Ok(10),
                 &[(0, 10, Form::Unsigned, 0b000010_0001)],
             ),
         ],
@@ -141,18 +133,18 @@ static ROWS: [Row; 5] = [
     Row {
         shows: "nine parts",
         lines: &[
-            (b"!AIVDM,9,1,5,A,w,0*6C", 0, Completes::NothingYet, &[]),
-            (b"!AIVDM,9,2,5,A,0,0*28", 0, Completes::NothingYet, &[]),
-            (b"!AIVDM,9,3,5,A,w,0*6E", 0, Completes::NothingYet, &[]),
-            (b"!AIVDM,9,4,5,A,0,0*2E", 0, Completes::NothingYet, &[]),
-            (b"!AIVDM,9,5,5,A,w,0*68", 0, Completes::NothingYet, &[]),
-            (b"!AIVDM,9,6,5,A,0,0*2C", 0, Completes::NothingYet, &[]),
-            (b"!AIVDM,9,7,5,A,w,0*6A", 0, Completes::NothingYet, &[]),
-            (b"!AIVDM,9,8,5,A,0,0*22", 0, Completes::NothingYet, &[]),
+            (b"!AIVDM,9,1,5,A,w,0*6C", 0, NOTHING_YET, &[]),
+            (b"!AIVDM,9,2,5,A,0,0*28", 0, NOTHING_YET, &[]),
+            (b"!AIVDM,9,3,5,A,w,0*6E", 0, NOTHING_YET, &[]),
+            (b"!AIVDM,9,4,5,A,0,0*2E", 0, NOTHING_YET, &[]),
+            (b"!AIVDM,9,5,5,A,w,0*68", 0, NOTHING_YET, &[]),
+            (b"!AIVDM,9,6,5,A,0,0*2C", 0, NOTHING_YET, &[]),
+            (b"!AIVDM,9,7,5,A,w,0*6A", 0, NOTHING_YET, &[]),
+            (b"!AIVDM,9,8,5,A,0,0*22", 0, NOTHING_YET, &[]),
             (
                 b"!AIVDM,9,9,5,A,w,0*64",
                 0,
-                Completes::Message(54),
+                Ok(54),
                 &[
                     (0, 18, Form::Unsigned, 0b111111_000000_111111),
                     (36, 18, Form::Unsigned, 0b111111_000000_111111),
@@ -164,25 +156,31 @@ static ROWS: [Row; 5] = [
     Row {
         shows: "thirty seconds from the first part on",
         lines: &[
-            (b"!AIVDM,3,1,,B,5,0*12", 1000, Completes::NothingYet, &[]),
-            (b"!AIVDM,3,2,,B,5,0*11", 1020, Completes::NothingYet, &[]),
-            (b"!AIVDM,3,3,,B,5,0*10", 1031, Completes::Nothing, &[]),
-            (b"!AIVDM,3,1,,B,5,0*12", 2000, Completes::NothingYet, &[]),
-            (b"!AIVDM,3,2,,B,5,0*11", 2030, Completes::NothingYet, &[]),
-            (b"!AIVDM,3,3,,B,5,0*10", 1000, Completes::Message(18), &[]),
+            (b"!AIVDM,3,1,,B,5,0*12", 1000, NOTHING_YET, &[]),
+            (b"!AIVDM,3,2,,B,5,0*11", 1020, NOTHING_YET, &[]),
+            (b"!AIVDM,3,3,,B,5,0*10", 1031, NOTHING, &[]),
+            (b"!AIVDM,3,1,,B,5,0*12", 2000, NOTHING_YET, &[]),
+            (b"!AIVDM,3,2,,B,5,0*11", 2030, NOTHING_YET, &[]),
+            (b"!AIVDM,3,3,,B,5,0*10", 1000, Ok(18), &[]),
         ],
     },
 ];
 
+/// Compares what a line completes.
+fn is_completed(rt: &impl Abort, shows: &str, joined: &Option<Joined>, received: &Received) {
+    let (_, time, completes, fields) = received;
+    let found = (shows, *time, completion_of(joined));
+    is(rt, found, (shows, *time, *completes));
+    if let Some(Joined::Message(bits)) = joined {
+        hold(rt, shows, bits, fields);
+    }
+}
+
 /// Gives a joiner the lines of a row.
 fn are_received(rt: &impl Abort, joiner: &mut Joiner, row: &Row) {
-    for (line, time, completes, fields) in row.lines {
-        let joined = joined(joiner, line, *time);
-        let found = (*time, completion_of(&joined));
-        is_in(rt, row.shows, found, (*time, *completes));
-        if let Some(Joined::Message(bits)) = &joined {
-            hold(rt, row.shows, bits, fields);
-        }
+    for received in row.lines {
+        let joined = joined(joiner, received.0, received.1);
+        is_completed(rt, row.shows, &joined, received);
     }
 }
 
@@ -240,12 +238,17 @@ static DROPPED: [(&str, &[u8], Option<u64>, LineCause); 5] = [
     ),
 ];
 
+/// Compares the stamp of a line that is no sentence, and the cause.
+fn is_dropped(rt: &impl Abort, shows: &str, line: &[u8], stamp: Option<u64>, cause: LineCause) {
+    let reading = read_line(line);
+    is(rt, (shows, reading.stamp), (shows, stamp));
+    is(rt, (shows, cause_of(&reading.body)), (shows, Some(cause)));
+}
+
 #[test]
 fn stamps_of_lines_that_are_no_sentences(rt: HostRuntime) {
     for (shows, line, stamp, cause) in &DROPPED {
-        let reading = read_line(line);
-        is_in(&rt, shows, reading.stamp, *stamp);
-        is_in(&rt, shows, cause_of(&reading.body), Some(*cause));
+        is_dropped(&rt, shows, line, *stamp, *cause);
     }
 }
 
@@ -266,21 +269,33 @@ const STAMPED: &[u8] = b"\\c:1700000000*5F\\!AIVDM,1,1,,A,15P5TL0P2l00001wwHt000
 /// Writes a message as these two sentences.
 pub(crate) fn are_written(rt: &impl Abort, alloc: Global, bits: &Bits) {
     is(rt, bits.len(), 168);
-    if bits.len() != 168 {
-        return;
+    if bits.len() == 168 {
+        is_line(rt, &write_sentence(alloc, None, bits, b'A'), PLAIN);
+        let stamped = write_sentence(alloc, Some(1700000000), bits, b'A');
+        is_line(rt, &stamped, STAMPED);
     }
-    is_line(rt, &write_sentence(alloc, None, bits, b'A'), PLAIN);
-    let stamp = Some(1700000000);
-    is_line(rt, &write_sentence(alloc, stamp, bits, b'A'), STAMPED);
+}
+
+/// Writes the message of the sentence.
+fn is_written_again(rt: &impl Abort, alloc: Global, joined: &Option<Joined>) {
+    match joined {
+        Some(Joined::Message(bits)) => are_written(rt, alloc, bits),
+        _ => is_true(rt, false),
+    }
 }
 
 #[test]
 fn message_written_again(rt: HostRuntime) {
-    match joined(&mut Joiner::new(rt.alloc()), PLAIN, 0) {
-        Some(Joined::Message(bits)) => are_written(&rt, rt.alloc(), &bits),
-        _ => is_true(&rt, false),
-    }
+    let joined = joined(&mut Joiner::new(rt.alloc()), PLAIN, 0);
+    is_written_again(&rt, rt.alloc(), &joined);
 }
+
+static APPENDED: [Field; 4] = [
+    (0, 6, Form::Unsigned, 1),
+    (6, 32, Form::Unsigned, 0xffff_ffff),
+    (38, 1, Form::Unsigned, 0),
+    (6, 4, Form::Signed, -1),
+];
 
 #[test]
 fn numbers_appended(rt: HostRuntime) {
@@ -290,11 +305,5 @@ fn numbers_appended(rt: HostRuntime) {
     is(&rt, bits.append(0xffff_ffff, 32), Ok(()));
     is(&rt, bits.append(0, 1), Ok(()));
     is(&rt, bits.len(), 39);
-    let fields = [
-        (0, 6, Form::Unsigned, 1),
-        (6, 32, Form::Unsigned, 0xffff_ffff),
-        (38, 1, Form::Unsigned, 0),
-        (6, 4, Form::Signed, -1),
-    ];
-    hold(&rt, "numbers appended", &bits, &fields);
+    hold(&rt, "numbers appended", &bits, &APPENDED);
 }
