@@ -1,31 +1,52 @@
 //! What no clause says: worked texts, faults by number, and the limits.
+ghost use Rattle.std.specs.Prelude.{IfOk};
+ghost use Rattle.mtl_formulas.specs.FormulaTree.{tree_of};
+ghost use Rattle.mtl_formulas.specs.FormulaMeasures.{IsValid};
 ghost use Rattle.mtl_formulas.specs.FormulaText.{IsTick};
 
-use crate::compared::is;
+use crate::compared::{is, is_true};
 use mtl_formulas::{
     Atom, Atoms, Formula, ParseFault, SpanKind, Verdict, future_reach, laws, nodes, parse, print,
     value, weight,
 };
+use outside::Memory;
 use std::alloc::{AllocError, Global};
-use std::test::Fail;
+use std::process::Abort;
 
 /// How the formula of a text is printed at a tick of 10 seconds.
-fn reprinted(alloc: Global, text: &[u8]) -> Result<Vec<u8>, Fail> {
-    if text.len() > 1024 {
-        return Err("a text of more than 1024 bytes".into());
-    }
+fn reprinted(rt: &impl Abort, alloc: Global, text: &[u8]) -> Result<Vec<u8>, ParseFault> {
+    is_true(rt, text.len() <= 1024);
     let formula = parse(alloc, text, 10)?;
     Ok(print(alloc, &formula, 10)?)
 }
 
-/// The fault of a text at this tick, if it has one.
-fn fault(alloc: Global, text: &[u8], tick: u32) -> Result<Option<ParseFault>, Fail>
+/// Compares how the formula of a text is printed at a tick of 10 seconds.
+pub(crate) fn is_reprinted(
+    rt: &impl Abort,
+    alloc: Global,
+    text: &[u8],
+    wanted: &[u8],
+) -> Result<(), ParseFault> {
+    let printed = reprinted(rt, alloc, text)?;
+    is(rt, (text, printed.as_slice()), (text, wanted));
+    Ok(())
+}
+
+/// Compares the fault of a text at this tick, if it has one.
+fn has_fault(rt: &impl Abort, alloc: Global, text: &[u8], tick: u32, wanted: Option<ParseFault>)
     requires { IsTick tick }
 {
-    if text.len() > 1024 {
-        return Err("a text of more than 1024 bytes".into());
+    is_true(rt, text.len() <= 1024);
+    let fault = parse(alloc, text, tick).err();
+    is(rt, (text, fault), (text, wanted));
+}
+
+/// Adds the text as often as said, and then the end.
+fn add(all: &mut Vec<u8>, text: &[u8], times: u8, end: &[u8]) -> Result<(), AllocError> {
+    for _ in 0..times {
+        all.extend_from_slice(text)?;
     }
-    Ok(parse(alloc, text, tick).err())
+    all.extend_from_slice(end)
 }
 
 /// The text as often as said, and then the end.
@@ -36,10 +57,7 @@ pub(crate) fn repeated(
     end: &[u8],
 ) -> Result<Vec<u8>, AllocError> {
     let mut all = Vec::new(alloc);
-    for _ in 0..times {
-        all.extend_from_slice(text)?;
-    }
-    all.extend_from_slice(end)?;
+    add(&mut all, text, times, end)?;
     Ok(all)
 }
 
@@ -54,9 +72,9 @@ static PRINTED: [(&[u8], &[u8]); 3] = [
 ];
 
 #[test]
-fn operators_and_spaces_are_printed_in_one_way(rt: HostRuntime) -> Result<(), Fail> {
+fn operators_and_spaces_are_printed_in_one_way(rt: HostRuntime) -> Result<(), ParseFault> {
     for (text, printed) in &PRINTED {
-        is(&rt, reprinted(rt.alloc(), text)?.as_slice(), printed);
+        is_reprinted(&rt, rt.alloc(), text, printed)?;
     }
     Ok(())
 }
@@ -78,56 +96,70 @@ static REFUSED: [(&[u8], ParseFault); 10] = [
 ];
 
 #[test]
-fn a_wrong_token_or_a_refused_number_is_told_by_its_index(rt: HostRuntime) -> Result<(), Fail> {
-    for (text, expected) in &REFUSED {
-        let found = fault(rt.alloc(), text, 10)?;
-        is(&rt, (text, found), (text, Some(*expected)));
+fn a_wrong_token_or_a_refused_number_is_told_by_its_index(rt: HostRuntime) {
+    for (text, fault) in &REFUSED {
+        has_fault(&rt, rt.alloc(), text, 10, Some(*fault));
     }
-    Ok(())
 }
+
+static DEPTHS: [(u8, Option<ParseFault>); 2] = [(63, None), (64, Some(ParseFault::Size))];
 
 #[test]
-fn depth_64_is_taken(rt: HostRuntime) -> Result<(), Fail> {
-    for (depth, expected) in [(63, None), (64, Some(ParseFault::Size))] {
-        let text = repeated(rt.alloc(), b"!", depth, b"risk")?;
-        is(&rt, fault(rt.alloc(), &text, 1)?, expected);
+fn depth_64_is_taken(rt: HostRuntime) -> Result<(), AllocError> {
+    for (depth, fault) in &DEPTHS {
+        let text = repeated(rt.alloc(), b"!", *depth, b"risk")?;
+        has_fault(&rt, rt.alloc(), &text, 1, *fault);
     }
     Ok(())
 }
 
-/// Four groups of 32 atoms, joined, and the whole so often negated: 4 * 63 + 3 nodes, and one for each negation.
+/// How four groups of 32 atoms end.
+static ENDS: [&[u8]; 4] = [b"true)&(", b"true)&(", b"true)&(", b"true))"];
+
+/// The four groups, joined, and the whole so often negated: 4 * 63 + 3 nodes, and one for each negation.
 fn groups(alloc: Global, negations: u8) -> Result<Vec<u8>, AllocError> {
-    let group = repeated(alloc, b"true|", 31, b"true)&(")?;
-    let last = repeated(alloc, b"true|", 31, b"true))")?;
-    let all = repeated(alloc, &group, 3, &last)?;
-    let opened = repeated(alloc, b"((", 1, &all)?;
-    repeated(alloc, b"!", negations, &opened)
+    let mut all = repeated(alloc, b"!", negations, b"((")?;
+    for end in &ENDS {
+        add(&mut all, b"true|", 31, end)?;
+    }
+    Ok(all)
 }
 
+static NEGATIONS: [(u8, Option<ParseFault>); 2] = [(1, None), (2, Some(ParseFault::Size))];
+
 #[test]
-fn nodes_256_are_taken(rt: HostRuntime) -> Result<(), Fail> {
-    for (negations, expected) in [(1, None), (2, Some(ParseFault::Size))] {
-        let text = groups(rt.alloc(), negations)?;
-        is(&rt, fault(rt.alloc(), &text, 1)?, expected);
+fn nodes_256_are_taken(rt: HostRuntime) -> Result<(), AllocError> {
+    for (negations, fault) in &NEGATIONS {
+        let text = groups(rt.alloc(), *negations)?;
+        has_fault(&rt, rt.alloc(), &text, 1, *fault);
     }
     Ok(())
 }
 
+static REACHES: [(&[u8], Option<ParseFault>); 2] = [
+    (b"F[0,7200] O[0,1] risk", None),
+    (b"F[0,7200] G[0,1] risk", Some(ParseFault::Size)),
+];
+
 #[test]
-fn reach_7200_is_taken(rt: HostRuntime) -> Result<(), Fail> {
-    let alloc = rt.alloc();
-    is(&rt, fault(alloc, b"F[0,7200] O[0,1] risk", 1)?, None);
-    let large = fault(alloc, b"F[0,7200] G[0,1] risk", 1)?;
-    is(&rt, large, Some(ParseFault::Size));
-    Ok(())
+fn reach_7200_is_taken(rt: HostRuntime) {
+    for (text, fault) in &REACHES {
+        has_fault(&rt, rt.alloc(), text, 1, *fault);
+    }
+}
+
+/// `risk` in three positions, the nearest this one.
+fn risk_in_window(alloc: Global, kind: SpanKind) -> Result<Formula, Memory>
+    ensures { IfOk result (λ f. IsValid (tree_of f)) }
+{
+    Formula::span(alloc, kind, 0, 2, Formula::leaf(Atom::Risk))
 }
 
 #[test]
-fn a_window_of_three_positions_is_measured(rt: HostRuntime) -> Result<(), Fail> {
-    let ahead = Formula::span(rt.alloc(), SpanKind::F, 0, 2, Formula::leaf(Atom::Risk))?;
-    is(&rt, future_reach(&ahead), 2);
-    is(&rt, nodes(&ahead), 2);
-    is(&rt, weight(&ahead), 2 * (2 + 1) + (2 + 1));
+fn a_window_of_three_positions_is_measured(rt: HostRuntime) -> Result<(), Memory> {
+    let ahead = risk_in_window(rt.alloc(), SpanKind::F)?;
+    let measures = (future_reach(&ahead), nodes(&ahead), weight(&ahead));
+    is(&rt, measures, (2, 2, 2 * (2 + 1) + (2 + 1)));
     Ok(())
 }
 
@@ -145,28 +177,41 @@ impl Atoms for Row {
     }
 }
 
-const QUIET: [Row; 4] = [Row { each: Verdict::No }; 4];
+static QUIET: [Row; 4] = [Row { each: Verdict::No }; 4];
+
+/// Compares the values of a formula, each at a position, where nothing is answered by yes.
+fn has_values(rt: &impl Abort, formula: &Formula, values: &[(usize, Verdict)])
+    requires { IsValid (tree_of formula.now) }
+{
+    for (position, wanted) in values {
+        let found = (*position, value(formula, &QUIET, *position));
+        is(rt, found, (*position, *wanted));
+    }
+}
+
+static AHEAD: [(usize, Verdict); 4] = [
+    (0, Verdict::No),
+    (1, Verdict::No),
+    (2, Verdict::Open),
+    (3, Verdict::Open),
+];
 
 #[test]
-fn risk_within_a_window_that_passes_the_end_is_open(rt: HostRuntime) -> Result<(), Fail> {
-    let ahead = Formula::span(rt.alloc(), SpanKind::F, 0, 2, Formula::leaf(Atom::Risk))?;
-    for (position, answer) in [
-        (0, Verdict::No),
-        (1, Verdict::No),
-        (2, Verdict::Open),
-        (3, Verdict::Open),
-    ] {
-        is(&rt, value(&ahead, &QUIET, position), answer);
-    }
+fn risk_within_a_window_that_passes_the_end_is_open(rt: HostRuntime) -> Result<(), Memory> {
+    let ahead = risk_in_window(rt.alloc(), SpanKind::F)?;
+    has_values(&rt, &ahead, &AHEAD);
     Ok(())
 }
 
+static FIRST: [(usize, Verdict); 1] = [(0, Verdict::No)];
+
 #[test]
-fn nothing_lies_before_the_first_row(rt: HostRuntime) -> Result<(), Fail> {
-    for kind in [SpanKind::O, SpanKind::H] {
-        let back = Formula::span(rt.alloc(), kind, 0, 2, Formula::leaf(Atom::Risk))?;
-        is(&rt, value(&back, &QUIET, 0), Verdict::No);
-    }
+fn nothing_lies_before_the_first_row(rt: HostRuntime) -> Result<(), Memory> {
+    let once = risk_in_window(rt.alloc(), SpanKind::O)?;
+    has_values(&rt, &once, &FIRST);
+    drop(once);
+    let historically = risk_in_window(rt.alloc(), SpanKind::H)?;
+    has_values(&rt, &historically, &FIRST);
     Ok(())
 }
 

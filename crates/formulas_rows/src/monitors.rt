@@ -1,5 +1,5 @@
 //! What no clause says: worked rows, many random formulas, and that each call can succeed.
-ghost use Rattle.std.specs.Prelude.{◌≡◌, ◌<◌, length, IfOk, if◌then◌else◌};
+ghost use Rattle.std.specs.Prelude.{◌≡◌, ◌<◌, ◌≤◌, length, IfOk, if◌then◌else◌};
 ghost use Rattle.mtl_formulas.specs.FormulaTree.{tree_of};
 ghost use Rattle.mtl_formulas.specs.FormulaMeasures.{IsValid};
 ghost use Rattle.mtl_formulas.specs.declared.atom.Atom.TheVariants.{Risk};
@@ -7,16 +7,15 @@ ghost use Rattle.mtl_monitor.specs.Inner.Compiling.{same_atom};
 ghost use Rattle.mtl_monitor.specs.Following.{count_of};
 ghost use Rattle.mtl_monitor.specs.Monitoring.{fed_rows, past_rows};
 
-use crate::compared::is;
+use crate::compared::{is, is_true};
 use crate::formulas::repeated;
-use mtl_formulas::{Atom, Atoms, Formula, Verdict, future_reach, parse, value};
+use mtl_formulas::{Atom, Atoms, Formula, ParseFault, Verdict, future_reach, parse, value};
 use mtl_monitor::{Monitor, Program, TraceState};
 use outside::Memory;
 use rand_core::utils::NextWord;
 use rand_pcg::Pcg32;
 use std::alloc::{AllocError, Global};
 use std::process::Abort;
-use std::test::Fail;
 
 /// A row with an answer to `risk`, and one to all other atoms.
 #[derive(Clone, Copy)]
@@ -52,7 +51,7 @@ fn answers(
     alloc: Global,
     monitor: &mut Monitor,
     rows: &[Row],
-) -> Result<Vec<Option<(u32, Verdict)>>, AllocError>
+) -> Result<Vec<Option<(u32, Verdict)>>, ParseFault>
     requires past { past_rows monitor.old ≡ 0 }
     requires fed { fed_rows monitor.old ≡ 0 }
     requires few { length rows.now < 1000 }
@@ -67,18 +66,26 @@ fn answers(
     Ok(all)
 }
 
-/// All answers of the monitor of a text at a tick of 10 seconds, over fewer than a thousand rows.
+/// The monitor of a text at a tick of 10 seconds.
+fn monitor_of(rt: &impl Abort, alloc: Global, text: &[u8]) -> Result<Monitor, ParseFault>
+    ensures past { IfOk result (λ m. past_rows m ≡ 0) }
+    ensures fed { IfOk result (λ m. fed_rows m ≡ 0) }
+{
+    is_true(rt, text.len() <= 1024);
+    let formula = parse(alloc, text, 10)?;
+    Ok(Monitor::new(alloc, &formula)?)
+}
+
+/// All answers of that monitor over fewer than a thousand rows.
 fn answers_of(
+    rt: &impl Abort,
     alloc: Global,
     text: &[u8],
     rows: &[Row],
-) -> Result<Vec<Option<(u32, Verdict)>>, Fail> {
-    if text.len() > 1024 || rows.len() >= 1000 {
-        return Err("a text or a trace that is too long".into());
-    }
-    let formula = parse(alloc, text, 10)?;
-    let mut monitor = Monitor::new(alloc, &formula)?;
-    Ok(answers(alloc, &mut monitor, rows)?)
+) -> Result<Vec<Option<(u32, Verdict)>>, ParseFault> {
+    is_true(rt, rows.len() < 1000);
+    let mut monitor = monitor_of(rt, alloc, text)?;
+    answers(alloc, &mut monitor, rows)
 }
 
 /// What a run shows, its formula and its rows, and the answers: those to each row, and then those of the end.
@@ -150,11 +157,18 @@ static RUNS: [Run; 4] = [
     ),
 ];
 
+/// A run has its answers.
+fn has_answers(rt: &impl Abort, alloc: Global, run: &Run) -> Result<(), ParseFault> {
+    let (shows, text, rows, expected) = run;
+    let all = answers_of(rt, alloc, text, rows)?;
+    is(rt, (*shows, all.as_slice()), (*shows, *expected));
+    Ok(())
+}
+
 #[test]
-fn each_run_has_its_answers(rt: HostRuntime) -> Result<(), Fail> {
-    for (name, text, rows, expected) in &RUNS {
-        let all = answers_of(rt.alloc(), text, rows)?;
-        is(&rt, (name, all.as_slice()), (name, expected));
+fn each_run_has_its_answers(rt: HostRuntime) -> Result<(), ParseFault> {
+    for run in &RUNS {
+        has_answers(&rt, rt.alloc(), run)?;
     }
     Ok(())
 }
@@ -170,12 +184,14 @@ fn count(answers: &[Option<(u32, Verdict)>], wanted: Verdict) -> usize {
         .count()
 }
 
+static LONG: [Row; 40] = [YES; 40];
+
 #[test]
-fn many_windows_in_one_another(rt: HostRuntime) -> Result<(), Fail> {
+fn many_windows_in_one_another(rt: HostRuntime) -> Result<(), ParseFault> {
     let text = repeated(rt.alloc(), b"G[0,100] ", 16, b"seen")?;
-    let all = answers_of(rt.alloc(), &text, &[YES; 40])?;
-    is(&rt, count(&all, Verdict::Open), 40);
-    is(&rt, count(&all, Verdict::Yes), 0);
+    let all = answers_of(&rt, rt.alloc(), &text, &LONG)?;
+    let counts = (count(&all, Verdict::Open), count(&all, Verdict::Yes));
+    is(&rt, counts, (40, 0));
     Ok(())
 }
 
@@ -187,40 +203,52 @@ fn below(source: &mut Pcg32, many: u32) -> u32
     (source.next_word() >> 8) % many
 }
 
-const BOUNDS: [&str; 5] = ["[0,0] ", "[0,20] ", "[10,30] ", "[20,20] ", "[10,70] "];
+static BOUNDS: [&str; 5] = ["[0,0] ", "[0,20] ", "[10,30] ", "[20,20] ", "[10,70] "];
+
+/// Writes an operator of one operand, by its number, before the operand.
+fn write_before(source: &mut Pcg32, text: &mut String, operator: usize) -> Result<(), AllocError>
+    requires { operator ≤ 4 }
+{
+    if operator == 0 {
+        return text.push_str("!");
+    }
+    text.push_str(SPANS[operator - 1])?;
+    text.push_str(BOUNDS[below(source, 5) as usize])
+}
+
+/// Writes an operator of two operands, by its number, between them.
+fn write_between(source: &mut Pcg32, text: &mut String, operator: usize) -> Result<(), AllocError>
+    requires { operator < 5 }
+{
+    text.push_str(LINKS[operator])?;
+    if operator < 3 {
+        return Ok(());
+    }
+    text.push_str(BOUNDS[below(source, 5) as usize])
+}
 
 /// Writes a random formula of so many operators in one another.
 fn write_random(source: &mut Pcg32, text: &mut String, depth: u8) -> Result<(), AllocError> {
     if depth == 0 {
-        text.push_str(ATOMS[below(source, 3) as usize])?;
-        return Ok(());
+        return text.push_str(ATOMS[below(source, 3) as usize]);
     }
     let operator = below(source, 10) as usize;
-    if operator == 0 {
-        text.push_str("!")?;
-        return write_random(source, text, depth - 1);
-    }
     if operator <= 4 {
-        text.push_str(SPANS[operator - 1])?;
-        text.push_str(BOUNDS[below(source, 5) as usize])?;
+        write_before(source, text, operator)?;
         return write_random(source, text, depth - 1);
     }
     text.push_str("(")?;
     write_random(source, text, depth - 1)?;
-    text.push_str(LINKS[operator - 5])?;
-    if operator >= 8 {
-        text.push_str(BOUNDS[below(source, 5) as usize])?;
-    }
+    write_between(source, text, operator - 5)?;
     write_random(source, text, depth - 1)?;
-    text.push_str(")")?;
-    Ok(())
+    text.push_str(")")
 }
 
-const ATOMS: [&str; 3] = ["risk", "seen", "true"];
+static ATOMS: [&str; 3] = ["risk", "seen", "true"];
 
-const SPANS: [&str; 4] = ["F", "G", "O", "H"];
+static SPANS: [&str; 4] = ["F", "G", "O", "H"];
 
-const LINKS: [&str; 5] = [" & ", " | ", " -> ", " U", " S"];
+static LINKS: [&str; 5] = [" & ", " | ", " -> ", " U", " S"];
 
 /// A random row. Most rows are as the one before, so that nodes come to rest.
 fn random_row(source: &mut Pcg32, last: Row) -> Row {
@@ -291,83 +319,111 @@ fn agrees(alloc: Global, formula: &Formula, rows: &[Row]) -> Result<bool, Memory
     Ok(right && monitor.finish_next().is_none())
 }
 
+/// Tries a formula over some rows.
+fn agrees_on(rt: &impl Abort, alloc: Global, text: &str, rows: &[Row]) -> Result<(), ParseFault>
+    requires few { length rows.now < 1000 }
+{
+    is_true(rt, text.len() <= 1024);
+    let formula = parse(alloc, text.as_bytes(), 10)?;
+    let right = agrees(alloc, &formula, rows)?;
+    is(rt, (text, right), (text, true));
+    Ok(())
+}
+
 /// Tries one random formula over random rows.
-fn one_agrees(rt: &impl Abort, alloc: Global, source: &mut Pcg32, depth: u8) -> Result<(), Fail> {
+fn one_agrees(
+    rt: &impl Abort,
+    alloc: Global,
+    source: &mut Pcg32,
+    depth: u8,
+) -> Result<(), ParseFault> {
     let mut text = String::new(alloc);
     write_random(source, &mut text, depth)?;
     let rows = random_rows(alloc, source)?;
-    if text.len() > 1024 {
-        return Err("a text of more than 1024 bytes".into());
-    }
-    let formula = parse(alloc, text.as_bytes(), 10)?;
-    let right = agrees(alloc, &formula, &rows)?;
-    is(rt, (text.as_str(), right), (text.as_str(), true));
-    Ok(())
+    agrees_on(rt, alloc, text.as_str(), &rows)
 }
 
 #[test]
-fn random_formulas_agree_with_the_plain_program(rt: HostRuntime) -> Result<(), Fail> {
-    let alloc = rt.alloc();
+fn random_formulas_agree_with_the_plain_program(rt: HostRuntime) -> Result<(), ParseFault> {
     let mut source = Pcg32::new(42, 54);
     for _ in 0..120u8 {
-        one_agrees(&rt, alloc, &mut source, 1)?;
-        one_agrees(&rt, alloc, &mut source, 2)?;
-        one_agrees(&rt, alloc, &mut source, 3)?;
+        for depth in 1..4u8 {
+            one_agrees(&rt, rt.alloc(), &mut source, depth)?;
+        }
     }
     Ok(())
 }
 
+/// The program of two formulas.
+fn program_of(alloc: Global, first: &Formula, second: &Formula) -> Result<Program, ParseFault>
+    requires first { IsValid (tree_of first.now) }
+    requires second { IsValid (tree_of second.now) }
+    ensures { IfOk result (λ p. count_of p ≡ 2) }
+{
+    let of_first = Program::new(alloc).with(first)?;
+    Ok(of_first.with(second)?)
+}
+
 /// The program of two formulas that share a part.
-fn program_of_two(alloc: Global) -> Result<Program, Fail>
+fn program_of_two(alloc: Global) -> Result<Program, ParseFault>
     ensures { IfOk result (λ p. count_of p ≡ 2) }
 {
     let soon = parse(alloc, b"F[0,10] risk", 10)?;
     let not_soon = parse(alloc, b"!F[0,10] risk", 10)?;
-    let program = Program::new(alloc).with(&soon)?.with(&not_soon)?;
-    Ok(program)
+    program_of(alloc, &soon, &not_soon)
 }
 
-#[test]
-fn two_formulas_over_two_traces(rt: HostRuntime) -> Result<(), Fail> {
-    let alloc = rt.alloc();
-    let program = program_of_two(alloc)?;
-    is(&rt, (program.formula_count(), program.reach()), (2, 1));
-    let mut one = TraceState::new(alloc, &program)?;
-    let mut two = TraceState::new(alloc, &program)?;
-    let _first = one.feed(&program, &NO);
-    let _first = two.feed(&program, &NO);
-    is(&rt, one.answer(&program, 0), None);
-    let _second = one.feed(&program, &YES);
-    let _second = two.feed(&program, &NO);
+/// Two traces are followed, and the second takes over the first.
+fn traces_are_followed(rt: &impl Abort, alloc: Global, program: &Program) -> Result<(), Memory>
+    requires { count_of program.now ≡ 2 }
+{
+    let mut one = TraceState::new(alloc, program)?;
+    let mut two = TraceState::new(alloc, program)?;
+    let _first = one.feed(program, &NO);
+    let _first = two.feed(program, &NO);
+    is(rt, one.answer(program, 0), None);
+    let _second = one.feed(program, &YES);
+    let _second = two.feed(program, &NO);
     let (yes, no) = (Some((0, Verdict::Yes)), Some((0, Verdict::No)));
-    let of_one = (one.answer(&program, 0), one.answer(&program, 1));
-    is(&rt, of_one, (yes, no));
-    is(&rt, two.answer(&program, 1), yes);
-    two.copy_from(&program, &one);
-    two.pass_end(&program);
-    let of_two = (two.answer(&program, 0), two.answer(&program, 1));
-    is(
-        &rt,
-        of_two,
-        (Some((1, Verdict::Yes)), Some((1, Verdict::No))),
-    );
+    let of_one = (one.answer(program, 0), one.answer(program, 1));
+    is(rt, of_one, (yes, no));
+    is(rt, two.answer(program, 1), yes);
+    two.copy_from(program, &one);
+    two.pass_end(program);
+    let (yes, no) = (Some((1, Verdict::Yes)), Some((1, Verdict::No)));
+    let of_two = (two.answer(program, 0), two.answer(program, 1));
+    is(rt, of_two, (yes, no));
     Ok(())
 }
 
 #[test]
-fn a_monitor_takes_over_another(rt: HostRuntime) -> Result<(), Fail> {
-    let alloc = rt.alloc();
-    let formula = parse(alloc, b"risk U[0,10] seen", 10)?;
-    let mut one = Monitor::new(alloc, &formula)?;
-    let mut two = Monitor::new(alloc, &formula)?;
+fn two_formulas_over_two_traces(rt: HostRuntime) -> Result<(), ParseFault> {
+    let program = program_of_two(rt.alloc())?;
+    is(&rt, (program.formula_count(), program.reach()), (2, 1));
+    let followed = traces_are_followed(&rt, rt.alloc(), &program);
+    drop(program);
+    Ok(followed?)
+}
+
+/// A monitor takes over another.
+fn is_taken_over(rt: &impl Abort, alloc: Global, formula: &Formula) -> Result<(), Memory>
+    requires { IsValid (tree_of formula.now) }
+{
+    let mut one = Monitor::new(alloc, formula)?;
+    let mut two = Monitor::new(alloc, formula)?;
     let first = one.feed(&YES);
-    is(&rt, first, None);
     two.copy_from(&one);
     let answer = two.feed(&NO);
-    is(&rt, answer, Some((0, Verdict::Yes)));
-    let next = two.finish_next();
-    is(&rt, next, Some((1, Verdict::No)));
-    let last = two.finish_next();
-    is(&rt, last, None);
+    is(rt, (first, answer), (None, Some((0, Verdict::Yes))));
+    let (next, last) = (two.finish_next(), two.finish_next());
+    is(rt, (next, last), (Some((1, Verdict::No)), None));
     Ok(())
+}
+
+#[test]
+fn a_monitor_takes_over_another(rt: HostRuntime) -> Result<(), ParseFault> {
+    let formula = parse(rt.alloc(), b"risk U[0,10] seen", 10)?;
+    let taken_over = is_taken_over(&rt, rt.alloc(), &formula);
+    drop(formula);
+    Ok(taken_over?)
 }

@@ -1,10 +1,11 @@
 //! The texts of the rules, their weights, and rules that are added.
-use crate::compared::is;
-use mtl_formulas::{parse, print, weight};
+use crate::compared::{is, is_true};
+use crate::formulas::is_reprinted;
+use mtl_formulas::{ParseFault, parse, print, weight};
+use outside::Memory;
 use rule_set::{Name, RuleNumbers, RuleSet, Safe};
 use std::alloc::Global;
 use std::process::Abort;
-use std::test::Fail;
 
 const TICK: u32 = 10;
 
@@ -30,36 +31,17 @@ const PER_KIND: RuleNumbers = RuleNumbers {
 };
 
 /// The rule at an index has this name, and is printed as this text.
-fn is_printed(
+fn is_rule(
     rt: &impl Abort,
     alloc: Global,
     set: &RuleSet,
     k: usize,
     name: &[u8],
     text: &[u8],
-) -> Result<(), Fail> {
-    if set.len() <= k {
-        return Err("no such rule".into());
-    }
+) -> Result<(), Memory> {
+    is_true(rt, k < set.len());
     let printed = print(alloc, set.formula(k), TICK)?;
     is(rt, (set.name(k), printed.as_slice()), (name, text));
-    Ok(())
-}
-
-/// The rule at an index is what this text means.
-fn is_meant(
-    rt: &impl Abort,
-    alloc: Global,
-    set: &RuleSet,
-    k: usize,
-    text: &[u8],
-) -> Result<(), Fail> {
-    if set.len() <= k || text.len() > 1024 {
-        return Err("no such rule, or a text that is too long".into());
-    }
-    let meant = print(alloc, &parse(alloc, text, TICK)?, TICK)?;
-    let printed = print(alloc, set.formula(k), TICK)?;
-    is(rt, printed.as_slice(), meant.as_slice());
     Ok(())
 }
 
@@ -118,16 +100,25 @@ static RULES: [(&[u8], &[u8], &[u8]); 11] = [
     ),
 ];
 
-#[test]
-fn each_rule_is_printed_as_its_text_means(rt: HostRuntime) -> Result<(), Fail> {
-    let alloc = rt.alloc();
-    let set = RuleSet::new(alloc, &NUMBERS, TICK)?;
-    is(&rt, set.len(), RULES.len());
-    for (k, (name, printed, meant)) in RULES.iter().enumerate() {
-        is_printed(&rt, alloc, &set, k, name, printed)?;
-        is_meant(&rt, alloc, &set, k, meant)?;
+/// The rules of a set are these, and are printed as the texts that mean them.
+fn are_meant(
+    rt: &impl Abort,
+    alloc: Global,
+    set: &RuleSet,
+    rules: &[(&[u8], &[u8], &[u8])],
+) -> Result<(), ParseFault> {
+    is(rt, set.len(), rules.len());
+    for (k, (name, printed, meant)) in rules.iter().enumerate() {
+        is_rule(rt, alloc, set, k, name, printed)?;
+        is_reprinted(rt, alloc, meant, printed)?;
     }
     Ok(())
+}
+
+#[test]
+fn each_rule_is_printed_as_its_text_means(rt: HostRuntime) -> Result<(), ParseFault> {
+    let set = RuleSet::new(rt.alloc(), &NUMBERS, TICK)?;
+    are_meant(&rt, rt.alloc(), &set, &RULES)
 }
 
 /// The same of the rules with ranks: the name of each, and how it is printed.
@@ -167,39 +158,43 @@ static RANKED: [(&[u8], &[u8]); 12] = [
     (b"r18", b"((engaged & rank_gives) -> clear(200))"),
 ];
 
-#[test]
-fn each_ranked_rule_is_printed(rt: HostRuntime) -> Result<(), Fail> {
-    let alloc = rt.alloc();
-    let set = RuleSet::new_ranked(alloc, &NUMBERS, TICK)?;
-    is(&rt, set.len(), RANKED.len());
-    for (k, (name, printed)) in RANKED.iter().enumerate() {
-        is_printed(&rt, alloc, &set, k, name, printed)?;
+/// The rules of a set are these.
+fn are_rules(
+    rt: &impl Abort,
+    alloc: Global,
+    set: &RuleSet,
+    rules: &[(&[u8], &[u8])],
+) -> Result<(), Memory> {
+    is(rt, set.len(), rules.len());
+    for (k, (name, printed)) in rules.iter().enumerate() {
+        is_rule(rt, alloc, set, k, name, printed)?;
     }
     Ok(())
 }
 
 #[test]
-fn a_distance_per_kind_has_a_part_each(rt: HostRuntime) -> Result<(), Fail> {
-    let alloc = rt.alloc();
-    let set = RuleSet::new(alloc, &PER_KIND, TICK)?;
-    is_meant(
-        &rt,
-        alloc,
-        &set,
-        1,
-        b"(engaged & head_on -> clear(100)) & (engaged & (overtaking | overtaken) -> clear(200)) & (engaged & (crossing_gives | crossing_stands) -> clear(300)) & (engaged & (passing | unclassified) -> clear(400))",
-    )?;
-    is_printed(
-        &rt,
-        alloc,
-        &set,
-        1,
-        b"r8d",
-        b"(((((engaged & head_on) -> clear(100)) & ((engaged & (overtaking | overtaken)) -> clear(200))) & ((engaged & (crossing_gives | crossing_stands)) -> clear(300))) & ((engaged & (passing | unclassified)) -> clear(400)))",
-    )?;
-    let ranked = RuleSet::new_ranked(alloc, &PER_KIND, TICK)?;
+fn each_ranked_rule_is_printed(rt: HostRuntime) -> Result<(), Memory> {
+    let set = RuleSet::new_ranked(rt.alloc(), &NUMBERS, TICK)?;
+    are_rules(&rt, rt.alloc(), &set, &RANKED)
+}
+
+/// The rule of the safe distance with a distance for each kind, and how it is printed.
+const MEANT_PER_KIND: &[u8] =
+    b"(engaged & head_on -> clear(100)) & (engaged & (overtaking | overtaken) -> clear(200)) & (engaged & (crossing_gives | crossing_stands) -> clear(300)) & (engaged & (passing | unclassified) -> clear(400))";
+
+const PRINTED_PER_KIND: &[u8] =
+    b"(((((engaged & head_on) -> clear(100)) & ((engaged & (overtaking | overtaken)) -> clear(200))) & ((engaged & (crossing_gives | crossing_stands)) -> clear(300))) & ((engaged & (passing | unclassified)) -> clear(400)))";
+
+#[test]
+fn a_distance_per_kind_has_a_part_each(rt: HostRuntime) -> Result<(), ParseFault> {
+    is_reprinted(&rt, rt.alloc(), MEANT_PER_KIND, PRINTED_PER_KIND)?;
+    let set = RuleSet::new(rt.alloc(), &PER_KIND, TICK)?;
+    is_rule(&rt, rt.alloc(), &set, 1, b"r8d", PRINTED_PER_KIND)?;
+    drop(set);
+    let ranked = RuleSet::new_ranked(rt.alloc(), &PER_KIND, TICK)?;
     let last = b"((engaged & rank_gives) -> clear(400))";
-    is_printed(&rt, alloc, &ranked, 11, b"r18", last)
+    is_rule(&rt, rt.alloc(), &ranked, 11, b"r18", last)?;
+    Ok(())
 }
 
 fn all_weigh(set: &RuleSet) -> u64 {
@@ -210,38 +205,44 @@ fn all_weigh(set: &RuleSet) -> u64 {
     sum
 }
 
-#[test]
-fn the_rules_have_their_weights(rt: HostRuntime) -> Result<(), Fail> {
-    let alloc = rt.alloc();
-    // 7 * 7 + 7, 3, 5, 9 * 8 + 8, 6, 7, 6, 11 * 8 + 8, 27 + 11 + 61, 15 * 3 + 3, 31 + 11 + 61.
-    let set = RuleSet::new(alloc, &NUMBERS, TICK)?;
-    is(&rt, all_weigh(&set), 509);
-    // The rule of the safe distance has 29 nodes in place of 3.
-    let set = RuleSet::new(alloc, &PER_KIND, TICK)?;
-    is(&rt, all_weigh(&set), 535);
-    // With ranks 16 more for r14a, 32 for r16, 4 for r17a, 12 for r17b, 2 each for r14b, r14p, r15 and r17c, and 5 for r18.
-    let set = RuleSet::new_ranked(alloc, &NUMBERS, TICK)?;
-    is(&rt, all_weigh(&set), 586);
+/// Compares what the rules of a set weigh.
+fn weigh(rt: &impl Abort, set: Result<RuleSet, Memory>, wanted: u64) -> Result<(), Memory> {
+    let set = set?;
+    is(rt, all_weigh(&set), wanted);
     Ok(())
 }
 
-/// The eleven rules, and one of the name `mine`.
-fn with_mine(alloc: Global) -> Result<RuleSet, Fail> {
-    let mut set = RuleSet::new(alloc, &NUMBERS, TICK)?;
+#[test]
+fn the_rules_have_their_weights(rt: HostRuntime) -> Result<(), Memory> {
+    let alloc = rt.alloc();
+    // 7 * 7 + 7, 3, 5, 9 * 8 + 8, 6, 7, 6, 11 * 8 + 8, 27 + 11 + 61, 15 * 3 + 3, 31 + 11 + 61.
+    weigh(&rt, RuleSet::new(alloc, &NUMBERS, TICK), 509)?;
+    // The rule of the safe distance has 29 nodes in place of 3.
+    weigh(&rt, RuleSet::new(alloc, &PER_KIND, TICK), 535)?;
+    // With ranks 16 more for r14a, 32 for r16, 4 for r17a, 12 for r17b, 2 each for r14b, r14p, r15 and r17c, and 5 for r18.
+    weigh(&rt, RuleSet::new_ranked(alloc, &NUMBERS, TICK), 586)
+}
+
+/// Adds a rule of the name `mine`.
+fn add_mine(rt: &impl Abort, alloc: Global, set: &mut RuleSet) -> Result<(), ParseFault> {
     let name = Name::of(b"mine");
-    if set.len() >= 17 || set.holds(name.bytes()) {
-        return Err("no place for a new rule".into());
-    }
-    match set.add(name.same(), parse(alloc, b"F[0,20] risk", TICK)?) {
-        Ok(()) => Ok(set),
-        Err(_) => Err("the rule is not added".into()),
-    }
+    is_true(rt, set.len() < 17 && !set.holds(name.bytes()));
+    let formula = parse(alloc, b"F[0,20] risk", TICK)?;
+    is_true(rt, set.add(name, formula).is_ok());
+    Ok(())
+}
+
+/// The twelve rules are the eleven and `mine`.
+fn are_with_mine(rt: &impl Abort, alloc: Global, set: &RuleSet) -> Result<(), Memory> {
+    let held = (set.holds(b"r17c"), set.holds(b"mine"));
+    is(rt, (held, set.len()), ((true, true), 12));
+    is_rule(rt, alloc, set, 11, b"mine", b"F[0,20] risk")
 }
 
 #[test]
-fn a_rule_is_added_behind_the_eleven(rt: HostRuntime) -> Result<(), Fail> {
-    let set = with_mine(rt.alloc())?;
-    let held = (set.holds(b"r17c"), set.holds(b"mine"));
-    is(&rt, (held, set.len()), ((true, true), 12));
-    is_printed(&rt, rt.alloc(), &set, 11, b"mine", b"F[0,20] risk")
+fn a_rule_is_added_behind_the_eleven(rt: HostRuntime) -> Result<(), ParseFault> {
+    let mut set = RuleSet::new(rt.alloc(), &NUMBERS, TICK)?;
+    add_mine(&rt, rt.alloc(), &mut set)?;
+    are_with_mine(&rt, rt.alloc(), &set)?;
+    Ok(())
 }

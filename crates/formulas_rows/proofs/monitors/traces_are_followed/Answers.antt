@@ -1,4 +1,4 @@
-use Rattle.formulas_rows.proofs.monitors.two_formulas_over_two_traces.Goals as goal
+use Rattle.formulas_rows.proofs.monitors.traces_are_followed.Goals as goal
 
 pub copy_from-requires : goal.copy_from-requires
 copy_from-requires g c =
