@@ -1,5 +1,8 @@
 //! What a test compares, in one place each: a test that calls them is proved in a fraction of the time that the macros take in it. What fails is
 //! told with both values, by the name of its test.
+ghost use Rattle.std.specs.Prelude.{IsTrue};
+
+use std::alloc::AllocError;
 use std::fmt::Debug;
 use std::process::Abort;
 
@@ -9,6 +12,19 @@ pub(crate) fn is<T: PartialEq + Debug + Drop>(rt: &impl Abort, found: T, wanted:
 }
 
 /// What is claimed holds.
-pub(crate) fn is_true(rt: &impl Abort, claim: bool) {
+pub(crate) fn is_true(rt: &impl Abort, claim: bool)
+    ensures { IsTrue claim }
+{
     assert!(rt; claim);
+}
+
+/// The text that was made is what was wanted, where memory was left to make it.
+pub(crate) fn is_text(
+    rt: &impl Abort,
+    made: Result<String, AllocError>,
+    wanted: &str,
+) -> Result<(), AllocError> {
+    let made = made?;
+    is(rt, made.as_str(), wanted);
+    Ok(())
 }

@@ -82,12 +82,12 @@ text = 'seen'
 ";
 
 /// The good scenario.
-pub(crate) const FIRST: &[&str] = &["version = 1\n", TABLES, ONE_DISTANCE, RULES, LOG];
+pub(crate) static FIRST: [&str; 5] = ["version = 1\n", TABLES, ONE_DISTANCE, RULES, LOG];
 
 /// The good scenario in version 2.
-pub(crate) const SECOND: &[&str] = &["version = 2\n", TABLES, DISTANCE_PER_KIND, RULES, LOG];
+pub(crate) static SECOND: [&str; 5] = ["version = 2\n", TABLES, DISTANCE_PER_KIND, RULES, LOG];
 
-pub(crate) const WITH_FORMULAS: &[&str] = &[
+pub(crate) static WITH_FORMULAS: [&str; 6] = [
     "version = 1\n",
     TABLES,
     ONE_DISTANCE,
@@ -96,9 +96,9 @@ pub(crate) const WITH_FORMULAS: &[&str] = &[
     TWO_FORMULAS,
 ];
 
-pub(crate) const WITH_OWN: &[&str] = &["version = 1\n", TABLES, ONE_DISTANCE, RULES, LOG, OWN];
+pub(crate) static WITH_OWN: [&str; 6] = ["version = 1\n", TABLES, ONE_DISTANCE, RULES, LOG, OWN];
 
-pub(crate) const WITH_SHAPE: &[&str] = &[
+pub(crate) static WITH_SHAPE: [&str; 7] = [
     "version = 1\n",
     TABLES,
     ONE_DISTANCE,
@@ -108,7 +108,7 @@ pub(crate) const WITH_SHAPE: &[&str] = &[
     SHAPE,
 ];
 
-pub(crate) const WITH_PREDICTIONS: &[&str] = &[
+pub(crate) static WITH_PREDICTIONS: [&str; 7] = [
     "version = 1\n",
     TABLES,
     ONE_DISTANCE,
@@ -119,9 +119,16 @@ pub(crate) const WITH_PREDICTIONS: &[&str] = &[
 ];
 
 /// Ranks count where own ship is not needed.
-pub(crate) const WITH_RANKS: &[&str] = &["version = 1\n", TABLES, ONE_DISTANCE, RULES, RANKS, LOG];
+pub(crate) static WITH_RANKS: [&str; 6] = [
+    "version = 1\n",
+    TABLES,
+    ONE_DISTANCE,
+    RULES,
+    RANKS,
+    LOG,
+];
 
-pub(crate) const WITH_RANKS_AND_OWN: &[&str] = &[
+pub(crate) static WITH_RANKS_AND_OWN: [&str; 7] = [
     "version = 1\n",
     TABLES,
     ONE_DISTANCE,

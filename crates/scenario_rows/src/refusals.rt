@@ -1,5 +1,5 @@
 //! Scenarios that are refused: each key with each of its causes.
-use crate::compared::is;
+use crate::compared::{is, is_text};
 use crate::good::{
     FIRST, SECOND, WITH_FORMULAS, WITH_OWN, WITH_PREDICTIONS, WITH_RANKS, WITH_RANKS_AND_OWN,
 };
@@ -23,33 +23,34 @@ pub(crate) fn told_of(alloc: Global, text: &str, need_own: bool) -> Result<Strin
     told(alloc, read(alloc, text.as_bytes(), need_own).err())
 }
 
-/// What is told of a scenario in parts, in which one text stands in place of another.
-fn told_of_changed(
+/// Compares what is told of a scenario in which one text stands in place of another.
+fn is_changed(
+    rt: &impl Abort,
     alloc: Global,
-    parts: &[&str],
-    case: &Case,
+    good: &str,
     need_own: bool,
-) -> Result<String, AllocError> {
-    let (old, new, _) = case;
-    let good = parts.concat(alloc)?;
-    let text = good.as_str().replace(alloc, *old, new)?;
-    told_of(alloc, text.as_str(), need_own)
+    case: &Case,
+) -> Result<(), AllocError> {
+    let (old, new, wanted) = *case;
+    let text = good.replace(alloc, old, new)?;
+    let told = told_of(alloc, text.as_str(), need_own)?;
+    is(rt, (old, new, told.as_str()), (old, new, wanted));
+    Ok(())
 }
 
-/// The index of the first case that is told otherwise.
-fn first_otherwise(
+/// Compares what is told of each of these cases, in these parts of a scenario, where own ship is needed or not.
+fn are_told(
+    rt: &impl Abort,
     alloc: Global,
     parts: &[&str],
-    cases: &[Case],
     need_own: bool,
-) -> Result<Option<usize>, AllocError> {
-    for (index, case) in cases.iter().enumerate() {
-        let told = told_of_changed(alloc, parts, case, need_own)?;
-        if told.as_str() != case.2 {
-            return Ok(Some(index));
-        }
+    cases: &[Case],
+) -> Result<(), AllocError> {
+    let good = parts.concat(alloc)?;
+    for case in cases {
+        is_changed(rt, alloc, good.as_str(), need_own, case)?;
     }
-    Ok(None)
+    Ok(())
 }
 
 /// Faults of the first keys.
@@ -305,12 +306,14 @@ fn with_spaces(alloc: Global, spaces: usize) -> Result<String, AllocError> {
     .concat(alloc)
 }
 
+/// Numbers of spaces, and what is told.
+static SPACES: [(usize, &str); 2] = [(1020, ""), (1021, "formula.text[0]: range")];
+
 #[test]
 fn a_formula_has_at_most_1024_bytes(rt: HostRuntime) -> Result<(), AllocError> {
-    for (spaces, expected) in [(1020, ""), (1021, "formula.text[0]: range")] {
-        let text = with_spaces(rt.alloc(), spaces)?;
-        let told = told_of(rt.alloc(), text.as_str(), false)?;
-        is(&rt, told.as_str(), expected);
+    for (spaces, wanted) in &SPACES {
+        let text = with_spaces(rt.alloc(), *spaces)?;
+        is_text(&rt, told_of(rt.alloc(), text.as_str(), false), wanted)?;
     }
     Ok(())
 }
@@ -433,12 +436,11 @@ static WITHIN: [Case; 5] = [
     ("watch", "watch", ""),
 ];
 
+static NO_LEGS: [Case; 1] = [("legs = 3", "legs = 0", "")];
+
 #[test]
 fn own_ship_is_not_looked_at_where_she_is_not_needed(rt: HostRuntime) -> Result<(), AllocError> {
-    let case = ("legs = 3", "legs = 0", "");
-    let told = told_of_changed(rt.alloc(), WITH_OWN, &case, false)?;
-    is(&rt, told.as_str(), case.2);
-    Ok(())
+    are_told(&rt, rt.alloc(), &WITH_OWN, false, &NO_LEGS)
 }
 
 /// Faults of `predict`, and predictions that have none.
@@ -496,84 +498,50 @@ fn with_tables(alloc: Global, many: usize) -> Result<String, AllocError> {
     [good.as_str(), tables.as_str()].concat(alloc)
 }
 
+/// Numbers of tables, and what is told.
+static TABLES: [(usize, &str); 2] = [(64, "predict.mmsi[0]: missing"), (65, "predict: range")];
+
 #[test]
 fn at_most_64_vessels_are_predicted(rt: HostRuntime) -> Result<(), AllocError> {
-    for (many, expected) in [(64, "predict.mmsi[0]: missing"), (65, "predict: range")] {
-        let text = with_tables(rt.alloc(), many)?;
-        let told = told_of(rt.alloc(), text.as_str(), true)?;
-        is(&rt, told.as_str(), expected);
+    for (many, wanted) in &TABLES {
+        let text = with_tables(rt.alloc(), *many)?;
+        is_text(&rt, told_of(rt.alloc(), text.as_str(), true), wanted)?;
     }
     Ok(())
 }
 
-/// Compares the fault by which each of these cases is told, in these parts of a scenario, where own ship is needed or not.
-fn are_told(
-    rt: &impl Abort,
-    alloc: Global,
-    name: &str,
-    parts: &[&str],
-    need_own: bool,
-    cases: &[Case],
-) -> Result<(), AllocError> {
-    let otherwise = first_otherwise(alloc, parts, cases, need_own)?;
-    is(rt, (name, otherwise), (name, None));
-    Ok(())
+/// Compares what is told of the keys of each scenario.
+fn keys_are_told(rt: &impl Abort, alloc: Global) -> Result<(), AllocError> {
+    are_told(rt, alloc, &FIRST, false, &FIRST_KEYS)?;
+    are_told(rt, alloc, &FIRST, false, &DETECT)?;
+    are_told(rt, alloc, &FIRST, false, &ACT)?;
+    are_told(rt, alloc, &FIRST, false, &RULES)?;
+    are_told(rt, alloc, &FIRST, false, &SUBJECTS)?;
+    are_told(rt, alloc, &FIRST, false, &ORDER)?;
+    are_told(rt, alloc, &SECOND, false, &VERSION_TWO)
+}
+
+/// The same of formulas and of ranks.
+fn formulas_are_told(rt: &impl Abort, alloc: Global) -> Result<(), AllocError> {
+    are_told(rt, alloc, &FIRST, false, &FORMULAS)?;
+    are_told(rt, alloc, &WITH_FORMULAS, false, &SECOND_FORMULA)?;
+    are_told(rt, alloc, &FIRST, false, &WEIGHTS)?;
+    are_told(rt, alloc, &WITH_RANKS, false, &RANKS)?;
+    are_told(rt, alloc, &WITH_RANKS_AND_OWN, true, &RANKS_WITH_OWN)
+}
+
+/// The same of own ship, and of what is predicted.
+fn own_is_told(rt: &impl Abort, alloc: Global) -> Result<(), AllocError> {
+    are_told(rt, alloc, &WITH_OWN, true, &OWN)?;
+    are_told(rt, alloc, &WITH_OWN, true, &SHAPE)?;
+    are_told(rt, alloc, &WITH_OWN, true, &WITHIN)?;
+    are_told(rt, alloc, &WITH_PREDICTIONS, true, &PREDICT)?;
+    are_told(rt, alloc, &WITH_OWN, true, &NO_PREDICTIONS)
 }
 
 #[test]
 fn each_scenario_is_told_by_its_first_fault(rt: HostRuntime) -> Result<(), AllocError> {
-    let alloc = rt.alloc();
-    are_told(&rt, alloc, "the first keys", FIRST, false, &FIRST_KEYS)?;
-    are_told(&rt, alloc, "keys of detect", FIRST, false, &DETECT)?;
-    are_told(&rt, alloc, "keys of act", FIRST, false, &ACT)?;
-    are_told(&rt, alloc, "keys of rules", FIRST, false, &RULES)?;
-    are_told(&rt, alloc, "items of subjects", FIRST, false, &SUBJECTS)?;
-    are_told(
-        &rt,
-        alloc,
-        "names and texts of formulas",
-        FIRST,
-        false,
-        &FORMULAS,
-    )?;
-    are_told(
-        &rt,
-        alloc,
-        "the second of two formulas",
-        WITH_FORMULAS,
-        false,
-        &SECOND_FORMULA,
-    )?;
-    are_told(&rt, alloc, "weights of formulas", FIRST, false, &WEIGHTS)?;
-    are_told(&rt, alloc, "ranks", WITH_RANKS, false, &RANKS)?;
-    are_told(
-        &rt,
-        alloc,
-        "ranks for own ship",
-        WITH_RANKS_AND_OWN,
-        true,
-        &RANKS_WITH_OWN,
-    )?;
-    are_told(&rt, alloc, "the first of two faults", FIRST, false, &ORDER)?;
-    are_told(&rt, alloc, "keys of version 2", SECOND, false, &VERSION_TWO)?;
-    are_told(&rt, alloc, "keys of own ship", WITH_OWN, true, &OWN)?;
-    are_told(&rt, alloc, "own ship's shape", WITH_OWN, true, &SHAPE)?;
-    are_told(&rt, alloc, "bounds of own ship", WITH_OWN, true, &WITHIN)?;
-    are_told(
-        &rt,
-        alloc,
-        "what is predicted",
-        WITH_PREDICTIONS,
-        true,
-        &PREDICT,
-    )?;
-    are_told(
-        &rt,
-        alloc,
-        "lists of predictions",
-        WITH_OWN,
-        true,
-        &NO_PREDICTIONS,
-    )?;
-    Ok(())
+    keys_are_told(&rt, rt.alloc())?;
+    formulas_are_told(&rt, rt.alloc())?;
+    own_is_told(&rt, rt.alloc())
 }

@@ -1,5 +1,5 @@
 //! Scenarios with known values, known first faults and known texts.
-use crate::compared::{is, is_true};
+use crate::compared::{is, is_text, is_true};
 use crate::good::{
     FIRST, SECOND, WITH_FORMULAS, WITH_OWN, WITH_PREDICTIONS, WITH_RANKS_AND_OWN, WITH_SHAPE,
 };
@@ -15,22 +15,21 @@ use scenario::{
 use sectors::Angles;
 use std::alloc::{AllocError, Global};
 use std::process::Abort;
-use std::test::Fail;
 
-const WINDOW: Window = Window {
+static WINDOW: Window = Window {
     start: 1_700_000_000,
     tick: 10,
     ticks: 40,
 };
 
-const LOG: LogNumbers = LogNumbers {
+static LOG: LogNumbers = LogNumbers {
     gap: 600,
     slack: 60,
     max_speed: 500,
     max_bytes: 1 << 30,
 };
 
-const DETECT: Detect = Detect {
+static DETECT: Detect = Detect {
     watch: 50_000_000,
     risk: 5_010_000,
     clear: 10_000_000,
@@ -42,7 +41,7 @@ const DETECT: Detect = Detect {
     },
 };
 
-const ACT: Act = Act {
+static ACT: Act = Act {
     steady_turn: 50,
     apparent_turn: 200,
     steady_speed: 11,
@@ -57,17 +56,15 @@ pub(crate) fn is_rule(
     k: usize,
     name: &str,
     text: &str,
-) -> Result<(), Fail> {
-    if rules.len() <= k {
-        return Err("no such rule".into());
-    }
+) -> Result<(), Memory> {
+    is_true(rt, k < rules.len());
     let printed = print(alloc, rules.formula(k), 10)?;
     let wanted = (name.as_bytes(), text.as_bytes());
     is(rt, (rules.name(k), printed.as_slice()), wanted);
     Ok(())
 }
 
-const CHANGES: [Change; 2] = [
+static CHANGES: [Change; 2] = [
     Change {
         after: 0,
         course: 900,
@@ -81,49 +78,62 @@ const CHANGES: [Change; 2] = [
 ];
 
 /// The scenario that a text in parts has.
-pub(crate) fn scenario_of(alloc: Global, parts: &[&str], need_own: bool) -> Result<Scenario, Fail> {
+fn scenario_of(alloc: Global, parts: &[&str], need_own: bool) -> Result<Scenario, ScenarioFault> {
     let text = parts.concat(alloc)?;
-    Ok(read(alloc, text.as_str().as_bytes(), need_own)?)
+    read(alloc, text.as_str().as_bytes(), need_own)
 }
 
 /// Own ship is that of the scenario with her.
-fn has_plans(rt: &impl Abort, scenario: &Scenario) -> Result<(), Fail> {
-    let own = scenario.own.as_ref().ok_or("own ship")?;
-    is(rt, own.mmsi, 369_190_000);
+fn is_own(rt: &impl Abort, own: &OwnPart) {
     let lattice = &own.lattice;
     let plans = (lattice.choices(), lattice.plans(), lattice.positions());
-    is(rt, plans, (6, 216, 100));
+    is(rt, (own.mmsi, plans), (369_190_000, (6, 216, 100)));
     is(rt, (own.base, own.lengths, own.range), (301, 2, 50_000));
     is(rt, own.shape, None);
-    Ok(())
+}
+
+fn has_plans(rt: &impl Abort, scenario: &Scenario) {
+    match &scenario.own {
+        Some(own) => is_own(rt, own),
+        None => is_true(rt, false),
+    }
 }
 
 /// What is predicted of two vessels is that of the scenario with predictions.
-pub(crate) fn has_predictions(rt: &impl Abort, scenario: &Scenario) -> Result<(), Fail> {
-    let own = scenario.own.as_ref().ok_or("own ship")?;
+fn are_predicted(rt: &impl Abort, own: &OwnPart) {
     let [first, second] = own.predict.as_slice() else {
-        return Err("two vessels".into());
+        return is_true(rt, false);
     };
     is(rt, (first.mmsi, second.mmsi), (477_553_000, 477_553_001));
     is_true(rt, first.changes.as_slice() == CHANGES.as_slice());
     is(rt, second.changes.as_slice().len(), 1);
-    has_plans(rt, scenario)
+}
+
+/// Own ship, and what is predicted, are those of the scenario with predictions.
+pub(crate) fn has_predictions(rt: &impl Abort, scenario: &Scenario) {
+    match &scenario.own {
+        Some(own) => are_predicted(rt, own),
+        None => is_true(rt, false),
+    }
+    has_plans(rt, scenario);
 }
 
 #[test]
-fn changes_are_predicted_of_other_vessels(rt: HostRuntime) -> Result<(), Fail> {
-    let scenario = scenario_of(rt.alloc(), WITH_PREDICTIONS, true)?;
-    has_predictions(&rt, &scenario)
+fn changes_are_predicted_of_other_vessels(rt: HostRuntime) -> Result<(), ScenarioFault> {
+    let scenario = scenario_of(rt.alloc(), &WITH_PREDICTIONS, true)?;
+    has_predictions(&rt, &scenario);
+    Ok(())
 }
 
 #[test]
-fn own_ship_has_her_plans(rt: HostRuntime) -> Result<(), Fail> {
-    let scenario = scenario_of(rt.alloc(), WITH_OWN, true)?;
-    has_plans(&rt, &scenario)
+fn own_ship_has_her_plans(rt: HostRuntime) -> Result<(), ScenarioFault> {
+    let scenario = scenario_of(rt.alloc(), &WITH_OWN, true)?;
+    has_plans(&rt, &scenario);
+    Ok(())
 }
 
 /// A domain of six sides.
-const SHAPE: [(i32, i32); 6] = [
+static SHAPE: [(i32, i32); 6] = [
     (300, 0),
     (150, 100),
     (-150, 100),
@@ -133,37 +143,41 @@ const SHAPE: [(i32, i32); 6] = [
 ];
 
 /// Own ship's domain is that of the scenario with one.
-pub(crate) fn has_shape(rt: &impl Abort, scenario: &Scenario) -> Result<(), Fail> {
-    let own = scenario.own.as_ref().ok_or("own ship")?;
-    is_true(rt, own.shape.is_some());
-    is(rt, own.shape, Shape::new(&SHAPE));
-    Ok(())
+pub(crate) fn has_shape(rt: &impl Abort, scenario: &Scenario) {
+    let wanted = Shape::new(&SHAPE);
+    is_true(rt, wanted.is_some());
+    match &scenario.own {
+        Some(own) => is(rt, own.shape, wanted),
+        None => is_true(rt, false),
+    }
 }
 
 #[test]
-fn a_shape_is_read(rt: HostRuntime) -> Result<(), Fail> {
-    let scenario = scenario_of(rt.alloc(), WITH_SHAPE, true)?;
-    has_shape(&rt, &scenario)
+fn a_shape_is_read(rt: HostRuntime) -> Result<(), ScenarioFault> {
+    let scenario = scenario_of(rt.alloc(), &WITH_SHAPE, true)?;
+    has_shape(&rt, &scenario);
+    Ok(())
 }
 
 /// The numbers of the good scenario.
 pub(crate) fn has_good_numbers(rt: &impl Abort, scenario: &Scenario) {
-    is(rt, scenario.window, WINDOW);
-    is(rt, scenario.log, LOG);
-    is(rt, scenario.detect, DETECT);
-    is(rt, scenario.act, ACT);
-    is(rt, scenario.rules.len(), 11);
-    is(rt, scenario.ranks, false);
-    is(rt, scenario.subjects.as_slice().len(), 0);
+    is(rt, &scenario.window, &WINDOW);
+    is(rt, &scenario.log, &LOG);
+    is(rt, &scenario.detect, &DETECT);
+    is(rt, &scenario.act, &ACT);
+    let counts = (scenario.rules.len(), scenario.subjects.as_slice().len());
+    is(rt, (counts, scenario.ranks), ((11, 0), false));
     is_true(rt, scenario.own.is_none());
 }
 
 #[test]
-fn values_of_a_good_scenario(rt: HostRuntime) -> Result<(), Fail> {
-    let scenario = scenario_of(rt.alloc(), FIRST, false)?;
+fn values_of_a_good_scenario(rt: HostRuntime) -> Result<(), ScenarioFault> {
+    let scenario = scenario_of(rt.alloc(), &FIRST, false)?;
     has_good_numbers(&rt, &scenario);
     let safe = "(engaged -> clear(201))";
-    is_rule(&rt, rt.alloc(), &scenario.rules, 1, "r8d", safe)
+    let r8d = is_rule(&rt, rt.alloc(), &scenario.rules, 1, "r8d", safe);
+    drop(scenario);
+    Ok(r8d?)
 }
 
 /// Rule 8(d) with the four distances of the second version.
@@ -171,52 +185,80 @@ const SAFE_PER_KIND: &str =
     "(((((engaged & head_on) -> clear(1)) & ((engaged & (overtaking | overtaken)) -> clear(2))) & ((engaged & (crossing_gives | crossing_stands)) -> clear(3))) & ((engaged & (passing | unclassified)) -> clear(100000)))";
 
 #[test]
-fn version_two_has_a_safe_distance_for_each_kind(rt: HostRuntime) -> Result<(), Fail> {
-    let scenario = scenario_of(rt.alloc(), SECOND, false)?;
-    is_rule(&rt, rt.alloc(), &scenario.rules, 1, "r8d", SAFE_PER_KIND)
+fn version_two_has_a_safe_distance_for_each_kind(rt: HostRuntime) -> Result<(), ScenarioFault> {
+    let scenario = scenario_of(rt.alloc(), &SECOND, false)?;
+    let r8d = is_rule(&rt, rt.alloc(), &scenario.rules, 1, "r8d", SAFE_PER_KIND);
+    drop(scenario);
+    Ok(r8d?)
+}
+
+/// The two formulas are rules, behind the eleven.
+fn are_behind_the_rules(rt: &impl Abort, alloc: Global, rules: &RuleSet) -> Result<(), Memory> {
+    is(rt, rules.len(), 13);
+    is_rule(rt, alloc, rules, 11, "u1", "(F[0,20] risk & !seen)")?;
+    is_rule(rt, alloc, rules, 12, "r18", "seen")
 }
 
 #[test]
-fn formulas_stand_behind_the_rules(rt: HostRuntime) -> Result<(), Fail> {
-    let scenario = scenario_of(rt.alloc(), WITH_FORMULAS, false)?;
-    is(&rt, scenario.rules.len(), 13);
-    let first = "(F[0,20] risk & !seen)";
-    is_rule(&rt, rt.alloc(), &scenario.rules, 11, "u1", first)?;
-    is_rule(&rt, rt.alloc(), &scenario.rules, 12, "r18", "seen")
+fn formulas_stand_behind_the_rules(rt: HostRuntime) -> Result<(), ScenarioFault> {
+    let scenario = scenario_of(rt.alloc(), &WITH_FORMULAS, false)?;
+    let formulas = are_behind_the_rules(&rt, rt.alloc(), &scenario.rules);
+    drop(scenario);
+    Ok(formulas?)
 }
 
+/// Whether own ship is needed, and how many rules there are then.
+static RANKED: [(bool, usize); 2] = [(false, 12), (true, 11)];
+
 #[test]
-fn ranks_count_where_own_ship_is_not_needed(rt: HostRuntime) -> Result<(), Fail> {
-    for (need_own, rules) in [(false, 12), (true, 11)] {
-        let scenario = scenario_of(rt.alloc(), WITH_RANKS_AND_OWN, need_own)?;
-        is(
-            &rt,
-            (scenario.ranks, scenario.rules.len()),
-            (!need_own, rules),
-        );
+fn ranks_count_where_own_ship_is_not_needed(rt: HostRuntime) -> Result<(), ScenarioFault> {
+    for (need_own, rules) in &RANKED {
+        let scenario = scenario_of(rt.alloc(), &WITH_RANKS_AND_OWN, *need_own)?;
+        let found = (scenario.ranks, scenario.rules.len());
+        is(&rt, found, (!*need_own, *rules));
     }
     Ok(())
 }
 
+/// The rule of ranks is the last.
+pub(crate) fn has_rule_of_ranks(
+    rt: &impl Abort,
+    alloc: Global,
+    rules: &RuleSet,
+) -> Result<(), Memory> {
+    let text = "((engaged & rank_gives) -> clear(201))";
+    is_rule(rt, alloc, rules, 11, "r18", text)
+}
+
 #[test]
-fn the_rule_of_ranks_is_the_last(rt: HostRuntime) -> Result<(), Fail> {
-    let scenario = scenario_of(rt.alloc(), WITH_RANKS_AND_OWN, false)?;
-    let last = "((engaged & rank_gives) -> clear(201))";
-    is_rule(&rt, rt.alloc(), &scenario.rules, 11, "r18", last)
+fn the_rule_of_ranks_is_the_last(rt: HostRuntime) -> Result<(), ScenarioFault> {
+    let scenario = scenario_of(rt.alloc(), &WITH_RANKS_AND_OWN, false)?;
+    let r18 = has_rule_of_ranks(&rt, rt.alloc(), &scenario.rules);
+    drop(scenario);
+    Ok(r18?)
 }
 
 /// The greatest value of each key of the first tables, and a key that nobody knows.
-const GREATEST: &str =
-    "version = 1\n[window]\nstart = 9999999999\ntick = 60\nticks = 20000\n[reference]\nlat = 45000000\nlon = -108000000\n[log]\ngap = 3600\nslack = 3600\nmax_speed = 1022\nmax_bytes = 1073741824\nunknown = 1.5\n[detect]\nwatch = 100000\nrisk = 100000\nclear = 100000\nhorizon = 7200\ndoubt = 1124\nahead = 900\nreciprocal = 900\n[act]\nsteady_turn = 1800\napparent_turn = 1800\nsteady_speed = 1022\napparent_speed = 1022\n[rules]\nsafe = 100000\novertake = 100000\nclose = 100000\nt8 = 7200\nta = 7200\ntl = 7200\ntw = 7200\nte = 7200\n";
+static GREATEST: [&str; 1] = [
+    "version = 1\n[window]\nstart = 9999999999\ntick = 60\nticks = 20000\n[reference]\nlat = 45000000\nlon = -108000000\n[log]\ngap = 3600\nslack = 3600\nmax_speed = 1022\nmax_bytes = 1073741824\nunknown = 1.5\n[detect]\nwatch = 100000\nrisk = 100000\nclear = 100000\nhorizon = 7200\ndoubt = 1124\nahead = 900\nreciprocal = 900\n[act]\nsteady_turn = 1800\napparent_turn = 1800\nsteady_speed = 1022\napparent_speed = 1022\n[rules]\nsafe = 100000\novertake = 100000\nclose = 100000\nt8 = 7200\nta = 7200\ntl = 7200\ntw = 7200\nte = 7200\n",
+];
+
+/// The numbers of that scenario.
+fn has_greatest_values(rt: &impl Abort, scenario: &Scenario) {
+    is(rt, scenario.window.start, 9_999_999_999);
+    is(
+        rt,
+        (scenario.log.gap, scenario.log.max_bytes),
+        (3600, 1 << 30),
+    );
+    let detect = (scenario.detect.watch, scenario.detect.horizon);
+    is(rt, detect, (1_000_000_000, 120));
+}
 
 #[test]
-fn the_greatest_values_are_read(rt: HostRuntime) -> Result<(), Fail> {
-    let scenario = scenario_of(rt.alloc(), &[GREATEST], false)?;
-    is(&rt, scenario.window.start, 9_999_999_999);
-    is(&rt, scenario.log.gap, 3600);
-    is(&rt, scenario.log.max_bytes, 1 << 30);
-    is(&rt, scenario.detect.watch, 1_000_000_000);
-    is(&rt, scenario.detect.horizon, 120);
+fn the_greatest_values_are_read(rt: HostRuntime) -> Result<(), ScenarioFault> {
+    let scenario = scenario_of(rt.alloc(), &GREATEST, false)?;
+    has_greatest_values(&rt, &scenario);
     Ok(())
 }
 
@@ -227,27 +269,34 @@ fn with_subjects(alloc: Global, many: usize, last: &str) -> Result<String, Alloc
     ["subjects = [", others.as_str(), last, "]\n", good.as_str()].concat(alloc)
 }
 
-#[test]
-fn a_list_may_have_its_length(rt: HostRuntime) -> Result<(), Fail> {
-    let most = with_subjects(rt.alloc(), 63, "799999999")?;
-    let scenario = scenario_of(rt.alloc(), &[most.as_str()], false)?;
-    let subjects = scenario.subjects.as_slice();
-    is(&rt, subjects.len(), 64);
-    is(&rt, subjects.first(), Some(&200_000_000));
-    is(&rt, subjects.last(), Some(&799_999_999));
-    Ok(())
+/// The scenario with the longest list of subjects.
+fn with_most_subjects(alloc: Global) -> Result<Scenario, ScenarioFault> {
+    let text = with_subjects(alloc, 63, "799999999")?;
+    read(alloc, text.as_bytes(), false)
 }
 
 #[test]
+fn a_list_may_have_its_length(rt: HostRuntime) -> Result<(), ScenarioFault> {
+    let scenario = with_most_subjects(rt.alloc())?;
+    let subjects = scenario.subjects.as_slice();
+    let ends = (subjects.first(), subjects.last());
+    is(&rt, subjects.len(), 64);
+    is(&rt, ends, (Some(&200_000_000), Some(&799_999_999)));
+    Ok(())
+}
+
+/// How many subjects there are before the last, the last, and what is told.
+static LISTS: [(usize, &str, &str); 3] = [
+    (64, "1", "subjects[0]: range"),
+    (64, "true", "subjects[64]: type"),
+    (63, "1", "subjects[63]: range"),
+];
+
+#[test]
 fn a_list_has_at_most_its_length(rt: HostRuntime) -> Result<(), AllocError> {
-    for (many, last, expected) in [
-        (64, "1", "subjects[0]: range"),
-        (64, "true", "subjects[64]: type"),
-        (63, "1", "subjects[63]: range"),
-    ] {
-        let text = with_subjects(rt.alloc(), many, last)?;
-        let told = told_of(rt.alloc(), text.as_str(), false)?;
-        is(&rt, told.as_str(), expected);
+    for (many, last, wanted) in &LISTS {
+        let text = with_subjects(rt.alloc(), *many, last)?;
+        is_text(&rt, told_of(rt.alloc(), text.as_str(), false), wanted)?;
     }
     Ok(())
 }
@@ -261,30 +310,27 @@ fn subjects_give_their_list_back(rt: HostRuntime) -> Result<(), AllocError> {
     Ok(())
 }
 
+/// Compares the text of a fault.
+fn is_told(
+    rt: &impl Abort,
+    alloc: Global,
+    fault: ScenarioFault,
+    wanted: &str,
+) -> Result<(), AllocError> {
+    is_text(rt, told(alloc, Some(fault)), wanted)
+}
+
 #[test]
 fn texts_of_faults(rt: HostRuntime) -> Result<(), AllocError> {
+    let alloc = rt.alloc();
     let key = Key { row: 9, item: 0 };
-    let line = format!(in rt.alloc(); "scenario: {key}: {}\n", Cause::Formula(1024))?;
-    is(
-        &rt,
-        line.as_str(),
-        "scenario: log.max_speed: formula at 1024\n",
-    );
-    let item = format!(in rt.alloc(); "{}", Key { row: 30, item: 7 })?;
-    is(&rt, item.as_str(), "subjects[7]");
-    for (fault, expected) in [
-        (
-            ScenarioFault::Fault(key, Cause::Multiple),
-            "log.max_speed: multiple",
-        ),
-        (
-            ScenarioFault::Fault(key, Cause::Product),
-            "log.max_speed: product",
-        ),
-        (ScenarioFault::from(Memory), "out of memory"),
-    ] {
-        let text = told(rt.alloc(), Some(fault))?;
-        is(&rt, text.as_str(), expected);
-    }
-    Ok(())
+    let line = format!(in alloc; "scenario: {key}: {}\n", Cause::Formula(1024));
+    is_text(&rt, line, "scenario: log.max_speed: formula at 1024\n")?;
+    let item = format!(in alloc; "{}", Key { row: 30, item: 7 });
+    is_text(&rt, item, "subjects[7]")?;
+    let multiple = ScenarioFault::Fault(key, Cause::Multiple);
+    is_told(&rt, alloc, multiple, "log.max_speed: multiple")?;
+    let product = ScenarioFault::Fault(key, Cause::Product);
+    is_told(&rt, alloc, product, "log.max_speed: product")?;
+    is_told(&rt, alloc, ScenarioFault::from(Memory), "out of memory")
 }
