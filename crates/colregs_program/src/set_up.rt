@@ -182,6 +182,11 @@ pub(crate) fn set_up<H: Shelf>(
     ensures calm { result ≢ Err SetUpFault.NotHad → H.faults shelf.new ≡ H.faults shelf.old }
 {
     let scenario = scenario_of(alloc, request, shelf)?;
-    let rows = rows_of(alloc, request, shelf)?;
-    Ok(SetUp { scenario, rows })
+    match rows_of(alloc, request, shelf) {
+        Ok(rows) => Ok(SetUp { scenario, rows }),
+        Err(why) => {
+            drop(scenario);
+            Err(why)
+        }
+    }
 }

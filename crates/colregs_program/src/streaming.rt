@@ -230,6 +230,11 @@ pub(crate) fn write_report<S: Source, K: Sink>(
     ensures out_faults { MatchResult result (λ _. K.faults out.new ≡ K.faults out.old) (OutCount (K.faults out.old) (K.faults out.new)) }
 {
     let mut session = Session::new(alloc, scenario, mode)?;
-    feed_log(alloc, &mut session, log, out)?;
-    write_end(session, asked, out)
+    match feed_log(alloc, &mut session, log, out) {
+        Ok(()) => write_end(session, asked, out),
+        Err(fault) => {
+            drop(session);
+            Err(fault)
+        }
+    }
 }

@@ -43,6 +43,35 @@ fn sound_end(
     }
 }
 
+/// Checks the entries one after the other, over what is kept from each to the next.
+fn check_each(
+    alloc: Global,
+    situation: &Situation,
+    replay: &mut Replay<'_>,
+    entries: &[WhyEntry],
+) -> Result<Checked, Memory>
+    requires situation { IsSituation situation.now }
+    requires replay { IsReplay replay.old }
+    requires same { situation_in replay.old.course ≡ situation.now }
+    requires entries { All (IsEntry situation.now) entries.now }
+    requires few { length entries.now < 2 ^ 31 }
+    ensures told { IfOk result (λ checked. Tells situation.now entries.now checked) }
+    ensures right { IfOk result (λ checked. (checked ≡ Checked.Right) ↔ IsRight situation.now entries.now) }
+{
+    let mut covered = 0;
+    for k in 0..entries.len() {
+        let Some(end) = sound_end(alloc, situation, replay, &entries[k], covered)? else {
+            return Ok(Checked::Bad(k as u32));
+        };
+        covered = end;
+    }
+    if covered == situation.lattice.plans() {
+        Ok(Checked::Right)
+    } else {
+        Ok(Checked::Bad(entries.len() as u32))
+    }
+}
+
 /// Checks a list of entries, fewer than 2^31, without a search: whether each is good, and whether their blocks are one behind the other all plans.
 /// Where it is right, every plan fails.
 pub fn check(alloc: Global, situation: &Situation, entries: &[WhyEntry]) -> Result<Checked, Memory>
@@ -55,16 +84,7 @@ pub fn check(alloc: Global, situation: &Situation, entries: &[WhyEntry]) -> Resu
 {
     a_right_list_refutes(situation);
     let mut replay = Replay::new(alloc, situation)?;
-    let mut covered = 0;
-    for k in 0..entries.len() {
-        let Some(end) = sound_end(alloc, situation, &mut replay, &entries[k], covered)? else {
-            return Ok(Checked::Bad(k as u32));
-        };
-        covered = end;
-    }
-    if covered == situation.lattice.plans() {
-        Ok(Checked::Right)
-    } else {
-        Ok(Checked::Bad(entries.len() as u32))
-    }
+    let checked = check_each(alloc, situation, &mut replay, entries);
+    drop(replay);
+    checked
 }

@@ -181,7 +181,7 @@ pub fn explain(alloc: Global, situation: &Situation) -> Result<Option<Vec<WhyEnt
         basis: &walk.basis,
     };
     let mut list = Vec::new(alloc);
-    if explore(
+    let whole = explore(
         alloc,
         &walked,
         &walk.start,
@@ -189,9 +189,12 @@ pub fn explain(alloc: Global, situation: &Situation) -> Result<Option<Vec<WhyEnt
         0,
         0,
         &mut list,
-    )? {
+    );
+    drop(walk);
+    if whole? {
         Ok(Some(list))
     } else {
+        drop(list);
         Ok(None)
     }
 }

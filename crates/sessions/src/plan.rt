@@ -110,9 +110,17 @@ fn write_search(
         lattice: &search.situation().lattice,
         ready: prepared.ready,
     };
-    write_sought(text, book, &prepared.near, &legs, plan.as_ref())?;
+    let written = write_sought(text, book, &prepared.near, &legs, plan.as_ref());
     let none = plan.is_none();
-    Ok(PlanFound { search, none })
+    drop(plan);
+    drop(prepared.near);
+    match written {
+        Ok(()) => Ok(PlanFound { search, none }),
+        Err(why) => {
+            drop(search);
+            Err(why.into())
+        }
+    }
 }
 
 /// The report, from its first rows and what the search found. With `why` it says why every plan fails, if every plan does.
@@ -157,6 +165,15 @@ pub(crate) fn end_plan(
     ensures cause { IfErr result (λ why. (log : List ℕ) → JudgeStandsFor judge.now scenario (lines_of log) → EndCause mode.Plan [] scenario log why) }
 {
     let mut text = ReportText::new(alloc);
-    let found = write_search(alloc, scenario, judge.book(), &mut text)?;
-    plan_report(alloc, text, judge, &found, why)
+    match write_search(alloc, scenario, judge.book(), &mut text) {
+        Ok(found) => {
+            let ending = plan_report(alloc, text, judge, &found, why);
+            drop(found);
+            ending
+        }
+        Err(fault) => {
+            drop(text);
+            Err(fault.into())
+        }
+    }
 }

@@ -256,15 +256,24 @@ impl Session {
         ensures refused { IfErr result (λ why. UnlessMemory why ((fed given : List ℕ) → StandsFor self fed given
             → IsAnswerTo (task_by (mode_of self) asked.now) (session_scenario self) fed (Err why))) }
     {
-        let text = self.end_line()?;
-        let Session {
-            alloc,
-            scenario,
-            work,
-            lines,
-            ..
-        } = self;
-        work.end(alloc, scenario, lines.judge(), asked, text)
+        match self.end_line() {
+            Ok(text) => {
+                let Session {
+                    alloc,
+                    scenario,
+                    work,
+                    lines,
+                    ..
+                } = self;
+                let ending = work.end(alloc, scenario, lines.judge(), asked, text);
+                drop(lines);
+                ending
+            }
+            Err(why) => {
+                drop(self);
+                Err(why)
+            }
+        }
     }
 
     /// Ends the log, and gives the situation in which own ship's plan is sought, of a mode that looks at her.
@@ -276,13 +285,25 @@ impl Session {
         ensures refused { IfErr result (λ why. UnlessMemory why ((fed given : List ℕ) → StandsFor self fed given
             → (task : Task) → task.mode ≡ mode_of self → IsAnswerTo task (session_scenario self) fed (Err why))) }
     {
-        self.end_line()?;
-        let Session {
-            alloc,
-            scenario,
-            lines,
-            ..
-        } = self;
-        situation_at_end(alloc, scenario, lines.judge())
+        match self.end_line() {
+            Ok(text) => {
+                drop(text);
+                let Session {
+                    alloc,
+                    scenario,
+                    work,
+                    lines,
+                    ..
+                } = self;
+                drop(work);
+                let found = situation_at_end(alloc, scenario, lines.judge());
+                drop(lines);
+                found
+            }
+            Err(why) => {
+                drop(self);
+                Err(why)
+            }
+        }
     }
 }

@@ -146,12 +146,34 @@ impl Work {
         ensures cause { IfErr result (EndsWithCause self judge.now scenario asked.now) }
     {
         match self {
-            Work::Points => end_points(text, judge),
-            Work::Audit(audit) => end_audit(text, &scenario, audit, judge),
-            Work::Plan => end_plan(alloc, scenario, judge, asked.why),
-            Work::Drill(audit) => end_drill(alloc, &scenario, audit, judge),
-            Work::Recheck => end_recheck(alloc, scenario, judge, asked.rows),
-            Work::Watch(watch) => end_watch(text, &scenario, watch, judge),
+            Work::Points => {
+                drop(scenario);
+                end_points(text, judge)
+            }
+            Work::Audit(audit) => {
+                let ending = end_audit(text, &scenario, audit, judge);
+                drop(scenario);
+                ending
+            }
+            Work::Plan => {
+                drop(text);
+                end_plan(alloc, scenario, judge, asked.why)
+            }
+            Work::Drill(audit) => {
+                drop(text);
+                let ending = end_drill(alloc, &scenario, audit, judge);
+                drop(scenario);
+                ending
+            }
+            Work::Recheck => {
+                drop(text);
+                end_recheck(alloc, scenario, judge, asked.rows)
+            }
+            Work::Watch(watch) => {
+                let ending = end_watch(text, &scenario, watch, judge);
+                drop(scenario);
+                ending
+            }
         }
     }
 }

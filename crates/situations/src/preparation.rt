@@ -1,5 +1,6 @@
 //! The situation in which a plan of own ship is sought.
-ghost use Rattle.std.specs.Prelude.{ℕ, ◌≡◌, ◌≤◌, ◌<◌, ◌+◌, ◌*◌, List, length, All, IfOk, IfSome, IsSome, Err, Ok, Some};
+ghost use Rattle.std.specs.Prelude.{ℕ, ◌≡◌, ◌≤◌, ◌<◌, ◌+◌, ◌*◌, List, [], length, map, All, IfOk, IfSome, IsSome, Err, Ok, Some};
+ghost use Rattle.lattice.specs.Grids.{positions_of};
 ghost use Rattle.motion.specs.TickStates.{IsTickState};
 ghost use Rattle.scenario_values.specs.ValueRanges.{IsInRange, IsWindow};
 ghost use Rattle.scenario_values.specs.Ticks.{window_end};
@@ -8,22 +9,23 @@ ghost use Rattle.tracks.specs.Standing.{StandsFor};
 ghost use Rattle.tracks.specs.VesselsHeld.{Sent};
 ghost use Rattle.tracks.specs.declared.keeping.Keeping.TheVariants.{Tracks};
 ghost use Rattle.situations.specs.NearVessels.{near_of, others_of, point_now};
-ghost use Rattle.situations.specs.PlanSituations.{greatest_targets, metre, own_readiness};
+ghost use Rattle.situations.specs.PlanSituations.{greatest_targets, metre, own_readiness, past_of, target_of};
 ghost use Rattle.situations.specs.Preparing.{HasManyTargets, IsPrepared, StandsForSome};
 ghost use Rattle.situations.specs.Readiness.{readiness_of};
-ghost use Rattle.situations.specs.Inner.Facts.{HasMany, IsFresh, IsNear, IsReady, IsSetting, IsSized, own_near};
+ghost use Rattle.situations.specs.Situations.{sighting};
+ghost use Rattle.situations.specs.Inner.Facts.{HasMany, IsFresh, IsKnownBelow, IsNear, IsReady, IsSetting, IsSized, IsTargetOver, own_near};
 ghost use Rattle.situations.specs.declared.preparation.PrepareFault.{PrepareFault};
 ghost use Rattle.situations.specs.declared.readiness.Unready.{Unready};
 
-use crate::lists::Targets;
+use crate::lists::{Past, Targets};
 use crate::near::{Circle, Near, point_now};
 use crate::readiness::{Ready, Unready, readiness};
-use crate::situation::Situation;
+use crate::situation::{Situation, Target};
 use crate::targets::{Setting, count_others};
 use lattice::Lattice;
 use motion::TickState;
 use outside::Memory;
-use scenario_values::{Scenario, Window};
+use scenario_values::{OwnPart, Scenario, Window};
 use std::alloc::Global;
 use tracks::Book;
 
@@ -71,22 +73,33 @@ pub struct Prepared {
     pub situation: Situation,
 }
 
-/// What own ship is planned from, and the vessels near her.
-fn surroundings(
-    alloc: Global,
-    setting: &Setting,
-    gap: u32,
-) -> Result<(Ready, Vec<Near>), PrepareFault>
+/// What is known of own ship and of the vessels near her.
+#[derive(Drop)]
+struct Surroundings {
+    ready: Ready,
+    near: Vec<Near>,
+    own_past: Past,
+    targets: Vec<Target>,
+}
+
+/// What a book tells of own ship and of the vessels near her. It may end early, so it owns nothing of the scenario: all that is owned at
+/// such an end is dropped there, and the proof has to follow each drop.
+fn surroundings_of(alloc: Global, setting: &Setting, gap: u32) -> Result<Surroundings, PrepareFault>
     requires setting { IsSetting setting.now }
     requires gap { setting.now.book.now.numbers.gap ≡ gap }
     requires short { gap ≤ 3600 }
     ensures ready { IfOk result (λ found. (numbers : JudgingNumbers) (messages : List Sent) → StandsFor setting.now.book.now numbers messages
-        → readiness_of numbers messages (window_end setting.now.window) setting.now.own.now.mmsi ≡ Ok found.0) }
-    ensures own { IfOk result (λ found. IsReady found.0 × IsNear (window_end setting.now.window) setting.now.book.now (own_near setting.now.own.now found.0)) }
+        → readiness_of numbers messages (window_end setting.now.window) setting.now.own.now.mmsi ≡ Ok found.ready) }
+    ensures own { IfOk result (λ found. IsReady found.ready × IsNear (window_end setting.now.window) setting.now.book.now (own_near setting.now.own.now found.ready)) }
     ensures near { IfOk result (λ found. (numbers : JudgingNumbers) (messages : List Sent) → StandsFor setting.now.book.now numbers messages
-        → found.1.items ≡ near_of numbers messages (window_end setting.now.window) (metre * setting.now.own.now.range) (point_now (window_end setting.now.window) found.0.latest)) }
-    ensures each { IfOk result (λ found. All (IsNear (window_end setting.now.window) setting.now.book.now) found.1.items) }
-    ensures few { IfOk result (λ found. length (others_of setting.now.own.now.mmsi found.1.items) ≤ greatest_targets) }
+        → found.near.items ≡ near_of numbers messages (window_end setting.now.window) (metre * setting.now.own.now.range) (point_now (window_end setting.now.window) found.ready.latest)) }
+    ensures few { IfOk result (λ found. length (others_of setting.now.own.now.mmsi found.near.items) ≤ greatest_targets) }
+    ensures past { IfOk result (λ found. (numbers : JudgingNumbers) (messages : List Sent) → StandsFor setting.now.book.now numbers messages
+        → found.own_past ≡ past_of numbers messages setting.now.window [] (own_near setting.now.own.now found.ready)) }
+    ensures seen { IfOk result (λ found. IsKnownBelow (setting.now.window.ticks + 1) (sighting found.own_past)) }
+    ensures targets { IfOk result (λ found. (numbers : JudgingNumbers) (messages : List Sent) → StandsFor setting.now.book.now numbers messages
+        → found.targets.items ≡ map (target_of numbers messages setting.now.window setting.now.own.now) (others_of setting.now.own.now.mmsi found.near.items)) }
+    ensures over { IfOk result (λ found. All (IsTargetOver setting.now.window.ticks (positions_of setting.now.own.now.lattice)) found.targets.items) }
     ensures unready { (why : Unready) → result ≡ Err (PrepareFault.Unready why) → (numbers : JudgingNumbers) (messages : List Sent)
         → StandsFor setting.now.book.now numbers messages
         → readiness_of numbers messages (window_end setting.now.window) setting.now.own.now.mmsi ≡ Err why }
@@ -105,7 +118,18 @@ fn surroundings(
     if count_others(&near, setting.own.mmsi) > MOST_TARGETS {
         return Err(PrepareFault::TooManyTargets);
     }
-    Ok((ready, near))
+    let herself = Near {
+        mmsi: setting.own.mmsi,
+        latest: ready.latest,
+    };
+    let own_past = setting.past(alloc, &herself)?;
+    let targets = setting.targets(alloc, &near)?;
+    Ok(Surroundings {
+        ready,
+        near,
+        own_past,
+        targets,
+    })
 }
 
 /// A law of a lattice, which does nothing: its sizes are those that a search asks for.
@@ -156,9 +180,11 @@ pub fn prepare(alloc: Global, scenario: Scenario, book: &Book) -> Result<Prepare
         detect,
         act,
         rules,
+        subjects,
         own,
         ..
     } = scenario;
+    drop(subjects);
     let own = own.unwrap();
     is_sized(&own.lattice);
     let setting = Setting {
@@ -166,30 +192,36 @@ pub fn prepare(alloc: Global, scenario: Scenario, book: &Book) -> Result<Prepare
         own: &own,
         book,
     };
-    let (ready, near) = surroundings(alloc, &setting, log.gap)?;
-    let own_past = setting.past(
-        alloc,
-        &Near {
-            mmsi: own.mmsi,
-            latest: ready.latest,
-        },
-    )?;
-    let targets = setting.targets(alloc, &near)?;
-    let start = start_of(&window, &ready);
-    let situation = Situation {
-        own_past,
-        start,
-        targets: Targets::new(targets),
-        rules,
-        detect,
-        act,
-        lattice: own.lattice,
-        tick: window.tick,
-        shape: own.shape,
-    };
-    Ok(Prepared {
-        ready,
-        near,
-        situation,
-    })
+    match surroundings_of(alloc, &setting, log.gap) {
+        Ok(found) => {
+            let OwnPart {
+                lattice,
+                predict,
+                shape,
+                ..
+            } = own;
+            drop(predict);
+            let situation = Situation {
+                own_past: found.own_past,
+                start: start_of(&window, &found.ready),
+                targets: Targets::new(found.targets),
+                rules,
+                detect,
+                act,
+                lattice,
+                tick: window.tick,
+                shape,
+            };
+            Ok(Prepared {
+                ready: found.ready,
+                near: found.near,
+                situation,
+            })
+        }
+        Err(why) => {
+            drop(own);
+            drop(rules);
+            Err(why)
+        }
+    }
 }

@@ -16,16 +16,16 @@ walked s xs h =
 pub returns-then-branch-clause-none : goal.returns-then-branch-clause-none
 returns-then-branch-clause-none c =
     let s = c.args.situation.now in
-    let xs = c.explore.new.list.items in
-    let to_end = walked s xs (c.in_ok-explore.ensures.list c.if-branch.true) in
+    let xs = c.explore-whole.new.list.items in
+    let to_end = walked s xs (c.in_ok-whole.ensures.list c.if-branch.true) in
     let fail = c.a_right_list_refutes.ensures xs (walked_entries s xs (plans_of s.lattice) to_end) (walked_right s xs to_end) in
     (λ impossible. cc, λ some. absurd (some.passes (fail some.number some.known)))
 
 pub returns-then-branch-clause-entries : goal.returns-then-branch-clause-entries
-returns-then-branch-clause-entries c = walked_entries c.args.situation.now c.explore.new.list.items (plans_of c.args.situation.now.lattice) (walked c.args.situation.now c.explore.new.list.items (c.in_ok-explore.ensures.list c.if-branch.true))
+returns-then-branch-clause-entries c = walked_entries c.args.situation.now c.explore-whole.new.list.items (plans_of c.args.situation.now.lattice) (walked c.args.situation.now c.explore-whole.new.list.items (c.in_ok-whole.ensures.list c.if-branch.true))
 
 pub returns-then-branch-clause-list : goal.returns-then-branch-clause-list
-returns-then-branch-clause-list c = walked_canonical c.args.situation.now c.requires.some_choice c.explore.new.list.items (walked c.args.situation.now c.explore.new.list.items (c.in_ok-explore.ensures.list c.if-branch.true))
+returns-then-branch-clause-list c = walked_canonical c.args.situation.now c.requires.some_choice c.explore-whole.new.list.items (walked c.args.situation.now c.explore-whole.new.list.items (c.in_ok-whole.ensures.list c.if-branch.true))
 
 pub returns-then-branch-clause-right : goal.returns-then-branch-clause-right
-returns-then-branch-clause-right c = walked_right c.args.situation.now c.explore.new.list.items (walked c.args.situation.now c.explore.new.list.items (c.in_ok-explore.ensures.list c.if-branch.true))
+returns-then-branch-clause-right c = walked_right c.args.situation.now c.explore-whole.new.list.items (walked c.args.situation.now c.explore-whole.new.list.items (c.in_ok-whole.ensures.list c.if-branch.true))

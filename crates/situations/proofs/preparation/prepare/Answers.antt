@@ -21,51 +21,49 @@ use Rattle.situations.proofs.Nearness.{near_are_held, near_in_order, others_in_o
 use Rattle.situations.proofs.Situated.{in_order, is_situation}
 use Rattle.situations.proofs.preparation.prepare.Goals as goal
 
-same_fault : {T : Type 0} (r : Result T PrepareFault) (x t : PrepareFault) → IsErrAnd r (λ e. e ≡ x) → r ≡ Err t → x ≡ t
-same_fault {T} r x t h e = sym (subst (λ (s : Result T PrepareFault). IsErrAnd s (λ z. z ≡ x)) e h)
-
 fewer : (f : Near → Target) (vs : List Near) → length vs ≤ 64 → length (map f vs) ≤ 64
 fewer f vs h = subst (λ (n : ℕ). n ≤ 64) (sym (length-map vs f)) h
 
-pub returns-in_err-ready-clause-unready : goal.returns-in_err-ready-clause-unready
-returns-in_err-ready-clause-unready c = λ why is numbers messages stands.
+pub returns-in-Err-clause-unready : goal.returns-in-Err-clause-unready
+returns-in-Err-clause-unready c = λ why is numbers messages stands.
     let scenario = c.args.scenario in
-    let why-is = same_fault c.from_residual.result _ (fault.Unready why) c.from_residual.ensures.1 is in
+    let why-is : c.in-Err.why ≡ fault.Unready why = cc is in
     subst (λ (o : Option OwnPart). IfSome o (λ own. own_readiness numbers messages scenario own ≡ Err why)) (sym c.unwrap-own.ensures)
-    (c.in_err-ready.ensures.unready why (ap Err why-is) numbers messages stands)
+    (c.in-Err.ensures.unready why (ap Err why-is) numbers messages stands)
 
-pub returns-in_err-ready-clause-many : goal.returns-in_err-ready-clause-many
+pub returns-in-Err-clause-many : goal.returns-in-Err-clause-many
 unfolding vessels_near
-returns-in_err-ready-clause-many c = λ is numbers messages stands.
+returns-in-Err-clause-many c = λ is numbers messages stands.
     let scenario = c.args.scenario in
-    let why-is = same_fault c.from_residual.result _ fault.TooManyTargets c.from_residual.ensures.1 is in
+    let why-is : c.in-Err.why ≡ fault.TooManyTargets = cc is in
     subst (λ (o : Option OwnPart). IfSome o (HasManyTargets numbers messages scenario))
-    (sym c.unwrap-own.ensures) (c.in_err-ready.ensures.many (ap Err why-is) numbers messages stands)
+    (sym c.unwrap-own.ensures) (c.in-Err.ensures.many (ap Err why-is) numbers messages stands)
 
-pub returns-clause-prepared : goal.returns-clause-prepared
+pub returns-in-Ok-clause-prepared : goal.returns-in-Ok-clause-prepared
 unfolding vessels_near situation_of
-returns-clause-prepared c = λ numbers messages stands.
+returns-in-Ok-clause-prepared c = λ numbers messages stands.
     let scenario = c.args.scenario in
     let own = c.unwrap-own.result in
     let window = scenario.window in
-    let found = c.in_ok-ready.ensures in
-    let ready = c.in_ok-ready.ready in
-    let near : List Near = c.in_ok-ready.near.items in
+    let found = c.in-Ok.found in
+    let told = c.in-Ok.ensures in
+    let ready = found.ready in
+    let near : List Near = found.near.items in
     let vessel : Near = record { mmsi = own.mmsi; latest = ready.latest } in
     let point = point_now (window_end window) ready.latest in
-    let near-is : near ≡ near_of numbers messages (window_end window) (metre * own.range) point = found.near numbers messages stands in
+    let near-is : near ≡ near_of numbers messages (window_end window) (metre * own.range) point = told.near numbers messages stands in
     let part = subst (λ (o : Option OwnPart). IfSome o (IsOwnPart window.tick)) c.unwrap-own.ensures c.requires.in_range.own in
     let grid : IsSized own.lattice = c.is_sized.ensures in
-    let past = c.in_ok-own_past.ensures.value numbers messages stands in
+    let past = told.past numbers messages stands in
     let others = ap (others_of own.mmsi) near-is in
-    let targets = c.new.ensures ∙ c.in_ok-targets.ensures.value numbers messages stands
-    ∙ ap (λ (vs : List Near). map (target_of numbers messages window own) (others_of own.mmsi vs)) (c.deref.ensures.value ∙ near-is) in
-    let few = subst (λ (vs : List Near). length vs ≤ greatest_targets) others found.few in
+    let targets = c.new.ensures ∙ told.targets numbers messages stands
+    ∙ ap (λ (vs : List Near). map (target_of numbers messages window own) (others_of own.mmsi vs)) near-is in
+    let few = subst (λ (vs : List Near). length vs ≤ greatest_targets) others told.few in
     let order = others_in_order own.mmsi (near_of numbers messages (window_end window) (metre * own.range) point) (near_in_order numbers messages (window_end window) (metre * own.range) point) in
-    let start = c.start_of-start.ensures in
+    let start = c.start_of.ensures in
     let situation : Situation = record {
-      own_past = c.in_ok-own_past.own_past;
-      start = c.start_of-start.result;
+      own_past = found.own_past;
+      start = c.start_of.result;
       targets = c.new.result;
       rules = scenario.rules;
       detect = scenario.detect;
@@ -74,9 +72,9 @@ returns-clause-prepared c = λ numbers messages stands.
       tick = window.tick;
       shape = own.shape;
     } in
-    let prepared : Prepared = record { ready = ready; near = c.in_ok-ready.near; situation = situation } in
+    let prepared : Prepared = record { ready = ready; near = found.near; situation = situation } in
     subst (λ (o : Option OwnPart). IfSome o (λ own. IsPrepared numbers messages scenario own prepared)) (sym c.unwrap-own.ensures) (record {
-      is_ready = found.ready numbers messages stands;
+      is_ready = told.ready numbers messages stands;
       near = near-is;
       held = subst (All (λ (v : Near). is_held numbers messages v.mmsi ≡ true)) (sym near-is) (near_are_held numbers messages (window_end window) (metre * own.range) point);
       few = few;
@@ -91,12 +89,12 @@ returns-clause-prepared c = λ numbers messages stands.
         tick = window.tick;
         shape = own.shape;
       };
-      sound = is_situation numbers messages scenario own vessel situation c.requires.in_range part grid found.own.1.fresh past c.in_ok-own_past.ensures.known start.state
+      sound = is_situation numbers messages scenario own vessel situation c.requires.in_range part grid told.own.1.fresh past told.seen start.state
           (ap (λ s. s.point) start.value) refl refl (record {
             course = subst (λ s. IsSome s.direction) (sym start.value) refl;
             speed = subst (λ s. IsSome s.speed) (sym start.value) refl;
             detect = c.requires.in_range.detect.numbers;
             few = subst (λ ts. length ts ≤ 64) (sym targets) (fewer (target_of numbers messages window own) _ few);
             ascending = in_order numbers messages scenario own _ _ order targets;
-          }) (subst (All (IsTargetOver window.ticks (positions_of own.lattice))) (sym c.new.ensures) c.in_ok-targets.ensures.over);
+          }) (subst (All (IsTargetOver window.ticks (positions_of own.lattice))) (sym c.new.ensures) told.over);
     })

@@ -12,29 +12,29 @@ use Rattle.sessions.proofs.work.Work.end.Goals as goal
 
 -- ---- what each kind of work asks for
 
-pub end_audit-requires-clause-remembers : goal.end_audit-requires-clause-remembers
-end_audit-requires-clause-remembers c = subst (λ (w : Work). KeepsEnough w c.args.scenario (keeping_of c.args.judge.now)) c.in-Audit.is c.requires.keeping
+pub end_audit-ending-requires-clause-remembers : goal.end_audit-ending-requires-clause-remembers
+end_audit-ending-requires-clause-remembers c = subst (λ (w : Work). KeepsEnough w c.args.scenario (keeping_of c.args.judge.now)) c.in-Audit.is c.requires.keeping
 
 pub end_plan-requires-clause-keeping : goal.end_plan-requires-clause-keeping
 end_plan-requires-clause-keeping c = subst (λ (w : Work). KeepsEnough w c.args.scenario (keeping_of c.args.judge.now)) c.in-Plan.is c.requires.keeping
 
-pub end_drill-requires-clause-remembers : goal.end_drill-requires-clause-remembers
-end_drill-requires-clause-remembers c = subst (λ (w : Work). KeepsEnough w c.args.scenario (keeping_of c.args.judge.now)) c.in-Drill.is c.requires.keeping
+pub end_drill-ending-requires-clause-remembers : goal.end_drill-ending-requires-clause-remembers
+end_drill-ending-requires-clause-remembers c = subst (λ (w : Work). KeepsEnough w c.args.scenario (keeping_of c.args.judge.now)) c.in-Drill.is c.requires.keeping
 
 pub end_recheck-requires-clause-keeping : goal.end_recheck-requires-clause-keeping
 end_recheck-requires-clause-keeping c = subst (λ (w : Work). KeepsEnough w c.args.scenario (keeping_of c.args.judge.now)) c.in-Recheck.is c.requires.keeping
 
-pub end_watch-requires-clause-remembers : goal.end_watch-requires-clause-remembers
-end_watch-requires-clause-remembers c = subst (λ (w : Work). KeepsEnough w c.args.scenario (keeping_of c.args.judge.now)) c.in-Watch.is c.requires.keeping
+pub end_watch-ending-requires-clause-remembers : goal.end_watch-ending-requires-clause-remembers
+end_watch-ending-requires-clause-remembers c = subst (λ (w : Work). KeepsEnough w c.args.scenario (keeping_of c.args.judge.now)) c.in-Watch.is c.requires.keeping
 
-pub end_audit-requires-clause-at_end : goal.end_audit-requires-clause-at_end
-end_audit-requires-clause-at_end c = audit_here c.args.judge.now c.args.scenario c.in-Audit.audit (subst (λ (w : Work). AtSomeEnd w c.args.judge.now c.args.scenario) c.in-Audit.is c.requires.at_end)
+pub end_audit-ending-requires-clause-at_end : goal.end_audit-ending-requires-clause-at_end
+end_audit-ending-requires-clause-at_end c = audit_here c.args.judge.now c.args.scenario c.in-Audit.audit (subst (λ (w : Work). AtSomeEnd w c.args.judge.now c.args.scenario) c.in-Audit.is c.requires.at_end)
 
-pub end_drill-requires-clause-at_end : goal.end_drill-requires-clause-at_end
-end_drill-requires-clause-at_end c = drill_here c.args.judge.now c.args.scenario c.in-Drill.audit (subst (λ (w : Work). AtSomeEnd w c.args.judge.now c.args.scenario) c.in-Drill.is c.requires.at_end)
+pub end_drill-ending-requires-clause-at_end : goal.end_drill-ending-requires-clause-at_end
+end_drill-ending-requires-clause-at_end c = drill_here c.args.judge.now c.args.scenario c.in-Drill.audit (subst (λ (w : Work). AtSomeEnd w c.args.judge.now c.args.scenario) c.in-Drill.is c.requires.at_end)
 
-pub end_watch-requires-clause-at_end : goal.end_watch-requires-clause-at_end
-end_watch-requires-clause-at_end c = watch_here c.args.judge.now c.args.scenario c.in-Watch.watch (subst (λ (w : Work). AtSomeEnd w c.args.judge.now c.args.scenario) c.in-Watch.is c.requires.at_end)
+pub end_watch-ending-requires-clause-at_end : goal.end_watch-ending-requires-clause-at_end
+end_watch-ending-requires-clause-at_end c = watch_here c.args.judge.now c.args.scenario c.in-Watch.watch (subst (λ (w : Work). AtSomeEnd w c.args.judge.now c.args.scenario) c.in-Watch.is c.requires.at_end)
 
 pub end_plan-requires-clause-at_end : goal.end_plan-requires-clause-at_end
 end_plan-requires-clause-at_end c = judged_there c.args.judge.now c.args.scenario c.args.self c.requires.at_end
@@ -67,48 +67,48 @@ returns-in-Points-clause-cause c =
 
 pub returns-in-Audit-clause-report : goal.returns-in-Audit-clause-report
 returns-in-Audit-clause-report c =
-    subst (λ (w : Work). IfOk c.end_audit.result (EndsWithReport w c.args.judge.now c.args.scenario c.args.asked.now c.args.text)) (sym c.in-Audit.is)
-    (IfOk-weaker c.end_audit.result _ _ (λ ending report. audit_reports c.args.judge.now c.args.scenario c.args.asked.now c.args.text ending c.in-Audit.audit report) c.end_audit.ensures.report)
+    subst (λ (w : Work). IfOk c.end_audit-ending.result (EndsWithReport w c.args.judge.now c.args.scenario c.args.asked.now c.args.text)) (sym c.in-Audit.is)
+    (IfOk-weaker c.end_audit-ending.result _ _ (λ ending report. audit_reports c.args.judge.now c.args.scenario c.args.asked.now c.args.text ending c.in-Audit.audit report) c.end_audit-ending.ensures.report)
 
 pub returns-in-Audit-clause-answer : goal.returns-in-Audit-clause-answer
 returns-in-Audit-clause-answer c =
-    subst (λ (w : Work). IfOk c.end_audit.result (EndsWithAnswer w c.args.judge.now c.args.scenario c.args.asked.now)) (sym c.in-Audit.is)
-    (IfOk-weaker c.end_audit.result _ _ (λ ending answer log given at. let of = audit_of c.args.judge.now c.args.scenario c.in-Audit.audit log given at in answer log of.0 of.1) c.end_audit.ensures.answer)
+    subst (λ (w : Work). IfOk c.end_audit-ending.result (EndsWithAnswer w c.args.judge.now c.args.scenario c.args.asked.now)) (sym c.in-Audit.is)
+    (IfOk-weaker c.end_audit-ending.result _ _ (λ ending answer log given at. let of = audit_of c.args.judge.now c.args.scenario c.in-Audit.audit log given at in answer log of.0 of.1) c.end_audit-ending.ensures.answer)
 
 pub returns-in-Audit-clause-cause : goal.returns-in-Audit-clause-cause
 returns-in-Audit-clause-cause c =
-    subst (λ (w : Work). IfErr c.end_audit.result (EndsWithCause w c.args.judge.now c.args.scenario c.args.asked.now)) (sym c.in-Audit.is)
-    (IfErr-weaker c.end_audit.result _ _ (λ why cause log given at. let of = audit_of c.args.judge.now c.args.scenario c.in-Audit.audit log given at in cause log of.0 of.1) c.end_audit.ensures.cause)
+    subst (λ (w : Work). IfErr c.end_audit-ending.result (EndsWithCause w c.args.judge.now c.args.scenario c.args.asked.now)) (sym c.in-Audit.is)
+    (IfErr-weaker c.end_audit-ending.result _ _ (λ why cause log given at. let of = audit_of c.args.judge.now c.args.scenario c.in-Audit.audit log given at in cause log of.0 of.1) c.end_audit-ending.ensures.cause)
 
 pub returns-in-Drill-clause-report : goal.returns-in-Drill-clause-report
 returns-in-Drill-clause-report c =
-    subst (λ (w : Work). IfOk c.end_drill.result (EndsWithReport w c.args.judge.now c.args.scenario c.args.asked.now c.args.text)) (sym c.in-Drill.is)
-    (IfOk-weaker c.end_drill.result _ _ (λ ending report. drill_reports c.args.judge.now c.args.scenario c.args.asked.now c.args.text ending c.in-Drill.audit report) c.end_drill.ensures.report)
+    subst (λ (w : Work). IfOk c.end_drill-ending.result (EndsWithReport w c.args.judge.now c.args.scenario c.args.asked.now c.args.text)) (sym c.in-Drill.is)
+    (IfOk-weaker c.end_drill-ending.result _ _ (λ ending report. drill_reports c.args.judge.now c.args.scenario c.args.asked.now c.args.text ending c.in-Drill.audit report) c.end_drill-ending.ensures.report)
 
 pub returns-in-Drill-clause-answer : goal.returns-in-Drill-clause-answer
 returns-in-Drill-clause-answer c =
-    subst (λ (w : Work). IfOk c.end_drill.result (EndsWithAnswer w c.args.judge.now c.args.scenario c.args.asked.now)) (sym c.in-Drill.is)
-    (IfOk-weaker c.end_drill.result _ _ (λ ending answer log given at. let of = drill_of c.args.judge.now c.args.scenario c.in-Drill.audit log given at in answer log of.0 of.1) c.end_drill.ensures.answer)
+    subst (λ (w : Work). IfOk c.end_drill-ending.result (EndsWithAnswer w c.args.judge.now c.args.scenario c.args.asked.now)) (sym c.in-Drill.is)
+    (IfOk-weaker c.end_drill-ending.result _ _ (λ ending answer log given at. let of = drill_of c.args.judge.now c.args.scenario c.in-Drill.audit log given at in answer log of.0 of.1) c.end_drill-ending.ensures.answer)
 
 pub returns-in-Drill-clause-cause : goal.returns-in-Drill-clause-cause
 returns-in-Drill-clause-cause c =
-    subst (λ (w : Work). IfErr c.end_drill.result (EndsWithCause w c.args.judge.now c.args.scenario c.args.asked.now)) (sym c.in-Drill.is)
-    (IfErr-weaker c.end_drill.result _ _ (λ why cause log given at. let of = drill_of c.args.judge.now c.args.scenario c.in-Drill.audit log given at in cause log of.0 of.1) c.end_drill.ensures.cause)
+    subst (λ (w : Work). IfErr c.end_drill-ending.result (EndsWithCause w c.args.judge.now c.args.scenario c.args.asked.now)) (sym c.in-Drill.is)
+    (IfErr-weaker c.end_drill-ending.result _ _ (λ why cause log given at. let of = drill_of c.args.judge.now c.args.scenario c.in-Drill.audit log given at in cause log of.0 of.1) c.end_drill-ending.ensures.cause)
 
 pub returns-in-Watch-clause-report : goal.returns-in-Watch-clause-report
 returns-in-Watch-clause-report c =
-    subst (λ (w : Work). IfOk c.end_watch.result (EndsWithReport w c.args.judge.now c.args.scenario c.args.asked.now c.args.text)) (sym c.in-Watch.is)
-    (IfOk-weaker c.end_watch.result _ _ (λ ending report. watch_reports c.args.judge.now c.args.scenario c.args.asked.now c.args.text ending c.in-Watch.watch report) c.end_watch.ensures.report)
+    subst (λ (w : Work). IfOk c.end_watch-ending.result (EndsWithReport w c.args.judge.now c.args.scenario c.args.asked.now c.args.text)) (sym c.in-Watch.is)
+    (IfOk-weaker c.end_watch-ending.result _ _ (λ ending report. watch_reports c.args.judge.now c.args.scenario c.args.asked.now c.args.text ending c.in-Watch.watch report) c.end_watch-ending.ensures.report)
 
 pub returns-in-Watch-clause-answer : goal.returns-in-Watch-clause-answer
 returns-in-Watch-clause-answer c =
-    subst (λ (w : Work). IfOk c.end_watch.result (EndsWithAnswer w c.args.judge.now c.args.scenario c.args.asked.now)) (sym c.in-Watch.is)
-    (IfOk-weaker c.end_watch.result _ _ (λ ending answer log given at. let of = watch_of c.args.judge.now c.args.scenario c.in-Watch.watch log given at in answer log of.0 of.1) c.end_watch.ensures.answer)
+    subst (λ (w : Work). IfOk c.end_watch-ending.result (EndsWithAnswer w c.args.judge.now c.args.scenario c.args.asked.now)) (sym c.in-Watch.is)
+    (IfOk-weaker c.end_watch-ending.result _ _ (λ ending answer log given at. let of = watch_of c.args.judge.now c.args.scenario c.in-Watch.watch log given at in answer log of.0 of.1) c.end_watch-ending.ensures.answer)
 
 pub returns-in-Watch-clause-cause : goal.returns-in-Watch-clause-cause
 returns-in-Watch-clause-cause c =
-    subst (λ (w : Work). IfErr c.end_watch.result (EndsWithCause w c.args.judge.now c.args.scenario c.args.asked.now)) (sym c.in-Watch.is)
-    (IfErr-weaker c.end_watch.result _ _ (λ why cause log given at. let of = watch_of c.args.judge.now c.args.scenario c.in-Watch.watch log given at in cause log of.0 of.1) c.end_watch.ensures.cause)
+    subst (λ (w : Work). IfErr c.end_watch-ending.result (EndsWithCause w c.args.judge.now c.args.scenario c.args.asked.now)) (sym c.in-Watch.is)
+    (IfErr-weaker c.end_watch-ending.result _ _ (λ why cause log given at. let of = watch_of c.args.judge.now c.args.scenario c.in-Watch.watch log given at in cause log of.0 of.1) c.end_watch-ending.ensures.cause)
 
 pub returns-in-Plan-clause-report : goal.returns-in-Plan-clause-report
 returns-in-Plan-clause-report c =

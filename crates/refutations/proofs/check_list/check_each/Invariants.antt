@@ -1,7 +1,7 @@
 use Rattle.std.proofs.Common.{ℕ, ◌≡◌, ◌<◌, take}
 use Rattle.refutations.specs.Inner.Replays.{situation_in, IsReplay}
 use Rattle.refutations.specs.RightLists.{ends_from, IsSoundAt}
-use Rattle.refutations.proofs.check_list.check.Given as goal
+use Rattle.refutations.proofs.check_list.check_each.Given as goal
 
 abbrev pub invariant-loop-k : goal.invariant-loop-k
 invariant-loop-k l = record {
