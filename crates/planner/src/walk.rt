@@ -4,21 +4,21 @@ ghost use Rattle.lattice.specs.Grids.{choices_of};
 ghost use Rattle.lattice.specs.PlanNumbers.{plan_of};
 ghost use Rattle.mtl_monitor.specs.Following.{Fits, HasRoom};
 ghost use Rattle.planner.specs.Inner.Legs.{IsPathIn, IsPlannedLeg};
-ghost use Rattle.planner.specs.Inner.Levels.{AreEarly, HasTargets, IsBasis, StandsAt, StaysOut};
+ghost use Rattle.planner.specs.Inner.Levels.{AreEarly, ArePlaces, HasTargets, IsBasis, IsPrepared, StandsAt, StaysOut};
 ghost use Rattle.planner.specs.Walks.{HasPlace, IsFirstFailing, IsGround, IsWalk, Keeps};
 ghost use Rattle.situations.specs.FailingPlans.{FailsBy};
 ghost use Rattle.situations.specs.Prefixes.{reached};
 ghost use Rattle.situations.specs.Situations.{IsSituation};
 
-use crate::basis::SearchBasis;
-use crate::legs::{PlannedLeg, own_at_leg};
+use crate::basis::{SearchBasis, watched_at_now};
+use crate::legs::{PlannedLeg, leg_lasts, own_at_leg};
 use crate::level::Level;
-use crate::search::{places, prepared};
 use crate::towards::Towards;
 use crate::watched::Watched;
 use motion::TickState;
 use mtl_monitor::TraceState;
 use outside::Memory;
+use rule_program::{are_no_last, program_of};
 use situations::Situation;
 use std::alloc::Global;
 
@@ -28,6 +28,42 @@ pub struct Walk {
     pub basis: SearchBasis,
     pub start: Level,
     pub below: Vec<Level>,
+}
+
+/// The rules as one program and what is broken at now, and what is kept there.
+fn prepared(alloc: Global, situation: &Situation) -> Result<(SearchBasis, Level), Memory>
+    requires { IsSituation situation.now }
+    ensures { IfOk result (λ pair. IsPrepared situation.now pair.0 pair.1) }
+{
+    let program = program_of(alloc, &situation.rules)?;
+    let mut ending = TraceState::new(alloc, &program)?;
+    let mut already = Vec::new(alloc);
+    let mut watched = Vec::new(alloc);
+    for target in situation.targets.as_slice() {
+        let here = watched_at_now(alloc, situation, &program, target)?;
+        already.push(here.already(alloc, &program, &mut ending)?)?;
+        watched.push(here)?;
+    }
+    let start = Level::at_now(alloc, &program, watched)?;
+    let basis = SearchBasis {
+        program,
+        no_last: are_no_last(&situation.rules),
+        already,
+    };
+    Ok((basis, start))
+}
+
+/// The places for each leg.
+fn places(alloc: Global, situation: &Situation, basis: &SearchBasis) -> Result<Vec<Level>, Memory>
+    requires { IsBasis situation.now basis.now }
+    ensures { IfOk result (λ below. ArePlaces situation.now basis.now 0 below.items) }
+{
+    let mut below = Vec::new(alloc);
+    for leg in 0..situation.lattice.legs() {
+        let ticks = leg_lasts(situation, leg);
+        below.push(Level::new(alloc, situation, basis, ticks)?)?;
+    }
+    Ok(below)
 }
 
 impl Walk {

@@ -2,17 +2,13 @@ use Rattle.std.proofs.Common.{◌≡◌, ℕ, ◌+◌, ◌*◌, ◌^◌, length,
 use Rattle.lattice.specs.Grids.{choices_of}
 use Rattle.planner.specs.Inner.Walk.{IsFirst}
 use Rattle.planner.proofs.Blocks.{first_is_least}
-use Rattle.planner.proofs.Extending.{after_none}
 use Rattle.planner.proofs.search.Search.run.Goals as goal
-
-pub explore-requires-clause-from : goal.explore-requires-clause-from
-explore-requires-clause-from c = after_none c.args.self.now.situation c.args.self.now.basis c.args.self.now.start c.requires.prepared
 
 pub returns-clause-answer : goal.returns-clause-answer
 returns-clause-answer c =
     let s = c.args.self.now.situation in
-    let some = c.requires.prepared.is_basis.is_situation.some_leg in
-    let choice = c.requires.prepared.is_basis.is_situation.some_choice in
+    let some = c.requires.ground.is_situation.some_leg in
+    let choice = c.requires.ground.is_situation.some_choice in
     let count = c.requires.places.count in
     let long : length c.deref_mut.result.now ≡ s.lattice.legs = omega (arith, ap length c.deref_mut.ensures.value) in
     let first = subst (λ (n : ℕ). IsFirst s (0 * choices_of s.lattice ^ n) ((0 + 1) * choices_of s.lattice ^ n) c.in_ok-number.number) long c.in_ok-number.ensures.answer in

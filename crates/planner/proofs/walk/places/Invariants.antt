@@ -1,7 +1,7 @@
 use Rattle.std.proofs.Common.{◌≡◌, ℕ, ◌<◌, length, get_or}
 use Rattle.planner.specs.Inner.Levels.{HasPlaces}
 use Rattle.planner.specs.declared.level.Level.{Level}
-use Rattle.planner.proofs.search.places.Given as goal
+use Rattle.planner.proofs.walk.places.Given as goal
 
 abbrev pub invariant-loop-leg : goal.invariant-loop-leg
 invariant-loop-leg l = record {

@@ -2,7 +2,7 @@ use Rattle.std.proofs.Common.{◌≡◌, ℕ, ◌+◌, ◌∷◌, [], length, ge
 use Rattle.planner.specs.Inner.Levels.{HasPlaces}
 use Rattle.planner.specs.declared.level.Level.{Level}
 use Rattle.planner.proofs.AtNow.{push_at}
-use Rattle.planner.proofs.search.places.Goals as goal
+use Rattle.planner.proofs.walk.places.Goals as goal
 
 pub loop-leg-preserved : goal.loop-leg-preserved
 loop-leg-preserved c =

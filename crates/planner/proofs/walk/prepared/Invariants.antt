@@ -7,7 +7,7 @@ use Rattle.situations.specs.Situations.{now_of}
 use Rattle.planner.specs.declared.already.Already.{Already}
 use Rattle.situations.specs.declared.situation.Target.{Target}
 use Rattle.planner.specs.declared.watched.Watched.{Watched}
-use Rattle.planner.proofs.search.prepared.Given as goal
+use Rattle.planner.proofs.walk.prepared.Given as goal
 
 abbrev pub invariant-loop-target : goal.invariant-loop-target
 invariant-loop-target l = record {

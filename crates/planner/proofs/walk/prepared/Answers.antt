@@ -9,7 +9,7 @@ use Rattle.planner.specs.declared.already.Already.{Already}
 use Rattle.situations.specs.declared.situation.Target.{Target}
 use Rattle.planner.specs.declared.watched.Watched.{Watched}
 use Rattle.planner.proofs.AtNow.{push_at, stands_at_now, told_at_now}
-use Rattle.planner.proofs.search.prepared.Goals as goal
+use Rattle.planner.proofs.walk.prepared.Goals as goal
 
 pub loop-target-preserved : goal.loop-target-preserved
 loop-target-preserved c =
