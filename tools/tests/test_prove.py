@@ -11,32 +11,30 @@ from given import InFolder, TOP, text_of
 RT = '''#!/usr/bin/env python3
 import os, subprocess, sys
 with open(os.environ["CALLS"], "a") as out:
-    out.write(" ".join([os.path.basename(os.getcwd()), *sys.argv[1:]]) + "\\n")
+    out.write(" ".join(sys.argv[1:]) + "\\n")
+    if sys.argv[1] == "ci":
+        out.write(open("crates.txt").read())
 def at_work(*crates):
     runs = [subprocess.Popen([sys.executable, "-c", "import sys, time; time.sleep(float(sys.argv[1]))", os.environ.get("TAKES", "0"), "--crate-name", it]) for it in crates]
     [it.wait() for it in runs]
-if sys.argv[1:3] == ["all", "check"]:
-    print("rt: a line before any crate\\n== low\\nlogic=proved\\n== middle\\nlogic=proved", flush=True)
+if sys.argv[1] == "ci":
+    assert not os.path.exists("crates/low/must-fail") and not os.path.exists("crates/low/out"), "more than what is proved"
+    print("rt: a line before any crate\\n== low\\nlogic=proved\\nrt: low proved\\nrt: middle is kept: an earlier run proved it", flush=True)
     at_work("high", *os.environ.get("BESIDE", "").split())
     failed = "FAILS" in os.environ
-    print("== high\\n" + ("error: this is why" if failed else "logic=proved"))
-    print("== colregs\\n== summary\\nlow: ok\\nmiddle: ok")
-    print("high: failed (1)\\ncolregs: not run, since high failed" if failed else "high: ok\\ncolregs: ok")
-    sys.exit(1 if failed else 0)
-if sys.argv[1] == "lib":
-    at_work(os.path.basename(os.getcwd()))
-    if "FAILS" in os.environ:
-        sys.exit("error: this is why")
-if sys.argv[1] == "run":
+    print("== high\\n" + ("error: this is why\\nrt: high NOT PROVED" if failed else "logic=proved\\nrt: high proved"))
+    if failed:
+        print("rt: colregs NOT PROVED: its library high failed\\nrt: FAILED: high colregs\\n2 passed, 2 failed")
+        sys.exit(1)
     at_work("colregs")
     if "UNLINKED" in os.environ:
         sys.exit("no linker")
-    os.makedirs("out", exist_ok=True)
-    with open("out/colregs", "w") as out:
+    os.makedirs("crates/colregs/out", exist_ok=True)
+    with open("crates/colregs/out/colregs", "w") as out:
         out.write("#!/bin/sh\\necho ran $*; cat\\n")
-    os.chmod("out/colregs", 0o755)
-    print("rt: running out/colregs; to give it other input, run that file yourself")
-    sys.exit(2)
+    os.chmod("crates/colregs/out/colregs", 0o755)
+    print("== colregs\\nlogic=proved\\nrt: colregs proved\\n4 passed, 0 failed")
+    sys.exit(0)
 if sys.argv[1] == "try":
     print("tried", sys.stdin.read())
     sys.exit(7)
@@ -46,11 +44,12 @@ if sys.argv[1] == "try":
 class Prove(InFolder):
     def setUp(self):
         super().setUp()
-        for name in ("crates/colregs", "crates/high", "tools", "bin", "docs"):
+        for name in ("crates/colregs", "crates/high", "crates/middle", "crates/low/must-fail", "crates/low/out", "tools", "bin", "docs"):
             os.makedirs(self.path(name))
-        for name in ("colregs", "tools/prove", "tools/unproved", "docs/colregs.1"):
+        for name in ("colregs", "tools/prove", "tools/unproved", "docs/colregs.1", "HANDLES"):
             shutil.copy(os.path.join(TOP, name), self.path(name))
-        self.write("crates.txt", "low:\nmiddle: low toml\nhigh: middle low\ncolregs: high\nhigh_rows: high  # tests\n")
+        self.crates = "low:\nmiddle: low toml\nhigh: middle low\ncolregs: high\n"
+        self.write("crates.txt", self.crates + "high_rows: high  # tests\n")
         os.chmod(self.write("bin/rt", RT), 0o755)
         self.write("log", "a log\n")
         self.calls = self.path("calls")
@@ -68,12 +67,12 @@ class Prove(InFolder):
     def test_the_first_command_proves_builds_and_runs_and_the_second_only_runs(self):
         status, out, err = self.run_of("./colregs", "points", "a.toml")
         self.assertEqual((status, out), (0, "ran points a.toml\na log\n"), err)
-        self.assertRegex(err, "^colregs: proving 4 crates, [0-9]+ at once")
-        self.assertRegex(err, "(all 4|2 of 4) crates are proved")
-        calls = text_of(self.calls).splitlines()
-        self.assertEqual([call.split(" --jobs ")[0] for call in calls if call[:8] != "high lib"], ["colregs all check", "colregs run"])
-        self.assertRegex(calls[-1], "^colregs run --jobs [0-9]+$")
+        self.assertIn("colregs: proving 4 crates side by side", err)
+        self.assertIn("all 4 crates are proved, and the program is built", err)
+        called, *names = text_of(self.calls).splitlines()
+        self.assertEqual((called, sorted(names)), ("ci", sorted(self.crates.splitlines())))
         self.assertEqual(self.run_of("./colregs", "points", "a.toml"), (0, "ran points a.toml\na log\n", ""))
+        self.assertEqual(os.listdir(self.path("crates/colregs/out")), ["colregs"])
 
     def test_a_source_that_is_newer_builds_anew(self):
         self.run_of("./colregs", "points", "a.toml")
@@ -82,33 +81,17 @@ class Prove(InFolder):
         os.utime(self.write("crates/low/src/lib.rt", ""), (later, later))
         self.assertIn("proving 4 crates", self.run_of("./colregs", "points", "a.toml")[2])
 
-    def test_lines_tell_which_crate_is_at_work(self):
-        status, _, err = self.run_of(sys.executable, "tools/prove", "--each", "0.5", "--jobs", "3", TAKES="2.2", BESIDE="middle")
+    def test_lines_tell_which_crates_are_at_work(self):
+        status, _, err = self.run_of(sys.executable, "tools/prove", "--each", "0.5", TAKES="2.2", BESIDE="beside")
         self.assertEqual(status, 0)
-        self.assertIn("proving 4 crates, 3 at once", err)
-        self.assertRegex(err, r"colregs: crate 3 of 4, (high|middle), [12] s; crate 4 of 4, (high|middle), [12] s\n")
-        self.assertIn("all 4 crates are proved", err)
-
-    def test_crates_that_wait_for_one_another_have_all_processors(self):
-        status, _, err = self.run_of(sys.executable, "tools/prove", "--each", "0.5", TAKES="2.2")
-        self.assertEqual(status, 0)
-        self.assertIn("2 of 4 crates are proved, and the others wait for one another", err)
-        self.assertRegex(err, r"colregs: crate 3 of 4, high, [012] s\n")
-        calls = text_of(self.calls).splitlines()
-        self.assertEqual([call.split(" --jobs ")[0] for call in calls], ["colregs all check", "high lib", "colregs run"])
-
-    def test_a_crate_that_fails_by_itself_is_told_with_its_words(self):
-        status, _, err = self.run_of(sys.executable, "tools/prove", TAKES="2.2", FAILS="1")
-        self.assertEqual(status, 1)
-        self.assertIn("error: this is why", err)
-        self.assertNotIn("colregs run", text_of(self.calls))
+        self.assertRegex(err, r"colregs: crate 3 of 4, (high|beside), [12] s; crate 4 of 4, (high|beside), [12] s\n")
+        self.assertRegex(err, r"colregs: crate 4 of 4, colregs, [12] s\n")
 
     def test_a_crate_that_fails_is_told_with_its_words(self):
-        self.assertEqual(self.run_of("./colregs", "points", "a.toml", FAILS="1", TAKES="1")[0], 1)
-        status, _, err = self.run_of("./colregs", "points", "a.toml", FAILS="1", BESIDE="middle")
+        status, _, err = self.run_of("./colregs", "points", "a.toml", FAILS="1")
         self.assertEqual(status, 1)
         self.assertIn("error: this is why", err)
-        self.assertIn("high: failed (1)", err)
+        self.assertIn("rt: FAILED: high colregs", err)
         self.assertIn("2 of 4 crates are proved, and are kept", err)
 
     def test_a_program_of_before_is_not_run_where_none_could_be_built(self):
@@ -142,5 +125,5 @@ class Prove(InFolder):
         status, out, err = self.run_of("./colregs", "--unproved", "recheck", "s.toml", "--rows=" + self.write("why.csv", ""), "--ticks", "4")
         self.assertEqual((status, out), (7, "tried a log\n\n"))
         self.assertIn("nothing is proved yet", err)
-        self.assertEqual(text_of(self.calls), "colregs try --seconds 3600 --data s.toml=%s --data file2=%s -- recheck s.toml --rows=file2 --ticks 4\n"
+        self.assertEqual(text_of(self.calls), "try --seconds 3600 --data s.toml=%s --data file2=%s -- recheck s.toml --rows=file2 --ticks 4\n"
                          % (self.path("s.toml"), self.path("why.csv")))
