@@ -3,8 +3,8 @@ use Rattle.std.proofs.Common.{◌≡◌, ◌⊎◌, ◌≤◌, ◌<◌, inl, inr
 use Rattle.std.specs.Prelude.{codes, get_or}
 use Rattle.toml.specs.Data.{Data, as_str}
 use Rattle.mtl_formulas.specs.FormulaTree.{FormulaTree}
-use Rattle.mtl_formulas.specs.FormulaReading.{Meaning, tree, syntax_fault, number_fault, size_fault, IsMeaning}
-use Rattle.mtl_formulas.proofs.ForCallers.{one_meaning_each}
+use Rattle.formula_language.specs.FormulaReading.{Meaning, tree, syntax_fault, number_fault, size_fault, IsMeaning}
+use Rattle.formula_language.proofs.ForCallers.{one_meaning_each}
 use Rattle.rule_set.specs.NamedTrees.{NamedTree, rule_named, rules_by}
 use Rattle.rule_set.specs.declared.numbers.RuleNumbers.{RuleNumbers}
 use Rattle.rule_set.specs.declared.ranking.Ranking.{Ranking}

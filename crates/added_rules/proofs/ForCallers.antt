@@ -4,8 +4,8 @@ use Rattle.std.proofs.Common.{◌≡◌, inl, inr, ℕ, List, [], ◌∷◌, ◌
 use Rattle.std.specs.Prelude.{codes}
 use Rattle.toml.specs.Data.{Data, as_str}
 use Rattle.mtl_formulas.specs.FormulaTree.{FormulaTree}
-use Rattle.mtl_formulas.specs.FormulaReading.{tree}
-use Rattle.mtl_formulas.proofs.Meanings.{one_meaning}
+use Rattle.formula_language.specs.FormulaReading.{tree}
+use Rattle.formula_language.proofs.Meanings.{one_meaning}
 use Rattle.rule_set.specs.NamedTrees.{NamedTree, rule_named, rules_by}
 use Rattle.rule_set.specs.declared.numbers.RuleNumbers.{RuleNumbers}
 use Rattle.rule_set.specs.declared.ranking.Ranking.{Ranking}

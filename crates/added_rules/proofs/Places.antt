@@ -1,8 +1,8 @@
 -- The places of a text's faults lie within it.
 use Rattle.std.proofs.Common.{◌≡◌, ℕ, zero, suc, ◌≤◌, ◌<◌, ◌+◌, ◌-◌, ◌==◌, true, false, if◌then◌else◌, inl, inr, List, [], ◌∷◌, ◌++◌, length, All, refl, subst, arith}
 use Rattle.std.proofs.lemmas.List.Elements.{All-cons}
-use Rattle.mtl_formulas.specs.FormulaTokens.{front_run, run_token, tokens_from, tokens_of}
-use Rattle.mtl_formulas.specs.FormulaReading.{is_refused_token, refused_indices, IsNumberFault, IsSyntaxFault}
+use Rattle.formula_language.specs.FormulaTokens.{front_run, run_token, tokens_from, tokens_of}
+use Rattle.formula_language.specs.FormulaReading.{is_refused_token, refused_indices, IsNumberFault, IsSyntaxFault}
 use Rattle.scenario_keys.proofs.ForCallers.{all_append, all_back, all_head, all_none}
 
 below_from : (most behind index : ℕ) (text : List ℕ) → index + length text ≤ most → All (λ p. p.index < most) (tokens_from behind index text)

@@ -3,7 +3,7 @@ use Rattle.std.specs.Prelude.{◌≡◌, ◌⊎◌, ℕ, ◌≤◌, ◌<◌, ◌
 use Rattle.std.specs.Char.{is_ascii_digit}
 use Rattle.std.specs.List.{list_all, list_any}
 use Rattle.toml.specs.Data.{Data, as_str}
-use Rattle.mtl_formulas.specs.FormulaReading.{Meaning, tree, syntax_fault, number_fault, size_fault, IsMeaning}
+use Rattle.formula_language.specs.FormulaReading.{Meaning, tree, syntax_fault, number_fault, size_fault, IsMeaning}
 use Rattle.rule_set.specs.declared.ranking.Ranking.{Ranking}
 use Rattle.rule_set.specs.declared.ranking.Ranking.TheVariants.{Ignored, Counted}
 use Rattle.scenario_keys.specs.KeyValues.{member_at}

@@ -4,5 +4,5 @@ pub use Rattle.rule_set.specs.RuleTrees
 pub use Rattle.rule_set.specs.NamedTrees
 pub use Rattle.mtl_formulas.specs.FormulaTree
 pub use Rattle.mtl_formulas.specs.FormulaMeasures
-pub use Rattle.mtl_formulas.specs.FormulaReading
+pub use Rattle.formula_language.specs.FormulaReading
 pub mod Inner

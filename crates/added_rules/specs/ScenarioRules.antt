@@ -2,7 +2,7 @@
 -- the test of their weight finds.
 use Rattle.std.specs.Prelude.{◌≡◌, ℕ, nat_le, if◌then◌else◌, List, [], ◌∷◌, ◌++◌, Option, Some, None}
 use Rattle.toml.specs.Data.{Data}
-use Rattle.mtl_formulas.specs.FormulaReading.{tree, IsMeaning}
+use Rattle.formula_language.specs.FormulaReading.{tree, IsMeaning}
 use Rattle.rule_set.specs.NamedTrees.{NamedTree, rules_by}
 use Rattle.rule_set.specs.declared.numbers.RuleNumbers.{RuleNumbers}
 use Rattle.rule_set.specs.declared.ranking.Ranking.{Ranking}

@@ -2,13 +2,13 @@
 ghost use Rattle.std.specs.Prelude.{◌≡◌, ◌≤◌, length, option_map, IfErr, IfOk, Some, None};
 ghost use Rattle.toml.specs.View.{view};
 ghost use Rattle.mtl_formulas.specs.FormulaTree.{tree_of};
-ghost use Rattle.mtl_formulas.specs.FormulaMeasures.{IsValid};
-ghost use Rattle.mtl_formulas.specs.FormulaReading.{tree, IsMeaning};
-ghost use Rattle.mtl_formulas.specs.FormulaText.{IsTick};
+ghost use Rattle.mtl_formulas.specs.FormulaMeasures.{IsValid, IsTick};
+ghost use Rattle.formula_language.specs.FormulaReading.{tree, IsMeaning};
 ghost use Rattle.scenario_keys.specs.ToldFaults.{IfFault};
 ghost use Rattle.added_rules.specs.FormulaTables.{string_in, HasCause, IsBytesCause, IsTextCause};
 
-use mtl_formulas::{Formula, ParseFault, parse};
+use formula_language::{ParseFault, parse};
+use mtl_formulas::Formula;
 use scenario_keys::{Cause, Key, ScenarioFault};
 use std::alloc::Global;
 use toml::Value;

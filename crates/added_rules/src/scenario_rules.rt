@@ -1,7 +1,7 @@
 //! The rules of a scenario.
 ghost use Rattle.std.specs.Prelude.{◌≡◌, ◌⊎◌, ◌≤◌, ◌<◌, nat_le, length, map, IfErr, IfOk, OnOk, Some, None};
 ghost use Rattle.toml.specs.View.{view};
-ghost use Rattle.mtl_formulas.specs.FormulaText.{IsTick};
+ghost use Rattle.mtl_formulas.specs.FormulaMeasures.{IsTick};
 ghost use Rattle.rule_set.specs.NamedTrees.{has_rule, rules_by, AreRules};
 ghost use Rattle.rule_set.specs.RuleTrees.{AreRuleNumbers};
 ghost use Rattle.scenario_keys.specs.ToldFaults.{IfFault};
@@ -13,7 +13,7 @@ ghost use Rattle.added_rules.specs.Inner.{Adds};
 use crate::formula_names::name_in;
 use crate::formula_texts::formula_in;
 use mtl_formulas::weight;
-use outside::Memory;
+use out_of_memory::Memory;
 use rule_set::{Ranking, RuleNumbers, RuleSet};
 use scenario_keys::{Cause, Key, ScenarioFault, member};
 use std::alloc::Global;

@@ -7,7 +7,7 @@ ghost use Rattle.ais_messages.specs.declared.message.Decoded.TheVariants as deco
 
 use crate::message::PositionReport;
 use aivdm::Bits;
-use outside::Memory;
+use out_of_memory::Memory;
 use std::alloc::Global;
 
 /// Writes a position report of kind 1, 2, 3 or 18 as the 168 bits of its message (ITU-R M.1371-5, annex 8, tables 48 and 70), which

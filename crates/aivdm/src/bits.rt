@@ -6,7 +6,7 @@ ghost use Rattle.aivdm.specs.PayloadBits.{bits_of, is_armour, six_bits};
 ghost use Rattle.aivdm.specs.Inner.Sextets.{bits_in, sextets_of, AreSextets};
 
 use crate::bit_slice::BitSlice;
-use outside::Memory;
+use out_of_memory::Memory;
 use smallvec::SmallVec;
 use std::alloc::Global;
 use std::marker::Model;

@@ -12,7 +12,7 @@ ghost use Rattle.aivdm.specs.Sentences.{fields_seen, IsSentence};
 
 use crate::bits::Bits;
 use crate::sentence::Sentence;
-use outside::Memory;
+use out_of_memory::Memory;
 use std::alloc::Global;
 use std::marker::Model;
 use std::mem;

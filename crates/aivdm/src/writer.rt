@@ -8,7 +8,7 @@ ghost use Rattle.aivdm.specs.Armouring.{armour_of, payload_of};
 
 use crate::bits::Bits;
 use crate::checksum::sum_of;
-use outside::Memory;
+use out_of_memory::Memory;
 use std::alloc::Global;
 
 /// Writes a message as a line: a tag block with `c:` alone where there is a stamp, in seconds since the Unix epoch, and one

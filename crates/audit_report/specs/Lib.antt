@@ -1,3 +1,3 @@
-pub mod CsvRows
+pub use Rattle.csv_rows.specs.CsvRows
 pub mod ReportRows
 pub mod ReportTexts

@@ -9,12 +9,9 @@ use Rattle.meetings.specs.declared.pair.Pair.{Pair}
 use Rattle.auditor.specs.declared.total.Total.{Total}
 use Rattle.log_lines.specs.LineOutcomes.{outcome_name}
 use Rattle.log_lines.specs.declared.outcome.LineOutcome.{LineOutcome}
-use Rattle.audit_report.specs.CsvRows.{optional_decimal, row_of}
+use Rattle.csv_rows.specs.CsvRows.{optional_decimal, row_of, Fields}
 use Rattle.audit_report.specs.declared.report_row.ReportRow.{ReportRow}
 use Rattle.audit_report.specs.declared.report_row.ReportRow.TheVariants as row
-
-abbrev pub Fields : Type 0
-Fields = List (List ℕ)
 
 -- the vessel, the time, the place to the east and to the north in tenths of a millimetre, speed and course where they are known
 abbrev pub point_fields : ℕ → ℕ → Point → Option ℕ → Option ℕ → Fields

@@ -7,7 +7,6 @@
 //! When a row is written has no place here.
 #![tactic(auto)]
 
-mod digits;
 mod report_row;
 mod report_text;
 

@@ -16,7 +16,7 @@ use crate::mark::Mark;
 use crate::row::Row;
 use crate::sort_key::SortKey;
 use crate::topic::Topic;
-use outside::Memory;
+use out_of_memory::Memory;
 use std::alloc::Global;
 use std::collections::BTreeMap;
 

@@ -11,7 +11,7 @@ use Rattle.mtl_formulas.specs.declared.verdict.Verdict.{Verdict}
 use Rattle.mtl_formulas.specs.declared.verdict.Verdict.TheVariants.{No, Open, Yes}
 use Rattle.mtl_formulas.specs.FormulaValue.{answer_at}
 use Rattle.mtl_formulas.specs.VerdictOrder.{turned_round, least, greatest}
-use Rattle.mtl_monitor.specs.Traces.{Trace, value_in}
+use Rattle.mtl_formulas.specs.Traces.{Trace, value_in}
 use Rattle.rule_set.specs.RuleTrees.{passes_safely}
 use Rattle.rule_set.specs.declared.numbers.Safe.TheVariants.{One, PerKind}
 use Rattle.encounters.specs.Engagement.{seen_at}

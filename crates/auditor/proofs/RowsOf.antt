@@ -2,7 +2,7 @@
 use Rattle.std.proofs.Common.{◌≡◌, ℕ, ◌+◌, ◌-◌, ◌<◌, ◌≤◌, List, [], ◌∷◌, ◌++◌, length, append-nil, refl, sym, ap, subst, ◌∙◌, arith, inl, inr}
 use Rattle.std.specs.List.{Contains}
 use Rattle.mtl_formulas.specs.FormulaTree.{FormulaTree}
-use Rattle.mtl_monitor.specs.Traces.{Trace}
+use Rattle.mtl_formulas.specs.Traces.{Trace}
 use Rattle.audit_rows.specs.Order.{first_step_of, last_step_of}
 use Rattle.audit_rows.specs.Rows.{AreRows, AreRowsBelow, IsRow, IsRowOf}
 use Rattle.audit_rows.specs.Tracks.{AreSettled, Track, next_step}

@@ -8,7 +8,7 @@ use Rattle.std.proofs.Common.{drop-set-lt}
 use Rattle.encounters.specs.Standing.{IsStateAfter}
 use Rattle.encounters.specs.declared.pair_step.PairStep.{PairStep}
 use Rattle.mtl_formulas.specs.FormulaTree.{FormulaTree}
-use Rattle.mtl_monitor.specs.Traces.{Trace}
+use Rattle.mtl_formulas.specs.Traces.{Trace}
 use Rattle.mtl_monitor.specs.Following.{IsProgramOf, count_of}
 use Rattle.mtl_monitor.specs.declared.program.Program.{Program}
 use Rattle.meetings.specs.Answers.{answer_of}

@@ -2,7 +2,7 @@
 use Rattle.std.specs.Prelude.{ℕ, ◌≡◌, ◌≤◌, ◌<◌, ◌↔◌, List, length, Option, Some, IsSomeAnd}
 use Rattle.closest_approach.specs.Separation.{IsSeparated}
 use Rattle.sectors.specs.declared.class.Class.{Class}
-use Rattle.mtl_monitor.specs.Traces.{Trace, value_in}
+use Rattle.mtl_formulas.specs.Traces.{Trace, value_in}
 use Rattle.rule_set.specs.NamedTrees.{rule_at}
 use Rattle.encounters.specs.Engagement.{IsEngaged, IsState, seen_at}
 use Rattle.encounters.specs.declared.detect.Detect.{Detect}

@@ -4,7 +4,7 @@ pub use Rattle.audit_rows.specs.Stretches
 pub use Rattle.audit_rows.specs.Tracks
 pub use Rattle.meetings.specs.Atoms
 pub use Rattle.meetings.specs.Traces
-pub use Rattle.mtl_monitor.specs.Traces as MonitorTraces
+pub use Rattle.mtl_formulas.specs.Traces as MonitorTraces
 pub use Rattle.rule_set.specs.NamedTrees
 pub use Rattle.traces.specs.Audited
 pub mod SettledRows

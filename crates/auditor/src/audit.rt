@@ -21,7 +21,7 @@ use audit_rows::{Row, RowQueue};
 use encounters::{Act, Detect};
 use motion::TickState;
 use mtl_monitor::Program;
-use outside::Memory;
+use out_of_memory::Memory;
 use ranks::Rank;
 use rule_program::program_of;
 use rule_set::RuleSet;

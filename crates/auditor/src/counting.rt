@@ -8,7 +8,7 @@ ghost use Rattle.auditor.specs.Tallies.{AreTallies, is_of_rule};
 
 use crate::total::Total;
 use audit_rows::{MarkCounts, RowQueue, Topic};
-use outside::Memory;
+use out_of_memory::Memory;
 use std::alloc::Global;
 
 /// Counts a track for its rule, if it is a rule's.

@@ -21,7 +21,7 @@ use audit_rows::{RowQueue, Topic};
 use meetings::Pair;
 use motion::TickState;
 use mtl_monitor::Program;
-use outside::Memory;
+use out_of_memory::Memory;
 use std::alloc::Global;
 use traces::AllTraces;
 

@@ -4,7 +4,7 @@ ghost use Rattle.encounters.specs.declared.pair_step.PairStep.{PairStep};
 ghost use Rattle.meetings.specs.Atoms.{AreRankedRows};
 ghost use Rattle.meetings.specs.Terms.{Terms};
 ghost use Rattle.meetings.specs.declared.by_rank.ByRank.{ByRank};
-ghost use Rattle.mtl_monitor.specs.Traces.{Trace, value_in};
+ghost use Rattle.mtl_formulas.specs.Traces.{Trace, value_in};
 ghost use Rattle.rule_set.specs.RuleTrees.{passes_safely};
 ghost use Rattle.rule_set.specs.declared.numbers.Safe.TheVariants.{One, PerKind};
 ghost use Rattle.audit_rows.specs.declared.row.Row.{Row};

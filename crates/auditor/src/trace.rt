@@ -16,7 +16,7 @@ use encounters::{EngagementState, PairStep};
 use meetings::AtomRow;
 use mtl_formulas::Verdict;
 use mtl_monitor::{Program, TraceState};
-use outside::Memory;
+use out_of_memory::Memory;
 use std::alloc::Global;
 
 /// What the meeting's track has at a step: the kind of the engagement, and the least distance within the step.

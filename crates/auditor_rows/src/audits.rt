@@ -12,7 +12,7 @@ use encounters::{Act, Detect};
 use fixed_geometry::Point;
 use meetings::Pair;
 use motion::TickState;
-use outside::Memory;
+use out_of_memory::Memory;
 use ranks::Rank;
 use rule_set::{RuleNumbers, RuleSet, Safe};
 use scenario_values::Window;

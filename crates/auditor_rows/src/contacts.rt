@@ -8,7 +8,7 @@ use crate::compared::is;
 use fixed_geometry::Point;
 use meetings::{Pair, contact};
 use motion::TickState;
-use outside::Memory;
+use out_of_memory::Memory;
 use std::alloc::Global;
 use std::process::Abort;
 use traces::{contacts, state_of};

@@ -3,7 +3,7 @@ use crate::queues::{Step, comes_to};
 use audit_rows::{Mark, Row};
 use auditor::Total;
 use meetings::Pair;
-use outside::Memory;
+use out_of_memory::Memory;
 use sectors::Class;
 
 const PAIR: Pair = Pair {

@@ -3,7 +3,7 @@ use crate::compared::is;
 use audit_rows::{Mark, Row, RowQueue, Topic};
 use auditor::{Total, begin_tracks, totals_of};
 use meetings::Pair;
-use outside::Memory;
+use out_of_memory::Memory;
 use std::alloc::Global;
 use std::process::Abort;
 

@@ -4,7 +4,7 @@ use crate::compared::is;
 use crate::queues::NO_ROWS;
 use audit_rows::Row;
 use auditor::{AuditFault, Total};
-use outside::Memory;
+use out_of_memory::Memory;
 use ranks::Rank;
 use sectors::Class;
 use std::alloc::Global;

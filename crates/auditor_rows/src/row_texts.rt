@@ -5,7 +5,7 @@ use auditor::Total;
 use fixed_geometry::Point;
 use log_lines::LineOutcome;
 use meetings::Pair;
-use outside::Memory;
+use out_of_memory::Memory;
 use sectors::Class;
 use std::alloc::Global;
 use std::process::Abort;

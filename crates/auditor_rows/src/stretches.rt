@@ -3,7 +3,7 @@ use crate::compared::is;
 use crate::queues::{NO_ROWS, NO_TOTALS, Step, comes_to, take_all};
 use audit_rows::{Mark, MarkCounts, Row, RowQueue, Topic};
 use meetings::Pair;
-use outside::Memory;
+use out_of_memory::Memory;
 use sectors::Class;
 use std::alloc::Global;
 use std::process::Abort;

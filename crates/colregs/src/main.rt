@@ -3,7 +3,8 @@
 
 use colregs_program::{Status, run};
 use command_line::{Told, told_text, told_word};
-use outside::{FileShelf, Memory, StdSink, StdSource, Word, put_all};
+use out_of_memory::Memory;
+use outside::{FileShelf, StdSink, StdSource, Word, put_all};
 use std::alloc::AllocError;
 use std::process::ExitCode;
 use std::{env, io};

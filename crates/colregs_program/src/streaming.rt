@@ -14,7 +14,8 @@ ghost use Rattle.colregs_program.specs.Inner.Streaming.{FromHere, HasWritten, Lo
 ghost use Rattle.colregs_program.specs.declared.streaming.StreamFault.TheVariants.{NotRead};
 
 use audit_report::ReportText;
-use outside::{Memory, Sink, Source, Taken, put_all};
+use out_of_memory::Memory;
+use outside::{Sink, Source, Taken, put_all};
 use scenario::Scenario;
 use sessions::{Asked, Mode, Session, SessionFault};
 use std::alloc::{AllocError, Global};

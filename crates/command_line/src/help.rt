@@ -4,7 +4,8 @@ ghost use Rattle.command_line.specs.ToldWords.{told_of};
 
 use crate::colregs::colregs;
 use crate::mode::mode_values;
-use outside::{Memory, Word};
+use out_of_memory::Memory;
+use outside::Word;
 use std::alloc::Global;
 
 /// What a single word asks the program to tell of itself.

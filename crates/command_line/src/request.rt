@@ -12,7 +12,8 @@ use crate::mode::{Mode, mode_named, mode_values};
 use crate::number::number_in;
 use clap::ArgMatches;
 use clap::error::ErrorKind;
-use outside::{Memory, Word};
+use out_of_memory::Memory;
+use outside::Word;
 use std::alloc::{AllocError, Global};
 
 /// The options, each of which counts in the modes that use it.

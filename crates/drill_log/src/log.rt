@@ -11,7 +11,7 @@ use crate::vessel::{VESSELS, Vessel, vessels};
 use ais_messages::{PositionReport, encode_position};
 use aivdm::write_sentence;
 use fixed_geometry::Reference;
-use outside::Memory;
+use out_of_memory::Memory;
 use scenario_values::{Scenario, Window};
 use std::alloc::Global;
 

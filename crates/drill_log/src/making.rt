@@ -10,7 +10,8 @@ ghost use Rattle.drill_log.specs.Inner.MinuteLines.{left_of, lines_at};
 use crate::log::{lines_between, minutes_in};
 use crate::minute_log::MinuteLog;
 use crate::vessel::vessels;
-use outside::{Memory, PlainSource, Source, Taken};
+use out_of_memory::Memory;
+use outside::{PlainSource, Source, Taken};
 use scenario_values::Scenario;
 use std::alloc::Global;
 

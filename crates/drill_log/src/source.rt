@@ -5,7 +5,8 @@ ghost use Rattle.scenario_values.specs.ValueRanges.{IsWindow};
 ghost use Rattle.drill_log.specs.DrillLog.{drill_log_of};
 
 use crate::minute_log::MinuteLog;
-use outside::{Memory, Source, Taken};
+use out_of_memory::Memory;
+use outside::{Source, Taken};
 use scenario_values::Scenario;
 use std::alloc::Global;
 use std::marker::Model;

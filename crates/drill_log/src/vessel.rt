@@ -10,7 +10,7 @@ ghost use Rattle.drill_log.specs.Inner.VesselFigures.{report_by, vessel_of, IsVe
 use crate::numbers::DrawnNumbers;
 use ais_messages::{PositionReport, place};
 use fixed_geometry::{Point, Reference, bearing, isqrt, norm2};
-use outside::Memory;
+use out_of_memory::Memory;
 use std::alloc::Global;
 
 /// How many vessels there are.

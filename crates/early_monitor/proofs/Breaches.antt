@@ -6,7 +6,7 @@ use Rattle.mtl_formulas.specs.declared.verdict.Verdict.TheVariants.{No}
 use Rattle.mtl_formulas.specs.FormulaTree.{FormulaTree}
 use Rattle.mtl_formulas.specs.FormulaMeasures.{HasValidParts, reach_of}
 use Rattle.mtl_monitor.specs.Following.{IsFed}
-use Rattle.mtl_monitor.specs.Traces.{Trace, value_in}
+use Rattle.mtl_formulas.specs.Traces.{Trace, value_in}
 use Rattle.early_monitor.specs.declared.alarm.Alarm.{Alarm}
 use Rattle.early_monitor.specs.declared.alarm_set.Place.{Place}
 use Rattle.early_sweeps.specs.Decided.{IsDecided, IsDecidedNow, IsFirstDecided, IsNextDecided}

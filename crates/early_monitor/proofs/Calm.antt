@@ -4,7 +4,7 @@ use Rattle.mtl_formulas.specs.FormulaTree.{FormulaTree}
 use Rattle.mtl_formulas.specs.FormulaMeasures.{reach_of}
 use Rattle.mtl_monitor.specs.Following.{Follows, GivesTheSame, formula_at, last_value}
 use Rattle.mtl_monitor.specs.Inner.Standing.{late_at, root_at, tree_at}
-use Rattle.mtl_monitor.specs.Traces.{Trace, value_in}
+use Rattle.mtl_formulas.specs.Traces.{Trace, value_in}
 use Rattle.mtl_monitor.specs.declared.program.Program.{Program}
 use Rattle.mtl_monitor.specs.declared.trace_state.TraceState.{TraceState}
 use Rattle.traces.specs.Audited.{AuditNumbers}

@@ -6,7 +6,7 @@ use Rattle.mtl_formulas.specs.declared.verdict.Verdict.TheVariants.{No, Open, Ye
 use Rattle.mtl_formulas.specs.FormulaTree.{FormulaTree}
 use Rattle.mtl_formulas.specs.FormulaMeasures.{HasValidParts, reach_of}
 use Rattle.mtl_formulas.proofs.PrefixLaw.{Stays-value, decided-Stays}
-use Rattle.mtl_monitor.specs.Traces.{Trace, value_in}
+use Rattle.mtl_formulas.specs.Traces.{Trace, value_in}
 use Rattle.rule_program.specs.Lags.{lags_of}
 use Rattle.rule_program.proofs.LagLaws.{value-HasLags}
 use Rattle.early_sweeps.specs.Decided.{IsDecided}

@@ -7,7 +7,7 @@ use Rattle.mtl_formulas.specs.declared.atom.Atom.{Atom}
 use Rattle.mtl_formulas.specs.declared.verdict.Verdict.{Verdict}
 use Rattle.mtl_formulas.specs.FormulaTree.{FormulaTree}
 use Rattle.mtl_formulas.specs.FormulaMeasures.{reach_of}
-use Rattle.mtl_monitor.specs.Traces.{Trace}
+use Rattle.mtl_formulas.specs.Traces.{Trace}
 use Rattle.mtl_monitor.specs.Following.{Closes, IsEnded, past_of}
 use Rattle.mtl_monitor.specs.declared.program.Program.{Program}
 use Rattle.early_monitor.specs.declared.pass_state.PassState.{PassState}

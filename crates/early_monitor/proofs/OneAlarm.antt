@@ -2,7 +2,7 @@
 use Rattle.std.proofs.Common.{◌≡◌, ℕ, ◌+◌, ◌-◌, ◌<◌, List, length, refl, sym, ap, subst, ◌∙◌, arith}
 use Rattle.mtl_formulas.specs.declared.verdict.Verdict.{Verdict}
 use Rattle.mtl_formulas.specs.declared.verdict.Verdict.TheVariants.{No, Open}
-use Rattle.mtl_monitor.specs.Traces.{value_in}
+use Rattle.mtl_formulas.specs.Traces.{value_in}
 use Rattle.traces.specs.Audited.{AuditNumbers, Sighting}
 use Rattle.traces.specs.Known.{IsKnown, Known}
 use Rattle.early_monitor.specs.declared.alarm.Alarm.{Alarm}

@@ -9,7 +9,7 @@ use Rattle.mtl_formulas.specs.declared.verdict.Verdict.TheVariants.{No, Open, Ye
 use Rattle.mtl_formulas.specs.FormulaTree.{FormulaTree}
 use Rattle.mtl_formulas.specs.FormulaMeasures.{reach_of}
 use Rattle.mtl_formulas.proofs.Values.{value_of-past}
-use Rattle.mtl_monitor.specs.Traces.{Trace, value_in}
+use Rattle.mtl_formulas.specs.Traces.{Trace, value_in}
 use Rattle.mtl_monitor.specs.Following.{IsEnded}
 use Rattle.early_monitor.specs.Inner.Known.{is_decided, is_known, position_at, is_answered}
 use Rattle.early_monitor.specs.Inner.Passing.{IsDecidedAt, IsLooked}

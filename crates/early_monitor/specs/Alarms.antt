@@ -6,7 +6,7 @@ use Rattle.std.specs.declared.cmp.Ordering.{Ordering}
 use Rattle.std.specs.Ordering.{ordering_then, nat_cmp}
 use Rattle.mtl_formulas.specs.declared.verdict.Verdict.TheVariants.{No}
 use Rattle.mtl_formulas.specs.FormulaTree.{FormulaTree}
-use Rattle.mtl_monitor.specs.Traces.{value_in}
+use Rattle.mtl_formulas.specs.Traces.{value_in}
 use Rattle.rule_set.specs.NamedTrees.{NamedTree, rule_at}
 use Rattle.audit_rows.specs.Order.{pair_cmp}
 use Rattle.traces.specs.Audited.{AuditNumbers, Sighting}

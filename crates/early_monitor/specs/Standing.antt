@@ -3,7 +3,7 @@
 use Rattle.std.specs.Prelude.{ℕ, Option}
 use Rattle.mtl_formulas.specs.declared.verdict.Verdict.{Verdict}
 use Rattle.mtl_formulas.specs.FormulaTree.{FormulaTree}
-use Rattle.mtl_monitor.specs.Traces.{Trace}
+use Rattle.mtl_formulas.specs.Traces.{Trace}
 use Rattle.early_monitor.specs.declared.early_monitor.EarlyMonitor.{EarlyMonitor}
 use Rattle.early_monitor.specs.Inner.EarlyStates as state
 

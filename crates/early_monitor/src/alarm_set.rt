@@ -7,7 +7,7 @@ ghost use Rattle.early_monitor.specs.declared.alarm.Alarm.{Alarm};
 use crate::alarm::Alarm;
 use meetings::Pair;
 use mtl_formulas::Verdict;
-use outside::Memory;
+use out_of_memory::Memory;
 use std::alloc::Global;
 use std::collections::BTreeSet;
 

@@ -14,7 +14,7 @@ use crate::watched_rules::WatchedRules;
 use crate::watched_trace::WatchedTrace;
 use meetings::Pair;
 use motion::TickState;
-use outside::Memory;
+use out_of_memory::Memory;
 use std::alloc::Global;
 use std::collections::BTreeSet;
 use traces::AllTraces;

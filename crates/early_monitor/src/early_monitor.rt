@@ -5,7 +5,7 @@ ghost use Rattle.early_monitor.specs.Inner.Room.{IsStateOf-prop};
 
 use crate::early_program::{EarlyProgram, EarlyState};
 use mtl_formulas::{Atoms, Formula, Verdict};
-use outside::Memory;
+use out_of_memory::Memory;
 use std::alloc::Global;
 
 /// A formula over a trace whose rows come one by one: each position comes with its value at the first row with which that is
@@ -21,7 +21,7 @@ impl EarlyMonitor {
     ghost use Rattle.std.specs.Prelude.{IfOk, [], ◌∷◌, ◌++◌, ℕ};
     ghost use Rattle.mtl_formulas.specs.FormulaTree.{FormulaTree, tree_of};
     ghost use Rattle.mtl_formulas.specs.FormulaMeasures.{IsValid};
-    ghost use Rattle.mtl_monitor.specs.Traces.{Trace};
+    ghost use Rattle.mtl_formulas.specs.Traces.{Trace};
     ghost use Rattle.early_sweeps.specs.Decided.{IsNextDecided};
     ghost use Rattle.early_monitor.specs.Standing.{Continues, HasGivenAll, IsAt, IsGiving, rows_fed};
 

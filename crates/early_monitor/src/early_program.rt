@@ -5,7 +5,7 @@ use crate::pass_program::PassProgram;
 use crate::pass_state::PassState;
 use early_sweeps::{SweepProgram, SweepState};
 use mtl_formulas::{Atoms, Formula, Verdict};
-use outside::Memory;
+use out_of_memory::Memory;
 use std::alloc::Global;
 
 /// A formula whose positions are told at the first row that decides them. One program serves many traces.
@@ -37,7 +37,7 @@ impl EarlyProgram {
     ghost use Rattle.std.specs.Prelude.{◌≡◌, ◌<◌, ◌+◌, ◌^◌, IfOk, IfSome, None, [], ◌∷◌, ◌++◌, ℕ};
     ghost use Rattle.mtl_formulas.specs.FormulaTree.{FormulaTree, tree_of};
     ghost use Rattle.mtl_formulas.specs.FormulaMeasures.{IsValid};
-    ghost use Rattle.mtl_monitor.specs.Traces.{Trace};
+    ghost use Rattle.mtl_formulas.specs.Traces.{Trace};
     ghost use Rattle.early_sweeps.specs.Decided.{IsNextDecided};
     ghost use Rattle.early_monitor.specs.Inner.EarlyStates.{Continues, HasGivenAll, IsAt, IsEarlyProgramOf, IsGiving, IsStateOf, left_to_look, rows_fed};
 

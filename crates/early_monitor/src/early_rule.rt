@@ -4,7 +4,7 @@ use crate::alarm_set::{Place, take_value};
 use crate::early_program::{EarlyProgram, EarlyState};
 use meetings::AtomRow;
 use mtl_formulas::Formula;
-use outside::Memory;
+use out_of_memory::Memory;
 use rule_program::is_no_last;
 use std::alloc::Global;
 use std::collections::BTreeSet;
@@ -20,7 +20,7 @@ impl EarlyRule {
     ghost use Rattle.meetings.specs.Answers.{answer_of};
     ghost use Rattle.mtl_formulas.specs.FormulaTree.{FormulaTree, tree_of};
     ghost use Rattle.mtl_formulas.specs.FormulaMeasures.{IsValid};
-    ghost use Rattle.mtl_monitor.specs.Traces.{Trace};
+    ghost use Rattle.mtl_formulas.specs.Traces.{Trace};
     ghost use Rattle.early_monitor.specs.Inner.Breaches.{Adds, IsBreach};
     ghost use Rattle.early_monitor.specs.Inner.EarlyStates.{HasGivenAll, IsAt, IsEarlyProgramOf, IsStateOf, rows_fed};
     ghost use Rattle.early_monitor.specs.Inner.RulesWatched.{IsWatchedAs};

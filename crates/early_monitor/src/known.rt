@@ -3,7 +3,7 @@ ghost use Rattle.std.specs.Prelude.{◌≡◌, IfOk, replicate, false};
 ghost use Rattle.early_monitor.specs.Inner.Known.{is_answered, known_at};
 
 use mtl_formulas::Verdict;
-use outside::Memory;
+use out_of_memory::Memory;
 use std::alloc::Global;
 
 /// Whether the position at a place is known to be decided. There is none beyond the last place.

@@ -3,7 +3,7 @@ ghost use Rattle.std.specs.Prelude.{◌≡◌, ◌≢◌, ℕ, ◌+◌, ◌<◌,
 ghost use Rattle.mtl_formulas.specs.declared.verdict.Verdict.TheVariants.{No, Open};
 ghost use Rattle.mtl_formulas.specs.FormulaTree.{FormulaTree};
 ghost use Rattle.mtl_formulas.specs.FormulaMeasures.{HasValidParts, reach_of};
-ghost use Rattle.mtl_monitor.specs.Traces.{Trace, value_in};
+ghost use Rattle.mtl_formulas.specs.Traces.{Trace, value_in};
 ghost use Rattle.traces.specs.Audited.{AuditNumbers, Sighting};
 ghost use Rattle.traces.specs.Known.{IsKnown, Known};
 ghost use Rattle.early_monitor.specs.Alarms.{IsAlarm, tree_of_rule};

@@ -4,7 +4,7 @@ ghost use Rattle.mtl_monitor.specs.Following.{count_of};
 
 use mtl_formulas::{Formula, future_reach};
 use mtl_monitor::Program;
-use outside::Memory;
+use out_of_memory::Memory;
 use std::alloc::Global;
 
 /// A formula, alone as a program. What is known of one trace is a `PassState` beside it.

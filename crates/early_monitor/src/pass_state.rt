@@ -6,7 +6,7 @@ ghost use Rattle.mtl_monitor.specs.Following.{fed_of, past_of};
 use crate::known::{is_answer, is_known_at, nothing_known};
 use mtl_formulas::{Atoms, Verdict};
 use mtl_monitor::{Program, TraceState};
-use outside::Memory;
+use out_of_memory::Memory;
 use std::alloc::Global;
 
 /// The state of a program of one formula over one trace, which tells each position at the first row that decides it. One program
@@ -38,7 +38,7 @@ impl PassState {
     ghost use Rattle.mtl_formulas.specs.declared.verdict.Verdict.{Verdict};
     ghost use Rattle.mtl_formulas.specs.FormulaTree.{FormulaTree};
     ghost use Rattle.mtl_formulas.specs.FormulaMeasures.{reach_of};
-    ghost use Rattle.mtl_monitor.specs.Traces.{Trace};
+    ghost use Rattle.mtl_formulas.specs.Traces.{Trace};
     ghost use Rattle.mtl_monitor.specs.Following.{IsProgramOf, count_of};
     ghost use Rattle.early_sweeps.specs.Decided.{IsNextDecided};
     ghost use Rattle.early_monitor.specs.Inner.Passing.{Continues, HasLookedAll, IsAt, IsGiving, IsLooked, IsLooking, IsStateOf, fed_rows, left_to_look};

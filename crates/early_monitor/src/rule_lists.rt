@@ -12,7 +12,7 @@ use crate::early_rule::EarlyRule;
 use crate::watched_rules::WatchedRules;
 use mtl_formulas::{Atom, Formula};
 use mtl_monitor::Program;
-use outside::Memory;
+use out_of_memory::Memory;
 use rule_set::RuleSet;
 use std::alloc::Global;
 

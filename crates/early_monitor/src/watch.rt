@@ -16,7 +16,7 @@ use crate::watched_rules::WatchedRules;
 use crate::watched_trace::WatchedTrace;
 use encounters::{Act, Detect};
 use motion::TickState;
-use outside::Memory;
+use out_of_memory::Memory;
 use ranks::Rank;
 use rule_set::RuleSet;
 use scenario_values::Window;

@@ -9,7 +9,7 @@ use crate::early_rule::EarlyRule;
 use crate::rule_lists::{early_rules, plain_program};
 use meetings::AtomRow;
 use mtl_monitor::{Program, TraceState};
-use outside::Memory;
+use out_of_memory::Memory;
 use rule_set::RuleSet;
 use std::alloc::Global;
 use std::collections::BTreeSet;
@@ -28,7 +28,7 @@ impl WatchedRules {
     ghost use Rattle.rule_set.specs.NamedTrees.{NamedTree};
     ghost use Rattle.meetings.specs.Answers.{answer_of};
     ghost use Rattle.mtl_monitor.specs.Following.{Fits, Follows, fed_of};
-    ghost use Rattle.mtl_monitor.specs.Traces.{Trace};
+    ghost use Rattle.mtl_formulas.specs.Traces.{Trace};
     ghost use Rattle.early_monitor.specs.Alarms.{tree_of_rule};
     ghost use Rattle.early_monitor.specs.Inner.Breaches.{Adds, IsBreach};
     ghost use Rattle.early_monitor.specs.Inner.RulesWatched.{AreWatched, FitsRule, IsCalmRule, StandsForRule, early_at, plain_trees};

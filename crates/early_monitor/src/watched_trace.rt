@@ -8,7 +8,7 @@ use crate::rule_lists::begin_rules;
 use crate::watched_rules::WatchedRules;
 use meetings::{AtomRow, Pair};
 use mtl_monitor::TraceState;
-use outside::Memory;
+use out_of_memory::Memory;
 use std::alloc::Global;
 use std::collections::BTreeSet;
 

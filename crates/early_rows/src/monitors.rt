@@ -9,8 +9,9 @@ ghost use Rattle.early_monitor.specs.Standing.{HasGivenAll, rows_fed};
 
 use crate::compared::is;
 use early_monitor::{EarlyMonitor, is_no_last};
-use mtl_formulas::{Atom, Atoms, Formula, Verdict, parse, value};
-use outside::Memory;
+use formula_language::parse;
+use mtl_formulas::{Atom, Atoms, Formula, Verdict, value};
+use out_of_memory::Memory;
 use rand_core::utils::NextWord;
 use rand_pcg::Pcg32;
 use std::alloc::{AllocError, Global};

@@ -13,7 +13,7 @@ use Rattle.mtl_formulas.specs.FormulaMeasures.{reach_of}
 use Rattle.mtl_formulas.specs.FormulaValue.{before_end}
 use Rattle.mtl_formulas.proofs.Values.{value_of-past}
 use Rattle.mtl_formulas.proofs.ReachLaw.{value_of-same, equal-AgreeAt}
-use Rattle.mtl_monitor.specs.Traces.{Trace, value_in}
+use Rattle.mtl_formulas.specs.Traces.{Trace, value_in}
 use Rattle.early_sweeps.specs.Decided.{IsDecided, IsDecidedNow}
 
 -- what is Open over a trace was Open over each beginning of it

@@ -8,7 +8,7 @@ use Rattle.mtl_formulas.specs.declared.verdict.Verdict.{Verdict}
 use Rattle.mtl_formulas.specs.declared.verdict.Verdict.TheVariants.{Open}
 use Rattle.mtl_formulas.specs.FormulaTree.{FormulaTree}
 use Rattle.mtl_formulas.proofs.Values.{value_of-past}
-use Rattle.mtl_monitor.specs.Traces.{Trace, value_in}
+use Rattle.mtl_formulas.specs.Traces.{Trace, value_in}
 use Rattle.early_sweeps.specs.declared.sweep_program.SweepProgram.{SweepProgram}
 use Rattle.early_sweeps.specs.declared.sweep_state.SweepState.{SweepState}
 use Rattle.early_sweeps.specs.Inner.Cells.{aged, cell_at}

@@ -17,7 +17,7 @@ use Rattle.early_sweeps.specs.Inner.Counts.{left_after, left_under, left_value, 
 use Rattle.early_sweeps.specs.Inner.Cells.{ahead_kind}
 use Rattle.early_sweeps.proofs.Deciding.{within_end, value_take}
 use Rattle.early_sweeps.proofs.Ahead.{Reads-before, Reads-open, Reads-value, Reads-under, held_at, held-open}
-use Rattle.mtl_monitor.specs.Traces.{Trace, value_in}
+use Rattle.mtl_formulas.specs.Traces.{Trace, value_in}
 use Rattle.early_sweeps.specs.Inner.Cells.{cell_at, aged, AreRight, SameOutside}
 
 module _ (cells : List Verdict) (at age : ℕ) (v : Verdict) (inside : at + age < length cells) where

@@ -5,7 +5,7 @@ use Rattle.mtl_formulas.specs.declared.atom.Atom.{Atom}
 use Rattle.mtl_formulas.specs.declared.verdict.Verdict.{Verdict}
 use Rattle.mtl_formulas.specs.FormulaTree.{FormulaTree}
 use Rattle.mtl_formulas.proofs.PrefixLaw.{Stays-value, decided-Stays}
-use Rattle.mtl_monitor.specs.Traces.{Trace}
+use Rattle.mtl_formulas.specs.Traces.{Trace}
 use Rattle.early_sweeps.specs.Decided.{IsDecidedNow}
 use Rattle.early_sweeps.specs.Inner.Zones.{IsFinished, HasZone}
 use Rattle.early_sweeps.proofs.Deciding.{decided_before, decided_earlier}

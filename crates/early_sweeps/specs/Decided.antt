@@ -3,7 +3,7 @@ use Rattle.std.specs.Prelude.{◌≡◌, ◌≢◌, ℕ, ◌<◌, ◌≤◌, len
 use Rattle.mtl_formulas.specs.declared.verdict.Verdict.{Verdict}
 use Rattle.mtl_formulas.specs.declared.verdict.Verdict.TheVariants.{Open}
 use Rattle.mtl_formulas.specs.FormulaTree.{FormulaTree}
-use Rattle.mtl_monitor.specs.Traces.{Trace, value_in}
+use Rattle.mtl_formulas.specs.Traces.{Trace, value_in}
 
 -- Exactly the first m rows decide it: over them the value at position i is Yes or No, and over no fewer.
 pub record IsDecided (t : FormulaTree) (rows : Trace) (i m : ℕ) : Type 0 where

@@ -5,7 +5,7 @@ use Rattle.mtl_formulas.specs.declared.atom.Atom.{Atom}
 use Rattle.mtl_formulas.specs.declared.verdict.Verdict.{Verdict}
 use Rattle.mtl_formulas.specs.FormulaTree.{FormulaTree}
 use Rattle.mtl_formulas.specs.FormulaMeasures.{reach_of}
-use Rattle.mtl_monitor.specs.Traces.{Trace}
+use Rattle.mtl_formulas.specs.Traces.{Trace}
 use Rattle.mtl_monitor.specs.Following.{Fits, IsProgramOf}
 use Rattle.early_sweeps.specs.declared.sweep_program.SweepProgram.{SweepProgram}
 use Rattle.early_sweeps.specs.declared.sweep_state.SweepState.{SweepState}

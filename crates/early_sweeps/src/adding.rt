@@ -12,7 +12,7 @@ ghost use Rattle.early_sweeps.specs.Inner.Built.{Adds, Puts, last_of};
 use crate::building::Building;
 use crate::sweeper::{Sweep, SweepNode};
 use mtl_formulas::{Formula, Node, PairKind, future_reach};
-use outside::Memory;
+use out_of_memory::Memory;
 
 /// The index of the last node.
 fn last(building: &Building) -> usize

@@ -8,7 +8,7 @@ use crate::building::Building;
 use crate::sweeper::SweepNode;
 use mtl_formulas::{Formula, future_reach};
 use mtl_monitor::Program;
-use outside::Memory;
+use out_of_memory::Memory;
 use std::alloc::Global;
 
 /// A formula in which no operator looks back at a part that looks ahead. What is known of one trace is a `SweepState` beside it, so

@@ -7,7 +7,7 @@ use crate::sweeper::sweep_row;
 use crate::zone::{all_open, is_counted, is_open, keep_old, old_at, open_ages, root_of};
 use mtl_formulas::{Atoms, Verdict};
 use mtl_monitor::TraceState;
-use outside::Memory;
+use out_of_memory::Memory;
 use std::alloc::Global;
 
 /// The state of a program over a trace whose rows come one by one: each position comes with its value at the first row with which
@@ -40,7 +40,7 @@ impl SweepState {
     ghost use Rattle.mtl_formulas.specs.declared.atom.Atom.{Atom};
     ghost use Rattle.mtl_formulas.specs.declared.verdict.Verdict.{Verdict};
     ghost use Rattle.mtl_formulas.specs.FormulaTree.{FormulaTree};
-    ghost use Rattle.mtl_monitor.specs.Traces.{Trace};
+    ghost use Rattle.mtl_formulas.specs.Traces.{Trace};
     ghost use Rattle.early_sweeps.specs.Decided.{IsNextDecided};
     ghost use Rattle.early_sweeps.specs.Standing.{Continues, HasGivenAll, IsAt, IsGiving, IsStateOf, IsSweepProgramOf, left_to_look, rows_fed};
     ghost use Rattle.early_sweeps.specs.Inner.Looking.{IsLooked, IsLooking};

@@ -2,7 +2,7 @@
 ghost use Rattle.std.specs.Prelude.{ℕ, ◌≡◌, ◌+◌, ◌-◌, ◌<◌, ◌≤◌, [], ◌∷◌, ◌++◌, List, length, true};
 ghost use Rattle.mtl_formulas.specs.declared.atom.Atom.{Atom};
 ghost use Rattle.mtl_formulas.specs.FormulaTree.{FormulaTree};
-ghost use Rattle.mtl_monitor.specs.Traces.{Trace};
+ghost use Rattle.mtl_formulas.specs.Traces.{Trace};
 ghost use Rattle.mtl_monitor.specs.Following.{Fits, count_of};
 ghost use Rattle.early_sweeps.specs.Inner.Cells.{AreRight, SameOutside};
 ghost use Rattle.early_sweeps.specs.Inner.Rests.{IsValueNow, ReadsNow};

@@ -8,7 +8,7 @@ ghost use Rattle.mtl_formulas.specs.VerdictOrder.{turned_round, least, greatest}
 ghost use Rattle.mtl_formulas.specs.FormulaTree.{FormulaTree, negation, pair, span, link};
 ghost use Rattle.mtl_formulas.specs.FormulaMeasures.{reach_of};
 ghost use Rattle.mtl_formulas.specs.FormulaValue.{pair_value};
-ghost use Rattle.mtl_monitor.specs.Traces.{Trace, value_in};
+ghost use Rattle.mtl_formulas.specs.Traces.{Trace, value_in};
 ghost use Rattle.early_sweeps.specs.Inner.Counts.{sensed};
 ghost use Rattle.early_sweeps.specs.Inner.Cells.{AreRight, SameOutside, ahead_kind, cell_at};
 

@@ -6,7 +6,7 @@ ghost use Rattle.early_sweeps.specs.Inner.Zones.{IsBehind, old_value};
 
 use crate::sweeper::SweepNode;
 use mtl_formulas::Verdict;
-use outside::Memory;
+use out_of_memory::Memory;
 use std::alloc::Global;
 
 /// Where the cells of the last node begin.

@@ -1,15 +1,14 @@
 //! What no clause says: worked texts, faults by number, and the limits.
 ghost use Rattle.std.specs.Prelude.{IfOk};
 ghost use Rattle.mtl_formulas.specs.FormulaTree.{tree_of};
-ghost use Rattle.mtl_formulas.specs.FormulaMeasures.{IsValid};
-ghost use Rattle.mtl_formulas.specs.FormulaText.{IsTick};
+ghost use Rattle.mtl_formulas.specs.FormulaMeasures.{IsValid, IsTick};
 
 use crate::compared::{is, is_true};
+use formula_language::{ParseFault, parse, print};
 use mtl_formulas::{
-    Atom, Atoms, Formula, ParseFault, SpanKind, Verdict, future_reach, laws, nodes, parse, print,
-    value, weight,
+    Atom, Atoms, Formula, SpanKind, Verdict, future_reach, laws, nodes, value, weight,
 };
-use outside::Memory;
+use out_of_memory::Memory;
 use std::alloc::{AllocError, Global};
 use std::process::Abort;
 

@@ -9,9 +9,10 @@ ghost use Rattle.mtl_monitor.specs.Monitoring.{fed_rows, past_rows};
 
 use crate::compared::{is, is_true};
 use crate::formulas::repeated;
-use mtl_formulas::{Atom, Atoms, Formula, ParseFault, Verdict, future_reach, parse, value};
+use formula_language::{ParseFault, parse};
+use mtl_formulas::{Atom, Atoms, Formula, Verdict, future_reach, value};
 use mtl_monitor::{Monitor, Program, TraceState};
-use outside::Memory;
+use out_of_memory::Memory;
 use rand_core::utils::NextWord;
 use rand_pcg::Pcg32;
 use std::alloc::{AllocError, Global};

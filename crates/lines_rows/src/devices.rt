@@ -1,8 +1,9 @@
 //! One happy path of each kind, its failing call, and pieces of one byte.
 use crate::compared::{is, is_true};
+use out_of_memory::Memory;
 use outside::{
-    Fetched, FileShelf, Memory, MemoryShelf, MemorySink, MemorySource, PlainShelf, PlainSource,
-    Put, ReadFault, Shelf, Sink, Source, StdSink, StdSource, Taken, Word, put_all, read_whole,
+    Fetched, FileShelf, MemoryShelf, MemorySink, MemorySource, PlainShelf, PlainSource, Put,
+    ReadFault, Shelf, Sink, Source, StdSink, StdSource, Taken, Word, put_all, read_whole,
 };
 use std::alloc::Global;
 use std::io::{self, Write};

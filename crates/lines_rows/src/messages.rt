@@ -6,7 +6,7 @@ use ais_messages::{
     encode_position, is_ship,
 };
 use aivdm::{Bits, Joined, Joiner};
-use outside::Memory;
+use out_of_memory::Memory;
 use std::alloc::Global;
 use std::process::Abort;
 

@@ -1,7 +1,7 @@
 //! Lines as sentences, and sentences joined to messages.
 use crate::compared::{is, is_true};
 use aivdm::{Bits, Body, Joined, Joiner, LineCause, read_line, write_sentence};
-use outside::Memory;
+use out_of_memory::Memory;
 use std::alloc::Global;
 use std::process::Abort;
 

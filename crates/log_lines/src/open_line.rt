@@ -8,7 +8,7 @@ ghost use Rattle.log_lines.specs.Inner.OpenLines.{HasExtended};
 ghost use Rattle.log_lines.specs.Standing.{IsKnownLine, OpenLineStandsFor};
 
 use crate::line_feeds::strip_carriage_return;
-use outside::Memory;
+use out_of_memory::Memory;
 use std::alloc::Global;
 
 /// How many bytes of an open line are kept: two more than a line may have, one of which may be a carriage return.

@@ -5,7 +5,7 @@ ghost use Rattle.log_lines.specs.StaticReports.{static_told};
 ghost use Rattle.tracks.specs.VesselsHeld.{Sent};
 
 use crate::told_static::ToldStatic;
-use outside::Memory;
+use out_of_memory::Memory;
 use ranks::Ranks;
 use scenario_values::Scenario;
 use std::alloc::Global;

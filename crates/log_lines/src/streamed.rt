@@ -15,7 +15,7 @@ use crate::judge::Judge;
 use crate::judged::Judged;
 use crate::open_line::OpenLine;
 use aivdm::SentenceRoom;
-use outside::Memory;
+use out_of_memory::Memory;
 use scenario_values::Scenario;
 use std::alloc::Global;
 use tracks::{BookFault, Keeping};

@@ -13,7 +13,7 @@ use crate::atom_row::AtomRow;
 use crate::follower::Follower;
 use crate::pair::Pair;
 use encounters::{Act, Detect, PairStep};
-use outside::Memory;
+use out_of_memory::Memory;
 use std::alloc::Global;
 use std::marker::Model;
 

@@ -7,7 +7,7 @@ ghost use Rattle.motion.specs.Inner.LegOrder.{AreLegs};
 ghost use Rattle.motion.specs.TickStates.{state_at, holds, AreJoined, IsLeg, IsTickState, MovesLittle};
 
 use crate::leg::{Leg, TickState};
-use outside::Memory;
+use out_of_memory::Memory;
 use std::alloc::Global;
 use std::marker::Model;
 

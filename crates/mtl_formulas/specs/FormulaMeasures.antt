@@ -1,4 +1,4 @@
--- How deep, how large and how far-reaching a formula is, and which formulas are valid.
+-- How deep, how large and how far-reaching a formula is, which formulas are valid, and how long a tick is.
 use Rattle.std.specs.Prelude.{ℕ, ◌+◌, ◌*◌, ◌≤◌, max}
 use Rattle.mtl_formulas.specs.declared.atom.Atom.{Atom}
 use Rattle.mtl_formulas.specs.declared.atom.Atom.TheVariants.{Age, Clear, Close}
@@ -75,3 +75,7 @@ pub record IsValid (t : FormulaTree) : Type 0 where
   pub depth : depth_of t ≤ 64
   pub nodes : node_count t ≤ 256
   pub reach : reach_of t ≤ 7200
+
+-- the length of a tick, in seconds
+abbrev pub IsTick : ℕ → Type 0
+IsTick tick = (1 ≤ tick) × (tick ≤ 60)

@@ -1,12 +1,6 @@
 pub mod VerdictOrder
-pub mod AtomWords
 pub mod FormulaTree
 pub mod FormulaMeasures
-pub mod FormulaText
-pub mod FormulaTokens
-pub mod FormulaGrammar
-pub mod FormulaReading
 pub mod FormulaValue
+pub mod Traces
 pub mod Glances
-pub mod FaultTexts
-pub mod Inner

@@ -1,7 +1,4 @@
 //! What formulas are made of: tests of one step of an ordered pair of vessels.
-ghost use Rattle.std.specs.Prelude.{◌≡◌};
-ghost use Rattle.mtl_formulas.specs.AtomWords.{word_of};
-
 use crate::glance::Glance;
 use crate::verdict::Verdict;
 
@@ -63,43 +60,6 @@ pub enum Atom {
     RankStands,
     /// Neither gives way by rank (Rule 18).
     BothPower,
-}
-
-impl Atom {
-    /// The word that the language has for the atom; an atom with a number has it in parentheses after the word.
-    pub(crate) fn word(self) -> &'static str
-        ensures { result.now ≡ word_of self }
-    {
-        match self {
-            Atom::Always => "true",
-            Atom::Never => "false",
-            Atom::Seen => "seen",
-            Atom::Risk => "risk",
-            Atom::Engaged => "engaged",
-            Atom::Begin => "begin",
-            Atom::Overtaking => "overtaking",
-            Atom::Overtaken => "overtaken",
-            Atom::HeadOn => "head_on",
-            Atom::CrossingGives => "crossing_gives",
-            Atom::CrossingStands => "crossing_stands",
-            Atom::Passing => "passing",
-            Atom::Unclassified => "unclassified",
-            Atom::Age(_) => "age",
-            Atom::Opening => "opening",
-            Atom::Clear(_) => "clear",
-            Atom::Close(_) => "close",
-            Atom::OtherOnPort => "other_on_port",
-            Atom::Ahead => "ahead",
-            Atom::Alters => "alters",
-            Atom::Apparent => "apparent",
-            Atom::ToStarboard => "to_starboard",
-            Atom::ToPort => "to_port",
-            Atom::OtherApparent => "other_apparent",
-            Atom::RankGives => "rank_gives",
-            Atom::RankStands => "rank_stands",
-            Atom::BothPower => "both_power",
-        }
-    }
 }
 
 /// A position of a trace: a step of one ordered pair. Its meaning is its answer to each atom.

@@ -5,7 +5,7 @@ ghost use Rattle.std.specs.Prelude.{◌≡◌, ◌+◌, ◌-◌, ◌<◌, ◌≤
 ghost use Rattle.mtl_formulas.specs.declared.formula.LinkKind.TheVariants.{U, S};
 ghost use Rattle.mtl_formulas.specs.FormulaTree.{tree_of};
 ghost use Rattle.mtl_formulas.specs.FormulaMeasures.{IsValid};
-ghost use Rattle.mtl_formulas.specs.FormulaValue.{value_of, greatest_over, least_over, past_start, past_count, ahead_count, link_value};
+ghost use Rattle.mtl_formulas.specs.FormulaValue.{value_of, greatest_over, least_over, past_start, past_count, ahead_count, pair_value, span_value, link_value};
 
 use crate::atom::Atoms;
 use crate::formula::{Formula, LinkKind, PairKind, Root, SpanKind};
@@ -14,8 +14,7 @@ use crate::verdict::Verdict;
 /// The value of a formula at position `i` of the trace `rows`, whose position 0 is the first row: metric temporal logic
 /// after Koymans (1990), read with three values. At the trace's end and beyond every formula is `Open`.
 ///
-/// Each operator over an interval asks its operands anew at each position of the interval. The second operand of `&`, `|` and `->` is asked only
-/// where the first one leaves the value open to it.
+/// Each operator over an interval asks its operands anew at each position of the interval.
 #[cycle(evaluation)]
 pub fn value<A: Atoms>(formula: &Formula, rows: &[A], i: usize) -> Verdict
     requires { IsValid (tree_of formula.now) }
@@ -27,24 +26,76 @@ pub fn value<A: Atoms>(formula: &Formula, rows: &[A], i: usize) -> Verdict
     match &formula.root {
         Root::Leaf(atom) => rows[i].value(*atom),
         Root::Negated(a) => value(a, rows, i).negated(),
-        Root::Pair(PairKind::And, a, b) => match value(a, rows, i) {
-            Verdict::No => Verdict::No,
-            first => first.and(value(b, rows, i)),
-        },
-        Root::Pair(PairKind::Or, a, b) => match value(a, rows, i) {
-            Verdict::Yes => Verdict::Yes,
-            first => first.or(value(b, rows, i)),
-        },
-        Root::Pair(PairKind::Implies, a, b) => match value(a, rows, i) {
-            Verdict::No => Verdict::Yes,
-            first => first.negated().or(value(b, rows, i)),
-        },
-        Root::Span(SpanKind::F, lower, upper, a) => greatest_ahead(a, rows, i, *lower, *upper),
-        Root::Span(SpanKind::G, lower, upper, a) => least_ahead(a, rows, i, *lower, *upper + 1),
-        Root::Span(SpanKind::O, lower, upper, a) => greatest_back(a, rows, i, *lower, *upper),
-        Root::Span(SpanKind::H, lower, upper, a) => least_back(a, rows, i, *lower, *upper + 1),
-        Root::Link(LinkKind::U, lower, upper, a, b) => until(a, b, rows, i, *lower, *upper),
-        Root::Link(LinkKind::S, lower, upper, a, b) => since(a, b, rows, i, *lower, *upper),
+        Root::Pair(kind, a, b) => pair_value(*kind, a, b, rows, i),
+        Root::Span(kind, lower, upper, a) => span_value(*kind, *lower, *upper, a, rows, i),
+        Root::Link(kind, lower, upper, a, b) => link_value(*kind, *lower, *upper, a, b, rows, i),
+    }
+}
+
+/// The value of an operator without an interval. The second operand is asked only where the first one leaves the value open to it.
+#[cycle(evaluation)]
+fn pair_value<A: Atoms>(kind: PairKind, a: &Formula, b: &Formula, rows: &[A], i: usize) -> Verdict
+    requires valid_a { IsValid (tree_of a.now) }
+    requires valid_b { IsValid (tree_of b.now) }
+    ensures { result ≡ pair_value kind (value_of A.answer rows.now (tree_of a.now) i) (value_of A.answer rows.now (tree_of b.now) i) }
+{
+    let first = value(a, rows, i);
+    match (kind, first) {
+        (PairKind::And, Verdict::No) => Verdict::No,
+        (PairKind::Or, Verdict::Yes) | (PairKind::Implies, Verdict::No) => Verdict::Yes,
+        (PairKind::And, _) => first.and(value(b, rows, i)),
+        (PairKind::Or, _) => first.or(value(b, rows, i)),
+        (PairKind::Implies, _) => first.negated().or(value(b, rows, i)),
+    }
+}
+
+/// The value of an operator of one operand over an interval.
+#[cycle(evaluation)]
+fn span_value<A: Atoms>(
+    kind: SpanKind,
+    lower: u32,
+    upper: u32,
+    a: &Formula,
+    rows: &[A],
+    i: usize,
+) -> Verdict
+    requires valid { IsValid (tree_of a.now) }
+    requires inside { i < length rows.now }
+    requires ordered { lower ≤ upper }
+    requires bounded { upper ≤ 7200 }
+    ensures { result ≡ span_value kind lower upper (value_of A.answer rows.now (tree_of a.now)) i }
+{
+    match kind {
+        SpanKind::F => greatest_ahead(a, rows, i, lower, upper),
+        SpanKind::G => least_ahead(a, rows, i, lower, upper + 1),
+        SpanKind::O => greatest_back(a, rows, i, lower, upper),
+        SpanKind::H => least_back(a, rows, i, lower, upper + 1),
+    }
+}
+
+/// The value of an operator of two operands over an interval.
+#[cycle(evaluation)]
+fn link_value<A: Atoms>(
+    kind: LinkKind,
+    lower: u32,
+    upper: u32,
+    a: &Formula,
+    b: &Formula,
+    rows: &[A],
+    i: usize,
+) -> Verdict
+    requires valid_a { IsValid (tree_of a.now) }
+    requires valid_b { IsValid (tree_of b.now) }
+    requires inside { i < length rows.now }
+    requires ordered { lower ≤ upper }
+    requires bounded { upper ≤ 7200 }
+    ensures { let a_each = value_of A.answer rows.now (tree_of a.now) in
+        let b_each = value_of A.answer rows.now (tree_of b.now) in
+        result ≡ link_value kind lower upper a_each b_each i }
+{
+    match kind {
+        LinkKind::U => until(a, b, rows, i, lower, upper),
+        LinkKind::S => since(a, b, rows, i, lower, upper),
     }
 }
 

@@ -4,7 +4,7 @@ ghost use Rattle.mtl_formulas.specs.FormulaTree.{leaf, negation, pair, span, lin
 ghost use Rattle.mtl_formulas.specs.FormulaMeasures.{IsValid};
 
 use crate::atom::Atom;
-use outside::Memory;
+use out_of_memory::Memory;
 use std::alloc::Global;
 
 /// The operators of two operands without an interval.

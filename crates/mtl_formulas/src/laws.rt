@@ -1,20 +1,13 @@
-//! Laws of texts and of values, which stand over the definitions alone. A row of a trace is here what it answers to each atom.
+//! Laws of values, which stand over the definitions alone. A row of a trace is here what it answers to each atom.
 ghost use Rattle.std.specs.Prelude.{◌≡◌, ◌≢◌, ℕ, ◌+◌, ◌≤◌, List, ◌++◌, slice_get, map};
 ghost use Rattle.mtl_formulas.specs.declared.atom.Atom.{Atom};
 ghost use Rattle.mtl_formulas.specs.declared.verdict.Verdict.{Verdict};
 ghost use Rattle.mtl_formulas.specs.declared.verdict.Verdict.TheVariants.{Open};
 ghost use Rattle.mtl_formulas.specs.FormulaTree.{FormulaTree};
 ghost use Rattle.mtl_formulas.specs.FormulaMeasures.{reach_of};
-ghost use Rattle.mtl_formulas.specs.FormulaReading.{HasOneMeaning};
 ghost use Rattle.mtl_formulas.specs.FormulaValue.{value_of};
 
 use crate::atom::Atoms;
-
-/// Each text, of whatever bytes, has exactly one meaning at each tick: it is a formula and has one tree, or it has one fault,
-/// and never both.
-pub fn one_meaning()
-    ensures { (text : List ℕ) (tick : ℕ) → HasOneMeaning text tick }
-{}
 
 /// The prefix law: a value that is Yes or No over a trace is the same over every longer trace that begins with it.
 pub fn decided_values_stay()

@@ -10,7 +10,7 @@ use Rattle.mtl_monitor.specs.declared.node.Operator.TheVariants as op
 use Rattle.mtl_monitor.specs.declared.node.ProgramNode.{ProgramNode}
 use Rattle.mtl_monitor.specs.declared.node.Kept.{Kept}
 use Rattle.mtl_monitor.specs.declared.node.Kept.TheVariants as kinds
-use Rattle.mtl_monitor.specs.Traces.{Trace, value_in}
+use Rattle.mtl_formulas.specs.Traces.{Trace, value_in}
 use Rattle.mtl_monitor.specs.Inner.Steps.{sensed}
 use Rattle.mtl_monitor.specs.Inner.Standing.{tree_at, Computes, Keeps}
 use Rattle.mtl_monitor.specs.Inner.Starting.{nothing, IsFresh}

@@ -14,7 +14,7 @@ use Rattle.mtl_formulas.specs.FormulaValue.{answer_at}
 use Rattle.mtl_monitor.specs.declared.building.Operand.{Operand}
 use Rattle.mtl_monitor.specs.declared.program.Program.{Program}
 use Rattle.mtl_monitor.specs.declared.trace_state.TraceState.{TraceState}
-use Rattle.mtl_monitor.specs.Traces.{Trace, value_in}
+use Rattle.mtl_formulas.specs.Traces.{Trace, value_in}
 use Rattle.mtl_monitor.specs.Inner.Steps.{value_at}
 use Rattle.mtl_monitor.specs.Inner.Quiet.{AreAnswered, AreQuiet, flag_at, CanStay, MayRest, Walked}
 use Rattle.mtl_monitor.specs.Inner.Marks.{IsUnmarked, OnlyMarked}

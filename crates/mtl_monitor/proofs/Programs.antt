@@ -4,7 +4,7 @@ use Rattle.std.proofs.lemmas.Bool.{true≢false}
 use Rattle.mtl_formulas.specs.FormulaTree.{FormulaTree}
 use Rattle.mtl_monitor.specs.declared.program.Program.{Program}
 use Rattle.mtl_monitor.specs.declared.trace_state.TraceState.{TraceState}
-use Rattle.mtl_monitor.specs.Traces.{Trace}
+use Rattle.mtl_formulas.specs.Traces.{Trace}
 use Rattle.mtl_monitor.specs.Inner.Reading.{AreAllListed}
 use Rattle.mtl_monitor.specs.Inner.Starting.{AreFresh}
 use Rattle.mtl_monitor.specs.Following.{IsProgramWith, IsProgramOf, Fits, HasRoom, Follows, Closes}

@@ -1,6 +1,5 @@
 pub use Rattle.mtl_formulas.specs.FormulaTree
 pub use Rattle.mtl_formulas.specs.FormulaMeasures
-pub mod Traces
 pub mod Reaches
 pub mod Following
 pub mod Growing

@@ -6,7 +6,7 @@ ghost use Rattle.mtl_monitor.specs.Inner.Compiling.{Makes, same_node, put_of, de
 
 use crate::node::{Operator, ProgramNode};
 use mtl_formulas::{Formula, LinkKind, Node, PairKind, SpanKind};
-use outside::Memory;
+use out_of_memory::Memory;
 
 /// A node that others may take as an operand: its index and how late it is.
 #[derive(Clone, Copy)]

@@ -10,7 +10,7 @@ use crate::node::Passed;
 use crate::verdicts::is_same;
 use circular_buffer::HeapCircularBuffer;
 use mtl_formulas::Verdict;
-use outside::Memory;
+use out_of_memory::Memory;
 use std::alloc::Global;
 use std::marker::Model;
 

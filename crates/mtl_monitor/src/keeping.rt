@@ -4,7 +4,7 @@ ghost use Rattle.mtl_monitor.specs.Inner.Keeping.{is_keeping, keepers_of};
 
 use crate::node::{Operator, ProgramNode};
 use crate::starting::pushed;
-use outside::Memory;
+use out_of_memory::Memory;
 
 fn is_keeping(operator: Operator) -> bool
     ensures { result ≡ is_keeping operator }

@@ -6,7 +6,7 @@ ghost use Rattle.mtl_monitor.specs.Inner.Lookahead.{joined, nowhere, with_all_af
 use crate::verdicts::{greater, lesser};
 use circular_buffer::HeapCircularBuffer;
 use mtl_formulas::Verdict;
-use outside::Memory;
+use out_of_memory::Memory;
 use std::alloc::Global;
 
 /// What a stretch of positions gives an U: whether the first operand holds at all of them, and whether the second is reached

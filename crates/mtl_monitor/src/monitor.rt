@@ -5,7 +5,7 @@ ghost use Rattle.mtl_monitor.specs.Following.{Fits, count_of, fed_of, past_of};
 use crate::program::Program;
 use crate::trace_state::TraceState;
 use mtl_formulas::{Atoms, Formula, Verdict};
-use outside::Memory;
+use out_of_memory::Memory;
 use std::alloc::Global;
 
 /// A formula over a trace whose rows come one by one: each position's value comes once it can no longer change.
@@ -23,7 +23,7 @@ impl Monitor {
     ghost use Rattle.std.specs.Prelude.{IfOk, List, [], ◌∷◌, ◌++◌};
     ghost use Rattle.mtl_formulas.specs.FormulaTree.{FormulaTree, tree_of};
     ghost use Rattle.mtl_formulas.specs.FormulaMeasures.{IsValid};
-    ghost use Rattle.mtl_monitor.specs.Traces.{Trace};
+    ghost use Rattle.mtl_formulas.specs.Traces.{Trace};
     ghost use Rattle.mtl_monitor.specs.Following.{IsFed};
     ghost use Rattle.mtl_monitor.specs.Monitoring.{IsMonitorOf, AreOfOneFormula, IsFollowing, IsClosing, IsNext, answered, fed_rows, past_rows};
 

@@ -11,7 +11,7 @@ use crate::left::{Left, NOTHING};
 use crate::lookahead::Lookahead;
 use crate::verdicts::{lesser, negated};
 use mtl_formulas::Verdict;
-use outside::Memory;
+use out_of_memory::Memory;
 use std::alloc::Global;
 use std::marker::Model;
 

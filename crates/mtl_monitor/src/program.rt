@@ -12,7 +12,7 @@ use crate::node::{AtomNode, ProgramNode};
 use crate::reading::list_atoms;
 use crate::triggers::{Trigger, list_triggers};
 use mtl_formulas::{Formula, Glance};
-use outside::Memory;
+use out_of_memory::Memory;
 use std::alloc::Global;
 
 /// The formulas that are evaluated together over each trace. Equal parts of them stand once, and what is known of one trace is

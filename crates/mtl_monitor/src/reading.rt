@@ -12,7 +12,7 @@ use crate::node::{AtomNode, Operator, ProgramNode};
 use crate::starting::pushed;
 use crate::verdicts::is_same;
 use mtl_formulas::{Atoms, Glance, Verdict};
-use outside::Memory;
+use out_of_memory::Memory;
 
 /// Lists a node, if it is that of an atom whose answer the glance leaves open.
 fn list_atom(

@@ -7,7 +7,7 @@ use crate::left::NOTHING;
 use crate::node::{Kept, Operator, ProgramNode};
 use crate::outlook::Outlook;
 use mtl_formulas::Verdict;
-use outside::Memory;
+use out_of_memory::Memory;
 use smallvec::SmallVec;
 use std::alloc::Global;
 

@@ -8,7 +8,7 @@ use crate::program::Program;
 use crate::reading::read_atoms;
 use crate::starting::{Values, start};
 use mtl_formulas::{Atom, Atoms, Glance, Verdict};
-use outside::Memory;
+use out_of_memory::Memory;
 use std::alloc::Global;
 
 /// A row past the trace's end.
@@ -48,7 +48,7 @@ pub struct TraceState {
 impl TraceState {
     ghost use Rattle.std.specs.Prelude.{IfOk, IfSome, max, true, false, List, [], ◌∷◌, ◌++◌};
     ghost use Rattle.mtl_formulas.specs.FormulaTree.{FormulaTree};
-    ghost use Rattle.mtl_monitor.specs.Traces.{Trace};
+    ghost use Rattle.mtl_formulas.specs.Traces.{Trace};
     ghost use Rattle.mtl_monitor.specs.declared.program.Program.{Program};
     ghost use Rattle.mtl_monitor.specs.Inner.Quiet.{Walked};
     ghost use Rattle.mtl_monitor.specs.Inner.Reading.{AreAllListed, AreKnown, ReadsAtoms};

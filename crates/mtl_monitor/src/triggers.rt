@@ -7,7 +7,7 @@ ghost use Rattle.mtl_monitor.specs.Inner.Triggers.{IsTrigger, AreTriggers};
 use crate::marks::marked;
 use crate::node::{Operator, ProgramNode};
 use crate::starting::pushed;
-use outside::Memory;
+use out_of_memory::Memory;
 
 /// The marks of a node's operands, and how late the node is: small and in one list, since all are looked at where a row passes.
 #[derive(Clone, Copy)]

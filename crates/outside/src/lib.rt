@@ -4,7 +4,6 @@
 #![tactic(auto)]
 
 mod file_shelf;
-mod memory;
 mod memory_shelf;
 mod schedule;
 mod shelf;
@@ -14,7 +13,6 @@ mod whole;
 mod word;
 
 pub use file_shelf::FileShelf;
-pub use memory::Memory;
 pub use memory_shelf::{MemoryShelf, PlainShelf};
 pub use shelf::{Fetched, Shelf};
 pub use sink::{MemorySink, Put, Sink, StdSink, put_all};

@@ -2,7 +2,7 @@
 //! told with both values, by the name of its test.
 ghost use Rattle.std.specs.Prelude.{IsTrue};
 
-use outside::Memory;
+use out_of_memory::Memory;
 use std::fmt::Debug;
 use std::process::Abort;
 

@@ -10,7 +10,7 @@ use crate::searches::{head_on, keeping_on};
 use closest_approach::Moment;
 use hull_domains::Shape;
 use lattice::Plan;
-use outside::Memory;
+use out_of_memory::Memory;
 use planner::{Situation, Target};
 use situations::{BrokenRule, DomainEntry};
 use std::alloc::Global;

@@ -13,7 +13,7 @@ use fixed_geometry::Point;
 use hull_domains::Shape;
 use lattice::{Lattice, Plan};
 use motion::TickState;
-use outside::Memory;
+use out_of_memory::Memory;
 use planner::{Ahead, Domain, Past, Search, Situation, Target, Targets, least_plan, predicted};
 use predictions::Change;
 use rand_core::utils::NextWord;

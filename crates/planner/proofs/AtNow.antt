@@ -6,7 +6,7 @@ use Rattle.lattice.specs.OwnMotion.{choice_in_force}
 use Rattle.meetings.specs.Traces.{IsContactAt}
 use Rattle.mtl_formulas.specs.FormulaTree.{FormulaTree}
 use Rattle.mtl_monitor.specs.Following as monitor
-use Rattle.mtl_monitor.specs.Traces.{Trace}
+use Rattle.mtl_formulas.specs.Traces.{Trace}
 use Rattle.mtl_monitor.specs.declared.program.Program.{Program}
 use Rattle.situations.specs.FailingPlans.{AreTraceRows, BeginsAt}
 use Rattle.planner.specs.Inner.Breaking.{Tells, formulas_of}

@@ -3,7 +3,7 @@ use Rattle.std.proofs.Common.{ℕ, ◌<◌, List, length, arith}
 use Rattle.std.specs.Prelude.{All}
 use Rattle.mtl_formulas.specs.FormulaTree.{FormulaTree, leaf}
 use Rattle.mtl_formulas.specs.declared.atom.Atom.TheVariants.{Always}
-use Rattle.mtl_monitor.specs.Traces.{Trace}
+use Rattle.mtl_formulas.specs.Traces.{Trace}
 use Rattle.planner.specs.Inner.Breaking.{IsNewlyBrokenAt}
 use Rattle.rule_program.specs.Lags.{IsNoLast}
 

@@ -12,7 +12,7 @@ use Rattle.lattice.specs.PlanNumbers.{plan_of}
 use Rattle.lattice.specs.declared.under_way.UnderWay.{UnderWay}
 use Rattle.lattice.proofs.Digits.{length-plan_of, plan_none}
 use Rattle.meetings.specs.Standing as meetings
-use Rattle.mtl_monitor.specs.Traces.{Trace}
+use Rattle.mtl_formulas.specs.Traces.{Trace}
 use Rattle.mtl_monitor.specs.declared.program.Program.{Program}
 use Rattle.situations.specs.FailingPlans.{BreaksARule, EntersAt, EntersDomain, FailsBy, FailsTowards, Some_}
 use Rattle.planner.specs.Inner.Legs.{IsPathIn, IsPlannedLeg, lasts, legs_before, legs_through}

@@ -13,7 +13,7 @@ use Rattle.mtl_formulas.specs.declared.verdict.Verdict.{Verdict}
 use Rattle.mtl_formulas.specs.declared.verdict.Verdict.TheVariants.{No, Open}
 use Rattle.mtl_monitor.specs.Following.{Closes, Follows, IsEnded, IsFed, count_of, formula_at, past_of}
 use Rattle.mtl_monitor.specs.Reaches.{greatest_reach}
-use Rattle.mtl_monitor.specs.Traces.{Trace, value_in}
+use Rattle.mtl_formulas.specs.Traces.{Trace, value_in}
 use Rattle.mtl_monitor.specs.declared.program.Program.{Program}
 use Rattle.mtl_monitor.specs.declared.trace_state.TraceState.{TraceState}
 use Rattle.planner.specs.Inner.Breaking.{HasPassed, IsBrokenAt, IsNewlyBrokenAt, IsRowAdded, Tells, flag_at}

@@ -17,7 +17,7 @@ use Rattle.mtl_formulas.specs.declared.verdict.Verdict.{Verdict}
 use Rattle.mtl_formulas.specs.declared.verdict.Verdict.TheVariants.{No}
 use Rattle.mtl_monitor.specs.Following as monitor
 use Rattle.mtl_monitor.specs.Reaches.{greatest_reach}
-use Rattle.mtl_monitor.specs.Traces.{Trace, value_in}
+use Rattle.mtl_formulas.specs.Traces.{Trace, value_in}
 use Rattle.mtl_monitor.specs.declared.program.Program.{Program}
 use Rattle.rule_set.specs.NamedTrees.{NamedTree}
 use Rattle.situations.specs.FailingPlans.{AreTraceRows, BeginsAt, BreaksARule, NewlyBreaks}

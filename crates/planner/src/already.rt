@@ -3,12 +3,12 @@ ghost use Rattle.std.specs.Prelude.{ℕ, ◌≡◌, ◌+◌, ◌<◌, ◌≤◌,
 ghost use Rattle.mtl_formulas.specs.FormulaTree.{FormulaTree};
 ghost use Rattle.mtl_formulas.specs.declared.verdict.Verdict.TheVariants.{No};
 ghost use Rattle.mtl_monitor.specs.Following.{count_of, fed_of, formula_at, past_of, Fits, Follows, HasRoom};
-ghost use Rattle.mtl_monitor.specs.Traces.{Trace};
+ghost use Rattle.mtl_formulas.specs.Traces.{Trace};
 ghost use Rattle.planner.specs.Inner.Breaking.{flag_at, HasPassed, IsBrokenAt, IsNewlyBrokenAt, IsRowAdded, Tells};
 
 use mtl_formulas::Verdict;
 use mtl_monitor::{Program, TraceState};
-use outside::Memory;
+use out_of_memory::Memory;
 use std::alloc::Global;
 
 /// Which formulas are broken at which positions of a trace that is cut at now, where the row that decides the position in a longer trace

@@ -8,7 +8,7 @@ ghost use Rattle.planner.specs.Inner.Watching.{IsEarly, IsReady, StandsFor};
 use crate::already::Already;
 use crate::watched::Watched;
 use mtl_monitor::Program;
-use outside::Memory;
+use out_of_memory::Memory;
 use situations::{Situation, Target};
 use std::alloc::Global;
 

@@ -20,7 +20,7 @@ use crate::watched::Watched;
 use fixed_geometry::Point;
 use motion::TickState;
 use mtl_monitor::{Program, TraceState};
-use outside::Memory;
+use out_of_memory::Memory;
 use situations::{Situation, Target};
 use std::alloc::Global;
 

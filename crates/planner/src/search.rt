@@ -6,7 +6,7 @@ ghost use Rattle.situations.specs.Situations.{IsSituation};
 use crate::explore::explore;
 use crate::walk::Walk;
 use lattice::Plan;
-use outside::Memory;
+use out_of_memory::Memory;
 use situations::Situation;
 use std::alloc::Global;
 

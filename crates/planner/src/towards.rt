@@ -1,7 +1,7 @@
 //! Following own ship's path in a leg towards a target.
 ghost use Rattle.std.specs.Prelude.{◌≡◌, ◌+◌, ◌↔◌, IsTrue, false};
 ghost use Rattle.mtl_monitor.specs.Following.{Fits, HasRoom};
-ghost use Rattle.mtl_monitor.specs.Traces.{Trace};
+ghost use Rattle.mtl_formulas.specs.Traces.{Trace};
 ghost use Rattle.planner.specs.Inner.Legs.{IsPathIn, IsPlannedLeg};
 ghost use Rattle.planner.specs.Inner.Watching.{IsCut, IsEarly, IsFollowed, IsReady, IsTowards, Stands};
 ghost use Rattle.situations.specs.FailingPlans.{EntersDomain, FailsTowards};

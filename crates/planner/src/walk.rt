@@ -17,7 +17,7 @@ use crate::towards::Towards;
 use crate::watched::Watched;
 use motion::TickState;
 use mtl_monitor::TraceState;
-use outside::Memory;
+use out_of_memory::Memory;
 use rule_program::{are_no_last, program_of};
 use situations::Situation;
 use std::alloc::Global;

@@ -5,7 +5,7 @@ ghost use Rattle.encounters.specs.Directions.{HaveDirections};
 ghost use Rattle.encounters.specs.Risk.{IsDetect};
 ghost use Rattle.mtl_formulas.specs.FormulaTree.{FormulaTree};
 ghost use Rattle.mtl_monitor.specs.Following.{count_of, fed_of, past_of, AreStatesOf, Fits, Follows, HasRoom, IsProgramOf};
-ghost use Rattle.mtl_monitor.specs.Traces.{Trace};
+ghost use Rattle.mtl_formulas.specs.Traces.{Trace};
 ghost use Rattle.situations.specs.FailingPlans.{BreaksARule};
 ghost use Rattle.planner.specs.Inner.Breaking.{formulas_of, Tells};
 ghost use Rattle.planner.specs.Inner.Watching.{IsCopyOf, IsCut, IsFollowed, IsReady, IsStepAt, IsTowards, Stands, StandsFor};
@@ -18,7 +18,7 @@ use crate::towards::Towards;
 use encounters::{Act, Detect, PairStep};
 use meetings::Follower;
 use mtl_monitor::{Program, TraceState};
-use outside::Memory;
+use out_of_memory::Memory;
 use std::alloc::Global;
 
 /// The trace towards a target: whether it has begun, the engagement, the values of the rules' formulas, and how many rows have come

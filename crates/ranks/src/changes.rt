@@ -8,7 +8,7 @@ ghost use Rattle.ranks.specs.declared.change.Change.{Change};
 
 use crate::change::Change;
 use crate::rank::Rank;
-use outside::Memory;
+use out_of_memory::Memory;
 use std::alloc::Global;
 use std::marker::Model;
 

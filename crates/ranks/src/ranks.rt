@@ -9,7 +9,7 @@ use crate::change::Change;
 use crate::changes::Changes;
 use crate::rank::Rank;
 use crate::reading::{last_report, rank_of_kind, rank_of_status};
-use outside::Memory;
+use out_of_memory::Memory;
 use std::alloc::Global;
 use std::collections::BTreeMap;
 use std::marker::Model;

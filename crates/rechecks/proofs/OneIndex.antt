@@ -1,7 +1,7 @@
 -- The first row that is bad has one index.
 use Rattle.std.proofs.Common.{ℕ, ◌≡◌, ◌<◌, inl, inr, List, arith}
 use Rattle.std.proofs.lemmas.Bool.{cases_lt}
-use Rattle.audit_report.specs.ReportRows.{Fields}
+use Rattle.csv_rows.specs.CsvRows.{Fields}
 use Rattle.situations.specs.declared.situation.Situation.{Situation}
 use Rattle.rechecks.specs.CheckedRows.{IsFirstBadRow}
 

@@ -5,7 +5,7 @@ use Rattle.std.specs.Borrow.{Bor}
 use Rattle.std.specs.Bool.{MatchBool}
 use Rattle.std.specs.List.{AllZip}
 use Rattle.std.proofs.lemmas.List.Elements.{filter-append}
-use Rattle.audit_report.specs.ReportRows.{Fields}
+use Rattle.csv_rows.specs.CsvRows.{Fields}
 use Rattle.csv.specs.Machine.{next_record, Read}
 use Rattle.csv.specs.Reading.{default_config, pending_of, reader_state, records, records_from, is_bom, source_of, strip_bom, NextIs, ReadRecord, ReadsNext}
 use Rattle.csv.specs.Records.{field_at}

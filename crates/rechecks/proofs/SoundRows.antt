@@ -3,7 +3,7 @@ use Rattle.std.proofs.Common.{ℕ, zero, suc, add-one, ◌≡◌, ◌≢◌, ◌
 use Rattle.std.specs.Prelude.{slice_get, ◌↔◌, All, Bool, IsSomeAnd}
 use Rattle.std.specs.List.{AllZip}
 use Rattle.std.proofs.lemmas.Bool.{cases_lt}
-use Rattle.audit_report.specs.ReportRows.{Fields}
+use Rattle.csv_rows.specs.CsvRows.{Fields}
 use Rattle.lattice.specs.Grids.{plans_of}
 use Rattle.situations.specs.declared.situation.Situation.{Situation}
 use Rattle.refutations.specs.GoodEntries.{IsGood}

@@ -1,7 +1,7 @@
 -- How many turns it takes to read a text: one for each byte and one for its end are enough, whatever their number.
 use Rattle.std.proofs.Common.{ℕ, zero, suc, ◌≡◌, ◌-◌, ◌≤◌, ◌<◌, ◌++◌, false, true, List, [], ◌∷◌, length, Some, None, refl, arith, ap, subst}
 use Rattle.std.specs.Prelude.{Bool, Option, ◌==◌, ◌||◌, ◌&&◌, if◌then◌else◌}
-use Rattle.audit_report.specs.ReportRows.{Fields}
+use Rattle.csv_rows.specs.CsvRows.{Fields}
 use Rattle.csv.specs.Machine.{ends_at_end, after_end, field_after, fields_after, in_field, is_end, next_record, start_field, step, Read}
 use Rattle.csv.specs.Reading.{default_config, records_from, records_next}
 use Rattle.csv.specs.declared.parser.Action.{Action}

@@ -1,7 +1,7 @@
 -- Whether the rows of a text say rightly why there is no plan, and which of them is the first that does not.
 use Rattle.std.specs.Prelude.{ℕ, ◌≡◌, ◌≢◌, ◌+◌, ◌≤◌, ◌<◌, bytes_eq, codes, Bool, false, filter, List, [], ◌∷◌, length, take}
 use Rattle.std.specs.List.{AllZip}
-use Rattle.audit_report.specs.ReportRows.{Fields}
+use Rattle.csv_rows.specs.CsvRows.{Fields}
 use Rattle.csv.specs.Reading.{default_config, records, strip_bom}
 use Rattle.lattice.specs.Grids.{plans_of}
 use Rattle.situations.specs.declared.situation.Situation.{Situation}

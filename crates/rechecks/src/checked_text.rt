@@ -6,7 +6,7 @@ ghost use Rattle.refutations.specs.declared.entry.Checked.TheVariants as Checked
 ghost use Rattle.rechecks.specs.CheckedRows.{why_rows, AreRight, TellsOf};
 
 use crate::entries_read::read_entries;
-use outside::Memory;
+use out_of_memory::Memory;
 use refutations::{Checked, check};
 use situations::Situation;
 use std::alloc::Global;

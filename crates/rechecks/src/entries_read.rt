@@ -7,7 +7,7 @@ ghost use Rattle.rechecks.specs.Inner.ReadRows.{AreRead, TakesRow};
 
 use crate::text_rows::{is_why, read_row};
 use csv::{ByteRecord, ReaderBuilder};
-use outside::Memory;
+use out_of_memory::Memory;
 use refutations::{WhyEntry, read_entry};
 use situations::Situation;
 use std::alloc::Global;

@@ -1,12 +1,12 @@
 //! The rows of a text in memory, one after the other.
 ghost use Rattle.std.specs.Prelude.{ℕ, ◌≡◌, ◌+◌, List, IfOk};
-ghost use Rattle.audit_report.specs.ReportRows.{Fields};
+ghost use Rattle.csv_rows.specs.CsvRows.{Fields};
 ghost use Rattle.csv.specs.Records.{fields_of};
 ghost use Rattle.rechecks.specs.CheckedRows.{is_why};
 ghost use Rattle.rechecks.specs.Inner.ReadRows.{Gives, ReadsPlainly, Turned};
 
 use csv::{ByteRecord, ErrorKind, Reader};
-use outside::Memory;
+use out_of_memory::Memory;
 
 /// The next row, and whether there is one. A read fails for want of memory alone: no error of text, of lengths or of values can come, and bytes in
 /// memory are always there. That last `csv` does not promise, so its error of a failed reader is told as the same.

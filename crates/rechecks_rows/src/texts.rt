@@ -8,7 +8,7 @@ ghost use Rattle.situations.specs.Situations.{IsSituation};
 
 use crate::compared::is;
 use csv::{ByteRecord, ReaderBuilder};
-use outside::Memory;
+use out_of_memory::Memory;
 use rechecks::{GREATEST_TEXT, recheck};
 use refutations::{Checked, entry_bytes, read_entry};
 use situations::Situation;

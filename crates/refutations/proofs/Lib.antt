@@ -3,8 +3,6 @@ pub mod ByIdentity
 pub mod HeldReasons
 pub mod Blocks
 pub mod BrokenRules
-pub mod FirstEntries
-pub mod Walking
 pub mod WrittenChoices
 pub mod ToldEntries
 pub mod FoundTargets

@@ -8,7 +8,7 @@ use Rattle.std.proofs.lemmas.Bool.Decides.{Decides-eqb, not_from_Decides}
 use Rattle.std.proofs.lemmas.Fmt.{decimal_injective, decimal_nonempty, IsAscii-decimal}
 use Rattle.std.proofs.lemmas.Str.{IsUtf8-from_ascii}
 use Rattle.std.proofs.lemmas.Slice.Eq.{bytes_eq-Decides}
-use Rattle.audit_report.specs.ReportRows.{Fields}
+use Rattle.csv_rows.specs.CsvRows.{Fields}
 use Rattle.closest_approach.specs.declared.nearest.Moment.{Moment}
 use Rattle.lattice.specs.Grids.{choices_of}
 use Rattle.rule_set.specs.NamedTrees.{has_rule, rule_at, NamedTree, RulesHaveDifferentNames}

@@ -2,8 +2,7 @@
 use Rattle.std.specs.Prelude.{ℕ, ◌≡◌, ◌<◌, ◌^◌, codes, List, [], ◌∷◌, map}
 use Rattle.std.specs.Fmt.{decimal}
 use Rattle.std.specs.List.{join_with_byte}
-use Rattle.audit_report.specs.CsvRows.{row_of}
-use Rattle.audit_report.specs.ReportRows.{Fields}
+use Rattle.csv_rows.specs.CsvRows.{row_of, Fields}
 use Rattle.rule_set.specs.NamedTrees.{rule_at}
 use Rattle.situations.specs.declared.situation.Situation.{Situation}
 use Rattle.refutations.specs.RightLists.{IsEntry}

@@ -1,6 +1,5 @@
-pub use Rattle.audit_report.specs.CsvRows
+pub use Rattle.csv_rows.specs.CsvRows
 pub mod GoodEntries
 pub mod RightLists
-pub mod CanonicalLists
 pub mod EntryRows
 pub mod Inner

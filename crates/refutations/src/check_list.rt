@@ -11,7 +11,7 @@ use crate::entry::{Checked, WhyEntry};
 use crate::goodness::is_good;
 use crate::laws::a_right_list_refutes;
 use crate::replay::Replay;
-use outside::Memory;
+use out_of_memory::Memory;
 use situations::Situation;
 use std::alloc::Global;
 

@@ -9,7 +9,7 @@ ghost use Rattle.situations.specs.Situations.{end_of, own_at, target_at, IsSitua
 use encounters::PairStep;
 use lattice::Plan;
 use motion::TickState;
-use outside::Memory;
+use out_of_memory::Memory;
 use situations::{Situation, Target};
 use std::alloc::Global;
 

@@ -11,10 +11,10 @@ ghost use Rattle.refutations.specs.declared.entry.Reason.{Reason};
 ghost use Rattle.refutations.specs.declared.entry.WhyEntry.{WhyEntry};
 
 use crate::entry::{Reason, WhyEntry};
-use crate::entry_row::digits;
 use crate::prefix::Prefix;
 use closest_approach::Moment;
 use csv::ByteRecord;
+use csv_rows::digits;
 use itoa::Buffer;
 use rule_set::RuleSet;
 use situations::Situation;

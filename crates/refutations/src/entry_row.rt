@@ -1,23 +1,14 @@
 //! The row of an entry as text.
-ghost use Rattle.std.specs.Prelude.{◌≡◌, map, IfOk};
-ghost use Rattle.std.specs.Fmt.{decimal};
-ghost use Rattle.audit_report.specs.CsvRows.{row_of};
+ghost use Rattle.std.specs.Prelude.{◌≡◌, IfOk};
 ghost use Rattle.refutations.specs.EntryRows.{choices_text, entry_text};
 ghost use Rattle.refutations.specs.RightLists.{KnowsRule};
 
 use crate::entry::{Reason, WhyEntry};
-use audit_report::ReportText;
+use csv_rows::{digits, fields_bytes};
 use itoa::Buffer;
-use outside::Memory;
+use out_of_memory::Memory;
 use situations::Situation;
 use std::alloc::Global;
-
-/// The digits of a number, which lie in a buffer of the caller's.
-pub(crate) fn digits(buffer: &mut Buffer, number: u64) -> &[u8]
-    ensures { result.now ≡ decimal number }
-{
-    buffer.format(number).as_bytes()
-}
 
 /// The choices with a point between each two.
 fn choices_text(alloc: Global, choices: &[u16]) -> Result<Vec<u8>, Memory>
@@ -32,15 +23,6 @@ fn choices_text(alloc: Global, choices: &[u16]) -> Result<Vec<u8>, Memory>
         text.extend_from_slice(digits(&mut buffer, u64::from(choices[k])))?;
     }
     Ok(text)
-}
-
-/// The text of a row of these fields.
-fn text_of(alloc: Global, fields: &[&[u8]]) -> Result<Vec<u8>, Memory>
-    ensures { IfOk result (λ bytes. bytes.items ≡ row_of (map (λ field. field.now) fields.now)) }
-{
-    let mut text = ReportText::new(alloc);
-    text.write_fields(fields)?;
-    text.into_bytes()
 }
 
 /// The text of an entry's row, as CSV with a line feed: `why`, the choices of its prefix, its target, the reason and the step, and the moment of a
@@ -60,7 +42,7 @@ pub fn entry_bytes(
     let mut a = Buffer::new();
     let mut b = Buffer::new();
     match entry.reason {
-        Reason::Domain { step, moment } => text_of(
+        Reason::Domain { step, moment } => fields_bytes(
             alloc,
             &[
                 b"why",
@@ -72,7 +54,7 @@ pub fn entry_bytes(
                 digits(&mut b, moment.b),
             ],
         ),
-        Reason::Rule { index, step } => text_of(
+        Reason::Rule { index, step } => fields_bytes(
             alloc,
             &[
                 b"why",

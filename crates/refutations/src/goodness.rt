@@ -22,7 +22,7 @@ use encounters::PairStep;
 use hull_domains::inside;
 use lattice::Plan;
 use lattice::laws::numbers_and_plans_are_inverse;
-use outside::Memory;
+use out_of_memory::Memory;
 use situations::laws::prefixes_are_blocks;
 use situations::{Situation, Target};
 use std::alloc::Global;
@@ -109,8 +109,8 @@ fn holds(
     }
 }
 
-/// The horizon of so many legs: the tick up to which they tell the steps.
-pub(crate) fn horizon(situation: &Situation, legs: usize) -> u32
+/// The horizon of so many legs of a plan: the tick up to which they tell the steps.
+pub fn horizon(situation: &Situation, legs: usize) -> u32
     requires { IsSituation situation.now }
     ensures value { result ≡ reached situation.now legs }
     ensures from_now { now_of situation.now ≤ result }

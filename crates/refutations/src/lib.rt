@@ -2,12 +2,12 @@
 //!
 //! A list of entries says of every plan of own ship why it fails. An entry is a prefix of plans, the choices of their first legs, with a target and a
 //! reason: own ship is inside the target's domain at an instant of a step, or a rule is newly broken at a step. It is good where its reason holds in what
-//! the prefix tells of the trace, and then every plan that extends the prefix fails for that reason. [`explain`] gives the canonical list where no plan
-//! passes, and [`check`] judges any list with no search. [`entry_bytes`] writes an entry as a row, and [`read_entry`] reads it.
+//! the prefix tells of the trace, and then every plan that extends the prefix fails for that reason. [`check`] judges any list with no search.
+//! [`entry_bytes`] writes an entry as a row, and [`read_entry`] reads it.
 //!
 //! With ten choices in each of two legs an entry of the prefix (3) is about the plans 30 to 39, and one of the prefix (3, 4) about plan 34. A list that
 //! goes from the prefix (3) to the prefix (5) leaves ten plans out, and is refused at the second of these entries.
-//! How the plan is sought has no place here but for the search's levels, which `explain` walks.
+//! How a plan is sought and how such a list is found have no place here.
 #![tactic(auto)]
 
 mod check_list;
@@ -15,7 +15,6 @@ mod course;
 mod entry;
 mod entry_reading;
 mod entry_row;
-mod explaining;
 mod goodness;
 mod instants;
 pub mod laws;
@@ -27,5 +26,5 @@ pub use check_list::check;
 pub use entry::{Checked, Reason, WhyEntry};
 pub use entry_reading::read_entry;
 pub use entry_row::entry_bytes;
-pub use explaining::explain;
+pub use goodness::horizon;
 pub use prefix::Prefix;

@@ -11,7 +11,7 @@ ghost use Rattle.situations.specs.declared.situation.Target.{Target};
 use crate::course::Course;
 use crate::trace_so_far::TraceSoFar;
 use lattice::Plan;
-use outside::Memory;
+use out_of_memory::Memory;
 use situations::Situation;
 use std::alloc::Global;
 

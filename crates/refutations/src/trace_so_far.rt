@@ -14,7 +14,7 @@ use crate::course::Course;
 use crate::goodness::horizon;
 use crate::prefix::Prefix;
 use meetings::{AtomRow, Follower};
-use outside::Memory;
+use out_of_memory::Memory;
 use situations::{Situation, Target};
 use std::alloc::Global;
 

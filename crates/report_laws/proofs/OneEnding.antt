@@ -2,7 +2,7 @@
 use Rattle.std.proofs.Common.{ℕ, ◌≡◌, ◌<◌, Bool, true, false, List, ◌++◌, Option, Some, None, sym, ap, ap₂, subst, subst₂, ◌∙◌}
 use Rattle.std.specs.Prelude.{flat_map}
 use Rattle.std.specs.List.{AllPairs}
-use Rattle.audit_report.specs.CsvRows.{row_of}
+use Rattle.csv_rows.specs.CsvRows.{row_of}
 use Rattle.audit_report.specs.ReportRows.{no_plan_fields}
 use Rattle.audit_rows.specs.declared.row.Row.{Row}
 use Rattle.auditor.specs.declared.total.Total.{Total}

@@ -15,7 +15,7 @@ use Rattle.situations.specs.LeastPlans.{numbered}
 use Rattle.situations.specs.Situations.{own_at, target_at}
 use Rattle.situations.specs.declared.situation.Situation.{Situation}
 use Rattle.situations.specs.declared.situation.Target.{Target}
-use Rattle.refutations.specs.CanonicalLists.{IsCanonical, IsCanonicalFor, IsEarlier, IsFirstGood, TellsMoment}
+use Rattle.explanations.specs.CanonicalLists.{IsCanonical, IsCanonicalFor, IsEarlier, IsFirstGood, TellsMoment}
 use Rattle.refutations.specs.RightLists.{ends_from, IsEntry}
 use Rattle.refutations.specs.declared.entry.Reason.{Reason}
 use Rattle.refutations.specs.declared.entry.Reason.TheVariants.{Domain, Rule}

@@ -1,7 +1,7 @@
 -- What a front of a log decides is a front of what follows.
 use Rattle.std.proofs.Common.{◌≡◌, ℕ, Bool, List, [], ◌∷◌, ◌++◌, ap, sym, subst, ◌∙◌, append_assoc, append-nil}
 use Rattle.std.proofs.lemmas.Grind.{flat_map-append}
-use Rattle.audit_report.specs.CsvRows.{row_of}
+use Rattle.csv_rows.specs.CsvRows.{row_of}
 use Rattle.audit_rows.specs.declared.row.Row.{Row}
 use Rattle.early_monitor.specs.Alarms.{AreAlarms}
 use Rattle.early_monitor.specs.declared.alarm.Alarm.{Alarm}

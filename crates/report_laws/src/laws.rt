@@ -7,7 +7,7 @@ ghost use Rattle.command_line.specs.Requests.{AskFor};
 ghost use Rattle.command_line.specs.declared.mode.Mode.{Mode};
 ghost use Rattle.command_line.specs.declared.request.Request.{Request};
 ghost use Rattle.outside.specs.Shelves.{Files};
-ghost use Rattle.refutations.specs.CanonicalLists.{IsCanonical};
+ghost use Rattle.explanations.specs.CanonicalLists.{IsCanonical};
 ghost use Rattle.refutations.specs.declared.entry.WhyEntry.{WhyEntry};
 ghost use Rattle.scenario_values.specs.declared.values.Scenario.{Scenario};
 ghost use Rattle.sessions.specs.Endings.{Came, IsEnding};

@@ -1,7 +1,7 @@
 -- The rows of the stretches that an audit finds.
 use Rattle.std.specs.Prelude.{ℕ, ◌<◌, ⊤, All, flat_map, length, List}
-use Rattle.audit_report.specs.CsvRows.{row_of}
-use Rattle.audit_report.specs.ReportRows.{Fields, meeting_fields, verdict_fields}
+use Rattle.csv_rows.specs.CsvRows.{row_of, Fields}
+use Rattle.audit_report.specs.ReportRows.{meeting_fields, verdict_fields}
 use Rattle.audit_rows.specs.declared.row.Row.{Row}
 use Rattle.audit_rows.specs.declared.row.Row.TheVariants as row
 use Rattle.rule_set.specs.NamedTrees.{NamedTree, rule_at}

@@ -1,8 +1,8 @@
 -- The rows of the vessels that are held.
 use Rattle.std.specs.Prelude.{ℕ, flat_map, length, List, Option, Some, None}
 use Rattle.ais_messages.specs.declared.message.ShipData.{ShipData}
-use Rattle.audit_report.specs.CsvRows.{row_of}
-use Rattle.audit_report.specs.ReportRows.{Fields, vessel_fields}
+use Rattle.csv_rows.specs.CsvRows.{row_of, Fields}
+use Rattle.audit_report.specs.ReportRows.{vessel_fields}
 use Rattle.situations.specs.declared.near.Near.{Near}
 use Rattle.tracks.specs.AcceptedReports.{JudgingNumbers}
 use Rattle.tracks.specs.Lengths.{length_of}

@@ -1,13 +1,13 @@
 //! The rows of alarms.
 ghost use Rattle.std.specs.Prelude.{◌++◌, ◌<◌, ℕ, List, All, OnOk, length};
-ghost use Rattle.audit_report.specs.CsvRows.{row_of};
+ghost use Rattle.csv_rows.specs.CsvRows.{row_of};
 ghost use Rattle.audit_report.specs.ReportTexts.{HasText};
 ghost use Rattle.early_monitor.specs.declared.alarm.Alarm.{Alarm};
 ghost use Rattle.report_parts.specs.AlarmRows.{alarm_rows, told_alarm};
 
 use audit_report::ReportText;
 use early_monitor::Alarm;
-use outside::Memory;
+use out_of_memory::Memory;
 use rule_set::RuleSet;
 
 /// Writes the row of an alarm.

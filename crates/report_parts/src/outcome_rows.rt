@@ -1,6 +1,6 @@
 //! How many lines came to each outcome, as rows.
 ghost use Rattle.std.specs.Prelude.{◌≡◌, ◌++◌, List, ℕ, OnOk, flat_map, slice_index};
-ghost use Rattle.audit_report.specs.CsvRows.{row_of};
+ghost use Rattle.csv_rows.specs.CsvRows.{row_of};
 ghost use Rattle.audit_report.specs.ReportRows.{count_fields};
 ghost use Rattle.audit_report.specs.ReportTexts.{HasText};
 ghost use Rattle.log_lines.specs.JudgedLines.{judged_lines};
@@ -11,7 +11,7 @@ ghost use Rattle.scenario_values.specs.declared.values.Scenario.{Scenario};
 
 use audit_report::{ReportRow, ReportText};
 use log_lines::{Judge, LineOutcome};
-use outside::Memory;
+use out_of_memory::Memory;
 
 /// All outcomes, in the order of the report.
 #[tactic(auto, unfolding(log_lines::specs::LineOutcomes::all_outcomes))]

@@ -5,7 +5,7 @@ ghost use Rattle.report_parts.specs.PointRows.{rows_of_line};
 
 use audit_report::{ReportRow, ReportText};
 use log_lines::Judged;
-use outside::Memory;
+use out_of_memory::Memory;
 
 /// Writes the rows of a line: that of its accepted report, if it has one.
 #[inline(always)]

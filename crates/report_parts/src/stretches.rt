@@ -1,12 +1,12 @@
 //! The rows of the stretches that an audit finds.
 ghost use Rattle.std.specs.Prelude.{◌++◌, ℕ, List, OnOk};
-ghost use Rattle.audit_report.specs.CsvRows.{row_of};
+ghost use Rattle.csv_rows.specs.CsvRows.{row_of};
 ghost use Rattle.audit_report.specs.ReportTexts.{HasText};
 ghost use Rattle.report_parts.specs.StretchRows.{AreOfRules, IsOfRules, stretch_fields, stretch_rows};
 
 use audit_report::ReportText;
 use auditor::Row;
-use outside::Memory;
+use out_of_memory::Memory;
 use rule_set::RuleSet;
 
 /// Writes the row of a stretch.

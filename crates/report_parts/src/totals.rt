@@ -5,7 +5,7 @@ ghost use Rattle.report_parts.specs.TotalRows.{total_rows};
 
 use audit_report::{ReportRow, ReportText};
 use auditor::Total;
-use outside::Memory;
+use out_of_memory::Memory;
 use rule_set::RuleSet;
 
 /// Writes what each rule comes to, in the order of the rules.

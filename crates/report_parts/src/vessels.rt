@@ -1,7 +1,7 @@
 //! The rows of the vessels that are held.
 ghost use Rattle.std.specs.Prelude.{◌≡◌, ◌≢◌, ◌<◌, ◌^◌, ◌++◌, ℕ, List, All, OnOk, length, true};
 ghost use Rattle.std.specs.Option.{option_copied};
-ghost use Rattle.audit_report.specs.CsvRows.{row_of};
+ghost use Rattle.csv_rows.specs.CsvRows.{row_of};
 ghost use Rattle.audit_report.specs.ReportTexts.{HasText};
 ghost use Rattle.tracks.specs.AcceptedReports.{JudgingNumbers};
 ghost use Rattle.tracks.specs.Standing.{IsHeldVessel, StandsFor as BookStandsFor};
@@ -13,7 +13,7 @@ ghost use Rattle.report_parts.specs.VesselRows.{held_fields, near_rows, ship_typ
 
 use ais_messages::{ShipData, Text20};
 use audit_report::{ReportRow, ReportText};
-use outside::Memory;
+use out_of_memory::Memory;
 use situations::Near;
 use tracks::{Book, HeldVessel, Statics};
 

@@ -15,7 +15,7 @@ use Rattle.mtl_formulas.specs.FormulaTree.{FormulaTree, leaf, negation, pair, sp
 use Rattle.mtl_formulas.specs.FormulaMeasures.{HasValidParts}
 use Rattle.mtl_formulas.specs.FormulaValue.{before_end, least_over, pair_value, span_value, link_value, past_start, past_count, ahead_count}
 use Rattle.mtl_formulas.proofs.Values.{value_of-past}
-use Rattle.mtl_monitor.specs.Traces.{Trace, value_in}
+use Rattle.mtl_formulas.specs.Traces.{Trace, value_in}
 use Rattle.rule_program.specs.declared.lags.Lags.{Lags}
 use Rattle.rule_program.specs.Lags.{here, pair_lags, span_lags, link_lags, lags_of}
 use Rattle.rule_program.proofs.Ranges.{greatest_no, greatest_yes, least_no, least_yes, found_no, found_yes, all_no, all_yes}

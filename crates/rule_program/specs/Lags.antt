@@ -10,7 +10,7 @@ use Rattle.mtl_formulas.specs.declared.formula.LinkKind.TheVariants.{U, S}
 use Rattle.mtl_formulas.specs.declared.verdict.Verdict.TheVariants.{No}
 use Rattle.mtl_formulas.specs.FormulaTree.{FormulaTree, leaf, negation, pair, span, link}
 use Rattle.mtl_formulas.specs.FormulaMeasures.{reach_of}
-use Rattle.mtl_monitor.specs.Traces.{Trace, value_in}
+use Rattle.mtl_formulas.specs.Traces.{Trace, value_in}
 use Rattle.rule_program.specs.declared.lags.Lags.{Lags}
 
 -- An operator that looks back looks at the position itself where its lower bound is 0.

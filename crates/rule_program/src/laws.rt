@@ -3,7 +3,7 @@ ghost use Rattle.std.specs.Prelude.{◌≡◌, ℕ, ◌+◌, ◌<◌, length};
 ghost use Rattle.mtl_formulas.specs.declared.verdict.Verdict.TheVariants.{No};
 ghost use Rattle.mtl_formulas.specs.FormulaTree.{FormulaTree};
 ghost use Rattle.mtl_formulas.specs.FormulaMeasures.{HasValidParts};
-ghost use Rattle.mtl_monitor.specs.Traces.{Trace, value_in};
+ghost use Rattle.mtl_formulas.specs.Traces.{Trace, value_in};
 ghost use Rattle.rule_program.specs.Lags.{lags_of};
 
 /// A No needs as many rows behind its position as the formula's lag says.

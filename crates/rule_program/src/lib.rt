@@ -16,7 +16,7 @@ ghost use Rattle.rule_set.specs.declared.rule_set.TheConstants.{MOST_RULES};
 
 pub use lags::{Lags, are_no_last, is_no_last, lags_of};
 use mtl_monitor::Program;
-use outside::Memory;
+use out_of_memory::Memory;
 use rule_set::RuleSet;
 use std::alloc::Global;
 

@@ -2,5 +2,4 @@ pub mod RuleTrees
 pub mod NamedTrees
 pub use Rattle.mtl_formulas.specs.FormulaTree
 pub use Rattle.mtl_formulas.specs.FormulaMeasures
-pub use Rattle.mtl_formulas.specs.FormulaText
 pub mod Inner

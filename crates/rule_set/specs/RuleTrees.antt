@@ -10,7 +10,7 @@ use Rattle.mtl_formulas.specs.declared.formula.PairKind.TheVariants.{And, Or, Im
 use Rattle.mtl_formulas.specs.declared.formula.SpanKind.TheVariants.{F, H}
 use Rattle.mtl_formulas.specs.declared.formula.LinkKind.TheVariants.{S}
 use Rattle.mtl_formulas.specs.FormulaTree.{FormulaTree, leaf, negation, pair, span, link}
-use Rattle.mtl_formulas.specs.FormulaText.{IsTick}
+use Rattle.mtl_formulas.specs.FormulaMeasures.{IsTick}
 use Rattle.rule_set.specs.declared.numbers.Safe.{Safe}
 use Rattle.rule_set.specs.declared.numbers.Safe.TheVariants.{One, PerKind}
 use Rattle.rule_set.specs.declared.numbers.RuleNumbers.{RuleNumbers}

@@ -5,7 +5,7 @@ ghost use Rattle.mtl_formulas.specs.FormulaMeasures.{IsValidAtom, node_count, re
 ghost use Rattle.rule_set.specs.Inner.Drafts.{IsDraft, draft_prop, IsMade};
 
 use mtl_formulas::{Atom, Formula, LinkKind, PairKind, SpanKind};
-use outside::Memory;
+use out_of_memory::Memory;
 use std::alloc::Global;
 
 /// A formula that is small: at most 64 nodes.

@@ -12,10 +12,11 @@ use crate::numbers::{RuleNumbers, Safe};
 use crate::ranking::Ranking;
 use crate::rule::Rule;
 use crate::words::{
-    between_power, both, engaged_and, extremis, free, implies, keeps_out, one_of, soon, stands_on,
+    between_power, both, engaged_and, extremis, free, implies, keeps_out, one_of, paired, soon,
+    stands_on,
 };
 use mtl_formulas::Atom;
-use outside::Memory;
+use out_of_memory::Memory;
 use std::alloc::Global;
 
 /// Rule 8(b): an alteration is readily apparent.
@@ -57,14 +58,15 @@ fn passes_clear_per_kind(
     ensures { IfOk result (λ d. tree_of d.formula ≡ passes_safely (Safe.PerKind head_on overtaking crossing other)) }
 {
     let head_on = passes_clear(alloc, atom(Atom::HeadOn), head_on)?;
-    let overtaking = either_passes_clear(alloc, Atom::Overtaking, Atom::Overtaken, overtaking)?;
-    let crossing = either_passes_clear(alloc, Atom::CrossingGives, Atom::CrossingStands, crossing)?;
-    let other = either_passes_clear(alloc, Atom::Passing, Atom::Unclassified, other)?;
-    both(
-        alloc,
-        both(alloc, both(alloc, head_on, overtaking)?, crossing)?,
-        other,
-    )
+    let overtaking = either_passes_clear(alloc, Atom::Overtaking, Atom::Overtaken, overtaking);
+    let (head_on, overtaking) = paired(head_on, overtaking)?;
+    let two = both(alloc, head_on, overtaking)?;
+    let crossing = either_passes_clear(alloc, Atom::CrossingGives, Atom::CrossingStands, crossing);
+    let (two, crossing) = paired(two, crossing)?;
+    let three = both(alloc, two, crossing)?;
+    let other = either_passes_clear(alloc, Atom::Passing, Atom::Unclassified, other);
+    let (three, other) = paired(three, other)?;
+    both(alloc, three, other)
 }
 
 /// The vessels pass at a safe distance.
@@ -114,7 +116,8 @@ pub(crate) fn r14a(
 {
     let begins = both(alloc, atom(Atom::Begin), atom(Atom::HeadOn))?;
     let begins = between_power(alloc, ranks, begins)?;
-    let acts = soon(alloc, tick, numbers.ta, Atom::ToStarboard)?;
+    let acts = soon(alloc, tick, numbers.ta, Atom::ToStarboard);
+    let (begins, acts) = paired(begins, acts)?;
     Ok(Rule::of(b"r14a", implies(alloc, begins, acts)?))
 }
 
@@ -123,10 +126,8 @@ pub(crate) fn r14b(alloc: Global, ranks: Ranking) -> Result<Rule, Memory>
     ensures { IfOk result (λ rule. named_tree rule ≡ rule_named (codes "r14b") (r14b ranks)) }
 {
     let head_on = between_power(alloc, ranks, engaged_and(alloc, atom(Atom::HeadOn))?)?;
-    Ok(Rule::of(
-        b"r14b",
-        implies(alloc, head_on, not(alloc, atom(Atom::ToPort))?)?,
-    ))
+    let (head_on, keeps) = paired(head_on, not(alloc, atom(Atom::ToPort)))?;
+    Ok(Rule::of(b"r14b", implies(alloc, head_on, keeps)?))
 }
 
 /// Rule 14(a): head-on, each passes on the port side of the other.
@@ -144,10 +145,8 @@ pub(crate) fn r15(alloc: Global, ranks: Ranking) -> Result<Rule, Memory>
 {
     let crosses = engaged_and(alloc, atom(Atom::CrossingGives))?;
     let crosses = between_power(alloc, ranks, crosses)?;
-    Ok(Rule::of(
-        b"r15",
-        implies(alloc, crosses, not(alloc, atom(Atom::Ahead))?)?,
-    ))
+    let (crosses, not_ahead) = paired(crosses, not(alloc, atom(Atom::Ahead)))?;
+    Ok(Rule::of(b"r15", implies(alloc, crosses, not_ahead)?))
 }
 
 /// Rule 16: the vessel that gives way takes early and substantial action.
@@ -160,8 +159,10 @@ pub(crate) fn r16(
     requires { AreRuleNumbers tick numbers.now }
     ensures { IfOk result (λ rule. named_tree rule ≡ rule_named (codes "r16") (r16 ranks tick numbers.now)) }
 {
-    let begins = both(alloc, atom(Atom::Begin), keeps_out(alloc, ranks)?)?;
-    let acts = soon(alloc, tick, numbers.ta, Atom::Apparent)?;
+    let (begin, keeps_out) = paired(atom(Atom::Begin), keeps_out(alloc, ranks))?;
+    let begins = both(alloc, begin, keeps_out)?;
+    let acts = soon(alloc, tick, numbers.ta, Atom::Apparent);
+    let (begins, acts) = paired(begins, acts)?;
     Ok(Rule::of(b"r16", implies(alloc, begins, acts)?))
 }
 
@@ -176,11 +177,11 @@ pub(crate) fn r17a(
     ensures { IfOk result (λ rule. named_tree rule ≡ rule_named (codes "r17a") (r17a ranks tick numbers.now)) }
 {
     let stands = engaged_and(alloc, stands_on(alloc, ranks)?)?;
-    let bound = both(alloc, stands, not(alloc, free(alloc, tick, numbers)?)?)?;
-    Ok(Rule::of(
-        b"r17a",
-        implies(alloc, bound, not(alloc, atom(Atom::Alters))?)?,
-    ))
+    let (stands, free) = paired(stands, free(alloc, tick, numbers))?;
+    let (stands, bound) = paired(stands, not(alloc, free))?;
+    let bound = both(alloc, stands, bound)?;
+    let (bound, keeps) = paired(bound, not(alloc, atom(Atom::Alters)))?;
+    Ok(Rule::of(b"r17a", implies(alloc, bound, keeps)?))
 }
 
 /// Rule 17(b): the vessel that stands on acts in extremis.
@@ -193,8 +194,10 @@ pub(crate) fn r17b(
     requires { AreRuleNumbers tick numbers.now }
     ensures { IfOk result (λ rule. named_tree rule ≡ rule_named (codes "r17b") (r17b ranks tick numbers.now)) }
 {
-    let in_extremis = both(alloc, stands_on(alloc, ranks)?, extremis(alloc, numbers)?)?;
-    let acts = soon(alloc, tick, numbers.tl, Atom::Apparent)?;
+    let (stands, in_extremis) = paired(stands_on(alloc, ranks)?, extremis(alloc, numbers))?;
+    let in_extremis = both(alloc, stands, in_extremis)?;
+    let acts = soon(alloc, tick, numbers.tl, Atom::Apparent);
+    let (in_extremis, acts) = paired(in_extremis, acts)?;
     Ok(Rule::of(b"r17b", implies(alloc, in_extremis, acts)?))
 }
 
@@ -210,12 +213,13 @@ pub(crate) fn r17c(
 {
     let stands = engaged_and(alloc, atom(Atom::CrossingStands))?;
     let stands = between_power(alloc, ranks, stands)?;
-    let may_act = both(alloc, stands, free(alloc, tick, numbers)?)?;
-    let early = both(alloc, may_act, not(alloc, extremis(alloc, numbers)?)?)?;
-    Ok(Rule::of(
-        b"r17c",
-        implies(alloc, early, not(alloc, atom(Atom::ToPort))?)?,
-    ))
+    let (stands, free) = paired(stands, free(alloc, tick, numbers))?;
+    let may_act = both(alloc, stands, free)?;
+    let (may_act, in_extremis) = paired(may_act, extremis(alloc, numbers))?;
+    let (may_act, early) = paired(may_act, not(alloc, in_extremis))?;
+    let early = both(alloc, may_act, early)?;
+    let (early, keeps) = paired(early, not(alloc, atom(Atom::ToPort)))?;
+    Ok(Rule::of(b"r17c", implies(alloc, early, keeps)?))
 }
 
 /// The distance at which vessels pass safely in an encounter of no kind that has one of its own.

@@ -12,7 +12,7 @@ use crate::numbers::RuleNumbers;
 use crate::ranking::Ranking;
 use crate::rule::{Rule, has_name};
 use mtl_formulas::Formula;
-use outside::Memory;
+use out_of_memory::Memory;
 use std::alloc::{AllocFailed, Global};
 use std::marker::Model;
 

@@ -1,5 +1,5 @@
 //! The words that several rules share.
-ghost use Rattle.std.specs.Prelude.{◌≡◌, ◌+◌, ◌<◌, ◌≤◌, IfOk};
+ghost use Rattle.std.specs.Prelude.{◌≡◌, ◌+◌, ◌<◌, ◌≤◌, IfOk, Ok};
 ghost use Rattle.mtl_formulas.specs.FormulaTree.{leaf, tree_of};
 ghost use Rattle.mtl_formulas.specs.FormulaMeasures.{IsValidAtom, node_count};
 ghost use Rattle.rule_set.specs.Inner.Drafts.{IsMade};
@@ -9,8 +9,21 @@ use crate::draft::{Draft, atom, join, not, over, since};
 use crate::numbers::RuleNumbers;
 use crate::ranking::Ranking;
 use mtl_formulas::{Atom, PairKind, SpanKind};
-use outside::Memory;
+use out_of_memory::Memory;
 use std::alloc::Global;
+
+/// Both, or the want of memory of the second, at which the first is dropped by a call.
+pub(crate) fn paired(a: Draft, b: Result<Draft, Memory>) -> Result<(Draft, Draft), Memory>
+    ensures { IfOk result (λ made. (made.0 ≡ a) × (b ≡ Ok made.1)) }
+{
+    match b {
+        Ok(b) => Ok((a, b)),
+        Err(memory) => {
+            drop(a);
+            Err(memory)
+        }
+    }
+}
 
 /// `a & b`.
 pub(crate) fn both(alloc: Global, a: Draft, b: Draft) -> Result<Draft, Memory>
@@ -76,8 +89,13 @@ pub(crate) fn soon(alloc: Global, tick: u32, seconds: u32, act: Atom) -> Result<
     requires act { IsValidAtom act }
     ensures { IfOk result (λ d. IsMade d.formula (soon tick seconds (leaf act)) 5) }
 {
-    let over_or_done = either(alloc, atom(act), not(alloc, atom(Atom::Engaged))?)?;
-    over(alloc, SpanKind::F, seconds / tick, over_or_done)
+    let (act, done) = paired(atom(act), not(alloc, atom(Atom::Engaged)))?;
+    over(
+        alloc,
+        SpanKind::F,
+        seconds / tick,
+        either(alloc, act, done)?,
+    )
 }
 
 /// `overtaking | rank_gives | crossing_gives & both_power`, or the like of a vessel that stands on.
@@ -88,7 +106,8 @@ fn with_rank(alloc: Global, overtaking: Atom, rank: Atom, crossing: Atom) -> Res
     ensures { IfOk result (λ d. IsMade d.formula (leaf overtaking or leaf rank or (leaf crossing and leaf Atom.BothPower)) 7) }
 {
     let before_crossing = one_of(alloc, overtaking, rank)?;
-    let crossing = both(alloc, atom(crossing), atom(Atom::BothPower))?;
+    let crossing = both(alloc, atom(crossing), atom(Atom::BothPower));
+    let (before_crossing, crossing) = paired(before_crossing, crossing)?;
     either(alloc, before_crossing, crossing)
 }
 
@@ -150,11 +169,8 @@ fn waits(alloc: Global, tick: u32, numbers: &RuleNumbers) -> Result<Draft, Memor
     requires { AreRuleNumbers tick numbers.now }
     ensures { IfOk result (λ d. IsMade d.formula (waits tick numbers.now) 9) }
 {
-    let idle = both(
-        alloc,
-        in_risk(alloc)?,
-        not(alloc, atom(Atom::OtherApparent))?,
-    )?;
+    let (in_risk, idle) = paired(in_risk(alloc)?, not(alloc, atom(Atom::OtherApparent)))?;
+    let idle = both(alloc, in_risk, idle)?;
     let so_long = over(alloc, SpanKind::H, numbers.tw / tick, idle)?;
     both(alloc, atom(Atom::Age(numbers.tw)), so_long)
 }
@@ -165,7 +181,7 @@ pub(crate) fn free(alloc: Global, tick: u32, numbers: &RuleNumbers) -> Result<Dr
     requires { AreRuleNumbers tick numbers.now }
     ensures { IfOk result (λ d. IsMade d.formula (free tick numbers.now) 17) }
 {
-    let waited = waits(alloc, tick, numbers)?;
-    let cause = either(alloc, waited, extremis(alloc, numbers)?)?;
+    let (waited, in_extremis) = paired(waits(alloc, tick, numbers)?, extremis(alloc, numbers))?;
+    let cause = either(alloc, waited, in_extremis)?;
     since(alloc, numbers.te / tick, atom(Atom::Engaged), cause)
 }

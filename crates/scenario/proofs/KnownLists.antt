@@ -11,7 +11,7 @@ use Rattle.std.specs.Ordering.{nat_cmp}
 use Rattle.std.proofs.lemmas.Cmp.{nat_list_cmp_total, tied_itself}
 use Rattle.toml.specs.Data.{Data, Items, Members, member, no_members, as_array, get_member}
 use Rattle.toml.specs.View.{items_of}
-use Rattle.mtl_formulas.specs.FormulaReading.{tree, IsMeaning}
+use Rattle.formula_language.specs.FormulaReading.{tree, IsMeaning}
 use Rattle.rule_set.specs.NamedTrees.{NamedTree}
 use Rattle.scenario_keys.specs.FirstFaults.{with_before}
 use Rattle.scenario_keys.specs.FirstOf.{first_of}

@@ -4,7 +4,7 @@ ghost use Rattle.scenario_keys.specs.ScenarioTexts.{refusal_text};
 
 use crate::cause::Cause;
 use crate::key::Key;
-use outside::Memory;
+use out_of_memory::Memory;
 use std::alloc::AllocError;
 use std::error::Error;
 use std::fmt;

@@ -5,9 +5,9 @@ use crate::good::{
 };
 use crate::refusals::{told, told_of};
 use encounters::{Act, Detect};
+use formula_language::print;
 use hull_domains::Shape;
-use mtl_formulas::print;
-use outside::Memory;
+use out_of_memory::Memory;
 use rule_set::RuleSet;
 use scenario::{
     Cause, Change, Key, LogNumbers, OwnPart, Scenario, ScenarioFault, Subjects, Window, read,

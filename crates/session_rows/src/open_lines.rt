@@ -10,7 +10,7 @@ fn has_line(open: &OpenLine, bytes: &[u8]) -> bool {
 }
 
 #[test]
-fn a_line_comes_in_pieces(rt: HostRuntime) -> Result<(), outside::Memory> {
+fn a_line_comes_in_pieces(rt: HostRuntime) -> Result<(), out_of_memory::Memory> {
     let mut open = OpenLine::new(rt.alloc());
     is_true(&rt, open.is_empty());
     open.extend(b"!AIVDM")?;
@@ -24,7 +24,7 @@ fn a_line_comes_in_pieces(rt: HostRuntime) -> Result<(), outside::Memory> {
 #[test]
 fn no_more_is_kept_than_tells_that_a_line_is_too_long(
     rt: HostRuntime,
-) -> Result<(), outside::Memory> {
+) -> Result<(), out_of_memory::Memory> {
     let mut open = OpenLine::new(rt.alloc());
     open.extend(&[b'x'; 1024])?;
     open.extend(b"\r")?;

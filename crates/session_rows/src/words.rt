@@ -1,7 +1,8 @@
 //! Words that are accepted and words that are not, as a user writes them.
 use crate::compared::{is, is_true};
 use command_line::{Mode, Options, Request, Told, WordsFault, request_of, told_text, told_word};
-use outside::{Memory, Word};
+use out_of_memory::Memory;
+use outside::Word;
 use std::alloc::{AllocError, Global};
 use std::process::Abort;
 

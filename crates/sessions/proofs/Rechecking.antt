@@ -1,7 +1,7 @@
 -- What a check of rows comes to in own ship's situation.
 use Rattle.std.proofs.Common.{ℕ, ◌≡◌, ◌∙◌, List, Ok, Err, false, refl, ap, sym, subst, subst₂}
 use Rattle.std.specs.Prelude.{IfSome, IsSome}
-use Rattle.audit_report.specs.CsvRows.{row_of}
+use Rattle.csv_rows.specs.CsvRows.{row_of}
 use Rattle.audit_report.specs.ReportRows.{no_plan_fields}
 use Rattle.log_lines.specs.JudgedLines.{is_crowded, numbers_of}
 use Rattle.log_lines.specs.LogLines.{lines_of}

@@ -20,7 +20,7 @@ use Rattle.scenario_values.specs.declared.own_part.OwnPart.{OwnPart}
 use Rattle.scenario_values.specs.declared.values.Scenario.{Scenario}
 use Rattle.tracks.specs.VesselsHeld.{Sent}
 use Rattle.sessions.specs.Endings.{MeetsTargetLimit, HasNoManoeuvre, IsAnswerOf, OfOwn, lack_by, lack_of, lack_where, unready_of}
-use Rattle.refutations.specs.CanonicalLists.{IsCanonical}
+use Rattle.explanations.specs.CanonicalLists.{IsCanonical}
 use Rattle.refutations.specs.EntryRows.{entry_text}
 use Rattle.refutations.specs.declared.entry.WhyEntry.{WhyEntry}
 use Rattle.sessions.specs.PlanReport.{AreReasons, IsManoeuvre, IsOwn, log_messages, situation_on}

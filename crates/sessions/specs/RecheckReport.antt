@@ -1,6 +1,6 @@
 -- The report of `recheck`: that there is no plan, where rows say rightly why.
 use Rattle.std.specs.Prelude.{ℕ, ◌≡◌, List}
-use Rattle.audit_report.specs.CsvRows.{row_of}
+use Rattle.csv_rows.specs.CsvRows.{row_of}
 use Rattle.audit_report.specs.ReportRows.{no_plan_fields}
 use Rattle.lattice.specs.Grids.{plans_of}
 use Rattle.rechecks.specs.CheckedRows.{why_rows, AreRight}

@@ -20,7 +20,7 @@ use crate::session_fault::SessionFault;
 use audit_report::ReportText;
 use auditor::AuditEnd;
 use log_lines::Judge;
-use outside::Memory;
+use out_of_memory::Memory;
 use report_parts::{write_counts, write_stretches, write_totals, write_vessels};
 use scenario_values::Scenario;
 use settling::SettledAudit;

@@ -17,7 +17,7 @@ use crate::session_fault::SessionFault;
 use audit_report::ReportText;
 use auditor::AuditEnd;
 use log_lines::Judge;
-use outside::Memory;
+use out_of_memory::Memory;
 use report_parts::{write_counts, write_totals};
 use scenario_values::Scenario;
 use settling::SettledAudit;

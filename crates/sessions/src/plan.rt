@@ -33,7 +33,7 @@ use crate::session_fault::SessionFault;
 use audit_report::ReportText;
 use lattice::Plan;
 use log_lines::Judge;
-use outside::Memory;
+use out_of_memory::Memory;
 use planner::Search;
 use report_parts::{PlannedLegs, write_counts, write_near};
 use scenario_values::Scenario;

@@ -7,8 +7,9 @@ ghost use Rattle.situations.specs.Situations.{IsSituation};
 ghost use Rattle.sessions.specs.Inner.PlanWriting.{AreReasonsWhere};
 ghost use Rattle.std.specs.List.{All};
 
-use outside::Memory;
-use refutations::{WhyEntry, entry_bytes, explain};
+use explanations::explain;
+use out_of_memory::Memory;
+use refutations::{WhyEntry, entry_bytes};
 use situations::Situation;
 use std::alloc::Global;
 

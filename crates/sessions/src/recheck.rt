@@ -1,6 +1,6 @@
 //! The report of `recheck`, at a log's end.
 ghost use Rattle.std.specs.Prelude.{◌≡◌, ◌≤◌, ℕ, List, length, IfErr, IfOk, IsSome, Ok};
-ghost use Rattle.audit_report.specs.CsvRows.{row_of};
+ghost use Rattle.csv_rows.specs.CsvRows.{row_of};
 ghost use Rattle.audit_report.specs.ReportRows.{no_plan_fields};
 ghost use Rattle.command_line.specs.declared.mode.Mode.{Mode};
 ghost use Rattle.command_line.specs.declared.mode.Mode.TheVariants as mode;
@@ -21,7 +21,7 @@ use crate::ending::Ending;
 use crate::session_fault::SessionFault;
 use audit_report::{ReportRow, ReportText};
 use log_lines::Judge;
-use outside::Memory;
+use out_of_memory::Memory;
 use rechecks::recheck;
 use refutations::Checked;
 use scenario_values::Scenario;

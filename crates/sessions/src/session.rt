@@ -24,7 +24,7 @@ use audit_report::ReportText;
 use command_line::Mode;
 use log_lines::laws::{a_part_goes_on, ended_lines_stay};
 use log_lines::{StreamedLines, first_line_feed};
-use outside::Memory;
+use out_of_memory::Memory;
 use scenario_values::Scenario;
 use settling::laws::many_settled_stay;
 use situations::Situation;

@@ -1,6 +1,6 @@
 //! Why a session gives no report.
 use auditor::{AuditFault, MOST_TRACES};
-use outside::Memory;
+use out_of_memory::Memory;
 use situations::{MOST_TARGETS, PrepareFault, Unready};
 use std::error::Error;
 use std::fmt;

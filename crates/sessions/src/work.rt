@@ -25,7 +25,7 @@ use crate::watch::end_watch;
 use audit_report::ReportText;
 use command_line::Mode;
 use log_lines::{Judge, Judged};
-use outside::Memory;
+use out_of_memory::Memory;
 use report_parts::{write_alarms, write_line, write_stretches};
 use scenario_values::Scenario;
 use settling::{SettledAudit, SettledWatch};

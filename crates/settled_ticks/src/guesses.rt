@@ -1,5 +1,5 @@
 //! Where the last reports of vessels were found.
-use outside::Memory;
+use out_of_memory::Memory;
 use std::alloc::Global;
 
 /// For each vessel, by her index among those held, the index of the report that was her last when it was looked for. It is no more than a

@@ -13,7 +13,7 @@ use crate::guesses::Guesses;
 use crate::vessel_ranks::rank_all;
 use log_lines::Judge;
 use motion::TickState;
-use outside::Memory;
+use out_of_memory::Memory;
 use ranks::Rank;
 use scenario_values::Scenario;
 use std::alloc::Global;

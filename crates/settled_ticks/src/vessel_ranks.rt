@@ -15,7 +15,7 @@ use crate::guesses::Guesses;
 use crate::last_reports::{alone, last_near};
 use log_lines::Judge;
 use motion::TickState;
-use outside::Memory;
+use out_of_memory::Memory;
 use ranks::{Rank, Ranks};
 use tracks::{Accepted, Book};
 

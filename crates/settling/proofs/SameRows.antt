@@ -9,7 +9,7 @@ use Rattle.mtl_formulas.specs.declared.atom.Atom.{Atom}
 use Rattle.mtl_formulas.specs.declared.verdict.Verdict.{Verdict}
 use Rattle.mtl_formulas.proofs.ReachLaw.{equal-AgreeAt, value_of-same}
 use Rattle.mtl_monitor.specs.Reaches.{greatest_reach}
-use Rattle.mtl_monitor.specs.Traces.{Trace, value_in}
+use Rattle.mtl_formulas.specs.Traces.{Trace, value_in}
 use Rattle.rule_set.specs.NamedTrees.{NamedTree, rule_at}
 use Rattle.encounters.specs.Engagement.{seen_at}
 use Rattle.encounters.specs.declared.detect.Detect.{Detect}

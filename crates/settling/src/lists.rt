@@ -1,7 +1,7 @@
 //! Lists of what ticks bring.
 ghost use Rattle.std.specs.Prelude.{◌≡◌, ◌++◌, OnOk};
 
-use outside::Memory;
+use out_of_memory::Memory;
 
 /// Puts further items behind these.
 pub(crate) fn add<T: Drop>(items: &mut Vec<T>, mut further: Vec<T>) -> Result<(), Memory>

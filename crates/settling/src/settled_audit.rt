@@ -21,7 +21,7 @@ ghost use Rattle.settling.specs.Standing.{AreOfOneLog, StandsFor, audited_ticks}
 use crate::lists::add;
 use auditor::{Audit, AuditEnd, AuditFault, Row};
 use log_lines::Judge;
-use outside::Memory;
+use out_of_memory::Memory;
 use scenario_values::Scenario;
 use settled_ticks::SettledTicks;
 use std::alloc::Global;

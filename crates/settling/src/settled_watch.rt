@@ -18,7 +18,7 @@ ghost use Rattle.traces.specs.declared.fault.TickFault.TheVariants.{TooManyPairs
 use crate::lists::add;
 use early_monitor::{Alarm, Watch, WatchFault};
 use log_lines::Judge;
-use outside::Memory;
+use out_of_memory::Memory;
 use scenario_values::Scenario;
 use settled_ticks::SettledTicks;
 use std::alloc::Global;

@@ -5,7 +5,7 @@ use Rattle.mtl_formulas.specs.FormulaTree.{FormulaTree}
 use Rattle.mtl_formulas.specs.FormulaMeasures.{reach_of}
 use Rattle.mtl_formulas.specs.declared.atom.Atom.{Atom}
 use Rattle.mtl_formulas.specs.declared.verdict.Verdict.{Verdict}
-use Rattle.mtl_monitor.specs.Traces.{Trace, value_in}
+use Rattle.mtl_formulas.specs.Traces.{Trace, value_in}
 use Rattle.rule_set.specs.NamedTrees.{rule_at}
 use Rattle.encounters.specs.Engagement.{IsState, seen_at}
 use Rattle.encounters.specs.declared.engagement_state.EngagementState.{EngagementState}

@@ -13,7 +13,7 @@ use Rattle.mtl_formulas.specs.declared.formula.SpanKind.{SpanKind}
 use Rattle.mtl_formulas.specs.declared.formula.SpanKind.TheVariants.{F, G, H, O}
 use Rattle.mtl_formulas.specs.declared.verdict.Verdict.{Verdict}
 use Rattle.mtl_formulas.specs.declared.verdict.Verdict.TheVariants.{Open}
-use Rattle.mtl_monitor.specs.Traces.{Trace, value_in}
+use Rattle.mtl_formulas.specs.Traces.{Trace, value_in}
 use Rattle.shares.specs.Lookback.{link_lookback, lookback_of, span_lookback}
 
 -- ---- values over some positions, counted from two places

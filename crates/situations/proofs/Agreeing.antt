@@ -5,7 +5,7 @@ use Rattle.std.proofs.lemmas.List.{get_or-take}
 use Rattle.encounters.specs.declared.pair_step.PairStep.{PairStep}
 use Rattle.lattice.specs.OwnMotion.{choice_in_force}
 use Rattle.mtl_formulas.specs.FormulaTree.{FormulaTree}
-use Rattle.mtl_monitor.specs.Traces.{Trace}
+use Rattle.mtl_formulas.specs.Traces.{Trace}
 use Rattle.rule_set.specs.NamedTrees.{NamedTree, rule_at}
 use Rattle.situations.specs.Domains.{Enters}
 use Rattle.situations.specs.FailingPlans.{AreTraceRows, BreaksAt, EntersAt, FailsBy, FailsTowards, NewlyBreaks, Some_}

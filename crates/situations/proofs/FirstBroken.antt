@@ -2,7 +2,7 @@
 use Rattle.std.proofs.Common.{ℕ, zero, suc, ◌<◌, List, [], ◌∷◌, length, arith}
 use Rattle.std.specs.Prelude.{slice_get, IsSomeAnd}
 use Rattle.mtl_formulas.specs.FormulaTree.{FormulaTree}
-use Rattle.mtl_monitor.specs.Traces.{Trace}
+use Rattle.mtl_formulas.specs.Traces.{Trace}
 use Rattle.rule_set.specs.NamedTrees.{NamedTree, rule_at}
 use Rattle.situations.specs.FailingPlans.{IsNewlyBrokenHere}
 use Rattle.situations.specs.Inner.FirstBroken.{IsFirstThere, IsRuleBroken}

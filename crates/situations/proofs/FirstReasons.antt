@@ -4,7 +4,7 @@ use Rattle.std.specs.Prelude.{Option, slice_get, IsSomeAnd, IsTrue, MatchOption,
 use Rattle.encounters.specs.declared.pair_step.PairStep.{PairStep}
 use Rattle.meetings.specs.Traces.{step_at}
 use Rattle.mtl_formulas.specs.FormulaTree.{FormulaTree}
-use Rattle.mtl_monitor.specs.Traces.{Trace}
+use Rattle.mtl_formulas.specs.Traces.{Trace}
 use Rattle.rule_set.specs.NamedTrees.{NamedTree, rule_at}
 use Rattle.situations.specs.Domains.{Enters, IsEntry}
 use Rattle.situations.specs.FailingPlans.{AreTraceRows, BeginsAt, BreaksARule, BreaksAt, EntersDomain, IsNewlyBroken, IsNewlyBrokenHere, NewlyBreaks}

@@ -13,7 +13,7 @@ use Rattle.mtl_formulas.specs.FormulaTree.{FormulaTree}
 use Rattle.mtl_formulas.specs.declared.atom.Atom.{Atom}
 use Rattle.mtl_formulas.specs.declared.verdict.Verdict.{Verdict}
 use Rattle.mtl_formulas.specs.declared.verdict.Verdict.TheVariants.{No, Open}
-use Rattle.mtl_monitor.specs.Traces.{Trace, value_in}
+use Rattle.mtl_formulas.specs.Traces.{Trace, value_in}
 use Rattle.rule_set.specs.NamedTrees.{NamedTree}
 use Rattle.situations.specs.Domains.{Enters}
 use Rattle.situations.specs.FailingPlans.{AreTraceRows, BeginsAt, BreaksARule, EntersDomain, FailsBy, FailsTowards, IsNewlyBroken, NewlyBreaks, Some_}

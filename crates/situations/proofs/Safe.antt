@@ -5,7 +5,7 @@ use Rattle.encounters.specs.declared.pair_step.PairStep.{PairStep}
 use Rattle.meetings.specs.Traces.{step_at}
 use Rattle.mtl_formulas.specs.declared.verdict.Verdict.{Verdict}
 use Rattle.mtl_formulas.specs.declared.verdict.Verdict.TheVariants.{No, Open, Yes}
-use Rattle.mtl_monitor.specs.Traces.{value_in}
+use Rattle.mtl_formulas.specs.Traces.{value_in}
 use Rattle.rule_set.specs.NamedTrees.{NamedTree}
 use Rattle.situations.specs.Domains.{Enters}
 use Rattle.situations.specs.FailingPlans.{Fails, FailsTowards, IsNewlyBroken}

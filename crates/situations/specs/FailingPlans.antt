@@ -5,7 +5,7 @@ use Rattle.meetings.specs.Atoms.{AreAtomRows}
 use Rattle.meetings.specs.Traces.{BeginsTrace, step_at, steps_from}
 use Rattle.mtl_formulas.specs.FormulaTree.{FormulaTree}
 use Rattle.mtl_formulas.specs.declared.verdict.Verdict.TheVariants.{No}
-use Rattle.mtl_monitor.specs.Traces.{Trace, value_in}
+use Rattle.mtl_formulas.specs.Traces.{Trace, value_in}
 use Rattle.situations.specs.Domains.{Enters}
 use Rattle.situations.specs.Situations.{end_of, now_of, own_at, target_at, terms_of}
 use Rattle.situations.specs.declared.situation.Situation.{Situation}

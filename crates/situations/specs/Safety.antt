@@ -2,7 +2,7 @@
 use Rattle.std.specs.Prelude.{ℕ, ◌≡◌, ◌-◌, ◌<◌, ◌≤◌, List, All, IfSome, take}
 use Rattle.meetings.specs.Traces.{step_at}
 use Rattle.mtl_formulas.specs.declared.verdict.Verdict.TheVariants.{No}
-use Rattle.mtl_monitor.specs.Traces.{Trace, value_in}
+use Rattle.mtl_formulas.specs.Traces.{Trace, value_in}
 use Rattle.rule_set.specs.NamedTrees.{NamedTree}
 use Rattle.situations.specs.Domains.{Enters}
 use Rattle.situations.specs.FailingPlans.{AreTraceRows, BeginsAt}

@@ -8,7 +8,7 @@ ghost use Rattle.situations.specs.Situations.{end_of, IsSituation, IsTarget};
 
 use crate::situation::{Situation, Target};
 use lattice::Plan;
-use outside::Memory;
+use out_of_memory::Memory;
 use std::alloc::Global;
 
 impl Situation {

@@ -12,7 +12,7 @@ ghost use Rattle.situations.specs.Inner.Facts.{IsFresh, IsNear};
 use crate::prediction::predicted;
 use crate::readiness::is_fresh;
 use fixed_geometry::{Point, within};
-use outside::Memory;
+use out_of_memory::Memory;
 use std::alloc::Global;
 use tracks::{Accepted, Book};
 

@@ -24,7 +24,7 @@ use crate::situation::{Situation, Target};
 use crate::targets::{Setting, count_others};
 use lattice::Lattice;
 use motion::TickState;
-use outside::Memory;
+use out_of_memory::Memory;
 use scenario_values::{OwnPart, Scenario, Window};
 use std::alloc::Global;
 use tracks::Book;

@@ -8,7 +8,7 @@ ghost use Rattle.meetings.specs.Traces.{IsContactAt, step_at};
 ghost use Rattle.mtl_formulas.specs.FormulaMeasures.{IsValid};
 ghost use Rattle.mtl_formulas.specs.FormulaTree.{tree_of};
 ghost use Rattle.mtl_formulas.specs.declared.verdict.Verdict.TheVariants.{No};
-ghost use Rattle.mtl_monitor.specs.Traces.{value_in};
+ghost use Rattle.mtl_formulas.specs.Traces.{value_in};
 ghost use Rattle.rule_set.specs.NamedTrees.{rule_at};
 ghost use Rattle.situations.specs.Domains.{IsEntry};
 ghost use Rattle.situations.specs.FailingPlans.{AreTraceRows, BeginsAt, BreaksARule, BreaksAt, EntersAt, EntersDomain, IsNewlyBrokenHere};
@@ -22,7 +22,7 @@ use lattice::Plan;
 use meetings::{AtomRow, Follower};
 use motion::TickState;
 use mtl_formulas::{Formula, Verdict, value};
-use outside::Memory;
+use out_of_memory::Memory;
 use std::alloc::Global;
 
 /// A rule that is newly broken.

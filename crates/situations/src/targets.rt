@@ -19,7 +19,7 @@ use crate::lists::Past;
 use crate::near::Near;
 use crate::situation::Target;
 use crate::track::{KnownTrack, changes_for};
-use outside::Memory;
+use out_of_memory::Memory;
 use predictions::Change;
 use scenario_values::{OwnPart, Window};
 use std::alloc::Global;

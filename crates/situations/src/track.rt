@@ -14,7 +14,7 @@ ghost use Rattle.situations.specs.Inner.Facts.{known_at, predicted_at, IsKnownBe
 use crate::lists::{Ahead, Past};
 use crate::prediction::predicted;
 use motion::{Legs, TickState};
-use outside::Memory;
+use out_of_memory::Memory;
 use predictions::{Change, Predict};
 use scenario_values::Window;
 use std::alloc::Global;

@@ -3,7 +3,7 @@ use Rattle.std.specs.Prelude.{ℕ, ◌≡◌, ◌≢◌, ◌+◌, ◌-◌, List,
 use Rattle.std.specs.List.{AllByRecursion, AllPairs, Contains}
 use Rattle.mtl_formulas.specs.declared.atom.Atom.{Atom}
 use Rattle.mtl_formulas.specs.declared.verdict.Verdict.{Verdict}
-use Rattle.mtl_monitor.specs.Traces.{Trace}
+use Rattle.mtl_formulas.specs.Traces.{Trace}
 use Rattle.encounters.specs.declared.pair_step.PairStep.{PairStep}
 use Rattle.meetings.specs.Atoms.{AreRankedRows, IsRankedRow}
 use Rattle.meetings.specs.declared.pair.Pair.{Pair}

@@ -1,6 +1,6 @@
 pub use Rattle.meetings.specs.Atoms
 pub use Rattle.meetings.specs.Traces
-pub use Rattle.mtl_monitor.specs.Traces as MonitorTraces
+pub use Rattle.mtl_formulas.specs.Traces as MonitorTraces
 pub use Rattle.rule_set.specs.NamedTrees
 pub use Rattle.ranks.specs.GivingWay
 pub mod PairRanks

@@ -23,7 +23,7 @@ use crate::known_pairs::{add, is_among, is_chosen};
 use encounters::{Act, Detect, EngagementState, PairStep};
 use meetings::{AtomRow, Pair};
 use motion::TickState;
-use outside::Memory;
+use out_of_memory::Memory;
 use ranks::Rank;
 use std::alloc::Global;
 use std::collections::BTreeSet;

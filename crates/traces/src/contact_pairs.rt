@@ -10,7 +10,7 @@ ghost use Rattle.traces.specs.Inner.Pairing.{AreWestToEast, AreJoined, MakePair,
 
 use meetings::{Pair, contact};
 use motion::TickState;
-use outside::Memory;
+use out_of_memory::Memory;
 use std::alloc::Global;
 
 /// The pair of two vessels, the first of which has the lesser MMSI, where they are in contact.

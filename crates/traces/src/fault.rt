@@ -1,5 +1,5 @@
 //! Why a tick could not be taken.
-use outside::Memory;
+use out_of_memory::Memory;
 use std::error::Error;
 use std::fmt;
 

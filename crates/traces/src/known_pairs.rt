@@ -4,7 +4,7 @@ ghost use Rattle.std.specs.List.{Contains};
 ghost use Rattle.meetings.specs.declared.pair.Pair.{Pair};
 
 use meetings::Pair;
-use outside::Memory;
+use out_of_memory::Memory;
 use std::collections::BTreeSet;
 
 /// Whether a pair is among these.

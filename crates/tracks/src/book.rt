@@ -34,7 +34,7 @@ use crate::vessel::{Vessel, latest};
 use ais_messages::{Message, PositionReport};
 use fixed_geometry::Reference;
 use motion::{Legs, TickState};
-use outside::Memory;
+use out_of_memory::Memory;
 use std::alloc::Global;
 use std::marker::Model;
 

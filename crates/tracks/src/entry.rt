@@ -1,6 +1,6 @@
 //! What a message comes to.
 use fixed_geometry::Point;
-use outside::Memory;
+use out_of_memory::Memory;
 use std::error::Error;
 use std::fmt;
 

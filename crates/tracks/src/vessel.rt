@@ -22,7 +22,7 @@ use crate::parts::{position_report, static_report};
 use crate::statics::Statics;
 use ais_messages::{Message, PositionReport, StaticReport, Text20};
 use motion::{Leg, Legs};
-use outside::Memory;
+use out_of_memory::Memory;
 use std::alloc::Global;
 use std::marker::Model;
 

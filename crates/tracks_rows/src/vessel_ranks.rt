@@ -4,7 +4,7 @@ ghost use Rattle.std.specs.Prelude.{◌≡◌, ◌≤◌};
 use crate::compared::is;
 use ais_messages::PositionReport;
 use fixed_geometry::Point;
-use outside::Memory;
+use out_of_memory::Memory;
 use ranks::{Rank, Ranks, gives};
 use std::alloc::Global;
 use tracks::Accepted;

@@ -5,7 +5,7 @@ use Rattle.mtl_formulas.specs.declared.verdict.Verdict.{Verdict}
 use Rattle.mtl_formulas.specs.FormulaTree.{FormulaTree}
 use Rattle.mtl_formulas.specs.FormulaMeasures.{reach_of}
 use Rattle.mtl_monitor.specs.Following.{AreStatesOf, Follows, Closes, IsProgramOf, fed_of, past_of}
-use Rattle.mtl_monitor.specs.Traces.{Trace, value_in}
+use Rattle.mtl_formulas.specs.Traces.{Trace, value_in}
 use Rattle.mtl_monitor.specs.declared.program.Program.{Program}
 use Rattle.early_monitor.specs.declared.pass_program.PassProgram.{PassProgram}
 use Rattle.early_monitor.specs.declared.pass_state.PassState.{PassState}

@@ -6,7 +6,7 @@ use Rattle.mtl_formulas.specs.declared.verdict.Verdict.{Verdict}
 use Rattle.mtl_formulas.specs.declared.formula.LinkKind.TheVariants.{U}
 use Rattle.mtl_formulas.specs.FormulaTree.{FormulaTree, leaf, negation, pair, span, link}
 use Rattle.mtl_formulas.specs.FormulaMeasures.{reach_of}
-use Rattle.mtl_monitor.specs.Traces.{Trace}
+use Rattle.mtl_formulas.specs.Traces.{Trace}
 use Rattle.mtl_monitor.specs.Following.{formula_at}
 use Rattle.early_sweeps.specs.declared.sweeper.Sweep.{Sweep}
 use Rattle.early_sweeps.specs.declared.sweeper.Sweep.TheVariants as op

@@ -5,7 +5,7 @@ use Rattle.early_sweeps.specs.Inner.Cells.{cell_at}
 use Rattle.mtl_formulas.specs.declared.verdict.Verdict.TheVariants.{Open}
 use Rattle.mtl_formulas.specs.FormulaTree.{FormulaTree}
 use Rattle.mtl_formulas.specs.FormulaMeasures.{reach_of}
-use Rattle.mtl_monitor.specs.Traces.{Trace, value_in}
+use Rattle.mtl_formulas.specs.Traces.{Trace, value_in}
 
 -- The value is decided, or no row is left that could decide it.
 abbrev pub IsFinished : FormulaTree → Trace → ℕ → Type 0

@@ -8,7 +8,7 @@ use Rattle.mtl_monitor.specs.declared.node.ProgramNode.{ProgramNode}
 use Rattle.mtl_monitor.specs.declared.node.Kept.{Kept}
 use Rattle.mtl_monitor.specs.Inner.Steps.{value_at, given, kept}
 use Rattle.mtl_formulas.specs.FormulaTree.{FormulaTree}
-use Rattle.mtl_monitor.specs.Traces.{Trace}
+use Rattle.mtl_formulas.specs.Traces.{Trace}
 use Rattle.mtl_monitor.specs.Inner.Standing.{node_at, late_at, state_at, IsProgram, IsRow, EndsAt, KeepAll, Midway, AllOperands, AllBelow}
 use Rattle.mtl_monitor.specs.Inner.Copying.{HaveShapes}
 use Rattle.mtl_monitor.specs.Inner.Marks.{IsUnmarked, OnlyMarked}

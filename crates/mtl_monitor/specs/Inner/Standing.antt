@@ -12,7 +12,7 @@ use Rattle.mtl_formulas.specs.FormulaTree.{link, FormulaTree, leaf, negation, pa
 use Rattle.mtl_formulas.specs.VerdictOrder.{turned_round}
 use Rattle.mtl_formulas.specs.FormulaMeasures.{IsValidAtom}
 use Rattle.mtl_formulas.specs.FormulaValue.{answer_at}
-use Rattle.mtl_monitor.specs.Traces.{Trace, value_in}
+use Rattle.mtl_formulas.specs.Traces.{Trace, value_in}
 use Rattle.mtl_monitor.specs.declared.building.Operand.{Operand}
 use Rattle.mtl_monitor.specs.declared.node.Operator.{Operator}
 use Rattle.mtl_monitor.specs.declared.node.Operator.TheVariants as op

@@ -4,7 +4,7 @@ use Rattle.mtl_formulas.specs.FormulaTree.{FormulaTree}
 use Rattle.mtl_formulas.specs.FormulaMeasures.{reach_of}
 use Rattle.mtl_formulas.specs.declared.verdict.Verdict.TheVariants.{No}
 use Rattle.mtl_monitor.specs.Following.{count_of, formula_at, past_of, Closes, Follows}
-use Rattle.mtl_monitor.specs.Traces.{Trace, value_in}
+use Rattle.mtl_formulas.specs.Traces.{Trace, value_in}
 use Rattle.mtl_monitor.specs.declared.program.Program.{Program}
 use Rattle.mtl_monitor.specs.declared.trace_state.TraceState.{TraceState}
 use Rattle.planner.specs.declared.already.Already.{Already}

@@ -4,7 +4,7 @@ use Rattle.encounters.specs.declared.pair_step.PairStep.{PairStep}
 use Rattle.meetings.specs.Standing as meetings
 use Rattle.meetings.specs.Traces.{IsContactAt, step_at, steps_from}
 use Rattle.mtl_monitor.specs.Following as monitor
-use Rattle.mtl_monitor.specs.Traces.{Trace}
+use Rattle.mtl_formulas.specs.Traces.{Trace}
 use Rattle.mtl_monitor.specs.declared.program.Program.{Program}
 use Rattle.situations.specs.FailingPlans.{AreTraceRows, BeginsAt, BreaksARule}
 use Rattle.rule_program.specs.Lags.{IsNoLast}

@@ -4,7 +4,7 @@ use Rattle.std.specs.Borrow.{Bor}
 use Rattle.std.specs.Fmt.{decimal}
 use Rattle.std.specs.Int.Digits.{AllBelowBase}
 use Rattle.std.specs.List.{slice_split}
-use Rattle.audit_report.specs.ReportRows.{Fields}
+use Rattle.csv_rows.specs.CsvRows.{Fields}
 use Rattle.closest_approach.specs.declared.nearest.Moment.{Moment}
 use Rattle.situations.specs.declared.situation.Situation.{Situation}
 use Rattle.refutations.specs.EntryRows.{choices_text, reason_fields, FitsReason}

@@ -1,6 +1,6 @@
 -- What a check of rows comes to in a situation.
 use Rattle.std.specs.Prelude.{ℕ, ◌≡◌, List, false}
-use Rattle.audit_report.specs.CsvRows.{row_of}
+use Rattle.csv_rows.specs.CsvRows.{row_of}
 use Rattle.audit_report.specs.ReportRows.{no_plan_fields}
 use Rattle.lattice.specs.Grids.{plans_of}
 use Rattle.rechecks.specs.CheckedRows.{AreRight, IsFirstBadRow, why_rows}

@@ -1,6 +1,6 @@
 -- Rules that are newly broken over a list of rows.
 use Rattle.std.specs.Prelude.{ℕ, ◌<◌, List, slice_get, IsSomeAnd}
-use Rattle.mtl_monitor.specs.Traces.{Trace}
+use Rattle.mtl_formulas.specs.Traces.{Trace}
 use Rattle.rule_set.specs.NamedTrees.{NamedTree}
 use Rattle.situations.specs.FailingPlans.{IsNewlyBrokenHere}
 

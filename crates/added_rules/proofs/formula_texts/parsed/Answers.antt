@@ -1,5 +1,5 @@
 use Rattle.std.proofs.Common.{refl, arith}
-use Rattle.mtl_formulas.specs.FormulaReading.{tree, syntax_fault, number_fault}
+use Rattle.formula_language.specs.FormulaReading.{tree, syntax_fault, number_fault}
 use Rattle.mtl_formulas.specs.FormulaTree.{tree_of}
 use Rattle.added_rules.proofs.Places.{number_place, syntax_place}
 use Rattle.added_rules.proofs.Texts.{fault_told}

@@ -2,7 +2,7 @@ use Rattle.std.proofs.Common.{ℕ, ◌+◌, ◌-◌, ◌<◌, ◌≤◌, [], ◌
 use Rattle.mtl_formulas.specs.declared.atom.Atom.{Atom}
 use Rattle.mtl_formulas.specs.declared.verdict.Verdict.{Verdict}
 use Rattle.mtl_formulas.specs.FormulaTree.{FormulaTree}
-use Rattle.mtl_monitor.specs.Traces.{Trace}
+use Rattle.mtl_formulas.specs.Traces.{Trace}
 use Rattle.early_sweeps.specs.Inner.Cells.{AreRight}
 use Rattle.early_sweeps.specs.Inner.Rests.{ReadsNow}
 use Rattle.early_sweeps.specs.Inner.Nodes.{AllCompute, AllRight, OperandsRight, cells_of, tree_at}

@@ -4,7 +4,7 @@ use Rattle.mtl_formulas.specs.declared.formula.LinkKind.TheVariants.{U}
 use Rattle.mtl_formulas.specs.FormulaTree.{link}
 use Rattle.mtl_formulas.specs.FormulaMeasures.{reach_of}
 use Rattle.mtl_monitor.specs.Following.{formula_at}
-use Rattle.mtl_monitor.specs.Traces.{value_in}
+use Rattle.mtl_formulas.specs.Traces.{value_in}
 use Rattle.early_sweeps.specs.Inner.Cells.{AreRight}
 use Rattle.early_sweeps.specs.Inner.Nodes.{tree_at}
 use Rattle.early_sweeps.proofs.sweeper.sweep_one.Goals as goal

@@ -1,6 +1,6 @@
 use Rattle.std.proofs.Common.{◌+◌, ◌-◌, ◌<◌, ◌≤◌, refl, arith, length}
 use Rattle.mtl_formulas.specs.FormulaTree.{FormulaTree, span}
-use Rattle.mtl_monitor.specs.Traces.{Trace}
+use Rattle.mtl_formulas.specs.Traces.{Trace}
 use Rattle.early_sweeps.specs.Inner.Cells.{AreRight, ahead_kind}
 use Rattle.early_sweeps.proofs.Sweeps.{AreRight-more, SameOutside-more, ahead_value, ahead_reads, ahead_is, ahead_begins}
 use Rattle.early_sweeps.proofs.sweeping.sweep_ahead.Goals as goal

@@ -1,6 +1,6 @@
 use Rattle.std.proofs.Common.{◌+◌, ◌-◌, ◌≤◌, length}
 use Rattle.mtl_formulas.specs.FormulaTree.{FormulaTree, span}
-use Rattle.mtl_monitor.specs.Traces.{Trace, value_in}
+use Rattle.mtl_formulas.specs.Traces.{Trace, value_in}
 use Rattle.early_sweeps.specs.Inner.Counts.{Reads, sensed}
 use Rattle.early_sweeps.specs.Inner.Cells.{AreRight, SameOutside, ahead_kind}
 use Rattle.early_sweeps.proofs.sweeping.sweep_ahead.Given as goal

@@ -1,6 +1,6 @@
 use Rattle.std.proofs.Common.{◌+◌}
 use Rattle.mtl_formulas.specs.FormulaTree.{FormulaTree, negation}
-use Rattle.mtl_monitor.specs.Traces.{Trace}
+use Rattle.mtl_formulas.specs.Traces.{Trace}
 use Rattle.early_sweeps.specs.Inner.Cells.{AreRight, SameOutside}
 use Rattle.early_sweeps.proofs.sweeping.sweep_not.Given as goal
 

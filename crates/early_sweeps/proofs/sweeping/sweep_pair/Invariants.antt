@@ -1,6 +1,6 @@
 use Rattle.std.proofs.Common.{◌+◌}
 use Rattle.mtl_formulas.specs.FormulaTree.{FormulaTree, pair}
-use Rattle.mtl_monitor.specs.Traces.{Trace}
+use Rattle.mtl_formulas.specs.Traces.{Trace}
 use Rattle.early_sweeps.specs.Inner.Cells.{AreRight, SameOutside}
 use Rattle.early_sweeps.proofs.sweeping.sweep_pair.Given as goal
 

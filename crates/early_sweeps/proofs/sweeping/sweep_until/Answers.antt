@@ -1,7 +1,7 @@
 use Rattle.std.proofs.Common.{◌≡◌, ◌+◌, ◌-◌, ◌<◌, ◌≤◌, refl, arith, length}
 use Rattle.mtl_formulas.specs.declared.formula.LinkKind.TheVariants.{U}
 use Rattle.mtl_formulas.specs.FormulaTree.{FormulaTree, link}
-use Rattle.mtl_monitor.specs.Traces.{Trace}
+use Rattle.mtl_formulas.specs.Traces.{Trace}
 use Rattle.early_sweeps.specs.Inner.Cells.{AreRight}
 use Rattle.early_sweeps.proofs.Sweeps.{AreRight-more, SameOutside-more, operand_cell, ahead_value, bars_begin, hits_begin, bars_read, hits_read, until_is}
 use Rattle.early_sweeps.proofs.sweeping.sweep_until.Goals as goal

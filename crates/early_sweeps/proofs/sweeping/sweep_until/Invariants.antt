@@ -2,7 +2,7 @@ use Rattle.std.proofs.Common.{◌+◌, ◌-◌, ◌≤◌, length}
 use Rattle.mtl_formulas.specs.declared.formula.LinkKind.TheVariants.{U}
 use Rattle.mtl_formulas.specs.VerdictOrder.{turned_round}
 use Rattle.mtl_formulas.specs.FormulaTree.{FormulaTree, link}
-use Rattle.mtl_monitor.specs.Traces.{Trace, value_in}
+use Rattle.mtl_formulas.specs.Traces.{Trace, value_in}
 use Rattle.early_sweeps.specs.Inner.Counts.{Reads, held_ahead}
 use Rattle.early_sweeps.specs.Inner.Cells.{AreRight, SameOutside}
 use Rattle.early_sweeps.proofs.sweeping.sweep_until.Given as goal

@@ -47,25 +47,34 @@ invariant-since-loop-distance g l =
 
 -- Each call is of an operand, or of the same formula by a function that is nearer to value.
 abbrev pub decreases-value : goal.decreases-value
-decreases-value g l = 4 * node_count (tree_of l.formula.now)
+decreases-value g l = 5 * node_count (tree_of l.formula.now)
 
 abbrev pub decreases-value_ahead : goal.decreases-value_ahead
-decreases-value_ahead g l = 4 * node_count (tree_of l.formula.now) + 1
+decreases-value_ahead g l = 5 * node_count (tree_of l.formula.now) + 1
 
 abbrev pub decreases-greatest_ahead : goal.decreases-greatest_ahead
-decreases-greatest_ahead g l = 4 * node_count (tree_of l.formula.now) + 2
+decreases-greatest_ahead g l = 5 * node_count (tree_of l.formula.now) + 2
 
 abbrev pub decreases-least_ahead : goal.decreases-least_ahead
-decreases-least_ahead g l = 4 * node_count (tree_of l.formula.now) + 2
+decreases-least_ahead g l = 5 * node_count (tree_of l.formula.now) + 2
 
 abbrev pub decreases-greatest_back : goal.decreases-greatest_back
-decreases-greatest_back g l = 4 * node_count (tree_of l.formula.now) + 2
+decreases-greatest_back g l = 5 * node_count (tree_of l.formula.now) + 2
 
 abbrev pub decreases-least_back : goal.decreases-least_back
-decreases-least_back g l = 4 * node_count (tree_of l.formula.now) + 2
+decreases-least_back g l = 5 * node_count (tree_of l.formula.now) + 2
 
 abbrev pub decreases-until : goal.decreases-until
-decreases-until g l = 4 * (node_count (tree_of l.a.now) + node_count (tree_of l.b.now)) + 3
+decreases-until g l = 5 * (node_count (tree_of l.a.now) + node_count (tree_of l.b.now)) + 3
 
 abbrev pub decreases-since : goal.decreases-since
-decreases-since g l = 4 * (node_count (tree_of l.a.now) + node_count (tree_of l.b.now)) + 3
+decreases-since g l = 5 * (node_count (tree_of l.a.now) + node_count (tree_of l.b.now)) + 3
+
+abbrev pub decreases-pair_value : goal.decreases-pair_value
+decreases-pair_value g l = 5 * (node_count (tree_of l.a.now) + node_count (tree_of l.b.now)) + 4
+
+abbrev pub decreases-span_value : goal.decreases-span_value
+decreases-span_value g l = 5 * node_count (tree_of l.a.now) + 4
+
+abbrev pub decreases-link_value : goal.decreases-link_value
+decreases-link_value g l = 5 * (node_count (tree_of l.a.now) + node_count (tree_of l.b.now)) + 4

@@ -1,6 +1,6 @@
 use Rattle.std.proofs.Common.{ℕ, ◌∙◌, List, ◌++◌, ap, subst, append_assoc, true}
 use Rattle.std.proofs.lemmas.List.{take_all}
-use Rattle.audit_report.specs.CsvRows.{row_of}
+use Rattle.csv_rows.specs.CsvRows.{row_of}
 use Rattle.audit_report.specs.ReportTexts.{HasText}
 use Rattle.situations.specs.declared.near.Near.{Near}
 use Rattle.report_parts.specs.VesselRows.{held_fields, near_rows}

@@ -4,7 +4,7 @@ use Rattle.std.specs.Prelude.{IsTrue, not, ◌↔◌}
 use Rattle.meetings.specs.Answers.{answer_of}
 use Rattle.mtl_formulas.specs.FormulaTree.{FormulaTree, tree_of}
 use Rattle.mtl_formulas.specs.declared.verdict.Verdict.TheVariants.{No}
-use Rattle.mtl_monitor.specs.Traces.{Trace, value_in}
+use Rattle.mtl_formulas.specs.Traces.{Trace, value_in}
 use Rattle.situations.specs.FailingPlans.{IsNewlyBrokenHere}
 use Rattle.situations.proofs.reasons.is_newly_broken.Goals as goal
 

@@ -2,7 +2,7 @@ use Rattle.std.proofs.Common.{◌≡◌, ◌+◌, ◌∙◌, inl, inr, List, ref
 use Rattle.mtl_formulas.specs.FormulaTree.{FormulaTree}
 use Rattle.mtl_monitor.specs.Following.{Closes, Follows, past_of}
 use Rattle.mtl_monitor.specs.Reaches.{greatest_reach}
-use Rattle.mtl_monitor.specs.Traces.{Trace}
+use Rattle.mtl_formulas.specs.Traces.{Trace}
 use Rattle.auditor.specs.SettledRows.{formulas_of}
 use Rattle.auditor.proofs.TraceKeeping.{at_end, at_last, one_past}
 use Rattle.auditor.proofs.trace.AuditTrace.end.Goals as goal

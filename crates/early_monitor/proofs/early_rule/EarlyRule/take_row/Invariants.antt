@@ -1,7 +1,7 @@
 use Rattle.std.proofs.Common.{◌≡◌, ℕ, ◌+◌, [], ◌∷◌, ◌++◌}
 use Rattle.meetings.specs.Answers.{answer_of}
 use Rattle.mtl_formulas.specs.FormulaTree.{FormulaTree}
-use Rattle.mtl_monitor.specs.Traces.{Trace}
+use Rattle.mtl_formulas.specs.Traces.{Trace}
 use Rattle.early_monitor.specs.Inner.Breaches.{Adds, IsBreachBefore}
 use Rattle.early_monitor.specs.Inner.EarlyStates.{IsAt, IsGiving, IsStateOf, left_to_look, rows_fed}
 use Rattle.early_monitor.proofs.early_rule.EarlyRule.take_row.Given as goal

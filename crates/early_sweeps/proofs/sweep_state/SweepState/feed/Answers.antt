@@ -1,7 +1,7 @@
 use Rattle.std.proofs.Common.{◌≡◌, ℕ, ◌+◌, ◌<◌, ◌≤◌, ◌∙◌, refl, arith, [], ◌∷◌, ◌++◌, length}
 use Rattle.std.proofs.lemmas.List.{length_push, with_items_is}
 use Rattle.std.specs.Vec.{with_items}
-use Rattle.mtl_monitor.specs.Traces.{value_in}
+use Rattle.mtl_formulas.specs.Traces.{value_in}
 use Rattle.early_sweeps.specs.Inner.Cells.{aged, cell_at}
 use Rattle.early_sweeps.specs.Inner.Nodes.{AllRight}
 use Rattle.early_sweeps.specs.Inner.Zones.{HasZone, IsBehind}

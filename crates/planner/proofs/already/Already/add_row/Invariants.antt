@@ -2,7 +2,7 @@ use Rattle.std.proofs.Common.{◌≡◌, ℕ, ◌+◌, ◌<◌, List, false, len
 use Rattle.std.specs.Prelude.{IsTrue, ◌↔◌}
 use Rattle.mtl_formulas.specs.FormulaTree.{FormulaTree}
 use Rattle.mtl_monitor.specs.Following.{formula_at}
-use Rattle.mtl_monitor.specs.Traces.{Trace}
+use Rattle.mtl_formulas.specs.Traces.{Trace}
 use Rattle.planner.specs.Inner.Breaking.{HasPassed, IsBrokenAt}
 use Rattle.planner.proofs.already.Already.add_row.Given as goal
 

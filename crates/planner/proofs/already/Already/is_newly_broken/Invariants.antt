@@ -1,7 +1,7 @@
 use Rattle.std.proofs.Common.{◌≡◌, ℕ, ◌<◌, List, false}
 use Rattle.mtl_formulas.specs.FormulaTree.{FormulaTree}
 use Rattle.mtl_monitor.specs.Following.{formula_at}
-use Rattle.mtl_monitor.specs.Traces.{Trace}
+use Rattle.mtl_formulas.specs.Traces.{Trace}
 use Rattle.planner.specs.Inner.Breaking.{HasPassed, IsBrokenAt, flag_at}
 use Rattle.planner.proofs.already.Already.is_newly_broken.Given as goal
 

@@ -1,7 +1,7 @@
 use Rattle.std.proofs.Common.{◌≡◌, ℕ, ◌*◌, List, length, inr, ap, subst, ◌∙◌, arith}
 use Rattle.mtl_formulas.specs.FormulaTree.{FormulaTree}
 use Rattle.mtl_monitor.specs.Following.{Closes, Follows, count_of}
-use Rattle.mtl_monitor.specs.Traces.{Trace}
+use Rattle.mtl_formulas.specs.Traces.{Trace}
 use Rattle.planner.proofs.TellingNow.{AreTold, all_told, closes_next, next_row, none_told, row_told}
 use Rattle.planner.proofs.already.Already.of.Goals as goal
 

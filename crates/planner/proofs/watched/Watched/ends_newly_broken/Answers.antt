@@ -2,7 +2,7 @@ use Rattle.std.proofs.Common.{◌≡◌, ◌+◌, inl, inr, List, length, refl, 
 use Rattle.std.proofs.lemmas.Bool.{cases_lt}
 use Rattle.mtl_formulas.specs.FormulaTree.{FormulaTree}
 use Rattle.mtl_monitor.specs.Following.{Closes, Follows}
-use Rattle.mtl_monitor.specs.Traces.{Trace}
+use Rattle.mtl_formulas.specs.Traces.{Trace}
 use Rattle.planner.specs.Inner.Breaking.{formulas_of}
 use Rattle.planner.proofs.Ending.{none_beyond}
 use Rattle.planner.proofs.TellingNow.{closes_next}

@@ -1,0 +1,11 @@
+//! Rows of fields as CSV (RFC 4180): fields between commas, quoted where they must be, and a line feed.
+//!
+//! The fields `why`, `3.4`, `200000001`, `r14a`, `23` and two empty ones are the row `why,3.4,200000001,r14a,23,,`. Which rows a report has, and what
+//! their fields tell, has no place here.
+#![tactic(auto)]
+
+mod numbers;
+mod row;
+
+pub use numbers::{digits, optional_digits, short_digits, signed_digits};
+pub use row::fields_bytes;

@@ -1,0 +1,2 @@
+pub mod FirstEntries
+pub mod Walking

@@ -1,0 +1,14 @@
+pub mod DigitRuns
+pub mod TokenSteps
+pub mod ParserLoops
+pub mod ParserRun
+pub mod Completeness
+pub mod Soundness
+pub mod Faults
+pub mod Refusals
+pub mod Trees
+pub mod GoodNumbers
+pub mod Meanings
+pub mod ForCallers
+pub mod TokenRuns
+pub mod Reprinted

@@ -1,0 +1,9 @@
+pub use Rattle.mtl_formulas.specs.FormulaTree
+pub use Rattle.mtl_formulas.specs.FormulaMeasures
+pub mod AtomWords
+pub mod FormulaText
+pub mod FormulaTokens
+pub mod FormulaGrammar
+pub mod FormulaReading
+pub mod FaultTexts
+pub mod Inner

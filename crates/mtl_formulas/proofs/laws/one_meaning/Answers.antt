@@ -1,5 +1,0 @@
-use Rattle.mtl_formulas.proofs.Meanings.{has_one_meaning}
-use Rattle.mtl_formulas.proofs.laws.one_meaning.Goals as goal
-
-pub returns : goal.returns
-returns c = has_one_meaning
