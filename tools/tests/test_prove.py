@@ -92,7 +92,7 @@ class Prove(InFolder):
         self.assertEqual(status, 1)
         self.assertIn("error: this is why", err)
         self.assertIn("rt: FAILED: high colregs", err)
-        self.assertIn("2 of 4 crates are proved; what is proved is kept beside the kit", err)
+        self.assertIn("2 of 4 crates are proved; what is proved is kept where the kit keeps it", err)
 
     def test_a_program_of_before_is_not_run_where_none_could_be_built(self):
         self.run_of("./colregs", "points", "a.toml")

@@ -1,11 +1,11 @@
 //! Devices that fail: what a run has written by then, and that it asks for no more.
-use colregs_program::Status;
 use compared::{is, is_true};
 use outside::Taken;
-use scenario_rows::HEAD_ON;
 use std::alloc::Global;
 use std::test::Fail;
-use whole_runs::{ABOUT_SEATTLE, AUDIT, Devices, LOG, POINTS, REPORT, RunEnd, SOUND, ended_with};
+use whole_runs::{
+    ABOUT_SEATTLE, AUDIT, Devices, HEAD_ON, LOG, POINTS, REPORT, RunEnd, SOUND, Status, ended_with,
+};
 
 /// What the clock of a line at second 741 settles of the log of two vessels that meet head on.
 const FIRST_TWO: &[u8] = b"verdict,369190000,477553000,r14a,broken,0,0

@@ -1,12 +1,10 @@
 //! Each fault by its number, and the line that tells it.
-use colregs_program::{Cause, Key, Status, Unready, Which};
 use compared::is;
-use scenario_rows::HEAD_ON;
 use std::alloc::Global;
 use std::test::Fail;
 use whole_runs::{
-    Edit, LOG, NOTHING, ONE_COURSE, ONE_TICK, OWN, POINTS, Row, SOUND, Written, ended,
-    is_as_worked_out,
+    Cause, Edit, HEAD_ON, Key, LOG, NOTHING, ONE_COURSE, ONE_TICK, OWN, POINTS, Row, SOUND, Status,
+    Unready, Which, Written, ended, is_as_worked_out,
 };
 
 const USAGE: &[u8] = b"usage: points|audit|plan|drill|migrate|recheck|watch SCENARIO\n";

@@ -19,6 +19,7 @@ pub(crate) fn product(a: i64, b: i64) -> i128
     requires b_small { unsigned_abs b ≤ 2 ^ 62 }
     ensures value { result ≡ a *ℤ b }
     ensures size { unsigned_abs result ≡ unsigned_abs a * unsigned_abs b }
+    ensures small { unsigned_abs result ≤ 2 ^ 124 }
 {
     i128::from(a) * i128::from(b)
 }
@@ -41,6 +42,16 @@ fn minus(a: i128, b: i128) -> i128
     a - b
 }
 
+/// The second component less the first.
+fn difference(a: i64, b: i64) -> i64
+    requires a_small { unsigned_abs a ≤ 2 ^ 61 }
+    requires b_small { unsigned_abs b ≤ 2 ^ 61 }
+    ensures value { result ≡ b -ℤ a }
+    ensures small { unsigned_abs result ≤ unsigned_abs a + unsigned_abs b }
+{
+    b - a
+}
+
 /// The displacement from one point to another: the second less the first. Components are at most 2^61 in size.
 pub fn displacement(a: Point, b: Point) -> Point
     requires a_small { IsWithin (2 ^ 61) a }
@@ -51,8 +62,8 @@ pub fn displacement(a: Point, b: Point) -> Point
     ensures small_y { unsigned_abs result.y ≤ unsigned_abs a.y + unsigned_abs b.y }
 {
     Point {
-        x: b.x - a.x,
-        y: b.y - a.y,
+        x: difference(a.x, b.x),
+        y: difference(a.y, b.y),
     }
 }
 

@@ -1,10 +1,9 @@
 //! What a recheck tells of rows.
-use colregs_program::{Status, Unready, Which};
 use compared::is;
 use std::test::Fail;
 use whole_runs::{
-    HEAD_ON_NOW, NOTHING, ONE_COURSE, ONE_TICK, OWN, Row, SOUND, Shelved, Written, edited,
-    ended_on, is_as_worked_out,
+    HEAD_ON_NOW, NOTHING, ONE_COURSE, ONE_TICK, OWN, Row, SOUND, Shelved, Status, Unready, Which,
+    Written, edited, ended_on, is_as_worked_out,
 };
 
 const RECHECK: &[&str] = &["recheck", "scenario.toml"];

@@ -44,6 +44,32 @@ impl Model for RuleSet {
     ghost invariant = { λ s. (length s.rules.items ≤ MOST_RULES) × RulesHaveDifferentNames (named_trees s.rules.items) };
 }
 
+/// Puts the eleven rules that stand without ranks and with them behind none. It owns no list of rules, so that a way out has nothing to drop.
+fn push_eleven(
+    rules: &mut Vec<Rule>,
+    alloc: Global,
+    ranks: Ranking,
+    tick: u32,
+    numbers: &RuleNumbers,
+) -> Result<(), Memory>
+    requires none { rules.old.items ≡ [] }
+    requires numbers { AreRuleNumbers tick numbers.now }
+    ensures { OnOk result (named_trees rules.new.items ≡ eleven_rules ranks tick numbers.now) }
+{
+    rules.push(r8b(alloc, tick, numbers)?)?;
+    rules.push(r8d(alloc, numbers)?)?;
+    rules.push(r13(alloc, numbers)?)?;
+    rules.push(r14a(alloc, ranks, tick, numbers)?)?;
+    rules.push(r14b(alloc, ranks)?)?;
+    rules.push(r14p(alloc, ranks)?)?;
+    rules.push(r15(alloc, ranks)?)?;
+    rules.push(r16(alloc, ranks, tick, numbers)?)?;
+    rules.push(r17a(alloc, ranks, tick, numbers)?)?;
+    rules.push(r17b(alloc, ranks, tick, numbers)?)?;
+    rules.push(r17c(alloc, ranks, tick, numbers)?)?;
+    Ok(())
+}
+
 /// The eleven rules that stand without ranks and with them.
 fn eleven_rules(
     alloc: Global,
@@ -54,19 +80,14 @@ fn eleven_rules(
     requires { AreRuleNumbers tick numbers.now }
     ensures { IfOk result (λ rules. named_trees rules.items ≡ eleven_rules ranks tick numbers.now) }
 {
-    Ok(vec![in alloc;
-        r8b(alloc, tick, numbers)?,
-        r8d(alloc, numbers)?,
-        r13(alloc, numbers)?,
-        r14a(alloc, ranks, tick, numbers)?,
-        r14b(alloc, ranks)?,
-        r14p(alloc, ranks)?,
-        r15(alloc, ranks)?,
-        r16(alloc, ranks, tick, numbers)?,
-        r17a(alloc, ranks, tick, numbers)?,
-        r17b(alloc, ranks, tick, numbers)?,
-        r17c(alloc, ranks, tick, numbers)?,
-    ]?)
+    let mut rules = Vec::new(alloc);
+    match push_eleven(&mut rules, alloc, ranks, tick, numbers) {
+        Ok(()) => Ok(rules),
+        Err(fault) => {
+            drop(rules);
+            Err(fault)
+        }
+    }
 }
 
 impl RuleSet {

@@ -1,13 +1,12 @@
 //! The report of each mode.
-use colregs_program::Status;
 use compared::{is, is_true};
 use log_lines::laws;
-use scenario_rows::HEAD_ON;
 use std::alloc::Global;
 use std::test::Fail;
 use whole_runs::{
-    ABOUT_SEATTLE, AUDIT, Devices, Edit, HEAD_ON_NOW, LOG, NOTHING, ONE_COURSE, ONE_TICK, OWN,
-    POINTS, REPORT, Row, RunEnd, SOUND, Written, ended, ended_with, is_as_worked_out,
+    ABOUT_SEATTLE, AUDIT, Devices, Edit, HEAD_ON, HEAD_ON_NOW, LOG, NOTHING, ONE_COURSE, ONE_TICK,
+    OWN, POINTS, REPORT, Row, RunEnd, SOUND, Status, Which, Written, ended, ended_with,
+    is_as_worked_out,
 };
 
 /// The row of that report.
@@ -305,7 +304,7 @@ lines,empty,0,,,,
             ("max_speed = 500\n", "max_speed = 500\nmax_bytes = 95\n"),
         ],
         log: &[LOG, LOG],
-        status: Status::Limit(colregs_program::Which::Log, 95),
+        status: Status::Limit(Which::Log, 95),
         number: 7,
         out: Written::All(POINT),
         err: b"limit: log 95\n",
