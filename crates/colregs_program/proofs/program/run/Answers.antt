@@ -298,6 +298,110 @@ returns-clause-unfetched g c = λ nothing. absurd (asked_or_nothing c.args.words
 pub returns-clause-unread : goal.returns-clause-unread
 returns-clause-unread g c = λ request asks not. c.report_on.ensures.untouched (unread_too c.args.words.now request c.in-Ok.request asks c.in-Ok.ensures.asked not)
 
+-- ---- a finished run has none of the other answers
+
+pub returns-then-none-clause-usage : goal.returns-then-none-clause-usage
+returns-then-none-clause-usage g c = λ is. cc is
+
+pub returns-then-none-clause-no_usage : goal.returns-then-none-clause-no_usage
+returns-then-none-clause-no_usage g c = λ request asks is. cc is
+
+pub returns-then-none-clause-shelf_fault : goal.returns-then-none-clause-shelf_fault
+returns-then-none-clause-shelf_fault g c = λ is. cc is
+
+pub returns-then-none-clause-scenario_limit : goal.returns-then-none-clause-scenario_limit
+returns-then-none-clause-scenario_limit g c = λ most is. cc is
+
+pub returns-then-none-clause-rows_limit : goal.returns-then-none-clause-rows_limit
+returns-then-none-clause-rows_limit g c = λ most is. cc is
+
+pub returns-then-none-clause-refused : goal.returns-then-none-clause-refused
+returns-then-none-clause-refused g c = λ key cause is. cc is
+
+pub returns-then-none-clause-read_fault : goal.returns-then-none-clause-read_fault
+returns-then-none-clause-read_fault g c = λ is. cc is
+
+pub returns-then-none-clause-log_limit : goal.returns-then-none-clause-log_limit
+returns-then-none-clause-log_limit g c = λ most is. cc is
+
+pub returns-then-none-clause-vessel_limit : goal.returns-then-none-clause-vessel_limit
+returns-then-none-clause-vessel_limit g c = λ most is. cc is
+
+pub returns-then-none-clause-pair_limit : goal.returns-then-none-clause-pair_limit
+returns-then-none-clause-pair_limit g c = λ most is. cc is
+
+pub returns-then-none-clause-target_limit : goal.returns-then-none-clause-target_limit
+returns-then-none-clause-target_limit g c = λ most is. cc is
+
+pub returns-then-none-clause-own_unready : goal.returns-then-none-clause-own_unready
+returns-then-none-clause-own_unready g c = λ why is. cc is
+
+pub returns-then-none-clause-bad_entry : goal.returns-then-none-clause-bad_entry
+returns-then-none-clause-bad_entry g c = λ index is. cc is
+
+pub returns-then-none-clause-write_fault : goal.returns-then-none-clause-write_fault
+returns-then-none-clause-write_fault g c = λ is. cc is
+
+pub returns-then-none-clause-memory : goal.returns-then-none-clause-memory
+returns-then-none-clause-memory g c = λ is. cc is
+
+pub returns-then-none-clause-untouched : goal.returns-then-none-clause-untouched
+returns-then-none-clause-untouched g c = λ is. cc is
+
+pub returns-then-none-clause-unwritten : goal.returns-then-none-clause-unwritten
+returns-then-none-clause-unwritten g c = λ is. cc is
+
+pub returns-clause-usage : goal.returns-clause-usage
+returns-clause-usage g c = λ is. cc is
+
+pub returns-clause-no_usage : goal.returns-clause-no_usage
+returns-clause-no_usage g c = λ request asks is. cc is
+
+pub returns-clause-shelf_fault : goal.returns-clause-shelf_fault
+returns-clause-shelf_fault g c = λ is. cc is
+
+pub returns-clause-scenario_limit : goal.returns-clause-scenario_limit
+returns-clause-scenario_limit g c = λ most is. cc is
+
+pub returns-clause-rows_limit : goal.returns-clause-rows_limit
+returns-clause-rows_limit g c = λ most is. cc is
+
+pub returns-clause-refused : goal.returns-clause-refused
+returns-clause-refused g c = λ key cause is. cc is
+
+pub returns-clause-read_fault : goal.returns-clause-read_fault
+returns-clause-read_fault g c = λ is. cc is
+
+pub returns-clause-log_limit : goal.returns-clause-log_limit
+returns-clause-log_limit g c = λ most is. cc is
+
+pub returns-clause-vessel_limit : goal.returns-clause-vessel_limit
+returns-clause-vessel_limit g c = λ most is. cc is
+
+pub returns-clause-pair_limit : goal.returns-clause-pair_limit
+returns-clause-pair_limit g c = λ most is. cc is
+
+pub returns-clause-target_limit : goal.returns-clause-target_limit
+returns-clause-target_limit g c = λ most is. cc is
+
+pub returns-clause-own_unready : goal.returns-clause-own_unready
+returns-clause-own_unready g c = λ why is. cc is
+
+pub returns-clause-bad_entry : goal.returns-clause-bad_entry
+returns-clause-bad_entry g c = λ index is. cc is
+
+pub returns-clause-write_fault : goal.returns-clause-write_fault
+returns-clause-write_fault g c = λ is. cc is
+
+pub returns-clause-memory : goal.returns-clause-memory
+returns-clause-memory g c = λ is. cc is
+
+pub returns-clause-untouched : goal.returns-clause-untouched
+returns-clause-untouched g c = λ is. cc is
+
+pub returns-clause-unwritten : goal.returns-clause-unwritten
+returns-clause-unwritten g c = λ is. cc is
+
 -- ---- the seed of a drill
 
 pub report_on-requires-clause-seed : goal.report_on-requires-clause-seed
