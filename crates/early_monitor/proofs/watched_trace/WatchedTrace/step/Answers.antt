@@ -8,13 +8,51 @@ use Rattle.traces.specs.Known.{watched}
 use Rattle.early_monitor.specs.Alarms.{tree_of_rule}
 use Rattle.early_monitor.specs.declared.alarm.Alarm.{Alarm}
 use Rattle.early_monitor.specs.declared.early_program.EarlyState.{EarlyState}
+use Rattle.early_monitor.specs.declared.early_rule.EarlyRule.{EarlyRule}
 use Rattle.early_monitor.specs.Inner.Breaches.{Adds, IsBreach, IsBreachBelow, IsBreachOf}
 use Rattle.early_monitor.specs.Inner.RulesWatched.{FitsRule, IsCalm, IsCalmRule, StandsForRule, early_at, plain_trees}
 use Rattle.early_monitor.specs.Inner.TraceWatched.{kept_at}
 use Rattle.early_monitor.proofs.Calm.{no_breach, stays_calm}
 use Rattle.early_monitor.proofs.Breaches.{adds_none, adds_same, adds_then, below_more, below_none}
+use Rattle.early_monitor.proofs.Lists.{whole_written}
 use Rattle.early_monitor.proofs.watched_trace.WatchedTrace.step.Goals as goal
 use Rattle.early_monitor.proofs.watched_trace.WatchedTrace.step.Goals.{else-not-branch, then-not-branch}
+
+pub feed-changes-requires : goal.feed-changes-requires
+feed-changes-requires c = record {
+  fits = c.requires.ready.fits;
+  unclosed = c.requires.ready.unended;
+  small = c.requires.few;
+}
+
+-- Each rule is calm, so it keeps nothing.
+pub returns-then-not-changes-clause-ready : goal.returns-then-not-changes-clause-ready
+returns-then-not-changes-clause-ready c =
+    let w = c.args.rules.now in
+    let new = c.feed-changes.new.self in
+    let ready = c.requires.ready in
+    let calm = ready.calm c.if-calm.true in
+    record {
+      fits = c.feed-changes.ensures.fits;
+      unended = c.feed-changes.ensures.past;
+      as_many = ready.as_many;
+      early = λ k lt. subst (λ (e : Option EarlyRule). FitsRule (fed_of new) e (kept_at c.args.self.now.early.items k)) (sym (calm k lt).0) tt;
+      calm = λ _. stays_calm w c.args.self.now.values new calm (c.if-not-changes.ensures.same refl);
+    }
+
+pub returns-then-not-changes-clause-stands : goal.returns-then-not-changes-clause-stands
+returns-then-not-changes-clause-stands c = λ numbers known seen are s.
+    let w = c.args.rules.now in
+    let calm = c.requires.ready.calm c.if-calm.true in
+    let all = known.trace ++ answer_of c.args.row.now ∷ [] in
+    let many = are.early.as_many in
+    record {
+      pair = s.pair;
+      start = s.start;
+      values = c.feed-changes.ensures.follows (plain_trees w.early.items numbers.rules) known.trace s.values;
+      early = λ k lt.
+          subst (λ (e : Option EarlyRule). StandsForRule e (kept_at c.args.self.now.early.items k) (tree_of_rule numbers.rules k) all) (sym (calm k (omega (arith, lt, many))).0) tt;
+    }
 
 pub returns-then-not-changes-clause-adds : goal.returns-then-not-changes-clause-adds
 returns-then-not-changes-clause-adds c = λ numbers known seen are s.
@@ -25,6 +63,28 @@ returns-then-not-changes-clause-adds c = λ numbers known seen are s.
     let calm : IsCalm w new = stays_calm w old new (c.requires.ready.calm c.if-calm.true) (c.if-not-changes.ensures.same refl) in
     adds_none (IsBreachOf numbers c.args.step now) c.args.alarms.now.keys
     (no_breach w numbers are new now (c.feed-changes.ensures.follows (plain_trees w.early.items numbers.rules) known.trace s.values) calm c.args.step)
+
+pub take_row-requires : goal.take_row-requires
+take_row-requires c =
+    let w = c.args.rules.now in
+    let fed = c.feed-changes.ensures.fed in
+    let few = c.requires.few in
+    let inv = c.loop-rule.invariant in
+    let test = c.loop-rule-test.true in
+    let long = c.loop-rule.auto.state-items in
+    let old : List (Option EarlyState) = c.loop-rule.state-items in
+    let i : ℕ = c.loop-rule.rule in
+    let within : i < length old = omega (arith, test, long) in
+    let rule : i < length w.early.items = omega (arith, within, inv.as_many) in
+    record {
+      rule = rule;
+      values = c.feed-changes.ensures.fits;
+      fed = omega (arith, fed, few);
+      start = c.args.self.now.small;
+      fits = subst (λ (s : Option EarlyState). FitsRule (fed_of c.feed-changes.new.self - 1) (early_at w i) s) (get_or_default old i None c.state-item.result within)
+          (inv.fits_rest i (omega arith) rule);
+      some = omega (arith, fed);
+    }
 
 pub loop-rule-init : goal.loop-rule-init
 loop-rule-init c =
@@ -117,6 +177,44 @@ loop-rule-preserved c =
           (IsBreachBelow numbers c.args.step (i + 1) now) c.args.alarms.now.keys c.take_row.new.alarms.keys (below_more numbers c.args.step i now)
           (adds_then (IsBreachBelow numbers c.args.step i now) (IsBreach (record { pair = known.pair; start = known.start; rule = i; step = c.args.step }) t now.trace) c.args.alarms.now.keys
           c.loop-rule.alarms.keys c.take_row.new.alarms.keys (inv.adds numbers known seen are s) placed);
+    }
+
+pub returns-clause-ready : goal.returns-clause-ready
+returns-clause-ready c =
+    let inv = c.loop-rule.invariant in
+    let test = c.loop-rule-test.false in
+    let long = c.loop-rule.auto.state-items in
+    let all : c.loop-rule.rule ≡ length c.args.rules.now.early.items = omega (arith, test, long, inv.bound, inv.as_many) in
+    let old = c.args.self.now.early in
+    let held = c.requires.ready.as_many in
+    let written = whole_written old.len c.loop-rule.state-items old.items (omega (arith, old.ok.0)) (omega (arith, inv.as_many, held)) in
+    record {
+      fits = c.feed-changes.ensures.fits;
+      unended = c.feed-changes.ensures.past;
+      as_many = ap (λ (states : List (Option EarlyState)). length states) written ∙ inv.as_many;
+      early = λ k lt.
+          subst (λ (states : List (Option EarlyState)). FitsRule (fed_of c.feed-changes.new.self) (early_at c.args.rules.now k) (kept_at states k)) (sym written)
+          (inv.fits_done k (omega (arith, lt, all)));
+      calm = λ calm k lt. inv.calm calm k (omega (arith, lt, all));
+    }
+
+pub returns-clause-stands : goal.returns-clause-stands
+returns-clause-stands c = λ numbers known seen are s.
+    let inv = c.loop-rule.invariant in
+    let test = c.loop-rule-test.false in
+    let long = c.loop-rule.auto.state-items in
+    let many = are.early.as_many in
+    let all : c.loop-rule.rule ≡ length numbers.rules = omega (arith, test, long, inv.bound, inv.as_many, many) in
+    let old = c.args.self.now.early in
+    let held = c.requires.ready.as_many in
+    let written = whole_written old.len c.loop-rule.state-items old.items (omega (arith, old.ok.0)) (omega (arith, inv.as_many, held)) in
+    record {
+      pair = s.pair;
+      start = s.start;
+      values = c.feed-changes.ensures.follows (plain_trees c.args.rules.now.early.items numbers.rules) known.trace s.values;
+      early = λ k lt.
+          subst (λ (states : List (Option EarlyState)). StandsForRule (early_at c.args.rules.now k) (kept_at states k) (tree_of_rule numbers.rules k) (known.trace ++ answer_of c.args.row.now ∷ []))
+          (sym written) (inv.stands_done numbers known are s k (omega (arith, lt, all)));
     }
 
 pub returns-clause-adds : goal.returns-clause-adds
