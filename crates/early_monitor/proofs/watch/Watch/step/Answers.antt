@@ -5,6 +5,7 @@ use Rattle.outside.proofs.ForCallers.{same_fault}
 use Rattle.traces.specs.Known.{AreOpened}
 use Rattle.traces.specs.declared.fault.TickFault.{TickFault}
 use Rattle.traces.specs.declared.fault.TickFault.TheVariants.{TooManyPairs}
+use Rattle.early_monitor.specs.Watching.{given_of}
 use Rattle.early_monitor.specs.Inner.TraceWatched.{StandsFor}
 use Rattle.early_monitor.specs.Inner.TracesWatched.{IsBreachAmong, IsReadyFor}
 use Rattle.early_monitor.specs.declared.alarm.Alarm.{Alarm}
@@ -13,6 +14,45 @@ use Rattle.early_monitor.proofs.AllAlarms.{all_alarms}
 use Rattle.early_monitor.proofs.Lists.{whole_written}
 use Rattle.early_monitor.proofs.NextAlarms.{alarms_now}
 use Rattle.early_monitor.proofs.watch.Watch.step.Goals as goal
+
+pub follow_each-requires-clause-many : goal.follow_each-requires-clause-many
+follow_each-requires-clause-many c = ap (λ (vs : List WatchedTrace). length vs) c.deref_mut.ensures.value ∙ c.requires.sound.many
+
+pub follow_each-requires-clause-ready : goal.follow_each-requires-clause-ready
+follow_each-requires-clause-ready c =
+    let self = c.args.self.now in
+    subst (λ (vs : List WatchedTrace). All (IsReadyFor self.rules (given_of self)) vs) (sym c.deref_mut.ensures.value) c.requires.sound.ready
+
+pub tick-requires : goal.tick-requires
+tick-requires c =
+    let followed = c.in_ok-follow_each.ensures in
+    record {
+      sound = followed.sound;
+      ascending = c.requires.ascending;
+      placed = c.requires.placed;
+      more = omega (arith, followed.given, followed.last_tick, c.requires.more);
+    }
+
+-- The traces that took their step are all that the values hold.
+pub begin_each-requires-clause-few : goal.begin_each-requires-clause-few
+begin_each-requires-clause-few c =
+    let values = c.args.self.now.values in
+    let old : List WatchedTrace = values.items in
+    let new : List WatchedTrace = c.follow_each.new.values in
+    let all_new : length new ≡ length old = c.follow_each.ensures.many ∙ ap (λ (vs : List WatchedTrace). length vs) c.deref_mut.ensures.value in
+    let written = whole_written values.len new old (omega (arith, values.ok.0)) all_new in
+    omega (arith, ap (λ (vs : List WatchedTrace). length vs) written, all_new, c.requires.sound.many, c.in_ok-follow_each.ensures.traces, c.in_ok-tick.ensures.more)
+
+pub begin_each-requires-clause-ready : goal.begin_each-requires-clause-ready
+begin_each-requires-clause-ready c =
+    let rules = c.args.self.now.rules in
+    let values = c.args.self.now.values in
+    let old : List WatchedTrace = values.items in
+    let new : List WatchedTrace = c.follow_each.new.values in
+    let all_new : length new ≡ length old = c.follow_each.ensures.many ∙ ap (λ (vs : List WatchedTrace). length vs) c.deref_mut.ensures.value in
+    let written = whole_written values.len new old (omega (arith, values.ok.0)) all_new in
+    subst (λ (vs : List WatchedTrace). All (IsReadyFor rules (c.given-given.result + 1)) vs) (sym written)
+    (subst (λ (n : ℕ). All (IsReadyFor rules (n + 1)) new) (sym c.given-given.ensures) c.in_ok-follow_each.ensures.ready)
 
 pub returns-clause-sound : goal.returns-clause-sound
 returns-clause-sound c =
