@@ -1,5 +1,5 @@
 -- Nodes that are put one behind the other: what fits stays, and what they compute.
-use Rattle.std.proofs.Common.{◌≡◌, ℕ, ◌+◌, ◌*◌, ◌<◌, ◌≤◌, refl, ap, ap₂, sym, ◌∙◌, arith, Bool, true, false, List, [], ◌∷◌, ◌++◌, length, below_more}
+use Rattle.std.proofs.Common.{◌≡◌, ℕ, ◌+◌, ◌*◌, ◌<◌, ◌≤◌, refl, ap, ap₂, sym, subst, ◌∙◌, arith, Bool, true, false, List, [], ◌∷◌, ◌++◌, length, below_more}
 use Rattle.std.proofs.lemmas.List.{length_push, get_or_push, get_or_append_left}
 use Rattle.mtl_formulas.specs.declared.atom.Atom.TheVariants.{Always}
 use Rattle.mtl_formulas.specs.declared.formula.PairKind.{PairKind}
@@ -15,7 +15,7 @@ use Rattle.early_sweeps.specs.declared.sweeper.SweepNode.{SweepNode}
 use Rattle.early_sweeps.specs.Sweepable.{IsSweepable}
 use Rattle.early_sweeps.specs.Inner.Built.{Adds, Grown, IsBuilt, Puts, last_of}
 use Rattle.early_sweeps.specs.Inner.Cells.{ahead_kind}
-use Rattle.early_sweeps.specs.Inner.Nodes.{Computes, HasFit, no_node, node_at, tree_at}
+use Rattle.early_sweeps.specs.Inner.Nodes.{AllFit, AreLaidOut, Computes, HasFit, cells_of, no_node, node_at, tree_at}
 
 -- What looks no position ahead looks back at nothing that does.
 pub sweepable_now : (t : FormulaTree) → reach_of t ≡ 0 → IsSweepable t
@@ -56,6 +56,33 @@ module _ (old : List SweepNode) (node : SweepNode) where
 
   last_node : node_at (old ++ node ∷ []) (length old) ≡ node
   last_node = get_or_push old node no_node (length old) refl
+
+pub fit_more : (count : ℕ) (nodes : List SweepNode) (node : SweepNode) → AllFit count nodes → HasFit count (length nodes) node.sweep → AllFit count (nodes ++ node ∷ [])
+fit_more count nodes node all last k inside =
+    below_more (λ (j : ℕ). HasFit count j (node_at (nodes ++ node ∷ []) j).sweep) (length nodes)
+    (λ j before. subst (λ (n : SweepNode). HasFit count j n.sweep) (sym (kept_node nodes node j before)) (all j before))
+    (subst (λ (n : SweepNode). HasFit count (length nodes) n.sweep) (sym (last_node nodes node)) last) k (omega (arith, inside, length_push nodes node))
+
+-- Its cells lie behind those of the others.
+pub laid_out_more : (nodes : List SweepNode) (node : SweepNode) (stride : ℕ) → AreLaidOut nodes stride node.at → AreLaidOut (nodes ++ node ∷ []) stride (node.at + stride)
+laid_out_more nodes node stride out = record { apart = apart; inside = inside }
+  where
+    last : cells_of (nodes ++ node ∷ []) (length nodes) ≡ node.at
+    last = ap (λ (n : SweepNode). n.at) (last_node nodes node)
+
+    kept : (j : ℕ) → j < length nodes → cells_of (nodes ++ node ∷ []) j ≡ cells_of nodes j
+    kept j before = ap (λ (n : SweepNode). n.at) (kept_node nodes node j before)
+
+    apart : (j k : ℕ) → j < k → k < length (nodes ++ node ∷ []) → cells_of (nodes ++ node ∷ []) j + stride ≤ cells_of (nodes ++ node ∷ []) k
+    apart j k before within =
+        below_more (λ (i : ℕ). j < i → cells_of (nodes ++ node ∷ []) j + stride ≤ cells_of (nodes ++ node ∷ []) i) (length nodes)
+        (λ i lt lower. omega (arith, kept j (omega (arith, lt, lower)), kept i lt, out.apart j i lower lt))
+        (λ lower. omega (arith, kept j lower, last, out.inside j lower)) k (omega (arith, within, length_push nodes node)) before
+
+    inside : (k : ℕ) → k < length (nodes ++ node ∷ []) → cells_of (nodes ++ node ∷ []) k + stride ≤ node.at + stride
+    inside k within =
+        below_more (λ (i : ℕ). cells_of (nodes ++ node ∷ []) i + stride ≤ node.at + stride) (length nodes)
+        (λ i lt. omega (arith, kept i lt, out.inside i lt)) (omega (arith, last)) k (omega (arith, within, length_push nodes node))
 
 -- The new node computes a formula over the nodes before it.
 module _ (old new : Building) (sweep : Sweep) (t : FormulaTree) (puts : Puts old new sweep) (fit : HasFit (count_of old.program) (length old.nodes.items) sweep)
