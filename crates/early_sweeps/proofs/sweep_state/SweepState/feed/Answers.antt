@@ -1,9 +1,12 @@
-use Rattle.std.proofs.Common.{◌≡◌, ℕ, ◌+◌, ◌<◌, ◌≤◌, ◌∙◌, refl, arith, [], ◌∷◌, ◌++◌, length}
+use Rattle.std.proofs.Common.{◌≡◌, ℕ, ◌+◌, ◌-◌, ◌*◌, ◌<◌, ◌≤◌, ◌∙◌, refl, sym, ap, subst, arith, List, [], ◌∷◌, ◌++◌, length}
 use Rattle.std.proofs.lemmas.List.{length_push, with_items_is}
 use Rattle.std.specs.Vec.{with_items}
+use Rattle.mtl_formulas.specs.declared.verdict.Verdict.{Verdict}
 use Rattle.mtl_formulas.specs.Traces.{value_in}
+use Rattle.mtl_monitor.specs.Following.{count_of}
+use Rattle.early_sweeps.specs.declared.sweeper.SweepNode.{SweepNode}
 use Rattle.early_sweeps.specs.Inner.Cells.{aged, cell_at}
-use Rattle.early_sweeps.specs.Inner.Nodes.{AllRight}
+use Rattle.early_sweeps.specs.Inner.Nodes.{AllFit, AllRight, AreLaidOut}
 use Rattle.early_sweeps.specs.Inner.Zones.{HasZone, IsBehind}
 use Rattle.early_sweeps.proofs.Rests.{last_same, last_still, reads_fed, reads_last}
 use Rattle.early_sweeps.proofs.SweepLooks.{root_at, root_value, fed_zone, fed_passed, fed_few, fed_before, fed_old}
@@ -102,4 +105,61 @@ returns-clause-giving g c = λ t rows at.
       };
       passed = λ j after below. fed_passed p s count row within behind t rows stands j below;
       behind = omega (arith, fed_few p s count row within behind t rows stands, one_more);
+    }
+
+pub open_ages-open-requires : goal.open_ages-open-requires
+open_ages-open-requires g c =
+    let p = c.args.program.now in
+    let of = c.requires.of in
+    let root : c.root_of-root.result ≡ root_at p = rw c.deref.ensures.value at c.root_of-root.ensures in
+    let inside = p.laid_out.inside (length p.nodes.items - 1) (omega (arith, p.some)) in
+    omega (arith, root, inside, of.sized, of.cells, ap (λ (cells : List Verdict). length cells) c.deref-2.ensures.value)
+
+pub keep_old-requires : goal.keep_old-requires
+keep_old-requires g c =
+    let p = c.args.program.now in
+    let of = c.requires.of in
+    let ages = c.open_ages-open.ensures in
+    let root : c.root_of-root.result ≡ root_at p = rw c.deref.ensures.value at c.root_of-root.ensures in
+    let inside = p.laid_out.inside (length p.nodes.items - 1) (omega (arith, p.some)) in
+    record {
+      inside = omega (arith, root, inside, ages.reach, of.cells, ap (λ (cells : List Verdict). length cells) c.deref-3.ensures.value);
+      room = omega (arith, ages.reach, of.was, ap (λ (was : List Verdict). length was) c.deref_mut.ensures.value);
+    }
+
+pub sweep_row-self-requires : goal.sweep_row-self-requires
+sweep_row-self-requires g c =
+    let p = c.args.program.now in
+    let of = c.requires.of in
+    let nodes = c.deref-4.ensures.value in
+    let many : length c.deref_mut-2.result.now ≡ length p.nodes.items * (p.reach + 1) = ap (λ (cells : List Verdict). length cells) c.deref_mut-2.ensures.value ∙ of.cells in
+    record {
+      fits = c.feed-changed.ensures.fits;
+      fit = subst (λ (ns : List SweepNode). AllFit (count_of p.program) ns) (sym nodes) p.fit;
+      laid_out = subst (λ (ns : List SweepNode). AreLaidOut ns (p.reach + 1) (length c.deref_mut-2.result.now)) (sym nodes)
+          (subst (λ (n : ℕ). AreLaidOut p.nodes.items (p.reach + 1) n) (sym many) p.laid_out);
+      size = omega (arith, c.open_ages-open.ensures.reach);
+      as_many = ap (λ (cells : List Verdict). length cells) c.deref_mut-3.ensures.value ∙ of.before ∙ sym many;
+    }
+
+pub returns-then-self-clause-of : goal.returns-then-self-clause-of
+returns-then-self-clause-of g c =
+    let of = c.requires.of in
+    record { fits = c.feed-changed.ensures.fits; cells = of.cells; was = of.was; sized = of.sized; before = of.before }
+
+pub returns-clause-of : goal.returns-clause-of
+returns-clause-of g c =
+    let s = c.args.self.now in
+    let of = c.requires.of in
+    let swept = c.sweep_row-self in
+    let many = λ (cells : List Verdict). length cells in
+    let cells_are = with_items_is s.cells swept.new.cells (swept.auto.cells ∙ c.deref_mut-2.ensures.len) in
+    let was_is = with_items_is s.was c.keep_old.new.was (c.keep_old.auto.was ∙ c.deref_mut.ensures.len) in
+    let before_is = with_items_is s.before swept.new.before (swept.auto.before ∙ c.deref_mut-3.ensures.len) in
+    record {
+      fits = c.feed-changed.ensures.fits;
+      cells = ap many cells_are ∙ swept.auto.cells ∙ ap many c.deref_mut-2.ensures.value ∙ of.cells;
+      was = ap many was_is ∙ c.keep_old.auto.was ∙ ap many c.deref_mut.ensures.value ∙ of.was;
+      sized = omega (arith, c.open_ages-open.ensures.reach);
+      before = ap many before_is ∙ swept.auto.before ∙ ap many c.deref_mut-3.ensures.value ∙ of.before;
     }
