@@ -1,8 +1,9 @@
-use Rattle.std.proofs.Common.{◌≡◌, ℕ, ◌+◌, ◌/◌, ◌^◌, ◌<◌, take, sym, subst, ◌∙◌}
+use Rattle.std.proofs.Common.{◌≡◌, ℕ, ◌+◌, ◌*◌, ◌/◌, ◌^◌, ◌<◌, take, sym, subst, ◌∙◌}
 use Rattle.std.specs.Prelude.{MatchOption}
 use Rattle.lattice.specs.Grids.{choices_of}
 use Rattle.lattice.specs.PlanNumbers.{plan_of}
 use Rattle.situations.specs.FailingPlans.{FailsBy}
+use Rattle.situations.specs.Paths.{HasReached}
 use Rattle.situations.specs.Prefixes.{reached}
 use Rattle.planner.specs.Inner.Legs.{legs_through}
 use Rattle.planner.specs.Inner.Levels.{AreEarly, HasPlaces, HasTargets, StandsAt}
@@ -55,3 +56,66 @@ returns-clause-first c = λ plan alike.
     let through : take (leg.index + 1) plan ≡ legs_through s leg = rw (c.new-leg.ensures.index, c.new-leg.ensures.number) alike in
     subst (λ (n : ℕ). MatchOption c.first_failing.result (¬ FailsBy s (reached s (n + 1)) plan) (IsFirstFailing s plan (reached s (n + 1)))) c.new-leg.ensures.index
     (first_here s leg c.new-leg.ensures.leg plan through c.first_failing.result c.first_failing.ensures.first)
+
+pub new-leg-requires : goal.new-leg-requires
+new-leg-requires c = record {
+  situation = c.requires.basis.is_situation;
+  index = c.requires.legs;
+  number = c.requires.number;
+  own = (let s = c.args.situation.now in
+      let C = choices_of s.lattice in
+      subst (λ (n : ℕ). HasReached s (plan_of C c.args.legs (c.args.number / n)) (c.args.legs * s.lattice.leg_ticks) c.own_at_leg-own.result) c.choices.ensures.value c.own_at_leg-own.ensures);
+}
+
+pub fill_path-requires : goal.fill_path-requires
+fill_path-requires c = record {
+  situation = c.requires.basis.is_situation;
+  leg = c.new-leg.ensures.leg;
+  places = rw c.new-leg.ensures.index c.requires.place.path;
+}
+
+pub first_failing-requires-clause-path : goal.first_failing-requires-clause-path
+first_failing-requires-clause-path c =
+    let s = c.args.situation.now in
+    let place : HasPlaces s c.args.basis.now c.new-leg.result.index c.args.self.now = rw c.new-leg.ensures.index c.requires.place in
+    rw c.deref.ensures.value (c.fill_path.ensures c.args.basis.now place).path
+
+pub first_failing-requires-clause-from : goal.first_failing-requires-clause-from
+first_failing-requires-clause-from c = rw c.deref-2.ensures.value c.requires.from.targets
+
+pub first_failing-requires-clause-early : goal.first_failing-requires-clause-early
+first_failing-requires-clause-early c = rw (c.deref-2.ensures.value, c.new-leg.ensures.index) c.requires.from.early
+
+pub first_failing-requires-clause-targets : goal.first_failing-requires-clause-targets
+first_failing-requires-clause-targets c =
+    let s = c.args.situation.now in
+    let place : HasPlaces s c.args.basis.now c.new-leg.result.index c.args.self.now = rw c.new-leg.ensures.index c.requires.place in
+    rw c.deref_mut.ensures.value (c.fill_path.ensures c.args.basis.now place).places.targets
+
+pub first_failing-requires-clause-fits : goal.first_failing-requires-clause-fits
+first_failing-requires-clause-fits c =
+    let s = c.args.situation.now in
+    let place : HasPlaces s c.args.basis.now c.new-leg.result.index c.args.self.now = rw c.new-leg.ensures.index c.requires.place in
+    (c.fill_path.ensures c.args.basis.now place).places.fits
+
+pub first_failing-requires-clause-room : goal.first_failing-requires-clause-room
+first_failing-requires-clause-room c =
+    let s = c.args.situation.now in
+    let place : HasPlaces s c.args.basis.now c.new-leg.result.index c.args.self.now = rw c.new-leg.ensures.index c.requires.place in
+    (c.fill_path.ensures c.args.basis.now place).places.room
+
+pub returns-clause-place : goal.returns-clause-place
+returns-clause-place c =
+    let s = c.args.situation.now in
+    let basis = c.args.basis.now in
+    let place : HasPlaces s basis c.new-leg.result.index c.args.self.now = rw c.new-leg.ensures.index c.requires.place in
+    let on = c.fill_path.ensures basis place in
+    let old = c.fill_path.new.self.watched in
+    let new = c.first_failing.new.watched in
+    let kept = sym (written new old.items old.len (c.first_failing.ensures.targets.count ∙ sym on.places.targets.count) old.ok.0) in
+    record {
+      path = rw (← c.new-leg.ensures.index) on.places.path;
+      targets = subst (HasTargets s basis) kept c.first_failing.ensures.targets;
+      fits = c.first_failing.ensures.fits;
+      room = c.first_failing.ensures.room;
+    }
