@@ -6,11 +6,53 @@ use Rattle.traces.specs.declared.fault.TickFault.{TickFault}
 use Rattle.traces.specs.declared.fault.TickFault.TheVariants.{TooManyPairs}
 use Rattle.auditor.specs.Inner.TracesKept.{Holds, IsReady}
 use Rattle.auditor.specs.SettledRows.{settled_by}
+use Rattle.auditor.specs.Standing.{given_of}
 use Rattle.auditor.specs.SettledRows.{formulas_of}
 use Rattle.auditor.specs.declared.trace.AuditTrace.{AuditTrace}
 use Rattle.auditor.proofs.Growing.{whole_written}
 use Rattle.auditor.proofs.Stepping.{all_settled, bound_of, kept_on, later_bound, rows_given}
 use Rattle.auditor.proofs.audit.Audit.step_ranked.Goals as goal
+
+pub follow_each-requires : goal.follow_each-requires
+follow_each-requires c =
+    let sound = c.requires.sound in
+    let values = c.deref_mut.ensures.value in
+    record {
+      sound = sound.traces;
+      ascending = c.requires.ascending;
+      placed = c.requires.placed;
+      moves = c.requires.moves;
+      many = ap length values ∙ sound.many;
+      few = omega (arith, c.requires.more, sound.traces.window);
+      ready = subst (All (IsReady c.args.self.now.program (given_of c.args.self.now))) (sym values) sound.ready;
+      rules = sound.rules;
+    }
+
+pub tick-requires : goal.tick-requires
+tick-requires c = record {
+  sound = c.in_ok-follow_each.ensures.sound;
+  ascending = c.requires.ascending;
+  placed = c.requires.placed;
+  more = omega (arith, c.in_ok-follow_each.ensures.given, c.in_ok-follow_each.ensures.last_tick, c.requires.more);
+}
+
+pub begin_each-requires : goal.begin_each-requires
+begin_each-requires c =
+    let sound = c.requires.sound in
+    let values = c.args.self.now.values in
+    let new : List AuditTrace = c.follow_each.new.values in
+    let given = c.given-given.ensures in
+    let all_old : values.len ≡ length values.items = omega (arith, values.ok.0) in
+    let all_new : length new ≡ length values.items = c.follow_each.ensures.many ∙ ap (λ (vs : List AuditTrace). length vs) c.deref_mut.ensures.value in
+    let written = whole_written values.len new values.items all_old all_new in
+    let whole = ap (λ (vs : List AuditTrace). length vs) written in
+    let ready = subst (λ (n : ℕ). All (IsReady c.args.self.now.program (n + 1)) new) (sym given) c.in_ok-follow_each.ensures.ready in
+    record {
+      early = omega (arith, given, c.requires.more, sound.traces.window);
+      rules = sound.rules;
+      few = omega (arith, whole, all_new, sound.many, c.in_ok-follow_each.ensures.traces, c.in_ok-tick.ensures.more);
+      ready = subst (All (IsReady c.args.self.now.program (c.given-given.result + 1))) (sym written) ready;
+    }
 
 pub returns-in_err-tick-clause-many : goal.returns-in_err-tick-clause-many
 returns-in_err-tick-clause-many c = λ fault numbers ticks given s.
