@@ -39,9 +39,10 @@ pub fn told_text(alloc: Global, told: Told) -> Result<String, Memory> {
     let modes = mode_values();
     let mut command = colregs(alloc, modes.as_slice())?;
     let text = match told {
-        Told::Help => command.render_long_help()?,
-        Told::Summary => command.render_help()?,
-        Told::Version => command.render_version()?,
+        Told::Help => command.render_long_help(),
+        Told::Summary => command.render_help(),
+        Told::Version => command.render_version(),
     };
-    Ok(text)
+    drop(command);
+    Ok(text?)
 }

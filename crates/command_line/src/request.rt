@@ -1,7 +1,8 @@
 //! What the words ask for.
-ghost use Rattle.std.specs.Prelude.{◌≡◌, ◌⊎◌, ◌<◌, ◌^◌, ◌∷◌, IfOk, IfSome, Some, codes, map, option_map};
+ghost use Rattle.std.specs.Prelude.{◌≡◌, ◌≢◌, ◌⊎◌, ◌<◌, ◌^◌, ◌∷◌, IfOk, IfSome, Some, codes, map, option_map};
 ghost use Rattle.std.specs.Borrow.{Bor};
 ghost use Rattle.clap.specs.Words.{first_of, found_of, rows_of};
+ghost use Rattle.clap.specs.declared.error.kind.ErrorKind.{ErrorKind};
 ghost use Rattle.command_line.specs.Requests.{AskFor, AskForNothing, HoldsRequest, IsPlain, said, with_program_name};
 ghost use Rattle.command_line.specs.CommandLine.{a_flag, flag};
 ghost use Rattle.command_line.specs.Inner.Reading.{GivesNumber, GivesOptions, HoldsNone};
@@ -159,6 +160,17 @@ fn named_words<'a>(alloc: Global, words: &'a [Word]) -> Result<Vec<&'a str>, All
     Ok(texts)
 }
 
+/// The fault where `clap` gives an error of this kind.
+fn fault_by(kind: ErrorKind) -> WordsFault
+    ensures { result ≡ WordsFault.Usage → kind ≢ ErrorKind.OutOfMemory }
+{
+    if kind == ErrorKind::OutOfMemory {
+        WordsFault::Memory
+    } else {
+        WordsFault::Usage
+    }
+}
+
 /// What the words behind the program's name ask for, as `clap` reads them by the command `colregs`: a mode and the name of a
 /// scenario, and options anywhere. A number is what `u64` reads from its text. `Usage` comes only where `clap` refuses the words.
 pub fn request_of(alloc: Global, words: &[Word]) -> Result<Request, WordsFault>
@@ -169,16 +181,19 @@ pub fn request_of(alloc: Global, words: &[Word]) -> Result<Request, WordsFault>
     ensures plain { (request : Request) → IsPlain words.now request
         → (result ≡ Ok request) ⊎ (result ≡ Err WordsFault.Memory) }
 {
+    let Ok(texts) = named_words(alloc, words) else {
+        return Err(WordsFault::Memory);
+    };
     let modes = mode_values();
     let Ok(command) = colregs(alloc, modes.as_slice()) else {
         return Err(WordsFault::Memory);
     };
-    let Ok(texts) = named_words(alloc, words) else {
-        return Err(WordsFault::Memory);
-    };
     match command.try_get_matches_from(texts.as_slice()) {
-        Ok(matches) => request_in(alloc, &matches),
-        Err(error) if error.kind() == ErrorKind::OutOfMemory => Err(WordsFault::Memory),
-        Err(_) => Err(WordsFault::Usage),
+        Ok(matches) => {
+            let request = request_in(alloc, &matches);
+            drop(matches);
+            request
+        }
+        Err(error) => Err(fault_by(error.kind())),
     }
 }
