@@ -1,15 +1,41 @@
-use Rattle.std.proofs.Common.{◌≡◌, ◌-◌, ◌<◌, ◌^◌, ◌++◌, ◌∷◌, [], List, length, sym, subst, ◌∙◌, arith}
-use Rattle.std.specs.Prelude.{Option}
+use Rattle.std.proofs.Common.{◌≡◌, ◌-◌, ◌<◌, ℕ, ◌^◌, ◌++◌, ◌∷◌, [], List, ap, length, map, sym, subst, ◌∙◌, arith}
+use Rattle.std.specs.Prelude.{IfSome, Option}
 use Rattle.std.specs.Option.{option_copied}
+use Rattle.encounters.specs.Directions.{HaveDirections}
 use Rattle.encounters.specs.declared.pair_step.PairStep.{PairStep}
 use Rattle.meetings.specs.Answers.{answer_of}
-use Rattle.meetings.specs.Atoms.{IsAtomRow}
+use Rattle.meetings.specs.Atoms.{AreAtomRows, IsAtomRow}
 use Rattle.meetings.specs.Standing.{Follows}
 use Rattle.meetings.specs.Traces.{step_at, steps_from}
 use Rattle.meetings.proofs.ForCallers.{steps_from-length}
+use Rattle.situations.specs.Paths.{IsTrack}
 use Rattle.situations.specs.Situations.{own_at, target_at, terms_of}
 use Rattle.situations.proofs.FlatList.{as_many, rows_more, steps_more}
 use Rattle.situations.proofs.situation.Situation.trace_rows.Goals as goal
+
+pub path_up_to-requires : goal.path_up_to-requires
+path_up_to-requires c =
+    record { situation = c.requires.situation; plan = c.requires.plan; from_now = c.requires.from_now; until = c.requires.until }
+
+pub step_along-requires : goal.step_along-requires
+step_along-requires c =
+    let same = sym c.deref.ensures.value in
+    let path = c.in_ok-path.ensures in
+    let long : length c.deref.result.now ≡ length c.in_ok-path.path.items = ap length c.deref.ensures.value in
+    let until = c.requires.until in
+    let lt = c.loop-k-test.true in
+    record {
+      situation = c.requires.situation;
+      plan = c.requires.plan;
+      path = rw c.deref.ensures.value path.path;
+      track = subst IsTrack same path.track;
+      planned = omega (arith, path.count);
+      target = c.requires.target;
+      within = omega (arith, path.count);
+    }
+
+pub step-requires : goal.step-requires
+step-requires c = subst (λ (o : Option PairStep). IfSome o HaveDirections) (sym c.as_ref.ensures.value) c.step_along.ensures.heads
 
 pub loop-k-preserved : goal.loop-k-preserved
 loop-k-preserved c =
@@ -44,3 +70,13 @@ returns-clause-count c =
     let ge = c.loop-k.auto.k-end in
     let many = as_many (terms_of c.args.self.now) (own_at c.args.self.now c.args.plan.now) (target_at c.args.self.now c.args.target.now) c.args.start c.loop-k.k c.loop-k.rows.items c.loop-k.invariant.are_rows in
     omega arith
+
+pub returns-clause-rows : goal.returns-clause-rows
+returns-clause-rows c =
+    let s = c.args.self.now in
+    let start = c.requires.start in
+    let le = c.loop-k-test.false in
+    let ge = c.loop-k.auto.k-end in
+    let end : c.loop-k.k ≡ c.args.until = omega arith in
+    subst (λ (k : ℕ). AreAtomRows (terms_of s) (steps_from (own_at s c.args.plan.now) (target_at s c.args.target.now) c.args.start (k - c.args.start)) (map answer_of c.loop-k.rows.items))
+    end c.loop-k.invariant.are_rows
