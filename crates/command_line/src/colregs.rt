@@ -173,12 +173,14 @@ pub(crate) fn colregs<'a>(
 ) -> Result<Command<'a>, AllocError>
     ensures { IfOk result (λ c. app_of c ≡ colregs modes.entry) }
 {
-    program(alloc)
-        .arg(mode(alloc, modes))?
-        .arg(scenario(alloc))?
-        .arg(start(alloc))?
-        .arg(ticks(alloc))?
-        .arg(seed(alloc))?
-        .arg(why(alloc))?
-        .arg(rows(alloc))
+    let arguments = vec![in alloc;
+        mode(alloc, modes),
+        scenario(alloc),
+        start(alloc),
+        ticks(alloc),
+        seed(alloc),
+        why(alloc),
+        rows(alloc),
+    ]?;
+    program(alloc).args(arguments)
 }

@@ -1,24 +1,33 @@
-use Rattle.std.proofs.Common.{◌∙◌, ap₂, refl}
+use Rattle.std.proofs.Common.{◌≡◌, ◌∙◌, ap, true, fold, map, refl, subst, sym, List, [], ◌∷◌}
 use Rattle.std.proofs.lemmas.Result.{IfOk-weaker}
-use Rattle.clap.specs.Words.{with_rule}
-use Rattle.command_line.specs.CommandLine.{colregs, mode_rule, rows_file, scenario_rule, seed, setting_rule, start, ticks, why}
+use Rattle.clap.specs.Built.{AddsArg, AddsInTurn}
+use Rattle.clap.specs.Words.{App, Rule, app_of, rule_of, with_rule}
+use Rattle.clap.specs.declared.builder.arg.Arg.{Arg}
+use Rattle.clap.specs.declared.builder.command.Command.{Command}
+use Rattle.command_line.specs.CommandLine.{colregs, mode_rule, scenario_rule, setting_rule, settings}
 use Rattle.command_line.proofs.Arguments.{local}
 use Rattle.command_line.proofs.colregs.colregs.Goals as goal
+
+-- the rules of the arguments, each of which is simple
+abbrev HaveRules : List Arg → List Rule → Type 0
+HaveRules [] rules = rules ≡ []
+HaveRules (a ∷ args) [] = ⊥
+HaveRules (a ∷ args) (r ∷ rules) = (rule_of a ≡ r) × (r.is_simple ≡ true) × HaveRules args rules
+
+-- each adds its rule
+ruled : (old new : Command) (args : List Arg) (rules : List Rule) → HaveRules args rules → AddsInTurn AddsArg old args new → app_of new ≡ fold with_rule (app_of old) rules
+ruled old new [] rules have added = ap app_of (sym added) ∙ ap (fold with_rule (app_of old)) (sym have)
+ruled old new (a ∷ args) [] have added = absurd have
+ruled old new (a ∷ args) (r ∷ rules) have added =
+    ruled added.0 new args rules have.2 added.2
+    ∙ ap (λ (app : App). fold with_rule app rules) (added.1.shape (local a r have.0 have.1) ∙ ap (with_rule (app_of old)) have.0)
 
 pub returns : goal.returns
 unfolding colregs
 returns c =
-    let mode_local = local c.mode.result (mode_rule c.args.modes) c.mode.ensures refl in
-    let scenario_local = local c.scenario.result scenario_rule c.scenario.ensures refl in
-    let start_local = local c.start.result (setting_rule start) c.start.ensures refl in
-    let ticks_local = local c.ticks.result (setting_rule ticks) c.ticks.ensures refl in
-    let seed_local = local c.seed.result (setting_rule seed) c.seed.ensures refl in
-    let why_local = local c.why.result (setting_rule why) c.why.ensures refl in
-    let rows_local = local c.rows.result (setting_rule rows_file) c.rows.ensures refl in
-    let first = c.in_ok-arg.ensures.shape mode_local ∙ ap₂ with_rule c.program.ensures c.mode.ensures in
-    let second = c.in_ok-arg-2.ensures.shape scenario_local ∙ ap₂ with_rule first c.scenario.ensures in
-    let third = c.in_ok-arg-3.ensures.shape start_local ∙ ap₂ with_rule second c.start.ensures in
-    let fourth = c.in_ok-arg-4.ensures.shape ticks_local ∙ ap₂ with_rule third c.ticks.ensures in
-    let fifth = c.in_ok-arg-5.ensures.shape seed_local ∙ ap₂ with_rule fourth c.seed.ensures in
-    let sixth = c.in_ok-arg-6.ensures.shape why_local ∙ ap₂ with_rule fifth c.why.ensures in
-    IfOk-weaker c.arg-7.result _ _ (λ r h. h.shape rows_local ∙ ap₂ with_rule sixth c.rows.ensures) c.arg-7.ensures
+    let rules : List Rule = mode_rule c.args.modes ∷ scenario_rule ∷ map setting_rule settings in
+    let have : HaveRules (c.mode.result ∷ c.scenario.result ∷ c.start.result ∷ c.ticks.result ∷ c.seed.result ∷ c.why.result ∷ c.rows.result ∷ []) rules =
+    (c.mode.ensures, refl, (c.scenario.ensures, refl, (c.start.ensures, refl, (c.ticks.ensures, refl, (c.seed.ensures, refl, (c.why.ensures, refl, (c.rows.ensures, refl, refl))))))) in
+    IfOk-weaker c.args-2.result _ _ (λ r added.
+    ruled c.program.result r _ rules (subst (λ (args : List Arg). HaveRules args rules) (sym c.in_ok-arguments.ensures.items) have) added
+    ∙ ap (λ (app : App). fold with_rule app rules) c.program.ensures) c.args-2.ensures
