@@ -562,3 +562,7 @@ no_rows_migrated words request other Any asks asks' migrates needs =
 pub keeps_same : (contents : Option (List ℕ)) → Keeps contents contents
 keeps_same None = tt
 keeps_same (Some bytes) = refl
+
+-- a finished run has no answer of another stage
+pub only_finished : {X : Type 0} (a b : Status) → a ≡ b → IsFinished a ≡ true → IsFinished b ≡ false → X
+only_finished a b is here there = let both = sym here ∙ ap IsFinished is ∙ there in cc both

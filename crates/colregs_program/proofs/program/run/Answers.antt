@@ -5,7 +5,7 @@ use Rattle.colregs_program.specs.Answers.{HoldsUnder, IsOfMigration, IsRefusedBy
 use Rattle.colregs_program.specs.declared.status.Status.{Status}
 use Rattle.command_line.specs.declared.mode.Mode.{Mode}
 use Rattle.colregs_program.proofs.Due.{migration_due}
-use Rattle.colregs_program.proofs.Refusals.{asked_once, asked_twice, asked_where_it_fails, bytes_told, calm_told, drill_status, drill_told, drills_too, entry_told, keeps_same, limit_told, log_calm_told, log_decides, memory_failed, memory_front, met_is, migrates, no_migration, no_report, no_rows_migrated, not_asked, not_set_up, nothing_told, own_told, pairs_told, put_told, read_told, reported_met, reported_so, rows_too, runs, set_up_drills, set_up_limit, set_up_unfinished, shelf_calm_told, stream_limit, targets_told, unread_too, vessels_told, words_limit}
+use Rattle.colregs_program.proofs.Refusals.{asked_once, asked_twice, asked_where_it_fails, bytes_told, calm_told, drill_status, drill_told, drills_too, entry_told, keeps_same, limit_told, log_calm_told, log_decides, memory_failed, memory_front, met_is, migrates, no_migration, no_report, no_rows_migrated, not_asked, not_set_up, nothing_told, only_finished, own_told, pairs_told, put_told, read_told, reported_met, reported_so, rows_too, runs, set_up_drills, set_up_limit, set_up_unfinished, shelf_calm_told, stream_limit, targets_told, unread_too, vessels_told, words_limit}
 use Rattle.colregs_program.proofs.SettingUp.{options_in_range}
 use Rattle.colregs_program.specs.declared.status.Status.TheVariants as status
 use Rattle.colregs_program.proofs.program.run.Goals as goal
@@ -301,106 +301,94 @@ returns-clause-unread g c = λ request asks not. c.report_on.ensures.untouched (
 -- ---- a finished run has none of the other answers
 
 pub returns-then-none-clause-usage : goal.returns-then-none-clause-usage
-returns-then-none-clause-usage g c = λ is. cc is
+returns-then-none-clause-usage g c = λ is. only_finished _ _ is refl refl
 
 pub returns-then-none-clause-no_usage : goal.returns-then-none-clause-no_usage
-returns-then-none-clause-no_usage g c = λ request asks is. cc is
+returns-then-none-clause-no_usage g c = λ request asks is. only_finished _ _ is refl refl
 
 pub returns-then-none-clause-shelf_fault : goal.returns-then-none-clause-shelf_fault
-returns-then-none-clause-shelf_fault g c = λ is. cc is
+returns-then-none-clause-shelf_fault g c = λ is. only_finished _ _ is refl refl
 
 pub returns-then-none-clause-scenario_limit : goal.returns-then-none-clause-scenario_limit
-returns-then-none-clause-scenario_limit g c = λ most is. cc is
+returns-then-none-clause-scenario_limit g c = λ most is. only_finished _ _ is refl refl
 
 pub returns-then-none-clause-rows_limit : goal.returns-then-none-clause-rows_limit
-returns-then-none-clause-rows_limit g c = λ most is. cc is
+returns-then-none-clause-rows_limit g c = λ most is. only_finished _ _ is refl refl
 
 pub returns-then-none-clause-refused : goal.returns-then-none-clause-refused
-returns-then-none-clause-refused g c = λ key cause is. cc is
+returns-then-none-clause-refused g c = λ key cause is. only_finished _ _ is refl refl
 
 pub returns-then-none-clause-read_fault : goal.returns-then-none-clause-read_fault
-returns-then-none-clause-read_fault g c = λ is. cc is
+returns-then-none-clause-read_fault g c = λ is. only_finished _ _ is refl refl
 
 pub returns-then-none-clause-log_limit : goal.returns-then-none-clause-log_limit
-returns-then-none-clause-log_limit g c = λ most is. cc is
+returns-then-none-clause-log_limit g c = λ most is. only_finished _ _ is refl refl
 
 pub returns-then-none-clause-vessel_limit : goal.returns-then-none-clause-vessel_limit
-returns-then-none-clause-vessel_limit g c = λ most is. cc is
+returns-then-none-clause-vessel_limit g c = λ most is. only_finished _ _ is refl refl
 
 pub returns-then-none-clause-pair_limit : goal.returns-then-none-clause-pair_limit
-returns-then-none-clause-pair_limit g c = λ most is. cc is
+returns-then-none-clause-pair_limit g c = λ most is. only_finished _ _ is refl refl
 
 pub returns-then-none-clause-target_limit : goal.returns-then-none-clause-target_limit
-returns-then-none-clause-target_limit g c = λ most is. cc is
+returns-then-none-clause-target_limit g c = λ most is. only_finished _ _ is refl refl
 
 pub returns-then-none-clause-own_unready : goal.returns-then-none-clause-own_unready
-returns-then-none-clause-own_unready g c = λ why is. cc is
+returns-then-none-clause-own_unready g c = λ why is. only_finished _ _ is refl refl
 
 pub returns-then-none-clause-bad_entry : goal.returns-then-none-clause-bad_entry
-returns-then-none-clause-bad_entry g c = λ index is. cc is
+returns-then-none-clause-bad_entry g c = λ index is. only_finished _ _ is refl refl
 
 pub returns-then-none-clause-write_fault : goal.returns-then-none-clause-write_fault
-returns-then-none-clause-write_fault g c = λ is. cc is
+returns-then-none-clause-write_fault g c = λ is. only_finished _ _ is refl refl
 
 pub returns-then-none-clause-memory : goal.returns-then-none-clause-memory
-returns-then-none-clause-memory g c = λ is. cc is
-
-pub returns-then-none-clause-untouched : goal.returns-then-none-clause-untouched
-returns-then-none-clause-untouched g c = λ is. cc is
-
-pub returns-then-none-clause-unwritten : goal.returns-then-none-clause-unwritten
-returns-then-none-clause-unwritten g c = λ is. cc is
+returns-then-none-clause-memory g c = λ is. only_finished _ _ is refl refl
 
 pub returns-clause-usage : goal.returns-clause-usage
-returns-clause-usage g c = λ is. cc is
+returns-clause-usage g c = λ is. only_finished _ _ is refl refl
 
 pub returns-clause-no_usage : goal.returns-clause-no_usage
-returns-clause-no_usage g c = λ request asks is. cc is
+returns-clause-no_usage g c = λ request asks is. only_finished _ _ is refl refl
 
 pub returns-clause-shelf_fault : goal.returns-clause-shelf_fault
-returns-clause-shelf_fault g c = λ is. cc is
+returns-clause-shelf_fault g c = λ is. only_finished _ _ is refl refl
 
 pub returns-clause-scenario_limit : goal.returns-clause-scenario_limit
-returns-clause-scenario_limit g c = λ most is. cc is
+returns-clause-scenario_limit g c = λ most is. only_finished _ _ is refl refl
 
 pub returns-clause-rows_limit : goal.returns-clause-rows_limit
-returns-clause-rows_limit g c = λ most is. cc is
+returns-clause-rows_limit g c = λ most is. only_finished _ _ is refl refl
 
 pub returns-clause-refused : goal.returns-clause-refused
-returns-clause-refused g c = λ key cause is. cc is
+returns-clause-refused g c = λ key cause is. only_finished _ _ is refl refl
 
 pub returns-clause-read_fault : goal.returns-clause-read_fault
-returns-clause-read_fault g c = λ is. cc is
+returns-clause-read_fault g c = λ is. only_finished _ _ is refl refl
 
 pub returns-clause-log_limit : goal.returns-clause-log_limit
-returns-clause-log_limit g c = λ most is. cc is
+returns-clause-log_limit g c = λ most is. only_finished _ _ is refl refl
 
 pub returns-clause-vessel_limit : goal.returns-clause-vessel_limit
-returns-clause-vessel_limit g c = λ most is. cc is
+returns-clause-vessel_limit g c = λ most is. only_finished _ _ is refl refl
 
 pub returns-clause-pair_limit : goal.returns-clause-pair_limit
-returns-clause-pair_limit g c = λ most is. cc is
+returns-clause-pair_limit g c = λ most is. only_finished _ _ is refl refl
 
 pub returns-clause-target_limit : goal.returns-clause-target_limit
-returns-clause-target_limit g c = λ most is. cc is
+returns-clause-target_limit g c = λ most is. only_finished _ _ is refl refl
 
 pub returns-clause-own_unready : goal.returns-clause-own_unready
-returns-clause-own_unready g c = λ why is. cc is
+returns-clause-own_unready g c = λ why is. only_finished _ _ is refl refl
 
 pub returns-clause-bad_entry : goal.returns-clause-bad_entry
-returns-clause-bad_entry g c = λ index is. cc is
+returns-clause-bad_entry g c = λ index is. only_finished _ _ is refl refl
 
 pub returns-clause-write_fault : goal.returns-clause-write_fault
-returns-clause-write_fault g c = λ is. cc is
+returns-clause-write_fault g c = λ is. only_finished _ _ is refl refl
 
 pub returns-clause-memory : goal.returns-clause-memory
-returns-clause-memory g c = λ is. cc is
-
-pub returns-clause-untouched : goal.returns-clause-untouched
-returns-clause-untouched g c = λ is. cc is
-
-pub returns-clause-unwritten : goal.returns-clause-unwritten
-returns-clause-unwritten g c = λ is. cc is
+returns-clause-memory g c = λ is. only_finished _ _ is refl refl
 
 -- ---- the seed of a drill
 
