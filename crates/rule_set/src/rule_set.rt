@@ -44,7 +44,7 @@ impl Model for RuleSet {
     ghost invariant = { λ s. (length s.rules.items ≤ MOST_RULES) × RulesHaveDifferentNames (named_trees s.rules.items) };
 }
 
-/// Puts the eleven rules that stand without ranks and with them behind none. It owns no list of rules, so that a way out has nothing to drop.
+/// Fills an empty list with the eleven rules that stand without ranks and with them. The list is borrowed, so that no early end has to drop it.
 fn push_eleven(
     rules: &mut Vec<Rule>,
     alloc: Global,
