@@ -129,7 +129,7 @@ class Prove(InFolder):
         for name, word in (("high", " may-wait=1"), ("colregs", " main=Net")):
             status, _, err = self.run_of(sys.executable, "tools/prove", **{"BEYOND_" + name: word})
             self.assertEqual(status, 1)
-            self.assertIn("%s is proved with what HANDLES does not allow:%s" % (name, word), err)
+            self.assertIn("%s is refused, since its proof also tells%s" % (name, word), err)
 
     def test_a_program_of_before_is_not_run_where_none_could_be_built(self):
         self.run_of("./colregs", "points", "a.toml")

@@ -162,7 +162,8 @@ fn named_words<'a>(alloc: Global, words: &'a [Word]) -> Result<Vec<&'a str>, All
 
 /// The fault where `clap` gives an error of this kind.
 fn fault_by(kind: ErrorKind) -> WordsFault
-    ensures { result ≡ WordsFault.Usage → kind ≢ ErrorKind.OutOfMemory }
+    ensures usage { result ≡ WordsFault.Usage → kind ≢ ErrorKind.OutOfMemory }
+    ensures memory { result ≡ WordsFault.Memory → kind ≡ ErrorKind.OutOfMemory }
 {
     if kind == ErrorKind::OutOfMemory {
         WordsFault::Memory

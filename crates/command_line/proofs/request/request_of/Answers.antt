@@ -80,7 +80,7 @@ returns-clause-refused c usage =
     let kinds = c.in-Err.ensures.kinds (ap is_simple_and_free app_is ∙ colregs_simple values) in (
       colregs values,
       (values, are, refl),
-      λ none. some_kind (kind_of c.in-Err.error) _ (λ memory. other_kind _ _ _ c.kind.ensures c.fault_by.ensures usage memory) kinds (ap₂ fault_of app_is words_are ∙ none),
+      λ none. some_kind (kind_of c.in-Err.error) _ (λ memory. other_kind _ _ _ c.kind.ensures c.fault_by.ensures.usage usage memory) kinds (ap₂ fault_of app_is words_are ∙ none),
     )
 
 pub returns-clause-accepted : goal.returns-clause-accepted
@@ -91,7 +91,7 @@ returns-clause-accepted c request asked =
     let words_are = ap (map (λ s. s.now)) c.as_slice-2.ensures.value ∙ c.in-Ok.ensures in
     let kinds = c.in-Err.ensures.kinds (ap is_simple_and_free app_is ∙ colregs_simple values) in
     let accepted = asked_accepted c.args.words.now request asked values are in
-    refused_by_memory request _ _ _ c.kind.ensures c.fault_by.ensures
+    refused_by_memory request _ _ _ c.kind.ensures c.fault_by.ensures.usage
     (λ other. some_kind (kind_of c.in-Err.error) _ other kinds (ap₂ fault_of app_is words_are ∙ accepted.0))
 
 pub returns-clause-plain : goal.returns-clause-plain
@@ -102,5 +102,5 @@ returns-clause-plain c request plain =
     let words_are = ap (map (λ s. s.now)) c.as_slice-2.ensures.value ∙ c.in-Ok.ensures in
     let kinds = c.in-Err.ensures.kinds (ap is_simple_and_free app_is ∙ colregs_simple values) in
     let accepted = plain_accepted values are c.args.words.now request plain in
-    refused_by_memory request _ _ _ c.kind.ensures c.fault_by.ensures
+    refused_by_memory request _ _ _ c.kind.ensures c.fault_by.ensures.usage
     (λ other. some_kind (kind_of c.in-Err.error) _ other kinds (ap₂ fault_of app_is words_are ∙ accepted.0))
