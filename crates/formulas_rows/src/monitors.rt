@@ -1,51 +1,20 @@
 //! What no clause says: worked rows, many random formulas, and that each call can succeed.
-ghost use Rattle.std.specs.Prelude.{◌≡◌, ◌<◌, ◌≤◌, length, IfOk, if◌then◌else◌};
+ghost use Rattle.std.specs.Prelude.{◌≡◌, ◌<◌, ◌≤◌, length, IfOk};
 ghost use Rattle.mtl_formulas.specs.FormulaTree.{tree_of};
 ghost use Rattle.mtl_formulas.specs.FormulaMeasures.{IsValid};
-ghost use Rattle.mtl_formulas.specs.declared.atom.Atom.TheVariants.{Risk};
-ghost use Rattle.mtl_monitor.specs.Inner.Compiling.{same_atom};
 ghost use Rattle.mtl_monitor.specs.Following.{count_of};
 ghost use Rattle.mtl_monitor.specs.Monitoring.{fed_rows, past_rows};
 
 use crate::compared::{is, is_true};
 use crate::formulas::repeated;
+use crate::rows::{NO, Row, YES, below, random_rows};
 use formula_language::{ParseFault, parse};
-use mtl_formulas::{Atom, Atoms, Formula, Verdict, future_reach, value};
+use mtl_formulas::{Formula, Verdict, future_reach, value};
 use mtl_monitor::{Monitor, Program, TraceState};
 use out_of_memory::Memory;
-use rand_core::utils::NextWord;
 use rand_pcg::Pcg32;
 use std::alloc::{AllocError, Global};
 use std::process::Abort;
-
-/// A row with an answer to `risk`, and one to all other atoms.
-#[derive(Clone, Copy)]
-struct Row {
-    risk: Verdict,
-    other: Verdict,
-}
-
-impl Atoms for Row {
-    ghost answer = { λ row atom. (if same_atom atom Risk then row.risk else row.other) };
-
-    fn value(&self, atom: Atom) -> Verdict {
-        if atom == Atom::Risk {
-            self.risk
-        } else {
-            self.other
-        }
-    }
-}
-
-const NO: Row = Row {
-    risk: Verdict::No,
-    other: Verdict::No,
-};
-
-const YES: Row = Row {
-    risk: Verdict::Yes,
-    other: Verdict::Yes,
-};
 
 /// Feeds the rows, and then finishes: all answers in order.
 fn answers(
@@ -196,14 +165,6 @@ fn many_windows_in_one_another(rt: HostRuntime) -> Result<(), ParseFault> {
     Ok(())
 }
 
-/// One of so many, at most 256.
-fn below(source: &mut Pcg32, many: u32) -> u32
-    requires { 0 < many }
-    ensures { result < many }
-{
-    (source.next_word() >> 8) % many
-}
-
 static BOUNDS: [&str; 5] = ["[0,0] ", "[0,20] ", "[10,30] ", "[20,20] ", "[10,70] "];
 
 /// Writes an operator of one operand, by its number, before the operand.
@@ -250,36 +211,6 @@ static ATOMS: [&str; 3] = ["risk", "seen", "true"];
 static SPANS: [&str; 4] = ["F", "G", "O", "H"];
 
 static LINKS: [&str; 5] = [" & ", " | ", " -> ", " U", " S"];
-
-/// A random row. Most rows are as the one before, so that nodes come to rest.
-fn random_row(source: &mut Pcg32, last: Row) -> Row {
-    match below(source, 12) {
-        0 => NO,
-        1 => YES,
-        2 => Row {
-            risk: Verdict::Open,
-            other: Verdict::Yes,
-        },
-        3 => Row {
-            risk: Verdict::Yes,
-            other: Verdict::No,
-        },
-        _ => last,
-    }
-}
-
-/// Random rows.
-fn random_rows(alloc: Global, source: &mut Pcg32) -> Result<Vec<Row>, AllocError>
-    ensures { IfOk result (λ rows. length rows.items ≡ 30) }
-{
-    let mut rows = Vec::new(alloc);
-    let mut last = NO;
-    for _ in 0..30u8 {
-        last = random_row(source, last);
-        rows.push(last)?;
-    }
-    Ok(rows)
-}
 
 /// Whether an answer is that of the definition's plain program over these rows.
 fn is_right(
@@ -340,7 +271,7 @@ fn one_agrees(
 ) -> Result<(), ParseFault> {
     let mut text = String::new(alloc);
     write_random(source, &mut text, depth)?;
-    let rows = random_rows(alloc, source)?;
+    let rows = random_rows(alloc, source, 30)?;
     agrees_on(rt, alloc, text.as_str(), &rows)
 }
 

@@ -1,6 +1,8 @@
-//! Worked rows of the lines of a log: sources and sinks, sentences, and messages.
+//! Worked rows of the lines of a log: sources and sinks, sentences, messages, the book of vessels, and their ranks.
 #![tactic(auto)]
 
+#[cfg(test)]
+mod books;
 #[cfg(test)]
 mod compared;
 #[cfg(test)]
@@ -9,3 +11,5 @@ mod devices;
 mod messages;
 #[cfg(test)]
 mod sentences;
+#[cfg(test)]
+mod vessel_ranks;

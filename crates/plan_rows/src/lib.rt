@@ -1,4 +1,4 @@
-//! Worked situations, and the pruned search against the flat list.
+//! Worked situations, and the pruned search against the flat list. And worked rows of why there is no plan: what is told, and what a check of rows comes to.
 #![tactic(auto)]
 
 #[cfg(test)]
@@ -6,6 +6,12 @@ mod checked;
 #[cfg(test)]
 mod compared;
 #[cfg(test)]
+mod head_on;
+#[cfg(test)]
 mod reasons;
 #[cfg(test)]
 mod searches;
+#[cfg(test)]
+mod why;
+#[cfg(test)]
+mod why_texts;

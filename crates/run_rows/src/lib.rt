@@ -1,5 +1,20 @@
-//! Worked rows of whole runs of the program, in memory: the report of each mode.
+//! Worked rows of whole runs of the program, in memory: the report of each mode, what a recheck says of rows, and runs that end in a fault: each fault by
+//! its number, lines that strangers wrote, and devices that fail.
 #![tactic(auto)]
 
 #[cfg(test)]
+mod checked_rows;
+#[cfg(test)]
+mod failing_devices;
+#[cfg(test)]
+mod hostile_lines;
+#[cfg(test)]
+mod logs;
+#[cfg(test)]
+mod refusals;
+#[cfg(test)]
 mod reports;
+#[cfg(test)]
+mod whole_run;
+#[cfg(test)]
+mod worked_row;

@@ -1,13 +1,13 @@
 //! The report of each mode.
+use crate::logs::{ABOUT_SEATTLE, HEAD_ON_NOW, LOG, ONE_COURSE, ONE_TICK, OWN, REPORT};
+use crate::whole_run::{Devices, Edit, RunEnd, SOUND, ended, ended_with};
+use crate::worked_row::{AUDIT, NOTHING, POINTS, Row, Written, is_as_worked_out};
+use colregs_program::{Status, Which};
 use compared::{is, is_true};
 use log_lines::laws;
+use scenario_rows::HEAD_ON;
 use std::alloc::Global;
 use std::test::Fail;
-use whole_runs::{
-    ABOUT_SEATTLE, AUDIT, Devices, Edit, HEAD_ON, HEAD_ON_NOW, LOG, NOTHING, ONE_COURSE, ONE_TICK,
-    OWN, POINTS, REPORT, Row, RunEnd, SOUND, Status, Which, Written, ended, ended_with,
-    is_as_worked_out,
-};
 
 /// The row of that report.
 const POINT: &[u8] = b"point,477553000,1700000000,0,185200,0,510\n";

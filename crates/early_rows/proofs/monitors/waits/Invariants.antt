@@ -1,6 +1,0 @@
-use Rattle.std.proofs.Common.{◌≡◌}
-use Rattle.early_monitor.specs.Standing.{HasGivenAll, rows_fed}
-use Rattle.early_rows.proofs.monitors.waits.Given as goal
-
-abbrev pub invariant-loop : goal.invariant-loop
-invariant-loop l = record { done : HasGivenAll l.monitor; fed : rows_fed l.monitor ≡ l.counter }
