@@ -11,7 +11,7 @@ use crate::text::text_in;
 use aivdm::{BitSlice, Bits};
 
 /// The layouts of messages. Message 24 has two.
-#[derive(Clone, Copy, Debug, PartialEq, Eq)]
+#[derive(Clone, Copy, PartialEq, Eq)]
 pub(crate) enum Layout {
     /// Messages 1, 2 and 3.
     ClassA,

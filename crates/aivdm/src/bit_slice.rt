@@ -11,7 +11,7 @@ use std::marker::Model;
 use std::simd::prelude::*;
 
 /// The bits of a message, which lie somewhere else.
-#[derive(Debug, Drop)]
+#[derive(Drop)]
 pub struct BitSlice<'a> {
     /// Six bits to an element, the highest first. The last one may hold more than there are.
     pub(crate) sextets: &'a [u8],
@@ -138,7 +138,7 @@ fn put_all_sextets(room: &mut [u8], payload: &[u8])
 }
 
 /// Room for the bits of one sentence.
-#[derive(Debug, Drop)]
+#[derive(Drop)]
 pub struct SentenceRoom {
     sextets: [u8; 1024],
 }

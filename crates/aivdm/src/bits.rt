@@ -12,7 +12,7 @@ use std::alloc::Global;
 use std::marker::Model;
 
 /// The bits of a message (ITU-R M.1371-5, annex 2, 3.3.7). Up to 432 of them lie in the value itself, and more in memory.
-#[derive(Debug, Drop)]
+#[derive(Drop)]
 pub struct Bits {
     /// Six bits to an element, the highest first. The last one may hold more than there are.
     sextets: SmallVec<u8, 72>,

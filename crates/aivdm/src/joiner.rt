@@ -21,7 +21,7 @@ use std::mem;
 const LONGEST_WAIT: u64 = 30;
 
 /// What a sentence completes.
-#[derive(Debug, Drop)]
+#[derive(Drop)]
 pub enum Joined {
     /// A message, the bits of its parts in order, each without its fill.
     Message(Bits),
@@ -32,7 +32,7 @@ pub enum Joined {
 }
 
 /// A message of several sentences that has begun.
-#[derive(Debug, Drop)]
+#[derive(Drop)]
 pub(crate) struct Begun {
     seq: Option<u8>,
     channel: Option<u8>,
@@ -45,7 +45,7 @@ pub(crate) struct Begun {
 }
 
 /// The messages that have begun.
-#[derive(Debug, Drop)]
+#[derive(Drop)]
 pub struct Joiner {
     alloc: Global,
     /// At most one of each key.

@@ -1,7 +1,7 @@
 //! What a line of a log is read as.
 
 /// One VDM or VDO sentence (IEC 61162-1:2010): a whole message, or a part of one.
-#[derive(Clone, Copy, Debug)]
+#[derive(Clone, Copy)]
 pub struct Sentence<'a> {
     /// Of how many sentences the message consists, 1 to 9.
     pub total: u8,
@@ -38,14 +38,14 @@ pub enum LineCause {
 }
 
 /// A line without its tag block.
-#[derive(Clone, Copy, Debug)]
+#[derive(Clone, Copy)]
 pub enum Body<'a> {
     Sentence(Sentence<'a>),
     Dropped(LineCause),
 }
 
 /// What a line says.
-#[derive(Clone, Copy, Debug)]
+#[derive(Clone, Copy)]
 pub struct Reading<'a> {
     /// When the line was received, in seconds since the Unix epoch: the first `c:` field of its tag block. A number from 10^11 on is
     /// one of milliseconds, and rounded down.

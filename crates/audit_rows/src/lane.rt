@@ -14,7 +14,7 @@ use crate::topic::Topic;
 
 /// Takes the marks of one track, one after the other. It keeps the stretch that they end in, whatever its sort, and the counts of
 /// the marks before it.
-#[derive(Clone, Copy, Debug)]
+#[derive(Clone, Copy)]
 pub(crate) struct Lane {
     topic: Topic,
     latest: Option<Opened>,

@@ -9,7 +9,7 @@ use crate::topic::Topic;
 
 /// A stretch that goes on, of marks of one sort, which are joined to one. Where it will end is not kept, so that a further mark of
 /// its sort, unless it tells of an engagement, leaves it as it is.
-#[derive(Clone, Copy, Debug)]
+#[derive(Clone, Copy)]
 pub(crate) struct Opened {
     pub(crate) first: u32,
     pub(crate) mark: Mark,
@@ -44,7 +44,7 @@ impl Opened {
 }
 
 /// A stretch of marks of one sort, which are joined to one.
-#[derive(Clone, Copy, Debug)]
+#[derive(Clone, Copy)]
 pub(crate) struct Stretch {
     pub(crate) first: u32,
     pub(crate) last: u32,

@@ -566,3 +566,61 @@ keeps_same (Some bytes) = refl
 -- a finished run has no answer of another stage
 pub only_finished : {X : Type 0} (a b : Status) → a ≡ b → IsFinished a ≡ true → IsFinished b ≡ false → X
 only_finished a b is here there = let both = sym here ∙ ap IsFinished is ∙ there in cc both
+
+-- ---- the answers of one stage are not those of another
+
+alone : {X : Type 0} (of : Status → Bool) (told answer other : Status) (Made : Type 0) → IsTold told answer Made → of answer ≡ true → of status.Memory ≡ true → told ≡ other → of other ≡ false → X
+alone of told answer other Made (inl same) here memory is not_of = let both = sym here ∙ ap of (sym same ∙ is) ∙ not_of in cc both
+alone of told answer other Made (inr lack) here memory is not_of = let both = sym memory ∙ ap of (sym lack.0 ∙ is) ∙ not_of in cc both
+
+abbrev of_words : Status → Bool
+of_words status.Usage = true
+of_words status.Memory = true
+of_words _ = false
+
+words_are : (why : WordsFault) → of_words (words_fault.answer_of why) ≡ true
+words_are unasked.Usage = refl
+words_are unasked.Memory = refl
+
+pub words_alone : {X : Type 0} (why : WordsFault) (told other : Status) (Made : Type 0) → IsTold told (words_fault.answer_of why) Made → told ≡ other → of_words other ≡ false → X
+words_alone why told other Made is_told is not_of = alone of_words told (words_fault.answer_of why) other Made is_told (words_are why) refl is not_of
+
+abbrev of_set_up : Status → Bool
+of_set_up status.ShelfFault = true
+of_set_up (status.Limit which.Scenario most) = true
+of_set_up (status.Limit which.Rows most) = true
+of_set_up (status.Scenario key cause) = true
+of_set_up status.Memory = true
+of_set_up _ = false
+
+set_ups_are : (why : SetUpFault) → of_set_up (set_up.answer_of why) ≡ true
+set_ups_are fault.NotHad = refl
+set_ups_are fault.LongScenario = refl
+set_ups_are fault.LongRows = refl
+set_ups_are (fault.Refused key cause) = refl
+set_ups_are fault.Memory = refl
+
+pub set_up_alone : {X : Type 0} (why : SetUpFault) (told other : Status) (Made : Type 0) → IsTold told (set_up.answer_of why) Made → told ≡ other → of_set_up other ≡ false → X
+set_up_alone why told other Made is_told is not_of = alone of_set_up told (set_up.answer_of why) other Made is_told (set_ups_are why) refl is not_of
+
+abbrev of_stream : Status → Bool
+of_stream status.Usage = false
+of_stream status.ShelfFault = false
+of_stream (status.Limit which.Scenario most) = false
+of_stream (status.Limit which.Rows most) = false
+of_stream (status.Scenario key cause) = false
+of_stream _ = true
+
+streams_are : (because : StreamFault) (limit : ℕ) → of_stream (stream_status because limit) ≡ true
+streams_are stream.NotRead limit = refl
+streams_are stream.NotWritten limit = refl
+streams_are (stream.Unreported why.Vessels) limit = refl
+streams_are (stream.Unreported why.Pairs) limit = refl
+streams_are (stream.Unreported why.LogBytes) limit = refl
+streams_are (stream.Unreported (why.Own lack)) limit = refl
+streams_are (stream.Unreported why.Targets) limit = refl
+streams_are (stream.Unreported (why.Entry index)) limit = refl
+streams_are (stream.Unreported why.Memory) limit = refl
+
+pub stream_alone : {X : Type 0} (because : StreamFault) (limit : ℕ) (told other : Status) (Made : Type 0) → IsTold told (stream_status because limit) Made → told ≡ other → of_stream other ≡ false → X
+stream_alone because limit told other Made is_told is not_of = alone of_stream told (stream_status because limit) other Made is_told (streams_are because limit) refl is not_of

@@ -8,7 +8,7 @@ use outside::{Fetched, Shelf, Word};
 use std::alloc::Global;
 
 /// Why there is no text of a file.
-#[derive(Clone, Copy, Debug, PartialEq, Eq)]
+#[derive(Clone, Copy, PartialEq, Eq)]
 pub(crate) enum FetchFault {
     /// The shelf failed, or has nothing under the name.
     NotHad,

@@ -22,7 +22,7 @@ use std::alloc::Global;
 pub(crate) const GREATEST_SCENARIO: u64 = 1 << 20;
 
 /// Why there is no scenario, or why there are no rows.
-#[derive(Clone, Copy, Debug, PartialEq, Eq)]
+#[derive(Clone, Copy, PartialEq, Eq)]
 pub(crate) enum SetUpFault {
     /// The shelf failed, or has nothing under the name.
     NotHad,

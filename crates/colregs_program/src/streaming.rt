@@ -24,7 +24,7 @@ use std::alloc::{AllocError, Global};
 const BLOCK: usize = 262_144;
 
 /// Why the report on a log is not written.
-#[derive(Clone, Copy, Debug, PartialEq, Eq)]
+#[derive(Clone, Copy, PartialEq, Eq)]
 pub(crate) enum StreamFault {
     /// A read failed.
     NotRead,

@@ -18,7 +18,7 @@ use outside::Word;
 use std::alloc::{AllocError, Global};
 
 /// The options, each of which counts in the modes that use it.
-#[derive(Debug, Drop)]
+#[derive(Drop)]
 pub struct Options {
     /// The start of the window in place of the scenario's, in seconds since the Unix epoch, 0 to 9999999999.
     pub start: Option<u64>,
@@ -33,7 +33,7 @@ pub struct Options {
 }
 
 /// What is asked for: a mode, with the scenario of a name.
-#[derive(Debug, Drop)]
+#[derive(Drop)]
 pub struct Request {
     /// What to do.
     pub mode: Mode,
@@ -44,7 +44,7 @@ pub struct Request {
 }
 
 /// Why words ask for nothing.
-#[derive(Clone, Copy, Debug, PartialEq, Eq)]
+#[derive(Clone, Copy, PartialEq, Eq)]
 pub enum WordsFault {
     /// They are no command line.
     Usage,

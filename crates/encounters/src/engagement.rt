@@ -87,7 +87,7 @@ fn take_step(state: &mut EngagementState, detect: &Detect, seen: Option<&PairSte
 
 /// The engagement of an ordered pair (A, B), to which the steps are given one after the other. It is seen as what it keeps,
 /// which stands for its numbers and the list of the steps so far.
-#[derive(Clone, Copy, Debug)]
+#[derive(Clone, Copy)]
 pub struct Engagement {
     detect: Detect,
     latest: EngagementState,

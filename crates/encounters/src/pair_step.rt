@@ -2,7 +2,7 @@
 use motion::{Step, TickState};
 
 /// A step of vessels A and B with their states at its first tick.
-#[derive(Clone, Copy, Debug, PartialEq, Eq)]
+#[derive(Clone, Copy, PartialEq, Eq)]
 pub struct PairStep {
     /// The move of B relative to A.
     pub step: Step,

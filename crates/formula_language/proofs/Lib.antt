@@ -5,6 +5,7 @@ pub mod ParserRun
 pub mod Completeness
 pub mod Soundness
 pub mod Faults
+pub mod FrontRuns
 pub mod Refusals
 pub mod Trees
 pub mod GoodNumbers

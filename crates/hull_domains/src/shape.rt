@@ -8,7 +8,7 @@ use fixed_geometry::{Point, turn};
 use std::marker::Model;
 
 /// From a vertex of a shape to the next: metres forward of the vessel (`x`) and to starboard of her (`y`).
-#[derive(Clone, Copy, Debug, PartialEq, Eq)]
+#[derive(Clone, Copy, PartialEq, Eq)]
 pub(crate) struct Edge {
     pub(crate) from: Point,
     /// The displacement to the next vertex.

@@ -11,14 +11,14 @@ use fixed_geometry::{Point, dot, turn};
 use motion::Step;
 
 /// On which side of an edge own ship is in a step: below 0 inside it. It changes evenly.
-#[derive(Clone, Copy, Debug, PartialEq, Eq)]
+#[derive(Clone, Copy, PartialEq, Eq)]
 pub(crate) struct Side {
     pub(crate) start: i128,
     pub(crate) change: i128,
 }
 
 /// A time of a step, in parts of a tick.
-#[derive(Clone, Copy, Debug, PartialEq, Eq)]
+#[derive(Clone, Copy, PartialEq, Eq)]
 pub(crate) struct Fraction {
     pub(crate) over: i128,
     pub(crate) under: u64,

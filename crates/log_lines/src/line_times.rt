@@ -16,7 +16,7 @@ fn reach_behind(scenario: &Scenario) -> u32
 }
 
 /// The first and the last time of the window of lines.
-#[derive(Clone, Copy, Debug, PartialEq, Eq)]
+#[derive(Clone, Copy, PartialEq, Eq)]
 struct LineWindow {
     first: u64,
     last: u64,
@@ -60,7 +60,7 @@ fn is_late(slack: u32, clock: Option<u64>, time: u64) -> bool
 }
 
 /// The nearest stamp and the clock, behind the lines so far.
-#[derive(Clone, Copy, Debug, PartialEq, Eq)]
+#[derive(Clone, Copy, PartialEq, Eq)]
 pub(crate) struct LineTimes {
     window: LineWindow,
     /// The window's start: the time of a line before any stamp.

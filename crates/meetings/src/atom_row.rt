@@ -14,7 +14,7 @@ use sectors::Class;
 use std::marker::Model;
 
 /// The engagement at a step.
-#[derive(Clone, Copy, Debug, PartialEq, Eq)]
+#[derive(Clone, Copy, PartialEq, Eq)]
 pub(crate) struct Meeting {
     /// The class at its beginning.
     pub(crate) kind: Class,
@@ -24,7 +24,7 @@ pub(crate) struct Meeting {
 
 /// One step of an ordered pair (A, B), with its answers to all atoms. It keeps what the engagement tells, and the step for
 /// those atoms that are found when they are asked.
-#[derive(Clone, Copy, Debug)]
+#[derive(Clone, Copy)]
 pub struct AtomRow {
     /// The step, where it is seen.
     pub(crate) step: Option<Step>,

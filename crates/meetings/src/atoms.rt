@@ -87,7 +87,7 @@ fn other_direction(seen: Option<&PairStep>) -> Option<u16>
 
 /// By what a row is told beside its step: how vessels alter, how many seconds a tick lasts, and what the ranks say where the engagement
 /// began.
-#[derive(Clone, Copy, Debug)]
+#[derive(Clone, Copy)]
 pub(crate) struct Telling {
     pub(crate) act: Act,
     pub(crate) tick: u32,

@@ -22,7 +22,7 @@ use std::marker::Model;
 
 /// Follows an ordered pair (A, B) step by step, and gives the row of each. It stands for its numbers and the list of the steps
 /// so far, with what the vessels' ranks say at each.
-#[derive(Clone, Copy, Debug)]
+#[derive(Clone, Copy)]
 pub struct Follower {
     telling: Telling,
     engagement: Engagement,

@@ -19,7 +19,7 @@ use std::marker::Model;
 
 /// An ordered pair of vessels with the rows of its steps so far. It stands for its pair, its numbers and the list of these
 /// steps.
-#[derive(Debug, Drop)]
+#[derive(Drop)]
 pub struct PairTrace {
     pair: Pair,
     follower: Follower,

@@ -24,7 +24,7 @@ pub struct TickState {
 
 /// The straight track of a vessel from one report of hers to the next, an hour later at most. Times are seconds since the
 /// Unix epoch, points in tenths of a millimetre, at most `REGION_SIZE` in each component.
-#[derive(Clone, Copy, Debug, PartialEq, Eq)]
+#[derive(Clone, Copy, PartialEq, Eq)]
 pub struct Leg {
     /// When the leg begins, and where.
     pub t1: u64,

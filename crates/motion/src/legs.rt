@@ -22,7 +22,7 @@ fn begun(legs: &[Leg], time: u64) -> usize
 
 /// The legs of one vessel, in the order of their times. Legs that meet in one report touch; between others she is not
 /// seen.
-#[derive(Debug, Drop)]
+#[derive(Drop)]
 pub struct Legs {
     legs: Vec<Leg>,
 }

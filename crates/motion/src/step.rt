@@ -15,7 +15,7 @@ fn is_below(p: Point, size: u64) -> bool
 /// From one tick to the next: the displacement from vessel A to vessel B at the first, `p`, and by how much it changes to the
 /// second, `w`, in tenths of a millimetre. Between the ticks both move straight. A component of `p` is below 2^34 in size, one
 /// of `w` below 2^26.
-#[derive(Clone, Copy, Debug, PartialEq, Eq)]
+#[derive(Clone, Copy, PartialEq, Eq)]
 pub struct Step {
     p: Point,
     w: Point,

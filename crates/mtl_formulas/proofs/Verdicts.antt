@@ -1,9 +1,10 @@
 -- The least and the greatest of values, and over several positions.
-use Rattle.std.proofs.Common.{◌≡◌, ℕ, zero, suc, ◌+◌, ◌-◌, ◌<◌, ◌≤◌, refl, ap, ap₂, sym, ◌∙◌, arith}
+use Rattle.std.proofs.Common.{◌≡◌, ℕ, zero, suc, ◌+◌, ◌-◌, ◌<◌, ◌≤◌, min, inl, inr, refl, ap, ap₂, sym, ◌∙◌, arith}
+use Rattle.std.proofs.lemmas.Bool.{cases_lt}
 use Rattle.mtl_formulas.specs.declared.verdict.Verdict.{Verdict}
 use Rattle.mtl_formulas.specs.declared.verdict.Verdict.TheVariants.{No, Open, Yes}
 use Rattle.mtl_formulas.specs.VerdictOrder.{least, greatest}
-use Rattle.mtl_formulas.specs.FormulaValue.{greatest_over, least_over}
+use Rattle.mtl_formulas.specs.FormulaValue.{greatest_over, least_over, past_start, past_count}
 
 pub greatest_no : (v : Verdict) → greatest v No ≡ v
 greatest_no No = refl
@@ -60,6 +61,36 @@ least_over-same f g start zero same = refl
 least_over-same f g start (suc count) same =
     ap₂ least (same start (omega arith) (omega arith))
     (least_over-same f g (start + 1) count (λ k above below. same k (omega arith) (omega arith)))
+
+-- where a window begins matters only if it holds a position
+greatest_over-alike : (f : ℕ → Verdict) (start start' count count' : ℕ) → count ≡ count' → (0 < count → start ≡ start') → greatest_over f start count ≡ greatest_over f start' count'
+greatest_over-alike f start start' zero count' is same = ap (greatest_over f start') is
+greatest_over-alike f start start' (suc count) count' is same = ap₂ (greatest_over f) (same (omega arith)) is
+
+least_over-alike : (f : ℕ → Verdict) (start start' count count' : ℕ) → count ≡ count' → (0 < count → start ≡ start') → least_over f start count ≡ least_over f start' count'
+least_over-alike f start start' zero count' is same = ap (least_over f start') is
+least_over-alike f start start' (suc count) count' is same = ap₂ (least_over f) (same (omega arith)) is
+
+-- The positions back to the distance that a loop ended at are all, where the first position ends them too.
+pub greatest_over-past : (f : ℕ → Verdict) (i lower upper distance : ℕ) (now : Verdict) → lower ≤ upper → lower ≤ distance
+    → min upper i + 1 ≤ distance → (lower ≤ min upper i + 1 → distance ≤ min upper i + 1)
+    → now ≡ greatest_over f ((i + 1) - distance) (((i + 1) - lower) - ((i + 1) - distance)) → now ≡ greatest_over f (past_start i upper) (past_count i lower upper)
+greatest_over-past f i lower upper distance now ordered from ended last told = told ∙ elim (cases_lt i lower) [
+  | inl none ↦ greatest_over-alike f _ (past_start i upper) (((i + 1) - lower) - ((i + 1) - distance)) (past_count i lower upper) (omega arith) (λ some. absurd (omega arith))
+  | inr some ↦
+      let is : distance ≡ min upper i + 1 = omega (arith, last (omega arith)) in
+      greatest_over-alike f ((i + 1) - distance) (past_start i upper) (((i + 1) - lower) - ((i + 1) - distance)) (past_count i lower upper) (omega arith) (λ some. omega arith)
+]
+
+pub least_over-past : (f : ℕ → Verdict) (i from end distance : ℕ) (now : Verdict) → from ≤ end → from ≤ distance
+    → min end (i + 1) ≤ distance → (from ≤ min end (i + 1) → distance ≤ min end (i + 1))
+    → now ≡ least_over f ((i + 1) - distance) (((i + 1) - from) - ((i + 1) - distance)) → now ≡ least_over f ((i + 1) - end) (((i + 1) - from) - ((i + 1) - end))
+least_over-past f i from end distance now ordered from_there ended last told = told ∙ elim (cases_lt (i + 1) from) [
+  | inl none ↦ least_over-alike f _ ((i + 1) - end) (((i + 1) - from) - ((i + 1) - distance)) (((i + 1) - from) - ((i + 1) - end)) (omega arith) (λ some. absurd (omega arith))
+  | inr some ↦
+      let is : distance ≡ min end (i + 1) = omega (arith, last (omega arith)) in
+      least_over-alike f ((i + 1) - distance) ((i + 1) - end) (((i + 1) - from) - ((i + 1) - distance)) (((i + 1) - from) - ((i + 1) - end)) (omega arith) (λ some. omega arith)
+]
 
 -- One more position of a window that looks ahead: now is the value with it, so_far without it, here that at it.
 pub greatest_over-ahead : (f : ℕ → Verdict) (i lower distance : ℕ) (now so_far here : Verdict) → lower ≤ distance

@@ -8,7 +8,7 @@ use out_of_memory::Memory;
 use std::alloc::Global;
 
 /// The operators of two operands without an interval.
-#[derive(Clone, Copy, Debug, PartialEq, Eq)]
+#[derive(Clone, Copy, PartialEq, Eq)]
 pub enum PairKind {
     /// `a & b`.
     And,
@@ -19,7 +19,7 @@ pub enum PairKind {
 }
 
 /// The operators of one operand over an interval.
-#[derive(Clone, Copy, Debug, PartialEq, Eq)]
+#[derive(Clone, Copy, PartialEq, Eq)]
 pub enum SpanKind {
     /// Finally: somewhere in an interval ahead.
     F,
@@ -32,7 +32,7 @@ pub enum SpanKind {
 }
 
 /// The operators of two operands over an interval.
-#[derive(Clone, Copy, Debug, PartialEq, Eq)]
+#[derive(Clone, Copy, PartialEq, Eq)]
 pub enum LinkKind {
     /// Until: `b` somewhere in an interval ahead, and `a` from here to before it.
     U,

@@ -5,7 +5,7 @@ ghost use Rattle.mtl_formulas.specs.Glances.{apart_answer, told_by};
 use crate::atom::Atom;
 
 /// What a glance at a position tells of its answers.
-#[derive(Clone, Copy, Debug, PartialEq, Eq)]
+#[derive(Clone, Copy, PartialEq, Eq)]
 pub enum Glance {
     /// Each atom is to be asked.
     Nothing,

@@ -23,14 +23,19 @@ fn value_at(values: &[Verdict], index: usize) -> Verdict
     values[index]
 }
 
-fn slide(left: &mut Left, kind: SpanKind, width: u32, from: u32, value: Verdict, i: u32) -> Verdict
+fn slide(left: &mut Left, kind: SpanKind, width: u32, from: u32, value: Verdict, i: u32) -> Passed
     ensures left { left.new ≡ window_after left.old kind width from value i }
-    ensures value { result ≡ sensed kind (left_value left.new) }
+    ensures value { result.value ≡ sensed kind (left_value left.new) }
+    ensures still { result.moved ≡ false → left.new ≡ left.old }
 {
+    let before = *left;
     if i >= from {
         left.read(sensed(kind, value), width);
     }
-    sensed(kind, left.value())
+    Passed {
+        value: sensed(kind, left.value()),
+        moved: !before.is_same(*left),
+    }
 }
 
 /// The first operand of S, which bars what held before it fails.
@@ -53,11 +58,46 @@ fn hold(hits: &mut Left, bars: Left, width: u32, from: u32, b: Verdict, i: u32)
     }
 }
 
-/// A value at a position, as far as the trace is known to reach.
-fn before_end(value: Verdict, position: u32, end: u32) -> Verdict
-    ensures { result ≡ (if nat_lt position end then value else Open) }
+/// Both operands of S.
+fn since(
+    hits: &mut Left,
+    bars: &mut Left,
+    late: u32,
+    lower: u32,
+    a: Verdict,
+    width: u32,
+    from: u32,
+    b: Verdict,
+    i: u32,
+) -> Passed
+    ensures bars { bars.new ≡ bars_after bars.old late lower a i }
+    ensures hits { hits.new ≡ hits_after (hits_under hits.old late a i) bars.new width from b i }
+    ensures value { result.value ≡ left_value hits.new }
+    ensures still { result.moved ≡ false → (hits.new ≡ hits.old) × (bars.new ≡ bars.old) }
 {
-    if position < end { value } else { Verdict::Open }
+    let before = *hits;
+    let barred = *bars;
+    bar(hits, bars, late, lower, a, i);
+    hold(hits, *bars, width, from, b, i);
+    Passed {
+        value: hits.value(),
+        moved: !(before.is_same(*hits) && barred.is_same(*bars)),
+    }
+}
+
+/// What a node gives at a position, as far as the trace is known to reach.
+fn before_end(passed: Passed, position: u32, end: u32) -> Passed
+    ensures value { result.value ≡ (if nat_lt position end then passed.value else Open) }
+    ensures moved { result.moved ≡ passed.moved }
+{
+    if position < end {
+        passed
+    } else {
+        Passed {
+            value: Verdict::Open,
+            moved: passed.moved,
+        }
+    }
 }
 
 /// Passes row `i` through a node, whose operands have passed it; what an atom answers was its own value already. The trace is
@@ -92,30 +132,23 @@ fn pass(
         },
         (Operator::Late(_, from, a), Kept::Ring(line)) => line.pass(from, value_at(values, a), i),
         (Operator::Window(kind, width, from, a), Kept::Window(left)) => {
-            let before = *left;
-            let value = slide(left, kind, width, from, value_at(values, a), i);
-            Passed {
-                value: before_end(value, position, end),
-                moved: !before.is_same(*left),
-            }
+            let passed = slide(left, kind, width, from, value_at(values, a), i);
+            before_end(passed, position, end)
         }
         (Operator::Since(width, lower, from, a, b), Kept::Since(hits, bars)) => {
-            let before = *hits;
-            let barred = *bars;
-            bar(hits, bars, node.late, lower, value_at(values, a), i);
-            hold(hits, *bars, width, from, value_at(values, b), i);
-            Passed {
-                value: before_end(hits.value(), position, end),
-                moved: !(before.is_same(*hits) && barred.is_same(*bars)),
-            }
+            let a = value_at(values, a);
+            let b = value_at(values, b);
+            let passed = since(hits, bars, node.late, lower, a, width, from, b, i);
+            before_end(passed, position, end)
         }
         (Operator::Until(from, full, lower, a, behind, b), Kept::Until(outlook)) => {
             outlook.read(from, value_at(values, a), value_at(values, b), i);
             outlook.bar(lower, full, value_at(values, behind), i);
-            Passed {
-                value: before_end(outlook.value(), position, end),
+            let passed = Passed {
+                value: outlook.value(),
                 moved: true,
-            }
+            };
+            before_end(passed, position, end)
         }
         _ => Passed {
             value: Verdict::Open,

@@ -8,7 +8,7 @@ use crate::word::Word;
 use std::alloc::Global;
 
 /// What a fetch gives.
-#[derive(Debug, Drop, PartialEq, Eq)]
+#[derive(Drop, PartialEq, Eq)]
 pub enum Fetched {
     /// All the bytes under the name. They are no more than the limit.
     Bytes(Vec<u8>),

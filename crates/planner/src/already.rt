@@ -13,7 +13,7 @@ use std::alloc::Global;
 
 /// Which formulas are broken at which positions of a trace that is cut at now, where the row that decides the position in a longer trace
 /// comes after now. The first such row has index 0.
-#[derive(Debug, Drop)]
+#[derive(Drop)]
 pub(crate) struct Already {
     rules: usize,
     flags: Vec<bool>,

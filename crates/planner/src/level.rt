@@ -168,7 +168,7 @@ fn ends_broken(
 }
 
 /// What a beginning of a plan with one more leg comes to.
-#[derive(Clone, Copy, Debug, PartialEq, Eq)]
+#[derive(Clone, Copy, PartialEq, Eq)]
 pub(crate) enum Extended {
     /// Nothing in the leg makes it fail. Whether it fails where the traces end is seen at the last leg alone.
     Passes,

@@ -1,11 +1,13 @@
 //! A walk over the prefixes of plans, which tells towards which target each one fails first.
-ghost use Rattle.std.specs.Prelude.{ℕ, ◌≡◌, ◌+◌, ◌/◌, ◌^◌, ◌<◌, IfOk, IsNone, List, MatchOption, take};
+ghost use Rattle.std.specs.Prelude.{ℕ, ◌≡◌, ◌+◌, ◌/◌, ◌^◌, ◌<◌, ◌≤◌, All, IfOk, IsNone, List, [], MatchOption, take, true};
 ghost use Rattle.lattice.specs.Grids.{choices_of};
 ghost use Rattle.lattice.specs.PlanNumbers.{plan_of};
-ghost use Rattle.mtl_monitor.specs.Following.{Fits, HasRoom};
+ghost use Rattle.mtl_monitor.specs.Following.{count_of, Fits, HasRoom, IsProgramOf};
+ghost use Rattle.planner.specs.Inner.Breaking.{formulas_of};
 ghost use Rattle.planner.specs.Inner.Legs.{IsPathIn, IsPlannedLeg};
 ghost use Rattle.planner.specs.Inner.Levels.{AreEarly, ArePlaces, HasTargets, IsBasis, IsPrepared, StandsAt, StaysOut};
 ghost use Rattle.planner.specs.Walks.{HasPlace, IsFirstFailing, IsGround, IsWalk, Keeps};
+ghost use Rattle.rule_program.specs.Lags.{IsNoLast};
 ghost use Rattle.situations.specs.FailingPlans.{FailsBy};
 ghost use Rattle.situations.specs.Prefixes.{reached};
 ghost use Rattle.situations.specs.Situations.{IsSituation};
@@ -30,27 +32,58 @@ pub struct Walk {
     pub below: Vec<Level>,
 }
 
+/// Adds what is broken at now towards each target, and what is kept of her there.
+fn watch_each(
+    alloc: Global,
+    situation: &Situation,
+    basis: &mut SearchBasis,
+    start: &mut Level,
+) -> Result<(), Memory>
+    requires situation { IsSituation situation.now }
+    requires of_rules { IsProgramOf basis.old.program (formulas_of situation.now) }
+    requires few { count_of basis.old.program ≤ 17 }
+    requires no_last { basis.old.no_last ≡ true → All IsNoLast (formulas_of situation.now) }
+    requires none_told { basis.old.already.items ≡ [] }
+    requires none { start.old.watched.items ≡ [] }
+    requires fits { Fits basis.old.program start.old.ending }
+    requires room { HasRoom basis.old.program start.old.ending }
+    ensures { IfOk result (λ _. IsPrepared situation.now basis.new start.new) }
+{
+    for target in situation.targets.as_slice() {
+        let here = watched_at_now(alloc, situation, &basis.program, target)?;
+        basis
+            .already
+            .push(here.already(alloc, &basis.program, &mut start.ending)?)?;
+        start.watched.push(here)?;
+    }
+    Ok(())
+}
+
 /// The rules as one program and what is broken at now, and what is kept there.
 fn prepared(alloc: Global, situation: &Situation) -> Result<(SearchBasis, Level), Memory>
     requires { IsSituation situation.now }
     ensures { IfOk result (λ pair. IsPrepared situation.now pair.0 pair.1) }
 {
-    let program = program_of(alloc, &situation.rules)?;
-    let mut ending = TraceState::new(alloc, &program)?;
-    let mut already = Vec::new(alloc);
-    let mut watched = Vec::new(alloc);
-    for target in situation.targets.as_slice() {
-        let here = watched_at_now(alloc, situation, &program, target)?;
-        already.push(here.already(alloc, &program, &mut ending)?)?;
-        watched.push(here)?;
-    }
-    let start = Level::at_now(alloc, &program, watched)?;
-    let basis = SearchBasis {
-        program,
+    let mut basis = SearchBasis {
+        program: program_of(alloc, &situation.rules)?,
         no_last: are_no_last(&situation.rules),
-        already,
+        already: Vec::new(alloc),
     };
-    Ok((basis, start))
+    let mut start = match Level::at_now(alloc, &basis.program, Vec::new(alloc)) {
+        Ok(start) => start,
+        Err(fault) => {
+            drop(basis);
+            return Err(fault);
+        }
+    };
+    match watch_each(alloc, situation, &mut basis, &mut start) {
+        Ok(()) => Ok((basis, start)),
+        Err(fault) => {
+            drop(start);
+            drop(basis);
+            Err(fault)
+        }
+    }
 }
 
 /// The places for each leg.
@@ -73,12 +106,18 @@ impl Walk {
         ensures { IfOk result (IsWalk situation.now) }
     {
         let (basis, start) = prepared(alloc, situation)?;
-        let below = places(alloc, situation, &basis)?;
-        Ok(Walk {
-            basis,
-            start,
-            below,
-        })
+        match places(alloc, situation, &basis) {
+            Ok(below) => Ok(Walk {
+                basis,
+                start,
+                below,
+            }),
+            Err(fault) => {
+                drop(start);
+                drop(basis);
+                Err(fault)
+            }
+        }
     }
 }
 

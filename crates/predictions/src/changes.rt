@@ -57,7 +57,7 @@ impl Changes {
 }
 
 /// The three numbers of a change, whatever they are.
-#[derive(Clone, Copy, Debug, PartialEq, Eq)]
+#[derive(Clone, Copy, PartialEq, Eq)]
 pub struct ChangeNumbers {
     pub after: i64,
     pub course: i64,

@@ -3,7 +3,7 @@ use crate::changes::Changes;
 use std::marker::Model;
 
 /// The changes that are predicted of a vessel.
-#[derive(Debug, Drop)]
+#[derive(Drop)]
 pub struct Predict {
     /// Her MMSI.
     pub mmsi: u32,
@@ -11,7 +11,7 @@ pub struct Predict {
 }
 
 /// What is predicted of other vessels, at most 64 of them. It is seen as a list.
-#[derive(Debug, Drop)]
+#[derive(Drop)]
 pub struct Predictions {
     list: Vec<Predict>,
 }

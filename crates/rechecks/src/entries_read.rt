@@ -1,12 +1,12 @@
 //! The entries that the rows of a text tell.
-ghost use Rattle.std.specs.Prelude.{◌≤◌, ◌<◌, ◌^◌, length, IfOk};
+ghost use Rattle.std.specs.Prelude.{◌≡◌, ◌+◌, ◌≤◌, ◌<◌, ◌^◌, length, IfOk, [], true};
 ghost use Rattle.csv.specs.Records.{fields_of};
 ghost use Rattle.rechecks.specs.CheckedRows.{why_rows};
 ghost use Rattle.rechecks.specs.declared.checked_text.TheConstants.{GREATEST_TEXT};
-ghost use Rattle.rechecks.specs.Inner.ReadRows.{AreRead, TakesRow};
+ghost use Rattle.rechecks.specs.Inner.ReadRows.{AreRead, IsReadSoFar, ReadsPlainly, TakesRow};
 
 use crate::text_rows::{is_why, read_row};
-use csv::{ByteRecord, ReaderBuilder};
+use csv::{ByteRecord, Reader, ReaderBuilder};
 use out_of_memory::Memory;
 use refutations::{WhyEntry, read_entry};
 use situations::Situation;
@@ -38,7 +38,36 @@ fn take_row(
     Ok(true)
 }
 
-/// Reads them. A text has no more rows than bytes, and one more turn finds its end.
+/// Takes the rows that a reader gives, up to the first row `why` that tells no entry. A text has no more rows than bytes, and one more turn finds its end.
+fn take_rows(
+    alloc: Global,
+    situation: &Situation,
+    text: &[u8],
+    reader: &mut Reader<&[u8]>,
+    row: &mut ByteRecord,
+    read: &mut EntriesRead,
+) -> Result<(), Memory>
+    requires text { length text.now ≤ GREATEST_TEXT }
+    requires plain { ReadsPlainly reader.old }
+    requires none { read.old.entries.items ≡ [] }
+    requires all { read.old.all ≡ true }
+    requires so_far { IsReadSoFar situation.now text.now reader.old (length text.now + 1) read.old.entries.items }
+    ensures read { IfOk result (λ _. AreRead situation.now (why_rows text.now) read.new.entries.items read.new.all) }
+    ensures few { IfOk result (λ _. length read.new.entries.items < 2 ^ 31) }
+{
+    for _turn in 0..text.len() + 1 {
+        if !read_row(reader, row)? {
+            return Ok(());
+        }
+        if !take_row(alloc, situation, row, &mut read.entries)? {
+            read.all = false;
+            return Ok(());
+        }
+    }
+    Ok(())
+}
+
+/// Reads them.
 pub(crate) fn read_entries(
     alloc: Global,
     situation: &Situation,
@@ -53,17 +82,15 @@ pub(crate) fn read_entries(
         .flexible(true)
         .from_reader(alloc, text);
     let mut row = ByteRecord::new(alloc);
-    let mut entries = Vec::new(alloc);
-    for _turn in 0..text.len() + 1 {
-        if !read_row(&mut reader, &mut row)? {
-            return Ok(EntriesRead { entries, all: true });
-        }
-        if !take_row(alloc, situation, &row, &mut entries)? {
-            return Ok(EntriesRead {
-                entries,
-                all: false,
-            });
+    let mut read = EntriesRead {
+        entries: Vec::new(alloc),
+        all: true,
+    };
+    match take_rows(alloc, situation, text, &mut reader, &mut row, &mut read) {
+        Ok(()) => Ok(read),
+        Err(fault) => {
+            drop(read);
+            Err(fault)
         }
     }
-    Ok(EntriesRead { entries, all: true })
 }

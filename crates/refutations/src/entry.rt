@@ -3,7 +3,7 @@ use crate::prefix::Prefix;
 use closest_approach::Moment;
 
 /// Why the plans that extend a prefix fail towards a target.
-#[derive(Clone, Copy, Debug, PartialEq, Eq)]
+#[derive(Clone, Copy, PartialEq, Eq)]
 pub enum Reason {
     /// At an instant of the step that begins at a tick own ship is inside the target's domain.
     Domain { step: u32, moment: Moment },

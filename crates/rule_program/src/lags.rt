@@ -9,7 +9,7 @@ use mtl_formulas::{Formula, LinkKind, Node, PairKind, SpanKind, future_reach};
 use rule_set::RuleSet;
 
 /// How many rows behind a position are fed at least before its value can be No, and before it can be Yes.
-#[derive(Clone, Copy, Debug, PartialEq, Eq)]
+#[derive(Clone, Copy, PartialEq, Eq)]
 pub struct Lags {
     /// Before No.
     pub no: u32,

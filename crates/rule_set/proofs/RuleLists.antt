@@ -1,13 +1,14 @@
 -- What a list of rules stands for: their names and trees in order.
 use Rattle.std.proofs.Common.{◌≡◌, ◌≤◌, ◌<◌, ℕ, zero, suc, List, [], ◌∷◌, ◌++◌, false, ◌||◌, length, get_or, refl, ap, arith}
-use Rattle.std.specs.Prelude.{bytes_eq}
+use Rattle.std.specs.Prelude.{bytes_eq, Result, Ok, Err, IfOk}
+use Rattle.out_of_memory.specs.declared.Memory.{Memory}
 use Rattle.std.specs.List.{list_any}
 use Rattle.std.proofs.lemmas.List.{length-map, map-append, length-append}
 use Rattle.mtl_formulas.specs.FormulaMeasures.{IsValid}
 use Rattle.rule_set.specs.declared.rule.Rule.{Rule}
 use Rattle.rule_set.specs.declared.rule_set.TheConstants.{MOST_RULES}
 use Rattle.rule_set.specs.NamedTrees.{NamedTree, has_rule, RulesHaveDifferentNames, AreRules}
-use Rattle.rule_set.specs.Inner.Rules.{named_tree, named_trees}
+use Rattle.rule_set.specs.Inner.Rules.{named_tree, named_trees, IsPut}
 use Rattle.rule_set.proofs.Names.{different_after}
 
 valid_at : (rules : List Rule) (k : ℕ) (d : NamedTree) → k < length (named_trees rules) → IsValid (get_or (named_trees rules) k d).tree
@@ -30,3 +31,12 @@ pub added : (rules : List Rule) (rule : Rule) → length rules < MOST_RULES → 
     (length (rules ++ rule ∷ []) ≤ MOST_RULES) × RulesHaveDifferentNames (named_trees (rules ++ rule ∷ []))
 added rules rule few different new =
     (omega (arith, length-append rules (rule ∷ [])), rw (map-append named_tree rules (rule ∷ [])) (different_after (named_trees rules) (named_tree rule) different new))
+
+pub none_put : (rules : List Rule) → rules ≡ [] → named_trees rules ≡ []
+none_put rules none = rw none refl
+
+-- The list with the rule that was made stands for one name and tree more.
+pub put_more : (before after : List Rule) (made : Result Rule Memory) (trees : List NamedTree) (t : NamedTree) → named_trees before ≡ trees → IfOk made (λ rule. named_tree rule ≡ t)
+    → IsPut before made after → named_trees after ≡ trees ++ t ∷ []
+put_more before after (Ok rule) trees t so_far is put = rw (put, map-append named_tree before (rule ∷ []), so_far, is) refl
+put_more before after (Err fault) trees t so_far is put = absurd put

@@ -1,19 +1,19 @@
 //! The rules, without ranks and with them.
-ghost use Rattle.std.specs.Prelude.{◌≡◌, ◌+◌, ◌<◌, ◌≤◌, IfOk, codes};
-ghost use Rattle.mtl_formulas.specs.FormulaTree.{leaf, tree_of};
+ghost use Rattle.std.specs.Prelude.{◌≡◌, ◌+◌, ◌<◌, ◌≤◌, IfOk, codes, length};
+ghost use Rattle.mtl_formulas.specs.FormulaTree.{leaf, negation, tree_of};
 ghost use Rattle.mtl_formulas.specs.FormulaMeasures.{IsValidAtom, node_count};
 ghost use Rattle.rule_set.specs.Inner.Drafts.{IsMade};
 ghost use Rattle.rule_set.specs.Inner.Rules.{named_tree};
 ghost use Rattle.rule_set.specs.NamedTrees.{rule_named};
-ghost use Rattle.rule_set.specs.RuleTrees.{AreMetres, AreSafeMetres, AreRuleNumbers, passes_clear, passes_safely, other_metres, r8b, r8d, r13, r14a, r14b, r14p, r15, r16, r17a, r17b, r17c, r18, ◌or◌};
+ghost use Rattle.rule_set.specs.RuleTrees.{AreMetres, AreSafeMetres, AreSeconds, AreRuleNumbers, soon, passes_clear, passes_safely, other_metres, r8b, r8d, r13, r14a, r14b, r14p, r15, r16, r17a, r17b, r17c, r18, ◌or◌, ◌implies◌};
 
 use crate::draft::{Draft, atom, not};
 use crate::numbers::{RuleNumbers, Safe};
 use crate::ranking::Ranking;
 use crate::rule::Rule;
 use crate::words::{
-    between_power, both, engaged_and, extremis, free, implies, keeps_out, one_of, paired, soon,
-    stands_on,
+    between_power, both, engaged_and, engaged_in, extremis, free, implies, keeps_out, not_free,
+    not_in_extremis, one_of, paired, soon, stands_on,
 };
 use mtl_formulas::Atom;
 use out_of_memory::Memory;
@@ -104,6 +104,39 @@ pub(crate) fn r13(alloc: Global, numbers: &RuleNumbers) -> Result<Rule, Memory>
     ))
 }
 
+/// Where the draft holds, the vessel does not act so.
+fn forbidding(alloc: Global, name: &[u8], when: Draft, act: Atom) -> Result<Rule, Memory>
+    requires some { 1 ≤ length name.now }
+    requires short { length name.now ≤ 16 }
+    requires few { node_count (tree_of when.formula) < 62 }
+    requires act { IsValidAtom act }
+    ensures { IfOk result (λ rule. named_tree rule ≡ rule_named name.now (tree_of when.formula implies negation (leaf act))) }
+{
+    let (when, keeps) = paired(when, not(alloc, atom(act)))?;
+    Ok(Rule::of(name, implies(alloc, when, keeps)?))
+}
+
+/// Where the draft holds, the vessel soon acts so.
+fn demanding(
+    alloc: Global,
+    name: &[u8],
+    when: Draft,
+    tick: u32,
+    seconds: u32,
+    act: Atom,
+) -> Result<Rule, Memory>
+    requires some { 1 ≤ length name.now }
+    requires short { length name.now ≤ 16 }
+    requires few { node_count (tree_of when.formula) < 59 }
+    requires tick { 1 ≤ tick }
+    requires seconds { AreSeconds tick seconds }
+    requires act { IsValidAtom act }
+    ensures { IfOk result (λ rule. named_tree rule ≡ rule_named name.now (tree_of when.formula implies soon tick seconds (leaf act))) }
+{
+    let (when, acts) = paired(when, soon(alloc, tick, seconds, act))?;
+    Ok(Rule::of(name, implies(alloc, when, acts)?))
+}
+
 /// Rule 14(a): head-on, each alters course to starboard.
 pub(crate) fn r14a(
     alloc: Global,
@@ -116,25 +149,22 @@ pub(crate) fn r14a(
 {
     let begins = both(alloc, atom(Atom::Begin), atom(Atom::HeadOn))?;
     let begins = between_power(alloc, ranks, begins)?;
-    let acts = soon(alloc, tick, numbers.ta, Atom::ToStarboard);
-    let (begins, acts) = paired(begins, acts)?;
-    Ok(Rule::of(b"r14a", implies(alloc, begins, acts)?))
+    demanding(alloc, b"r14a", begins, tick, numbers.ta, Atom::ToStarboard)
 }
 
 /// Rule 14(a): head-on, none alters course to port.
 pub(crate) fn r14b(alloc: Global, ranks: Ranking) -> Result<Rule, Memory>
     ensures { IfOk result (λ rule. named_tree rule ≡ rule_named (codes "r14b") (r14b ranks)) }
 {
-    let head_on = between_power(alloc, ranks, engaged_and(alloc, atom(Atom::HeadOn))?)?;
-    let (head_on, keeps) = paired(head_on, not(alloc, atom(Atom::ToPort)))?;
-    Ok(Rule::of(b"r14b", implies(alloc, head_on, keeps)?))
+    let head_on = engaged_in(alloc, ranks, Atom::HeadOn)?;
+    forbidding(alloc, b"r14b", head_on, Atom::ToPort)
 }
 
 /// Rule 14(a): head-on, each passes on the port side of the other.
 pub(crate) fn r14p(alloc: Global, ranks: Ranking) -> Result<Rule, Memory>
     ensures { IfOk result (λ rule. named_tree rule ≡ rule_named (codes "r14p") (r14p ranks)) }
 {
-    let head_on = between_power(alloc, ranks, engaged_and(alloc, atom(Atom::HeadOn))?)?;
+    let head_on = engaged_in(alloc, ranks, Atom::HeadOn)?;
     let opens = both(alloc, head_on, atom(Atom::Opening))?;
     Ok(Rule::of(b"r14p", implies(alloc, opens, atom(Atom::OtherOnPort))?))
 }
@@ -143,10 +173,8 @@ pub(crate) fn r14p(alloc: Global, ranks: Ranking) -> Result<Rule, Memory>
 pub(crate) fn r15(alloc: Global, ranks: Ranking) -> Result<Rule, Memory>
     ensures { IfOk result (λ rule. named_tree rule ≡ rule_named (codes "r15") (r15 ranks)) }
 {
-    let crosses = engaged_and(alloc, atom(Atom::CrossingGives))?;
-    let crosses = between_power(alloc, ranks, crosses)?;
-    let (crosses, not_ahead) = paired(crosses, not(alloc, atom(Atom::Ahead)))?;
-    Ok(Rule::of(b"r15", implies(alloc, crosses, not_ahead)?))
+    let crosses = engaged_in(alloc, ranks, Atom::CrossingGives)?;
+    forbidding(alloc, b"r15", crosses, Atom::Ahead)
 }
 
 /// Rule 16: the vessel that gives way takes early and substantial action.
@@ -161,9 +189,7 @@ pub(crate) fn r16(
 {
     let (begin, keeps_out) = paired(atom(Atom::Begin), keeps_out(alloc, ranks))?;
     let begins = both(alloc, begin, keeps_out)?;
-    let acts = soon(alloc, tick, numbers.ta, Atom::Apparent);
-    let (begins, acts) = paired(begins, acts)?;
-    Ok(Rule::of(b"r16", implies(alloc, begins, acts)?))
+    demanding(alloc, b"r16", begins, tick, numbers.ta, Atom::Apparent)
 }
 
 /// Rule 17(a): the vessel that stands on keeps her course and speed until she is free to act.
@@ -177,11 +203,9 @@ pub(crate) fn r17a(
     ensures { IfOk result (λ rule. named_tree rule ≡ rule_named (codes "r17a") (r17a ranks tick numbers.now)) }
 {
     let stands = engaged_and(alloc, stands_on(alloc, ranks)?)?;
-    let (stands, free) = paired(stands, free(alloc, tick, numbers))?;
-    let (stands, bound) = paired(stands, not(alloc, free))?;
+    let (stands, bound) = paired(stands, not_free(alloc, tick, numbers))?;
     let bound = both(alloc, stands, bound)?;
-    let (bound, keeps) = paired(bound, not(alloc, atom(Atom::Alters)))?;
-    Ok(Rule::of(b"r17a", implies(alloc, bound, keeps)?))
+    forbidding(alloc, b"r17a", bound, Atom::Alters)
 }
 
 /// Rule 17(b): the vessel that stands on acts in extremis.
@@ -196,9 +220,14 @@ pub(crate) fn r17b(
 {
     let (stands, in_extremis) = paired(stands_on(alloc, ranks)?, extremis(alloc, numbers))?;
     let in_extremis = both(alloc, stands, in_extremis)?;
-    let acts = soon(alloc, tick, numbers.tl, Atom::Apparent);
-    let (in_extremis, acts) = paired(in_extremis, acts)?;
-    Ok(Rule::of(b"r17b", implies(alloc, in_extremis, acts)?))
+    demanding(
+        alloc,
+        b"r17b",
+        in_extremis,
+        tick,
+        numbers.tl,
+        Atom::Apparent,
+    )
 }
 
 /// Rule 17(c): crossing, the vessel that stands on does not alter course to port when she is free to act and not in extremis.
@@ -211,15 +240,12 @@ pub(crate) fn r17c(
     requires { AreRuleNumbers tick numbers.now }
     ensures { IfOk result (λ rule. named_tree rule ≡ rule_named (codes "r17c") (r17c ranks tick numbers.now)) }
 {
-    let stands = engaged_and(alloc, atom(Atom::CrossingStands))?;
-    let stands = between_power(alloc, ranks, stands)?;
+    let stands = engaged_in(alloc, ranks, Atom::CrossingStands)?;
     let (stands, free) = paired(stands, free(alloc, tick, numbers))?;
     let may_act = both(alloc, stands, free)?;
-    let (may_act, in_extremis) = paired(may_act, extremis(alloc, numbers))?;
-    let (may_act, early) = paired(may_act, not(alloc, in_extremis))?;
+    let (may_act, early) = paired(may_act, not_in_extremis(alloc, numbers))?;
     let early = both(alloc, may_act, early)?;
-    let (early, keeps) = paired(early, not(alloc, atom(Atom::ToPort)))?;
-    Ok(Rule::of(b"r17c", implies(alloc, early, keeps)?))
+    forbidding(alloc, b"r17c", early, Atom::ToPort)
 }
 
 /// The distance at which vessels pass safely in an encounter of no kind that has one of its own.

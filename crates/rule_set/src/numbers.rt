@@ -1,7 +1,7 @@
 //! The numbers of the rules.
 
 /// The distance at which vessels pass safely, in metres, 0 to 100,000 (COLREGs Rule 8(d)).
-#[derive(Clone, Copy, Debug, PartialEq, Eq)]
+#[derive(Clone, Copy, PartialEq, Eq)]
 pub enum Safe {
     /// One for all encounters.
     One(u32),
@@ -19,7 +19,7 @@ pub enum Safe {
 }
 
 /// The numbers of the rules: metres, 0 to 100,000, and seconds, 0 to 7200 and multiples of the tick.
-#[derive(Clone, Copy, Debug, PartialEq, Eq)]
+#[derive(Clone, Copy, PartialEq, Eq)]
 pub struct RuleNumbers {
     /// The distance at which vessels pass safely (Rule 8(d)).
     pub safe: Safe,

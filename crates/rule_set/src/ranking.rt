@@ -1,7 +1,7 @@
 //! Whether ranks count.
 
 /// Whether the rules look at the ranks of vessels (COLREGs Rule 18).
-#[derive(Clone, Copy, Debug, PartialEq, Eq)]
+#[derive(Clone, Copy, PartialEq, Eq)]
 pub enum Ranking {
     /// They do not.
     Ignored,

@@ -3,7 +3,7 @@ ghost use Rattle.std.specs.Prelude.{◌≡◌, ◌<◌, ◌∷◌, [], ◌++◌,
 ghost use Rattle.mtl_formulas.specs.FormulaTree.{tree_of};
 ghost use Rattle.mtl_formulas.specs.FormulaMeasures.{IsValid};
 ghost use Rattle.rule_set.specs.NamedTrees.{rule_named, eleven_rules, rules_of, ranked_rules_of, rule_at, has_rule, AreRules};
-ghost use Rattle.rule_set.specs.Inner.Rules.{named_trees};
+ghost use Rattle.rule_set.specs.Inner.Rules.{named_trees, IsPut};
 ghost use Rattle.rule_set.specs.RuleTrees.{AreRuleNumbers};
 
 use crate::duties::{r8b, r8d, r13, r14a, r14b, r14p, r15, r16, r17a, r17b, r17c, r18};
@@ -44,6 +44,14 @@ impl Model for RuleSet {
     ghost invariant = { λ s. (length s.rules.items ≤ MOST_RULES) × RulesHaveDifferentNames (named_trees s.rules.items) };
 }
 
+/// Puts a rule that was made behind the others, or hands on the want of memory.
+fn put(rules: &mut Vec<Rule>, made: Result<Rule, Memory>) -> Result<(), Memory>
+    ensures { OnOk result (IsPut rules.old.items made rules.new.items) }
+{
+    rules.push(made?)?;
+    Ok(())
+}
+
 /// Fills an empty list with the eleven rules that stand without ranks and with them. The list is borrowed, so that no early end has to drop it.
 fn push_eleven(
     rules: &mut Vec<Rule>,
@@ -56,18 +64,17 @@ fn push_eleven(
     requires numbers { AreRuleNumbers tick numbers.now }
     ensures { OnOk result (named_trees rules.new.items ≡ eleven_rules ranks tick numbers.now) }
 {
-    rules.push(r8b(alloc, tick, numbers)?)?;
-    rules.push(r8d(alloc, numbers)?)?;
-    rules.push(r13(alloc, numbers)?)?;
-    rules.push(r14a(alloc, ranks, tick, numbers)?)?;
-    rules.push(r14b(alloc, ranks)?)?;
-    rules.push(r14p(alloc, ranks)?)?;
-    rules.push(r15(alloc, ranks)?)?;
-    rules.push(r16(alloc, ranks, tick, numbers)?)?;
-    rules.push(r17a(alloc, ranks, tick, numbers)?)?;
-    rules.push(r17b(alloc, ranks, tick, numbers)?)?;
-    rules.push(r17c(alloc, ranks, tick, numbers)?)?;
-    Ok(())
+    put(rules, r8b(alloc, tick, numbers))?;
+    put(rules, r8d(alloc, numbers))?;
+    put(rules, r13(alloc, numbers))?;
+    put(rules, r14a(alloc, ranks, tick, numbers))?;
+    put(rules, r14b(alloc, ranks))?;
+    put(rules, r14p(alloc, ranks))?;
+    put(rules, r15(alloc, ranks))?;
+    put(rules, r16(alloc, ranks, tick, numbers))?;
+    put(rules, r17a(alloc, ranks, tick, numbers))?;
+    put(rules, r17b(alloc, ranks, tick, numbers))?;
+    put(rules, r17c(alloc, ranks, tick, numbers))
 }
 
 /// The eleven rules that stand without ranks and with them.

@@ -1,6 +1,6 @@
 //! The words that several rules share.
 ghost use Rattle.std.specs.Prelude.{◌≡◌, ◌+◌, ◌<◌, ◌≤◌, IfOk, Ok};
-ghost use Rattle.mtl_formulas.specs.FormulaTree.{leaf, tree_of};
+ghost use Rattle.mtl_formulas.specs.FormulaTree.{leaf, negation, tree_of};
 ghost use Rattle.mtl_formulas.specs.FormulaMeasures.{IsValidAtom, node_count};
 ghost use Rattle.rule_set.specs.Inner.Drafts.{IsMade};
 ghost use Rattle.rule_set.specs.RuleTrees.{AreMetres, AreSeconds, AreRuleNumbers, ◌and◌, ◌or◌, ◌implies◌, between_power, soon, keeps_out, stands_on, extremis, waits, free};
@@ -79,6 +79,14 @@ pub(crate) fn between_power(alloc: Global, ranks: Ranking, a: Draft) -> Result<D
         Ranking::Ignored => Ok(a),
         Ranking::Counted => both(alloc, a, atom(Atom::BothPower)),
     }
+}
+
+/// `engaged & kind`, where ranks count between two power-driven vessels.
+pub(crate) fn engaged_in(alloc: Global, ranks: Ranking, kind: Atom) -> Result<Draft, Memory>
+    requires { IsValidAtom kind }
+    ensures { IfOk result (λ d. IsMade d.formula (between_power ranks (leaf Atom.Engaged and leaf kind)) 5) }
+{
+    between_power(alloc, ranks, engaged_and(alloc, atom(kind))?)
 }
 
 /// `F[0,seconds] (act | !engaged)`.
@@ -163,6 +171,14 @@ pub(crate) fn extremis(alloc: Global, numbers: &RuleNumbers) -> Result<Draft, Me
     both(alloc, in_risk(alloc)?, atom(Atom::Close(numbers.close)))
 }
 
+/// Not in extremis.
+pub(crate) fn not_in_extremis(alloc: Global, numbers: &RuleNumbers) -> Result<Draft, Memory>
+    requires { AreMetres numbers.now.close }
+    ensures { IfOk result (λ d. IsMade d.formula (negation (extremis numbers.now)) 6) }
+{
+    not(alloc, extremis(alloc, numbers)?)
+}
+
 /// In risk for so long, in which the other did not act.
 #[tactic(auto, unfolding(crate::specs::RuleTrees::waits))]
 fn waits(alloc: Global, tick: u32, numbers: &RuleNumbers) -> Result<Draft, Memory>
@@ -184,4 +200,12 @@ pub(crate) fn free(alloc: Global, tick: u32, numbers: &RuleNumbers) -> Result<Dr
     let (waited, in_extremis) = paired(waits(alloc, tick, numbers)?, extremis(alloc, numbers))?;
     let cause = either(alloc, waited, in_extremis)?;
     since(alloc, numbers.te / tick, atom(Atom::Engaged), cause)
+}
+
+/// Not free to act.
+pub(crate) fn not_free(alloc: Global, tick: u32, numbers: &RuleNumbers) -> Result<Draft, Memory>
+    requires { AreRuleNumbers tick numbers.now }
+    ensures { IfOk result (λ d. IsMade d.formula (negation (free tick numbers.now)) 18) }
+{
+    not(alloc, free(alloc, tick, numbers)?)
 }

@@ -2,6 +2,7 @@ pub mod Firsts
 pub mod Held
 pub mod Single
 pub mod OneReading
+pub mod OneMore
 pub mod ListsHeld
 pub mod PlansHeld
 pub mod Vertices

@@ -7,7 +7,7 @@ use scenario_keys::{When, integer_found};
 use toml::Table;
 
 /// The values of a document on which the tests of other keys stand.
-#[derive(Clone, Copy, Debug, PartialEq, Eq)]
+#[derive(Clone, Copy, PartialEq, Eq)]
 pub struct Basis {
     /// The length of a tick, 1 to 60 s.
     pub tick: u32,

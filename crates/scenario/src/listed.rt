@@ -73,7 +73,7 @@ fn naturals_found(
 }
 
 /// What the lists of a key may be.
-#[derive(Clone, Copy, Debug, PartialEq, Eq)]
+#[derive(Clone, Copy, PartialEq, Eq)]
 pub(crate) struct ListBounds {
     /// The least and the greatest length.
     pub fewest: usize,

@@ -9,7 +9,7 @@ use scenario_keys::{Cause, element_count, integer_found};
 use toml::Table;
 
 /// The numbers that say how many plans own ship has, and how long they last.
-#[derive(Clone, Copy, Debug, PartialEq, Eq)]
+#[derive(Clone, Copy, PartialEq, Eq)]
 pub struct PlanSizes {
     /// How many changes of course, and how many of speed, a leg may choose from.
     pub courses: u64,

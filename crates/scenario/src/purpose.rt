@@ -8,7 +8,7 @@ use scenario_keys::integer_found;
 use toml::Table;
 
 /// What a scenario is read for: what of it counts.
-#[derive(Clone, Copy, Debug, PartialEq, Eq)]
+#[derive(Clone, Copy, PartialEq, Eq)]
 pub struct Purpose {
     /// Whether own ship is needed. Her keys are looked at only then.
     pub need_own: bool,

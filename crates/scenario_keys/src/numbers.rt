@@ -8,7 +8,7 @@ use crate::rows::Range;
 use toml::Value;
 
 /// The integers that a key may hold, and what stands for a key that is left out.
-#[derive(Clone, Copy, Debug, PartialEq, Eq)]
+#[derive(Clone, Copy, PartialEq, Eq)]
 pub struct Bounds {
     pub low: i64,
     pub high: i64,

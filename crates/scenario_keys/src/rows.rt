@@ -5,7 +5,7 @@ ghost use Rattle.scenario_keys.specs.ScenarioTexts.{has_items};
 ghost use Rattle.scenario_keys.specs.Inner.SeenRows.{seen};
 
 /// The integers that a key may hold.
-#[derive(Clone, Copy, Debug, PartialEq, Eq)]
+#[derive(Clone, Copy, PartialEq, Eq)]
 pub enum Range {
     /// From the first to the second.
     FromTo(i64, i64),
@@ -20,7 +20,7 @@ pub enum Range {
 }
 
 /// The lists of integers that a key may hold.
-#[derive(Clone, Copy, Debug, PartialEq, Eq)]
+#[derive(Clone, Copy, PartialEq, Eq)]
 pub struct ListRange {
     /// Whether the key may be left out.
     pub is_optional: bool,
@@ -33,7 +33,7 @@ pub struct ListRange {
 }
 
 /// What a key must hold.
-#[derive(Clone, Copy, Debug, PartialEq, Eq)]
+#[derive(Clone, Copy, PartialEq, Eq)]
 pub enum Kind {
     /// The document itself, which is read before its keys are tested.
     Document,
@@ -75,7 +75,7 @@ pub(crate) fn has_items(kind: Kind) -> bool
 }
 
 /// When a key is looked at.
-#[derive(Clone, Copy, Debug, PartialEq, Eq)]
+#[derive(Clone, Copy, PartialEq, Eq)]
 pub enum When {
     Always,
     InVersionOne,
@@ -85,7 +85,7 @@ pub enum When {
 }
 
 /// A row of the table.
-#[derive(Clone, Copy, Debug, PartialEq, Eq)]
+#[derive(Clone, Copy, PartialEq, Eq)]
 pub struct KeyRow {
     /// The number by which a fault names the key.
     pub number: u8,

@@ -2,7 +2,7 @@
 use std::marker::Model;
 
 /// The MMSIs of the vessels whose encounters are audited, as the scenario lists them. Where there are none, all vessels' are.
-#[derive(Debug, Drop)]
+#[derive(Drop)]
 pub struct Subjects {
     list: Vec<u32>,
 }

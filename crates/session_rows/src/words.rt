@@ -22,7 +22,7 @@ fn asked(alloc: Global, texts: &[&str]) -> Result<Request, WordsFault> {
 }
 
 /// Options, with the name of the rows as a text.
-#[derive(Clone, Copy, Debug, PartialEq, Eq)]
+#[derive(Clone, Copy, PartialEq, Eq)]
 struct Given {
     start: Option<u64>,
     ticks: Option<u32>,

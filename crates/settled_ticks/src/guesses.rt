@@ -4,7 +4,7 @@ use std::alloc::Global;
 
 /// For each vessel, by her index among those held, the index of the report that was her last when it was looked for. It is no more than a
 /// guess, which is tested before it is used.
-#[derive(Debug, Drop)]
+#[derive(Drop)]
 pub(crate) struct Guesses {
     reports: Vec<usize>,
 }

@@ -16,7 +16,7 @@ use motion::Step;
 
 /// The water round a target that own ship is to stay out of: a circle. It yields to the situation's shape where there is one and the target
 /// has a direction.
-#[derive(Clone, Copy, Debug, PartialEq, Eq)]
+#[derive(Clone, Copy, PartialEq, Eq)]
 pub struct Domain {
     /// Its radius, in tenths of a millimetre, below 2^31.
     pub radius: u64,

@@ -4,7 +4,7 @@ use motion::TickState;
 use std::marker::Model;
 
 /// How a vessel was seen at the ticks up to now: `None` where she was not. It is seen as a list.
-#[derive(Debug, Drop)]
+#[derive(Drop)]
 pub struct Past {
     list: Vec<Option<TickState>>,
 }
@@ -37,7 +37,7 @@ impl Past {
 }
 
 /// A vessel's states at the ticks from now on. It is seen as a list.
-#[derive(Debug, Drop)]
+#[derive(Drop)]
 pub struct Ahead {
     list: Vec<TickState>,
 }
@@ -70,7 +70,7 @@ impl Ahead {
 }
 
 /// The targets. It is seen as a list.
-#[derive(Debug, Drop)]
+#[derive(Drop)]
 pub struct Targets {
     list: Vec<Target>,
 }

@@ -17,7 +17,7 @@ use std::alloc::Global;
 use tracks::{Accepted, Book};
 
 /// A vessel near own ship.
-#[derive(Clone, Copy, Debug, PartialEq, Eq)]
+#[derive(Clone, Copy, PartialEq, Eq)]
 pub struct Near {
     /// Her MMSI.
     pub mmsi: u32,

@@ -15,7 +15,7 @@ use predictions::Change;
 use tracks::{Accepted, reported_direction};
 
 /// How a vessel moves for a while.
-#[derive(Clone, Copy, Debug, PartialEq, Eq)]
+#[derive(Clone, Copy, PartialEq, Eq)]
 pub(crate) struct Motion {
     /// Her displacement in a second, in tenths of a millimetre.
     velocity: Point,
@@ -24,7 +24,7 @@ pub(crate) struct Motion {
 }
 
 /// How far she has gone: where she is at a time, and how she goes on from there.
-#[derive(Clone, Copy, Debug, PartialEq, Eq)]
+#[derive(Clone, Copy, PartialEq, Eq)]
 pub(crate) struct Run {
     point: Point,
     since: u64,

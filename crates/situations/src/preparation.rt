@@ -33,7 +33,7 @@ use tracks::Book;
 pub const MOST_TARGETS: usize = 64;
 
 /// Why there is no situation in which to seek a plan.
-#[derive(Clone, Copy, Debug, PartialEq, Eq)]
+#[derive(Clone, Copy, PartialEq, Eq)]
 pub enum PrepareFault {
     /// Own ship is not ready.
     Unready(Unready),

@@ -39,7 +39,7 @@ impl fmt::Display for Unready {
 impl Error for Unready {}
 
 /// What own ship is planned from.
-#[derive(Clone, Copy, Debug, PartialEq, Eq)]
+#[derive(Clone, Copy, PartialEq, Eq)]
 pub struct Ready {
     /// Her latest accepted report.
     pub latest: Accepted,

@@ -8,7 +8,7 @@ use motion::TickState;
 use rule_set::RuleSet;
 
 /// A vessel whose domain own ship is to stay out of, and towards which she is to keep the rules.
-#[derive(Debug, Drop)]
+#[derive(Drop)]
 pub struct Target {
     /// Her MMSI.
     pub mmsi: u32,

@@ -3,7 +3,7 @@ use crate::book::MOST_VESSELS;
 
 /// For each remainder by [`MOST_VESSELS`] the index at which a number with it was found last. It is no more than a guess, which is
 /// tested before it is used.
-#[derive(Debug, Drop)]
+#[derive(Drop)]
 pub(crate) struct Guesses {
     indices: [u16; MOST_VESSELS],
 }

@@ -5,7 +5,7 @@ use crate::statics::Statics;
 use motion::Legs;
 
 /// A vessel that a book holds, with all that it keeps of her.
-#[derive(Clone, Copy, Debug)]
+#[derive(Clone, Copy)]
 pub struct HeldVessel<'a> {
     /// Her identity.
     pub mmsi: u32,

@@ -4,7 +4,7 @@ ghost use Rattle.tracks.specs.Standing.{forgetting};
 ghost use Rattle.tracks.specs.declared.keeping.Keeping.TheVariants.{Since};
 
 /// What a book keeps of a vessel's accepted reports.
-#[derive(Clone, Copy, Debug, PartialEq, Eq)]
+#[derive(Clone, Copy, PartialEq, Eq)]
 pub enum Keeping {
     /// The latest alone, and no legs.
     Latest,

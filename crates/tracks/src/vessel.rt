@@ -109,7 +109,7 @@ fn gone_before(gap: u32, points: &[Accepted], time: u64) -> Gone
 
 /// Her accepted reports or the latest alone, the legs between those that are kept, how many reports and legs there were, and what
 /// she told of herself.
-#[derive(Debug, Drop)]
+#[derive(Drop)]
 pub(crate) struct Vessel {
     points: Vec<Accepted>,
     legs: Legs,

@@ -5,7 +5,7 @@ use Rattle.colregs_program.specs.Answers.{HoldsUnder, IsOfMigration, IsRefusedBy
 use Rattle.colregs_program.specs.declared.status.Status.{Status}
 use Rattle.command_line.specs.declared.mode.Mode.{Mode}
 use Rattle.colregs_program.proofs.Due.{migration_due}
-use Rattle.colregs_program.proofs.Refusals.{asked_once, asked_twice, asked_where_it_fails, bytes_told, calm_told, drill_status, drill_told, drills_too, entry_told, keeps_same, limit_told, log_calm_told, log_decides, memory_failed, memory_front, met_is, migrates, no_migration, no_report, no_rows_migrated, not_asked, not_set_up, nothing_told, only_finished, own_told, pairs_told, put_told, read_told, reported_met, reported_so, rows_too, runs, set_up_drills, set_up_limit, set_up_unfinished, shelf_calm_told, stream_limit, targets_told, unread_too, vessels_told, words_limit}
+use Rattle.colregs_program.proofs.Refusals.{asked_once, asked_twice, asked_where_it_fails, bytes_told, calm_told, drill_status, drill_told, drills_too, entry_told, keeps_same, limit_told, log_calm_told, log_decides, memory_failed, memory_front, met_is, migrates, no_migration, no_report, no_rows_migrated, not_asked, not_set_up, nothing_told, only_finished, own_told, pairs_told, put_told, read_told, reported_met, reported_so, rows_too, runs, set_up_alone, set_up_drills, set_up_limit, set_up_unfinished, shelf_calm_told, stream_alone, stream_limit, targets_told, unread_too, vessels_told, words_alone, words_limit}
 use Rattle.colregs_program.proofs.SettingUp.{options_in_range}
 use Rattle.colregs_program.specs.declared.status.Status.TheVariants as status
 use Rattle.colregs_program.proofs.program.run.Goals as goal
@@ -394,3 +394,195 @@ returns-clause-memory g c = λ is. only_finished _ _ is refl refl
 
 pub report_on-requires-clause-seed : goal.report_on-requires-clause-seed
 report_on-requires-clause-seed g c = (options_in_range c.args.words.now c.in-Ok.request c.in-Ok.ensures.asked).seed
+
+-- ---- a run that stops at one stage has none of the answers of the others
+
+pub returns-in-Err-clause-shelf_fault : goal.returns-in-Err-clause-shelf_fault
+returns-in-Err-clause-shelf_fault g c = λ is. words_alone c.in-Err.fault _ _ _ (rw c.into.ensures at c.tell.ensures.same) is refl
+
+pub returns-in-Err-clause-scenario_limit : goal.returns-in-Err-clause-scenario_limit
+returns-in-Err-clause-scenario_limit g c = λ most is. words_alone c.in-Err.fault _ _ _ (rw c.into.ensures at c.tell.ensures.same) is refl
+
+pub returns-in-Err-clause-rows_limit : goal.returns-in-Err-clause-rows_limit
+returns-in-Err-clause-rows_limit g c = λ most is. words_alone c.in-Err.fault _ _ _ (rw c.into.ensures at c.tell.ensures.same) is refl
+
+pub returns-in-Err-clause-refused : goal.returns-in-Err-clause-refused
+returns-in-Err-clause-refused g c = λ key cause is. words_alone c.in-Err.fault _ _ _ (rw c.into.ensures at c.tell.ensures.same) is refl
+
+pub returns-in-Err-clause-read_fault : goal.returns-in-Err-clause-read_fault
+returns-in-Err-clause-read_fault g c = λ is. words_alone c.in-Err.fault _ _ _ (rw c.into.ensures at c.tell.ensures.same) is refl
+
+pub returns-in-Err-clause-log_limit : goal.returns-in-Err-clause-log_limit
+returns-in-Err-clause-log_limit g c = λ most is. words_alone c.in-Err.fault _ _ _ (rw c.into.ensures at c.tell.ensures.same) is refl
+
+pub returns-in-Err-clause-vessel_limit : goal.returns-in-Err-clause-vessel_limit
+returns-in-Err-clause-vessel_limit g c = λ most is. words_alone c.in-Err.fault _ _ _ (rw c.into.ensures at c.tell.ensures.same) is refl
+
+pub returns-in-Err-clause-pair_limit : goal.returns-in-Err-clause-pair_limit
+returns-in-Err-clause-pair_limit g c = λ most is. words_alone c.in-Err.fault _ _ _ (rw c.into.ensures at c.tell.ensures.same) is refl
+
+pub returns-in-Err-clause-own_unready : goal.returns-in-Err-clause-own_unready
+returns-in-Err-clause-own_unready g c = λ why is. words_alone c.in-Err.fault _ _ _ (rw c.into.ensures at c.tell.ensures.same) is refl
+
+pub returns-in-Err-clause-target_limit : goal.returns-in-Err-clause-target_limit
+returns-in-Err-clause-target_limit g c = λ most is. words_alone c.in-Err.fault _ _ _ (rw c.into.ensures at c.tell.ensures.same) is refl
+
+pub returns-in-Err-clause-bad_entry : goal.returns-in-Err-clause-bad_entry
+returns-in-Err-clause-bad_entry g c = λ index is. words_alone c.in-Err.fault _ _ _ (rw c.into.ensures at c.tell.ensures.same) is refl
+
+pub returns-in-Err-clause-write_fault : goal.returns-in-Err-clause-write_fault
+returns-in-Err-clause-write_fault g c = λ is. words_alone c.in-Err.fault _ _ _ (rw c.into.ensures at c.tell.ensures.same) is refl
+
+pub returns-in-Err-set_up-clause-usage : goal.returns-in-Err-set_up-clause-usage
+returns-in-Err-set_up-clause-usage g c = λ is. set_up_alone c.in-Err-set_up.fault _ _ _ (rw c.into-in-Err-set_up.ensures at c.tell-in-Err-set_up.ensures.same) is refl
+
+pub returns-in-Err-set_up-clause-no_usage : goal.returns-in-Err-set_up-clause-no_usage
+returns-in-Err-set_up-clause-no_usage g c = λ request asks is. set_up_alone c.in-Err-set_up.fault _ _ _ (rw c.into-in-Err-set_up.ensures at c.tell-in-Err-set_up.ensures.same) is refl
+
+pub returns-in-Err-set_up-clause-read_fault : goal.returns-in-Err-set_up-clause-read_fault
+returns-in-Err-set_up-clause-read_fault g c = λ is. set_up_alone c.in-Err-set_up.fault _ _ _ (rw c.into-in-Err-set_up.ensures at c.tell-in-Err-set_up.ensures.same) is refl
+
+pub returns-in-Err-set_up-clause-log_limit : goal.returns-in-Err-set_up-clause-log_limit
+returns-in-Err-set_up-clause-log_limit g c = λ most is. set_up_alone c.in-Err-set_up.fault _ _ _ (rw c.into-in-Err-set_up.ensures at c.tell-in-Err-set_up.ensures.same) is refl
+
+pub returns-in-Err-set_up-clause-vessel_limit : goal.returns-in-Err-set_up-clause-vessel_limit
+returns-in-Err-set_up-clause-vessel_limit g c = λ most is. set_up_alone c.in-Err-set_up.fault _ _ _ (rw c.into-in-Err-set_up.ensures at c.tell-in-Err-set_up.ensures.same) is refl
+
+pub returns-in-Err-set_up-clause-pair_limit : goal.returns-in-Err-set_up-clause-pair_limit
+returns-in-Err-set_up-clause-pair_limit g c = λ most is. set_up_alone c.in-Err-set_up.fault _ _ _ (rw c.into-in-Err-set_up.ensures at c.tell-in-Err-set_up.ensures.same) is refl
+
+pub returns-in-Err-set_up-clause-own_unready : goal.returns-in-Err-set_up-clause-own_unready
+returns-in-Err-set_up-clause-own_unready g c = λ why is. set_up_alone c.in-Err-set_up.fault _ _ _ (rw c.into-in-Err-set_up.ensures at c.tell-in-Err-set_up.ensures.same) is refl
+
+pub returns-in-Err-set_up-clause-target_limit : goal.returns-in-Err-set_up-clause-target_limit
+returns-in-Err-set_up-clause-target_limit g c = λ most is. set_up_alone c.in-Err-set_up.fault _ _ _ (rw c.into-in-Err-set_up.ensures at c.tell-in-Err-set_up.ensures.same) is refl
+
+pub returns-in-Err-set_up-clause-bad_entry : goal.returns-in-Err-set_up-clause-bad_entry
+returns-in-Err-set_up-clause-bad_entry g c = λ index is. set_up_alone c.in-Err-set_up.fault _ _ _ (rw c.into-in-Err-set_up.ensures at c.tell-in-Err-set_up.ensures.same) is refl
+
+pub returns-in-Err-set_up-clause-write_fault : goal.returns-in-Err-set_up-clause-write_fault
+returns-in-Err-set_up-clause-write_fault g c = λ is. set_up_alone c.in-Err-set_up.fault _ _ _ (rw c.into-in-Err-set_up.ensures at c.tell-in-Err-set_up.ensures.same) is refl
+
+pub returns-in-Err-report_on-clause-usage : goal.returns-in-Err-report_on-clause-usage
+returns-in-Err-report_on-clause-usage g c = λ is. stream_alone c.in-Err-report_on.fault _ _ _ _ (rw c.stream_status.ensures at c.tell-in-Err-report_on.ensures.same) is refl
+
+pub returns-in-Err-report_on-clause-no_usage : goal.returns-in-Err-report_on-clause-no_usage
+returns-in-Err-report_on-clause-no_usage g c = λ request asks is. stream_alone c.in-Err-report_on.fault _ _ _ _ (rw c.stream_status.ensures at c.tell-in-Err-report_on.ensures.same) is refl
+
+pub returns-in-Err-report_on-clause-shelf_fault : goal.returns-in-Err-report_on-clause-shelf_fault
+returns-in-Err-report_on-clause-shelf_fault g c = λ is. stream_alone c.in-Err-report_on.fault _ _ _ _ (rw c.stream_status.ensures at c.tell-in-Err-report_on.ensures.same) is refl
+
+pub returns-in-Err-report_on-clause-scenario_limit : goal.returns-in-Err-report_on-clause-scenario_limit
+returns-in-Err-report_on-clause-scenario_limit g c = λ most is. stream_alone c.in-Err-report_on.fault _ _ _ _ (rw c.stream_status.ensures at c.tell-in-Err-report_on.ensures.same) is refl
+
+pub returns-in-Err-report_on-clause-rows_limit : goal.returns-in-Err-report_on-clause-rows_limit
+returns-in-Err-report_on-clause-rows_limit g c = λ most is. stream_alone c.in-Err-report_on.fault _ _ _ _ (rw c.stream_status.ensures at c.tell-in-Err-report_on.ensures.same) is refl
+
+pub returns-in-Err-report_on-clause-refused : goal.returns-in-Err-report_on-clause-refused
+returns-in-Err-report_on-clause-refused g c = λ key cause is. stream_alone c.in-Err-report_on.fault _ _ _ _ (rw c.stream_status.ensures at c.tell-in-Err-report_on.ensures.same) is refl
+
+pub returns-then-not-reports-clause-read_fault : goal.returns-then-not-reports-clause-read_fault
+returns-then-not-reports-clause-read_fault g c = λ is.
+    let no = subst (λ (s : Status). IsTrue (IsOfMigration s)) is c.write_migrated.ensures.answers in
+    absurd (cc no)
+
+pub returns-then-not-reports-clause-log_limit : goal.returns-then-not-reports-clause-log_limit
+returns-then-not-reports-clause-log_limit g c = λ most is.
+    let no = subst (λ (s : Status). IsTrue (IsOfMigration s)) is c.write_migrated.ensures.answers in
+    absurd (cc no)
+
+pub returns-then-not-reports-clause-vessel_limit : goal.returns-then-not-reports-clause-vessel_limit
+returns-then-not-reports-clause-vessel_limit g c = λ most is.
+    let no = subst (λ (s : Status). IsTrue (IsOfMigration s)) is c.write_migrated.ensures.answers in
+    absurd (cc no)
+
+pub returns-then-not-reports-clause-pair_limit : goal.returns-then-not-reports-clause-pair_limit
+returns-then-not-reports-clause-pair_limit g c = λ most is.
+    let no = subst (λ (s : Status). IsTrue (IsOfMigration s)) is c.write_migrated.ensures.answers in
+    absurd (cc no)
+
+pub returns-then-not-reports-clause-own_unready : goal.returns-then-not-reports-clause-own_unready
+returns-then-not-reports-clause-own_unready g c = λ why is.
+    let no = subst (λ (s : Status). IsTrue (IsOfMigration s)) is c.write_migrated.ensures.answers in
+    absurd (cc no)
+
+pub returns-then-not-reports-clause-target_limit : goal.returns-then-not-reports-clause-target_limit
+returns-then-not-reports-clause-target_limit g c = λ most is.
+    let no = subst (λ (s : Status). IsTrue (IsOfMigration s)) is c.write_migrated.ensures.answers in
+    absurd (cc no)
+
+pub returns-then-not-reports-clause-bad_entry : goal.returns-then-not-reports-clause-bad_entry
+returns-then-not-reports-clause-bad_entry g c = λ index is.
+    let no = subst (λ (s : Status). IsTrue (IsOfMigration s)) is c.write_migrated.ensures.answers in
+    absurd (cc no)
+
+-- ---- what a stage leaves as it was
+
+pub returns-in-Err-clause-unread : goal.returns-in-Err-clause-unread
+returns-in-Err-clause-unread g c = λ request asks not. (keeps_same _, refl)
+
+pub returns-in-Err-clause-untouched : goal.returns-in-Err-clause-untouched
+returns-in-Err-clause-untouched g c = λ before. (keeps_same _, refl)
+
+pub returns-in-Err-clause-log_calm : goal.returns-in-Err-clause-log_calm
+returns-in-Err-clause-log_calm g c = λ not. refl
+
+pub returns-in-Err-set_up-clause-unread : goal.returns-in-Err-set_up-clause-unread
+returns-in-Err-set_up-clause-unread g c = λ request asks not. (keeps_same _, refl)
+
+pub returns-in-Err-set_up-clause-untouched : goal.returns-in-Err-set_up-clause-untouched
+returns-in-Err-set_up-clause-untouched g c = λ before. (keeps_same _, refl)
+
+pub returns-in-Err-set_up-clause-log_calm : goal.returns-in-Err-set_up-clause-log_calm
+returns-in-Err-set_up-clause-log_calm g c = λ not. refl
+
+pub returns-then-not-reports-clause-unread : goal.returns-then-not-reports-clause-unread
+returns-then-not-reports-clause-unread g c = λ request asks not. (keeps_same _, refl)
+
+pub returns-then-not-reports-clause-untouched : goal.returns-then-not-reports-clause-untouched
+returns-then-not-reports-clause-untouched g c = λ before. (keeps_same _, refl)
+
+pub returns-then-not-reports-clause-log_calm : goal.returns-then-not-reports-clause-log_calm
+returns-then-not-reports-clause-log_calm g c = λ not. refl
+
+pub returns-in-Err-clause-unwritten : goal.returns-in-Err-clause-unwritten
+returns-in-Err-clause-unwritten g c = λ nothing. keeps_same _
+
+pub returns-in-Err-clause-calm : goal.returns-in-Err-clause-calm
+returns-in-Err-clause-calm g c = λ not. refl
+
+pub returns-in-Err-set_up-clause-unwritten : goal.returns-in-Err-set_up-clause-unwritten
+returns-in-Err-set_up-clause-unwritten g c = λ nothing. keeps_same _
+
+pub returns-in-Err-set_up-clause-calm : goal.returns-in-Err-set_up-clause-calm
+returns-in-Err-set_up-clause-calm g c = λ not. refl
+
+pub returns-in-Err-clause-shelf_calm : goal.returns-in-Err-clause-shelf_calm
+returns-in-Err-clause-shelf_calm g c = λ not. refl
+
+pub returns-in-Err-clause-unfetched : goal.returns-in-Err-clause-unfetched
+returns-in-Err-clause-unfetched g c = λ nothing. refl
+
+pub returns-in-Err-clause-memory : goal.returns-in-Err-clause-memory
+returns-in-Err-clause-memory g c = λ is. inl (keeps_same _)
+
+pub returns-in-Err-clause-line : goal.returns-in-Err-clause-line
+returns-in-Err-clause-line g c = c.tell.ensures.line
+
+pub returns-in-Err-set_up-clause-line : goal.returns-in-Err-set_up-clause-line
+returns-in-Err-set_up-clause-line g c = c.tell-in-Err-set_up.ensures.line
+
+pub returns-in-Err-report_on-clause-line : goal.returns-in-Err-report_on-clause-line
+returns-in-Err-report_on-clause-line g c = c.tell-in-Err-report_on.ensures.line
+
+pub returns-then-not-reports-clause-line : goal.returns-then-not-reports-clause-line
+returns-then-not-reports-clause-line g c = c.write_migrated.ensures.line
+
+pub returns-then-not-reports-clause-calm : goal.returns-then-not-reports-clause-calm
+returns-then-not-reports-clause-calm g c = c.write_migrated.ensures.calm
+
+pub returns-then-not-reports-clause-shelf_calm : goal.returns-then-not-reports-clause-shelf_calm
+returns-then-not-reports-clause-shelf_calm g c = c.write_migrated.ensures.shelf_calm
+
+pub returns-then-not-reports-clause-limits : goal.returns-then-not-reports-clause-limits
+returns-then-not-reports-clause-limits g c = c.write_migrated.ensures.limits

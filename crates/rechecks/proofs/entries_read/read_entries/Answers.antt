@@ -1,75 +1,23 @@
-use Rattle.std.proofs.Common.{◌≡◌, ◌∙◌, ◌+◌, ◌-◌, ◌<◌, true, false, inr, length, rules, arith}
+use Rattle.std.proofs.Common.{◌∙◌, ◌+◌, ◌<◌, inr, length, arith}
 use Rattle.csv.specs.Reading.{strip_bom}
-use Rattle.csv.specs.Records.{fields_of}
-use Rattle.rechecks.specs.Inner.ReadRows.{IsReadSoFar, Turned}
-use Rattle.rechecks.proofs.RowsRead.{all_read, at_begin, no_turns, not_longer, read_to, stepped}
+use Rattle.rechecks.proofs.RowsRead.{at_begin, not_longer}
 use Rattle.rechecks.proofs.entries_read.read_entries.Goals as goal
 
-pub loop-turn-init : goal.loop-turn-init
-loop-turn-init c =
+pub take_rows-requires-clause-plain : goal.take_rows-requires-clause-plain
+take_rows-requires-clause-plain c =
     let from = c.from_reader-reader.ensures in
     let set = c.has_headers.ensures in
     let also = c.flexible.ensures in
-    let short = not_longer c.args.text.now in
-    let enough : length (strip_bom c.args.text.now) < length c.args.text.now + 1 - 0 = omega arith in
-    rw c.new-entries.ensures.items record {
-      plain = record {
-        config = rw (also, set) at from.config ∙ c.new.ensures.config;
-        trim = rw (also, set) at from.trim ∙ c.new.ensures.trim;
-        flexible = rw also at from.flexible;
-        ready = inr (inr (rw (also, set) at from.has_headers, from.headers));
-      };
-      read = at_begin c.args.situation.now c.args.text.now c.from_reader-reader.result (length c.args.text.now + 1 - 0) from.source from.state enough;
-      few = omega arith;
+    record {
+      config = rw (also, set) at from.config ∙ c.new.ensures.config;
+      trim = rw (also, set) at from.trim ∙ c.new.ensures.trim;
+      flexible = rw also at from.flexible;
+      ready = inr (inr (rw (also, set) at from.has_headers, from.headers));
     }
 
-pub returns-then-not-branch-clause-read : goal.returns-then-not-branch-clause-read
-returns-then-not-branch-clause-read c =
-    let s = c.args.situation.now in
-    let text = c.args.text.now in
-    let turns = length text + 1 - (c.loop-turn._turn + 1) in
-    let less = c.loop-turn-test.true in
-    let one_more : length text + 1 - c.loop-turn._turn ≡ turns + 1 = omega arith in
-    let so_far : IsReadSoFar s text c.loop-turn.reader (turns + 1) c.loop-turn.entries.items = rw one_more at c.loop-turn.invariant.read in
-    let found : c.in_ok-read_row.field-0 ≡ false = search rules in
-    all_read s text c.loop-turn.reader (turns + 1) c.loop-turn.entries.items so_far (rw found at (c.in_ok-read_row.ensures.turned turns so_far.behind so_far.gives))
-
-pub returns-then-not-branch-2-clause-read : goal.returns-then-not-branch-2-clause-read
-returns-then-not-branch-2-clause-read c =
-    let s = c.args.situation.now in
-    let text = c.args.text.now in
-    let turns = length text + 1 - (c.loop-turn._turn + 1) in
-    let less = c.loop-turn-test.true in
-    let one_more : length text + 1 - c.loop-turn._turn ≡ turns + 1 = omega arith in
-    let so_far : IsReadSoFar s text c.loop-turn.reader (turns + 1) c.loop-turn.entries.items = rw one_more at c.loop-turn.invariant.read in
-    let found : c.in_ok-read_row.field-0 ≡ true = search rules in
-    let fields = fields_of c.read_row.new.row in
-    let turned : Turned true c.read_row.new.reader turns so_far.behind fields = rw found at (c.in_ok-read_row.ensures.turned turns so_far.behind so_far.gives) in
-    let taken : c.in_ok-take_row.field-0 ≡ false = search rules in
-    let takes = rw taken at c.in_ok-take_row.ensures in
-    rw takes.2 (read_to s text c.loop-turn.reader c.read_row.new.reader (turns + 1) turns c.loop-turn.entries.items fields so_far takes.0 takes.1 turned)
-
-pub loop-turn-preserved : goal.loop-turn-preserved
-loop-turn-preserved c =
-    let s = c.args.situation.now in
-    let text = c.args.text.now in
-    let turns = length text + 1 - (c.loop-turn._turn + 1) in
-    let less = c.loop-turn-test.true in
-    let one_more : length text + 1 - c.loop-turn._turn ≡ turns + 1 = omega arith in
-    let so_far : IsReadSoFar s text c.loop-turn.reader (turns + 1) c.loop-turn.entries.items = rw one_more at c.loop-turn.invariant.read in
-    let found : c.in_ok-read_row.field-0 ≡ true = search rules in
-    let fields = fields_of c.read_row.new.row in
-    let turned : Turned true c.read_row.new.reader turns so_far.behind fields = rw found at (c.in_ok-read_row.ensures.turned turns so_far.behind so_far.gives) in
-    let taken : c.in_ok-take_row.field-0 ≡ true = search rules in
-    let more = stepped s text c.read_row.new.reader c.loop-turn.reader turns c.loop-turn.entries.items c.take_row.new.entries.items fields so_far turned (rw taken at c.in_ok-take_row.ensures) in
-    let few = c.loop-turn.invariant.few in
-    record { plain = c.in_ok-read_row.ensures.plain; read = more.0; few = omega (arith, more.1) }
-
-pub returns-clause-read : goal.returns-clause-read
-returns-clause-read c =
-    let s = c.args.situation.now in
-    let text = c.args.text.now in
-    let turns = length text + 1 - c.loop-turn._turn in
-    let end = c.loop-turn-test.false in
-    let none : turns ≡ 0 = omega arith in
-    all_read s text c.loop-turn.reader turns c.loop-turn.entries.items c.loop-turn.invariant.read (no_turns c.loop-turn.reader c.loop-turn.invariant.read.behind turns none c.loop-turn.invariant.read.gives)
+pub take_rows-requires-clause-so_far : goal.take_rows-requires-clause-so_far
+take_rows-requires-clause-so_far c =
+    let from = c.from_reader-reader.ensures in
+    let short = not_longer c.args.text.now in
+    let enough : length (strip_bom c.args.text.now) < length c.args.text.now + 1 = omega arith in
+    rw c.new-2.ensures.items (at_begin c.args.situation.now c.args.text.now c.from_reader-reader.result (length c.args.text.now + 1) from.source from.state enough)

@@ -53,3 +53,12 @@ returns-clause-answer c = λ log given of.
     let judge = c.args.judge.now in
     rw c.without_search.ensures (watch_done scenario log of.judged.calm (λ many. c.in_ok-alarms.ensures.few (lines_of log) [] given of.stands (judged_parts judge scenario log given of)
     (subst (λ (ls : List (List ℕ)). HaveMoreThan MOST_TRACES (audit_numbers scenario) (sighted scenario (sent scenario ls))) (sym (append-nil (lines_of log))) many)))
+
+pub returns-in_err-write_alarms-clause-cause : goal.returns-in_err-write_alarms-clause-cause
+returns-in_err-write_alarms-clause-cause c = err_cause _ _ _ c.from_residual-in_err-write_alarms.ensures.1 (λ log given of. tt)
+
+pub returns-in_err-write_counts-clause-cause : goal.returns-in_err-write_counts-clause-cause
+returns-in_err-write_counts-clause-cause c = err_cause _ _ _ c.from_residual-in_err-write_counts.ensures.1 (λ log given of. tt)
+
+pub returns-in_err-into_bytes-clause-cause : goal.returns-in_err-into_bytes-clause-cause
+returns-in_err-into_bytes-clause-cause c = err_cause _ _ _ c.from_residual-in_err-into_bytes.ensures.1 (λ log given of. tt)

@@ -1,4 +1,4 @@
-use Rattle.std.proofs.Common.{◌≡◌, ◌≢◌, ℕ, inl, inr, ◌+◌, ◌*◌, ◌<◌, List, length, arith, get_or, subst, sym, ap, ◌∙◌}
+use Rattle.std.proofs.Common.{◌≡◌, ◌≢◌, ℕ, inl, inr, ◌+◌, ◌*◌, ◌<◌, List, length, unsigned_abs, arith, get_or, subst, sym, ap, ◌∙◌}
 use Rattle.std.specs.Prelude.{slice_set}
 use Rattle.std.proofs.lemmas.Bool.{cases_lt}
 use Rattle.std.proofs.lemmas.Grind.{common_steps}
@@ -13,6 +13,7 @@ use Rattle.motion.specs.declared.leg.TheConstants.{FARTHEST}
 use Rattle.lattice.specs.Inner.Passages.{IsPassage}
 use Rattle.lattice.specs.OwnMotion.{own_state}
 use Rattle.lattice.specs.UnderWays.{HasAdvanced}
+use Rattle.lattice.proofs.Advancing.{still_near}
 use Rattle.lattice.proofs.lattice.Lattice.fill.Goals as goal
 
 set_here : (path : List TickState) (j i : ℕ) (state d : TickState) → j < length path → i + 1 ≡ j + 1 → get_or (slice_set path j state) i d ≡ state
@@ -68,3 +69,11 @@ loop-j-preserved c = record {
   near_x = grind (arith, common_steps);
   near_y = grind (arith, common_steps);
 }
+
+pub tick_on-requires-clause-point : goal.tick_on-requires-clause-point
+tick_on-requires-clause-point c =
+    let start = c.requires.start.point in
+    record {
+      x = still_near (unsigned_abs c.args.start.point.x) _ (c.args.first + c.loop-j.j) _ (c.args.tick * GREATEST_VELOCITY) _ start.x c.requires.near (omega arith) c.loop-j.invariant.near_x;
+      y = still_near (unsigned_abs c.args.start.point.y) _ (c.args.first + c.loop-j.j) _ (c.args.tick * GREATEST_VELOCITY) _ start.y c.requires.near (omega arith) c.loop-j.invariant.near_y;
+    }

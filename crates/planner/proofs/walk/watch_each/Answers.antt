@@ -9,12 +9,12 @@ use Rattle.planner.specs.declared.already.Already.{Already}
 use Rattle.situations.specs.declared.situation.Target.{Target}
 use Rattle.planner.specs.declared.watched.Watched.{Watched}
 use Rattle.planner.proofs.AtNow.{push_at, stands_at_now, told_at_now}
-use Rattle.planner.proofs.walk.prepared.Goals as goal
+use Rattle.planner.proofs.walk.watch_each.Goals as goal
 
 pub loop-target-preserved : goal.loop-target-preserved
 loop-target-preserved c =
     let s = c.args.situation.now in
-    let program = c.in_ok-program.program in
+    let program = c.loop-target.basis.program in
     let k = c.loop-target.target-index in
     let T = c.target-item.result in
     let here = c.in_ok-here.here in
@@ -31,50 +31,50 @@ loop-target-preserved c =
     let stands : (t : Target) → StandsFor program s [] (get_or s.targets k t) (now_of s) here = λ t.
     subst (λ (x : Target). StandsFor program s [] x (now_of s) here) (is_target ∙ get_or_default s.targets k T t inside) c.in_ok-here.ensures.stands in
     record {
-      told_count = omega (arith, ap length pushed, length-append c.loop-target.already.items (already ∷ []));
-      count = omega (arith, ap length pushed_too, length-append c.loop-target.watched.items (here ∷ []));
+      of_rules = was.of_rules;
+      few = was.few;
+      no_last = was.no_last;
+      told_count = omega (arith, ap length pushed, length-append c.loop-target.basis.already.items (already ∷ []));
+      count = omega (arith, ap length pushed_too, length-append c.loop-target.start.watched.items (here ∷ []));
       fits = c.in_ok-already.ensures.fits;
       room = c.in_ok-already.ensures.room;
-      ready = subst (All (IsReady program)) (sym pushed_too) (All-push (IsReady program) c.loop-target.watched.items here was.ready c.in_ok-here.ensures.ready);
-      early = subst (All (IsEarly (now_of s))) (sym pushed_too) (All-push (IsEarly (now_of s)) c.loop-target.watched.items here was.early c.in_ok-here.ensures.early);
-      told = λ i a lt. push_at (λ (n : ℕ) (x : Already). (t : Target) → IsToldAtNow s (get_or s.targets n t) x) c.loop-target.already.items c.push.new.self.items already pushed was.told
+      ready = subst (All (IsReady program)) (sym pushed_too) (All-push (IsReady program) c.loop-target.start.watched.items here was.ready c.in_ok-here.ensures.ready);
+      early = subst (All (IsEarly (now_of s))) (sym pushed_too) (All-push (IsEarly (now_of s)) c.loop-target.start.watched.items here was.early c.in_ok-here.ensures.early);
+      told = λ i a lt. push_at (λ (n : ℕ) (x : Already). (t : Target) → IsToldAtNow s (get_or s.targets n t) x) c.loop-target.basis.already.items c.push.new.self.items already pushed was.told
           (subst (λ (n : ℕ). (t : Target) → IsToldAtNow s (get_or s.targets n t) already) (sym told_count) told) i a
-          (omega (arith, ap length pushed, length-append c.loop-target.already.items (already ∷ [])));
-      stands = λ i w lt. push_at (λ (n : ℕ) (x : Watched). (t : Target) → StandsFor program s [] (get_or s.targets n t) (now_of s) x) c.loop-target.watched.items c.push-in-loop-target.new.self.items here pushed_too was.stands
+          (omega (arith, ap length pushed, length-append c.loop-target.basis.already.items (already ∷ [])));
+      stands = λ i w lt. push_at (λ (n : ℕ) (x : Watched). (t : Target) → StandsFor program s [] (get_or s.targets n t) (now_of s) x) c.loop-target.start.watched.items c.push-in-loop-target.new.self.items here pushed_too was.stands
           (subst (λ (n : ℕ). (t : Target) → StandsFor program s [] (get_or s.targets n t) (now_of s) here) (sym count) stands) i w
-          (omega (arith, ap length pushed_too, length-append c.loop-target.watched.items (here ∷ [])));
-      since = subst (All (λ (w : Watched). w.since_now ≡ 0)) (sym pushed_too) (All-push (λ (w : Watched). w.since_now ≡ 0) c.loop-target.watched.items here was.since c.in_ok-here.ensures.since);
+          (omega (arith, ap length pushed_too, length-append c.loop-target.start.watched.items (here ∷ [])));
+      since = subst (All (λ (w : Watched). w.since_now ≡ 0)) (sym pushed_too) (All-push (λ (w : Watched). w.since_now ≡ 0) c.loop-target.start.watched.items here was.since c.in_ok-here.ensures.since);
     }
 
 pub returns : goal.returns
 returns c =
     let s = c.args.situation.now in
-    let program = c.in_ok-program.program in
+    let program = c.loop-target.basis.program in
     let was = c.loop-target.invariant in
     let told_count = was.told_count in
     let count = was.count in
     let over = c.loop-target-test.false in
     let end = c.loop-target.auto.target-index-end in
-    let kept = c.in_ok-start.ensures.watched in
     let all : c.loop-target.target-index ≡ length s.targets = omega (arith, ap length c.as_slice-target-items.ensures) in
     record {
       is_basis = record {
-        is_situation = c.requires;
-        of_rules = c.in_ok-program.ensures.formulas;
-        few = c.in_ok-program.ensures.few;
-        no_last = c.are_no_last.ensures.last;
+        is_situation = c.requires.situation;
+        of_rules = was.of_rules;
+        few = was.few;
+        no_last = was.no_last;
         count = told_count ∙ all;
         each = λ k t a lt. was.told k a (omega arith) t;
       };
       targets = record {
-        count = ap length kept ∙ (count ∙ all);
-        ready = subst (All (IsReady program)) (sym kept) was.ready;
+        count = count ∙ all;
+        ready = was.ready;
       };
-      early = subst (All (IsEarly (now_of s))) (sym kept) was.early;
+      early = was.early;
       stands = λ k t a w cut lt is_cut tells.
-          let at : get_or c.in_ok-start.start.watched.items k w ≡ get_or c.loop-target.watched.items k w = ap (λ (xs : List Watched). get_or xs k w) kept in
-          subst (λ (x : Watched). Stands program s [] (get_or s.targets k t) cut (now_of s) x) (sym at)
-          (stands_at_now program s (get_or s.targets k t) (get_or c.loop-target.watched.items k w) cut (was.stands k w (omega arith) t) (was.since k w (omega arith)) is_cut);
-      fits = c.in_ok-start.ensures.fits;
-      room = c.in_ok-start.ensures.room;
+          stands_at_now program s (get_or s.targets k t) (get_or c.loop-target.start.watched.items k w) cut (was.stands k w (omega arith) t) (was.since k w (omega arith)) is_cut;
+      fits = was.fits;
+      room = was.room;
     }
