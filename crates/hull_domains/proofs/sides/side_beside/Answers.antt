@@ -1,7 +1,6 @@
-use Rattle.std.proofs.Common.{ℕ, ◌≡◌, ◌≤◌, ◌^◌, ℤ, unsigned_abs, arith, rules}
+use Rattle.std.proofs.Common.{unsigned_abs, rules}
 use Rattle.std.specs.Int.{w128}
 use Rattle.std.proofs.Math.Nat.{le_trans}
-use Rattle.std.proofs.lemmas.Int.{to_z-of_z}
 use Rattle.hull_domains.proofs.Sizes.{apart_small, read_small}
 use Rattle.hull_domains.proofs.sides.side_beside.Goals as goal
 

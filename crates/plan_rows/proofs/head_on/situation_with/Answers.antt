@@ -1,4 +1,4 @@
-use Rattle.std.proofs.Common.{ℕ, ◌≡◌, ◌∙◌, ◌++◌, ◌∷◌, [], List, length, length-append, refl, ap, arith}
+use Rattle.std.proofs.Common.{◌∙◌, [], refl, ap, arith}
 use Rattle.log_lines.specs.JudgedLines.{numbers_of}
 use Rattle.log_lines.specs.SentLines.{sent}
 use Rattle.tracks.specs.AcceptedReports.{JudgingNumbers}

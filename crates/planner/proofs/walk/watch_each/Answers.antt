@@ -3,7 +3,7 @@ use Rattle.std.specs.List.{All}
 use Rattle.std.proofs.lemmas.List.{get_or_default}
 use Rattle.std.proofs.lemmas.List.Elements.{All-push}
 use Rattle.planner.specs.Inner.Levels.{IsToldAtNow}
-use Rattle.planner.specs.Inner.Watching.{IsEarly, IsReady, Stands, StandsFor}
+use Rattle.planner.specs.Inner.Watching.{IsEarly, IsReady, StandsFor}
 use Rattle.situations.specs.Situations.{now_of}
 use Rattle.planner.specs.declared.already.Already.{Already}
 use Rattle.situations.specs.declared.situation.Target.{Target}
