@@ -1,3 +1,3 @@
-pub use Rattle.csv_rows.specs.CsvRows
+pub use Rattle.report_csv.specs.CsvRows
 pub mod ReportRows
 pub mod ReportTexts

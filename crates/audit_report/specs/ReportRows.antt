@@ -9,7 +9,7 @@ use Rattle.meetings.specs.declared.pair.Pair.{Pair}
 use Rattle.auditor.specs.declared.total.Total.{Total}
 use Rattle.log_lines.specs.LineOutcomes.{outcome_name}
 use Rattle.log_lines.specs.declared.outcome.LineOutcome.{LineOutcome}
-use Rattle.csv_rows.specs.CsvRows.{optional_decimal, row_of, Fields}
+use Rattle.report_csv.specs.CsvRows.{optional_decimal, row_of, Fields}
 use Rattle.audit_report.specs.declared.report_row.ReportRow.{ReportRow}
 use Rattle.audit_report.specs.declared.report_row.ReportRow.TheVariants as row
 

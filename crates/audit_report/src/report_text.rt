@@ -7,12 +7,12 @@ use crate::report_row::ReportRow;
 use ais_messages::Text20;
 use auditor::Total;
 use csv::{Writer, WriterBuilder};
-use csv_rows::{digits, optional_digits, short_digits, signed_digits};
 use fixed_geometry::Point;
 use itoa::Buffer;
 use log_lines::LineOutcome;
 use meetings::Pair;
 use out_of_memory::Memory;
+use report_csv::{digits, optional_digits, short_digits, signed_digits};
 use sectors::Class;
 use std::alloc::Global;
 
@@ -57,7 +57,7 @@ pub struct ReportText {
 
 impl ReportText {
     ghost use Rattle.std.specs.Prelude.{◌++◌, List, [], ℕ, OnOk, map};
-    ghost use Rattle.csv_rows.specs.CsvRows.{row_of};
+    ghost use Rattle.report_csv.specs.CsvRows.{row_of};
     ghost use Rattle.audit_report.specs.ReportRows.{alarm_fields, count_fields, meeting_fields, no_plan_fields, plan_fields, point_fields, total_fields, verdict_fields, vessel_fields};
     ghost use Rattle.audit_report.specs.ReportTexts.{HasText};
 
@@ -71,7 +71,7 @@ impl ReportText {
     }
 
     /// Writes a row of these fields. A writer over memory fails for want of memory alone; the text may then only be dropped.
-    #[tactic(auto, unfolding(csv_rows::specs::CsvRows::row_of))]
+    #[tactic(auto, unfolding(report_csv::specs::CsvRows::row_of))]
     #[inline(always)]
     pub fn write_fields(&mut self, fields: &[&[u8]]) -> Result<(), Memory>
         ensures { OnOk result ((text : List ℕ) → HasText self.old text

@@ -4,7 +4,7 @@ use Rattle.scenario_values.specs.declared.values.Scenario.{Scenario}
 use Rattle.command_line.specs.declared.mode.Mode.{Mode}
 use Rattle.command_line.specs.declared.mode.Mode.TheVariants as mode
 use Rattle.sessions.specs.AuditReport.{sightings_of}
-use Rattle.drill_fleet.specs.Limits.{MeetsNoLimit}
+use Rattle.drill_laws.specs.Limits.{MeetsNoLimit}
 use Rattle.sessions.specs.Modes.{reports}
 use Rattle.sessions.specs.Endings.{Came, HasManyTraces, IsAnswerOf}
 use Rattle.sessions.specs.Refusals.{IsMet, IsLogRefused, IsStopped}

@@ -15,7 +15,7 @@ use Rattle.colregs_program.specs.LogAnswers.{IsAnswered}
 use Rattle.colregs_program.specs.Inner.Migrating.{IsLong}
 use Rattle.colregs_program.specs.Inner.SetUps as set_up
 use Rattle.colregs_program.specs.Inner.SetUps.{SetFor}
-use Rattle.rechecks.specs.declared.checked_text.TheConstants.{GREATEST_TEXT}
+use Rattle.refutation_check.specs.declared.checked_text.TheConstants.{GREATEST_TEXT}
 use Rattle.colregs_program.specs.declared.set_up.SetUpFault.{SetUpFault}
 use Rattle.colregs_program.specs.declared.set_up.SetUpFault.TheVariants as fault
 use Rattle.colregs_program.specs.declared.status.Status.{Status}

@@ -13,7 +13,7 @@ use Rattle.sessions.specs.Refusals.{IsMet}
 use Rattle.sessions.specs.Tasks.{Task}
 use Rattle.sessions.proofs.ForCallers.{before_refused}
 use Rattle.sessions.specs.declared.session_fault.SessionFault.TheVariants as why
-use Rattle.situations.specs.declared.readiness.Unready.{Unready}
+use Rattle.plan_situations.specs.declared.readiness.Unready.{Unready}
 use Rattle.colregs_program.specs.Answers.{AreRows, EndsWith, HoldsUnder, IsDue, IsOfDrill, IsScenario, MayPrecedeRows, MetIn, Runs, StopsWith, TellsLimit, WritesNothing, WritesPart}
 use Rattle.colregs_program.specs.LogAnswers.{GainsFront, GainsReport, GainsSettled, IsAnswered, IsFinished, IsStoppedBy, LeavesSettled, Reports, answer_of, finished}
 use Rattle.command_line.specs.Requests.{AskFor, AskForNothing}

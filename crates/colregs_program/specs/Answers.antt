@@ -15,10 +15,10 @@ use Rattle.scenario_values.specs.declared.values.Scenario.{Scenario}
 use Rattle.colregs_program.specs.LogAnswers.{GainsPart, IsAnswered, IsStoppedBy, GainsSettled, LeavesPart}
 use Rattle.colregs_program.specs.Stages.{is_at_end, is_before_log, is_in_log, stage_of}
 use Rattle.colregs_program.specs.AskedScenarios.{log_of, task_of, with_options}
-use Rattle.rechecks.specs.declared.checked_text.TheConstants.{GREATEST_TEXT}
+use Rattle.refutation_check.specs.declared.checked_text.TheConstants.{GREATEST_TEXT}
 use Rattle.sessions.specs.Modes.{needs_own, needs_rows, reads_log, reports}
 use Rattle.traces.specs.declared.all_traces.TheConstants.{MOST_TRACES}
-use Rattle.situations.specs.PlanSituations.{greatest_targets}
+use Rattle.plan_situations.specs.PlanSituations.{greatest_targets}
 use Rattle.colregs_program.specs.declared.status.Status.{Status}
 use Rattle.colregs_program.specs.declared.status.Status.TheVariants as status
 use Rattle.colregs_program.specs.declared.status.Which.TheVariants as which

@@ -1,7 +1,7 @@
 -- What a run writes to standard error: a line that names the fault.
 use Rattle.std.specs.Prelude.{ℕ, codes, Bool, true, false, List, [], ◌∷◌, ◌++◌}
 use Rattle.std.specs.Fmt.{decimal}
-use Rattle.situations.specs.UnreadyTexts.{unready_text}
+use Rattle.plan_situations.specs.UnreadyTexts.{unready_text}
 use Rattle.scenario_keys.specs.ScenarioTexts.{fault_text}
 use Rattle.colregs_program.specs.declared.status.Which.{Which}
 use Rattle.colregs_program.specs.declared.status.Which.TheVariants as which

@@ -4,7 +4,7 @@ use Rattle.std.specs.Io.KnownBytes.{Appends, Consumes}
 use Rattle.outside.specs.Streams.{AppendsPart}
 use Rattle.command_line.specs.declared.mode.Mode.{Mode}
 use Rattle.log_lines.specs.JudgedLines.{greatest_held}
-use Rattle.situations.specs.PlanSituations.{greatest_targets}
+use Rattle.plan_situations.specs.PlanSituations.{greatest_targets}
 use Rattle.scenario_values.specs.declared.values.Scenario.{Scenario}
 use Rattle.sessions.specs.Endings.{Came, IsEnding}
 use Rattle.sessions.specs.Refusals.{IsMet, IsStopped, IsUnrefused}

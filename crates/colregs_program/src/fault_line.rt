@@ -3,8 +3,8 @@ ghost use Rattle.std.specs.Prelude.{◌≡◌, IfOk, OnErr, IsTrue, MatchOption}
 ghost use Rattle.colregs_program.specs.FaultLines.{fault_line, is_made};
 
 use crate::status::Status;
+use plan_situations::Unready;
 use scenario::ScenarioFault;
-use situations::Unready;
 use std::alloc::{AllocError, Global};
 use std::error::Error;
 use std::fmt;

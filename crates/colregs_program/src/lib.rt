@@ -22,8 +22,8 @@ mod telling;
 
 pub use command_line::Mode;
 pub use drill_log::drill_log;
+pub use plan_situations::Unready;
 pub use program::run;
 pub use scenario::{Cause, Key, LogNumbers, Scenario, Window};
 pub use sessions::{Ending, Session, SessionFault};
-pub use situations::Unready;
 pub use status::{Status, Which};

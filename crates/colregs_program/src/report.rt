@@ -1,7 +1,7 @@
 //! The report on the log of a request, which is read, or made by a drill.
 ghost use Rattle.std.specs.Prelude.{◌≡◌, ◌≤◌, length, false, IfErr, IfOk, IfSome, IsSome, IsTrue, MatchResult, None, OnOk};
 ghost use Rattle.std.specs.Io.KnownBytes.{Keeps};
-ghost use Rattle.rechecks.specs.declared.checked_text.TheConstants.{GREATEST_TEXT};
+ghost use Rattle.refutation_check.specs.declared.checked_text.TheConstants.{GREATEST_TEXT};
 ghost use Rattle.scenario_values.specs.ValueRanges.{IsInRange};
 ghost use Rattle.sessions.specs.Modes.{needs_own, reads_log, reports};
 ghost use Rattle.colregs_program.specs.Answers.{IsReadBy};
@@ -12,7 +12,7 @@ ghost use Rattle.colregs_program.specs.Inner.Streaming.{LogCount, OutCount, Repo
 use crate::set_up::SetUp;
 use crate::streaming::{StreamFault, write_report};
 use command_line::Request;
-use drill_fleet::laws::a_drill_meets_no_limit;
+use drill_laws::laws::a_drill_meets_no_limit;
 use drill_log::DrillSource;
 use outside::{Sink, Source};
 use sessions::{Asked, SessionFault, reads_log};

@@ -13,7 +13,7 @@ use crate::fetching::{FetchFault, fetch_text};
 use crate::status::{Status, Which};
 use command_line::{Options, Request};
 use outside::Shelf;
-use rechecks::GREATEST_TEXT;
+use refutation_check::GREATEST_TEXT;
 use scenario::{Cause, Key, Scenario, ScenarioFault, read};
 use sessions::{needs_own, needs_rows};
 use std::alloc::Global;

@@ -3,8 +3,8 @@ ghost use Rattle.std.specs.Prelude.{◌≡◌};
 ghost use Rattle.colregs_program.specs.FaultLines.{exit_status_of};
 
 use command_line::WordsFault;
+use plan_situations::Unready;
 use scenario::{Cause, Key};
-use situations::Unready;
 use std::fmt;
 
 /// What is limited.

@@ -5,8 +5,8 @@ ghost use Rattle.colregs_program.specs.Inner.Streaming.{stream_status};
 use crate::status::{Status, Which};
 use crate::streaming::StreamFault;
 use auditor::MOST_TRACES;
+use plan_situations::MOST_TARGETS;
 use sessions::SessionFault;
-use situations::MOST_TARGETS;
 use tracks::MOST_VESSELS;
 
 /// How a run ends with a fault, where its log may have so many bytes.

@@ -8,7 +8,7 @@ ghost use Rattle.sessions.specs.Modes.{needs_own, reports};
 ghost use Rattle.sessions.specs.Standing.{IsInUse, StandsFor, mode_of, session_scenario, taken_of};
 ghost use Rattle.sessions.specs.Tasks.{task_by};
 ghost use Rattle.sessions.specs.declared.asked.Asked.{Asked};
-ghost use Rattle.rechecks.specs.declared.checked_text.TheConstants.{GREATEST_TEXT};
+ghost use Rattle.refutation_check.specs.declared.checked_text.TheConstants.{GREATEST_TEXT};
 ghost use Rattle.colregs_program.specs.LogAnswers.{Reports};
 ghost use Rattle.colregs_program.specs.Inner.Streaming.{FromHere, HasWritten, LogCount, OutCount, PieceCause, PutCause, RefusedCause, StreamCause};
 ghost use Rattle.colregs_program.specs.declared.streaming.StreamFault.TheVariants.{NotRead};

@@ -19,8 +19,8 @@ use Rattle.traces.proofs.ForCallers.{from_map, known_within, zip_member}
 use Rattle.early_monitor.specs.declared.alarm.Alarm.{Alarm}
 use Rattle.audit_rows.specs.Order.{pair_cmp}
 use Rattle.early_monitor.specs.Alarms.{AreAlarms, AreAlarmsNow, InOrder, IsAlarm, alarm_cmp, tree_of_rule}
-use Rattle.early_sweeps.specs.Decided.{IsDecided}
-use Rattle.early_sweeps.proofs.ForCallers.{decided_front, decided_still, decided_value}
+use Rattle.mtl_early.specs.Decided.{IsDecided}
+use Rattle.mtl_early.proofs.ForCallers.{decided_front, decided_still, decided_value}
 use Rattle.early_monitor.proofs.NextAlarms.{rows_count, same_known, stepped}
 
 -- ---- a longer trace

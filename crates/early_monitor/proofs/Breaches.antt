@@ -9,13 +9,13 @@ use Rattle.mtl_monitor.specs.Following.{IsFed}
 use Rattle.mtl_formulas.specs.Traces.{Trace, value_in}
 use Rattle.early_monitor.specs.declared.alarm.Alarm.{Alarm}
 use Rattle.early_monitor.specs.declared.alarm_set.Place.{Place}
-use Rattle.early_sweeps.specs.Decided.{IsDecided, IsDecidedNow, IsFirstDecided, IsNextDecided}
+use Rattle.mtl_early.specs.Decided.{IsDecided, IsDecidedNow, IsFirstDecided, IsNextDecided}
 use Rattle.traces.specs.Audited.{AuditNumbers}
 use Rattle.traces.specs.Known.{Known}
 use Rattle.early_monitor.specs.Alarms.{tree_of_rule}
 use Rattle.rule_program.specs.Lags.{lags_of}
 use Rattle.early_monitor.specs.Inner.Breaches.{Adds, IsBreach, IsBreachBefore, IsBreachBelow, Tells, alarm_at}
-use Rattle.early_sweeps.proofs.ForCallers.{one_number}
+use Rattle.mtl_early.proofs.ForCallers.{one_number}
 use Rattle.early_monitor.proofs.LastNo.{no_last}
 
 -- ---- what is added, one after the other

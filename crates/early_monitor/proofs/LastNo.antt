@@ -9,8 +9,8 @@ use Rattle.mtl_formulas.proofs.PrefixLaw.{Stays-value, decided-Stays}
 use Rattle.mtl_formulas.specs.Traces.{Trace, value_in}
 use Rattle.rule_program.specs.Lags.{lags_of}
 use Rattle.rule_program.proofs.LagLaws.{value-HasLags}
-use Rattle.early_sweeps.specs.Decided.{IsDecided}
-use Rattle.early_sweeps.proofs.ForCallers.{value_take}
+use Rattle.mtl_early.specs.Decided.{IsDecided}
+use Rattle.mtl_early.proofs.ForCallers.{value_take}
 
 -- Where the lag of No is the whole reach, a No comes with the last row that the formula reaches.
 pub no_last : (rows : Trace) (t : FormulaTree) (i : ℕ) → HasValidParts t → (lags_of t).no ≡ reach_of t → value_in rows t i ≡ No → IsDecided t rows i (i + reach_of t + 1)

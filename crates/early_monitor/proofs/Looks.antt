@@ -11,7 +11,7 @@ use Rattle.mtl_formulas.specs.Traces.{Trace}
 use Rattle.mtl_monitor.specs.Following.{Closes, IsEnded, past_of}
 use Rattle.mtl_monitor.specs.declared.program.Program.{Program}
 use Rattle.early_monitor.specs.declared.pass_state.PassState.{PassState}
-use Rattle.early_sweeps.specs.Decided.{IsDecidedNow, IsNextDecided}
+use Rattle.mtl_early.specs.Decided.{IsDecidedNow, IsNextDecided}
 use Rattle.early_monitor.specs.Inner.Known.{is_known, is_answered, known_at}
 use Rattle.early_monitor.specs.Inner.Passing.{Continues, IsGiving, IsLooked, IsLooking}
 use Rattle.early_monitor.proofs.Places.{known_by_answer, last_known, looked_some, looked_unknown, looked_known}

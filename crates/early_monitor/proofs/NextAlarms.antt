@@ -13,7 +13,7 @@ use Rattle.traces.specs.Known.{AreKnown, AreOpened, IsKnown, Known}
 use Rattle.traces.proofs.ForCallers.{from_map, known_within, one_beginning, steps_count}
 use Rattle.early_monitor.specs.declared.alarm.Alarm.{Alarm}
 use Rattle.early_monitor.specs.Alarms.{AreAlarmsNow, InOrder, IsAlarm, tree_of_rule}
-use Rattle.early_sweeps.specs.Decided.{IsDecided}
+use Rattle.mtl_early.specs.Decided.{IsDecided}
 use Rattle.early_monitor.specs.Inner.Breaches.{IsBreachOf}
 use Rattle.early_monitor.specs.Inner.TracesWatched.{IsBreachAmong}
 

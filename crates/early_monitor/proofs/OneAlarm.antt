@@ -7,8 +7,8 @@ use Rattle.traces.specs.Audited.{AuditNumbers, Sighting}
 use Rattle.traces.specs.Known.{IsKnown, Known}
 use Rattle.early_monitor.specs.declared.alarm.Alarm.{Alarm}
 use Rattle.early_monitor.specs.Alarms.{IsAlarm, tree_of_rule}
-use Rattle.early_sweeps.specs.Decided.{IsDecided}
-use Rattle.early_sweeps.proofs.ForCallers.{one_number, some_number}
+use Rattle.mtl_early.specs.Decided.{IsDecided}
+use Rattle.mtl_early.proofs.ForCallers.{one_number, some_number}
 use Rattle.early_monitor.proofs.NextAlarms.{same_known}
 
 not_open : (v : Verdict) → v ≡ No → v ≡ Open → ⊥

@@ -13,7 +13,7 @@ use Rattle.mtl_formulas.specs.Traces.{Trace, value_in}
 use Rattle.mtl_monitor.specs.Following.{IsEnded}
 use Rattle.early_monitor.specs.Inner.Known.{is_decided, is_known, position_at, is_answered}
 use Rattle.early_monitor.specs.Inner.Passing.{IsDecidedAt, IsLooked}
-use Rattle.early_sweeps.proofs.ForCallers.{decided_now, decided_before, open_still}
+use Rattle.mtl_early.proofs.ForCallers.{decided_now, decided_before, open_still}
 
 not_decided : (v : Verdict) → is_decided v ≡ false → v ≡ Open
 not_decided Open h = refl

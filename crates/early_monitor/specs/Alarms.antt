@@ -12,7 +12,7 @@ use Rattle.audit_rows.specs.Order.{pair_cmp}
 use Rattle.traces.specs.Audited.{AuditNumbers, Sighting}
 use Rattle.traces.specs.Known.{IsKnown, Known}
 use Rattle.early_monitor.specs.declared.alarm.Alarm.{Alarm}
-use Rattle.early_sweeps.specs.Decided.{IsDecided}
+use Rattle.mtl_early.specs.Decided.{IsDecided}
 
 -- ---- the one order of alarms
 

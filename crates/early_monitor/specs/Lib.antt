@@ -2,7 +2,7 @@ pub use Rattle.audit_rows.specs.Order
 pub use Rattle.mtl_formulas.specs.FormulaTree
 pub use Rattle.mtl_formulas.specs.FormulaMeasures
 pub use Rattle.mtl_formulas.specs.Traces
-pub use Rattle.early_sweeps.specs.Decided
+pub use Rattle.mtl_early.specs.Decided
 pub use Rattle.rule_set.specs.NamedTrees
 pub use Rattle.rule_program.specs.Lags
 pub use Rattle.traces.specs.Audited

@@ -22,7 +22,7 @@ impl EarlyMonitor {
     ghost use Rattle.mtl_formulas.specs.FormulaTree.{FormulaTree, tree_of};
     ghost use Rattle.mtl_formulas.specs.FormulaMeasures.{IsValid};
     ghost use Rattle.mtl_formulas.specs.Traces.{Trace};
-    ghost use Rattle.early_sweeps.specs.Decided.{IsNextDecided};
+    ghost use Rattle.mtl_early.specs.Decided.{IsNextDecided};
     ghost use Rattle.early_monitor.specs.Standing.{Continues, HasGivenAll, IsAt, IsGiving, rows_fed};
 
     /// The monitor of a formula, of whose trace no row was fed. It takes all its memory here.

@@ -3,7 +3,7 @@ ghost use Rattle.std.specs.Prelude.{◌≡◌, IfOk};
 
 use crate::pass_program::PassProgram;
 use crate::pass_state::PassState;
-use early_sweeps::{SweepProgram, SweepState};
+use mtl_early::{SweepProgram, SweepState};
 use mtl_formulas::{Atoms, Formula, Verdict};
 use out_of_memory::Memory;
 use std::alloc::Global;
@@ -38,7 +38,7 @@ impl EarlyProgram {
     ghost use Rattle.mtl_formulas.specs.FormulaTree.{FormulaTree, tree_of};
     ghost use Rattle.mtl_formulas.specs.FormulaMeasures.{IsValid};
     ghost use Rattle.mtl_formulas.specs.Traces.{Trace};
-    ghost use Rattle.early_sweeps.specs.Decided.{IsNextDecided};
+    ghost use Rattle.mtl_early.specs.Decided.{IsNextDecided};
     ghost use Rattle.early_monitor.specs.Inner.EarlyStates.{Continues, HasGivenAll, IsAt, IsEarlyProgramOf, IsGiving, IsStateOf, left_to_look, rows_fed};
 
     /// The program of a formula.

@@ -8,7 +8,7 @@ ghost use Rattle.traces.specs.Audited.{AuditNumbers, Sighting};
 ghost use Rattle.traces.specs.Known.{IsKnown, Known};
 ghost use Rattle.early_monitor.specs.Alarms.{IsAlarm, tree_of_rule};
 ghost use Rattle.early_monitor.specs.declared.alarm.Alarm.{Alarm};
-ghost use Rattle.early_sweeps.specs.Decided.{IsDecided};
+ghost use Rattle.mtl_early.specs.Decided.{IsDecided};
 ghost use Rattle.rule_program.specs.Lags.{lags_of};
 
 pub use rule_program::laws::no_lags;

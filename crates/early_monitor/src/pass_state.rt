@@ -40,7 +40,7 @@ impl PassState {
     ghost use Rattle.mtl_formulas.specs.FormulaMeasures.{reach_of};
     ghost use Rattle.mtl_formulas.specs.Traces.{Trace};
     ghost use Rattle.mtl_monitor.specs.Following.{IsProgramOf, count_of};
-    ghost use Rattle.early_sweeps.specs.Decided.{IsNextDecided};
+    ghost use Rattle.mtl_early.specs.Decided.{IsNextDecided};
     ghost use Rattle.early_monitor.specs.Inner.Passing.{Continues, HasLookedAll, IsAt, IsGiving, IsLooked, IsLooking, IsStateOf, fed_rows, left_to_look};
 
     /// The state over a trace of which no row was fed. It takes all its memory here.

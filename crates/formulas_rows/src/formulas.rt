@@ -4,10 +4,10 @@ ghost use Rattle.mtl_formulas.specs.FormulaTree.{tree_of};
 ghost use Rattle.mtl_formulas.specs.FormulaMeasures.{IsValid, IsTick};
 
 use crate::compared::{is, is_true};
-use formula_language::{ParseFault, parse, print};
 use mtl_formulas::{
     Atom, Atoms, Formula, SpanKind, Verdict, future_reach, laws, nodes, value, weight,
 };
+use mtl_language::{ParseFault, parse, print};
 use out_of_memory::Memory;
 use std::alloc::{AllocError, Global};
 use std::process::Abort;

@@ -1,8 +1,8 @@
 //! The texts of the rules, their weights, and rules that are added.
 use crate::compared::{is, is_true};
 use crate::formulas::is_reprinted;
-use formula_language::{ParseFault, parse, print};
 use mtl_formulas::weight;
+use mtl_language::{ParseFault, parse, print};
 use out_of_memory::Memory;
 use rule_set::{Name, RuleNumbers, RuleSet, Safe};
 use std::alloc::Global;

@@ -3,14 +3,14 @@
 ghost use Rattle.std.specs.Prelude.{◌≡◌, ◌<◌, true, length};
 ghost use Rattle.mtl_formulas.specs.FormulaTree.{tree_of};
 ghost use Rattle.mtl_formulas.specs.FormulaMeasures.{IsValid};
-ghost use Rattle.early_sweeps.specs.Standing.{HasGivenAll, IsStateOf, rows_fed};
+ghost use Rattle.mtl_early.specs.Standing.{HasGivenAll, IsStateOf, rows_fed};
 
 use crate::compared::{is, is_true};
 use crate::early::{is_given, newly, write_random};
 use crate::rows::{NO, Row, YES, random_rows};
-use early_sweeps::{SweepProgram, SweepState};
-use formula_language::parse;
+use mtl_early::{SweepProgram, SweepState};
 use mtl_formulas::{Formula, Verdict};
+use mtl_language::parse;
 use out_of_memory::Memory;
 use rand_pcg::Pcg32;
 use std::alloc::Global;

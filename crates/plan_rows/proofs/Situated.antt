@@ -5,9 +5,9 @@ use Rattle.log_lines.specs.Standing.{StandsFor}
 use Rattle.log_lines.specs.declared.judge.Judge.{Judge}
 use Rattle.scenario_values.specs.declared.own_part.OwnPart.{OwnPart}
 use Rattle.scenario_values.specs.declared.values.Scenario.{Scenario}
-use Rattle.situations.specs.Preparing.{IsPrepared}
-use Rattle.situations.specs.Situations.{IsSituation}
-use Rattle.situations.specs.declared.preparation.Prepared.{Prepared}
+use Rattle.plan_situations.specs.Preparing.{IsPrepared}
+use Rattle.plan_situations.specs.Situations.{IsSituation}
+use Rattle.plan_situations.specs.declared.preparation.Prepared.{Prepared}
 use Rattle.tracks.specs.AcceptedReports.{JudgingNumbers}
 use Rattle.tracks.specs.VesselsHeld.{Sent}
 

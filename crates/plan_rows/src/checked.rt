@@ -7,7 +7,7 @@ ghost use Rattle.lattice.specs.Grids.{positions_of};
 ghost use Rattle.meetings.specs.Traces.{IsPlaced, IsShortMove};
 ghost use Rattle.motion.specs.Displacement.{displacement};
 ghost use Rattle.motion.specs.TickStates.{IsTickState};
-ghost use Rattle.situations.specs.Situations.{end_of, known_at, now_of, sighting, target_at, IsSituation, IsTarget, IsTracked};
+ghost use Rattle.plan_situations.specs.Situations.{end_of, known_at, now_of, sighting, target_at, IsSituation, IsTarget, IsTracked};
 
 use crate::compared::is_true;
 use encounters::Detect;

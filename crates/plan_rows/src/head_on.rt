@@ -1,11 +1,11 @@
 //! The situation of two vessels head on, out of a scenario and a log.
 ghost use Rattle.std.specs.Prelude.{IfOk, IfSome};
-ghost use Rattle.situations.specs.Situations.{IsSituation};
+ghost use Rattle.plan_situations.specs.Situations.{IsSituation};
 
 use aivdm::SentenceRoom;
 use log_lines::Judge;
+use plan_situations::{Situation, prepare};
 use scenario::read;
-use situations::{Situation, prepare};
 use std::alloc::Global;
 use std::test::Fail;
 use tracks::Keeping;

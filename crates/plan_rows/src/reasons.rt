@@ -2,7 +2,7 @@
 ghost use Rattle.std.specs.Prelude.{◌≤◌};
 ghost use Rattle.lattice.specs.Grids.{choices_of};
 ghost use Rattle.lattice.specs.PlanNumbers.{IsPlan};
-ghost use Rattle.situations.specs.Situations.{IsSituation, IsTarget, end_of, now_of};
+ghost use Rattle.plan_situations.specs.Situations.{IsSituation, IsTarget, end_of, now_of};
 
 use crate::checked::is_checked;
 use crate::compared::{is, is_found, is_true};
@@ -11,8 +11,8 @@ use closest_approach::Moment;
 use hull_domains::Shape;
 use lattice::Plan;
 use out_of_memory::Memory;
+use plan_situations::{BrokenRule, DomainEntry};
 use planner::{Situation, Target};
-use situations::{BrokenRule, DomainEntry};
 use std::alloc::Global;
 use std::process::Abort;
 

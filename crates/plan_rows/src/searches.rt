@@ -3,7 +3,7 @@ ghost use Rattle.std.specs.Prelude.{◌≤◌, ◌<◌, IfSome};
 ghost use Rattle.lattice.specs.Grids.{choices_of};
 ghost use Rattle.lattice.specs.PlanNumbers.{IsPlan};
 ghost use Rattle.planner.specs.Searches.{IsSound};
-ghost use Rattle.situations.specs.Situations.{IsSituation};
+ghost use Rattle.plan_situations.specs.Situations.{IsSituation};
 
 use crate::checked::is_checked;
 use crate::compared::{is, is_found};

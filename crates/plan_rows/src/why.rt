@@ -1,15 +1,15 @@
 //! What is told of two vessels head on, and what a check tells of rows about them.
 ghost use Rattle.std.specs.Prelude.{◌<◌, ◌^◌, All, IfOk, IfSome, length};
-ghost use Rattle.situations.specs.Situations.{IsSituation};
+ghost use Rattle.plan_situations.specs.Situations.{IsSituation};
 ghost use Rattle.refutations.specs.RightLists.{IsEntry};
 
 use crate::compared::is;
 use crate::head_on::{ONE_LEG, situation_with};
 use csv::{ByteRecord, ReaderBuilder};
-use explanations::explain;
 use out_of_memory::Memory;
+use plan_situations::Situation;
+use refutation_search::explain;
 use refutations::{Checked, WhyEntry, check, entry_bytes, read_entry};
-use situations::Situation;
 use std::alloc::Global;
 use std::process::Abort;
 use std::test::Fail;

@@ -4,15 +4,15 @@
 //! 18.5 metres apart, and up to 53 where own ship turns by one degree. So she enters the domain of 300 metres in step 18 and leaves it in step 21: where
 //! she keeps her course, at 38.3/100 and at 61.7/100. They are nearer than 200 metres at the ticks 19 to 21. Nobody turns by 20 degrees, so Rule 14 (a) is
 //! newly broken at step 0, where the meeting begins, as soon as its time is up at tick 7. `begun` is broken there too, but at now already.
-ghost use Rattle.situations.specs.Situations.{IsSituation};
+ghost use Rattle.plan_situations.specs.Situations.{IsSituation};
 
 use crate::compared::is;
 use crate::head_on::situation_with;
 use csv::{ByteRecord, ReaderBuilder};
 use out_of_memory::Memory;
-use rechecks::{GREATEST_TEXT, recheck};
+use plan_situations::Situation;
+use refutation_check::{GREATEST_TEXT, recheck};
 use refutations::{Checked, entry_bytes, read_entry};
-use situations::Situation;
 use std::alloc::Global;
 use std::test::Fail;
 

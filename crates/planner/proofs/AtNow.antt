@@ -8,17 +8,17 @@ use Rattle.mtl_formulas.specs.FormulaTree.{FormulaTree}
 use Rattle.mtl_monitor.specs.Following as monitor
 use Rattle.mtl_formulas.specs.Traces.{Trace}
 use Rattle.mtl_monitor.specs.declared.program.Program.{Program}
-use Rattle.situations.specs.FailingPlans.{AreTraceRows, BeginsAt}
+use Rattle.plan_situations.specs.FailingPlans.{AreTraceRows, BeginsAt}
 use Rattle.planner.specs.Inner.Breaking.{Tells, formulas_of}
 use Rattle.planner.specs.Inner.Levels.{IsToldAtNow}
 use Rattle.planner.specs.Inner.Watching.{HasBegun, HasNotBegun, IsCutAtNow, Stands, StandsFor}
-use Rattle.situations.specs.Situations.{now_of, own_at, target_at}
+use Rattle.plan_situations.specs.Situations.{now_of, own_at, target_at}
 use Rattle.planner.specs.declared.already.Already.{Already}
-use Rattle.situations.specs.declared.situation.Situation.{Situation}
-use Rattle.situations.specs.declared.situation.Target.{Target}
+use Rattle.plan_situations.specs.declared.situation.Situation.{Situation}
+use Rattle.plan_situations.specs.declared.situation.Target.{Target}
 use Rattle.planner.specs.declared.watched.Watched.{Watched}
-use Rattle.situations.proofs.CommonLegs.{same_contact}
-use Rattle.situations.proofs.Lifting.{begins_too, earlier_rows, one_start, one_trace, rows_too, trace_length}
+use Rattle.plan_situations.proofs.CommonLegs.{same_contact}
+use Rattle.plan_situations.proofs.Lifting.{begins_too, earlier_rows, one_start, one_trace, rows_too, trace_length}
 
 -- No plan has a choice in a step before now.
 none_told : (s : Situation) (X Y : List ℕ) (step : ℕ) → step < 0 → choice_in_force s.lattice X step ≡ choice_in_force s.lattice Y step

@@ -5,12 +5,12 @@ use Rattle.std.proofs.Math.Nat.{pow-suc, mul-le-mul_left, one-le-pow}
 use Rattle.lattice.specs.Grids.{choices_of}
 use Rattle.lattice.specs.PlanNumbers.{number_of, plan_of}
 use Rattle.lattice.proofs.Digits.{below_plan_of, inverse, length-plan_of}
-use Rattle.situations.specs.FailingPlans.{Fails, FailsBy}
+use Rattle.plan_situations.specs.FailingPlans.{Fails, FailsBy}
 use Rattle.planner.specs.Inner.Walk.{AllFailFrom, IsFirst}
-use Rattle.situations.specs.LeastPlans.{AllFail, AllFailBelow, IsLeastPlan}
-use Rattle.situations.specs.Prefixes.{PrefixFails, reached}
-use Rattle.situations.specs.declared.situation.Situation.{Situation}
-use Rattle.situations.proofs.Blocks.{plan_in_block, prefix_lasts, same_front}
+use Rattle.plan_situations.specs.LeastPlans.{AllFail, AllFailBelow, IsLeastPlan}
+use Rattle.plan_situations.specs.Prefixes.{PrefixFails, reached}
+use Rattle.plan_situations.specs.declared.situation.Situation.{Situation}
+use Rattle.plan_situations.proofs.Blocks.{plan_in_block, prefix_lasts, same_front}
 
 -- the block of a prefix is made of the blocks of the prefixes that have one more leg
 block_start : (c n k left : ℕ) → n * c ^ suc left ≤ (n * c + k) * c ^ left

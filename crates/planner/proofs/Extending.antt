@@ -14,25 +14,25 @@ use Rattle.lattice.proofs.Digits.{length-plan_of, plan_none}
 use Rattle.meetings.specs.Standing as meetings
 use Rattle.mtl_formulas.specs.Traces.{Trace}
 use Rattle.mtl_monitor.specs.declared.program.Program.{Program}
-use Rattle.situations.specs.FailingPlans.{BreaksARule, EntersAt, EntersDomain, FailsBy, FailsTowards, Some_}
+use Rattle.plan_situations.specs.FailingPlans.{BreaksARule, EntersAt, EntersDomain, FailsBy, FailsTowards, Some_}
 use Rattle.planner.specs.Inner.Legs.{IsPathIn, IsPlannedLeg, lasts, legs_before, legs_through}
 use Rattle.planner.specs.Inner.Levels.{AreEarly, IsAfter, IsPrepared, StandsAt, StaysOut}
 use Rattle.planner.specs.Walks.{IsFirstFailing}
 use Rattle.motion.specs.declared.leg.TickState.{TickState}
-use Rattle.situations.specs.Paths.{EntersAlong, HasReached, start_of}
+use Rattle.plan_situations.specs.Paths.{EntersAlong, HasReached, start_of}
 use Rattle.planner.specs.Inner.Watching.{Stands, StandsFor}
-use Rattle.situations.specs.Prefixes.{PrefixFails, reached, steps_told}
-use Rattle.situations.specs.Situations.{end_of, now_of, terms_of}
+use Rattle.plan_situations.specs.Prefixes.{PrefixFails, reached, steps_told}
+use Rattle.plan_situations.specs.Situations.{end_of, now_of, terms_of}
 use Rattle.planner.specs.declared.basis.SearchBasis.{SearchBasis}
 use Rattle.planner.specs.declared.legs.PlannedLeg.{PlannedLeg}
 use Rattle.planner.specs.declared.level.Level.{Level}
-use Rattle.situations.specs.declared.situation.Situation.{Situation}
-use Rattle.situations.specs.declared.situation.Target.{Target}
+use Rattle.plan_situations.specs.declared.situation.Situation.{Situation}
+use Rattle.plan_situations.specs.declared.situation.Target.{Target}
 use Rattle.planner.specs.declared.watched.Watched.{Watched}
-use Rattle.situations.proofs.Blocks.{shared, told_within}
-use Rattle.situations.proofs.CommonLegs.{in_force, same_contact, same_reached, same_steps, when_less, when_not_less}
-use Rattle.situations.proofs.FlatList.{none_some}
-use Rattle.situations.proofs.Lifting.{begins_too, enters_too, fails_too, fails_towards_too, rows_too, some_weaker}
+use Rattle.plan_situations.proofs.Blocks.{shared, told_within}
+use Rattle.plan_situations.proofs.CommonLegs.{in_force, same_contact, same_reached, same_steps, when_less, when_not_less}
+use Rattle.plan_situations.proofs.FlatList.{none_some}
+use Rattle.plan_situations.proofs.Lifting.{begins_too, enters_too, fails_too, fails_towards_too, rows_too, some_weaker}
 
 -- ---- how long a leg lasts
 

@@ -1,10 +1,10 @@
 -- A target that is followed from tick to tick.
 use Rattle.std.proofs.Common.{◌≡◌, ℕ, ◌+◌, ◌≤◌, List, refl, subst, Bool, true, false}
 use Rattle.planner.specs.Inner.Watching.{IsCopyOf, IsFollowed}
-use Rattle.situations.specs.Situations.{now_of}
+use Rattle.plan_situations.specs.Situations.{now_of}
 use Rattle.planner.specs.declared.towards.Towards.{Towards}
 use Rattle.planner.specs.declared.watched.Watched.{Watched}
-use Rattle.situations.proofs.Lifting.{breaks_later}
+use Rattle.plan_situations.proofs.Lifting.{breaks_later}
 
 module _ (t : Towards) (W : List ℕ) where
   pub not_yet : (at : ℕ) (w : Watched) → IsFollowed t W at at w w false

@@ -5,15 +5,15 @@ use Rattle.std.proofs.lemmas.Bool.{cases_lt}
 use Rattle.std.proofs.lemmas.List.{get_or-set_other, get_or-set_same}
 use Rattle.std.proofs.Math.Seq.{take-append_seam}
 use Rattle.mtl_formulas.specs.Traces.{Trace}
-use Rattle.situations.specs.FailingPlans.{EntersDomain, FailsTowards}
-use Rattle.situations.proofs.FlatList.{some_here}
+use Rattle.plan_situations.specs.FailingPlans.{EntersDomain, FailsTowards}
+use Rattle.plan_situations.proofs.FlatList.{some_here}
 use Rattle.planner.specs.Inner.Breaking.{Tells, formulas_of}
 use Rattle.planner.specs.Inner.Levels.{IsBasis, IsToldAtNow, StandsAt, StaysOut}
 use Rattle.planner.specs.Inner.Watching.{IsCutAtNow, Stands}
 use Rattle.planner.specs.declared.already.Already.{Already}
 use Rattle.planner.specs.declared.basis.SearchBasis.{SearchBasis}
-use Rattle.situations.specs.declared.situation.Situation.{Situation}
-use Rattle.situations.specs.declared.situation.Target.{Target}
+use Rattle.plan_situations.specs.declared.situation.Situation.{Situation}
+use Rattle.plan_situations.specs.declared.situation.Target.{Target}
 use Rattle.planner.specs.declared.watched.Watched.{Watched}
 
 -- ---- lists of which one element after the other is replaced

@@ -19,7 +19,7 @@ use Rattle.mtl_monitor.specs.declared.trace_state.TraceState.{TraceState}
 use Rattle.planner.specs.Inner.Breaking.{HasPassed, IsBrokenAt, IsNewlyBrokenAt, IsRowAdded, Tells, flag_at}
 use Rattle.planner.specs.declared.already.Already.{Already}
 use Rattle.planner.proofs.Watching.{within_greatest}
-use Rattle.situations.proofs.Lifting.{no_within}
+use Rattle.plan_situations.proofs.Lifting.{no_within}
 
 -- So many rows of flags, one of each formula, tell what is broken as so many rows have passed the end.
 pub AreTold : List FormulaTree → Trace → ℕ → ℕ → List Bool → Type 0

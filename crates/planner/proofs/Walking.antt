@@ -5,15 +5,15 @@ use Rattle.std.proofs.Math.Nat.{mul-le-mul_right, pow-suc, pow-zero}
 use Rattle.lattice.specs.Grids.{choices_of}
 use Rattle.lattice.specs.PlanNumbers.{plan_of}
 use Rattle.lattice.proofs.Digits.{length-plan_of}
-use Rattle.situations.specs.FailingPlans.{FailsBy}
+use Rattle.plan_situations.specs.FailingPlans.{FailsBy}
 use Rattle.planner.specs.Inner.Levels.{ArePlaces, HasPlaces}
 use Rattle.planner.specs.Inner.Walk.{IsFirst}
-use Rattle.situations.specs.Prefixes.{PrefixFails, reached}
-use Rattle.situations.specs.Situations.{end_of}
+use Rattle.plan_situations.specs.Prefixes.{PrefixFails, reached}
+use Rattle.plan_situations.specs.Situations.{end_of}
 use Rattle.planner.specs.declared.basis.SearchBasis.{SearchBasis}
 use Rattle.planner.specs.declared.level.Level.{Level}
-use Rattle.situations.specs.declared.situation.Situation.{Situation}
-use Rattle.situations.proofs.Blocks.{reached_end}
+use Rattle.plan_situations.specs.declared.situation.Situation.{Situation}
+use Rattle.plan_situations.proofs.Blocks.{reached_end}
 use Rattle.planner.proofs.Blocks.{none_fail}
 
 -- ---- places

@@ -20,14 +20,14 @@ use Rattle.mtl_monitor.specs.Reaches.{greatest_reach}
 use Rattle.mtl_formulas.specs.Traces.{Trace, value_in}
 use Rattle.mtl_monitor.specs.declared.program.Program.{Program}
 use Rattle.rule_set.specs.NamedTrees.{NamedTree}
-use Rattle.situations.specs.FailingPlans.{AreTraceRows, BeginsAt, BreaksARule, NewlyBreaks}
+use Rattle.plan_situations.specs.FailingPlans.{AreTraceRows, BeginsAt, BreaksARule, NewlyBreaks}
 use Rattle.planner.specs.Inner.Breaking.{IsNewlyBrokenAt, formulas_of}
 use Rattle.planner.specs.Inner.Watching.{HasBegun, HasNotBegun, IsCutAtNow, IsUnbroken, Stands, StandsFor}
-use Rattle.situations.specs.Situations.{now_of, own_at, target_at, terms_of}
-use Rattle.situations.specs.declared.situation.Situation.{Situation}
-use Rattle.situations.specs.declared.situation.Target.{Target}
+use Rattle.plan_situations.specs.Situations.{now_of, own_at, target_at, terms_of}
+use Rattle.plan_situations.specs.declared.situation.Situation.{Situation}
+use Rattle.plan_situations.specs.declared.situation.Target.{Target}
 use Rattle.planner.specs.declared.watched.Watched.{Watched}
-use Rattle.situations.proofs.Lifting.{earlier_rows, no_within, one_start, one_trace, trace_length}
+use Rattle.plan_situations.proofs.Lifting.{earlier_rows, no_within, one_start, one_trace, trace_length}
 
 -- ---- formulas of the rules
 

@@ -1,9 +1,9 @@
-pub use Rattle.situations.specs.Prediction
-pub use Rattle.situations.specs.Situations
-pub use Rattle.situations.specs.FailingPlans
-pub use Rattle.situations.specs.Safety
-pub use Rattle.situations.specs.LeastPlans
-pub use Rattle.situations.specs.Prefixes
+pub use Rattle.plan_situations.specs.Prediction
+pub use Rattle.plan_situations.specs.Situations
+pub use Rattle.plan_situations.specs.FailingPlans
+pub use Rattle.plan_situations.specs.Safety
+pub use Rattle.plan_situations.specs.LeastPlans
+pub use Rattle.plan_situations.specs.Prefixes
 pub mod Searches
 pub mod Walks
 pub mod Inner

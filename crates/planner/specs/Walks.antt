@@ -1,9 +1,9 @@
 -- What is kept on a walk over the prefixes of plans, and towards which target a plan fails first. A reader has only to know that a new walk keeps what
 -- stands at now, and how a leg more takes this on: what the places hold for it is of no matter here.
 use Rattle.std.specs.Prelude.{ℕ, ◌<◌, List, length, get_or}
-use Rattle.situations.specs.FailingPlans.{FailsTowards}
-use Rattle.situations.specs.declared.situation.Situation.{Situation}
-use Rattle.situations.specs.declared.situation.Target.{Target}
+use Rattle.plan_situations.specs.FailingPlans.{FailsTowards}
+use Rattle.plan_situations.specs.declared.situation.Situation.{Situation}
+use Rattle.plan_situations.specs.declared.situation.Target.{Target}
 use Rattle.planner.specs.Inner.Levels.{ArePlaces, HasPlaces, IsAfter, IsBasis}
 use Rattle.planner.specs.declared.basis.SearchBasis.{SearchBasis}
 use Rattle.planner.specs.declared.level.Level.{Level}

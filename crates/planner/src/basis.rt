@@ -2,14 +2,14 @@
 ghost use Rattle.std.specs.Prelude.{ℕ, ◌≡◌, ◌+◌, ◌-◌, ◌*◌, ◌^◌, ◌<◌, ◌≤◌, ◌↔◌, IfOk, IsTrue, [], map, take};
 ghost use Rattle.mtl_monitor.specs.Following.{IsProgramOf};
 ghost use Rattle.planner.specs.Inner.Breaking.{formulas_of};
-ghost use Rattle.situations.specs.Situations.{now_of, IsSituation, IsTarget};
+ghost use Rattle.plan_situations.specs.Situations.{now_of, IsSituation, IsTarget};
 ghost use Rattle.planner.specs.Inner.Watching.{IsEarly, IsReady, StandsFor};
 
 use crate::already::Already;
 use crate::watched::Watched;
 use mtl_monitor::Program;
 use out_of_memory::Memory;
-use situations::{Situation, Target};
+use plan_situations::{Situation, Target};
 use std::alloc::Global;
 
 /// The rules of a situation as one program, and what is broken at now towards each of its targets. It stands beside the situation.

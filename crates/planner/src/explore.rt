@@ -4,12 +4,12 @@ ghost use Rattle.lattice.specs.Grids.{choices_of};
 ghost use Rattle.lattice.specs.PlanNumbers.{plan_of};
 ghost use Rattle.planner.specs.Inner.Levels.{ArePlaces, IsAfter, IsBasis};
 ghost use Rattle.planner.specs.Inner.Walk.{AllFailFrom, IsFirst};
-ghost use Rattle.situations.specs.Prefixes.{PrefixFails};
+ghost use Rattle.plan_situations.specs.Prefixes.{PrefixFails};
 
 use crate::basis::SearchBasis;
 use crate::legs::{PlannedLeg, own_at_leg};
 use crate::level::{Extended, Level};
-use situations::Situation;
+use plan_situations::Situation;
 
 /// The number of the first plan that extends a prefix and does not fail. `number` is that of the prefix, which has so many legs, and
 /// `below` has places for each leg that is left.

@@ -3,11 +3,11 @@ ghost use Rattle.std.specs.Prelude.{◌≡◌, ◌+◌, ◌*◌, ◌/◌, ◌^�
 ghost use Rattle.lattice.specs.Grids.{choices_of};
 ghost use Rattle.lattice.specs.PlanNumbers.{plan_of, IsPlan};
 ghost use Rattle.planner.specs.Inner.Legs.{lasts, IsPlannedLeg};
-ghost use Rattle.situations.specs.Paths.{HasReached};
-ghost use Rattle.situations.specs.Situations.{IsSituation};
+ghost use Rattle.plan_situations.specs.Paths.{HasReached};
+ghost use Rattle.plan_situations.specs.Situations.{IsSituation};
 
 use lattice::{Plan, UnderWay};
-use situations::Situation;
+use plan_situations::Situation;
 
 /// One leg of a plan, as it is followed.
 #[derive(Drop)]

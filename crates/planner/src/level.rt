@@ -2,16 +2,16 @@
 ghost use Rattle.std.specs.Prelude.{ℕ, ◌≡◌, ◌+◌, ◌-◌, ◌*◌, ◌/◌, ◌<◌, ◌≤◌, ◌^◌, ◌↔◌, IfOk, IsSome, IsTrue, List, false, true, length, get_or, All};
 ghost use Rattle.lattice.specs.Grids.{choices_of};
 ghost use Rattle.mtl_monitor.specs.Following.{Fits, HasRoom};
-ghost use Rattle.situations.specs.FailingPlans.{BreaksARule, FailsBy, Some_};
+ghost use Rattle.plan_situations.specs.FailingPlans.{BreaksARule, FailsBy, Some_};
 ghost use Rattle.planner.specs.Inner.Legs.{lasts, legs_before, legs_through, IsPathIn, IsPlannedLeg};
 ghost use Rattle.planner.specs.Inner.Levels.{AreEarly, AreFollowed, HasPlaces, HasTargets, IsAfter, IsBasis, IsOnLeg, StandsAt, StaysOut};
-ghost use Rattle.situations.specs.Paths.{EntersAlong};
-ghost use Rattle.situations.specs.Prefixes.{reached, PrefixFails};
-ghost use Rattle.situations.specs.Situations.{end_of, now_of, IsSituation};
+ghost use Rattle.plan_situations.specs.Paths.{EntersAlong};
+ghost use Rattle.plan_situations.specs.Prefixes.{reached, PrefixFails};
+ghost use Rattle.plan_situations.specs.Situations.{end_of, now_of, IsSituation};
 ghost use Rattle.planner.specs.declared.level.Extended.TheVariants as Extended;
 ghost use Rattle.planner.specs.declared.basis.SearchBasis.{SearchBasis};
 ghost use Rattle.planner.specs.declared.legs.PlannedLeg.{PlannedLeg};
-ghost use Rattle.situations.specs.declared.situation.Target.{Target};
+ghost use Rattle.plan_situations.specs.declared.situation.Target.{Target};
 
 use crate::basis::SearchBasis;
 use crate::legs::PlannedLeg;
@@ -21,7 +21,7 @@ use fixed_geometry::Point;
 use motion::TickState;
 use mtl_monitor::{Program, TraceState};
 use out_of_memory::Memory;
-use situations::{Situation, Target};
+use plan_situations::{Situation, Target};
 use std::alloc::Global;
 
 /// Own ship's path in the last leg of the prefix, and what is kept of each target after it.

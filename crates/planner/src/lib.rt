@@ -1,5 +1,5 @@
 //! The planner: the search for the least numbered plan of own ship that newly breaks no rule and enters no domain. What a plan, its situation and
-//! the predictions in it are stands in `situations`, and is handed on here.
+//! the predictions in it are stands in `plan_situations`, and is handed on here.
 //!
 //! In the shipped encounter of giving way a leg has 10 choices, and so there are 100 plans of two legs. Where the first leg's choice 0 already
 //! fails, so do the plans 0 to 9, and the search goes on with plan 10. Its answer is plan 80: to starboard by 60 degrees, and back.
@@ -18,8 +18,8 @@ mod watched;
 
 pub use basis::SearchBasis;
 pub use level::Level;
-pub use search::Search;
-pub use situations::{
+pub use plan_situations::{
     Ahead, Domain, Past, Situation, Target, Targets, laws, least_plan, predicted,
 };
+pub use search::Search;
 pub use walk::Walk;

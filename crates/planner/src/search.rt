@@ -1,13 +1,13 @@
 //! The search over all plans.
 ghost use Rattle.std.specs.Prelude.{◌≡◌, IfOk, MatchOption};
-ghost use Rattle.situations.specs.LeastPlans.{AllFail, IsLeastPlan};
-ghost use Rattle.situations.specs.Situations.{IsSituation};
+ghost use Rattle.plan_situations.specs.LeastPlans.{AllFail, IsLeastPlan};
+ghost use Rattle.plan_situations.specs.Situations.{IsSituation};
 
 use crate::explore::explore;
 use crate::walk::Walk;
 use lattice::Plan;
 use out_of_memory::Memory;
-use situations::Situation;
+use plan_situations::Situation;
 use std::alloc::Global;
 
 /// The search for the least numbered plan that does not fail: a walk that stops at the first one. It holds all places that it needs.

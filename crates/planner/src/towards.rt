@@ -4,15 +4,15 @@ ghost use Rattle.mtl_monitor.specs.Following.{Fits, HasRoom};
 ghost use Rattle.mtl_formulas.specs.Traces.{Trace};
 ghost use Rattle.planner.specs.Inner.Legs.{IsPathIn, IsPlannedLeg};
 ghost use Rattle.planner.specs.Inner.Watching.{IsCut, IsEarly, IsFollowed, IsReady, IsTowards, Stands};
-ghost use Rattle.situations.specs.FailingPlans.{EntersDomain, FailsTowards};
-ghost use Rattle.situations.specs.Prefixes.{reached};
+ghost use Rattle.plan_situations.specs.FailingPlans.{EntersDomain, FailsTowards};
+ghost use Rattle.plan_situations.specs.Prefixes.{reached};
 
 use crate::already::Already;
 use crate::legs::PlannedLeg;
 use crate::watched::Watched;
 use motion::TickState;
 use mtl_monitor::{Program, TraceState};
-use situations::{Situation, Target};
+use plan_situations::{Situation, Target};
 
 /// A target of a situation, the rules as one program, and what is broken at now towards her.
 #[derive(Clone, Copy)]

@@ -8,9 +8,9 @@ ghost use Rattle.planner.specs.Inner.Legs.{IsPathIn, IsPlannedLeg};
 ghost use Rattle.planner.specs.Inner.Levels.{AreEarly, ArePlaces, HasTargets, IsBasis, IsPrepared, StandsAt, StaysOut};
 ghost use Rattle.planner.specs.Walks.{HasPlace, IsFirstFailing, IsGround, IsWalk, Keeps};
 ghost use Rattle.rule_program.specs.Lags.{IsNoLast};
-ghost use Rattle.situations.specs.FailingPlans.{FailsBy};
-ghost use Rattle.situations.specs.Prefixes.{reached};
-ghost use Rattle.situations.specs.Situations.{IsSituation};
+ghost use Rattle.plan_situations.specs.FailingPlans.{FailsBy};
+ghost use Rattle.plan_situations.specs.Prefixes.{reached};
+ghost use Rattle.plan_situations.specs.Situations.{IsSituation};
 
 use crate::basis::{SearchBasis, watched_at_now};
 use crate::legs::{PlannedLeg, leg_lasts, own_at_leg};
@@ -20,8 +20,8 @@ use crate::watched::Watched;
 use motion::TickState;
 use mtl_monitor::TraceState;
 use out_of_memory::Memory;
+use plan_situations::Situation;
 use rule_program::{are_no_last, program_of};
-use situations::Situation;
 use std::alloc::Global;
 
 /// What stays the same on a walk, what is kept at now, and the places for each leg.

@@ -6,12 +6,12 @@ ghost use Rattle.encounters.specs.Risk.{IsDetect};
 ghost use Rattle.mtl_formulas.specs.FormulaTree.{FormulaTree};
 ghost use Rattle.mtl_monitor.specs.Following.{count_of, fed_of, past_of, AreStatesOf, Fits, Follows, HasRoom, IsProgramOf};
 ghost use Rattle.mtl_formulas.specs.Traces.{Trace};
-ghost use Rattle.situations.specs.FailingPlans.{BreaksARule};
+ghost use Rattle.plan_situations.specs.FailingPlans.{BreaksARule};
 ghost use Rattle.planner.specs.Inner.Breaking.{formulas_of, Tells};
 ghost use Rattle.planner.specs.Inner.Watching.{IsCopyOf, IsCut, IsFollowed, IsReady, IsStepAt, IsTowards, Stands, StandsFor};
-ghost use Rattle.situations.specs.Situations.{now_of};
-ghost use Rattle.situations.specs.declared.situation.Situation.{Situation};
-ghost use Rattle.situations.specs.declared.situation.Target.{Target};
+ghost use Rattle.plan_situations.specs.Situations.{now_of};
+ghost use Rattle.plan_situations.specs.declared.situation.Situation.{Situation};
+ghost use Rattle.plan_situations.specs.declared.situation.Target.{Target};
 
 use crate::already::Already;
 use crate::towards::Towards;

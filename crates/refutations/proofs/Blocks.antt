@@ -8,11 +8,11 @@ use Rattle.std.proofs.Math.Seq.{take-length}
 use Rattle.lattice.specs.Grids.{choices_of, plans_of}
 use Rattle.lattice.specs.PlanNumbers.{number_of, IsPlan}
 use Rattle.lattice.proofs.Digits.{below_plan_of, length-plan_of, number_plan_of}
-use Rattle.situations.specs.FailingPlans.{Fails, FailsBy, Some_}
-use Rattle.situations.specs.LeastPlans.{AllFail, numbered}
-use Rattle.situations.specs.Prefixes.{AreOneBlock, IsInBlock, reached}
-use Rattle.situations.specs.Reasons.{HasReason}
-use Rattle.situations.specs.declared.situation.Situation.{Situation}
+use Rattle.plan_situations.specs.FailingPlans.{Fails, FailsBy, Some_}
+use Rattle.plan_situations.specs.LeastPlans.{AllFail, numbered}
+use Rattle.plan_situations.specs.Prefixes.{AreOneBlock, IsInBlock, reached}
+use Rattle.plan_situations.specs.Reasons.{HasReason}
+use Rattle.plan_situations.specs.declared.situation.Situation.{Situation}
 use Rattle.refutations.specs.GoodEntries.{IsGood}
 use Rattle.refutations.specs.RightLists.{behind, ends_from, first_of, IsEntry, IsRight, IsSoundAt}
 use Rattle.refutations.specs.declared.entry.WhyEntry.{WhyEntry}

@@ -3,11 +3,11 @@ use Rattle.std.proofs.Common.{ℕ, ◌<◌, List, length}
 use Rattle.std.specs.Prelude.{◌↔◌}
 use Rattle.mtl_formulas.specs.FormulaTree.{FormulaTree}
 use Rattle.rule_set.specs.NamedTrees.{rule_at}
-use Rattle.situations.specs.FailingPlans.{BreaksAt}
-use Rattle.situations.specs.Reasons.{RuleBreaksAt}
-use Rattle.situations.specs.declared.situation.Situation.{Situation}
-use Rattle.situations.specs.declared.situation.Target.{Target}
-use Rattle.situations.proofs.ForCallers.{rule_known, rule_there}
+use Rattle.plan_situations.specs.FailingPlans.{BreaksAt}
+use Rattle.plan_situations.specs.Reasons.{RuleBreaksAt}
+use Rattle.plan_situations.specs.declared.situation.Situation.{Situation}
+use Rattle.plan_situations.specs.declared.situation.Target.{Target}
+use Rattle.plan_situations.proofs.ForCallers.{rule_known, rule_there}
 
 -- the rule with an index
 pub rule_breaks_there : (s : Situation) (X : List ℕ) (last : ℕ) (T : Target) (index step : ℕ) → index < length s.rules

@@ -3,9 +3,9 @@ use Rattle.std.proofs.Common.{ℕ, ◌≡◌, ◌≢◌, ◌∙◌, ◌+◌, ◌
 use Rattle.std.specs.Prelude.{AllPairs, ◌↔◌}
 use Rattle.std.proofs.lemmas.Bool.{cases_lt}
 use Rattle.std.proofs.lemmas.List.{get_or_default}
-use Rattle.situations.specs.FailingPlans.{Some_}
-use Rattle.situations.specs.declared.situation.Target.{Target}
-use Rattle.situations.proofs.ForCallers.{some_at, some_here}
+use Rattle.plan_situations.specs.FailingPlans.{Some_}
+use Rattle.plan_situations.specs.declared.situation.Target.{Target}
+use Rattle.plan_situations.proofs.ForCallers.{some_at, some_here}
 
 pub element : {X : Type 0} (xs : List X) (k : ℕ) → k < length xs → X
 element [] k lt = absurd (omega arith)

@@ -6,14 +6,14 @@ use Rattle.closest_approach.specs.declared.nearest.Moment.{Moment}
 use Rattle.encounters.specs.declared.pair_step.PairStep.{PairStep}
 use Rattle.lattice.specs.OwnMotion.{choice_in_force}
 use Rattle.meetings.specs.Traces.{step_at}
-use Rattle.situations.specs.Domains.{Enters, IsInsideAt}
-use Rattle.situations.specs.FailingPlans.{Some_}
-use Rattle.situations.specs.Prefixes.{reached, steps_told}
-use Rattle.situations.specs.Reasons.{HasReason}
-use Rattle.situations.specs.Situations.{now_of, own_at, target_at}
-use Rattle.situations.specs.declared.situation.Situation.{Situation}
-use Rattle.situations.specs.declared.situation.Target.{Target}
-use Rattle.situations.proofs.ForCallers.{and_weaker, rules_agree, same_step, shared, some_weaker}
+use Rattle.plan_situations.specs.Domains.{Enters, IsInsideAt}
+use Rattle.plan_situations.specs.FailingPlans.{Some_}
+use Rattle.plan_situations.specs.Prefixes.{reached, steps_told}
+use Rattle.plan_situations.specs.Reasons.{HasReason}
+use Rattle.plan_situations.specs.Situations.{now_of, own_at, target_at}
+use Rattle.plan_situations.specs.declared.situation.Situation.{Situation}
+use Rattle.plan_situations.specs.declared.situation.Target.{Target}
+use Rattle.plan_situations.proofs.ForCallers.{and_weaker, rules_agree, same_step, shared, some_weaker}
 use Rattle.refutations.specs.GoodEntries.{Holds, HoldsFor, IsGood, IsInsideIn}
 use Rattle.refutations.specs.declared.entry.Reason.{Reason}
 use Rattle.refutations.specs.declared.entry.Reason.TheVariants.{Domain, Rule}

@@ -14,12 +14,12 @@ use Rattle.meetings.specs.Atoms.{AreAtomRows, IsAtomRow}
 use Rattle.meetings.specs.Standing.{Follows, Following}
 use Rattle.meetings.specs.Traces.{step_at, steps_from, IsContactAt}
 use Rattle.meetings.proofs.ForCallers.{steps_from-length}
-use Rattle.situations.specs.FailingPlans.{AreTraceRows, BeginsAt}
-use Rattle.situations.specs.Prefixes.{reached, steps_told}
-use Rattle.situations.specs.Situations.{end_of, own_at, target_at, terms_of}
-use Rattle.situations.specs.declared.situation.Situation.{Situation}
-use Rattle.situations.specs.declared.situation.Target.{Target}
-use Rattle.situations.proofs.ForCallers.{begins_too, earlier_rows, rows_more, rows_too, same_steps, shared}
+use Rattle.plan_situations.specs.FailingPlans.{AreTraceRows, BeginsAt}
+use Rattle.plan_situations.specs.Prefixes.{reached, steps_told}
+use Rattle.plan_situations.specs.Situations.{end_of, own_at, target_at, terms_of}
+use Rattle.plan_situations.specs.declared.situation.Situation.{Situation}
+use Rattle.plan_situations.specs.declared.situation.Target.{Target}
+use Rattle.plan_situations.proofs.ForCallers.{begins_too, earlier_rows, rows_more, rows_too, same_steps, shared}
 use Rattle.refutations.specs.Inner.Replays.{situation_in, told_to, HaveInCommon, IsCourse, IsReplay, IsTraceSoFar}
 use Rattle.refutations.specs.declared.course.Course.{Course}
 use Rattle.refutations.specs.declared.replay.Replay.{Replay}

@@ -8,11 +8,11 @@ use Rattle.std.proofs.lemmas.Bool.Decides.{Decides-eqb, not_from_Decides}
 use Rattle.std.proofs.lemmas.Fmt.{decimal_injective, decimal_nonempty, IsAscii-decimal}
 use Rattle.std.proofs.lemmas.Str.{IsUtf8-from_ascii}
 use Rattle.std.proofs.lemmas.Slice.Eq.{bytes_eq-Decides}
-use Rattle.csv_rows.specs.CsvRows.{Fields}
+use Rattle.report_csv.specs.CsvRows.{Fields}
 use Rattle.closest_approach.specs.declared.nearest.Moment.{Moment}
 use Rattle.lattice.specs.Grids.{choices_of}
 use Rattle.rule_set.specs.NamedTrees.{has_rule, rule_at, NamedTree, RulesHaveDifferentNames}
-use Rattle.situations.specs.declared.situation.Situation.{Situation}
+use Rattle.plan_situations.specs.declared.situation.Situation.{Situation}
 use Rattle.refutations.specs.EntryRows.{choices_text, entry_fields, reason_fields, FitsReason, IsEntryOf}
 use Rattle.refutations.specs.Inner.Readings.{AreChoicesIn, IsMomentIn, IsNumberIn, IsReasonIn}
 use Rattle.refutations.specs.RightLists.{KnowsRule}

@@ -2,9 +2,9 @@
 use Rattle.std.specs.Prelude.{ℕ, ◌≡◌, ◌<◌, ◌^◌, codes, List, [], ◌∷◌, map}
 use Rattle.std.specs.Fmt.{decimal}
 use Rattle.std.specs.List.{join_with_byte}
-use Rattle.csv_rows.specs.CsvRows.{row_of, Fields}
+use Rattle.report_csv.specs.CsvRows.{row_of, Fields}
 use Rattle.rule_set.specs.NamedTrees.{rule_at}
-use Rattle.situations.specs.declared.situation.Situation.{Situation}
+use Rattle.plan_situations.specs.declared.situation.Situation.{Situation}
 use Rattle.refutations.specs.RightLists.{IsEntry}
 use Rattle.refutations.specs.declared.entry.Reason.{Reason}
 use Rattle.refutations.specs.declared.entry.Reason.TheVariants.{Domain, Rule}

@@ -3,13 +3,13 @@
 use Rattle.std.specs.Prelude.{ℕ, ◌≡◌, ◌≤◌, ◌<◌, ◌^◌, List, length, IsSomeAnd}
 use Rattle.closest_approach.specs.declared.nearest.Moment.{Moment}
 use Rattle.meetings.specs.Traces.{step_at}
-use Rattle.situations.specs.Domains.{IsInsideAt}
-use Rattle.situations.specs.FailingPlans.{Some_}
-use Rattle.situations.specs.Prefixes.{reached}
-use Rattle.situations.specs.Reasons.{RuleBreaksAt}
-use Rattle.situations.specs.Situations.{now_of, own_at, target_at}
-use Rattle.situations.specs.declared.situation.Situation.{Situation}
-use Rattle.situations.specs.declared.situation.Target.{Target}
+use Rattle.plan_situations.specs.Domains.{IsInsideAt}
+use Rattle.plan_situations.specs.FailingPlans.{Some_}
+use Rattle.plan_situations.specs.Prefixes.{reached}
+use Rattle.plan_situations.specs.Reasons.{RuleBreaksAt}
+use Rattle.plan_situations.specs.Situations.{now_of, own_at, target_at}
+use Rattle.plan_situations.specs.declared.situation.Situation.{Situation}
+use Rattle.plan_situations.specs.declared.situation.Target.{Target}
 use Rattle.refutations.specs.declared.entry.Reason.{Reason}
 use Rattle.refutations.specs.declared.entry.Reason.TheVariants.{Domain, Rule}
 use Rattle.refutations.specs.declared.entry.WhyEntry.{WhyEntry}

@@ -1,4 +1,4 @@
-pub use Rattle.csv_rows.specs.CsvRows
+pub use Rattle.report_csv.specs.CsvRows
 pub mod GoodEntries
 pub mod RightLists
 pub mod EntryRows

@@ -3,7 +3,7 @@ use Rattle.std.specs.Prelude.{ℕ, ◌≡◌, ◌≢◌, ◌+◌, ◌*◌, ◌-�
 use Rattle.std.specs.Int.Digits.{AllBelowBase}
 use Rattle.lattice.specs.Grids.{choices_of, plans_of}
 use Rattle.lattice.specs.PlanNumbers.{number_of}
-use Rattle.situations.specs.declared.situation.Situation.{Situation}
+use Rattle.plan_situations.specs.declared.situation.Situation.{Situation}
 use Rattle.refutations.specs.GoodEntries.{IsGood}
 use Rattle.refutations.specs.declared.entry.Checked.{Checked}
 use Rattle.refutations.specs.declared.entry.Checked.TheVariants.{Right, Bad}

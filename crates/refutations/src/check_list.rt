@@ -1,7 +1,7 @@
 //! The check of a list of entries.
 ghost use Rattle.std.specs.Prelude.{◌≡◌, ◌^◌, ◌<◌, ◌↔◌, All, IfOk, MatchOption, OnOk, length};
-ghost use Rattle.situations.specs.LeastPlans.{AllFail};
-ghost use Rattle.situations.specs.Situations.{IsSituation};
+ghost use Rattle.plan_situations.specs.LeastPlans.{AllFail};
+ghost use Rattle.plan_situations.specs.Situations.{IsSituation};
 ghost use Rattle.refutations.specs.GoodEntries.{IsGood};
 ghost use Rattle.refutations.specs.Inner.Replays.{situation_in, IsReplay};
 ghost use Rattle.refutations.specs.RightLists.{behind, first_of, IsEntry, IsRight, Tells};
@@ -12,7 +12,7 @@ use crate::goodness::is_good;
 use crate::laws::a_right_list_refutes;
 use crate::replay::Replay;
 use out_of_memory::Memory;
-use situations::Situation;
+use plan_situations::Situation;
 use std::alloc::Global;
 
 /// Where the block of an entry ends, if the entry is good and its block begins with a number.

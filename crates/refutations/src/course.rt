@@ -4,13 +4,13 @@ ghost use Rattle.encounters.specs.Directions.{HaveDirections};
 ghost use Rattle.lattice.specs.Grids.{choices_of};
 ghost use Rattle.lattice.specs.PlanNumbers.{IsPlan};
 ghost use Rattle.meetings.specs.Traces.{step_at};
-ghost use Rattle.situations.specs.Situations.{end_of, own_at, target_at, IsSituation, IsTarget};
+ghost use Rattle.plan_situations.specs.Situations.{end_of, own_at, target_at, IsSituation, IsTarget};
 
 use encounters::PairStep;
 use lattice::Plan;
 use motion::TickState;
 use out_of_memory::Memory;
-use situations::{Situation, Target};
+use plan_situations::{Situation, Target};
 use std::alloc::Global;
 
 /// A plan of a situation, and own ship's path under it from now on.

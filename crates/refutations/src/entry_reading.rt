@@ -14,10 +14,10 @@ use crate::entry::{Reason, WhyEntry};
 use crate::prefix::Prefix;
 use closest_approach::Moment;
 use csv::ByteRecord;
-use csv_rows::digits;
 use itoa::Buffer;
+use plan_situations::Situation;
+use report_csv::digits;
 use rule_set::RuleSet;
-use situations::Situation;
 use smallvec::SmallVec;
 use std::alloc::Global;
 

@@ -4,10 +4,10 @@ ghost use Rattle.refutations.specs.EntryRows.{choices_text, entry_text};
 ghost use Rattle.refutations.specs.RightLists.{KnowsRule};
 
 use crate::entry::{Reason, WhyEntry};
-use csv_rows::{digits, fields_bytes};
 use itoa::Buffer;
 use out_of_memory::Memory;
-use situations::Situation;
+use plan_situations::Situation;
+use report_csv::{digits, fields_bytes};
 use std::alloc::Global;
 
 /// The choices with a point between each two.

@@ -4,10 +4,10 @@ ghost use Rattle.std.specs.Int.Digits.{AllBelowBase};
 ghost use Rattle.encounters.specs.Directions.{HaveDirections};
 ghost use Rattle.lattice.specs.Grids.{choices_of};
 ghost use Rattle.lattice.specs.PlanNumbers.{IsPlan};
-ghost use Rattle.situations.specs.Domains.{IsInsideAt};
-ghost use Rattle.situations.specs.Prefixes.{reached};
-ghost use Rattle.situations.specs.Situations.{end_of, now_of, IsSituation, IsTarget};
-ghost use Rattle.situations.specs.declared.situation.Target.{Target};
+ghost use Rattle.plan_situations.specs.Domains.{IsInsideAt};
+ghost use Rattle.plan_situations.specs.Prefixes.{reached};
+ghost use Rattle.plan_situations.specs.Situations.{end_of, now_of, IsSituation, IsTarget};
+ghost use Rattle.plan_situations.specs.declared.situation.Target.{Target};
 ghost use Rattle.refutations.specs.GoodEntries.{Holds, IsGood, IsInsideIn, IsInsideThen, IsInstant};
 ghost use Rattle.refutations.specs.Inner.Replays.{situation_in, IsCourse, IsReplay};
 ghost use Rattle.refutations.specs.RightLists.{IsEntry, KnowsRule};
@@ -23,8 +23,8 @@ use hull_domains::inside;
 use lattice::Plan;
 use lattice::laws::numbers_and_plans_are_inverse;
 use out_of_memory::Memory;
-use situations::laws::prefixes_are_blocks;
-use situations::{Situation, Target};
+use plan_situations::laws::prefixes_are_blocks;
+use plan_situations::{Situation, Target};
 use std::alloc::Global;
 
 /// Whether a moment is an instant of a step, told by numbers that can be reckoned with.

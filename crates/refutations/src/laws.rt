@@ -1,15 +1,15 @@
 //! Laws of refutations. They do no work.
 ghost use Rattle.std.specs.Prelude.{ℕ, ◌≡◌, ◌↔◌, All, List, length, take};
-ghost use Rattle.situations.specs.LeastPlans.{AllFail};
-ghost use Rattle.situations.specs.Prefixes.{reached};
-ghost use Rattle.situations.specs.declared.situation.Target.{Target};
+ghost use Rattle.plan_situations.specs.LeastPlans.{AllFail};
+ghost use Rattle.plan_situations.specs.Prefixes.{reached};
+ghost use Rattle.plan_situations.specs.declared.situation.Target.{Target};
 ghost use Rattle.refutations.specs.GoodEntries.{Holds, HoldsFor};
 ghost use Rattle.refutations.specs.RightLists.{IsEntry, IsRight};
 ghost use Rattle.refutations.specs.declared.entry.Reason.{Reason};
 ghost use Rattle.refutations.specs.declared.entry.WhyEntry.{WhyEntry};
 
-use situations::Situation;
-use situations::laws::{failing_has_a_reason, prefixes_are_blocks};
+use plan_situations::Situation;
+use plan_situations::laws::{failing_has_a_reason, prefixes_are_blocks};
 
 /// All plans that extend a prefix agree on each reason up to the prefix's horizon, whatever legs follow.
 pub fn plans_agree_on_reasons(situation: &Situation)

@@ -4,15 +4,15 @@ ghost use Rattle.encounters.specs.Directions.{HaveDirections};
 ghost use Rattle.lattice.specs.Grids.{choices_of};
 ghost use Rattle.lattice.specs.PlanNumbers.{IsPlan};
 ghost use Rattle.rule_set.specs.NamedTrees.{rule_at};
-ghost use Rattle.situations.specs.FailingPlans.{BreaksAt};
-ghost use Rattle.situations.specs.Situations.{end_of, now_of, IsSituation};
-ghost use Rattle.situations.specs.declared.situation.Target.{Target};
+ghost use Rattle.plan_situations.specs.FailingPlans.{BreaksAt};
+ghost use Rattle.plan_situations.specs.Situations.{end_of, now_of, IsSituation};
+ghost use Rattle.plan_situations.specs.declared.situation.Target.{Target};
 
 use crate::course::Course;
 use crate::trace_so_far::TraceSoFar;
 use lattice::Plan;
 use out_of_memory::Memory;
-use situations::Situation;
+use plan_situations::Situation;
 use std::alloc::Global;
 
 /// Own ship's course by the latest plan, and of each target the trace so far, told under a plan of its own.

@@ -4,10 +4,10 @@ ghost use Rattle.std.specs.Option.{option_copied};
 ghost use Rattle.meetings.specs.Standing.{Follows};
 ghost use Rattle.meetings.specs.Traces.{steps_from, IsContactAt};
 ghost use Rattle.rule_set.specs.NamedTrees.{rule_at};
-ghost use Rattle.situations.specs.FailingPlans.{BeginsAt, BreaksAt};
-ghost use Rattle.situations.specs.Situations.{end_of, now_of, own_at, target_at, terms_of, IsSituation, IsTarget};
-ghost use Rattle.situations.specs.declared.situation.Situation.{Situation};
-ghost use Rattle.situations.specs.declared.situation.Target.{Target};
+ghost use Rattle.plan_situations.specs.FailingPlans.{BeginsAt, BreaksAt};
+ghost use Rattle.plan_situations.specs.Situations.{end_of, now_of, own_at, target_at, terms_of, IsSituation, IsTarget};
+ghost use Rattle.plan_situations.specs.declared.situation.Situation.{Situation};
+ghost use Rattle.plan_situations.specs.declared.situation.Target.{Target};
 ghost use Rattle.refutations.specs.Inner.Replays.{HaveInCommon};
 
 use crate::course::Course;
@@ -15,7 +15,7 @@ use crate::goodness::horizon;
 use crate::prefix::Prefix;
 use meetings::{AtomRow, Follower};
 use out_of_memory::Memory;
-use situations::{Situation, Target};
+use plan_situations::{Situation, Target};
 use std::alloc::Global;
 
 /// The rows of the trace under a plan, from the tick at which it begins, and what follows both vessels after each. No row is kept of a trace that has

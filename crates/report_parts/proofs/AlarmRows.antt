@@ -1,7 +1,7 @@
 -- The rows of alarms, written one after the other.
 use Rattle.std.proofs.Common.{ℕ, ◌+◌, ◌<◌, List, ◌++◌, length, take, append_assoc, ap, subst, ◌∙◌}
 use Rattle.std.proofs.Math.ListN.{get_or}
-use Rattle.csv_rows.specs.CsvRows.{row_of}
+use Rattle.report_csv.specs.CsvRows.{row_of}
 use Rattle.audit_report.specs.ReportTexts.{HasText}
 use Rattle.audit_report.specs.declared.report_text.ReportText.{ReportText}
 use Rattle.early_monitor.specs.declared.alarm.Alarm.{Alarm}

@@ -1,7 +1,7 @@
 -- The rows of what the rules come to.
 use Rattle.std.proofs.Common.{ℕ, zero, suc, ◌≡◌, ◌+◌, ◌<◌, List, [], ◌∷◌, ◌++◌, length, take, append_assoc, append-nil, sym, ap, ◌∙◌, arith}
 use Rattle.std.proofs.Math.ListN.{get_or}
-use Rattle.csv_rows.specs.CsvRows.{row_of}
+use Rattle.report_csv.specs.CsvRows.{row_of}
 use Rattle.audit_report.specs.ReportRows.{total_fields}
 use Rattle.auditor.specs.declared.total.Total.{Total}
 use Rattle.rule_set.specs.NamedTrees.{NamedTree, rule_at}

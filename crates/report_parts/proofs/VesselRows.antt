@@ -1,7 +1,7 @@
 -- The rows of the vessels that are held.
 use Rattle.std.proofs.Common.{ℕ, ◌≡◌, ◌+◌, ◌<◌, ◌≤◌, List, ◌++◌, length, take, flat_map, append_assoc, refl, ap, ◌∙◌, arith}
 use Rattle.std.specs.Prelude.{◌≢◌, ◌^◌, Option, Some, slice_get}
-use Rattle.csv_rows.specs.CsvRows.{row_of}
+use Rattle.report_csv.specs.CsvRows.{row_of}
 use Rattle.ais_messages.specs.declared.message.ShipData.{ShipData}
 use Rattle.audit_report.specs.ReportRows.{vessel_fields}
 use Rattle.tracks.specs.AcceptedReports.{JudgingNumbers}

@@ -1,6 +1,6 @@
 -- The rows of alarms.
 use Rattle.std.specs.Prelude.{ℕ, flat_map, List}
-use Rattle.csv_rows.specs.CsvRows.{row_of, Fields}
+use Rattle.report_csv.specs.CsvRows.{row_of, Fields}
 use Rattle.audit_report.specs.ReportRows.{alarm_fields}
 use Rattle.early_monitor.specs.declared.alarm.Alarm.{Alarm}
 use Rattle.rule_set.specs.NamedTrees.{NamedTree, rule_at}

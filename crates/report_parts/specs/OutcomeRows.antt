@@ -1,6 +1,6 @@
 -- How many lines came to each outcome, as rows that end each report on a log.
 use Rattle.std.specs.Prelude.{ℕ, flat_map, List}
-use Rattle.csv_rows.specs.CsvRows.{row_of}
+use Rattle.report_csv.specs.CsvRows.{row_of}
 use Rattle.audit_report.specs.ReportRows.{count_fields}
 use Rattle.log_lines.specs.JudgedLines.{count_of}
 use Rattle.log_lines.specs.LineOutcomes.{all_outcomes}

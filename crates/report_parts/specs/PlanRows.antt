@@ -1,12 +1,12 @@
 -- The rows of a plan of own ship: its legs, or that there is none.
 use Rattle.std.specs.Prelude.{ℕ, ◌+◌, ◌*◌, nat_lt, flat_map, List, Option, Some, None, slice_index, if◌then◌else◌}
 use Rattle.std.specs.List.{range_with_len}
-use Rattle.csv_rows.specs.CsvRows.{row_of, Fields}
+use Rattle.report_csv.specs.CsvRows.{row_of, Fields}
 use Rattle.audit_report.specs.ReportRows.{no_plan_fields, plan_fields}
 use Rattle.lattice.specs.Grids.{Grid, choices_of, plans_of, positions_of}
 use Rattle.lattice.specs.OwnMotion.{ordered_course, ordered_speed}
 use Rattle.lattice.specs.PlanNumbers.{number_of}
-use Rattle.situations.specs.declared.readiness.Ready.{Ready}
+use Rattle.plan_situations.specs.declared.readiness.Ready.{Ready}
 
 -- A leg begins where the one before it ends, and the last one ends with the plan.
 abbrev pub first_tick : ℕ → Grid → ℕ → ℕ

@@ -1,6 +1,6 @@
 -- The rows of lines: a row for each accepted report.
 use Rattle.std.specs.Prelude.{ℕ, flat_map, List, []}
-use Rattle.csv_rows.specs.CsvRows.{row_of, Fields}
+use Rattle.report_csv.specs.CsvRows.{row_of, Fields}
 use Rattle.audit_report.specs.ReportRows.{point_fields}
 use Rattle.log_lines.specs.declared.judged.Judged.{Judged}
 use Rattle.log_lines.specs.declared.judged.Judged.TheVariants as judged

@@ -1,6 +1,6 @@
 -- The rows of the stretches that an audit finds.
 use Rattle.std.specs.Prelude.{ℕ, ◌<◌, ⊤, All, flat_map, length, List}
-use Rattle.csv_rows.specs.CsvRows.{row_of, Fields}
+use Rattle.report_csv.specs.CsvRows.{row_of, Fields}
 use Rattle.audit_report.specs.ReportRows.{meeting_fields, verdict_fields}
 use Rattle.audit_rows.specs.declared.row.Row.{Row}
 use Rattle.audit_rows.specs.declared.row.Row.TheVariants as row

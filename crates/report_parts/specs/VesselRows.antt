@@ -1,9 +1,9 @@
 -- The rows of the vessels that are held.
 use Rattle.std.specs.Prelude.{ℕ, flat_map, length, List, Option, Some, None}
 use Rattle.ais_messages.specs.declared.message.ShipData.{ShipData}
-use Rattle.csv_rows.specs.CsvRows.{row_of, Fields}
+use Rattle.report_csv.specs.CsvRows.{row_of, Fields}
 use Rattle.audit_report.specs.ReportRows.{vessel_fields}
-use Rattle.situations.specs.declared.near.Near.{Near}
+use Rattle.plan_situations.specs.declared.near.Near.{Near}
 use Rattle.tracks.specs.AcceptedReports.{JudgingNumbers}
 use Rattle.tracks.specs.Lengths.{length_of}
 use Rattle.tracks.specs.VesselsHeld.{Sent, accepted_of, held_of, legs_of, statics_of}

@@ -1,6 +1,6 @@
 //! The rows of alarms.
 ghost use Rattle.std.specs.Prelude.{◌++◌, ◌<◌, ℕ, List, All, OnOk, length};
-ghost use Rattle.csv_rows.specs.CsvRows.{row_of};
+ghost use Rattle.report_csv.specs.CsvRows.{row_of};
 ghost use Rattle.audit_report.specs.ReportTexts.{HasText};
 ghost use Rattle.early_monitor.specs.declared.alarm.Alarm.{Alarm};
 ghost use Rattle.report_parts.specs.AlarmRows.{alarm_rows, told_alarm};

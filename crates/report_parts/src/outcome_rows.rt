@@ -1,6 +1,6 @@
 //! How many lines came to each outcome, as rows.
 ghost use Rattle.std.specs.Prelude.{◌≡◌, ◌++◌, List, ℕ, OnOk, flat_map, slice_index};
-ghost use Rattle.csv_rows.specs.CsvRows.{row_of};
+ghost use Rattle.report_csv.specs.CsvRows.{row_of};
 ghost use Rattle.audit_report.specs.ReportRows.{count_fields};
 ghost use Rattle.audit_report.specs.ReportTexts.{HasText};
 ghost use Rattle.log_lines.specs.JudgedLines.{judged_lines};

@@ -9,7 +9,7 @@ ghost use Rattle.report_parts.specs.PlanRows.{first_tick, last_tick, leg_rows, m
 use audit_report::{ReportRow, ReportText};
 use lattice::{Lattice, Plan};
 use out_of_memory::Memory;
-use situations::Ready;
+use plan_situations::Ready;
 
 /// What the legs of a plan are told by.
 #[derive(Clone, Copy)]

@@ -1,6 +1,6 @@
 //! The rows of the stretches that an audit finds.
 ghost use Rattle.std.specs.Prelude.{◌++◌, ℕ, List, OnOk};
-ghost use Rattle.csv_rows.specs.CsvRows.{row_of};
+ghost use Rattle.report_csv.specs.CsvRows.{row_of};
 ghost use Rattle.audit_report.specs.ReportTexts.{HasText};
 ghost use Rattle.report_parts.specs.StretchRows.{AreOfRules, IsOfRules, stretch_fields, stretch_rows};
 

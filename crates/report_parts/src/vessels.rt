@@ -1,20 +1,20 @@
 //! The rows of the vessels that are held.
 ghost use Rattle.std.specs.Prelude.{◌≡◌, ◌≢◌, ◌<◌, ◌^◌, ◌++◌, ℕ, List, All, OnOk, length, true};
 ghost use Rattle.std.specs.Option.{option_copied};
-ghost use Rattle.csv_rows.specs.CsvRows.{row_of};
+ghost use Rattle.report_csv.specs.CsvRows.{row_of};
 ghost use Rattle.audit_report.specs.ReportTexts.{HasText};
 ghost use Rattle.tracks.specs.AcceptedReports.{JudgingNumbers};
 ghost use Rattle.tracks.specs.Standing.{IsHeldVessel, StandsFor as BookStandsFor};
 ghost use Rattle.tracks.specs.VesselsHeld.{Sent, is_held};
 ghost use Rattle.tracks.specs.declared.keeping.Keeping.{Keeping};
 ghost use Rattle.tracks.specs.declared.keeping.Keeping.TheVariants.{Latest, Tracks};
-ghost use Rattle.situations.specs.declared.near.Near.{Near};
+ghost use Rattle.plan_situations.specs.declared.near.Near.{Near};
 ghost use Rattle.report_parts.specs.VesselRows.{held_fields, near_rows, ship_type_of, vessel_rows};
 
 use ais_messages::{ShipData, Text20};
 use audit_report::{ReportRow, ReportText};
 use out_of_memory::Memory;
-use situations::Near;
+use plan_situations::Near;
 use tracks::{Book, HeldVessel, Statics};
 
 /// A vessel's type, 0 where she told none.

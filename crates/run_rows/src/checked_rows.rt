@@ -3,8 +3,8 @@ use crate::logs::{HEAD_ON_NOW, ONE_COURSE, ONE_TICK, OWN};
 use crate::whole_run::{SOUND, Shelved, edited, ended_on};
 use crate::worked_row::{NOTHING, Row, Written, is_as_worked_out};
 use colregs_program::{Status, Unready, Which};
-use compared::is;
 use std::test::Fail;
+use test_support::is;
 
 const RECHECK: &[&str] = &["recheck", "scenario.toml"];
 

@@ -3,11 +3,11 @@ use crate::logs::{ABOUT_SEATTLE, LOG, REPORT};
 use crate::whole_run::{Devices, RunEnd, SOUND, ended_with};
 use crate::worked_row::{AUDIT, POINTS};
 use colregs_program::Status;
-use compared::{is, is_true};
 use outside::Taken;
 use scenario_rows::HEAD_ON;
 use std::alloc::Global;
 use std::test::Fail;
+use test_support::{is, is_true};
 
 /// What the clock of a line at second 741 settles of the log of two vessels that meet head on.
 const FIRST_TWO: &[u8] = b"verdict,369190000,477553000,r14a,broken,0,0

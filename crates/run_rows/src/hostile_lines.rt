@@ -1,9 +1,9 @@
 //! Lines that strangers wrote.
 use crate::whole_run::{SOUND, ended_with};
 use crate::worked_row::POINTS;
-use compared::is;
 use std::alloc::Global;
 use std::test::Fail;
+use test_support::is;
 
 /// The rows of the counts that are not 0 in a report.
 fn counts_in(alloc: Global, report: &[u8]) -> Result<String, Fail> {

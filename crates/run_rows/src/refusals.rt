@@ -3,10 +3,10 @@ use crate::logs::{LOG, ONE_COURSE, ONE_TICK, OWN};
 use crate::whole_run::{Edit, SOUND, ended};
 use crate::worked_row::{NOTHING, POINTS, Row, Written, is_as_worked_out};
 use colregs_program::{Cause, Key, Status, Unready, Which};
-use compared::is;
 use scenario_rows::HEAD_ON;
 use std::alloc::Global;
 use std::test::Fail;
+use test_support::is;
 
 const USAGE: &[u8] = b"usage: points|audit|plan|drill|migrate|recheck|watch SCENARIO\n";
 

@@ -3,11 +3,11 @@ use crate::logs::{ABOUT_SEATTLE, HEAD_ON_NOW, LOG, ONE_COURSE, ONE_TICK, OWN, RE
 use crate::whole_run::{Devices, Edit, RunEnd, SOUND, ended, ended_with};
 use crate::worked_row::{AUDIT, NOTHING, POINTS, Row, Written, is_as_worked_out};
 use colregs_program::{Status, Which};
-use compared::{is, is_true};
 use log_lines::laws;
 use scenario_rows::HEAD_ON;
 use std::alloc::Global;
 use std::test::Fail;
+use test_support::{is, is_true};
 
 /// The row of that report.
 const POINT: &[u8] = b"point,477553000,1700000000,0,185200,0,510\n";

@@ -16,8 +16,8 @@ use Rattle.scenario_keys.specs.declared.cause.Cause.{Cause}
 use Rattle.scenario_keys.proofs.ForCallers.{all_append, all_back, all_front, all_head, all_none, all_tail, first_ahead, first_behind, first_here, one_more}
 use Rattle.scenario.specs.KeyFaults.{basis_of, fault_of, tick_of}
 use Rattle.scenario.specs.RuleValues.{formula_tables, rule_numbers_of}
-use Rattle.added_rules.specs.FormulaTables.{IsFormulaFault}
-use Rattle.added_rules.specs.ScenarioRules.{IsWeightFault}
+use Rattle.scenario_rules.specs.FormulaTables.{IsFormulaFault}
+use Rattle.scenario_rules.specs.ScenarioRules.{IsWeightFault}
 use Rattle.scenario_keys.specs.ToldFaults.{IfFault}
 use Rattle.scenario_keys.specs.declared.fault.ScenarioFault.{ScenarioFault}
 use Rattle.scenario_keys.specs.declared.fault.ScenarioFault.TheVariants as refusal

@@ -11,7 +11,7 @@ use Rattle.std.specs.Ordering.{nat_cmp}
 use Rattle.std.proofs.lemmas.Cmp.{nat_list_cmp_total, tied_itself}
 use Rattle.toml.specs.Data.{Data, Items, Members, member, no_members, as_array, get_member}
 use Rattle.toml.specs.View.{items_of}
-use Rattle.formula_language.specs.FormulaReading.{tree, IsMeaning}
+use Rattle.mtl_language.specs.FormulaReading.{tree, IsMeaning}
 use Rattle.rule_set.specs.NamedTrees.{NamedTree}
 use Rattle.scenario_keys.specs.FirstFaults.{with_before}
 use Rattle.scenario_keys.specs.FirstOf.{first_of}
@@ -27,8 +27,8 @@ use Rattle.scenario_keys.specs.declared.cause.Cause.{Cause}
 use Rattle.scenario_keys.specs.declared.cause.Cause.TheVariants as cause
 use Rattle.scenario_keys.proofs.ForCallers.{all_head, all_tail}
 use Rattle.rule_set.specs.declared.ranking.Ranking.{Ranking}
-use Rattle.added_rules.specs.FormulaTables.{is_name_taken, name_cause, formula_name_in, rule_names, string_in, IsFormulaFault, IsTableFault, IsTextFault}
-use Rattle.added_rules.specs.ScenarioRules.{AreAdded, IsAdded}
+use Rattle.scenario_rules.specs.FormulaTables.{is_name_taken, name_cause, formula_name_in, rule_names, string_in, IsFormulaFault, IsTableFault, IsTextFault}
+use Rattle.scenario_rules.specs.ScenarioRules.{AreAdded, IsAdded}
 use Rattle.predictions.specs.PredictFaults.{changes_cause, predicted_mmsi, predict_fault, ship_cause, table_fault}
 use Rattle.predictions.specs.PredictFaults as predicted
 use Rattle.predictions.specs.PredictValues.{predicted_changes, predict_of, predictions_of}

@@ -16,8 +16,8 @@ use Rattle.scenario_keys.specs.declared.cause.Cause.TheVariants as cause
 use Rattle.scenario_keys.specs.declared.rows.Kind.{Kind}
 use Rattle.scenario_keys.specs.declared.rows.Kind.TheVariants as kind
 use Rattle.scenario_keys.proofs.ForCallers.{all_back, all_front, all_head, all_none, first_here, found_append, some_found}
-use Rattle.added_rules.proofs.ForCallers.{some_formula_fault, some_rules, some_weight_fault}
-use Rattle.added_rules.specs.FormulaTables.{IsFormulaFault}
+use Rattle.scenario_rules.proofs.ForCallers.{some_formula_fault, some_rules, some_weight_fault}
+use Rattle.scenario_rules.specs.FormulaTables.{IsFormulaFault}
 use Rattle.scenario.specs.DocumentFaults.{IsFaultless, IsFirstFault, IsToldBy, IsToldFor}
 use Rattle.scenario.specs.KeyFaults.{basis_of, fault_of, tick_of}
 use Rattle.scenario.specs.Purposes.{purpose_by, ranking_of}

@@ -6,8 +6,8 @@ use Rattle.toml.specs.Data.{Data, Members}
 use Rattle.rule_set.specs.NamedTrees.{rules_by, NamedTree}
 use Rattle.rule_set.specs.declared.numbers.RuleNumbers.{RuleNumbers}
 use Rattle.rule_set.specs.declared.numbers.Safe.TheVariants as safe
-use Rattle.added_rules.specs.FormulaTables.{IsFormulaFault}
-use Rattle.added_rules.specs.ScenarioRules.{weight_cause, AreAdded, IsWeightFault}
+use Rattle.scenario_rules.specs.FormulaTables.{IsFormulaFault}
+use Rattle.scenario_rules.specs.ScenarioRules.{weight_cause, AreAdded, IsWeightFault}
 use Rattle.scenario_values.specs.LightRules.{greatest_weight, total_weight}
 use Rattle.scenario_keys.specs.KeyValues.{integer_at, integer_found, natural_at, natural_of}
 use Rattle.scenario_keys.specs.ScenarioKeys.{first_rows, from_to, own_row, own_rows, Row}

@@ -27,7 +27,7 @@ use Rattle.scenario_keys.specs.declared.cause.Cause.{Cause}
 use Rattle.scenario_keys.specs.declared.cause.Cause.TheVariants as cause
 use Rattle.scenario_keys.proofs.ForCallers.{all_back, all_front, all_head, all_tail}
 use Rattle.rule_set.specs.declared.ranking.Ranking.{Ranking}
-use Rattle.added_rules.specs.FormulaTables.{is_name_taken, name_cause, new_name_cause, IsFormulaFault, IsStringCause, IsTableFault, IsTextCause, IsTextFault}
+use Rattle.scenario_rules.specs.FormulaTables.{is_name_taken, name_cause, new_name_cause, IsFormulaFault, IsStringCause, IsTableFault, IsTextCause, IsTextFault}
 use Rattle.predictions.specs.PredictFaults.{array_cause, changes_cause, list_cause, new_cause, predict_fault, ship_cause, ships, table_fault}
 use Rattle.predictions.specs.PredictFaults as predicted
 use Rattle.scenario.specs.DocumentFaults.{IsFaultless, IsTold, IsToldFor}

@@ -5,7 +5,7 @@ use Rattle.rule_set.specs.declared.ranking.Ranking.{Ranking}
 use Rattle.scenario_keys.specs.ScenarioKeys.{Row, rows}
 use Rattle.scenario_keys.specs.ToldFaults.{IfFault}
 use Rattle.scenario_keys.proofs.ForCallers.{never_both, one_first}
-use Rattle.added_rules.proofs.ForCallers.{one_formula_fault, one_rules, one_weight_fault}
+use Rattle.scenario_rules.proofs.ForCallers.{one_formula_fault, one_rules, one_weight_fault}
 use Rattle.scenario.specs.KeyFaults.{basis_of, tick_of}
 use Rattle.scenario.specs.Purposes.{purpose_by, ranking_of}
 use Rattle.scenario.specs.RuleValues.{formula_tables, rule_numbers_of, AreRulesOf}

@@ -8,8 +8,8 @@ use Rattle.scenario_keys.specs.declared.rows.Kind.{Kind}
 use Rattle.scenario_keys.specs.declared.rows.Kind.TheVariants as kind
 use Rattle.scenario_keys.specs.declared.key.Key.{Key}
 use Rattle.scenario_keys.specs.declared.cause.Cause.{Cause}
-use Rattle.added_rules.specs.FormulaTables.{IsFormulaFault}
-use Rattle.added_rules.specs.ScenarioRules.{IsWeightFault}
+use Rattle.scenario_rules.specs.FormulaTables.{IsFormulaFault}
+use Rattle.scenario_rules.specs.ScenarioRules.{IsWeightFault}
 use Rattle.scenario.specs.KeyFaults.{basis_of, fault_of, tick_of}
 use Rattle.scenario.specs.RuleValues.{formula_tables, rule_numbers_of}
 use Rattle.scenario.specs.Purposes.{ranking_of}

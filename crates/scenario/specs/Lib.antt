@@ -14,8 +14,8 @@ pub use Rattle.scenario_values.specs.Ticks
 pub use Rattle.scenario_keys.specs.ScenarioKeys
 pub use Rattle.scenario_keys.specs.ScenarioTexts
 pub use Rattle.scenario_keys.specs.FirstFaults
-pub use Rattle.added_rules.specs.FormulaTables
-pub use Rattle.added_rules.specs.ScenarioRules
+pub use Rattle.scenario_rules.specs.FormulaTables
+pub use Rattle.scenario_rules.specs.ScenarioRules
 pub use Rattle.rule_set.specs.NamedTrees
 pub use Rattle.predictions.specs.PredictFaults
 pub use Rattle.predictions.specs.PredictValues

@@ -6,7 +6,7 @@ use Rattle.rule_set.specs.NamedTrees.{NamedTree}
 use Rattle.rule_set.specs.declared.numbers.RuleNumbers.{RuleNumbers}
 use Rattle.rule_set.specs.declared.numbers.Safe.{Safe}
 use Rattle.rule_set.specs.declared.numbers.Safe.TheVariants as safe
-use Rattle.added_rules.specs.ScenarioRules.{AreScenarioRules}
+use Rattle.scenario_rules.specs.ScenarioRules.{AreScenarioRules}
 use Rattle.scenario.specs.KeyFaults.{is_version_two, tick_of}
 use Rattle.scenario.specs.Purposes.{ranking_of}
 use Rattle.scenario.specs.declared.purpose.Purpose.{Purpose}

@@ -16,9 +16,9 @@ use crate::basis::{is_version_two, tick_of};
 use crate::integers::natural;
 use crate::listed::values_at;
 use crate::purpose::{Purpose, ranking_of};
-use added_rules::rules_with;
 use rule_set::{RuleNumbers, RuleSet, Safe};
 use scenario_keys::ScenarioFault;
+use scenario_rules::rules_with;
 use std::alloc::Global;
 use toml::{Table, Value};
 

@@ -5,8 +5,8 @@ use crate::good::{
 };
 use crate::refusals::{told, told_of};
 use encounters::{Act, Detect};
-use formula_language::print;
 use hull_domains::Shape;
+use mtl_language::print;
 use out_of_memory::Memory;
 use rule_set::RuleSet;
 use scenario::{

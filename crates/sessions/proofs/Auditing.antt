@@ -9,7 +9,7 @@ use Rattle.audit_rows.specs.declared.row.Row.{Row}
 use Rattle.audit_rows.specs.declared.row.Row.TheVariants.{Meeting, Verdict}
 use Rattle.audit_rows.specs.declared.topic.Topic.{Topic}
 use Rattle.audit_rows.specs.declared.mark.Mark.{Mark}
-use Rattle.csv_rows.specs.CsvRows.{row_of}
+use Rattle.report_csv.specs.CsvRows.{row_of}
 use Rattle.auditor.specs.AuditTracks.{AreMarksOf}
 use Rattle.traces.specs.Audited.{AuditNumbers, Sighting}
 use Rattle.auditor.specs.AuditRows.{AreAuditRows, IsAuditRow}

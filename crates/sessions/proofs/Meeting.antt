@@ -1,16 +1,16 @@
 -- What a log comes to at its end.
 use Rattle.std.proofs.Common.{ℕ, ◌≡◌, inl, inr, Bool, true, false, IsTrue, List, [], Option, None, Some, Ok, Err, refl, sym, ap, subst, subst₂, ◌∙◌}
-use Rattle.situations.specs.declared.readiness.Unready.{Unready}
+use Rattle.plan_situations.specs.declared.readiness.Unready.{Unready}
 use Rattle.scenario_values.specs.declared.values.Scenario.{Scenario}
 use Rattle.log_lines.specs.JudgedLines.{is_crowded}
 use Rattle.log_lines.specs.LogLines.{lines_of}
 use Rattle.command_line.specs.declared.mode.Mode.{Mode}
 use Rattle.command_line.specs.declared.mode.Mode.TheVariants as mode
-use Rattle.rechecks.specs.CheckedRows.{IsFirstBadRow, why_rows}
-use Rattle.rechecks.proofs.ForCallers.{one_index}
+use Rattle.refutation_check.specs.CheckedRows.{IsFirstBadRow, why_rows}
+use Rattle.refutation_check.proofs.ForCallers.{one_index}
 use Rattle.scenario_values.specs.declared.own_part.OwnPart.{OwnPart}
 use Rattle.settling.specs.ScenarioAudit.{audit_numbers}
-use Rattle.situations.specs.declared.readiness.Ready.{Ready}
+use Rattle.plan_situations.specs.declared.readiness.Ready.{Ready}
 use Rattle.traces.specs.ManyTraces.{HaveMoreThan}
 use Rattle.traces.specs.declared.all_traces.TheConstants.{MOST_TRACES}
 use Rattle.sessions.specs.AuditReport.{sightings_of}

@@ -5,9 +5,9 @@ use Rattle.std.proofs.lemmas.Int.Digits.{number_lt}
 use Rattle.lattice.specs.Grids.{choices_of, plans_of}
 use Rattle.lattice.specs.PlanNumbers.{IsPlan, number_of, plan_of}
 use Rattle.lattice.proofs.Digits.{plan_after, plan_none}
-use Rattle.situations.specs.FailingPlans.{Fails}
-use Rattle.situations.specs.LeastPlans.{AllFail, IsLeastPlan, numbered}
-use Rattle.situations.specs.declared.situation.Situation.{Situation}
+use Rattle.plan_situations.specs.FailingPlans.{Fails}
+use Rattle.plan_situations.specs.LeastPlans.{AllFail, IsLeastPlan, numbered}
+use Rattle.plan_situations.specs.declared.situation.Situation.{Situation}
 use Rattle.sessions.specs.PlanReport.{IsManoeuvre}
 
 -- a plan is that of its number

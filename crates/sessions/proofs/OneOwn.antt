@@ -2,7 +2,7 @@
 use Rattle.std.proofs.Common.{ℕ, ◌≡◌, List}
 use Rattle.scenario_values.specs.declared.own_part.OwnPart.{OwnPart}
 use Rattle.scenario_values.specs.declared.values.Scenario.{Scenario}
-use Rattle.situations.specs.declared.readiness.Ready.{Ready}
+use Rattle.plan_situations.specs.declared.readiness.Ready.{Ready}
 use Rattle.sessions.specs.PlanReport.{IsOwn}
 
 pub one_own : (scenario : Scenario) (log : List ℕ) (own own' : OwnPart) (ready ready' : Ready) → IsOwn scenario log own ready → IsOwn scenario log own' ready' → own ≡ own'

@@ -1,18 +1,18 @@
 -- What a check of rows comes to in own ship's situation.
 use Rattle.std.proofs.Common.{ℕ, ◌≡◌, ◌∙◌, List, Ok, Err, false, refl, ap, sym, subst, subst₂}
 use Rattle.std.specs.Prelude.{IfSome, IsSome}
-use Rattle.csv_rows.specs.CsvRows.{row_of}
+use Rattle.report_csv.specs.CsvRows.{row_of}
 use Rattle.audit_report.specs.ReportRows.{no_plan_fields}
 use Rattle.log_lines.specs.JudgedLines.{is_crowded, numbers_of}
 use Rattle.log_lines.specs.LogLines.{lines_of}
 use Rattle.lattice.specs.Grids.{plans_of}
-use Rattle.rechecks.specs.CheckedRows.{AreRight, IsFirstBadRow, why_rows}
-use Rattle.situations.specs.LeastPlans.{AllFail}
-use Rattle.situations.specs.PlanSituations.{situation_of}
-use Rattle.situations.specs.Preparing.{IsPrepared}
-use Rattle.situations.specs.declared.preparation.Prepared.{Prepared}
-use Rattle.situations.specs.declared.readiness.Ready.{Ready}
-use Rattle.situations.specs.declared.situation.Situation.{Situation}
+use Rattle.refutation_check.specs.CheckedRows.{AreRight, IsFirstBadRow, why_rows}
+use Rattle.plan_situations.specs.LeastPlans.{AllFail}
+use Rattle.plan_situations.specs.PlanSituations.{situation_of}
+use Rattle.plan_situations.specs.Preparing.{IsPrepared}
+use Rattle.plan_situations.specs.declared.preparation.Prepared.{Prepared}
+use Rattle.plan_situations.specs.declared.readiness.Ready.{Ready}
+use Rattle.plan_situations.specs.declared.situation.Situation.{Situation}
 use Rattle.scenario_values.specs.declared.own_part.OwnPart.{OwnPart}
 use Rattle.scenario_values.specs.declared.values.Scenario.{Scenario}
 use Rattle.command_line.specs.declared.mode.Mode.TheVariants as mode

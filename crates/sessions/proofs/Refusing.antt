@@ -9,13 +9,13 @@ use Rattle.log_lines.specs.GrowingLog.{ended_lines}
 use Rattle.log_lines.specs.EachLine.{each_after}
 use Rattle.log_lines.specs.JudgedLines.{greatest_held, held_behind, is_crowded, numbers_of}
 use Rattle.log_lines.specs.LogLines.{is_line_feed}
-use Rattle.rechecks.specs.CheckedRows.{IsFirstBadRow, why_rows}
+use Rattle.refutation_check.specs.CheckedRows.{IsFirstBadRow, why_rows}
 use Rattle.scenario_values.specs.declared.values.Scenario.{Scenario}
 use Rattle.settling.specs.ManySettled.{HaveManySettled}
 use Rattle.sessions.specs.Inner.Pieces.{IsPiece}
 use Rattle.command_line.specs.declared.mode.Mode.{Mode}
-use Rattle.situations.specs.PlanSituations.{greatest_targets, targets_near}
-use Rattle.situations.specs.declared.readiness.Unready.{Unready}
+use Rattle.plan_situations.specs.PlanSituations.{greatest_targets, targets_near}
+use Rattle.plan_situations.specs.declared.readiness.Unready.{Unready}
 use Rattle.sessions.specs.Endings.{Came, First, HasBadEntry, MeetsTargetLimit, IsAnswerOf, OfOwn, Unless, lack_by, unready_of}
 use Rattle.sessions.specs.Modes.{Look, OfOwnShip, OfTicks, WhereChecked, each_line, each_tick, early_by, look_of, look_of, manner_of, needs_rows, nothing, own_ship}
 use Rattle.sessions.specs.PlanReport.{log_messages, situation_on}

@@ -6,21 +6,21 @@ use Rattle.audit_report.specs.declared.report_text.ReportText.{ReportText}
 use Rattle.log_lines.specs.JudgedLines.{is_crowded, numbers_of}
 use Rattle.log_lines.specs.LogLines.{lines_of}
 use Rattle.lattice.specs.Grids.{Grid}
-use Rattle.situations.specs.PlanSituations.{greatest_targets, own_readiness, situation_of, targets_near, vessels_near}
-use Rattle.situations.specs.Preparing.{HasManyTargets as HaveManyTargets, IsPrepared}
-use Rattle.situations.specs.declared.near.Near.{Near}
-use Rattle.situations.specs.declared.preparation.PrepareFault.{PrepareFault}
-use Rattle.situations.specs.declared.preparation.PrepareFault.TheVariants as prepare
-use Rattle.situations.specs.declared.preparation.Prepared.{Prepared}
-use Rattle.situations.specs.declared.readiness.Ready.{Ready}
-use Rattle.situations.specs.declared.readiness.Unready.{Unready}
-use Rattle.situations.specs.LeastPlans.{AllFail}
-use Rattle.situations.specs.declared.situation.Situation.{Situation}
+use Rattle.plan_situations.specs.PlanSituations.{greatest_targets, own_readiness, situation_of, targets_near, vessels_near}
+use Rattle.plan_situations.specs.Preparing.{HasManyTargets as HaveManyTargets, IsPrepared}
+use Rattle.plan_situations.specs.declared.near.Near.{Near}
+use Rattle.plan_situations.specs.declared.preparation.PrepareFault.{PrepareFault}
+use Rattle.plan_situations.specs.declared.preparation.PrepareFault.TheVariants as prepare
+use Rattle.plan_situations.specs.declared.preparation.Prepared.{Prepared}
+use Rattle.plan_situations.specs.declared.readiness.Ready.{Ready}
+use Rattle.plan_situations.specs.declared.readiness.Unready.{Unready}
+use Rattle.plan_situations.specs.LeastPlans.{AllFail}
+use Rattle.plan_situations.specs.declared.situation.Situation.{Situation}
 use Rattle.scenario_values.specs.declared.own_part.OwnPart.{OwnPart}
 use Rattle.scenario_values.specs.declared.values.Scenario.{Scenario}
 use Rattle.tracks.specs.VesselsHeld.{Sent}
 use Rattle.sessions.specs.Endings.{MeetsTargetLimit, HasNoManoeuvre, IsAnswerOf, OfOwn, lack_by, lack_of, lack_where, unready_of}
-use Rattle.explanations.specs.CanonicalLists.{IsCanonical}
+use Rattle.refutation_search.specs.CanonicalLists.{IsCanonical}
 use Rattle.refutations.specs.EntryRows.{entry_text}
 use Rattle.refutations.specs.declared.entry.WhyEntry.{WhyEntry}
 use Rattle.sessions.specs.PlanReport.{AreReasons, IsManoeuvre, IsOwn, log_messages, situation_on}

@@ -3,11 +3,11 @@ use Rattle.std.specs.Prelude.{ℕ, ◌≡◌, ◌<◌, ◌⊎◌, IsTrue, Bool, 
 use Rattle.traces.specs.ManyTraces.{HaveMoreThan}
 use Rattle.log_lines.specs.JudgedLines.{is_crowded, numbers_of}
 use Rattle.log_lines.specs.LogLines.{lines_of}
-use Rattle.situations.specs.PlanSituations.{greatest_targets, own_readiness, targets_near}
-use Rattle.situations.specs.declared.readiness.Ready.{Ready}
-use Rattle.situations.specs.declared.readiness.Unready.{Unready}
-use Rattle.situations.specs.LeastPlans.{AllFail}
-use Rattle.rechecks.specs.CheckedRows.{IsFirstBadRow, why_rows}
+use Rattle.plan_situations.specs.PlanSituations.{greatest_targets, own_readiness, targets_near}
+use Rattle.plan_situations.specs.declared.readiness.Ready.{Ready}
+use Rattle.plan_situations.specs.declared.readiness.Unready.{Unready}
+use Rattle.plan_situations.specs.LeastPlans.{AllFail}
+use Rattle.refutation_check.specs.CheckedRows.{IsFirstBadRow, why_rows}
 use Rattle.scenario_values.specs.declared.own_part.OwnPart.{OwnPart}
 use Rattle.scenario_values.specs.declared.values.Scenario.{Scenario}
 use Rattle.sessions.specs.AuditReport.{IsAuditReport, sightings_of}

@@ -4,13 +4,13 @@ use Rattle.std.specs.Prelude.{ℕ, ◌≡◌, ◌≤◌, length, Bool, true, fla
 use Rattle.log_lines.specs.JudgedLines.{judged_lines, numbers_of}
 use Rattle.log_lines.specs.LogLines.{lines_of}
 use Rattle.log_lines.specs.SentLines.{sent}
-use Rattle.explanations.specs.CanonicalLists.{IsCanonical}
+use Rattle.refutation_search.specs.CanonicalLists.{IsCanonical}
 use Rattle.refutations.specs.EntryRows.{entry_text}
 use Rattle.refutations.specs.declared.entry.WhyEntry.{WhyEntry}
-use Rattle.situations.specs.PlanSituations.{greatest_targets, own_readiness, situation_of, targets_near, vessels_near}
-use Rattle.situations.specs.declared.readiness.Ready.{Ready}
-use Rattle.situations.specs.LeastPlans.{AllFail, IsLeastPlan}
-use Rattle.situations.specs.declared.situation.Situation.{Situation}
+use Rattle.plan_situations.specs.PlanSituations.{greatest_targets, own_readiness, situation_of, targets_near, vessels_near}
+use Rattle.plan_situations.specs.declared.readiness.Ready.{Ready}
+use Rattle.plan_situations.specs.LeastPlans.{AllFail, IsLeastPlan}
+use Rattle.plan_situations.specs.declared.situation.Situation.{Situation}
 use Rattle.scenario_values.specs.declared.own_part.OwnPart.{OwnPart}
 use Rattle.scenario_values.specs.declared.values.Scenario.{Scenario}
 use Rattle.tracks.specs.VesselsHeld.{Sent}

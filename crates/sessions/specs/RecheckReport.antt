@@ -1,11 +1,11 @@
 -- The report of `recheck`: that there is no plan, where rows say rightly why.
 use Rattle.std.specs.Prelude.{ℕ, ◌≡◌, List}
-use Rattle.csv_rows.specs.CsvRows.{row_of}
+use Rattle.report_csv.specs.CsvRows.{row_of}
 use Rattle.audit_report.specs.ReportRows.{no_plan_fields}
 use Rattle.lattice.specs.Grids.{plans_of}
-use Rattle.rechecks.specs.CheckedRows.{why_rows, AreRight}
-use Rattle.situations.specs.LeastPlans.{AllFail}
-use Rattle.situations.specs.declared.readiness.Ready.{Ready}
+use Rattle.refutation_check.specs.CheckedRows.{why_rows, AreRight}
+use Rattle.plan_situations.specs.LeastPlans.{AllFail}
+use Rattle.plan_situations.specs.declared.readiness.Ready.{Ready}
 use Rattle.scenario_values.specs.declared.own_part.OwnPart.{OwnPart}
 use Rattle.scenario_values.specs.declared.values.Scenario.{Scenario}
 use Rattle.sessions.specs.PlanReport.{IsOwn, situation_on}

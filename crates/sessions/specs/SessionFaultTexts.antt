@@ -3,8 +3,8 @@ use Rattle.std.specs.Prelude.{ℕ, List, codes, ◌++◌}
 use Rattle.std.specs.Fmt.{decimal}
 use Rattle.log_lines.specs.JudgedLines.{greatest_held}
 use Rattle.traces.specs.declared.all_traces.TheConstants.{MOST_TRACES}
-use Rattle.situations.specs.PlanSituations.{greatest_targets}
-use Rattle.situations.specs.UnreadyTexts.{unready_text}
+use Rattle.plan_situations.specs.PlanSituations.{greatest_targets}
+use Rattle.plan_situations.specs.UnreadyTexts.{unready_text}
 use Rattle.sessions.specs.declared.session_fault.SessionFault.{SessionFault}
 use Rattle.sessions.specs.declared.session_fault.SessionFault.TheVariants as fault
 

@@ -1,4 +1,4 @@
-//! The law of answers that a run needs, which stands over the definitions alone. The others are in the crate `report_laws`.
+//! The law of answers that a run needs, which stands over the definitions alone. The others are in the crate `laws`.
 ghost use Rattle.std.specs.Prelude.{◌≡◌, ℕ, List};
 ghost use Rattle.scenario_values.specs.declared.values.Scenario.{Scenario};
 ghost use Rattle.sessions.specs.Endings.{Came};

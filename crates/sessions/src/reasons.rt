@@ -2,15 +2,15 @@
 ghost use Rattle.std.specs.Prelude.{ℕ, ◌≡◌, ◌++◌, List, OnOk, flat_map, true};
 ghost use Rattle.refutations.specs.EntryRows.{entry_text};
 ghost use Rattle.refutations.specs.RightLists.{IsEntry};
-ghost use Rattle.situations.specs.LeastPlans.{AllFail};
-ghost use Rattle.situations.specs.Situations.{IsSituation};
+ghost use Rattle.plan_situations.specs.LeastPlans.{AllFail};
+ghost use Rattle.plan_situations.specs.Situations.{IsSituation};
 ghost use Rattle.sessions.specs.Inner.PlanWriting.{AreReasonsWhere};
 ghost use Rattle.std.specs.List.{All};
 
-use explanations::explain;
 use out_of_memory::Memory;
+use plan_situations::Situation;
+use refutation_search::explain;
 use refutations::{WhyEntry, entry_bytes};
-use situations::Situation;
 use std::alloc::Global;
 
 /// Adds the rows of entries to the bytes of a report.

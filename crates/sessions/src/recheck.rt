@@ -1,14 +1,14 @@
 //! The report of `recheck`, at a log's end.
 ghost use Rattle.std.specs.Prelude.{◌≡◌, ◌≤◌, ℕ, List, length, IfErr, IfOk, IsSome, Ok};
-ghost use Rattle.csv_rows.specs.CsvRows.{row_of};
+ghost use Rattle.report_csv.specs.CsvRows.{row_of};
 ghost use Rattle.audit_report.specs.ReportRows.{no_plan_fields};
 ghost use Rattle.command_line.specs.declared.mode.Mode.{Mode};
 ghost use Rattle.command_line.specs.declared.mode.Mode.TheVariants as mode;
 ghost use Rattle.log_lines.specs.LogLines.{lines_of};
 ghost use Rattle.log_lines.specs.Standing.{StandsFor as JudgeStandsFor, keeping_of};
-ghost use Rattle.rechecks.specs.declared.checked_text.TheConstants.{GREATEST_TEXT};
+ghost use Rattle.refutation_check.specs.declared.checked_text.TheConstants.{GREATEST_TEXT};
 ghost use Rattle.scenario_values.specs.ValueRanges.{IsInRange};
-ghost use Rattle.situations.specs.Situations.{IsSituation};
+ghost use Rattle.plan_situations.specs.Situations.{IsSituation};
 ghost use Rattle.tracks.specs.declared.keeping.Keeping.TheVariants.{Tracks};
 ghost use Rattle.sessions.specs.Endings.{IsAnswerOf};
 ghost use Rattle.sessions.specs.Modes.{look_of, own_ship};
@@ -22,10 +22,10 @@ use crate::session_fault::SessionFault;
 use audit_report::{ReportRow, ReportText};
 use log_lines::Judge;
 use out_of_memory::Memory;
-use rechecks::recheck;
+use plan_situations::{Situation, prepare};
+use refutation_check::recheck;
 use refutations::Checked;
 use scenario_values::Scenario;
-use situations::{Situation, prepare};
 use std::alloc::Global;
 
 /// The situation in which own ship's plan is sought.

@@ -11,8 +11,8 @@ ghost use Rattle.sessions.specs.PlanReport.{IsSituationOn};
 ghost use Rattle.sessions.specs.Standing.{IsInUse, StandsFor, mode_of, session_scenario, taken_of};
 ghost use Rattle.sessions.specs.Tasks.{Task, task_by};
 ghost use Rattle.log_lines.specs.LogLines.{is_line_feed};
-ghost use Rattle.rechecks.specs.declared.checked_text.TheConstants.{GREATEST_TEXT};
-ghost use Rattle.situations.specs.Situations.{IsSituation};
+ghost use Rattle.refutation_check.specs.declared.checked_text.TheConstants.{GREATEST_TEXT};
+ghost use Rattle.plan_situations.specs.Situations.{IsSituation};
 
 use crate::asked::Asked;
 use crate::ending::Ending;
@@ -25,9 +25,9 @@ use command_line::Mode;
 use log_lines::laws::{a_part_goes_on, ended_lines_stay};
 use log_lines::{StreamedLines, first_line_feed};
 use out_of_memory::Memory;
+use plan_situations::Situation;
 use scenario_values::Scenario;
 use settling::laws::many_settled_stay;
-use situations::Situation;
 use std::alloc::Global;
 
 /// So many ticks are taken at least before what lies before them is forgotten.

@@ -1,7 +1,7 @@
 //! Why a session gives no report.
 use auditor::{AuditFault, MOST_TRACES};
 use out_of_memory::Memory;
-use situations::{MOST_TARGETS, PrepareFault, Unready};
+use plan_situations::{MOST_TARGETS, PrepareFault, Unready};
 use std::error::Error;
 use std::fmt;
 use tracks::{BookFault, MOST_VESSELS};

@@ -10,7 +10,7 @@ use Rattle.traces.specs.Known.{Known}
 use Rattle.early_monitor.specs.declared.alarm.Alarm.{Alarm}
 use Rattle.early_monitor.specs.declared.alarm_set.Place.{Place}
 use Rattle.early_monitor.specs.Alarms.{tree_of_rule}
-use Rattle.early_sweeps.specs.Decided.{IsDecidedNow}
+use Rattle.mtl_early.specs.Decided.{IsDecidedNow}
 
 -- The new list holds what the old one does, and what the predicate says.
 abbrev pub Adds : (Alarm → Type 0) → List Alarm → List Alarm → Type 0

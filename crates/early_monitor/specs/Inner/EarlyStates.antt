@@ -3,7 +3,7 @@ use Rattle.std.specs.Prelude.{ℕ, Option, Some, None, ◌+◌}
 use Rattle.mtl_formulas.specs.declared.verdict.Verdict.{Verdict}
 use Rattle.mtl_formulas.specs.FormulaTree.{FormulaTree}
 use Rattle.mtl_formulas.specs.Traces.{Trace}
-use Rattle.early_sweeps.specs.Standing as sweeps
+use Rattle.mtl_early.specs.Standing as sweeps
 use Rattle.early_monitor.specs.declared.early_program.EarlyProgram.{EarlyProgram}
 use Rattle.early_monitor.specs.declared.early_program.EarlyProgram.TheVariants as program
 use Rattle.early_monitor.specs.declared.early_program.EarlyState.{EarlyState}

@@ -9,7 +9,7 @@ use Rattle.mtl_formulas.specs.Traces.{Trace, value_in}
 use Rattle.mtl_monitor.specs.declared.program.Program.{Program}
 use Rattle.early_monitor.specs.declared.pass_program.PassProgram.{PassProgram}
 use Rattle.early_monitor.specs.declared.pass_state.PassState.{PassState}
-use Rattle.early_sweeps.specs.Decided.{IsDecidedNow}
+use Rattle.mtl_early.specs.Decided.{IsDecidedNow}
 use Rattle.early_monitor.specs.Inner.Known.{is_known, known_at}
 
 -- The program is one of this formula alone.

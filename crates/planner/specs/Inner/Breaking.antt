@@ -8,7 +8,7 @@ use Rattle.mtl_formulas.specs.Traces.{Trace, value_in}
 use Rattle.mtl_monitor.specs.declared.program.Program.{Program}
 use Rattle.mtl_monitor.specs.declared.trace_state.TraceState.{TraceState}
 use Rattle.planner.specs.declared.already.Already.{Already}
-use Rattle.situations.specs.declared.situation.Situation.{Situation}
+use Rattle.plan_situations.specs.declared.situation.Situation.{Situation}
 
 -- the formulas of a situation's rules
 abbrev pub formulas_of : Situation → List FormulaTree

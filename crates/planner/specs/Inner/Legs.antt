@@ -3,10 +3,10 @@ use Rattle.std.specs.Prelude.{ℕ, ◌≡◌, ◌+◌, ◌-◌, ◌*◌, ◌/◌
 use Rattle.lattice.specs.Grids.{choices_of, positions_of}
 use Rattle.lattice.specs.PlanNumbers.{plan_of, IsPlan}
 use Rattle.motion.specs.declared.leg.TickState.{TickState}
-use Rattle.situations.specs.Paths.{HasReached, IsPath, IsTrack}
-use Rattle.situations.specs.Prefixes.{steps_told}
+use Rattle.plan_situations.specs.Paths.{HasReached, IsPath, IsTrack}
+use Rattle.plan_situations.specs.Prefixes.{steps_told}
 use Rattle.planner.specs.declared.legs.PlannedLeg.{PlannedLeg}
-use Rattle.situations.specs.declared.situation.Situation.{Situation}
+use Rattle.plan_situations.specs.declared.situation.Situation.{Situation}
 
 -- how many ticks a leg lasts, the last one with the tail
 abbrev pub lasts : Situation → ℕ → ℕ

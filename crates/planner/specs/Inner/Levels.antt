@@ -4,19 +4,19 @@ use Rattle.lattice.specs.Grids.{choices_of}
 use Rattle.lattice.specs.PlanNumbers.{plan_of}
 use Rattle.mtl_monitor.specs.Following as monitor
 use Rattle.mtl_formulas.specs.Traces.{Trace}
-use Rattle.situations.specs.FailingPlans.{BreaksARule, EntersDomain, Some_}
+use Rattle.plan_situations.specs.FailingPlans.{BreaksARule, EntersDomain, Some_}
 use Rattle.rule_program.specs.Lags.{IsNoLast}
 use Rattle.planner.specs.Inner.Breaking.{Tells, formulas_of}
 use Rattle.planner.specs.Inner.Legs.{IsPathIn, lasts}
 use Rattle.planner.specs.Inner.Watching.{IsCutAtNow, IsEarly, IsReady, Stands}
-use Rattle.situations.specs.Prefixes.{reached}
-use Rattle.situations.specs.Situations.{IsSituation, now_of}
+use Rattle.plan_situations.specs.Prefixes.{reached}
+use Rattle.plan_situations.specs.Situations.{IsSituation, now_of}
 use Rattle.planner.specs.declared.already.Already.{Already}
 use Rattle.planner.specs.declared.basis.SearchBasis.{SearchBasis}
 use Rattle.planner.specs.declared.legs.PlannedLeg.{PlannedLeg}
 use Rattle.planner.specs.declared.level.Level.{Level}
-use Rattle.situations.specs.declared.situation.Situation.{Situation}
-use Rattle.situations.specs.declared.situation.Target.{Target}
+use Rattle.plan_situations.specs.declared.situation.Situation.{Situation}
+use Rattle.plan_situations.specs.declared.situation.Target.{Target}
 use Rattle.planner.specs.declared.watched.Watched.{Watched}
 
 -- What is told of a target at now is told of the rows of her trace that is cut there.

@@ -1,8 +1,8 @@
 -- The answer among the plans of some consecutive numbers.
 use Rattle.std.specs.Prelude.{ℕ, ◌<◌, ◌≤◌}
-use Rattle.situations.specs.FailingPlans.{Fails}
-use Rattle.situations.specs.LeastPlans.{numbered}
-use Rattle.situations.specs.declared.situation.Situation.{Situation}
+use Rattle.plan_situations.specs.FailingPlans.{Fails}
+use Rattle.plan_situations.specs.LeastPlans.{numbered}
+use Rattle.plan_situations.specs.declared.situation.Situation.{Situation}
 
 -- Every plan fails whose number is at least `from` and below `to`.
 pub record AllFailFrom (situation : Situation) (from to : ℕ) : Type 0 where

@@ -6,12 +6,12 @@ use Rattle.meetings.specs.Traces.{IsContactAt, step_at, steps_from}
 use Rattle.mtl_monitor.specs.Following as monitor
 use Rattle.mtl_formulas.specs.Traces.{Trace}
 use Rattle.mtl_monitor.specs.declared.program.Program.{Program}
-use Rattle.situations.specs.FailingPlans.{AreTraceRows, BeginsAt, BreaksARule}
+use Rattle.plan_situations.specs.FailingPlans.{AreTraceRows, BeginsAt, BreaksARule}
 use Rattle.rule_program.specs.Lags.{IsNoLast}
 use Rattle.planner.specs.Inner.Breaking.{IsNewlyBrokenAt, Tells, formulas_of}
-use Rattle.situations.specs.Situations.{now_of, own_at, target_at, terms_of, IsSituation, IsTarget}
-use Rattle.situations.specs.declared.situation.Situation.{Situation}
-use Rattle.situations.specs.declared.situation.Target.{Target}
+use Rattle.plan_situations.specs.Situations.{now_of, own_at, target_at, terms_of, IsSituation, IsTarget}
+use Rattle.plan_situations.specs.declared.situation.Situation.{Situation}
+use Rattle.plan_situations.specs.declared.situation.Target.{Target}
 use Rattle.planner.specs.declared.towards.Towards.{Towards}
 use Rattle.planner.specs.declared.watched.Watched.{Watched}
 

@@ -4,9 +4,9 @@ use Rattle.std.specs.Borrow.{Bor}
 use Rattle.std.specs.Fmt.{decimal}
 use Rattle.std.specs.Int.Digits.{AllBelowBase}
 use Rattle.std.specs.List.{slice_split}
-use Rattle.csv_rows.specs.CsvRows.{Fields}
+use Rattle.report_csv.specs.CsvRows.{Fields}
 use Rattle.closest_approach.specs.declared.nearest.Moment.{Moment}
-use Rattle.situations.specs.declared.situation.Situation.{Situation}
+use Rattle.plan_situations.specs.declared.situation.Situation.{Situation}
 use Rattle.refutations.specs.EntryRows.{choices_text, reason_fields, FitsReason}
 use Rattle.refutations.specs.RightLists.{KnowsRule}
 use Rattle.refutations.specs.declared.entry.Reason.{Reason}

@@ -5,11 +5,11 @@ use Rattle.lattice.specs.PlanNumbers.{IsPlan}
 use Rattle.meetings.specs.Answers.{answer_of}
 use Rattle.meetings.specs.Standing.{Follows, Following}
 use Rattle.meetings.specs.Traces.{steps_from}
-use Rattle.situations.specs.FailingPlans.{AreTraceRows, BeginsAt}
-use Rattle.situations.specs.Paths.{IsPath, IsTrack}
-use Rattle.situations.specs.Situations.{end_of, own_at, target_at, terms_of, IsSituation}
-use Rattle.situations.specs.declared.situation.Situation.{Situation}
-use Rattle.situations.specs.declared.situation.Target.{Target}
+use Rattle.plan_situations.specs.FailingPlans.{AreTraceRows, BeginsAt}
+use Rattle.plan_situations.specs.Paths.{IsPath, IsTrack}
+use Rattle.plan_situations.specs.Situations.{end_of, own_at, target_at, terms_of, IsSituation}
+use Rattle.plan_situations.specs.declared.situation.Situation.{Situation}
+use Rattle.plan_situations.specs.declared.situation.Target.{Target}
 use Rattle.refutations.specs.declared.course.Course.{Course}
 use Rattle.refutations.specs.declared.replay.Replay.{Replay}
 use Rattle.refutations.specs.declared.trace_so_far.TraceSoFar.{TraceSoFar}

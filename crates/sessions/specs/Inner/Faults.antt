@@ -2,8 +2,8 @@
 use Rattle.std.specs.Prelude.{ℕ, List, Err}
 use Rattle.traces.specs.declared.fault.TickFault.{TickFault as AuditFault}
 use Rattle.traces.specs.declared.fault.TickFault.TheVariants as audit
-use Rattle.situations.specs.declared.preparation.PrepareFault.{PrepareFault}
-use Rattle.situations.specs.declared.preparation.PrepareFault.TheVariants as prepare
+use Rattle.plan_situations.specs.declared.preparation.PrepareFault.{PrepareFault}
+use Rattle.plan_situations.specs.declared.preparation.PrepareFault.TheVariants as prepare
 use Rattle.tracks.specs.declared.entry.BookFault.{BookFault}
 use Rattle.tracks.specs.declared.entry.BookFault.TheVariants as book
 use Rattle.scenario_values.specs.declared.values.Scenario.{Scenario}

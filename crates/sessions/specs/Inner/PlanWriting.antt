@@ -3,15 +3,15 @@ use Rattle.std.specs.Prelude.{ℕ, ◌≡◌, ◌≤◌, ◌++◌, Bool, true, L
 use Rattle.audit_report.specs.ReportTexts.{HasText}
 use Rattle.audit_report.specs.declared.report_text.ReportText.{ReportText}
 use Rattle.log_lines.specs.JudgedLines.{numbers_of}
-use Rattle.explanations.specs.CanonicalLists.{IsCanonical}
+use Rattle.refutation_search.specs.CanonicalLists.{IsCanonical}
 use Rattle.refutations.specs.EntryRows.{entry_text}
 use Rattle.refutations.specs.declared.entry.WhyEntry.{WhyEntry}
-use Rattle.situations.specs.PlanSituations.{greatest_targets, own_readiness, situation_of, targets_near, vessels_near}
-use Rattle.situations.specs.Preparing.{HasManyTargets}
-use Rattle.situations.specs.declared.preparation.PrepareFault.{PrepareFault}
-use Rattle.situations.specs.declared.preparation.PrepareFault.TheVariants as prepare
-use Rattle.situations.specs.declared.readiness.Ready.{Ready}
-use Rattle.situations.specs.declared.situation.Situation.{Situation}
+use Rattle.plan_situations.specs.PlanSituations.{greatest_targets, own_readiness, situation_of, targets_near, vessels_near}
+use Rattle.plan_situations.specs.Preparing.{HasManyTargets}
+use Rattle.plan_situations.specs.declared.preparation.PrepareFault.{PrepareFault}
+use Rattle.plan_situations.specs.declared.preparation.PrepareFault.TheVariants as prepare
+use Rattle.plan_situations.specs.declared.readiness.Ready.{Ready}
+use Rattle.plan_situations.specs.declared.situation.Situation.{Situation}
 use Rattle.scenario_values.specs.declared.own_part.OwnPart.{OwnPart}
 use Rattle.scenario_values.specs.declared.values.Scenario.{Scenario}
 use Rattle.tracks.specs.VesselsHeld.{Sent}

@@ -1,11 +1,11 @@
 -- What a check of rows comes to in a situation.
 use Rattle.std.specs.Prelude.{ℕ, ◌≡◌, List, false}
-use Rattle.csv_rows.specs.CsvRows.{row_of}
+use Rattle.report_csv.specs.CsvRows.{row_of}
 use Rattle.audit_report.specs.ReportRows.{no_plan_fields}
 use Rattle.lattice.specs.Grids.{plans_of}
-use Rattle.rechecks.specs.CheckedRows.{AreRight, IsFirstBadRow, why_rows}
-use Rattle.situations.specs.LeastPlans.{AllFail}
-use Rattle.situations.specs.declared.situation.Situation.{Situation}
+use Rattle.refutation_check.specs.CheckedRows.{AreRight, IsFirstBadRow, why_rows}
+use Rattle.plan_situations.specs.LeastPlans.{AllFail}
+use Rattle.plan_situations.specs.declared.situation.Situation.{Situation}
 use Rattle.sessions.specs.declared.ending.Ending.{Ending}
 use Rattle.sessions.specs.declared.session_fault.SessionFault.{SessionFault}
 use Rattle.sessions.specs.declared.session_fault.SessionFault.TheVariants as fault

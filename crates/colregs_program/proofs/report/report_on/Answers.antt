@@ -1,7 +1,7 @@
 use Rattle.std.proofs.Common.{◌∙◌, subst, sym}
 use Rattle.std.proofs.lemmas.Result.{IfErr-weaker}
 use Rattle.outside.proofs.ForCallers.{err_cause}
-use Rattle.drill_fleet.specs.Limits.{MeetsNoLimit}
+use Rattle.drill_laws.specs.Limits.{MeetsNoLimit}
 use Rattle.sessions.specs.declared.asked.Asked.{Asked}
 use Rattle.colregs_program.specs.AskedScenarios.{log_of}
 use Rattle.colregs_program.proofs.AskedLogs.{cause_of_made, cause_of_read, drills}

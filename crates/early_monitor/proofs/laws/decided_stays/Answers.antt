@@ -1,4 +1,4 @@
-use Rattle.early_sweeps.proofs.ForCallers.{decided_still, decided_value}
+use Rattle.mtl_early.proofs.ForCallers.{decided_still, decided_value}
 use Rattle.early_monitor.proofs.laws.decided_stays.Goals as goal
 
 pub returns-clause-still : goal.returns-clause-still

@@ -1,4 +1,4 @@
-use Rattle.early_sweeps.proofs.ForCallers.{some_number}
+use Rattle.mtl_early.proofs.ForCallers.{some_number}
 use Rattle.early_monitor.proofs.laws.value_is_decided.Goals as goal
 
 pub returns : goal.returns

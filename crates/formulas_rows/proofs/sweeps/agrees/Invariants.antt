@@ -1,5 +1,5 @@
 use Rattle.std.proofs.Common.{◌≡◌}
-use Rattle.early_sweeps.specs.Standing.{HasGivenAll, IsStateOf, rows_fed}
+use Rattle.mtl_early.specs.Standing.{HasGivenAll, IsStateOf, rows_fed}
 use Rattle.formulas_rows.proofs.sweeps.agrees.Given as goal
 
 abbrev pub invariant-loop-i : goal.invariant-loop-i

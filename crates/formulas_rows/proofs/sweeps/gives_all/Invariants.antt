@@ -1,5 +1,5 @@
 use Rattle.std.proofs.Common.{◌≡◌}
-use Rattle.early_sweeps.specs.Standing.{IsStateOf, rows_fed}
+use Rattle.mtl_early.specs.Standing.{IsStateOf, rows_fed}
 use Rattle.formulas_rows.proofs.sweeps.gives_all.Given as goal
 
 abbrev pub invariant-loop-position : goal.invariant-loop-position

@@ -1,6 +1,6 @@
 use Rattle.std.proofs.Common.{◌<◌, List, length, get_or, ap, subst, refl, ◌∙◌}
-use Rattle.situations.specs.Situations.{IsTarget}
-use Rattle.situations.specs.declared.situation.Target.{Target}
+use Rattle.plan_situations.specs.Situations.{IsTarget}
+use Rattle.plan_situations.specs.declared.situation.Target.{Target}
 use Rattle.planner.proofs.Grown.{grow_item}
 use Rattle.plan_rows.proofs.checked.are_targets.Goals as goal
 

@@ -1,6 +1,6 @@
 use Rattle.std.proofs.Common.{ℕ, ◌<◌, get_or}
-use Rattle.situations.specs.Situations.{IsTarget}
-use Rattle.situations.specs.declared.situation.Target.{Target}
+use Rattle.plan_situations.specs.Situations.{IsTarget}
+use Rattle.plan_situations.specs.declared.situation.Target.{Target}
 use Rattle.plan_rows.proofs.checked.are_targets.Given as goal
 
 abbrev pub invariant-loop-target : goal.invariant-loop-target

@@ -3,7 +3,7 @@ use Rattle.std.specs.Prelude.{Option, IfSome}
 use Rattle.encounters.specs.Directions.{HasDirection}
 use Rattle.meetings.specs.Traces.{IsPlaced, IsShortMove}
 use Rattle.motion.specs.declared.leg.TickState.{TickState}
-use Rattle.situations.specs.Situations.{known_at}
+use Rattle.plan_situations.specs.Situations.{known_at}
 use Rattle.planner.proofs.Grown.{grow}
 use Rattle.plan_rows.proofs.checked.is_own_tracked.Goals as goal
 

@@ -2,7 +2,7 @@ use Rattle.std.proofs.Common.{ℕ, ◌+◌, ◌<◌}
 use Rattle.std.specs.Prelude.{IfSome}
 use Rattle.encounters.specs.Directions.{HasDirection}
 use Rattle.meetings.specs.Traces.{IsPlaced, IsShortMove}
-use Rattle.situations.specs.Situations.{target_at}
+use Rattle.plan_situations.specs.Situations.{target_at}
 use Rattle.plan_rows.proofs.checked.is_target_tracked.Given as goal
 
 abbrev pub invariant-loop-k : goal.invariant-loop-k

@@ -1,8 +1,8 @@
 use Rattle.std.proofs.Common.{◌≡◌, ℕ, ◌+◌, ◌<◌, [], subst, ◌∙◌, arith}
 use Rattle.planner.specs.Inner.Watching.{StandsFor}
-use Rattle.situations.specs.Situations.{now_of}
-use Rattle.situations.proofs.Blocks.{some_plan}
-use Rattle.situations.proofs.CommonLegs.{same_contact, same_step}
+use Rattle.plan_situations.specs.Situations.{now_of}
+use Rattle.plan_situations.proofs.Blocks.{some_plan}
+use Rattle.plan_situations.proofs.CommonLegs.{same_contact, same_step}
 use Rattle.planner.proofs.Places.{fed_step}
 use Rattle.planner.proofs.basis.watched_at_now.Goals as goal
 

@@ -2,11 +2,11 @@ use Rattle.std.proofs.Common.{◌≡◌, ℕ, ◌+◌, ◌*◌, ◌^◌, ◌<◌
 use Rattle.lattice.specs.Grids.{choices_of}
 use Rattle.lattice.specs.PlanNumbers.{plan_of}
 use Rattle.planner.specs.Inner.Levels.{ArePlaces}
-use Rattle.situations.specs.Paths.{HasReached}
+use Rattle.plan_situations.specs.Paths.{HasReached}
 use Rattle.planner.specs.Inner.Walk.{AllFailFrom}
-use Rattle.situations.specs.Prefixes.{PrefixFails}
+use Rattle.plan_situations.specs.Prefixes.{PrefixFails}
 use Rattle.planner.specs.declared.level.Level.{Level}
-use Rattle.situations.proofs.Blocks.{small_place}
+use Rattle.plan_situations.proofs.Blocks.{small_place}
 use Rattle.planner.proofs.Blocks.{all_tried, block_fails, found, none_before, none_fail, not_found}
 use Rattle.planner.proofs.Walking.{first_alone, join_places, next_number, number_before, split_places}
 use Rattle.planner.proofs.explore.+explore.Goals as goal

@@ -1,7 +1,7 @@
 use Rattle.std.proofs.Common.{◌≡◌, ◌*◌, ◌^◌, ◌<◌, ◌≤◌, ℕ, take, sym, subst, ap, ◌∙◌, arith, rules}
 use Rattle.lattice.specs.Grids.{choices_of}
 use Rattle.lattice.specs.PlanNumbers.{plan_of}
-use Rattle.situations.proofs.Blocks.{first_plan_begins, first_plan_numbered, small_place}
+use Rattle.plan_situations.proofs.Blocks.{first_plan_begins, first_plan_numbered, small_place}
 use Rattle.planner.proofs.legs.first_plan.Goals as goal
 
 pub pow-place-requires : goal.pow-place-requires

@@ -1,5 +1,5 @@
 use Rattle.std.proofs.Common.{ℕ, subst}
-use Rattle.situations.specs.Paths.{HasReached}
+use Rattle.plan_situations.specs.Paths.{HasReached}
 use Rattle.planner.proofs.Extending.{reached_prefix}
 use Rattle.planner.proofs.legs.own_at_leg.Goals as goal
 

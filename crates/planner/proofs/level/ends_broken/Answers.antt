@@ -1,8 +1,8 @@
 use Rattle.std.proofs.Common.{◌≡◌, ◌<◌, List, length, get_or, refl, sym, ap, subst, ◌∙◌, arith}
-use Rattle.situations.specs.FailingPlans.{BreaksARule}
-use Rattle.situations.specs.Situations.{IsTarget}
-use Rattle.situations.specs.declared.situation.Target.{Target}
-use Rattle.situations.proofs.FlatList.{none_some, none_so_far_of, some_here}
+use Rattle.plan_situations.specs.FailingPlans.{BreaksARule}
+use Rattle.plan_situations.specs.Situations.{IsTarget}
+use Rattle.plan_situations.specs.declared.situation.Target.{Target}
+use Rattle.plan_situations.proofs.FlatList.{none_some, none_so_far_of, some_here}
 use Rattle.planner.proofs.Places.{rules_few, stands_here, told_here}
 use Rattle.planner.proofs.level.ends_broken.Goals as goal
 

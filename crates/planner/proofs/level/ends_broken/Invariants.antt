@@ -1,9 +1,9 @@
 use Rattle.std.proofs.Common.{ℕ, ◌<◌, ◌≤◌, List, get_or}
 use Rattle.mtl_monitor.specs.Following.{Fits, HasRoom}
-use Rattle.situations.specs.FailingPlans.{BreaksARule}
+use Rattle.plan_situations.specs.FailingPlans.{BreaksARule}
 use Rattle.planner.specs.Inner.Levels.{StandsAt}
-use Rattle.situations.specs.Situations.{now_of}
-use Rattle.situations.specs.declared.situation.Target.{Target}
+use Rattle.plan_situations.specs.Situations.{now_of}
+use Rattle.plan_situations.specs.declared.situation.Target.{Target}
 use Rattle.planner.proofs.level.ends_broken.Given as goal
 
 abbrev pub invariant-loop-k : goal.invariant-loop-k

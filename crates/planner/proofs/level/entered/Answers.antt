@@ -1,8 +1,8 @@
 use Rattle.std.proofs.Common.{◌+◌, ◌-◌, ◌<◌, List, length, get_or, refl, ap, subst, ◌∙◌, arith}
-use Rattle.situations.specs.Paths.{EntersAlong}
-use Rattle.situations.specs.Situations.{now_of}
-use Rattle.situations.specs.declared.situation.Target.{Target}
-use Rattle.situations.proofs.FlatList.{none_some, none_so_far_of, some_here}
+use Rattle.plan_situations.specs.Paths.{EntersAlong}
+use Rattle.plan_situations.specs.Situations.{now_of}
+use Rattle.plan_situations.specs.declared.situation.Target.{Target}
+use Rattle.plan_situations.proofs.FlatList.{none_some, none_so_far_of, some_here}
 use Rattle.planner.proofs.level.entered.Goals as goal
 
 pub loop-index-preserved : goal.loop-index-preserved

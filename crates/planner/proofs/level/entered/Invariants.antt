@@ -1,7 +1,7 @@
 use Rattle.std.proofs.Common.{ℕ, ◌+◌, ◌-◌, ◌<◌, length, get_or}
-use Rattle.situations.specs.Paths.{EntersAlong}
-use Rattle.situations.specs.Situations.{now_of}
-use Rattle.situations.specs.declared.situation.Target.{Target}
+use Rattle.plan_situations.specs.Paths.{EntersAlong}
+use Rattle.plan_situations.specs.Situations.{now_of}
+use Rattle.plan_situations.specs.declared.situation.Target.{Target}
 use Rattle.planner.proofs.level.entered.Given as goal
 
 abbrev pub invariant-loop-index : goal.invariant-loop-index

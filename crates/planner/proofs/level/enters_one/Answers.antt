@@ -1,8 +1,8 @@
 use Rattle.std.proofs.Common.{◌+◌, ◌-◌, ◌<◌, List, length, get_or, ap, subst, ◌∙◌}
-use Rattle.situations.specs.Paths.{EntersAlong}
-use Rattle.situations.specs.Situations.{now_of}
-use Rattle.situations.specs.declared.situation.Target.{Target}
-use Rattle.situations.proofs.FlatList.{some_here}
+use Rattle.plan_situations.specs.Paths.{EntersAlong}
+use Rattle.plan_situations.specs.Situations.{now_of}
+use Rattle.plan_situations.specs.declared.situation.Target.{Target}
+use Rattle.plan_situations.proofs.FlatList.{some_here}
 use Rattle.planner.proofs.level.enters_one.Goals as goal
 
 pub returns-then-index-targets : goal.returns-then-index-targets

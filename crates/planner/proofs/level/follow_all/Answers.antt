@@ -2,15 +2,15 @@ use Rattle.std.proofs.Common.{◌≡◌, ℕ, ◌+◌, ◌<◌, List, length, ge
 use Rattle.std.proofs.lemmas.List.{get_or_default, length-set}
 use Rattle.std.proofs.lemmas.List.Elements.{All-set}
 use Rattle.mtl_formulas.specs.Traces.{Trace}
-use Rattle.situations.specs.FailingPlans.{BreaksARule}
+use Rattle.plan_situations.specs.FailingPlans.{BreaksARule}
 use Rattle.planner.specs.Inner.Breaking.{Tells, formulas_of}
 use Rattle.planner.specs.Inner.Watching.{IsCutAtNow, IsEarly, IsReady, Stands}
-use Rattle.situations.specs.Prefixes.{reached}
-use Rattle.situations.specs.Situations.{IsTarget}
+use Rattle.plan_situations.specs.Prefixes.{reached}
+use Rattle.plan_situations.specs.Situations.{IsTarget}
 use Rattle.planner.specs.declared.already.Already.{Already}
-use Rattle.situations.specs.declared.situation.Target.{Target}
+use Rattle.plan_situations.specs.declared.situation.Target.{Target}
 use Rattle.planner.specs.declared.watched.Watched.{Watched}
-use Rattle.situations.proofs.FlatList.{some_here}
+use Rattle.plan_situations.proofs.FlatList.{some_here}
 use Rattle.planner.proofs.Places.{done_set, rules_few, stands_here, told_here}
 use Rattle.planner.proofs.level.follow_all.Goals as goal
 

@@ -4,9 +4,9 @@ use Rattle.std.proofs.lemmas.List.{get_or_default}
 use Rattle.std.proofs.lemmas.List.Elements.{All-push}
 use Rattle.planner.specs.Inner.Levels.{IsToldAtNow}
 use Rattle.planner.specs.Inner.Watching.{IsEarly, IsReady, StandsFor}
-use Rattle.situations.specs.Situations.{now_of}
+use Rattle.plan_situations.specs.Situations.{now_of}
 use Rattle.planner.specs.declared.already.Already.{Already}
-use Rattle.situations.specs.declared.situation.Target.{Target}
+use Rattle.plan_situations.specs.declared.situation.Target.{Target}
 use Rattle.planner.specs.declared.watched.Watched.{Watched}
 use Rattle.planner.proofs.AtNow.{push_at, stands_at_now, told_at_now}
 use Rattle.planner.proofs.walk.watch_each.Goals as goal

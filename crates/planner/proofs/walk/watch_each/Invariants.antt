@@ -5,9 +5,9 @@ use Rattle.rule_program.specs.Lags.{IsNoLast}
 use Rattle.planner.specs.Inner.Breaking.{formulas_of}
 use Rattle.planner.specs.Inner.Levels.{IsToldAtNow}
 use Rattle.planner.specs.Inner.Watching.{IsEarly, IsReady, StandsFor}
-use Rattle.situations.specs.Situations.{now_of}
+use Rattle.plan_situations.specs.Situations.{now_of}
 use Rattle.planner.specs.declared.already.Already.{Already}
-use Rattle.situations.specs.declared.situation.Target.{Target}
+use Rattle.plan_situations.specs.declared.situation.Target.{Target}
 use Rattle.planner.specs.declared.watched.Watched.{Watched}
 use Rattle.planner.proofs.walk.watch_each.Given as goal
 

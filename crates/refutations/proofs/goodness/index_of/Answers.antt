@@ -1,5 +1,5 @@
 use Rattle.std.proofs.Common.{ℕ, ◌≡◌, ◌+◌, ◌-◌, ◌/◌, ◌≤◌, ◌<◌, arith, sym, subst}
-use Rattle.situations.specs.declared.situation.Target.{Target}
+use Rattle.plan_situations.specs.declared.situation.Target.{Target}
 use Rattle.refutations.proofs.FoundTargets.{above_too, below_too}
 use Rattle.refutations.proofs.goodness.index_of.Goals as goal
 

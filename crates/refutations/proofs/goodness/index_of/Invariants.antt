@@ -1,5 +1,5 @@
 use Rattle.std.proofs.Common.{ℕ, ◌-◌, ◌≤◌, ◌<◌, length, get_or}
-use Rattle.situations.specs.declared.situation.Target.{Target}
+use Rattle.plan_situations.specs.declared.situation.Target.{Target}
 use Rattle.refutations.proofs.goodness.index_of.Given as goal
 
 -- the target lies from the one index to before the other, if it is there

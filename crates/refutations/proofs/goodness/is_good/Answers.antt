@@ -2,10 +2,10 @@ use Rattle.std.proofs.Common.{◌≡◌, ◌∙◌, ◌<◌, ℕ, List, length, 
 use Rattle.std.specs.Prelude.{IsTrue, ◌↔◌}
 use Rattle.std.proofs.lemmas.List.{get_or_default}
 use Rattle.std.proofs.lemmas.Result.{IfOk-weaker}
-use Rattle.situations.specs.Prefixes.{reached}
-use Rattle.situations.specs.declared.situation.Situation.{Situation}
-use Rattle.situations.specs.declared.situation.Target.{Target}
-use Rattle.situations.proofs.ForCallers.{through}
+use Rattle.plan_situations.specs.Prefixes.{reached}
+use Rattle.plan_situations.specs.declared.situation.Situation.{Situation}
+use Rattle.plan_situations.specs.declared.situation.Target.{Target}
+use Rattle.plan_situations.proofs.ForCallers.{through}
 use Rattle.refutations.specs.GoodEntries.{Holds, HoldsFor}
 use Rattle.refutations.specs.Inner.Replays.{situation_in}
 use Rattle.refutations.proofs.BrokenRules.{back}

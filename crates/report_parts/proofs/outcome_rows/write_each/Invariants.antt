@@ -1,5 +1,5 @@
 use Rattle.std.proofs.Common.{ℕ, List, ◌++◌, flat_map, slice_index, take}
-use Rattle.csv_rows.specs.CsvRows.{row_of}
+use Rattle.report_csv.specs.CsvRows.{row_of}
 use Rattle.log_lines.specs.LineOutcomes.{outcome_index}
 use Rattle.audit_report.specs.ReportRows.{count_fields}
 use Rattle.audit_report.specs.ReportTexts.{HasText}

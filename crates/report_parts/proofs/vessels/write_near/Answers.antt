@@ -1,8 +1,8 @@
 use Rattle.std.proofs.Common.{ℕ, ◌∙◌, List, ◌++◌, ap, subst, append_assoc, true}
 use Rattle.std.proofs.lemmas.List.{take_all}
-use Rattle.csv_rows.specs.CsvRows.{row_of}
+use Rattle.report_csv.specs.CsvRows.{row_of}
 use Rattle.audit_report.specs.ReportTexts.{HasText}
-use Rattle.situations.specs.declared.near.Near.{Near}
+use Rattle.plan_situations.specs.declared.near.Near.{Near}
 use Rattle.report_parts.specs.VesselRows.{held_fields, near_rows}
 use Rattle.report_parts.proofs.Pushing.{rows_push}
 use Rattle.report_parts.proofs.vessels.write_near.Goals as goal

@@ -1,7 +1,7 @@
 use Rattle.std.proofs.Common.{ℕ, ◌≡◌, ◌<◌, ◌^◌, List, ◌++◌, length, take, true}
 use Rattle.std.specs.List.{All}
 use Rattle.audit_report.specs.ReportTexts.{HasText}
-use Rattle.situations.specs.declared.near.Near.{Near}
+use Rattle.plan_situations.specs.declared.near.Near.{Near}
 use Rattle.tracks.specs.AcceptedReports.{JudgingNumbers}
 use Rattle.tracks.specs.Standing.{StandsFor as BookStandsFor}
 use Rattle.tracks.specs.VesselsHeld.{Sent, is_held}

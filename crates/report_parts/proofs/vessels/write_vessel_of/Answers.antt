@@ -1,6 +1,6 @@
 use Rattle.std.proofs.Common.{ℕ, ◌++◌, subst, sym, true≢false}
 use Rattle.std.proofs.lemmas.Result.{on_ok_weaker}
-use Rattle.csv_rows.specs.CsvRows.{row_of}
+use Rattle.report_csv.specs.CsvRows.{row_of}
 use Rattle.audit_report.specs.ReportTexts.{HasText}
 use Rattle.report_parts.specs.VesselRows.{held_fields}
 use Rattle.report_parts.proofs.vessels.write_vessel_of.Goals as goal

@@ -1,6 +1,6 @@
 use Rattle.std.proofs.Common.{ℕ, List, ◌++◌, flat_map, subst, arith}
 use Rattle.std.proofs.lemmas.List.{take_all}
-use Rattle.csv_rows.specs.CsvRows.{row_of}
+use Rattle.report_csv.specs.CsvRows.{row_of}
 use Rattle.audit_report.specs.ReportTexts.{HasText}
 use Rattle.tracks.specs.VesselsHeld.{held_of}
 use Rattle.report_parts.specs.VesselRows.{held_fields}

@@ -1,5 +1,5 @@
 use Rattle.std.proofs.Common.{ℕ, ◌<◌, ◌^◌, List, ◌++◌, flat_map, length, take}
-use Rattle.csv_rows.specs.CsvRows.{row_of}
+use Rattle.report_csv.specs.CsvRows.{row_of}
 use Rattle.audit_report.specs.ReportTexts.{HasText}
 use Rattle.tracks.specs.AcceptedReports.{JudgingNumbers}
 use Rattle.tracks.specs.Standing.{StandsFor as BookStandsFor}

@@ -1,6 +1,6 @@
 use Rattle.std.proofs.Common.{List, ℕ, ◌++◌, ◌∙◌, ap, subst, sym}
-use Rattle.situations.specs.LeastPlans.{AllFail}
-use Rattle.situations.specs.declared.situation.Situation.{Situation}
+use Rattle.plan_situations.specs.LeastPlans.{AllFail}
+use Rattle.plan_situations.specs.declared.situation.Situation.{Situation}
 use Rattle.sessions.specs.Inner.PlanWriting.{AreReasonsWhere}
 use Rattle.sessions.proofs.plan.plan_report.Goals as goal
 

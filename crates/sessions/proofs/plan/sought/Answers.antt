@@ -1,6 +1,6 @@
 use Rattle.std.proofs.Common.{◌∙◌, subst, sym}
-use Rattle.situations.specs.Situations.{IsSituation}
-use Rattle.situations.specs.declared.situation.Situation.{Situation}
+use Rattle.plan_situations.specs.Situations.{IsSituation}
+use Rattle.plan_situations.specs.declared.situation.Situation.{Situation}
 use Rattle.sessions.specs.PlanReport.{IsManoeuvre}
 use Rattle.sessions.proofs.plan.sought.Goals as goal
 

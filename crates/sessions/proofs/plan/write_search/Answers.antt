@@ -3,10 +3,10 @@ use Rattle.std.specs.Option.{option_copied}
 use Rattle.std.specs.List.{All}
 use Rattle.outside.proofs.ForCallers.{err_cause}
 use Rattle.log_lines.specs.JudgedLines.{numbers_of}
-use Rattle.situations.specs.Preparing.{IsPrepared}
-use Rattle.situations.specs.declared.near.Near.{Near}
+use Rattle.plan_situations.specs.Preparing.{IsPrepared}
+use Rattle.plan_situations.specs.declared.near.Near.{Near}
 use Rattle.tracks.specs.VesselsHeld.{is_held}
-use Rattle.situations.specs.declared.situation.Situation.{Situation}
+use Rattle.plan_situations.specs.declared.situation.Situation.{Situation}
 use Rattle.sessions.specs.Inner.PlanWriting.{SoughtCause}
 use Rattle.sessions.proofs.Seeking.{all_fail, none_is, own_of, search_cause, sought}
 use Rattle.sessions.proofs.plan.write_search.Goals as goal

@@ -3,8 +3,8 @@ use Rattle.std.proofs.lemmas.Result.{IfErr-weaker, IfOk-weaker}
 use Rattle.outside.proofs.ForCallers.{err_cause}
 use Rattle.command_line.specs.declared.mode.Mode.TheVariants as mode
 use Rattle.lattice.specs.Grids.{plans_of}
-use Rattle.rechecks.proofs.ForCallers.{not_both}
-use Rattle.rechecks.specs.CheckedRows.{why_rows}
+use Rattle.refutation_check.proofs.ForCallers.{not_both}
+use Rattle.refutation_check.specs.CheckedRows.{why_rows}
 use Rattle.sessions.specs.Endings.{IsAnswerOf}
 use Rattle.sessions.proofs.Rechecking.{bad_cause, no_bad_entry, recheck_report}
 use Rattle.sessions.proofs.recheck.end_recheck.Goals as goal

@@ -3,7 +3,7 @@ use Rattle.outside.proofs.ForCallers.{err_cause}
 use Rattle.log_lines.specs.JudgedLines.{numbers_of}
 use Rattle.log_lines.specs.LogLines.{lines_of}
 use Rattle.log_lines.specs.SentLines.{sent}
-use Rattle.situations.specs.Preparing.{IsPrepared}
+use Rattle.plan_situations.specs.Preparing.{IsPrepared}
 use Rattle.sessions.specs.PlanReport.{log_messages}
 use Rattle.sessions.proofs.Rechecking.{prepared_on}
 use Rattle.sessions.proofs.Seeking.{own_cause, own_of, search_cause}

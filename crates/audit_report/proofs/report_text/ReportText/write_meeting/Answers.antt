@@ -1,6 +1,6 @@
 use Rattle.std.proofs.Common.{rules, ◌≡◌, ℕ, List, ◌++◌, OnOk, refl, subst}
 use Rattle.audit_report.specs.ReportRows.{kind_name}
-use Rattle.csv_rows.specs.CsvRows.{row_of}
+use Rattle.report_csv.specs.CsvRows.{row_of}
 use Rattle.audit_report.specs.ReportTexts.{HasText}
 use Rattle.audit_report.proofs.RowFields.{seven}
 use Rattle.audit_report.proofs.report_text.ReportText.write_meeting.Goals as goal

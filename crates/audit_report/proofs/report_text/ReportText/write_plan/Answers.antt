@@ -1,6 +1,6 @@
 use Rattle.std.proofs.Common.{ℕ, List, ◌++◌, OnOk, refl, ap, subst, ◌∙◌}
 use Rattle.std.specs.Fmt.{decimal}
-use Rattle.csv_rows.specs.CsvRows.{row_of}
+use Rattle.report_csv.specs.CsvRows.{row_of}
 use Rattle.audit_report.specs.ReportTexts.{HasText}
 use Rattle.audit_report.proofs.RowFields.{seven}
 use Rattle.audit_report.proofs.report_text.ReportText.write_plan.Goals as goal

@@ -1,6 +1,6 @@
 use Rattle.std.proofs.Common.{[], ◌∷◌, ◌++◌, ◌∙◌, arith, refl}
 use Rattle.mtl_monitor.proofs.Feeding.{Closes-Follows}
-use Rattle.early_sweeps.proofs.ForCallers.{decided_earlier}
+use Rattle.mtl_early.proofs.ForCallers.{decided_earlier}
 use Rattle.early_monitor.proofs.pass_state.PassState.feed.Goals as goal
 
 pub copy_from-requires : goal.copy_from-requires

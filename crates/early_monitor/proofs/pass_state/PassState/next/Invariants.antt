@@ -4,7 +4,7 @@ use Rattle.mtl_formulas.specs.declared.verdict.Verdict.{Verdict}
 use Rattle.mtl_formulas.specs.FormulaTree.{FormulaTree}
 use Rattle.mtl_formulas.specs.FormulaMeasures.{reach_of}
 use Rattle.mtl_formulas.specs.Traces.{Trace}
-use Rattle.early_sweeps.specs.Decided.{IsDecidedNow}
+use Rattle.mtl_early.specs.Decided.{IsDecidedNow}
 use Rattle.early_monitor.specs.Inner.Passing.{IsLooking, IsStateOf, fed_rows}
 use Rattle.early_monitor.proofs.pass_state.PassState.next.Given as goal
 

@@ -1,5 +1,5 @@
 use Rattle.std.proofs.Common.{ℕ, ◌+◌, ◌^◌, ◌<◌, sym, subst, ◌∙◌, arith, rules}
-use Rattle.situations.specs.Paths.{HasReached}
+use Rattle.plan_situations.specs.Paths.{HasReached}
 use Rattle.planner.proofs.Extending.{leg_begins, reached_front}
 use Rattle.planner.proofs.legs.PlannedLeg.new.Goals as goal
 

@@ -1,9 +1,9 @@
 use Rattle.std.proofs.Common.{◌≡◌, ℕ, ◌+◌, ◌-◌, length, sym, subst, arith}
-use Rattle.situations.specs.FailingPlans.{FailsBy}
+use Rattle.plan_situations.specs.FailingPlans.{FailsBy}
 use Rattle.planner.specs.Inner.Legs.{IsPathIn}
 use Rattle.planner.specs.Inner.Levels.{StaysOut}
-use Rattle.situations.specs.Prefixes.{reached}
-use Rattle.situations.specs.Situations.{now_of}
+use Rattle.plan_situations.specs.Prefixes.{reached}
+use Rattle.plan_situations.specs.Situations.{now_of}
 use Rattle.planner.proofs.Extending.{along_fails, still_out}
 use Rattle.planner.proofs.level.Level.enters.Goals as goal
 

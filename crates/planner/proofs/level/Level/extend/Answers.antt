@@ -1,5 +1,5 @@
 use Rattle.std.proofs.Common.{◌+◌, arith}
-use Rattle.situations.specs.Prefixes.{reached}
+use Rattle.plan_situations.specs.Prefixes.{reached}
 use Rattle.planner.proofs.Extending.{breaks_fails, early_to_end, from_through, level_before, level_through, none_fails, out_before, out_through, to_before, to_through}
 use Rattle.planner.proofs.level.Level.extend.Goals as goal
 

@@ -2,9 +2,9 @@ use Rattle.std.proofs.Common.{◌≡◌, ℕ, ◌+◌, ◌*◌, ◌/◌, ◌^◌
 use Rattle.std.specs.Prelude.{MatchOption}
 use Rattle.lattice.specs.Grids.{choices_of}
 use Rattle.lattice.specs.PlanNumbers.{plan_of}
-use Rattle.situations.specs.FailingPlans.{FailsBy}
-use Rattle.situations.specs.Paths.{HasReached}
-use Rattle.situations.specs.Prefixes.{reached}
+use Rattle.plan_situations.specs.FailingPlans.{FailsBy}
+use Rattle.plan_situations.specs.Paths.{HasReached}
+use Rattle.plan_situations.specs.Prefixes.{reached}
 use Rattle.planner.specs.Inner.Legs.{legs_through}
 use Rattle.planner.specs.Inner.Levels.{AreEarly, HasPlaces, HasTargets, StandsAt}
 use Rattle.planner.specs.Walks.{IsFirstFailing}

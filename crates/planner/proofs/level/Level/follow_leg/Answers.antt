@@ -1,7 +1,7 @@
 use Rattle.std.proofs.Common.{◌+◌, List, sym, subst, ◌∙◌}
 use Rattle.planner.specs.Inner.Legs.{IsPathIn}
 use Rattle.planner.specs.Inner.Levels.{AreEarly, AreFollowed, HasTargets}
-use Rattle.situations.specs.Prefixes.{reached}
+use Rattle.plan_situations.specs.Prefixes.{reached}
 use Rattle.planner.specs.declared.watched.Watched.{Watched}
 use Rattle.planner.proofs.Places.{written}
 use Rattle.planner.proofs.level.Level.follow_leg.Goals as goal

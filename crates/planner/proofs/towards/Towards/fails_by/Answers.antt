@@ -1,6 +1,6 @@
 use Rattle.std.proofs.Common.{◌+◌, inl, inr, refl, arith}
-use Rattle.situations.specs.FailingPlans.{EntersDomain}
-use Rattle.situations.specs.Prefixes.{reached}
+use Rattle.plan_situations.specs.FailingPlans.{EntersDomain}
+use Rattle.plan_situations.specs.Prefixes.{reached}
 use Rattle.planner.proofs.Extending.{enters_before_or_in, enters_in_leg}
 use Rattle.planner.proofs.towards.Towards.fails_by.Goals as goal
 

@@ -1,7 +1,7 @@
 use Rattle.std.proofs.Common.{◌≡◌, ℕ, ◌+◌, false, refl, subst, ◌∙◌, arith}
 use Rattle.planner.specs.Inner.Watching.{IsFollowed}
-use Rattle.situations.specs.Prefixes.{reached}
-use Rattle.situations.specs.Situations.{now_of}
+use Rattle.plan_situations.specs.Prefixes.{reached}
+use Rattle.plan_situations.specs.Situations.{now_of}
 use Rattle.planner.proofs.Following.{none_told, not_yet, one_more, told_by}
 use Rattle.planner.proofs.towards.Towards.follow.Goals as goal
 

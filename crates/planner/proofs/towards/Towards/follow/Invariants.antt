@@ -1,6 +1,6 @@
 use Rattle.std.proofs.Common.{◌+◌, false}
 use Rattle.planner.specs.Inner.Watching.{IsEarly, IsFollowed, IsReady}
-use Rattle.situations.specs.Prefixes.{reached}
+use Rattle.plan_situations.specs.Prefixes.{reached}
 use Rattle.planner.proofs.towards.Towards.follow.Given as goal
 
 abbrev pub invariant-loop-j : goal.invariant-loop-j

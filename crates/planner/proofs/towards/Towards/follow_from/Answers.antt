@@ -1,5 +1,5 @@
 use Rattle.std.proofs.Common.{◌+◌, arith}
-use Rattle.situations.specs.Prefixes.{reached}
+use Rattle.plan_situations.specs.Prefixes.{reached}
 use Rattle.planner.proofs.Following.{from_copy}
 use Rattle.planner.proofs.towards.Towards.follow_from.Goals as goal
 

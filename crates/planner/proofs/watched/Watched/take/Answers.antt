@@ -5,7 +5,7 @@ use Rattle.meetings.specs.Answers.{answer_of}
 use Rattle.meetings.specs.Atoms.{IsAtomRow}
 use Rattle.meetings.specs.Standing.{Follows}
 use Rattle.planner.specs.Inner.Breaking.{formulas_of}
-use Rattle.situations.specs.Situations.{terms_of}
+use Rattle.plan_situations.specs.Situations.{terms_of}
 use Rattle.planner.proofs.Watching.{with_row, without_row}
 use Rattle.planner.proofs.watched.Watched.take.Goals as goal
 

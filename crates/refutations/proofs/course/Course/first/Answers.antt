@@ -1,4 +1,4 @@
-use Rattle.situations.proofs.ForCallers.{some_plan}
+use Rattle.plan_situations.proofs.ForCallers.{some_plan}
 use Rattle.refutations.proofs.course.Course.first.Goals as goal
 
 pub plan-plan-requires : goal.plan-plan-requires

@@ -1,5 +1,5 @@
 use Rattle.std.proofs.Common.{◌≡◌, ◌∙◌, ℕ, List, get_or, ap, refl, subst, sym}
-use Rattle.situations.specs.declared.situation.Target.{Target}
+use Rattle.plan_situations.specs.declared.situation.Target.{Target}
 use Rattle.refutations.specs.Inner.Replays.{situation_in, IsTraceSoFar}
 use Rattle.refutations.proofs.Replays.{kept, kept_too}
 use Rattle.refutations.proofs.replay.Replay.breaks_at.Goals as goal

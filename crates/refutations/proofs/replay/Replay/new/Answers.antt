@@ -1,5 +1,5 @@
 use Rattle.std.proofs.Common.{◌≡◌, ◌∷◌, [], length, get_or, ap, arith, length-append}
-use Rattle.situations.specs.declared.situation.Situation.{Situation}
+use Rattle.plan_situations.specs.declared.situation.Situation.{Situation}
 use Rattle.refutations.specs.Inner.Replays.{situation_in}
 use Rattle.refutations.proofs.Replays.{traces_more}
 use Rattle.refutations.proofs.replay.Replay.new.Goals as goal

@@ -1,5 +1,5 @@
 use Rattle.std.proofs.Common.{ℕ, ◌≡◌, ◌<◌, length, get_or}
-use Rattle.situations.specs.declared.situation.Target.{Target}
+use Rattle.plan_situations.specs.declared.situation.Target.{Target}
 use Rattle.refutations.specs.Inner.Replays.{situation_in, IsTraceSoFar}
 use Rattle.refutations.specs.declared.trace_so_far.TraceSoFar.{TraceSoFar}
 use Rattle.refutations.proofs.replay.Replay.new.Given as goal

@@ -1,6 +1,6 @@
 use Rattle.std.proofs.Common.{◌<◌, length, sym, subst, ap, arith}
 use Rattle.std.proofs.lemmas.Grind.{common_steps}
-use Rattle.situations.specs.FailingPlans.{BeginsAt}
+use Rattle.plan_situations.specs.FailingPlans.{BeginsAt}
 use Rattle.refutations.specs.Inner.Replays.{situation_in}
 use Rattle.refutations.specs.declared.trace_so_far.TraceSoFar.{TraceSoFar}
 use Rattle.refutations.proofs.trace_so_far.TraceSoFar.begun.Goals as goal

@@ -1,8 +1,8 @@
 use Rattle.std.proofs.Common.{◌≡◌, ◌∙◌, ℕ, map, subst, arith}
 use Rattle.meetings.specs.Answers.{answer_of}
 use Rattle.rule_set.specs.NamedTrees.{rule_at}
-use Rattle.situations.specs.FailingPlans.{AreTraceRows}
-use Rattle.situations.proofs.ForCallers.{broken_there, through}
+use Rattle.plan_situations.specs.FailingPlans.{AreTraceRows}
+use Rattle.plan_situations.proofs.ForCallers.{broken_there, through}
 use Rattle.refutations.specs.Inner.Replays.{situation_in}
 use Rattle.refutations.proofs.Replays.{front}
 use Rattle.refutations.proofs.trace_so_far.TraceSoFar.breaks_at.Goals as goal

@@ -7,8 +7,8 @@ use Rattle.meetings.specs.Atoms.{IsAtomRow}
 use Rattle.meetings.specs.Standing.{Follows}
 use Rattle.meetings.specs.Traces.{step_at, steps_from}
 use Rattle.meetings.proofs.ForCallers.{steps_from-last, steps_from-length}
-use Rattle.situations.specs.FailingPlans.{BeginsAt}
-use Rattle.situations.specs.Situations.{own_at, target_at, terms_of}
+use Rattle.plan_situations.specs.FailingPlans.{BeginsAt}
+use Rattle.plan_situations.specs.Situations.{own_at, target_at, terms_of}
 use Rattle.refutations.specs.Inner.Replays.{situation_in}
 use Rattle.refutations.proofs.Replays.{one_more}
 use Rattle.refutations.proofs.trace_so_far.TraceSoFar.follow.Goals as goal

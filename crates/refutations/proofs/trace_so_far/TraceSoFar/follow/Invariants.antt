@@ -1,7 +1,7 @@
 use Rattle.std.proofs.Common.{◌≡◌, length}
 use Rattle.meetings.specs.Standing.{Follows}
 use Rattle.meetings.specs.Traces.{steps_from}
-use Rattle.situations.specs.Situations.{own_at, target_at, terms_of}
+use Rattle.plan_situations.specs.Situations.{own_at, target_at, terms_of}
 use Rattle.refutations.specs.Inner.Replays.{situation_in, told_to, IsTraceSoFar}
 use Rattle.refutations.proofs.trace_so_far.TraceSoFar.follow.Given as goal
 

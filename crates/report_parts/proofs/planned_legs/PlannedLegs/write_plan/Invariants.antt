@@ -1,6 +1,6 @@
 use Rattle.std.proofs.Common.{ℕ, List, ◌++◌, flat_map}
 use Rattle.std.specs.List.{range_with_len}
-use Rattle.csv_rows.specs.CsvRows.{row_of}
+use Rattle.report_csv.specs.CsvRows.{row_of}
 use Rattle.audit_report.specs.ReportTexts.{HasText}
 use Rattle.report_parts.specs.PlanRows.{leg_fields}
 use Rattle.report_parts.proofs.planned_legs.PlannedLegs.write_plan.Given as goal

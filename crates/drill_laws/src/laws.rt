@@ -1,0 +1,15 @@
+//! What may be relied on of the log of a drill. The law stands over the definitions alone.
+ghost use Rattle.std.specs.Prelude.{ℕ};
+ghost use Rattle.scenario_values.specs.ValueRanges.{IsWindow};
+ghost use Rattle.scenario_values.specs.declared.values.Scenario.{Scenario};
+ghost use Rattle.drill_log.specs.DrillLog.{drill_log_of};
+ghost use Rattle.drill_laws.specs.Limits.{MeetsNoLimit};
+
+use log_lines::laws::ended_lines_stay;
+
+/// A drill's log never makes more vessels held than a book can hold, nor more traces begin than are followed, wherever it is cut.
+pub fn a_drill_meets_no_limit()
+    ensures { (scenario : Scenario) (seed : ℕ) → IsWindow scenario.window → MeetsNoLimit scenario (drill_log_of scenario seed) }
+{
+    ended_lines_stay();
+}

@@ -1,2 +1,0 @@
--- Lemmas for the crates above: what is decided, by how many rows, and what one row more decides.
-pub use Rattle.early_sweeps.proofs.Deciding.{decided_before, decided_earlier, decided_from, decided_front, decided_now, decided_still, decided_value, one_number, open_before, open_still, some_number, value_take, within_end, within_rows}

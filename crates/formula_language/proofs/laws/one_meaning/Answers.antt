@@ -1,5 +1,0 @@
-use Rattle.formula_language.proofs.Meanings.{has_one_meaning}
-use Rattle.formula_language.proofs.laws.one_meaning.Goals as goal
-
-pub returns : goal.returns
-returns c = has_one_meaning

@@ -1,3 +1,0 @@
-mod InertLines
-mod InertReports
-mod OneLine

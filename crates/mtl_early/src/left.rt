@@ -1,0 +1,61 @@
+//! Counts of what a window still holds.
+ghost use Rattle.std.specs.Prelude.{◌≡◌};
+ghost use Rattle.mtl_early.specs.Inner.Counts.{left_after, left_under, left_value};
+
+use mtl_formulas::Verdict;
+
+/// For how many values more a Yes, and a value that is not No, stay in a window: 0 where it has none.
+#[derive(Clone, Copy)]
+pub(crate) struct Left {
+    pub yes: u32,
+    pub some: u32,
+}
+
+impl Left {
+    /// Reads one value more into a window of so many.
+    pub(crate) fn read(&mut self, value: Verdict, width: u32)
+        ensures { self.new ≡ left_after self.old width value }
+    {
+        match value {
+            Verdict::No => {
+                self.yes = self.yes.saturating_sub(1);
+                self.some = self.some.saturating_sub(1);
+            }
+            Verdict::Open => {
+                self.yes = self.yes.saturating_sub(1);
+                self.some = width;
+            }
+            Verdict::Yes => {
+                self.yes = width;
+                self.some = width;
+            }
+        }
+    }
+
+    /// Lets nothing count for more than a value.
+    pub(crate) fn limit(&mut self, value: Verdict)
+        ensures { self.new ≡ left_under self.old value }
+    {
+        match value {
+            Verdict::No => {
+                self.yes = 0;
+                self.some = 0;
+            }
+            Verdict::Open => self.yes = 0,
+            Verdict::Yes => {}
+        }
+    }
+
+    /// The greatest value in the window.
+    pub(crate) fn value(self) -> Verdict
+        ensures { result ≡ left_value self }
+    {
+        if self.yes > 0 {
+            Verdict::Yes
+        } else if self.some > 0 {
+            Verdict::Open
+        } else {
+            Verdict::No
+        }
+    }
+}

@@ -1,0 +1,51 @@
+-- Whether the rows of a text say rightly why there is no plan, and which of them is the first that does not.
+use Rattle.std.specs.Prelude.{ℕ, ◌≡◌, ◌≢◌, ◌+◌, ◌≤◌, ◌<◌, bytes_eq, codes, Bool, false, filter, List, [], ◌∷◌, length, take}
+use Rattle.std.specs.List.{AllZip}
+use Rattle.report_csv.specs.CsvRows.{Fields}
+use Rattle.csv.specs.Reading.{default_config, records, strip_bom}
+use Rattle.lattice.specs.Grids.{plans_of}
+use Rattle.plan_situations.specs.declared.situation.Situation.{Situation}
+use Rattle.refutations.specs.EntryRows.{IsEntryOf}
+use Rattle.refutations.specs.RightLists.{ends_from, IsRight, IsSoundAt}
+use Rattle.refutations.specs.declared.entry.Checked.{Checked}
+use Rattle.refutations.specs.declared.entry.Checked.TheVariants.{Right, Bad}
+use Rattle.refutations.specs.declared.entry.WhyEntry.{WhyEntry}
+
+-- whether the first field of a row is `why`
+abbrev pub is_why : Fields → Bool
+is_why [] = false
+is_why (kind ∷ rest) = bytes_eq kind (codes "why")
+
+-- the rows `why` of a text, in order: it is read as CSV with no headers, behind a byte order mark if it begins with one
+abbrev pub why_rows : List ℕ → List Fields
+why_rows text = filter is_why (records default_config (strip_bom text))
+
+module _ (situation : Situation) where
+  -- Rows tell entries: as many, and each the entry whose row has these fields.
+  abbrev pub Tell : List Fields → List WhyEntry → Type 0
+  Tell rows entries = AllZip (IsEntryOf situation) rows entries
+
+  -- Rows are right: they tell a list of entries that is.
+  pub record AreRight (rows : List Fields) : Type 0 where
+    pub entries : List WhyEntry
+    pub told : Tell rows entries
+    pub right : IsRight situation entries
+
+  -- The row with an index is sound: it and the rows before it tell entries, of which its own is good and its block begins where those before it end.
+  pub record IsSoundRow (rows : List Fields) (k : ℕ) : Type 0 where
+    pub entries : List WhyEntry
+    pub told : Tell (take (k + 1) rows) entries
+    pub sound : IsSoundAt situation entries k
+
+  -- The rows are not right, and this is the least index at which one is not sound; where each is, it is their number, and their blocks together are
+  -- not all plans.
+  pub record IsFirstBadRow (rows : List Fields) (k : ℕ) : Type 0 where
+    pub within : k ≤ length rows
+    pub before : (j : ℕ) → j < k → IsSoundRow rows j
+    pub here : k < length rows → ¬ IsSoundRow rows k
+    pub short : k ≡ length rows → (entries : List WhyEntry) → Tell rows entries → ends_from situation 0 entries ≢ plans_of situation.lattice
+
+  -- what a check tells of rows
+  abbrev pub TellsOf : List Fields → Checked → Type 0
+  TellsOf rows Right = AreRight rows
+  TellsOf rows (Bad k) = IsFirstBadRow rows k

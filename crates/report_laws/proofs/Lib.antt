@@ -1,5 +1,0 @@
-mod OneDue
-mod OneEnding
-mod OneList
-mod SettledTexts
-mod SomeAnswer

@@ -1,5 +1,0 @@
-use Rattle.report_laws.proofs.OneList.{one_list}
-use Rattle.report_laws.proofs.laws.one_canonical_list.Goals as goal
-
-pub returns : goal.returns
-returns c = one_list c.args.situation.now c.requires.ascending

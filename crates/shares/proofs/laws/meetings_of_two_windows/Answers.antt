@@ -1,5 +1,0 @@
-use Rattle.shares.proofs.SameMeetings.{meetings_of_windows}
-use Rattle.shares.proofs.laws.meetings_of_two_windows.Goals as goal
-
-pub returns : goal.returns
-returns c = meetings_of_windows

@@ -1,5 +1,0 @@
-use Rattle.situations.proofs.Safe.{safe}
-use Rattle.situations.proofs.laws.what_passes_is_safe.Goals as goal
-
-pub returns : goal.returns
-returns c = λ plan passes. safe c.args.situation.now plan passes

@@ -1,7 +1,0 @@
-use Rattle.std.proofs.Common.{ℕ, ◌<◌}
-use Rattle.meetings.specs.Traces.{IsContactAt}
-use Rattle.situations.specs.Situations.{own_at, target_at}
-use Rattle.situations.proofs.situation.Situation.trace_start.Given as goal
-
-abbrev pub invariant-loop-k : goal.invariant-loop-k
-invariant-loop-k l = (i : ℕ) → i < l.k → ¬ IsContactAt (own_at l.self l.plan) (target_at l.self l.target) l.self.detect.watch i

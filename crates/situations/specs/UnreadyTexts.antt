@@ -1,9 +1,0 @@
--- How what own ship lacks is told.
-use Rattle.std.specs.Prelude.{ℕ, List, codes}
-use Rattle.situations.specs.declared.readiness.Unready.{Unready}
-use Rattle.situations.specs.declared.readiness.Unready.TheVariants.{NoPoint, NoCourse, NoSpeed}
-
-abbrev pub unready_text : Unready → List ℕ
-unready_text (NoPoint time) = codes "no point"
-unready_text (NoCourse time) = codes "no course"
-unready_text (NoSpeed time) = codes "no speed"
