@@ -1,0 +1,105 @@
+"""Builds the package with Python's standard library alone (PEP 517), so that `pip install ./python` needs no network and no other package.
+
+A wheel of pure Python is a zip file of the package with three files about it. `pip` names this module in pyproject.toml.
+"""
+import base64
+import hashlib
+import os
+import re
+import tarfile
+import tomllib
+import zipfile
+
+HERE = os.path.dirname(os.path.abspath(__file__))
+TAG = "py3-none-any"
+COPIED = {os.path.join("..", "docs", "SCENARIO.md"): "colregs/model/SCENARIO.md"}      # what the package reads of the repository
+EARLIEST = (1980, 1, 1, 0, 0, 0)        # the earliest time that a zip file can hold: the same sources give the same bytes
+
+
+def project():
+    """Returns the table `project` of pyproject.toml, with the version that the package states."""
+    with open(os.path.join(HERE, "pyproject.toml"), "rb") as source:
+        table = tomllib.load(source)["project"]
+    with open(os.path.join(HERE, "colregs", "__init__.py"), encoding="utf-8") as source:
+        return table | {"version": re.search(r'^VERSION = "([^"]+)"$', source.read(), re.M)[1]}
+
+
+def package_files():
+    """Yields the path of each file of the package, from this folder on, in the order of their names."""
+    for folder, folders, names in os.walk(os.path.join(HERE, "colregs")):
+        folders[:] = sorted(name for name in folders if name != "__pycache__")
+        for name in sorted(names):
+            yield os.path.relpath(os.path.join(folder, name), HERE)
+
+
+def base_name(table):
+    """Returns the name of the distribution and its version, as file names have them."""
+    return f"{table['name'].replace('-', '_')}-{table['version']}"
+
+
+def about_files(table):
+    """Returns the files about the package: metadata, the kind of wheel, and the commands."""
+    metadata = [f"Metadata-Version: 2.1\nName: {table['name']}\nVersion: {table['version']}\nSummary: {table['description']}\n"
+                f"License: {table['license']['text']}\nRequires-Python: {table['requires-python']}\n"]
+    commands = "".join(f"{name} = {target}\n" for name, target in sorted(table["scripts"].items()))
+    return {"METADATA": metadata[0], "WHEEL": f"Wheel-Version: 1.0\nGenerator: build_offline\nRoot-Is-Purelib: true\nTag: {TAG}\n",
+            "entry_points.txt": f"[console_scripts]\n{commands}"}
+
+
+class Wheel:
+    """A wheel that is being written: its zip file, and the record of what is in it."""
+
+    def __init__(self, path):
+        self.zip, self.record = zipfile.ZipFile(path, "w", zipfile.ZIP_DEFLATED), []
+
+    def add(self, name, content):
+        """Adds a file with its sum to the wheel."""
+        total = base64.urlsafe_b64encode(hashlib.sha256(content).digest()).rstrip(b"=").decode()
+        self.record.append(f"{name},sha256={total},{len(content)}\n")
+        self.put(name, content)
+
+    def put(self, name, content):
+        entry = zipfile.ZipInfo(name, EARLIEST)
+        entry.external_attr = 0o644 << 16
+        self.zip.writestr(entry, content, zipfile.ZIP_DEFLATED)
+
+    def close(self, folder):
+        """Adds the record, and ends the wheel."""
+        self.put(f"{folder}/RECORD", "".join(self.record) + f"{folder}/RECORD,,\n")
+        self.zip.close()
+
+
+def write_wheel(directory, files):
+    """Writes a wheel with these files of (name, bytes); returns its name."""
+    table = project()
+    name, folder = f"{base_name(table)}-{TAG}.whl", f"{base_name(table)}.dist-info"
+    wheel = Wheel(os.path.join(directory, name))
+    for path, content in files:
+        wheel.add(path, content)
+    for path, text in about_files(table).items():
+        wheel.add(f"{folder}/{path}", text.encode())
+    wheel.close(folder)
+    return name
+
+
+def build_wheel(wheel_directory, config_settings=None, metadata_directory=None):
+    """Writes the wheel into a folder; returns its name (PEP 517)."""
+    def content(path):
+        with open(os.path.join(HERE, path), "rb") as source:
+            return source.read()
+    names = {path: path.replace(os.sep, "/") for path in package_files()} | COPIED
+    return write_wheel(wheel_directory, ((name, content(path)) for path, name in names.items()))
+
+
+def build_editable(wheel_directory, config_settings=None, metadata_directory=None):
+    """Writes a wheel that points to this folder; returns its name (PEP 660)."""
+    return write_wheel(wheel_directory, [("colregs_tools.pth", (HERE + "\n").encode())])
+
+
+def build_sdist(sdist_directory, config_settings=None):
+    """Writes the sources as a tarball into a folder; returns its name (PEP 517)."""
+    base = base_name(project())
+    with tarfile.open(os.path.join(sdist_directory, base + ".tar.gz"), "w:gz") as out:
+        for path in ["pyproject.toml", os.path.basename(__file__), *package_files()]:
+            out.add(os.path.join(HERE, path), f"{base}/{path}")
+    return base + ".tar.gz"

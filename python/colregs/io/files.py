@@ -1,0 +1,50 @@
+"""Whole files: read, summed and replaced, with a Fault that names the file if that fails."""
+import hashlib
+import os
+import stat
+import tempfile
+
+from colregs.errors import Fault, reason
+
+BLOCK = 1 << 20     # bytes that are read at once
+
+
+def read_bytes(path):
+    """Returns the bytes of a file."""
+    try:
+        with open(path, "rb") as source:
+            return source.read()
+    except OSError as error:
+        raise Fault("%s cannot be read: %s" % (path, reason(error))) from None
+
+
+def read_text(path):
+    """Returns the text of a file in UTF-8, with its ends of lines as they are."""
+    try:
+        if stat.S_ISCHR(os.stat(path).st_mode):
+            raise Fault("%s is a device, and no file" % path)
+        return read_bytes(path).decode("utf-8")
+    except OSError as error:
+        raise Fault("%s cannot be read: %s" % (path, reason(error))) from None
+    except UnicodeDecodeError:
+        raise Fault("%s: not a text in UTF-8" % path) from None
+
+
+def sum_of(path):
+    """Returns the SHA-256 of a file in hexadecimal digits, and its size in bytes."""
+    total, size = hashlib.sha256(), 0
+    try:
+        with open(path, "rb") as source:
+            while block := source.read(BLOCK):
+                total.update(block)
+                size += len(block)
+    except OSError as error:
+        raise Fault("%s cannot be read: %s" % (path, reason(error))) from None
+    return total.hexdigest(), size
+
+
+def replace(path, words):
+    """Writes a file with these bytes: all of them or none."""
+    with tempfile.NamedTemporaryFile(dir=os.path.dirname(path), delete=False) as out:
+        out.write(words)
+    os.replace(out.name, path)

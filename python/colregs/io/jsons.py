@@ -1,0 +1,144 @@
+"""Logs whose lines are JSON: AIS-catcher, gpsd (`gpspipe -w`), SignalK's deltas, and others that hold a sentence and a time.
+
+An object that holds sentences gives them as they are. One that holds a ship's values alone becomes a position report, message 18 of class B and else
+message 1, and message 24.
+"""
+import json
+import math
+import re
+
+from colregs.io import units
+from colregs.io.forms import Unsure
+
+TIMES = ("rxuxtime", "rxtime", "timestamp", "@timestamp", "time", "received_at", "receivedAt", "datetime", "toa", "ts")
+KNOTS = 3600 / 1852
+HELD = re.compile(r"![A-Z0-9]{2}VD[MO],")
+
+
+class Held:
+    """What an object holds: a time or nothing, sentences as they are, or sentences made; or the name of what it is, where it holds neither."""
+
+    def __init__(self, form, time=None, raw=(), made=(), fix=None, aside=False):
+        self.form, self.time, self.raw, self.made, self.fix, self.aside = form, time, raw, made, fix, aside
+
+
+def value_of(line):
+    """The value that a line holds, or nothing."""
+    try:
+        return json.loads(line.decode("utf-8", "replace"))
+    except (ValueError, RecursionError):
+        return None
+
+
+def objects(value):
+    """The objects of a value: those within a list, or within `msgs`."""
+    if isinstance(value, list):
+        return [each for entry in value for each in objects(entry)]
+    if isinstance(value, dict) and isinstance(value.get("msgs"), list):
+        return objects(value["msgs"])
+    return [value] if isinstance(value, dict) else []
+
+
+def time_of(held, times):
+    """The time that an object tells, or nothing."""
+    for key in TIMES:
+        if isinstance(held.get(key), (str, int, float)):
+            found = times.read(str(held[key]).encode())
+            if found:
+                return found[0]
+    return None
+
+
+def sentences_in(held):
+    """The sentences that stand in an object, as bytes: those of the first of its fields that has any."""
+    for entries in held.values():
+        entries = [entries] if isinstance(entries, str) else entries if isinstance(entries, list) else []
+        found = [entry.encode() for entry in entries if isinstance(entry, str) and HELD.search(entry)]
+        if found:
+            return found
+    return []
+
+
+class Objects:
+    """Reads the objects of a log."""
+
+    def __init__(self, times):
+        self.times, self.ship = times, units.Ship()
+
+    def read(self, held):
+        name = {"AIS-catcher": "AIS-catcher's JSON"}.get(str(held.get("device")), "gpsd's JSON" if "class" in held else "JSON with a sentence")
+        try:
+            time = time_of(held, self.times)
+        except Unsure as doubt:
+            return Held("JSON with %s" % doubt)
+        raw = sentences_in(held)
+        if raw:
+            return Held(name, time, raw)
+        try:
+            if held.get("class") == "TPV":
+                return self.fix(held, time)
+            if held.get("class") == "AIS":
+                return self.ais(held, time, name)
+            if "updates" in held:
+                return self.delta(held)
+        except (ValueError, TypeError, KeyError, AttributeError, OverflowError, Unsure):
+            return Held("JSON with a field that is not what it should be")
+        return Held("JSON of gpsd that is no report" if "class" in held else "JSON without a sentence", aside="class" in held)
+
+    def fix(self, held, time):
+        """Own ship's time and place, as gpsd tells them: metres a second, degrees."""
+        if time is None or held.get("mode", 0) < 2 and "lat" in held:
+            return Held("gpsd's TPV without a valid fix", aside=True)
+        track, way = held.get("track"), held.get("speed")
+        report = (units.latitude(held.get("lat")), units.longitude(held.get("lon")), units.speed(way if way is None else way * KNOTS),
+                  units.course(track), units.heading(None), time % 60)
+        return Held("gpsd's TPV", time, fix=report if "lat" in held and "lon" in held else None)
+
+    def ais(self, held, time, name):
+        """What gpsd or AIS-catcher says of an AIS message, in knots and degrees, or unscaled in the message's own units."""
+        mmsi, made = int(held["mmsi"]), []
+        if not 0 <= mmsi < 1 << 30:
+            raise ValueError(mmsi)
+        sides = [units.number(held.get("to_" + side, "")) for side in ("bow", "stern", "port", "starboard")]
+        made += self.ship.static(mmsi, held.get("shipname", ""), units.kind(held.get("shiptype", "")), units.hull(sides, 0, 0),
+                                 held.get("callsign", ""))
+        if held.get("type") in (1, 2, 3, 18, 19):
+            whole = held.get("scaled", True) is False
+            place, part = (600000, 10) if whole else (1, 1)
+            read = {key: units.number("" if held.get(key) in ("fast", None) else held[key]) for key in ("lat", "lon", "speed", "course", "heading")}
+            scaled = {key: value if value is None else value / (place if key in ("lat", "lon") else part) for key, value in read.items()}
+            way = 1022 if held.get("speed") == "fast" else units.speed(scaled["speed"])
+            report = (units.latitude(scaled["lat"]), units.longitude(scaled["lon"]), way, units.course(scaled["course"]),
+                      units.heading(read["heading"]), int(held.get("second", 60)) & 63)
+            made.append(self.ship.position(mmsi, report, held["type"] in (18, 19), units.status(held.get("status", 15))))
+        if not made:
+            return Held("JSON of gpsd that is no report", aside=True)
+        return Held(name + " (sentences made of its values)", time, made=made)
+
+    def delta(self, held):
+        """A delta of SignalK: metres a second and radians. Of own ship, which it calls self, the MMSI is not told."""
+        found = re.search(r"mmsi:(\d{9})$", str(held.get("context", "")))
+        if not found:
+            return Held("SignalK's delta of own ship or of no ship", aside=True)
+        made, time = [], None
+        for update in held["updates"]:
+            told = {entry["path"]: entry["value"] for entry in update["values"]}
+            at = self.times.read(str(update.get("timestamp", "")).encode())
+            time = at[0] if at else time
+            made += self.of_delta(int(found[1]), told, time or 0)
+        if not made or time is None:
+            return Held("SignalK's delta without a place", aside=True)
+        return Held("SignalK's delta (sentences made of its values)", time, made=made)
+
+    def of_delta(self, mmsi, told, time):
+        size = [told.get("design.length") or {}, told.get("design.beam")]
+        kind = (told.get("design.aisShipType") or {}).get("id", "")
+        made = self.ship.static(mmsi, (told.get("") or {}).get("name", ""), units.kind(kind), units.hull((), size[0].get("overall"), size[1]))
+        place = told.get("navigation.position")
+        if place:
+            way, course, heading = (told.get("navigation." + name) for name in ("speedOverGround", "courseOverGroundTrue", "headingTrue"))
+            report = (units.latitude(place["latitude"]), units.longitude(place["longitude"]), units.speed(way if way is None else way * KNOTS),
+                      units.course(course if course is None else math.degrees(course)),
+                      units.heading(heading if heading is None else round(math.degrees(heading)) % 360), time % 60)
+            made.append(self.ship.position(mmsi, report, told.get("sensors.ais.class") == "B", 15))
+        return made

@@ -1,0 +1,168 @@
+"""Opens a log as it was given, packed or not, in bytes or in UTF-16, and gives its lines one by one.
+
+A file that is not there, is damaged or is cut off ends in a Fault with words for its reader, and never in anything else. Python unpacks gzip, xz,
+bzip2 and zip by itself; for zstd the command `zstd` is needed (tools/PACKAGES).
+"""
+import bz2
+import contextlib
+import gzip
+import io
+import lzma
+import os
+import shutil
+import stat
+import subprocess
+import tempfile
+import zipfile
+import zlib
+
+from colregs.errors import Fault
+
+LONGEST = 1 << 20          # bytes: a longer line is no sentence and no row
+MAGIC = ((b"\x1f\x8b", "gzip"), (b"\xfd7zXZ\x00", "xz"), (b"\x28\xb5\x2f\xfd", "zstd"), (b"BZh", "bzip2"), (b"PK\x03\x04", "zip"))
+MARKS = ((b"\xff\xfe", "utf-16-le"), (b"\xfe\xff", "utf-16-be"))
+DAMAGE = (EOFError, zlib.error, lzma.LZMAError, zipfile.BadZipFile, gzip.BadGzipFile, RuntimeError, NotImplementedError)
+TOO_LONG = b"\xff too long"       # stands for such a line; no line of a log begins so
+
+
+class Part:
+    """A log within a file: its name, how the file was packed, its encoding, and its lines once it was read."""
+
+    def __init__(self, name, packed):
+        self.name, self.packed, self.encoding, self.lines = name, packed, "bytes", 0
+
+
+def packing(path):
+    """How the file is packed, by its first bytes."""
+    try:
+        with open(path, "rb") as source:
+            head = source.read(8)
+    except IsADirectoryError:
+        raise Fault("%s is a folder, and no log" % path) from None
+    except OSError as error:
+        raise Fault("%s cannot be read: %s" % (path, (error.strerror or str(error)).lower())) from None
+    return next((name for magic, name in MAGIC if head.startswith(magic)), "plain")
+
+
+@contextlib.contextmanager
+def zstd(path):
+    if not shutil.which("zstd"):
+        raise Fault("%s is packed by zstd, and the command zstd is not here (Debian package zstd)" % path)
+    with subprocess.Popen(["zstd", "-dcq", "--", path], stdout=subprocess.PIPE, stderr=subprocess.DEVNULL) as child:
+        try:
+            yield child.stdout
+            if child.stdout.read(1) == b"" and child.wait() != 0:
+                raise EOFError
+        finally:
+            child.kill()
+
+
+def members(path, packed):
+    """The name and a way to open each log within a file."""
+    if packed == "zip":
+        with zipfile.ZipFile(path) as whole:
+            names = [entry.filename for entry in whole.infolist() if not entry.is_dir()]
+            for name in names:
+                yield "%s: %s" % (os.path.basename(path), name), lambda name=name: whole.open(name)
+        return
+    openers = {"plain": lambda: open(path, "rb"), "gzip": lambda: gzip.open(path, "rb"), "xz": lambda: lzma.open(path, "rb"),
+               "bzip2": lambda: bz2.open(path, "rb"), "zstd": lambda: zstd(path)}
+    yield os.path.basename(path), openers[packed]
+
+
+def encoding(head):
+    """The encoding, by a byte order mark or by the noughts that UTF-16 has between letters."""
+    for mark, name in MARKS:
+        if head.startswith(mark):
+            return name
+    if len(head) >= 4 and head[1] == head[3] == 0 and head[0] and head[2]:
+        return "utf-16-le"
+    if len(head) >= 4 and head[0] == head[2] == 0 and head[1] and head[3]:
+        return "utf-16-be"
+    return "UTF-8 with a mark" if head.startswith(b"\xef\xbb\xbf") else "bytes"
+
+
+def raw_lines(stream):
+    """Lines of at most LONGEST bytes; of a longer one its mark."""
+    whole = True
+    while line := stream.readline(LONGEST):
+        ends = line.endswith(b"\n")
+        if whole:
+            yield line if ends or len(line) < LONGEST else TOO_LONG
+        whole = ends
+
+
+def wide_lines(stream, name):
+    """The lines of a text in UTF-16, as UTF-8. Half a letter at the end becomes a mark, as anything that is no letter."""
+    text = io.TextIOWrapper(stream, encoding=name, errors="replace", newline="\n")
+    whole = True
+    while line := text.readline(LONGEST):
+        ends = line.endswith("\n")
+        if whole:
+            yield line.encode() if ends or len(line) < LONGEST else TOO_LONG
+        whole = ends
+
+
+def cleaned(lines, part):
+    """Lines without their ends and without byte order marks. A carriage return ends a line too."""
+    for line in lines:
+        for piece in line.rstrip(b"\r\n").split(b"\r"):
+            part.lines += 1
+            yield piece[3:] if piece.startswith(b"\xef\xbb\xbf") else piece
+
+
+def stream_lines(stream, part):
+    """The lines of an open log."""
+    buffered = stream if hasattr(stream, "peek") else io.BufferedReader(stream)
+    part.encoding = encoding(buffered.peek(4)[:4])
+    wide = part.encoding.startswith("utf-16")
+    yield from cleaned(wide_lines(buffered, part.encoding) if wide else raw_lines(buffered), part)
+
+
+@contextlib.contextmanager
+def told(path, packed):
+    """Turns what can happen to a file into words."""
+    try:
+        yield
+    except DAMAGE:
+        raise Fault("%s is packed by %s, and damaged or cut off" % (path, packed)) from None
+    except OSError as error:
+        raise Fault("%s cannot be read: %s" % (path, (error.strerror or str(error)).lower())) from None
+
+
+def whole_lines(path, stream, part):
+    with told(path, part.packed):
+        yield from stream_lines(stream, part)
+
+
+@contextlib.contextmanager
+def seekable(path):
+    """The path of a file with what stands there, which of a pipe is a copy."""
+    try:
+        kind = os.stat(path).st_mode
+    except OSError:
+        kind = stat.S_IFREG           # that it is not there is told where it is opened
+    if stat.S_ISCHR(kind) or stat.S_ISBLK(kind) or stat.S_ISSOCK(kind):
+        raise Fault("%s is a device, and no log" % path)
+    if not stat.S_ISFIFO(kind):
+        yield path
+        return
+    with tempfile.NamedTemporaryFile() as copy, open(path, "rb") as source:
+        shutil.copyfileobj(source, copy)
+        copy.flush()
+        yield copy.name
+
+
+def parts(path):
+    """Each log within the file, as a Part with its lines."""
+    with seekable(path) as file:
+        packed = packing(file)
+        with told(path, packed):
+            yield from open_parts(path, file, packed)
+
+
+def open_parts(path, file, packed):
+    for name, opened in members(file, packed):
+        part = Part(name if file == path else os.path.basename(path), packed)
+        with opened() as stream:
+            yield part, whole_lines(path, stream, part)

@@ -1,0 +1,434 @@
+"""Makes one log of any logs: `gather` writes sentences with tag blocks, sorted by time, and counts each line by the form in which it was read.
+
+A sentence takes its time from its tag block, else from behind its sum, else from before it. A line without a time has that of the receiver's own
+clock (RMC, ZDA) or of the line before, whichever came last, and where neither is told that of base stations (message 4). A line that gives nothing
+is counted too: `aside` where it is known and of no use here, `unread` with an example where it is not understood.
+"""
+import collections
+import os
+import re
+import shutil
+import subprocess
+import tempfile
+import time
+
+from colregs.io import jsons, tables
+from colregs.io.forms import Times, Unsure
+from colregs.errors import Fault
+from colregs.io.packing import TOO_LONG, parts
+from colregs.io.receivers import DAMAGED, HEADING, LONGEST_GAP, Receiver, base_time
+from colregs.io.sentences import block, has_sum
+
+SENTENCE = re.compile(rb"![A-Z0-9]{2}VD[MO],[^*!\\]*\*[0-9A-Fa-f]{2}")
+TAGGED = re.compile(rb"(\\c:(\d{10})\*[0-9A-F]{2}\\)(![A-Z0-9]{2}VD[MO],[^*!\\]*\*[0-9A-Fa-f]{2})")
+BLOCK = re.compile(rb"\\([^\\*]+)\*([0-9A-Fa-f]{2})\\")
+STAMP = re.compile(rb"c:(\d{1,15})(?:\.\d*)?")
+LATER_PART = re.compile(rb"![A-Z0-9]{2}VD[MO],[2-9],[2-9],")
+CUT = re.compile(rb"![A-Z0-9]{2}VD[MO],")
+HEAD = re.compile(rb"\w[\w \"]*(?:[,;\t]\w[\w \"]*)+")
+PROSE = re.compile(rb"\s*(?:#|//|--)")
+NMEA = re.compile(rb"[$!]([A-Z0-9]{2,6}),")
+SLOTS = 4500                    # of two channels in a minute: more sentences were never heard between two times of a receiver
+DAY = 86400                     # s
+LINES, RECEIVER, BASE = "that of the line before", "the receiver's (RMC, ZDA or TPV)", "that of a base station (message 4)"
+LATEST = 9999999999             # the greatest time that ten digits hold
+SAMPLE = 200                    # letters of an example
+
+Unread = collections.namedtuple("Unread", "count example")
+
+
+class Gathered:
+    """What came of the logs: counts by form, files, first and last time, how many sentences were written, and words for the reader."""
+
+    def __init__(self):
+        self.files, self.notes, self.first, self.last = [], [], None, None
+        self.forms, self.aside, self.unread = collections.Counter(), collections.Counter(), {}
+        self.sentences, self.back, self.untimed, self.own = 0, 0, 0, 0
+
+    def cannot(self, name, example):
+        known = self.unread.get(name)
+        words = known.example if known else example[:SAMPLE].decode("utf-8", "replace")
+        self.unread[name] = Unread(1 + (known.count if known else 0), words)
+
+    def lines(self):
+        return sum(part.lines for part in self.files)
+
+    def words(self):
+        """What came of the logs, line by line."""
+        for part in self.files:
+            packed = "" if part.packed == "plain" else ", packed by " + part.packed
+            yield "%s: %d lines%s%s" % (part.name, part.lines, packed, "" if part.encoding == "bytes" else ", in " + part.encoding)
+        for name, count in sorted(self.forms.items(), key=lambda entry: (-entry[1], entry[0])):
+            yield "read: %d x %s" % (count, name)
+        for name, count in sorted(self.aside.items(), key=lambda entry: (-entry[1], entry[0])):
+            yield "of no use here: %d x %s" % (count, name)
+        for name, told in sorted(self.unread.items(), key=lambda entry: (-entry[1].count, entry[0])):
+            yield "not understood: %d x %s, as %s" % (told.count, name, told.example)
+        yield from self.notes
+
+
+class Log:
+    """The log that is written: lines with their times go on as they come, and are sorted at the end where times run back."""
+
+    def __init__(self, out, gathered):
+        self.out, self.gathered, self.latest, self.days = out, gathered, 0, collections.Counter()
+
+    def put(self, time, words, stamp=None):
+        if time < self.latest:
+            self.gathered.back += 1
+        else:
+            self.latest = time
+        self.gathered.first = time if self.gathered.first is None else min(time, self.gathered.first)
+        self.gathered.sentences += 1
+        self.days[time // DAY] += 1
+        self.out.write(b"%s%s\n" % (stamp or block(time), words))
+
+
+class Waiting:
+    """Sentences without a time, between two times that are told: they have the first where both are near to each other.
+
+    Where they are not, or none comes, as many have it as usually stand between two times. In a gap of a receiver's clock none has.
+    """
+
+    def __init__(self, put, cannot):
+        self.put, self.cannot, self.time, self.clock, self.held, self.usual, self.sure = put, cannot, None, None, [], 10, SLOTS
+
+    def add(self, words):
+        if len(self.held) < SLOTS:
+            self.held.append(words)
+        else:
+            self.cannot("a sentence too far behind the last time", words)
+
+    def doubt(self):
+        """The receiver says that it has no fix: what follows has the time before only where a next time comes soon."""
+        self.sure = min(self.sure, len(self.held))
+
+    def until(self, time, clock=None):
+        """The next time comes, and which clock tells it; or none, at the end."""
+        if self.held:
+            self.leave(time)
+        self.time, self.clock, self.sure = time, clock, SLOTS
+
+    def leave(self, time):
+        held, self.held = self.held, []
+        near = time is not None and 0 <= time - self.time <= LONGEST_GAP
+        if near:
+            self.usual = max(self.usual, len(held))
+        stands_alone = time is None or time < self.time or self.clock == LINES
+        known = len(held) if near else min(len(held), self.usual, self.sure) if stands_alone else 0
+        for words in held[:known]:
+            self.put(self.time, words)
+        for words in held[known:]:
+            self.cannot("a sentence in a gap between two times", words)
+
+
+class Reader:
+    """Reads the lines of one file into the log."""
+
+    def __init__(self, part, log, gathered, untimed, mmsi, offset):
+        self.part, self.log, self.gathered, self.untimed = part, log, gathered, untimed
+        self.times, self.receiver, self.offset = Times(offset), Receiver(mmsi), offset
+        self.json, self.waiting = jsons.Objects(self.times), Waiting(self.clocked, gathered.cannot)
+        self.table, self.previous, self.apart, self.head, self.by_receiver = None, None, collections.Counter(), None, False
+
+    def clocked(self, time, words):
+        self.gathered.forms["no time of its own: %s" % self.waiting.clock] += 1
+        self.log.put(time, words)
+
+    def own(self, time):
+        """A sentence tells its own time: parts that follow have it too, and others as long as the next time is near."""
+        self.previous = time
+        self.waiting.until(time, LINES)
+
+    def read(self, lines):
+        for line in lines:
+            found = TAGGED.fullmatch(line)
+            if found and found[1] == block(int(found[2])):
+                self.own(int(found[2]))
+                self.gathered.forms["tag block"] += 1
+                self.log.put(self.previous, found[3], found[1])
+            else:
+                self.line(line)
+        self.waiting.until(None)
+
+    def line(self, line):
+        if line == TOO_LONG:
+            self.gathered.cannot("a line of more than a million bytes", b"")
+        elif not line.strip(b" \t\0"):
+            self.gathered.aside["empty line"] += 1
+        elif self.table and not CUT.search(line):
+            self.row(line)
+        elif line.lstrip()[:1] in (b"{", b"[") and self.value(line, None):
+            return
+        elif CUT.search(line):
+            self.sentences(line)
+        else:
+            self.other(line)
+
+    def other(self, line):
+        """A line without a sentence: a sentence of the receiver, JSON behind a time, a head, or nothing that is known."""
+        told = self.receiver.take(line)
+        if told:
+            return self.of_receiver(line, *told)
+        at = line.find(b"{")
+        if at > 0 and self.value(line[at:], line[:at]):
+            return None
+        table = tables.table_of(line)
+        if table:
+            self.table, self.head = table, line
+            self.gathered.aside["head of a table (%s)" % table.name] += 1
+            if table.unknown:
+                self.gathered.notes.append("columns that are not read: %s" % ", ".join(table.unknown))
+        elif NMEA.search(line):
+            self.gathered.aside["other sentence (%s)" % NMEA.search(line)[1].decode()[-3:]] += 1
+        elif PROSE.match(line):
+            self.gathered.aside["comment"] += 1
+        elif self.part.lines == 1 and HEAD.fullmatch(line):
+            self.gathered.aside["head of a table of sentences"] += 1
+        else:
+            self.gathered.cannot("a line with no sentence and no row", line)
+        return None
+
+    def of_receiver(self, line, name, time):
+        """A sentence of the receiver's: its time sets the clock, and where an own time stands in the line, tells how far that is off."""
+        if name in DAMAGED:
+            self.gathered.cannot(name, line)
+            return
+        (self.gathered.forms if time is not None or name == HEADING else self.gathered.aside)[name] += 1
+        if time is None:
+            if name.startswith("RMC"):
+                self.waiting.doubt()
+            return
+        try:
+            own = self.own_time(line, line.find(b"$"), line.rfind(b"*") + 3)
+        except Unsure:
+            own = None
+        if own:
+            self.apart[round((own[0] - time) / 60) * 60] += 1
+        else:
+            self.ticks(time)
+        if name == "RMC":
+            at = own[0] if own else time
+            self.own_ship(at, self.receiver.own_report(at))
+
+    def ticks(self, time):
+        """The receiver's own clock tells a time: from now on it alone counts where a line has none."""
+        if not self.by_receiver and self.waiting.clock == BASE:
+            self.waiting.until(None)
+        self.by_receiver = True
+        self.waiting.until(time, RECEIVER)
+
+    def by_base_station(self, words):
+        """A base station tells the time, in a log where nothing else does."""
+        time = base_time(words) if self.waiting.clock in (None, BASE) else None
+        if time is not None:
+            self.waiting.until(time, BASE)
+
+    def own_ship(self, time, words):
+        if words:
+            self.gathered.own += 1
+            self.log.put(time, words)
+
+    def own_time(self, line, begin, end):
+        """The time of a line by its tag block, behind its sum or before it, with its form and the block's other fields, or nothing."""
+        before, more = line[:begin], b""
+        if b"\\" in before:
+            time, more, before = self.tag(before)
+            if time is not None:
+                return time, "tag block", more
+        behind = self.times.read(line[end:], True)
+        found = behind or self.times.read(before)
+        return found and (found[0], "%s %s" % (found[1], "behind the sum" if behind else "before the sentence"), more)
+
+    def tag(self, before):
+        """The time of tag blocks, their other fields, and what stands outside them; Unsure where one is damaged."""
+        time, more = None, []
+        for found in BLOCK.finditer(before):
+            if not has_sum(found[1], found[2]):
+                raise Unsure("a tag block with a wrong sum")
+            for field in found[1].split(b","):
+                stamp = STAMP.fullmatch(field)
+                if stamp and time is None:
+                    value = int(stamp[1])
+                    time = min(LATEST, value // 1000 if value >= 10 ** 11 else value)
+                elif not stamp:
+                    more.append(field)
+        rest = BLOCK.sub(b"", before)
+        if b"\\" in rest:
+            raise Unsure("a tag block that is none")
+        return time, b",".join(more), rest
+
+    def sentences(self, line):
+        """Each sentence of a line; what follows the first has the time of the first."""
+        found = list(SENTENCE.finditer(line))
+        if not found:
+            self.gathered.cannot("a sentence without its sum, or cut off", line)
+            return
+        try:
+            own = self.own_time(line, found[0].start(), found[-1].end())
+        except Unsure as doubt:
+            if self.waiting.clock in (None, LINES) or "tag block" in str(doubt):
+                self.gathered.cannot(str(doubt), line)
+                return
+            own = None
+        for each in found:
+            self.put(own, each[0])
+
+    def put(self, own, words):
+        if own:
+            self.own(own[0])
+            self.gathered.forms[own[1]] += 1
+            self.log.put(own[0], words, block(own[0], own[2]) if own[2] else None)
+        elif self.previous is not None and LATER_PART.match(words):
+            self.gathered.forms["no time of its own: %s" % LINES] += 1
+            self.log.put(self.previous, words)
+        else:
+            self.previous = None
+            self.by_base_station(words)
+            self.wait(words)
+
+    def wait(self, words):
+        if self.waiting.time is not None:
+            self.waiting.add(words)
+        else:
+            self.gathered.untimed += 1
+            self.untimed.write(words + b"\n")
+
+    def value(self, line, before):
+        """Whether a line is JSON; then what it holds is taken."""
+        value = jsons.value_of(line)
+        held = jsons.objects(value) if value is not None else []
+        if not held:
+            return False
+        try:
+            outer = self.times.read(before) if before else None
+        except Unsure:
+            outer = None
+        for each in held:
+            self.held(self.json.read(each), outer[0] if outer else None, line)
+        return True
+
+    def held(self, what, outer, line):
+        time = what.time if what.time is not None else outer
+        if what.form == "gpsd's TPV":
+            self.gathered.forms[what.form] += 1
+            self.ticks(what.time)
+            if what.fix and self.receiver.mmsi is not None:
+                self.own_ship(what.time, self.receiver.placed(what.fix, what.time))
+            return
+        words = [found[0] for entry in what.raw for found in SENTENCE.finditer(entry)] + list(what.made)
+        if not words and what.aside:
+            self.gathered.aside[what.form] += 1
+        elif not words:
+            self.gathered.cannot(what.form, line)
+        elif time is not None:
+            for each in words:
+                self.put((time, what.form, b""), each)
+        else:
+            for each in words:
+                self.put(None, each)
+
+    def row(self, line):
+        if line == self.head:
+            self.gathered.aside["head of a table, once more"] += 1
+            return
+        try:
+            time, words = self.table.row(line, self.times)
+        except tables.RowFault as fault:
+            if "no ship" in str(fault):
+                self.gathered.aside[str(fault)] += 1
+            else:
+                self.gathered.cannot(str(fault), line)
+            return
+        self.gathered.forms["row of %s" % self.table.name] += 1
+        for each in words:
+            self.log.put(time, each)
+
+
+def told_apart(reader, name, gathered):
+    """A note where the times of a log and those of its receiver lie apart, as with a clock in local time."""
+    if reader.receiver.rolled:
+        gathered.notes.append("%s: the receiver's date lagged %d times, and was set forward" % (name, reader.receiver.rolled))
+    if not reader.apart:
+        return
+    apart, count = reader.apart.most_common(1)[0]
+    if apart and 2 * count > sum(reader.apart.values()):
+        hours, minutes = divmod(abs(apart) // 60, 60)
+        gathered.notes.append("%s: the lines' times are %s the receiver's UTC by %d:%02d hours; give an offset of %s%02d:%02d" % (
+            name, "ahead of" if apart > 0 else "behind", hours, minutes, "+" if apart > 0 else "-", hours, minutes))
+
+
+def far_off(days):
+    """How many sentences have times more than a day before or behind nearly all others, and one of their days."""
+    most, seen, kept = sum(days.values()), 0, []
+    for day in sorted(days):
+        seen += days[day]
+        if 1000 * seen > most and 1000 * (seen - days[day]) < 999 * most:
+            kept.append(day)
+    lost = [day for day in days if not kept[0] - 1 <= day <= kept[-1] + 1]
+    return sum(days[day] for day in lost), min(lost, default=None)
+
+
+def sort(path):
+    """Sorts the log by its times; lines of one time keep their order."""
+    command = ["sort", "-s", "-k", "1.1,1.13", "-T", os.path.dirname(os.path.abspath(path)), "-o", path, path]
+    if subprocess.run(command, env={**os.environ, "LC_ALL": "C"}, stderr=subprocess.DEVNULL).returncode:
+        raise Fault("%s cannot be sorted: is there room on the disk" % path)
+
+
+def gather(paths, out, *, mmsi=None, offset=0):
+    """Writes the logs as one at the path `out`, and tells what came of them. With an MMSI the receiver's own places become own ship's.
+
+    Times without a zone are UTC, less `offset` seconds. Where no line of any log tells a time, the sentences are written as they stand.
+    """
+    if any(os.path.exists(path) and os.path.exists(out) and os.path.samefile(path, out) for path in paths):
+        raise Fault("%s is a log that is read, and cannot be written too" % out)
+    gathered = Gathered()
+    try:
+        with open(out, "wb", buffering=1 << 20) as made, tempfile.TemporaryFile() as untimed:
+            log = Log(made, gathered)
+            for path in paths:
+                read_file(path, log, untimed, mmsi, offset)
+            leave_untimed(gathered, untimed, made)
+        ended(out, gathered, log, mmsi)
+    except OSError as error:
+        raise Fault("%s cannot be written: %s" % (out, (error.strerror or str(error)).lower())) from None
+    return gathered
+
+
+def read_file(path, log, untimed, mmsi, offset):
+    for part, lines in parts(path):
+        log.gathered.files.append(part)
+        reader = Reader(part, log, log.gathered, untimed, mmsi, offset)
+        reader.read(lines)
+        told_apart(reader, part.name, log.gathered)
+
+
+def leave_untimed(gathered, untimed, made):
+    """What has no time becomes the log where nothing has one, and else is told."""
+    untimed.seek(0)
+    if gathered.untimed and gathered.first is None:
+        shutil.copyfileobj(untimed, made)
+    elif gathered.untimed:
+        example = untimed.readline().decode("utf-8", "replace")[:SAMPLE].strip()
+        gathered.unread["a sentence before the first time of its log"] = Unread(gathered.untimed, example)
+
+
+def ended(out, gathered, log, mmsi):
+    """Sorts the log where it has to be, and says what the reader is to know of the whole."""
+    gathered.last = log.latest if gathered.first is not None else None
+    count, day = far_off(log.days) if gathered.sentences else (0, None)
+    if count:
+        gathered.notes.append("%d sentences have times more than a day off nearly all others, as %s: was a clock not set" % (
+            count, time.strftime("%Y-%m-%d", time.gmtime(day * DAY))))
+    if gathered.back:
+        sort(out)
+        gathered.notes.append("%d sentences stood behind later ones: the log is sorted by time" % gathered.back)
+    if gathered.untimed and gathered.first is None:
+        gathered.forms["sentence without a time"] = gathered.untimed
+        gathered.notes.append("no line tells a time: the log is left without times")
+    fixes = gathered.forms["RMC"] + gathered.forms["gpsd's TPV"]
+    if mmsi is None and fixes:
+        gathered.notes.append("own ship's places stand in %d lines (RMC or TPV): with her MMSI they become hers" % fixes)
+    if not gathered.sentences and not gathered.untimed:
+        gathered.notes.append("no sentence and no row was read")

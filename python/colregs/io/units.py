@@ -1,0 +1,98 @@
+"""Fields of tables and of JSON in knots, degrees and metres, as the numbers of AIS messages. An empty field is one that tells nothing."""
+from colregs.io.sentences import NO_COURSE, NO_HEADING, NO_LATITUDE, NO_LONGITUDE, NO_SPEED, class_a, class_b, hull_part, name_part, sentence
+
+NOTHING = ("", "nan", "null", "none", "n/a", "na", "\\n", "undefined", "unknown")
+STATUSES = {"under way using engine": 0, "at anchor": 1, "not under command": 2, "restricted maneuverability": 3,
+            "restricted manoeuvrability": 3, "constrained by her draught": 4, "constrained by draught": 4, "moored": 5, "aground": 6,
+            "engaged in fishing": 7, "under way sailing": 8}
+KINDS = {"fishing": 30, "towing": 31, "towing long/wide": 32, "dredging": 33, "diving": 34, "military": 35, "sailing": 36, "pleasure": 37,
+         "hsc": 40, "pilot": 50, "sar": 51, "tug": 52, "port tender": 53, "anti-pollution": 54, "law enforcement": 55, "medical": 58,
+         "passenger": 60, "cargo": 70, "tanker": 80, "other": 90, "reserved": 0}
+
+
+def number(text):
+    """The number of a field, or nothing where the field tells nothing; ValueError where it is none, or no finite one."""
+    if text is None:
+        return None
+    try:
+        value = float(text)
+    except ValueError:
+        if text.strip().lower() in NOTHING:
+            return None
+        raise
+    if value != value:
+        return None
+    if abs(value) > 1e12:
+        raise ValueError(text)
+    return value
+
+
+def latitude(degrees):
+    return NO_LATITUDE if degrees is None or abs(degrees) > 90 else round(degrees * 600000)
+
+
+def longitude(degrees):
+    return NO_LONGITUDE if degrees is None or abs(degrees) > 180 else round(degrees * 600000)
+
+
+def speed(knots):
+    """Knots as tenths. Below nought stands what overflowed ten bits: 102.3 knots are none."""
+    tenths = NO_SPEED if knots is None else round(knots * 10)
+    tenths += 1024 if -512 <= tenths < 0 else 0
+    return NO_SPEED if tenths == NO_SPEED or tenths < 0 else min(1022, tenths)
+
+
+def course(degrees):
+    """Degrees as tenths. Below nought stands what overflowed twelve bits: 360 degrees are none."""
+    tenths = NO_COURSE if degrees is None else round(degrees * 10)
+    tenths += 4096 if -2048 <= tenths < 0 else 0
+    return tenths if 0 <= tenths < 3600 else NO_COURSE
+
+
+def heading(value):
+    return NO_HEADING if value is None or not 0 <= round(value) < 360 else round(value)
+
+
+def status(text):
+    plain = str(text).strip().lower()
+    if plain.isascii() and plain.isdigit():
+        return int(plain) if int(plain) <= 15 else 15
+    return STATUSES.get(plain, 15)
+
+
+def kind(text):
+    """The type of ship, by its number or by its name."""
+    plain = str(text).strip().lower()
+    try:
+        value = number(plain)
+    except ValueError:
+        return KINDS.get(plain, 0)
+    return int(value) if value is not None and 0 <= value <= 255 else 0
+
+
+def hull(sides, length, width):
+    """Metres to bow, stern, port and starboard. Where length and width alone are known, those to bow and port are 0, as in ITU-R M.1371."""
+    if any(sides):
+        return tuple(min(most, round(side or 0)) for side, most in zip(sides, (511, 511, 63, 63)))
+    return 0, min(511, round(length or 0)), 0, min(63, round(width or 0))
+
+
+class Ship:
+    """Makes sentences of what a table or JSON tells of ships: her static data when it is told first, or otherwise than before."""
+
+    def __init__(self):
+        self.known = {}
+
+    def static(self, mmsi, name, kind_of, hull_of, call=""):
+        told = []
+        if name and self.known.get((mmsi, "name")) != name:
+            self.known[mmsi, "name"] = name
+            told.append(sentence(name_part(mmsi, name)))
+        if (kind_of or any(hull_of)) and self.known.get((mmsi, "hull")) != (kind_of, hull_of):
+            self.known[mmsi, "hull"] = kind_of, hull_of
+            told.append(sentence(hull_part(mmsi, kind_of, hull_of, call)))
+        return told
+
+    @staticmethod
+    def position(mmsi, report, small, status_of):
+        return sentence(class_b(mmsi, report) if small else class_a(mmsi, report, status_of))

@@ -1,0 +1,1 @@
+"""What the tools know: scenarios and their keys, the rows of reports, vessels' places, and what is doubtful in them."""

@@ -1,0 +1,264 @@
+"""Looks for what is amiss with a scenario, a log and a report, and says it: `findings`. It judges no meeting anew; it counts rows of the program."""
+import collections
+import csv
+import functools
+import io
+import math
+import time
+import tomllib
+
+from colregs.model import log_checks, scenario_checks
+from colregs.io.files import read_bytes
+from colregs.run.program import Run
+from colregs.model.scenario_checks import Finding, numbers_at
+from colregs.model.guess import place, sampled
+
+REFUSED = {3: "the first key with a fault is told; docs/SCENARIO.md has its range", 4: "is its name right, and may it be read",
+           7: "docs/ROWS.md says what to do at a limit", 9: "own ship must be in the log before the window's end, with course and speed"}
+NO_SENTENCE = ("empty", "long", "tag", "other", "form", "sum", "armour")
+SHOWN = 5                               # of more findings of one name than this the number is told
+STILL = 5                               # 1/10 knot: who never makes this lies still
+
+
+def clock(seconds):
+    return time.strftime("%Y-%m-%d %H:%M:%S", time.gmtime(seconds))
+
+
+def mode_of(report):
+    """The mode that wrote a report, by its rows; nothing where it has none that tells."""
+    kinds = {line.split(b",", 1)[0] for line in report.split(b"\n")}
+    if kinds & {b"plan", b"none"}:
+        return "plan"
+    return "audit" if kinds & {b"total", b"vessel"} else "points" if b"lines" in kinds else None
+
+
+class Patient:
+    """A scenario's values, a log, a report, and what the program writes of them."""
+
+    def __init__(self, scenario, log, report, program, options):
+        self.scenario, self.log, self.program, self.options = scenario, log, program, options
+        self.values = read_scenario(scenario)
+        self.report = None if report is None else read_bytes(report)
+        self.audit, self.points = (self.run(mode) for mode in ("audit", "points"))
+        self.counts = self.audit.counts() if self.audit.status == 0 else {}
+        self.ships, self.times, _, self.norths, self.speeds, self.courses = self.points.columns() if self.points.status == 0 else [[]] * 6
+        self.vessels = {int(fields[1]): fields for fields in self.rows("vessel")}
+        self.sentences = sum(count for name, count in self.counts.items() if name not in NO_SENTENCE)
+
+    def run(self, mode, *options):
+        return Run(self.program, mode, self.scenario, self.log, [*self.options, *options])
+
+    @functools.cached_property
+    def kinds(self):
+        """The rows of the audit by their kinds."""
+        kinds = collections.defaultdict(list)
+        for fields in csv.reader(io.StringIO(self.audit.text.decode("utf-8", "replace"))):
+            kinds[fields[0] if fields else ""].append(fields)
+        return kinds
+
+    def rows(self, kind):
+        return self.kinds.get(kind, [])
+
+    def window(self):
+        given = {option[0]: int(option[1]) for option in (word[2:].split("=") for word in self.options)}
+        start, tick, ticks = (given.get(word, numbers_at(self.values, "window." + word)[0]) for word in ("start", "tick", "ticks"))
+        return start, start + tick * ticks
+
+
+def read_scenario(path):
+    """The values of a scenario; none where it is no TOML, which the program tells."""
+    try:
+        return tomllib.loads(read_bytes(path).decode("utf-8", "replace"))
+    except (ValueError, RecursionError):
+        return {}
+
+
+def refusal(mode, run):
+    more = REFUSED.get(run.status, "docs/ROWS.md has the status")
+    return Finding("refused run", "the program ends `%s` with status %d, %s: %s" % (mode, run.status, run.words, more))
+
+
+def refused(patient):
+    if patient.audit.status or patient.points.status:
+        yield refusal("audit", patient.audit) if patient.audit.status else refusal("points", patient.points)
+
+
+def other_report(patient):
+    if patient.report is None or patient.audit.status:
+        return
+    mode = mode_of(patient.report)
+    if mode is None:
+        yield Finding("no whole report", "the report has no rows `lines`, with which each report ends")
+        return
+    asked = ["--why"] if b"\nwhy," in patient.report else []
+    fresh = {"audit": patient.audit, "points": patient.points}.get(mode) or patient.run(mode, *asked)
+    if fresh.status not in (0, 1):
+        yield refusal(mode, fresh)
+    elif fresh.text != patient.report:
+        yield Finding("report of something else", "`%s` with this scenario and log writes another report: was it cut off, or had it other values, "
+                      "`--start`, `--ticks` or another log" % mode)
+
+
+def no_times(patient):
+    looked, told = log_checks.times_of(patient.log)
+    dropped = sum(patient.counts.get(name, 0) for name in ("back", "repeat", "jump"))
+    if looked and not told:
+        yield Finding("no times", "no tag block tells a time: of each vessel the first report alone counts. tools/tagged gives times")
+    elif looked > 2 * len(told) and dropped > patient.counts.get("point", 0):
+        yield Finding("no times", "%d of %d lines that were looked at tell no time of their own, and have that of a line before" % (
+            looked - len(told), looked))
+
+
+def window_misses(patient):
+    _, told = log_checks.times_of(patient.log)
+    if not told or not patient.counts:
+        return
+    first, last = patient.window()
+    begin, end = (min(told), max(told)) if not patient.times else (min([*told, *patient.times]), max([*told, *patient.times]))
+    held = min(last, end) - max(first, begin)
+    if 2 * max(held, 0) < last - first and last - first > 1:
+        hint = ""
+        hours = round((begin - first) / 3600)
+        if hours and abs(begin - first - 3600 * hours) < 300 and abs(hours) <= 14:
+            hint = ". They lie %d whole hours apart: is one of them in local time" % abs(hours)
+        yield Finding("window misses the log", "the window is from %s to %s UTC, and the log from %s to %s%s" % (
+            clock(first), clock(last), clock(begin), clock(end), hint))
+
+
+def region_misses(patient):
+    far, near = patient.counts.get("far", 0), patient.counts.get("point", 0)
+    if far <= near:
+        return
+    places = [told for told in map(place, sampled(patient.log)) if told]
+    latitude, longitude = (sorted(told[k] for told in places)[len(places) // 2] if places else 0 for k in (0, 1))
+    reference = [numbers_at(patient.values, "reference." + word)[0] for word in ("lat", "lon")]
+    hint = ""
+    if close(reference, (longitude, latitude)):
+        hint = ". Latitude and longitude look exchanged"
+    elif any(close(reference, (one * latitude, two * longitude)) for one, two in ((-1, 1), (1, -1), (-1, -1))):
+        hint = ". South and west are below nought"
+    yield Finding("region misses the log", "%d reports lie too far from the reference %d, %d; most lie about %d, %d%s" % (
+        far, *reference, latitude, longitude, hint))
+
+
+def reference_far(patient):
+    """A reference so far to the north or south that lengths to the east are wrong by more than a hundredth."""
+    if not patient.norths:
+        return
+    told = numbers_at(patient.values, "reference.lat")[0] / 600000
+    middle = told + sorted(patient.norths)[len(patient.norths) // 2] / 1852 / 600000
+    wrong = math.cos(math.radians(told)) / math.cos(math.radians(middle)) - 1
+    if abs(wrong) > 0.01:
+        yield Finding("reference far from the traffic", "the middle of the reports is at latitude %d, and lengths to the east are "
+                      "%.1f %% too %s there" % (round(middle * 600000), abs(wrong) * 100, "great" if wrong > 0 else "small"))
+
+
+def no_reports(patient):
+    """A log of which the program accepts nothing, and what came of its lines instead."""
+    if patient.counts and not patient.counts.get("point"):
+        most = sorted((name for name, count in patient.counts.items() if count), key=patient.counts.get, reverse=True)
+        told = ", ".join("%d `%s`" % (patient.counts[name], name) for name in most[:3])
+        hint = ": tools/tagged reads lines that do not begin with a sentence" if most[:1] == ["other"] else ""
+        yield Finding("no reports", "no position report is accepted; the lines came to %s%s" % (told, hint))
+
+
+def close(one, two):
+    return all(abs(a - b) <= 1200000 for a, b in zip(one, two))
+
+
+def unsorted(patient):
+    late = patient.counts.get("late", 0)
+    if 100 * late > patient.sentences:
+        yield Finding("unsorted lines", "%d of %d sentences come later than `log.slack` behind others: tools/tagged sorts them" % (
+            late, patient.sentences))
+
+
+def damaged(patient):
+    """Lines that are lost in numbers that no good log has."""
+    lines = sum(patient.counts.values())
+    for names, part, name, words in (
+            (("form", "sum", "armour"), 10, "damaged sentences", "a receiver, or what copied the log, damages sentences"),
+            (("tag",), 100, "damaged tag blocks", "they have another sum or form, and their lines are lost"),
+            (("jump",), 20, "many jumps", "to come there a vessel would be faster than `log.max_speed`"),
+            (("nopos",), 2, "reports without a place", "their receivers have none")):
+        count = sum(patient.counts.get(name, 0) for name in names)
+        if part * count > lines:
+            yield Finding(name, "%d of %d lines: %s" % (count, lines, words))
+    if patient.counts.get("orphan", 0) > patient.counts.get("part", 0):
+        yield Finding("parts without their messages", "%d parts of messages lack the parts before them: were lines taken out" % (
+            patient.counts["orphan"]))
+
+
+def absent(patient):
+    """Subjects and own ship that the log does not have."""
+    if patient.audit.status or not patient.vessels:
+        return
+    for name in ("subjects", "own.mmsi"):
+        for mmsi in numbers_at(patient.values, name):
+            if 200000000 <= mmsi <= 799999999 and mmsi not in patient.ships:
+                yield Finding("subject not in the log", "`%s` has %d, of whom the log has no report in the window" % (name, mmsi))
+
+
+def unseen(patient):
+    """Vessels with reports that no legs join, tracks that tell nothing, and a window in which nobody is watched."""
+    points, legs = (sum(int(fields[k]) for fields in patient.vessels.values()) for k in (5, 6))
+    if patient.vessels and points > 3 * len(patient.vessels) and 2 * legs < points - len(patient.vessels):
+        follow = points - len(patient.vessels)
+        yield Finding("gap shorter than reports are apart", "%d of %d reports follow the one before by more than `log.gap`: "
+                      "such vessels are not seen" % (follow - legs, follow))
+    if patient.speeds and 2 * sum(not speed or not course for speed, course in zip(patient.speeds, patient.courses)) > len(patient.speeds):
+        yield Finding("no course or no speed", "most reports tell no course or no speed: rules that need them stay open")
+    totals = patient.rows("total")
+    if len(patient.vessels) > 1 and totals and all(fields[2] == "0" for fields in totals) and legs:
+        yield Finding("nobody is watched", "no two vessels come within `detect.watch = %s` m of each other in the window" % (
+            numbers_at(patient.values, "detect.watch") or [""])[0])
+
+
+def senders(patient):
+    found = log_checks.Senders(patient.log)
+    yield from found.clock()
+    shared = list(found.shared())
+    yield from shared
+    jumps, points = patient.counts.get("jump", 0), collections.Counter(patient.ships)
+    for mmsi, reports, kept in found.lost(points) if not shared else ():
+        if jumps >= reports - kept:
+            yield Finding("many jumps", "%d of %d reports of %d are accepted: is she faster than `log.max_speed`" % (kept, reports, mmsi))
+    yield from found.no_ships({mmsi: fields[2] for mmsi, fields in patient.vessels.items() if mmsi in set(patient.ships)})
+
+
+def at_rest(patient):
+    """Verdicts of subjects that never make half a knot."""
+    fastest = {}
+    for mmsi, speed in zip(patient.ships, patient.speeds):
+        if speed:
+            fastest[mmsi] = max(fastest.get(mmsi, 0), int(speed))
+    still = collections.Counter(int(fields[1]) for fields in patient.rows("verdict") if fastest.get(int(fields[1]), STILL) < STILL)
+    for mmsi, count in sorted(still.items()):
+        yield Finding("verdicts at rest", "%d never makes 0.5 knots, and has %d of the verdicts" % (mmsi, count))
+
+
+CHECKS = (refused, other_report, no_reports, no_times, window_misses, region_misses, reference_far, unsorted, damaged, absent, unseen,
+          senders, at_rest)
+
+
+def shortened(found):
+    """The findings, of which a few stand for many of one name."""
+    counts = collections.Counter()
+    for finding in found:
+        counts[finding.name] += 1
+        if counts[finding.name] <= SHOWN:
+            yield finding
+    for name, count in counts.items():
+        if count > SHOWN:
+            yield Finding(name, "and %d more such" % (count - SHOWN))
+
+
+def findings(scenario, log, report, program, options=()):
+    """What is amiss, each with a name and words. The report may be None; options are those of the program, as `--ticks=60`."""
+    patient = Patient(scenario, log, report, program, options)
+    found = list(scenario_checks.findings(patient.values))
+    form = list(log_checks.form_of(log))
+    found += form
+    for check in CHECKS if not form else (refused, other_report):
+        found += check(patient)
+    return list(shortened(found))

@@ -1,0 +1,240 @@
+"""Suggests a scenario for a log: window, tick and reference by what the program reads of it, every other number as in the worked encounters."""
+import bisect
+import math
+import os
+import re
+import statistics
+import time
+
+from colregs.io.logs import stamp
+from colregs.errors import Fault
+from colregs.run.program import run_text
+from colregs.io.sentences import lone_message
+
+TICKS = [1, 2, 3, 5, 6, 10, 15, 30, 60]
+LONGEST = 20000                                              # ticks of a window at most
+PLACES = {1: (61, 89), 2: (61, 89), 3: (61, 89), 18: (57, 85), 19: (57, 85)}
+SOUGHT, REACH = 64, 1200000                                  # places in the log that are looked at; how far north or south the plane goes
+MOST_PAIRS, WATCHES = 4096, (5000, 3000, 2000, 1500, 1000)   # the pairs that the program follows; the distances in m that are tried
+MARGIN = 3600                                                # s: what of a log may lie before or behind the times of these places
+LOOK = """version = 1
+window = {{ start = {start}, tick = 60, ticks = {ticks} }}
+reference = {{ lat = {lat}, lon = {lon} }}
+log = {{ gap = 3600, slack = 3600, max_speed = 1022 }}
+detect = {{ watch = 1, risk = 1, clear = 1, horizon = 60, doubt = 0, ahead = 0, reciprocal = 0 }}
+act = {{ steady_turn = 0, apparent_turn = 1, steady_speed = 0, apparent_speed = 1 }}
+rules = {{ safe = 1, overtake = 1, close = 1, t8 = 0, ta = 0, tl = 0, tw = 0, te = 0 }}
+"""
+TEXT = """# A scenario to start from, by tools/scenario. The window, the tick and the reference are guessed from the log; every other number is
+# that of the worked encounters, whatever the log: go through them. Each key is told in docs/SCENARIO.md.
+version = 1
+
+[window]
+start = {start}    # seconds since the Unix epoch: {clock}
+tick = {tick}             # s; {interval}
+ticks = {ticks}           # steps of a tick each: {length}
+
+[reference]           # where the plane begins, in 1/10000 minute, north and east positive: the middle of the places told
+lat = {lat}
+lon = {lon}
+
+[log]
+gap = {gap}             # s: between two reports farther apart than this a vessel is not seen. At anchor they come each 3 minutes
+slack = 30            # s: a sentence that comes later than this behind the latest is dropped
+max_speed = 500       # 50 knots: a report that asks for a faster vessel is dropped as a jump
+
+[detect]
+watch = {watch}          # m: two vessels are watched from this distance on
+risk = 500            # m: at risk are two that come nearer than this where both go on as they do
+clear = 1000          # m: past and clear is drawing apart, without risk, at this distance
+horizon = {horizon}         # s: so far ahead risk is looked for
+doubt = 0             # 1/10 degree by which the sector of overtaking is widened for vessels in doubt of it
+ahead = 60            # 6 degrees: within this each has the other ahead
+reciprocal = 60       # 6 degrees: courses so near to opposite are reciprocal
+
+[act]
+steady_turn = 50      # 5 degrees: a turn up to this is steering, and more is an alteration
+apparent_turn = 200   # 20 degrees: a turn from this on is readily apparent to the other vessel
+steady_speed = 10     # 1 knot: a change of speed up to this is none
+apparent_speed = 50   # 5 knots: a change of speed from this on is readily apparent
+
+[rules]
+safe = 500            # m: a meeting of two vessels keeps to this
+overtake = 300        # m: an overtaking vessel that comes nearer does not keep out of the way
+close = 800           # m: at risk and nearer than this, the vessel that stands on is in extremis
+t8 = {t8}               # s: an alteration is readily apparent within this time
+ta = {ta}              # s: action is early within this time from the meeting's beginning
+tl = {tl}               # s: in extremis the vessel that stands on acts within this time
+tw = {tw}              # s: she is free to act after so long at risk without action of the other
+te = {te}              # s: and stays so for as long as this
+"""
+
+
+def ends(times, reasons, what):
+    """The first and last time, but for a few that lie more than a day off, as of a receiver without its clock."""
+    times = sorted(times)
+    few = max(1, len(times) // 1000) if len(times) > 10 else 0
+    begin, end = bisect.bisect_left(times, times[few] - 86400), bisect.bisect_right(times, times[-1 - few] + 86400)
+    lost = len(times) - (end - begin)
+    if lost and what:
+        reasons.append("%d %s lie more than a day before or behind nearly all others, and are passed over" % (lost, what))
+    return times[begin], times[end - 1]
+
+
+def sampled(log):
+    """Lines from all over the log, its first and last among them; of a small one all."""
+    size = os.path.getsize(log)
+    with open(log, "rb") as source:
+        if size < 1 << 20:
+            yield from source
+            return
+        for place in [size * k // SOUGHT for k in range(SOUGHT)] + [size - 64 * 1024]:
+            source.seek(place)
+            if place:
+                source.readline(1025)
+            yield from (source.readline(1025) for _ in range(SOUGHT if place < size - 64 * 1024 else 1000))
+
+
+def place(line):
+    """Latitude and longitude in 1/10000 minute of a ship's position report in one sentence, or nothing."""
+    message = lone_message(line)
+    first = PLACES.get(message.number(0, 6)) if message else None
+    if first is None or message.length < 168 or not 200000000 <= message.number(8, 30) < 800000000:
+        return None
+    longitude, latitude = message.number(first[0], 28, True), message.number(first[1], 27, True)
+    return (latitude, longitude) if abs(longitude) <= 108000000 and abs(latitude) <= 54000000 else None
+
+
+def where(log):
+    """A place near most of those of the log, to have a plane to look at it."""
+    found = [told for told in map(place, sampled(log)) if told]
+    if not found:
+        with open(log, "rb") as source:
+            found = [told for told in map(place, source) if told][:10000]
+    if not found:
+        raise Fault("no position report is found in the log")
+    cells = {}
+    for told in found:
+        cells.setdefault((told[0] // REACH, told[1] // REACH), []).append(told)
+    best = max(cells.values(), key=len)
+    held = max(-45000000, min(45000000, int(statistics.median(told[0] for told in best))))
+    return held, int(statistics.median(told[1] for told in best))
+
+
+class Found:
+    """What the program read of the log: places and times of accepted reports, and of each vessel under way the median seconds between hers."""
+
+    def __init__(self, done, reference):
+        if done.status != 0:
+            raise Fault("the program ended with status %d: %s" % (done.status, done.words))
+        ships, self.times, self.easts, self.norths, speeds, _ = done.columns()
+        apart, latest = {}, {}
+        for mmsi, at, speed in zip(ships, self.times, speeds):
+            if mmsi in latest and (len(speed) > 1 or speed >= b"5"):
+                apart.setdefault(mmsi, []).append(at - latest[mmsi])
+            latest[mmsi] = at
+        self.apart = [statistics.median(told) for told in apart.values()]
+        self.vessels, self.counts, self.first = len(latest), done.counts(), reference
+
+    def reference(self):
+        """The middle of the places, in 1/10000 minute, round the date line where it is nearer."""
+        cosine = round(math.cos(math.radians((2 * abs(self.first[0]) + 60000) // 120000 / 10)) * 1000000)
+        middles = []
+        for values, unit in ((sorted(self.norths), 1852), (sorted(self.easts), 1852 * cosine / 1000000)):
+            count = len(values)
+            middles.append([round(values[k] / unit) for k in ((count - 1) // 2, count // 2)])
+        latitude, longitude = (math.floor(sum(first + more for more in pair) / 2) for first, pair in zip(self.first, middles))
+        return latitude, (longitude + 108000000) % 216000000 - 108000000
+
+
+def look(log, program, reasons):
+    """What the program reads of the log, on a plane and in a window that hold most of it."""
+    reference, times = where(log), [at for at in map(stamp, sampled(log)) if at is not None]
+    first, last = ends(times, reasons, None) if times else (0, 0)
+    first = max(0, first - MARGIN)
+    ticks = max(1, min(LONGEST, (last + MARGIN - first) // 60 + 1))
+    return Found(run_text(program, "points", LOOK.format(start=first, ticks=ticks, lat=reference[0], lon=reference[1]), log), reference), bool(times)
+
+
+def window(found, timed, reasons):
+    """Start, tick, ticks and the interval, of which the tick is guessed."""
+    if not timed:
+        reasons.append("no tag block tells a time: every line counts as of the window's start, and a vessel gives one point. Give times first"
+                       " (docs/SOURCES.md)")
+        return 0, 10, 1, None
+    interval = statistics.median(found.apart) if found.apart else 10
+    tick = next((k for k in TICKS if k >= interval), 60)
+    first, last = ends(found.times, reasons, "reports")
+    ticks = max(1, (last - first) // tick)
+    if ticks > LONGEST or found.counts.get("outside", 0) > len(found.times):
+        reasons.append("the log is %d ticks long or more, and a window may have 20000: this is its beginning. tools/colregs-many audits"
+                       " all of it" % ticks)
+    return first, tick, min(ticks, LONGEST), interval
+
+
+def reference(found, reasons):
+    latitude, longitude = found.reference()
+    held = max(-45000000, min(45000000, latitude))
+    if held != latitude:
+        reasons.append("the middle of the places lies beyond 75 degrees; a reference may not")
+    if found.counts.get("far"):
+        reasons.append("%d reports lie too far from most others for one plane, and will be `far`" % found.counts["far"])
+    return held, longitude
+
+
+def text_of(guess):
+    """The scenario's text, with the comments in one column."""
+    tick, ticks, interval = guess["tick"], guess["ticks"], guess["interval"]
+    times = {name: -(-value // tick) * tick for name, value in (
+        ("horizon", 900), ("t8", 60), ("ta", 120), ("tl", 30), ("tw", 120), ("te", 600))}
+    told = "nothing told how far reports are apart" if interval is None else "reports of vessels under way are about %g s apart" % interval
+    text = TEXT.format(**{
+        **guess, **times, "interval": told, "clock": time.strftime("%Y-%m-%d %H:%M:%S UTC", time.gmtime(guess["start"])),
+        "length": "%d minutes" % (ticks * tick // 60) if ticks * tick >= 120 else "%d s" % (ticks * tick), "gap": max(200, tick)})
+    return re.sub(r"(?m)^([a-z0-9_]+ = \S+) +# ", lambda line: "%-22s# " % line[1], text)
+
+
+def fitted(guess, vessels, log, program, reasons):
+    """The guess with a watch, and if need be a window, with which no more pairs come into contact than the program follows."""
+    if vessels * (vessels - 1) <= MOST_PAIRS:
+        return guess
+    for watch in WATCHES:
+        guess = {**guess, "watch": watch}
+        if fits(guess, log, program):
+            break
+    whole = guess["ticks"]
+    while guess["ticks"] > 1 and guess["watch"] == WATCHES[-1] and not fits(guess, log, program):
+        guess = {**guess, "ticks": guess["ticks"] // 2}
+    if guess["ticks"] < whole:
+        reasons.append("the window is cut to %d of %d ticks: more than %d pairs come into contact. tools/colregs-many audits such a log by"
+                       " subjects and windows" % (guess["ticks"], whole, MOST_PAIRS))
+    if guess["watch"] != WATCHES[0]:
+        reasons.append("the watch is %d m in place of %d: more than %d pairs would come into contact" % (guess["watch"], WATCHES[0], MOST_PAIRS))
+    return guess
+
+
+def fits(guess, log, program):
+    done = run_text(program, "audit", text_of(guess), log)
+    return not (done.status == 7 and "pairs" in done.words)
+
+
+def suggested(log, program):
+    """A scenario's text for a log with tag blocks, and the reasons for what in it was guessed. A Fault where the log has no position report."""
+    reasons = []
+    try:
+        found, timed = look(log, program, reasons)
+    except OSError as error:
+        raise Fault("%s cannot be read: %s" % (log, (error.strerror or str(error)).lower())) from None
+    if not found.times:
+        raise Fault("the program accepts no position report of the log")
+    start, tick, ticks, interval = window(found, timed, reasons)
+    latitude, longitude = reference(found, reasons)
+    guess = {"start": start, "tick": tick, "ticks": ticks, "interval": interval, "lat": latitude, "lon": longitude, "watch": WATCHES[0]}
+    guess = fitted(guess, found.vessels, log, program, reasons)
+    reasons.append("%d position reports of %d vessels" % (len(found.times), found.vessels))
+    if interval is not None:
+        whole = "to the last" if guess["ticks"] == ticks else "on, and is cut"
+        reasons.append("the window is from the first report %s: %d s from %d on" % (whole, guess["ticks"] * tick, start))
+        reasons.append("the tick is %d s: reports of vessels under way are %g s apart, by their median" % (tick, interval))
+    reasons.append("the reference is the middle of the places: latitude %d, longitude %d" % (latitude, longitude))
+    return text_of(guess), reasons

@@ -1,0 +1,73 @@
+"""The keys that a scenario may have, with their units, taken from the table of docs/SCENARIO.md."""
+import difflib
+import functools
+import os
+import re
+
+from colregs.errors import Fault
+from colregs.run.program import TOP
+
+PAGES = os.path.join(TOP, "docs", "SCENARIO.md"), os.path.join(os.path.dirname(os.path.abspath(__file__)), "SCENARIO.md")     # the latter of a wheel
+NO_KEYS = {"document", "formulas"}      # what the table tells of the text as a whole, and of all formulas together
+
+
+@functools.cache
+def units():
+    """The unit of each key, as `window.tick`; a key that is no table's has no point."""
+    try:
+        with open(next(path for path in PAGES if os.path.exists(path)), encoding="utf-8") as source:
+            page = source.read()
+    except StopIteration:
+        raise Fault("%s is not here, from which the keys are taken" % PAGES[0]) from None
+    known = {}
+    for row in re.findall(r"^\| [\d, to]+ \|(.*)\|$", page, re.M):
+        cells, table = [cell.strip() for cell in row.split("|")], ""
+        for key in re.findall(r"`([a-z0-9_.]+)`", cells[0]):
+            key = table + key if key.startswith(".") else key
+            table = key.partition(".")[0]
+            if key not in NO_KEYS:
+                known[key] = cells[-1]
+    return known
+
+
+def names_of(values):
+    """Each key of a scenario, as `window.tick`, once."""
+    found = []
+    for key, value in values.items():
+        tables = value if isinstance(value, list) else [value]
+        inner = [name for table in tables if isinstance(table, dict) for name in table]
+        found += ["%s.%s" % (key, name) for name in inner] or [key]
+    return list(dict.fromkeys(found))
+
+
+def tables():
+    return {key.partition(".")[0] for key in units() if "." in key}
+
+
+def likeness(one, two):
+    return difflib.SequenceMatcher(None, one.lower(), two.lower()).ratio()
+
+
+def nearest(name):
+    """The key or table whose name is nearest to this one, or nothing; in its own table a key is a little nearer."""
+    head, _, tail = name.rpartition(".")
+    scores = {key: likeness(tail, key.rpartition(".")[2]) + (key.rpartition(".")[0] == head) / 10 for key in [*units(), *tables()]}
+    best = max(sorted(scores), key=scores.get)
+    return best if scores[best] >= 0.65 else None
+
+
+def doubt(name):
+    """What is wrong with a key: the name of the finding and words; or nothing."""
+    if name in units() or name in tables():
+        return None
+    head, _, tail = name.rpartition(".")
+    table = max(sorted(tables()), key=lambda known: likeness(head, known))
+    if head and head not in tables() and likeness(head, table) >= 0.7:
+        return "misspelt key", "`%s` is ignored: is its table `%s`" % (name, table)
+    elsewhere = [key for key in units() if key.rpartition(".")[2] == tail]
+    if elsewhere:
+        return "misplaced key", "`%s` is ignored: the key stands at `%s`" % (name, elsewhere[0])
+    near = nearest(name)
+    if near:
+        return "misspelt key", "`%s` is ignored: is it `%s`" % (name, near)
+    return "unknown key", "`%s` is ignored: docs/SCENARIO.md has no such key" % name

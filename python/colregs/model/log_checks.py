@@ -1,0 +1,135 @@
+"""What a doctor sees in a log itself, before the program reads it: how it is packed, whether it has sentences and times, who shares an MMSI."""
+import collections
+import re
+import statistics
+
+from colregs.io.forms import seconds_of
+from colregs.io.logs import stamp, timed
+from colregs.io.packing import encoding, packing
+from colregs.model.scenario_checks import Finding
+from colregs.model.guess import sampled
+from colregs.io.sentences import lone_message
+from colregs.io.sources import CUT
+from colregs.io.tables import table_of
+
+MOST_SPEED = 102.2 * 1852 / 3600         # metres a second: what no ship makes
+PLACES = {1: (61, 89), 2: (61, 89), 3: (61, 89), 18: (57, 85), 19: (57, 85)}
+STATIONS = {4: "a base station's time", 9: "an aircraft's report", 11: "a base station's time", 21: "an aid to navigation's report"}
+FLOATS = re.compile(r"\bBUOY|\bBEACON|\bNETS?\b|\bNETMARK|\d+ ?%|\d\d?\.\d ?V\b")
+STEADY = 3                               # so many reports of either of two tracks make two ships
+CLOCKS = 4, 11                           # messages that tell the UTC of their sender
+OFF = 60                                 # s: a log's clock that is farther off than this is told
+MOVED = 600                              # s: a track without a report for so long has gone over into the other
+
+
+def form_of(log):
+    """What keeps the log from being read as it is."""
+    packed = packing(log)
+    if packed != "plain":
+        yield Finding("packed log", "the log is packed by %s: tools/tagged unpacks it" % packed)
+        return
+    with open(log, "rb") as source:
+        head = source.read(65536)
+    if not head.strip():
+        yield Finding("empty log", "the log has nothing in it")
+    elif encoding(head).startswith("utf-16"):
+        yield Finding("log in UTF-16", "the log is a text in UTF-16: tools/tagged reads it")
+    elif not any(CUT.search(line) for line in sampled(log)):
+        table = next((table for table in map(table_of, head.split(b"\n")[:5]) if table), None)
+        words = "is a table (%s): tools/tagged makes sentences of it" % table.name if table else "has no AIVDM or AIVDO sentence"
+        yield Finding("no sentences", "the log " + words)
+
+
+def times_of(log):
+    """How many sentences were looked at, and the times that they tell."""
+    lines = [line for line in sampled(log) if CUT.search(line)]
+    return len(lines), [at for at in map(stamp, lines) if at is not None]
+
+
+class Track:
+    """The reports of one MMSI: the latest, and the latest that does not fit to it. Where both go on side by side, two ships send them."""
+
+    def __init__(self, report):
+        self.main, self.second, self.fits, self.most, self.reports = report, None, [0, 0], 0, 1
+
+    def take(self, report):
+        self.reports += 1
+        to_main, to_second = near(self.main, report), self.second is not None and near(self.second, report)
+        if to_main:
+            self.fits[0] += self.second is not None and not to_second
+            self.main = report
+        elif to_second:
+            self.fits[1] += 1
+            self.second = report
+        else:
+            self.second, self.fits = report, [0, 0]
+        self.most = max(self.most, min(self.fits))
+        if self.second and self.second[0] - self.main[0] > MOVED:
+            self.main, self.second = self.second, None
+
+
+def near(one, two):
+    """Whether a ship can have come from one report to the other: roughly, on a sphere without its poles."""
+    metres = 1852 / 10000 * max(abs(two[1] - one[1]), min(abs(two[2] - one[2]), 216000000 - abs(two[2] - one[2])) * 0.25)
+    return metres <= MOST_SPEED * (abs(two[0] - one[0]) + 10) + 200
+
+
+class Senders:
+    """Who sent what: ships that share an MMSI, and MMSIs that send what no ship sends."""
+
+    def __init__(self, log):
+        self.tracks, self.stations, self.apart = {}, collections.defaultdict(collections.Counter), []
+        with open(log, "rb") as source:
+            for at, line in timed(source):
+                message = lone_message(line)
+                if message and message.length >= 38:
+                    self.take(at or 0, message)
+                    if at is not None and message.number(0, 6) in CLOCKS:
+                        self.compare(at, message)
+
+    def take(self, at, message):
+        kind, mmsi = message.number(0, 6), message.number(8, 30)
+        first = PLACES.get(kind)
+        if kind in STATIONS:
+            self.stations[mmsi][kind] += 1
+        elif first and message.length >= 168:
+            longitude, latitude = message.number(first[0], 28, True), message.number(first[1], 27, True)
+            if abs(longitude) <= 108000000 and abs(latitude) <= 54000000:
+                report = at, latitude, longitude
+                if mmsi in self.tracks:
+                    self.tracks[mmsi].take(report)
+                else:
+                    self.tracks[mmsi] = Track(report)
+
+    def compare(self, at, message):
+        """How far a line's time is from the UTC that its base station tells."""
+        fields = [message.number(first, width) for first, width in ((38, 14), (52, 4), (56, 5), (61, 5), (66, 6), (72, 6))]
+        try:
+            self.apart.append(at - seconds_of(*fields))
+        except ValueError:
+            return
+
+    def clock(self):
+        apart = round(statistics.median(self.apart)) if self.apart else 0
+        if abs(apart) > OFF:
+            yield Finding("clock that is off", "the log's times are %d s (%.2f hours) %s the UTC that base stations tell in %d messages" % (
+                abs(apart), abs(apart) / 3600, "ahead of" if apart > 0 else "behind", len(self.apart)))
+
+    def lost(self, points):
+        """Ships most of whose reports are not accepted, by how many are."""
+        for mmsi, track in sorted(self.tracks.items()):
+            if track.reports >= 10 and 2 * points.get(mmsi, 0) < track.reports:
+                yield mmsi, track.reports, points.get(mmsi, 0)
+
+    def shared(self):
+        for mmsi, track in sorted(self.tracks.items()):
+            if track.most >= STEADY:
+                yield Finding("shared MMSI", "%d goes on at two places at a time: two ships may share it" % mmsi)
+
+    def no_ships(self, vessels):
+        for mmsi in sorted(set(self.stations) & set(vessels)):
+            kind = max(self.stations[mmsi], key=self.stations[mmsi].get)
+            yield Finding("station that is no ship", "%d is judged as a vessel, and sends %s (message %d)" % (mmsi, STATIONS[kind], kind))
+        for mmsi, name in sorted(vessels.items()):
+            if FLOATS.search(name):
+                yield Finding("station that is no ship", "%d is judged as a vessel, and is called %s" % (mmsi, name))

@@ -1,0 +1,63 @@
+"""A scenario: its text, and the numbers that shares and streams need of it."""
+import re
+import tomllib
+
+from colregs.errors import Fault
+from colregs.io.files import read_bytes, read_text
+
+MOST_SUBJECTS, MOST_TICKS = 64, 20000           # docs/SCENARIO.md
+SUBJECTS = re.compile(r"(?ms)^\s*subjects\s*=\s*\[.*?\][^\n]*\n?")
+BOUNDS = re.compile(r"\[\s*\d+\s*,\s*(\d+)\s*\]")
+
+
+def read_values(path):
+    """Returns the values of a scenario's file."""
+    return values_of(path, read_text(path))
+
+
+def values_of(path, text):
+    try:
+        return tomllib.loads(text)
+    except tomllib.TOMLDecodeError as error:
+        raise Fault("%s: not TOML: %s" % (path, error)) from None
+
+
+class Scenario:
+    """A scenario's text with the numbers that shares need. Where the program would refuse it, it refuses it itself."""
+
+    def __init__(self, path):
+        self.path = path
+        try:
+            self.text = read_bytes(path).decode("utf-8")
+        except UnicodeDecodeError:
+            raise Fault("%s: not a text in UTF-8" % path) from None
+        self.values = values_of(path, self.text)
+        try:
+            window, log, rules = (self.values[table] for table in ("window", "log", "rules"))
+            self.start, self.tick, self.ticks = (int(window[key]) for key in ("start", "tick", "ticks"))
+            self.gap, self.slack, self.watch = int(log["gap"]), int(log["slack"]), int(self.values["detect"]["watch"])
+            # r8b, r14a, r16 and r17b look ahead, by these times (docs/RULES.md); a formula at most by its bounds together
+            texts = [str(table["text"]) for table in self.values.get("formula", [])]
+            ahead = [int(rules[key]) for key in ("t8", "ta", "tl")] + [sum(map(int, BOUNDS.findall(text))) for text in texts]
+            self.reach = -(-max(ahead) // self.tick)
+        except (KeyError, TypeError, ValueError, ZeroDivisionError) as error:
+            raise Fault("%s: a number of window, log, detect or rules is missing or is none: %s" % (path, error)) from None
+        self.subjects = self.values.get("subjects", [])
+
+    def with_subjects(self, subjects):
+        """The text with these subjects in place of its own, and nothing else changed."""
+        if subjects is None:
+            return self.text
+        head, bracket, rest = self.text.partition("\n[")
+        text = "subjects = %s\n" % subjects + (SUBJECTS.sub("", head, count=1) if self.subjects else head) + bracket + rest
+        if values_of(self.path, text) != {**self.values, "subjects": subjects}:
+            raise Fault("%s: its subjects cannot be replaced: put `subjects = [..]` on lines of its own before the first table" % self.path)
+        return text
+
+    def settled(self, ticks):
+        """The last step whose rows neither the end of a window of so many ticks nor a later line can change."""
+        return ticks - self.reach - 2
+
+    def delay(self):
+        """How many seconds of the log's clock a row comes behind the beginning of its last step, and a little more (docs/AUDIT.md)."""
+        return (self.reach + 2) * self.tick + self.gap + self.slack

@@ -1,0 +1,84 @@
+"""What a doctor sees in a scenario alone: keys that do not count, units that look wrong, numbers that are at odds."""
+import collections
+
+from colregs.model import keys
+
+Finding = collections.namedtuple("Finding", "name words")
+
+LEAST = {"1/10 degree": 20, "1/10 knot": 3, "m": 20}      # below this a number that is not nought looks like one of another unit
+LEAST_OF = {"act.apparent_turn": 50, "act.apparent_speed": 10, "log.max_speed": 100, "own.courses": 100, "own.speeds": 10, "detect.doubt": 2}
+LEAST_SECONDS = {"detect.horizon": 60, "rules.te": 60, "rules.tw": 20, "rules.ta": 20, "rules.t8": 10, "rules.tl": 5}
+LOOKS = {"1/10 degree": ("degrees for tenths", 10, "degrees"), "1/10 knot": ("knots for tenths", 10, "knots"),
+         "m": ("miles for metres", 1, "m")}
+AT_ODDS = [("act.steady_turn", "act.apparent_turn"), ("act.steady_speed", "act.apparent_speed"), ("detect.risk", "detect.watch"),
+           ("detect.clear", "detect.watch"), ("detect.risk", "detect.clear"), ("rules.close", "detect.watch")]
+
+
+def value_at(values, name):
+    """What stands at a key, or nothing."""
+    for part in name.split("."):
+        values = values.get(part) if isinstance(values, dict) else None
+    return values
+
+
+def numbers_at(values, name):
+    found = value_at(values, name)
+    found = found if isinstance(found, list) else [found]
+    return [number for number in found if isinstance(number, (int, float)) and not isinstance(number, bool)]
+
+
+def unknown_keys(values):
+    for name in keys.names_of(values):
+        doubt = keys.doubt(name)
+        if doubt:
+            yield Finding(*doubt)
+    for name in keys.names_of(values):
+        if values.get("version") == 1 and name.startswith("rules.safe_") and name in keys.units():
+            yield Finding("key of another version", "`%s` is ignored in version 1: give `version = 2` and all four safe distances" % name)
+
+
+def wrong_units(values):
+    """Numbers that are so small that they look like degrees, knots or miles."""
+    for name, unit in keys.units().items():
+        told = [abs(number) for number in numbers_at(values, name) if number]
+        if not told or unit not in LOOKS or max(told) >= LEAST_OF.get(name, LEAST[unit]):
+            continue
+        finding, part, word = LOOKS[unit]
+        yield Finding(finding, "`%s = %s` is %s %s: the unit is %s" % (
+            name, value_at(values, name), format(max(told) / part, "g"), word, {"m": "metres"}.get(unit, unit)))
+    for name, least in LEAST_SECONDS.items():
+        if any(0 < number < least for number in numbers_at(values, name)):
+            yield Finding("minutes for seconds", "`%s = %s` is so short that it looks like minutes: the unit is s" % (name, value_at(values, name)))
+    yield from wrong_place_and_time(values)
+
+
+def wrong_place_and_time(values):
+    latitude, longitude = (numbers_at(values, "reference." + word) for word in ("lat", "lon"))
+    if latitude and longitude and (latitude[0] or longitude[0]) and abs(latitude[0]) <= 90 and abs(longitude[0]) <= 180:
+        yield Finding("degrees for the reference", "`reference` is %g, %g: the unit is 1/10000 minute, so a degree is 600000" % (
+            latitude[0], longitude[0]))
+    start = numbers_at(values, "window.start")
+    if start and start[0] >= 10 ** 11:
+        yield Finding("milliseconds for seconds", "`window.start = %s` looks like milliseconds: the unit is seconds" % start[0])
+
+
+def at_odds(values):
+    for less, more in AT_ODDS:
+        small, great = numbers_at(values, less), numbers_at(values, more)
+        if small and great and small[0] > great[0]:
+            yield Finding("numbers at odds", "`%s = %s` is more than `%s = %s`" % (less, small[0], more, great[0]))
+
+
+def no_ships(values):
+    """MMSIs of subjects and of own ship that are no ship's."""
+    for name in ("subjects", "own.mmsi"):
+        for mmsi in numbers_at(values, name):
+            if not 200000000 <= mmsi <= 799999999:
+                kind = "an aid to navigation" if 990000000 <= mmsi else "a coast station" if mmsi < 10000000 else "no ship"
+                yield Finding("station that is no ship", "`%s` has %s, which is %s: a ship's MMSI is from 200000000 to 799999999" % (
+                    name, mmsi, kind))
+
+
+def findings(values):
+    for check in (unknown_keys, wrong_units, at_odds, no_ships):
+        yield from check(values)

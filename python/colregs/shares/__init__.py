@@ -1,0 +1,1 @@
+"""Long audits in shares: plans, runs, and the join of their reports."""

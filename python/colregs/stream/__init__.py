@@ -1,0 +1,1 @@
+"""Streams that do not end: where they come from, their day files, the runs over them, and their rows."""

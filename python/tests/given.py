@@ -1,0 +1,79 @@
+"""What the tests share: the built program, the examples, a folder for a test, and what a machine may lack."""
+import contextlib
+import importlib
+import io
+import os
+import shutil
+import subprocess
+import sys
+import tempfile
+import unittest
+
+HERE = os.path.dirname(os.path.abspath(__file__))
+TOP = os.path.dirname(os.path.dirname(HERE))
+TOOLS, EXAMPLES = os.path.join(TOP, "tools"), os.path.join(TOP, "examples")
+PROGRAM = os.environ.get("COLREGS_PROGRAM", os.path.join(TOP, "crates", "colregs", "out", "colregs"))
+for path in (os.path.dirname(HERE), EXAMPLES):
+    if path not in sys.path:
+        sys.path.insert(0, path)
+
+
+def needs(command):
+    """Passes a test over where a command is not here."""
+    return unittest.skipUnless(shutil.which(command), "%s is not installed" % command)
+
+
+with_program = unittest.skipUnless(os.access(PROGRAM, os.X_OK), "the program is not built")
+
+
+def example(name):
+    return os.path.join(EXAMPLES, name)
+
+
+def text_of(path):
+    with open(path, encoding="utf-8") as source:
+        return source.read()
+
+
+class InFolder(unittest.TestCase):
+    """A test with a folder of its own."""
+
+    def setUp(self):
+        folder = tempfile.TemporaryDirectory()
+        self.addCleanup(folder.cleanup)
+        self.folder = folder.name
+
+    def path(self, name):
+        return os.path.join(self.folder, name)
+
+    def write(self, name, words):
+        """A file with this text or these bytes; its path."""
+        with open(self.path(name), "wb") as out:
+            out.write(words if isinstance(words, bytes) else words.encode())
+        return self.path(name)
+
+    def tool(self, name, *words, source=b""):
+        """A run of a tool: its status, standard output and standard error."""
+        done = subprocess.run([sys.executable, os.path.join(TOOLS, name), *words], input=source, capture_output=True, cwd=self.folder, timeout=120)
+        return done.returncode, done.stdout.decode("utf-8", "replace"), done.stderr.decode("utf-8", "replace")
+
+    def within(self, name, *words):
+        """The same within this process: it spares the start of a Python."""
+        command = importlib.import_module("colregs.cli." + name.removeprefix("colregs-")).command
+        out, error, before, argv = io.StringIO(), io.StringIO(), os.getcwd(), sys.argv
+        os.chdir(self.folder)
+        sys.argv = [name, *words]
+        try:
+            with contextlib.redirect_stdout(out), contextlib.redirect_stderr(error), self.assertRaises(SystemExit) as ended:
+                command()
+        finally:
+            os.chdir(before)
+            sys.argv = argv
+        return ended.exception.code, out.getvalue(), error.getvalue()
+
+    def program(self, mode, scenario, log):
+        """The report of the program; a test fails where it ends otherwise than with status 0 or 1."""
+        with open(log, "rb") as source:
+            done = subprocess.run([PROGRAM, mode, scenario], stdin=source, capture_output=True, timeout=120)
+        self.assertIn(done.returncode, (0, 1), done.stderr)
+        return done.stdout.decode()

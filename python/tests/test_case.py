@@ -1,0 +1,196 @@
+"""A case: its files and sums, and its map, database, pictures and page, by a passing that is reckoned by hand (passing.py)."""
+import hashlib
+import json
+import os
+import re
+import sqlite3
+import unittest
+
+import browser
+import passing
+from given import InFolder, PROGRAM, with_program
+from colregs.page import page
+
+MOMENT = "2023-11-14T22:21:40Z"
+WRONG_USES = [
+    (["none.log"], "none.log"),
+    (["/dev/zero"], "/dev/zero is no file"),
+    (["passing.log", "--scenario", "none.toml"], "none.toml"),
+    (["passing.log", "--scenario", "/dev/zero"], "/dev/zero is a device"),
+    (["passing.log", "--scenario", "passing.log"], "status 3, scenario: document: not toml"),
+    (["passing.log", "--program", "none"], "no program"),
+    (["passing.log", "--chart", "passing.toml"], "GeoJSON"),
+    (["passing.log", "-o", "."], "is there already"),
+    (["passing.toml", "--scenario", "passing.toml"], "no sentence and no row was read"),
+    (["passing.log", "--scenario", "passing.toml", "--start", "1800000000"], "no vessel has a position between 2027-01-15 08:00:00"),
+]
+
+
+@with_program
+class Cases(InFolder):
+    def setUp(self):
+        super().setUp()
+        self.write("passing.toml", passing.SCENARIO)
+        self.write("passing.log", passing.log(still=True))
+
+    def make(self, *more, status=0):
+        done = self.tool("colregs-case", "passing.log", "--scenario", "passing.toml", "--program", PROGRAM, "-o", "made", *more)
+        self.assertEqual(done[0], status, done[2])
+        return done
+
+    def held(self, name):
+        with open(self.path("made/" + name), encoding="utf-8") as source:
+            return source.read()
+
+
+class Files(Cases):
+    def test_the_sums_are_those_of_the_files(self):
+        self.make()
+        told = json.loads(self.held("case.json"))
+        names = set(os.listdir(self.path("made")))
+        self.assertEqual(set(told["files"]) | {"case.json"}, names)
+        for name, about in told["files"].items():
+            with open(self.path("made/" + name), "rb") as source:
+                self.assertEqual(hashlib.sha256(source.read()).hexdigest(), about["sha256"], name)
+        self.assertEqual(told["given"][0]["sha256"], hashlib.sha256(passing.log(still=True).encode()).hexdigest())
+
+    def test_the_summary_tells_the_nearest_of_those_under_way(self):
+        said = self.make()[1]
+        self.assertIn("EAST and WEST, 185 m (0.10 nautical miles) at 2023-11-14 22:21:40 UTC", said.replace("WEST and EAST", "EAST and WEST"))
+
+    def test_a_window_that_is_given_is_kept_for_the_other_tools(self):
+        self.make("--start", str(passing.START + 100), "--ticks", "80")
+        self.assertEqual(json.loads(self.held("case.json"))["window"]["start"], passing.START + 100)
+        for words in (["made"], ["made/scenario.toml", "--points", "made/points.csv", "--audit", "made/report.csv"]):
+            self.assertEqual(self.tool("draw", words[0], "picture", *words[1:])[0], 0)
+        with open(self.path("picture.svg"), encoding="utf-8") as source:
+            self.assertIn("185 m at 22:21:40", source.read())
+
+    def test_a_scenario_is_guessed_where_none_is_given(self):
+        status, said, error = self.tool("colregs-case", "passing.log", "--program", PROGRAM, "-o", "made")
+        self.assertEqual(status, 0, error)
+        self.assertIn("The scenario was guessed", said)
+
+    def test_what_goes_wrong_is_named_and_leaves_nothing(self):
+        for words, told in WRONG_USES:
+            usual = (("--program", PROGRAM), ("-o", "made"))
+            status, _, error = self.tool("colregs-case", *words, *(word for pair in usual if pair[0] not in words for word in pair))
+            self.assertEqual(status, 1, words)
+            self.assertRegex(error, "^case: .*" + re.escape(told))
+            self.assertNotIn("Traceback", error)
+            self.assertEqual(sorted(os.listdir(self.folder)), ["passing.log", "passing.toml"])
+
+    def test_a_refusal_of_the_program_is_handed_on(self):
+        self.write("passing.toml", passing.SCENARIO.replace("tick = 10", "tick = 61"))
+        self.assertRegex(self.make(status=1)[2], "status 3, scenario: window.tick: range")
+
+
+class Maps(Cases):
+    def test_the_nearest_places_are_where_they_are_by_hand(self):
+        self.make()
+        features = json.loads(self.held("case.geojson"))["features"]
+        found = [f for f in features if f["properties"]["kind"] == "nearest" and f["properties"]["subject"] == passing.EAST
+                 and f["properties"]["other"] == passing.WEST]
+        self.assertEqual(len(found), 1)
+        longitude, latitude = found[0]["geometry"]["coordinates"]
+        self.assertAlmostEqual(longitude, 15000 / 600000, places=6)
+        self.assertAlmostEqual(latitude, 0, places=6)
+        told = found[0]["properties"]
+        self.assertEqual((told["subject_name"], told["other_name"], told["time"], round(told["least"], 1)), ("EAST", "WEST", MOMENT, passing.LEAST))
+        ends = {(f["properties"]["name"], f["properties"]["end"]): f["geometry"]["coordinates"] for f in features if f["properties"]["kind"] == "end"}
+        self.assertEqual(ends["EAST", "first"], [0, 0])
+
+    def test_the_database_has_metres_miles_utc_and_who_lies_still(self):
+        self.make()
+        with sqlite3.connect(self.path("made/case.db")) as base:
+            row = base.execute("select round(least, 1), nautical_miles, nearest, at_rest from meeting where subject = ? and other = ?",
+                               (passing.EAST, passing.WEST)).fetchone()
+            self.assertEqual(row, (passing.LEAST, 0.1, MOMENT, ""))
+            row = base.execute("select first, last from verdict where rule = 'r8d' and subject = ? and other = ?",
+                               (passing.EAST, passing.WEST)).fetchone()
+            self.assertEqual(row, passing.UNSAFE)
+            self.assertEqual(base.execute("select distinct at_rest from verdict where subject = ?", (passing.STILL,)).fetchall(), [("subject",)])
+        base.close()
+
+
+class Pictures(Cases):
+    def test_two_vessels_and_a_part_of_the_time_are_drawn(self):
+        self.make()
+        done = self.tool("draw", "made", "two", "--pair", "EAST", str(passing.WEST), "--from", "22:20", "--to", "2023-11-14T22:23:00Z")
+        self.assertEqual(done[0], 0, done[2])
+        with open(self.path("two.svg"), encoding="utf-8") as source:
+            text = source.read()
+        self.assertIn("22:20:00 to 22:23:00 UTC", text)
+        self.assertNotIn(str(passing.STILL), text)
+
+    def test_what_cannot_be_drawn_is_named(self):
+        self.make()
+        for words, told in ((["--pair", "EAST", "NORTH"], "`NORTH` is no vessel"), (["--from", "noon"], "`noon` is no time"),
+                            (["--from", "23:30"], "no step of the window"), (["--start", "1700003600"], "outside the window")):
+            status, _, error = self.tool("draw", "made", "none", *words)
+            self.assertEqual(status, 1, words)
+            self.assertRegex(error, "^draw: .*" + re.escape(told))
+
+
+class Pages(Cases):
+    def test_the_page_holds_the_meeting_with_its_rule_in_words(self):
+        self.make()
+        held = json.loads(re.search(r'<script type="application/json" id="case">(.*?)</script>', self.held("case.html"), re.S)[1])
+        names = [vessel["name"] for vessel in held["vessels"]]
+        meeting = next(m for m in held["meetings"] if {names[k] for k in m["pair"]} == {"EAST", "WEST"})
+        self.assertEqual((meeting["least"], held["start"] + meeting["nearest"], meeting["rest"]), (passing.LEAST, passing.NEAREST, []))
+        broken = next(v for v in held["verdicts"] if held["rules"][v["rule"]]["name"] == "r8d" and v["broken"]
+                      and {names[k] for k in v["pair"]} == {"EAST", "WEST"})
+        self.assertEqual((broken["first"], broken["last"]), passing.UNSAFE)
+        self.assertIn("passing at a safe distance", held["rules"][broken["rule"]]["words"])
+
+    def test_a_name_is_kept_as_it_was_told(self):
+        self.make()
+        with sqlite3.connect(self.path("made/case.db")) as base:
+            self.assertEqual(base.execute("select name from vessel where mmsi = ?", (passing.STILL,)).fetchone(), (passing.HOSTILE,))
+        base.close()
+
+    def test_words_of_a_title_are_no_markup(self):
+        self.make("--title", "</script><script>document.title='taken'</script>")
+        self.assertNotIn("<script>document.title", self.held("case.html"))
+
+    def test_each_place_that_the_script_fills_is_in_the_page(self):
+        self.make()
+        text = self.held("case.html")
+        there = set(re.findall(r' id="([\w-]+)"', text))
+        asked = set(re.findall(r'(?:byId|getElementById|list|plain)\("([\w-]+)"', text))
+        self.assertGreater(len(asked), 20)
+        self.assertEqual(asked - there, set())
+
+    def test_without_leaflet_the_page_says_that_it_has_no_map(self):
+        self.assertEqual(page.leaflet(self.folder), ("", ""))
+
+    @unittest.skipUnless(browser.installed(), "chromium is not installed")
+    def test_in_a_browser_rows_answer_a_click_with_no_error_and_no_request(self):
+        self.write("coast.geojson", json.dumps({"type": "Polygon", "coordinates": [[[0.01, 0.01], [0.02, 0.01], [0.02, 0.02], [0.01, 0.01]]]}))
+        self.make("--chart", "coast.geojson")
+        with browser.Browser() as tab:
+            tab.open(self.path("made/case.html"), "#meeting1")
+            self.assertEqual(tab.value("document.documentElement.dataset.ready"), "yes")
+            meetings = tab.value("HELD.meetings.length")
+            self.assertEqual(tab.value("document.querySelectorAll('#meetings tbody tr').length"), meetings)
+            self.assertRegex(tab.value("document.querySelector('#chosen').textContent"), "^Meeting 1:")
+            number = tab.value("HELD.meetings.findIndex(m => !m.rest.length) + 1")
+            tab.value("document.querySelector('#meetings tbody tr[data-meeting=\"%d\"]').click()" % number)
+            self.assertEqual(tab.value("location.hash"), "#meeting%d" % number)
+            said = tab.value("document.querySelector('#chosen-words').textContent")
+            self.assertIn("Nearest 185 m (0.10 nautical miles) at 22:21:40", said)
+            self.assertEqual(tab.value("document.querySelectorAll('#charts svg polyline.distance').length"), 1)
+            self.assertGreater(tab.value("document.querySelectorAll('#charts rect.shade').length"), 0)
+            tab.value("{ const s = document.querySelector('#meetings input[type=search]'); s.value = 'west'; s.dispatchEvent(new Event('input')); }")
+            self.assertEqual(tab.value("document.querySelectorAll('#meetings tbody tr').length"), tab.value(
+                "HELD.meetings.filter(m => m.pair.some(k => HELD.vessels[k].name === 'WEST')).length"))
+            if page.leaflet()[0]:
+                self.assertEqual(tab.value("document.querySelectorAll('#map canvas').length"), 1)
+            self.assertEqual(tab.value("document.querySelectorAll('img').length"), 0, "a name became markup")
+            self.assertEqual(tab.errors, [])
+            self.assertEqual([address for address in tab.asked if not address.startswith(("file://", "data:"))], [])
+
+
+if __name__ == "__main__":
+    unittest.main()

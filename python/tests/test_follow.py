@@ -1,0 +1,183 @@
+"""A stream that is followed: each row once, over turned windows, a midnight, cuts, kills and a limit of pairs."""
+import json
+import os
+import re
+import signal
+import subprocess
+import sys
+import time
+import unittest
+
+import crowd
+from given import InFolder, PROGRAM, TOOLS, example, needs, text_of, with_program
+from colregs.stream.day_files import LEAP, SURE, Clock, DayFiles, stamped
+from colregs.stream.rows import steps_of
+
+SHIFT = 1700006400 - 1700001000          # s: midnight comes 1000 s behind the beginning of the harbour's log
+START = crowd.START + SHIFT
+WINDOWS = ["--ticks-each", "60", "--overlap", "900"]
+UNITS = sorted(os.listdir(os.path.join(TOOLS, "systemd")))
+
+
+def has_watch():
+    if not os.access(PROGRAM, os.X_OK):
+        return False
+    told = subprocess.run([PROGRAM, "--help"], capture_output=True, text=True)
+    return re.search(r"- watch:|\|watch\b", told.stdout + told.stderr) is not None
+
+
+def absolute(row, start, tick=10):
+    """A row with times in place of its steps."""
+    fields = row.split(",")
+    at = 5 if fields[0] == "verdict" else 4
+    fields[at:at + 2] = [str(start + int(field) * tick) for field in fields[at:at + 2]]
+    return ",".join(fields)
+
+
+@with_program
+class Streams(InFolder):
+    def setUp(self):
+        super().setUp()
+        self.write("s.toml", crowd.harbour())
+        self.lines = [line + "\n" for line in crowd.moved(text_of(example("harbour_of_twenty.log")).splitlines(), SHIFT)]
+
+    def follow(self, *words, source="", status=0, days="days"):
+        done = self.tool("colregs-follow", "s.toml", "--days", days, "--program", PROGRAM, *WINDOWS, *words, source=source.encode())
+        self.assertEqual(done[0], status, done[2])
+        return done[1], done[2]
+
+    def rows(self, text):
+        return [absolute(told["row"], told["run"]) for told in map(json.loads, text.splitlines())]
+
+    def whole(self, mode="audit"):
+        """The rows of one run over a window that begins with the log, and ends long behind it."""
+        done = subprocess.run([PROGRAM, mode, self.path("s.toml"), "--start=%d" % START, "--ticks=1000"], input="".join(self.lines).encode(),
+                              capture_output=True)
+        return [absolute(row, START) for row in done.stdout.decode().splitlines() if row.startswith(("meeting", "verdict", "alarm"))]
+
+
+class Once(Streams):
+    def test_a_whole_stream_has_the_rows_of_one_run_in_order(self):
+        out, error = self.follow("--whole", source="".join(self.lines))
+        self.assertEqual((self.rows(out), error), (self.whole(), ""))
+        self.assertEqual(len(set(json.loads(line)["run"] for line in out.splitlines())), 4)
+        first = json.loads(out.splitlines()[0])
+        self.assertEqual((first["begins"], first["ends"]), ("2023-11-14T23:44:10Z", "2023-11-14T23:44:20Z"))
+
+    def test_a_stream_that_is_cut_and_restarted_over_midnight(self):
+        found, ends = [], [900, 1500, len(self.lines)]
+        for begin, end in zip([0] + ends, ends):
+            out, error = self.follow(*(["--whole"] if end == ends[-1] else []), source="".join(self.lines[begin:end]))
+            self.assertEqual(error, "")
+            self.assertGreater(len(out), 0)
+            found += self.rows(out)
+        self.assertEqual(found, self.whole())
+        self.assertEqual(sorted(name for name in os.listdir(self.path("days")) if name.endswith(".log")), ["2023-11-14.log", "2023-11-15.log"])
+        self.assertEqual("".join(text_of(self.path("days/" + day + ".log")) for day in ("2023-11-14", "2023-11-15")), "".join(self.lines))
+
+    def test_a_file_that_grows_with_a_kill_in_between(self):
+        log = self.write("log", "".join(self.lines[:1200]))
+        self.write("out", "")
+        for number, begin, end in ((signal.SIGKILL, 1200, 1900), (signal.SIGTERM, 1900, len(self.lines))):
+            words = ["s.toml", "--days", "days", "--program", PROGRAM, *WINDOWS, "--log", log, "--out", "out"]
+            child = subprocess.Popen([sys.executable, os.path.join(TOOLS, "colregs-follow"), *words], cwd=self.folder)
+            self.addCleanup(child.kill)
+            with open(log, "a") as out:
+                out.write("".join(self.lines[begin:end]))
+            self.until(lambda: os.path.getsize(self.path("out")) > 0 if number == signal.SIGKILL else self.offset() == os.path.getsize(log))
+            child.send_signal(number)
+            self.assertEqual(child.wait(30), -9 if number == signal.SIGKILL else 0)
+        self.follow("--log", log, "--out", "out", "--whole")
+        self.assertEqual(sorted(self.rows(text_of(self.path("out")))), sorted(self.whole()))
+
+    def offset(self):
+        return json.loads(text_of(self.path("days/source.json")))["offset"]
+
+    def until(self, done):
+        for _ in range(600):
+            if done():
+                return
+            time.sleep(0.05)
+        self.fail("it did not come in 30 s")
+
+    def test_from_a_command_into_a_command(self):
+        self.write("log", "".join(self.lines))
+        self.follow("--command", "cat log", "--to", "cat > out", "--whole")
+        self.assertEqual(self.rows(text_of(self.path("out"))), self.whole())
+
+    @unittest.skipUnless(has_watch(), "the program has no mode watch")
+    def test_alarms_of_watch_are_there_once(self):
+        out, _ = self.follow("--modes", "watch", "--whole", source="".join(self.lines))
+        self.assertEqual(self.rows(out), self.whole("watch"))
+        self.assertGreater(len(self.rows(out)), 50)
+
+
+class Limits(Streams):
+    def test_a_window_with_too_many_pairs_is_split_by_subjects(self):
+        log, start = crowd.log(100, 8000), crowd.START - 320
+        self.write("s.toml", crowd.SCENARIO)
+        self.write("log", log)
+        window = ["--start", str(start), "--ticks", "500", "--ticks-each", "600"]
+        self.write("jobs", self.within("colregs-many", "plan", "s.toml", "log", *window, "--group", "25", "--program", PROGRAM)[1])
+        self.within("colregs-many", "jobs", "--program", PROGRAM)
+        wanted = [absolute(row, start) for row in crowd.stretches(self.within("colregs-many", "join", "jobs", "--program", PROGRAM)[1])]
+        out, error = self.follow("--whole", "--group", "30", "--ticks-each", "480", source=log)
+        self.assertIn("more than 4096 pairs in the window from", error)
+        self.assertGreater(len(wanted), 200)
+        self.assertEqual(sorted(self.rows(out)), sorted(wanted))
+
+    def test_a_meeting_longer_than_the_overlap_is_told(self):
+        error = self.follow("--whole", "--overlap", "400", "--ticks-each", "40", source="".join(self.lines))[1]
+        self.assertIn("longer than the overlap", error)
+
+    def test_wrong_words_are_refused(self):
+        for words, told in ((["--overlap", "0"], "the overlap is 31 ticks or more"), (["--ticks-each", "20000"], "at most 20000"),
+                            (["--log", "none"], "none is not there"), (["--log", "s.toml", "--command", "x"], "not both"),
+                            (["--out", "a", "--to", "b"], "not to both")):
+            status, _, error = self.within("colregs-follow", "s.toml", "--days", "days", "--program", PROGRAM, *WINDOWS, *words)
+            self.assertEqual(status, 1)
+            self.assertIn(told, error)
+        self.write("s.toml", crowd.harbour().replace("risk = 300", "risk = 0"))
+        self.assertIn("status 3, scenario: detect.risk: range", self.follow(source="".join(self.lines[:50]), status=1)[1])
+
+
+class Parts(InFolder):
+    def test_a_time_far_ahead_is_no_clock_until_more_tell_it(self):
+        clock = Clock()
+        for at, told in ((1000, 1000), (990, 1000), (1000 + LEAP, 1000 + LEAP), (10 ** 9, 1000 + LEAP), (2000, 1000 + LEAP)):
+            self.assertEqual(clock.take(b"\\c:%d*00\\" % at), told)
+        for k in range(SURE):
+            clock.take(b"\\c:%d*00\\" % (10 ** 9 + k))
+        self.assertEqual(clock.time, 10 ** 9)
+
+    def test_a_line_that_was_cut_off_is_not_gone_on_with(self):
+        files = DayFiles(self.folder)
+        files.write(b"one\n", 0)
+        files.write(b"tw", 86399)
+        files.flush()
+        again = DayFiles(self.folder)
+        self.assertEqual(again.place(), ("1970-01-01", 4))
+        again.write(b"three\n", 86400)
+        again.flush()
+        limit = again.place()
+        self.assertEqual(b"".join(again.blocks(("1970-01-01", 0), lambda: limit)), b"one\nthree\n")
+
+    def test_bare_sentences_get_the_time(self):
+        self.assertEqual(stamped(b"!AIVDM,1,1,,A,1,0*00", 1700000001), b"\\c:1700000001*5E\\!AIVDM,1,1,,A,1,0*00")
+        self.assertEqual(stamped(b"\\c:1*00\\!AIVDM", 5), b"\\c:1*00\\!AIVDM")
+
+    def test_the_steps_of_rows(self):
+        for row, steps in (("verdict,1,2,r14a,open,5,6", (5, 6)), ("meeting,1,2,head_on,7,8,9", (7, 8)), ("alarm,1,2,r8d,3,4,", (3, 4))):
+            self.assertEqual(steps_of(row), steps)
+
+    @needs("systemd-analyze")
+    def test_the_units_are_accepted(self):
+        self.assertEqual(len(UNITS), 2)
+        for name in UNITS:
+            text = text_of(os.path.join(TOOLS, "systemd", name)).replace("/usr/lib/colregs/tools", TOOLS)
+            unit = self.write(name, re.sub(r"(?m)^(User|Group)=.*\n", "", text))
+            done = subprocess.run(["systemd-analyze", "verify", unit], capture_output=True, text=True, timeout=60)
+            mine = [line for line in (done.stdout + done.stderr).splitlines() if name in line]
+            self.assertEqual(mine, [])
+            for word in ("colregs-follow", "--days", "Restart=always"):
+                self.assertIn(word, text)

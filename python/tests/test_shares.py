@@ -1,0 +1,218 @@
+"""Shares of an audit: planned, run, kept, resumed and joined; the joined rows are byte for byte those of the whole run."""
+import gzip
+import json
+import os
+import stat
+import subprocess
+
+import crowd
+import passing
+from given import InFolder, PROGRAM, TOOLS, example, needs, text_of, with_program
+from colregs.shares.join import covers_plane
+from colregs.model.scenario import Scenario
+from colregs.io.sieve import Senders, sieved
+
+WAYS = [["--tiles", "2x1"], ["--tiles", "1x2", "--group", "12"], ["--ticks-each", "60", "--overlap", "900"],
+        ["--ticks-each", "75", "--overlap", "800", "--group", "12"]]
+FAULTS = [
+    ("{", "line 1: no job"),
+    ('{"files": ["log"], "scenario": "s.toml", "start": 0}', "`ticks` is missing or wrong"),
+    ('{"files": ["log"], "scenario": "s.toml", "start": 0, "ticks": 20001}', "1 to 20000 ticks"),
+    ('{"files": ["log"], "scenario": "s.toml", "start": 0, "ticks": 1, "more": 1}', "`more` is missing or wrong"),
+    ('{"files": ["log"], "scenario": "none.toml", "start": 0, "ticks": 1}', "none.toml cannot be read: no such file"),
+    ('{"files": ["none"], "scenario": "s.toml", "start": 0, "ticks": 1}', "none cannot be read: no such file"),
+    ('{"files": ["cut.gz"], "scenario": "s.toml", "start": 0, "ticks": 1}', "were not read to their end"),
+    ('{"files": ["log"], "scenario": "wrong.toml", "start": 0, "ticks": 1}', "status 3, scenario: window.ticks: range"),
+]
+WRAPPER = """#!/bin/sh
+echo run >> calls
+if [ -e die ] && [ "$(wc -l < calls)" = 3 ]; then kill -9 $PPID; fi
+exec %s "$@"
+"""
+
+
+@with_program
+class Shares(InFolder):
+    def setUp(self):
+        super().setUp()
+        self.write("s.toml", crowd.harbour())
+        self.write("log.gz", gzip.compress(text_of(example("harbour_of_twenty.log")).encode()))
+        self.used = PROGRAM
+
+    def many(self, *words, status=0):
+        done = self.within("colregs-many", *words, "--program", self.used)
+        self.assertEqual(done[0], status, done[2])
+        return done
+
+    def plan(self, *words, scenario="s.toml", log="log.gz"):
+        self.write("jobs", self.many("plan", scenario, log, *words)[1])
+        return text_of(self.path("jobs")).splitlines()
+
+    def joined(self):
+        self.many("jobs", "--jobs", "4")
+        return self.many("join", "jobs")[1]
+
+    def whole(self, scenario="s.toml"):
+        self.write("log", gzip.decompress(open(self.path("log.gz"), "rb").read()))
+        return self.program("audit", self.path(scenario), self.path("log"))
+
+
+class Joined(Shares):
+    def test_rows_by_subjects_tiles_and_time_are_those_of_the_whole(self):
+        rows = crowd.stretches(self.whole())
+        self.assertEqual(len(rows), 22)
+        for way in WAYS:
+            self.assertGreater(len(self.plan(*way)), 1)
+            self.assertEqual(crowd.stretches(self.joined()), rows, way)
+
+    def test_by_subjects_all_but_the_totals_is_there(self):
+        self.plan("--ticks-each", "1000", "--group", "10")
+        self.assertEqual(self.joined().splitlines(), [row for row in self.whole().splitlines() if not row.startswith("total,")])
+
+    def test_subjects_of_the_scenario_are_kept(self):
+        self.write("own.toml", "subjects = [200000108, 200000113,\n  200000119]\n" + crowd.harbour())
+        jobs = self.plan("--ticks-each", "1000", "--group", "2", scenario="own.toml")
+        self.assertEqual([json.loads(line)["subjects"] for line in jobs], [[200000108], [200000113, 200000119]])
+        rows = crowd.stretches(self.whole("own.toml"))
+        self.assertIn("meeting,200000112,200000113,crossing_gives,17,44,13049700", rows)
+        self.assertEqual(crowd.stretches(self.joined()), rows)
+
+    def test_where_the_whole_has_too_many_pairs_groups_of_20_and_of_40_give_the_same(self):
+        self.write("s.toml", crowd.SCENARIO)
+        self.write("log.gz", gzip.compress(crowd.log().encode()))
+        self.write("log", crowd.log())
+        done = subprocess.run([PROGRAM, "audit", self.path("s.toml")], input=crowd.log().encode(), capture_output=True)
+        self.assertEqual((done.returncode, done.stderr), (7, b"limit: pairs 4096\n"))
+        found = []
+        for size, count in (("20", 20), ("40", 10)):
+            self.assertEqual(len(self.plan("--ticks-each", "1000", "--ticks", str(crowd.STEPS), "--group", size)), count)
+            found.append(self.joined())
+        self.assertGreater(len(crowd.stretches(found[0])), 200)
+        self.assertEqual(found[0], found[1])
+
+
+    def test_where_there_are_too_many_vessels_tiles_have_the_meeting_of_each_pair_once(self):
+        self.write("s.toml", crowd.SCENARIO.replace("watch = 5000", "watch = 900").replace("risk = 500", "risk = 100"))
+        self.write("log.gz", gzip.compress(crowd.wide(), 1))
+        self.plan("--ticks", "10", "--tiles", "2x1", "--ticks-each", "1000")
+        found = self.joined().splitlines()
+        meetings = [row.split(",") for row in found if row.startswith("meeting,")]
+        self.assertEqual(sorted((int(row[1]), int(row[2])) for row in meetings), [(200000001 + k, 200000001 + (k ^ 1)) for k in range(4200)])
+        self.assertEqual({tuple(row[3:6]) for row in meetings}, {("head_on", "0", "9")})
+        self.assertEqual(sum(row.startswith("vessel,") for row in found), 4200)
+
+
+class Covered(Shares):
+    def refused(self, words, *keep):
+        lines = text_of(self.path("jobs")).splitlines()
+        self.write("fewer", "".join(lines[k] + "\n" for k in keep))
+        os.rename(self.path("jobs.kept"), self.path("fewer.kept"))
+        self.assertIn(words, self.many("join", "fewer", status=1)[2])
+        os.rename(self.path("fewer.kept"), self.path("jobs.kept"))
+
+    def test_shares_that_do_not_cover_are_refused(self):
+        self.plan("--ticks-each", "1000", "--group", "12", "--tiles", "2x1")
+        self.assertIn("have no result yet", self.many("join", "jobs", status=1)[2])
+        jobs = [json.loads(line) for line in text_of(self.path("jobs")).splitlines()]
+        self.many("jobs", "--jobs", "4")
+        tile = [k for k, job in enumerate(jobs) if job["tile"] == jobs[0]["tile"]]
+        self.refused("leave a part of the plane", *tile)
+        self.refused("are in no group", *range(1, len(jobs)))
+
+    def test_windows_that_overlap_too_little_are_refused(self):
+        self.plan("--ticks-each", "60", "--overlap", "600")
+        self.many("jobs", "--jobs", "4")
+        self.assertIn("longer than the overlap", self.many("join", "jobs", status=1)[2])
+        found = crowd.stretches(self.many("join", "jobs", "--leave-out", "left")[1])
+        left = [tuple(line.split(",")[:2]) for line in text_of(self.path("left")).splitlines()]
+        self.assertEqual(left, [("200000108", "200000109"), ("200000109", "200000108")])
+        self.assertEqual(found, [row for row in crowd.stretches(self.whole()) if tuple(row.split(",")[1:3]) not in left])
+        self.assertIn("less than this scenario needs", self.many("plan", "s.toml", "log.gz", "--ticks-each", "60", "--overlap", "300", status=1)[2])
+
+    def test_tiles_cover_the_plane(self):
+        self.assertTrue(covers_plane([[None, None, 5, None], [5, None, None, 2], [5, 2, None, None]]))
+        self.assertFalse(covers_plane([[None, None, 5, None], [6, None, None, None]]))
+        self.assertFalse(covers_plane([[None, None, 5, None], [5, 0, None, None]]))
+
+
+class KeptResults(Shares):
+    def test_a_killed_run_goes_on_where_it_stopped(self):
+        self.used = self.write("wrapped", WRAPPER % PROGRAM)
+        os.chmod(self.used, os.stat(self.used).st_mode | stat.S_IXUSR)
+        self.plan("--ticks-each", "1000", "--group", "4")
+        self.write("calls", "")
+        self.write("die", "")
+        self.assertEqual(self.tool("colregs-many", "jobs", "--jobs", "1", "--program", self.used)[0], -9)
+        os.remove(self.path("die"))
+        self.assertIn("5 jobs: 2 were kept before, 3 ran, 0 failed", self.many("jobs", "--jobs", "1")[2])
+        self.assertEqual(text_of(self.path("calls")).count("run"), 6)
+        self.assertEqual(crowd.stretches(self.many("join", "jobs")[1]), crowd.stretches(self.whole()))
+
+    def test_another_scenario_or_file_is_another_result(self):
+        self.plan("--ticks-each", "1000")
+        for change, kept in ((None, 0), (None, 1), ("s.toml", 0), ("log.gz", 0)):
+            if change:
+                with open(self.path(change), "ab") as out:
+                    out.write(b"# more\n" if change == "s.toml" else gzip.compress(b"more\n"))
+            self.assertIn("1 jobs: %d were kept before" % kept, self.many("jobs")[2])
+
+    def test_what_goes_wrong_is_told(self):
+        self.write("wrong.toml", crowd.harbour().replace("ticks = 198 ", "ticks = 0 "))
+        self.write("log", "")
+        self.write("cut.gz", gzip.compress(os.urandom(1000))[:900])
+        for line, words in FAULTS:
+            self.write("jobs", line + "\n")
+            error = self.many("jobs", status=1)[2]
+            self.assertIn(words, error, line)
+            self.assertNotIn("Traceback", error)
+
+
+class Machines(Shares):
+    @needs("parallel")
+    def test_by_gnu_parallel(self):
+        self.plan("--ticks-each", "1000", "--group", "7")
+        self.many("jobs", "--parallel", "--jobs", "3")
+        self.assertEqual(text_of(self.path("jobs.kept/joblog")).count("colregs-many one"), 3)
+        self.assertEqual(crowd.stretches(self.many("join", "jobs")[1]), crowd.stretches(self.whole()))
+
+    def test_a_script_for_slurm_runs_the_job_of_its_number(self):
+        self.plan("--ticks-each", "1000", "--group", "10")
+        script = self.write("script", self.many("slurm", "jobs")[1])
+        self.assertIn("#SBATCH --array=1-2\n", text_of(script))
+        for number in ("2", "1"):
+            subprocess.run(["sh", script], check=True, env={**os.environ, "SLURM_ARRAY_TASK_ID": number}, cwd=self.folder, timeout=60)
+        self.assertEqual(crowd.stretches(self.many("join", "jobs")[1]), crowd.stretches(self.whole()))
+
+    def test_commands_run_one_job_each(self):
+        self.plan("--ticks-each", "1000", "--group", "10")
+        for command in self.many("commands", "jobs")[1].splitlines():
+            subprocess.run(["sh", "-c", command], check=True, timeout=60)
+        self.assertIn("2 were kept before, 0 ran", self.many("jobs")[2])
+
+
+class Parts(InFolder):
+    def test_whose_a_sentence_is(self):
+        senders = Senders()
+        lines = [line.encode() for line in passing.log().splitlines()[:6]]
+        self.assertEqual([senders.of(line) for line in lines], [passing.EAST] * 2 + [passing.WEST] * 2 + [passing.EAST, passing.WEST])
+        self.assertEqual([senders.of(line) for line in (b"", b"!AIVDM,1,1", b"$GPRMC,1", b"!AIVDM,1,1,,A,\x80abcdefg,0*00")], [None] * 4)
+
+    def test_a_sieve_keeps_the_times_of_all(self):
+        lines = [line.encode() + b"\n" for line in passing.log().splitlines()]
+        left = list(sieved(lines, {passing.WEST}.__contains__))
+        self.assertEqual(len(left), len(lines) - 1)                        # the later part of a message has no tag block
+        self.assertEqual([line for line in left if b"!" in line and Senders().of(line) == passing.EAST], [])
+        self.assertIn(b"\\c:1700000010*5E\\\n", left)
+
+    def test_subjects_are_put_in_and_nothing_else_is_changed(self):
+        scenario = Scenario(self.write("s.toml", "subjects = [200000001,\n 200000002] # two\n" + passing.SCENARIO))
+        self.assertEqual(scenario.with_subjects([200000009]), "subjects = [200000009]\n" + passing.SCENARIO)
+        self.assertEqual(scenario.with_subjects(None), scenario.text)
+        self.assertEqual((scenario.reach, scenario.delay()), (12, 14 * 10 + 60 + 30))
+
+    def test_the_reach_of_a_formula_is_at_most_its_bounds_together(self):
+        text = passing.SCENARIO + '[[formula]]\nname = "f"\ntext = "G[0,100] F[20,80] seen"\n'
+        self.assertEqual(Scenario(self.write("s.toml", text)).reach, 18)
+
+    def test_the_tool_is_one_that_can_be_run(self):
+        self.assertTrue(os.access(os.path.join(TOOLS, "colregs-many"), os.X_OK))

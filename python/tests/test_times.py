@@ -1,0 +1,94 @@
+"""Each usual form in which a line tells its time, by the moment 2023-11-14 22:13:21 UTC, which `date -u -d @1700000001` writes."""
+import unittest
+
+from given import InFolder
+from colregs.io.sources import gather
+
+MOMENT = 1700000001
+S = "!AIVDM,1,1,,B,12vg22hP2<G:B?4KVut3Q2l20000,0*27"
+FORMS = [
+    "2023-11-14T22:13:21.123Z " + S,
+    "2023-11-14T22:13:21Z: " + S,                     # gpspipe -r -Z
+    S + ",1700000001",
+    S + ",rPORT1,1700000001.55",
+    S + ",s25124,d-119,T42.36,x1234,r003669953,1700000001",
+    "1700000001 " + S,
+    "1700000001.25," + S,
+    "1700000001000 " + S,
+    "1700000001000;N;" + S,                           # SignalK's log of what it received
+    "1700000001\t" + S,
+    "1700000001;" + S,
+    "1700000001," + S,
+    "2023-11-14T22:13:21+00:00 " + S,
+    "2023-11-14T23:13:21+01:00 " + S,
+    "2023-11-14 17:13:21 -0500 " + S,
+    "[2023-11-14 22:13:21] " + S,
+    "2023/11/14 22:13:21 " + S,
+    "20231114T221321Z " + S,
+    "20231114221321 " + S,
+    "14-Nov-2023 22:13:21 " + S,
+    '"2023-11-14 22:13:21","' + S + '"',
+    "2023-11-14 22:13:21;AIS;udp;" + S,
+    "Tue Nov 14 22:13:21 2023: " + S,                 # gpspipe -r -t
+    "$AITAG,1700000001," + S,
+    S + " ( MSG: 1, REPEAT: 0, MMSI: 200000011, signalpower: -31.2, ppm: 1, timestamp: 20231114221321)",      # AIS-catcher on a screen
+    S + " 20231114 221321",
+    S + ",1700000001000",
+    S + ",2023-11-14T22:13:21Z",
+    S + " 1700000001",
+    S + " [2023-11-14 22:13:21]",
+    "\\s:rPORT1*13\\" + S + ",1700000001",
+    "\\s:rPORT1,c:1700000001000*51\\" + S,
+    '{"class":"AIS","device":"AIS-catcher","rxtime":"20231114221321","scaled":true,"channel":"B","nmea":["%s"],"type":1}' % S,
+    '{"rxuxtime":1700000001.5,"nmea":"%s"}' % S,
+    '{"log":"%s\\n","stream":"stdout","time":"2023-11-14T22:13:21.123456789Z"}' % S,          # a container's log
+    'ais/station7 {"@timestamp":"2023-11-14T22:13:21Z","message":"%s"}' % S,
+    '2023-11-14T22:13:21.500Z,NMEA0183,,ttyUSB0,"%s"' % S,                 # OpenCPN's VDR
+]
+UNSURE = {
+    "22:13:21 (RX) " + S: "a time of day without a date",
+    "14/11/2023 22:13:21 " + S: "a date whose day and month may be exchanged",
+    "Nov 14 22:13:21 host ais: " + S: "a date without a year",
+    "2023-11-14 23:13:21 CET " + S: "a time with a zone in letters, or of twelve hours",
+    "2023-11-14 10:13:21 PM " + S: "a time with a zone in letters, or of twelve hours",
+    "2023-13-14 22:13:21 " + S: "a date that is none",
+    "2023-11-14 22:13 " + S: "a date and time without seconds",
+}
+
+
+class Times(InFolder):
+    def test_each_form_tells_its_moment(self):
+        for form in FORMS:
+            with self.subTest(form):
+                log = self.write("log", form + "\n")
+                gathered = gather([log], self.path("out"))
+                self.assertEqual((gathered.first, gathered.last, gathered.sentences, gathered.unread), (MOMENT, MOMENT, 1, {}))
+                with open(self.path("out")) as source:
+                    block, sentence = source.read().rsplit("\\", 1)
+                self.assertEqual(sentence, S + "\n")
+                self.assertTrue(block.startswith("\\c:1700000001"))
+
+    def test_all_forms_in_one_log(self):
+        log = self.write("log", "".join(form + "\n" for form in FORMS))
+        gathered = gather([log], self.path("out"))
+        self.assertEqual((gathered.sentences, sum(gathered.forms.values()), gathered.first, gathered.last), (len(FORMS), len(FORMS), MOMENT, MOMENT))
+
+    def test_what_can_be_read_in_two_ways_is_told_and_not_guessed(self):
+        for form, name in UNSURE.items():
+            with self.subTest(form):
+                gathered = gather([self.write("log", form + "\n")], self.path("out"))
+                self.assertEqual((gathered.sentences, list(gathered.unread)), (0, [name]))
+                self.assertEqual(gathered.unread[name], (1, form))
+
+    def test_an_offset_is_of_times_without_a_zone_alone(self):
+        log = self.write("log", "2023-11-14 23:13:21 %s\n2023-11-14T22:13:21Z %s\n1700000001 %s\n" % (S, S, S))
+        gathered = gather([log], self.path("out"), offset=3600)
+        self.assertEqual((gathered.first, gathered.last), (MOMENT, MOMENT))
+
+    def test_the_moments_of_a_leap_year_and_of_new_year(self):
+        for text, moment in (("2024-02-29 23:59:59", 1709251199), ("2023-12-31 23:59:59", 1704067199), ("2024-01-01 00:00:00", 1704067200)):
+            self.assertEqual(gather([self.write("log", text + " " + S)], self.path("out")).first, moment)
+
+
+if __name__ == "__main__":
+    unittest.main()
