@@ -1,0 +1,83 @@
+"""Processes that a build starts: none outlives the build, and a long one is reported as it works."""
+from __future__ import annotations
+
+import ctypes
+import os
+import resource
+import signal
+import subprocess
+import threading
+import time
+from types import TracebackType
+from typing import IO, List, Mapping, Optional, Type
+
+from .repository import Fault, say
+
+EACH = 20.0      # seconds between two lines of progress
+_DIE_WITH_PARENT = 1      # PR_SET_PDEATHSIG of prctl(2)
+_C = ctypes.CDLL(None, use_errno=True)
+
+
+def _die_with_parent() -> None:
+    """Has the kernel kill this process when its parent ends, also if the parent is killed."""
+    _C.prctl(_DIE_WITH_PARENT, signal.SIGKILL)
+
+
+class Child:
+    """A process in a session of its own, with all that it starts."""
+
+    def __init__(self, command: List[str], output: IO[str], folder: Optional[str] = None, settings: Optional[Mapping[str, str]] = None):
+        """Starts the command: nothing on its standard input, and both its outputs into one file. Raises Fault if it cannot be started."""
+        try:
+            self.run = subprocess.Popen(command, cwd=folder, env=settings, stdin=subprocess.DEVNULL, stdout=output, stderr=subprocess.STDOUT,
+                                        start_new_session=True, preexec_fn=_die_with_parent)
+        except OSError as fault:
+            raise Fault("cannot build: %s does not start: %s" % (command[0], fault.strerror)) from None
+
+    def stop(self) -> None:
+        """Kills the process and all that it has started, and waits for it."""
+        try:
+            os.killpg(self.run.pid, signal.SIGKILL)
+        except ProcessLookupError:
+            pass
+        self.run.wait()
+
+
+class Progress:
+    """Writes a line to standard error every 20 seconds, which says what is at work."""
+
+    def __init__(self, step: str, each: float = EACH):
+        self.step, self._each, self._begun, self._ended = step, each, time.monotonic(), threading.Event()
+        self._writer = threading.Thread(target=self._write, daemon=True)
+
+    def seconds(self) -> int:
+        """Returns the whole seconds since the work began."""
+        return int(time.monotonic() - self._begun)
+
+    def _write(self) -> None:
+        while not self._ended.wait(self._each):
+            say("%d s: %s" % (self.seconds(), self.step))
+
+    def __enter__(self) -> Progress:
+        self._writer.start()
+        return self
+
+    def __exit__(self, kind: Optional[Type[BaseException]], value: Optional[BaseException], trace: Optional[TracebackType]) -> None:
+        self._ended.set()
+        self._writer.join()
+
+
+def _stopped(number: int, _: object) -> None:
+    raise KeyboardInterrupt
+
+
+def end_as_interrupted() -> None:
+    """Makes the signals that ask a process to end raise KeyboardInterrupt, so that what is at work is stopped and removed."""
+    for number in (signal.SIGTERM, signal.SIGHUP):
+        signal.signal(number, _stopped)
+
+
+def limit_of_memory() -> Optional[int]:
+    """Returns the bytes that a process may take by `ulimit -v` or `ulimit -d`, or None if neither is set."""
+    limits = [resource.getrlimit(kind)[0] for kind in (resource.RLIMIT_AS, resource.RLIMIT_DATA)]
+    return min((it for it in limits if it != resource.RLIM_INFINITY), default=None)

@@ -1,0 +1,76 @@
+"""The kit that proves and compiles: where it is, and how its commands are called."""
+from __future__ import annotations
+
+import os
+import re
+import subprocess
+from typing import Dict, List
+
+from .repository import Fault, PROGRAM, listed_crates, crates_of, path_of, read_if_there
+
+TARGET = "x86_64-unknown-linux-gnu"
+# The prover takes some 8 % less time if its allocator gives no memory back while it runs. `.ci/run` sets the same.
+SETTINGS = {"MIMALLOC_PURGE_DELAY": "-1", **os.environ}
+
+
+def asked(word: str) -> str:
+    """Returns what `rt WORD` prints. Raises Fault if `rt` cannot be run."""
+    try:
+        done = subprocess.run(["rt", word], stdin=subprocess.DEVNULL, stdout=subprocess.PIPE, stderr=subprocess.PIPE, universal_newlines=True)
+    except OSError:
+        raise Fault("cannot build: the command rt is not on the PATH; README.md says where to get the kit") from None
+    if done.returncode:
+        raise Fault("cannot build: `rt %s` ended with status %d: %s" % (word, done.returncode, " ".join(done.stderr.split())[-300:]))
+    return done.stdout.strip()
+
+
+class Kit:
+    """The folder of the kit that `rt` belongs to."""
+
+    def __init__(self) -> None:
+        """Finds the kit. Raises Fault if there is none, or it lacks what builds."""
+        self.folder = os.path.dirname(asked("doc"))
+
+    def tool(self, *names: str) -> str:
+        """Returns the path of a file of the kit. Raises Fault if it is missing."""
+        path = os.path.join(self.folder, *names)
+        if not os.path.exists(path):
+            raise Fault("cannot build: the kit has no %s; install a whole kit (README.md)" % path)
+        return path
+
+    def clang(self) -> str:
+        """Returns the path of the kit's compiler."""
+        return self.tool("toolchain", "bin", "clang")
+
+    def link(self, made: str, program: str) -> List[str]:
+        """Returns the command that links an object file into a program."""
+        toolchain = os.path.join(self.folder, "toolchain")
+        return [self.tool("bin", "rattle-link"), "--target", TARGET, "--toolchain", toolchain, "-o", program, made,
+                self.tool("c", "libos_c.a"), self.tool("c", "liblibc_c.a")]
+
+    def crate_folder(self, name: str) -> str:
+        """Returns the folder with the sources of one of the kit's libraries."""
+        return os.path.join(self.folder, "rattle", "examples/check" if name == "check" else name)
+
+    def source_words(self, crate: str = PROGRAM) -> List[str]:
+        """Returns the words that hand a program to the kit as source: its root, and each library below it with those that it uses."""
+        listed = listed_crates()
+        below = crates_of(crate, listed)
+        words = ["--crate-name", crate, path_of("crates", crate, "src", "main.rt")]
+        for name in below[:-1]:
+            uses = dict.fromkeys(["core", "std", *[it for it in listed[name] if it not in listed], *[it for it in listed[name] if it in listed]])
+            words += ["--lib", "%s:%s=%s" % (name, ",".join(uses), path_of("crates", name, "src", "lib.rt"))]
+        for name, uses_of in self.libraries(below, listed).items():
+            words += ["--lib", "%s:%s=%s" % (name, ",".join(uses_of), os.path.join(self.crate_folder(name), "src", "lib.rt"))]
+        return words
+
+    def libraries(self, crates: List[str], listed: Dict[str, List[str]]) -> Dict[str, List[str]]:
+        """Returns the kit's libraries that these crates stand on, each with those that it uses itself."""
+        found: Dict[str, List[str]] = {}
+        waiting = ["std", *[it for crate in crates for it in listed[crate] if it not in listed]]
+        while waiting:
+            name = waiting.pop(0)
+            if name not in found:
+                found[name] = re.findall(r"^dep (\w+)$", read_if_there(os.path.join(self.folder, "rlibs", name + ".rlib", "format")), re.M)
+                waiting += found[name]
+        return found

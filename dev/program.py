@@ -1,0 +1,114 @@
+"""Which program `./colregs` runs: the proved one if no source changed since, otherwise one of the same sources that is not proved."""
+from __future__ import annotations
+
+import fcntl
+import glob
+import hashlib
+import os
+import shutil
+import time
+from typing import IO, List, NamedTuple, Optional
+
+from . import unproved
+from .repository import Fault, PROGRAM, TOP, path_of, say
+from .sums import Record, as_text, sum_of, sums
+
+PROVED = path_of("crates", PROGRAM, "out", PROGRAM)
+CACHED_PROGRAMS = 4      # the number of programs that the cache holds, the oldest of which goes first
+CLOCK_STEP = 50 * 10**6      # nanoseconds by which a file's time may lag behind the clock
+NOT_PROVED = "not proved yet; ./colregs --prove proves it"
+
+
+class Choice(NamedTuple):
+    """A program to run, and what to tell its user first, if anything."""
+
+    program: str
+    notice: str
+
+
+def cache() -> str:
+    """Returns the folder of the programs that are not proved, and makes it. Raises Fault if it cannot be written."""
+    folder = os.environ.get("COLREGS_CACHE") or path_of(".cache")
+    try:
+        os.makedirs(folder, exist_ok=True)
+        with open(os.path.join(folder, "lock"), "a", encoding="utf-8"):
+            return folder
+    except OSError as fault:
+        raise Fault("cannot build: %s cannot be written (%s); name another folder in COLREGS_CACHE" % (folder, fault.strerror)) from None
+
+
+def alone(folder: str) -> IO[str]:
+    """Waits until no other build works in the cache, and returns what keeps others out until it is closed."""
+    lock = open(os.path.join(folder, "lock"), "a", encoding="utf-8")
+    try:
+        fcntl.flock(lock, fcntl.LOCK_EX | fcntl.LOCK_NB)
+    except BlockingIOError:
+        say("waiting for another build to end")
+        fcntl.flock(lock, fcntl.LOCK_EX)
+    return lock
+
+
+def stamp(path: str, begun: int) -> None:
+    """Sets the time of a file to when its sources began to be read, in nanoseconds, so that a later change of a source is seen."""
+    try:
+        os.utime(path, ns=(begun - CLOCK_STEP, begun - CLOCK_STEP))
+    except OSError:
+        pass      # without it the sources are read again each time
+
+
+def _changed_since(changed: List[str]) -> str:
+    more = " and %d more" % (len(changed) - 1) if len(changed) > 1 else ""
+    return "%s%s changed since the proof, so this program is not proved; ./colregs --prove proves it" % (changed[0], more)
+
+
+def _is_proved(begun: int) -> Optional[str]:
+    """Returns nothing if the proved program is there and of these sources, otherwise what to tell."""
+    if not os.access(PROVED, os.X_OK):
+        return NOT_PROVED
+    changed = Record(PROVED).changed()
+    if changed is None:
+        return "a source may have changed since the proof, so this program is not proved; ./colregs --prove proves it"
+    if changed:
+        return _changed_since(changed)
+    stamp(PROVED, begun)
+    return None
+
+
+def _unproved(folder: str) -> str:
+    """Returns the path of the program of these sources, and builds it if the cache has none."""
+    # A program is of its sources and of what builds it.
+    builders = [path_of("dev", name) for name in ("kit.py", "module_text.py", "unproved.py")]
+    key = hashlib.sha256((as_text(sums("src")) + "".join(map(sum_of, builders))).encode()).hexdigest()
+    program = os.path.join(folder, "%s-%s" % (PROGRAM, key[:16]))
+    if os.path.exists(program):
+        return program
+    with alone(folder):
+        if not os.path.exists(program):
+            for left in glob.glob(os.path.join(glob.escape(folder), "building-*")):
+                shutil.rmtree(left, ignore_errors=True)
+            say("nothing is built of these sources yet; building the program without its proofs, which takes a minute or two")
+            unproved.build(program)
+            known = sorted(glob.glob(os.path.join(glob.escape(folder), PROGRAM + "-*")), key=os.path.getmtime)
+            for old in known[:-CACHED_PROGRAMS]:
+                os.remove(old)
+    return program
+
+
+def choose(is_unproved_wanted: bool = False) -> Choice:
+    """Returns the program to run, and builds one without proofs if none is there. Raises Fault if that fails.
+
+    What it chose without proofs it writes into the cache, where `./colregs` reads it until a source changes.
+    """
+    begun = time.time_ns()
+    notice = NOT_PROVED if is_unproved_wanted else _is_proved(begun)
+    if notice is None:
+        return Choice(PROVED, "")
+    folder = cache()
+    program = _unproved(folder)
+    if not is_unproved_wanted:
+        new = os.path.join(folder, "choice.%d" % os.getpid())
+        with open(new, "w", encoding="utf-8") as out:
+            out.write("%s\n%s\n%s\n" % (TOP, program, notice))
+        stamp(new, begun)
+        os.replace(new, os.path.join(folder, "choice"))
+    return Choice(program, notice)

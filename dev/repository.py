@@ -1,0 +1,69 @@
+"""The repository: its folder, its files, its crates, and how a command ends that cannot go on."""
+from __future__ import annotations
+
+import os
+import sys
+from typing import Dict, List
+
+TOP = os.path.dirname(os.path.dirname(os.path.abspath(__file__)))
+PROGRAM = "colregs"
+NO_PROGRAM = 21      # the exit status if there is no program to run: no run of the program ends with it (docs/REPORT.md)
+
+
+class Fault(Exception):
+    """Why a command cannot go on, as one sentence for its user."""
+
+
+def say(sentence: str) -> None:
+    """Writes one line to standard error."""
+    print("colregs: " + sentence, file=sys.stderr, flush=True)
+
+
+def path_of(*names: str) -> str:
+    """Returns the path of a file of the repository."""
+    return os.path.join(TOP, *names)
+
+
+def read(*names: str) -> str:
+    """Reads a text file of the repository. Raises OSError if it is not there."""
+    with open(path_of(*names), encoding="utf-8", errors="replace") as source:
+        return source.read()
+
+
+def read_if_there(path: str) -> str:
+    """Reads a text file, and returns an empty text if that fails."""
+    try:
+        with open(path, encoding="utf-8", errors="replace") as source:
+            return source.read()
+    except OSError:
+        return ""
+
+
+def listed_crates() -> Dict[str, List[str]]:
+    """Reads crates.txt: each crate with the crates that its line names, in the order of the file."""
+    listed: Dict[str, List[str]] = {}
+    for line in read("crates.txt").splitlines():
+        words = line.partition("#")[0].replace(":", " ").split()
+        if words:
+            listed[words[0]] = words[1:]
+    return listed
+
+
+def crates_of(name: str, listed: Dict[str, List[str]]) -> List[str]:
+    """Returns a crate and the crates of the repository below it, each after those that it names."""
+    found: List[str] = []
+
+    def take(crate: str) -> None:
+        if crate in listed and crate not in found:
+            for below in listed[crate]:
+                take(below)
+            found.append(crate)
+
+    take(name)
+    return found
+
+
+def files_of(crate: str, *parts: str) -> List[str]:
+    """Returns the paths of the files in these folders of a crate, as `src`, in order."""
+    walks = [os.walk(path_of("crates", crate, part)) for part in parts]
+    return sorted(os.path.join(at, file) for walk in walks for at, _, files in walk for file in files)
