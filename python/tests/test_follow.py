@@ -10,7 +10,8 @@ import unittest
 
 import crowd
 from given import InFolder, PROGRAM, TOOLS, example, needs, text_of, with_program
-from colregs.stream.day_files import LEAP, SURE, Clock, DayFiles, stamped
+from colregs.io.sources import stamped
+from colregs.stream.day_files import LEAP, SURE, Clock, DayFiles
 from colregs.stream.rows import steps_of
 
 SHIFT = 1700006400 - 1700001000          # s: midnight comes 1000 s behind the beginning of the harbour's log

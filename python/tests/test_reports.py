@@ -5,7 +5,8 @@ import passing
 from given import InFolder, PROGRAM, with_program
 from colregs.model import rest
 from colregs.errors import Fault
-from colregs.model.reports import NONE, Case, Track
+from colregs.model.reports import Case
+from colregs.model.tracks import NONE, Track
 from colregs.run.program import report_of, window_options
 
 
@@ -87,8 +88,7 @@ class AtRest(unittest.TestCase):
         self.addCleanup(folder.doCleanups)
         scenario, log = folder.write("s.toml", passing.SCENARIO), folder.write("log", passing.log(still=True))
         case = Case(scenario, *(report_of(PROGRAM, mode, scenario, log) for mode in ("points", "audit")))
-        rest.mark(case)
-        marks = {row["pair"]: row["rest"] for row in case.meetings}
+        marks = {row.pair: case.rest(row) for row in case.meetings}
         self.assertEqual(marks[passing.STILL, passing.EAST], "subject")
         self.assertEqual(marks[passing.EAST, passing.STILL], "other")
         self.assertEqual(marks[passing.EAST, passing.WEST], "")

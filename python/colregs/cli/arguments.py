@@ -1,17 +1,47 @@
-"""Words of a command line that several tools take."""
+"""What the commands' parsers share: the form of a help page, and arguments that several commands take."""
 import argparse
+from collections.abc import Callable
 
 from colregs.io.forms import zone_seconds
 
+REQUIRES = "It needs Python 3.11 or later."
 
-def offset(word):
-    """How many seconds times without a zone are ahead of UTC."""
+
+def parser_of(doc: str | None) -> argparse.ArgumentParser:
+    """Returns a parser whose help page is the docstring of a command."""
+    return argparse.ArgumentParser(description=f"{doc}\n{REQUIRES}", formatter_class=argparse.RawDescriptionHelpFormatter)
+
+
+def add_program(parser: argparse.ArgumentParser) -> None:
+    """Adds --program."""
+    parser.add_argument("--program", metavar="PROGRAM",
+                        help="the built program (default: COLREGS_PROGRAM, or that of this clone, beside the tool, or on PATH)")
+
+
+def add_window(parser: argparse.ArgumentParser, why: str) -> None:
+    """Adds --start and --ticks; `why` says what they are for."""
+    parser.add_argument("--start", type=int, metavar="SECONDS", help=f"the window's start, s since the Unix epoch: {why}")
+    parser.add_argument("--ticks", type=int, metavar="N", help=f"the window's ticks: {why}")
+
+
+def offset(word: str) -> int:
+    """Returns how many seconds times without a zone are ahead of UTC."""
     if word[:1] not in ("+", "-") or not word[1:].replace(":", "").isdigit() or len(word) not in (3, 5, 6):
         raise argparse.ArgumentTypeError("an offset is written as --offset=+01:00")
     return zone_seconds(word)
 
 
-def ship(word):
+def ship(word: str) -> int:
+    """Returns the MMSI of a ship."""
     if not word.isdigit() or not 200000000 <= int(word) <= 799999999:
         raise argparse.ArgumentTypeError("a ship's MMSI has nine digits, from 200000000 to 799999999")
     return int(word)
+
+
+def at_least(least: int, most: int = 9999999999) -> Callable[[str], int]:
+    """Returns a reader of numbers from `least` to `most`."""
+    def number(word: str) -> int:
+        if not word.isdecimal() or not least <= int(word) <= most:
+            raise argparse.ArgumentTypeError(f"a number from {least} to {most}")
+        return int(word)
+    return number

@@ -1,46 +1,48 @@
-"""Makes the folder of a case from any logs: colregs-case LOG .. -o CASE [--scenario SCENARIO] [--program PROGRAM]
+"""Makes the folder of a case from any logs.
 
 The folder gets case.log, the logs as sentences with their times; scenario.toml, the one that is given or one that is guessed from the log;
 points.csv and report.csv, the reports of the program; case.html, a page with map, charts and tables that needs no network; case.geojson for a
-map, case.db for SQLite, and case.json with window, options, commands, version and the SHA-256 of every file. It ends with a summary in plain
-words. Logs may be packed. Where it fails it says why, and leaves no folder.
+map, case.db for SQLite, and case.json with window, options, commands, version and the SHA-256 of every file. The command ends with a summary in
+plain words. Logs may be packed. If it fails it says why, and leaves no folder. The map of the page needs Leaflet, from Debian's libjs-leaflet.
 
-Status 0 is that the case is made, 1 that it is not, 2 that the words are wrong. It needs Python 3.11 or later; the map of the page needs Leaflet, from
-Debian's libjs-leaflet.
+Exit status: 0 if the case is made, 1 if it is not, 2 if the command line is wrong.
 """
 import argparse
+from collections.abc import Sequence
+from typing import NoReturn
 
-from colregs.cli.arguments import offset, ship
-from colregs.errors import end
+from colregs.cli.arguments import add_program, add_window, offset, parser_of, ship
+from colregs.errors import DONE, end
 from colregs.page import folder
 from colregs.run.program import found
 
 
-def words(arguments):
-    parser = argparse.ArgumentParser(description=__doc__, formatter_class=argparse.RawDescriptionHelpFormatter)
-    parser.add_argument("logs", metavar="LOG", nargs="+")
-    parser.add_argument("-o", "--out", metavar="CASE", required=True, help="the folder, which is not there yet")
-    parser.add_argument("--scenario", help="a scenario in place of one that is guessed")
-    parser.add_argument("--program", help="the built program")
-    parser.add_argument("--start", type=int, help="the window's start in place of the scenario's, s since the Unix epoch")
-    parser.add_argument("--ticks", type=int, help="the window's ticks in place of the scenario's")
-    parser.add_argument("--mmsi", type=ship, help="own ship's, where a receiver's own places are to count as hers")
-    parser.add_argument("--offset", type=offset, default=0, metavar="+HH:MM", help="how far the logs' times without a zone are ahead of UTC")
-    parser.add_argument("--chart", metavar="FILE.geojson", help="a coast for the map of the page")
-    parser.add_argument("--title", help="the title of the page")
-    return parser.parse_args(arguments)
+def parser() -> argparse.ArgumentParser:
+    """Returns the parser of the command line."""
+    words = parser_of(__doc__)
+    words.add_argument("logs", metavar="LOG", nargs="+", help="a log of any form that docs/SOURCES.md lists")
+    words.add_argument("-o", "--out", metavar="CASE", required=True, help="the folder, which does not exist yet")
+    words.add_argument("--scenario", metavar="FILE", help="a scenario instead of one that is guessed")
+    add_program(words)
+    add_window(words, "instead of the scenario's")
+    words.add_argument("--mmsi", type=ship, help="own ship's MMSI, if a receiver's own places are hers")
+    words.add_argument("--offset", type=offset, default=0, metavar="+HH:MM", help="how far the logs' times without a zone are ahead of UTC")
+    words.add_argument("--chart", metavar="FILE.geojson", help="a coast for the map of the page")
+    words.add_argument("--title", help="the title of the page")
+    return words
 
 
-def main(arguments=None):
-    given = words(arguments)
+def main(arguments: Sequence[str] | None = None) -> int:
+    """Makes the case, and prints its summary."""
+    given = parser().parse_args(arguments)
     summary, doubts = folder.make(given, found(given.program))
     print("\n".join(summary))
     if doubts:
         print("\nWhat is doubtful:\n" + "\n".join("- " + line for line in doubts))
-    print("\n%s/%s is the page to open." % (given.out.rstrip("/"), folder.PAGE))
-    return 0
+    print(f"\n{given.out.rstrip('/')}/{folder.PAGE} is the page to open.")
+    return DONE
 
 
-def command():
+def command() -> NoReturn:
     """Runs the command and leaves with its status."""
     end("case", main)

@@ -1,31 +1,39 @@
-"""Says what looks amiss with a scenario, a log and a report: colregs-doctor [OPTIONS] SCENARIO LOG [REPORT]
+"""Says what looks amiss with a scenario, a log and a report.
 
-Each finding is a line with its name and words. docs/SOURCES.md has the names. Status 1 is that something looks amiss, 0 that nothing does, and 2 that
-it could not be looked at. Without --program `colregs` of this folder is run, or that of the repository. It needs Python 3.11 or later.
+Each finding is a line with its name and words; docs/SOURCES.md lists the names.
+
+Exit status: 1 if something looks amiss, 0 if nothing does, 2 if the files cannot be examined.
 """
 import argparse
+from collections.abc import Sequence
+from typing import NoReturn
 
-from colregs.errors import USAGE, end
+from colregs.cli.arguments import add_program, add_window, parser_of
+from colregs.errors import DONE, FAILED, USAGE, end
 from colregs.model.doctor import findings
-from colregs.run.program import found
+from colregs.run.program import found, window_options
 
 
-def main(arguments=None):
-    parser = argparse.ArgumentParser(description=__doc__, formatter_class=argparse.RawDescriptionHelpFormatter)
-    parser.add_argument("scenario", metavar="SCENARIO")
-    parser.add_argument("log", metavar="LOG")
-    parser.add_argument("report", metavar="REPORT", nargs="?")
-    parser.add_argument("--program", help="the built program")
-    for word in ("start", "ticks"):
-        parser.add_argument("--" + word, type=int, help="as it was given to the program for the report")
-    given = parser.parse_args(arguments)
-    options = ["--%s=%d" % (word, value) for word, value in (("start", given.start), ("ticks", given.ticks)) if value is not None]
-    told = findings(given.scenario, given.log, given.report, found(given.program), options)
-    for finding in told:
-        print("%s: %s" % finding)
-    return 1 if told else 0
+def parser() -> argparse.ArgumentParser:
+    """Returns the parser of the command line."""
+    words = parser_of(__doc__)
+    words.add_argument("scenario", metavar="SCENARIO")
+    words.add_argument("log", metavar="LOG")
+    words.add_argument("report", metavar="REPORT", nargs="?", help="a report of `audit`, `points` or `plan`")
+    add_program(words)
+    add_window(words, "as they were given to the program for the report")
+    return words
 
 
-def command():
+def main(arguments: Sequence[str] | None = None) -> int:
+    """Prints the findings."""
+    given = parser().parse_args(arguments)
+    found_ones = findings(given.scenario, given.log, given.report, found(given.program), window_options(given.start, given.ticks))
+    for finding in found_ones:
+        print(f"{finding.name}: {finding.words}")
+    return FAILED if found_ones else DONE
+
+
+def command() -> NoReturn:
     """Runs the command and leaves with its status."""
     end("doctor", main, USAGE)

@@ -1,60 +1,66 @@
-"""Writes GeoJSON (RFC 7946) of the reports of a log:
+"""Writes GeoJSON (RFC 7946) of the reports of a log to standard output.
 
     geojson SCENARIO POINTS [AUDIT] > OUT.geojson
-    geojson SCENARIO --log LOG --program PROGRAM > OUT.geojson
+    geojson SCENARIO --log LOG [--program PROGRAM] > OUT.geojson
     geojson CASE > OUT.geojson
 
 Each report is a point, with MMSI, name, time, speed in knots and course in degrees; each track is a line, broken where two reports lie more
 than the scenario's gap apart, with its two ends. With a report of `audit` each meeting and each stretch of a verdict is a line too, along the
-track of its subject, and of each meeting the nearest place is a point, with a line to the other vessel. Rows have both MMSIs and names, steps,
-times, and who lies still in them. Places are those of the log: degrees of latitude and longitude, as the reports told them. Where a log reaches
-over the date line, longitudes go on past 180.
+track of its subject, and the nearest place of each meeting is a point, with a line to the other vessel. Rows have both MMSIs and names, steps,
+times, and who lies still in them. Places are those of the log, in degrees of latitude and longitude. If a log crosses the date line, longitudes
+continue past 180.
 
-The window is the scenario's, or with --start and --ticks that of the run. It needs Python 3.11 or later.
+Exit status: 0 if all is written, 1 if it is not, 2 if the command line is wrong.
 """
 import argparse
 import os
 import sys
+from collections.abc import Sequence
+from typing import NoReturn
 
-from colregs.page import folder
-from colregs.page.maps import geojson
-from colregs.errors import end
+from colregs.cli.arguments import add_program, add_window, parser_of
+from colregs.errors import DONE, end
 from colregs.io.files import read_text
 from colregs.model.reports import Case
-from colregs.run.program import report_of, window_options
+from colregs.page import folder
+from colregs.page.maps import geojson
+from colregs.run.program import found, report_of, window_options
 
 
-def words(arguments):
-    parser = argparse.ArgumentParser(description=__doc__, formatter_class=argparse.RawDescriptionHelpFormatter)
-    parser.add_argument("scenario")
-    parser.add_argument("reports", nargs="*", metavar="REPORT")
-    parser.add_argument("--log")
-    parser.add_argument("--program")
-    for word in ("start", "ticks"):
-        parser.add_argument("--" + word, type=int)
-    given = parser.parse_args(arguments)
-    ways = [os.path.isdir(given.scenario), bool(given.log and given.program), 1 <= len(given.reports) <= 2]
-    if sum(ways) != 1:
-        parser.error("give one or two reports, or --log and --program, or the folder of a case")
-    return given
+def parser() -> argparse.ArgumentParser:
+    """Returns the parser of the command line."""
+    words = parser_of(__doc__)
+    words.add_argument("scenario", metavar="SCENARIO", help="a scenario, or the folder of a case")
+    words.add_argument("reports", nargs="*", metavar="REPORT", help="a report of `points`, and one of `audit`")
+    words.add_argument("--log", metavar="LOG", help="the log that the program is run on")
+    add_program(words)
+    add_window(words, "those of the run, if it had others than the scenario's")
+    return words
 
 
-def case_of(given):
+def case_of(given: argparse.Namespace) -> Case:
+    """Returns the case of a folder, of a run, or of reports."""
     if os.path.isdir(given.scenario):
         return Case(*folder.reports_in(given.scenario))
-    if given.program:
-        options = window_options(given.start, given.ticks)
-        texts = [report_of(given.program, mode, given.scenario, given.log, options=options) for mode in ("points", "audit")]
+    if given.log:
+        program, options = found(given.program), window_options(given.start, given.ticks)
+        points, audit = (report_of(program, mode, given.scenario, given.log, options=options) for mode in ("points", "audit"))
     else:
-        texts = [read_text(name) for name in given.reports]
-    return Case(given.scenario, *texts, start=given.start, ticks=given.ticks)
+        points = read_text(given.reports[0])
+        audit = read_text(given.reports[1]) if len(given.reports) > 1 else None
+    return Case(given.scenario, points, audit, given.start, given.ticks)
 
 
-def main(arguments=None):
-    sys.stdout.writelines(geojson(case_of(words(arguments))))
-    return 0
+def main(arguments: Sequence[str] | None = None) -> int:
+    """Writes the map."""
+    words = parser()
+    given = words.parse_args(arguments)
+    if sum([os.path.isdir(given.scenario), bool(given.log), 1 <= len(given.reports) <= 2]) != 1:
+        words.error("give one or two reports, or --log, or the folder of a case")
+    sys.stdout.writelines(geojson(case_of(given)))
+    return DONE
 
 
-def command():
+def command() -> NoReturn:
     """Runs the command and leaves with its status."""
     end("geojson", main)

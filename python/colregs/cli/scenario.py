@@ -1,35 +1,46 @@
-"""Writes a scenario to start from, of a log with tag blocks: scenario [--program PROGRAM] [LOG] > SCENARIO
+"""Writes a scenario to start from, for a log with tag blocks, to standard output.
 
-It guesses the window, the tick and the reference by the points that the program reads of the log, and says on standard error how; the other numbers
-are those of the worked encounters, whatever the log. They are choices, and those of a real case are its investigator's. Without LOG standard input is
-read, without --program `colregs` of this folder is run, or that of the repository. It needs Python 3.11 or later.
+It guesses the window, the tick and the reference from the points that the program reads in the log, and says on standard error how. The other
+numbers are those of the worked encounters, whatever the log. They are choices, and those of a real case are its investigator's. Without LOG it
+reads standard input.
+
+Exit status: 0 if the scenario is written, 1 if it is not, 2 if the command line is wrong.
 """
 import argparse
 import shutil
 import sys
 import tempfile
+from collections.abc import Sequence
+from typing import NoReturn
 
-from colregs.errors import end
-from colregs.run.program import found
+from colregs.cli.arguments import add_program, parser_of
+from colregs.errors import DONE, end, report
 from colregs.model.guess import suggested
+from colregs.run.program import found
 
 
-def main(arguments=None):
-    parser = argparse.ArgumentParser(description=__doc__, formatter_class=argparse.RawDescriptionHelpFormatter)
-    parser.add_argument("log", nargs="?", metavar="LOG")
-    parser.add_argument("--program", help="the built program")
-    given = parser.parse_args(arguments)
+def parser() -> argparse.ArgumentParser:
+    """Returns the parser of the command line."""
+    words = parser_of(__doc__)
+    words.add_argument("log", nargs="?", metavar="LOG")
+    add_program(words)
+    return words
+
+
+def main(arguments: Sequence[str] | None = None) -> int:
+    """Writes the scenario, and how its numbers were chosen."""
+    given = parser().parse_args(arguments)
     with tempfile.NamedTemporaryFile() as out:
         if given.log is None:
             shutil.copyfileobj(sys.stdin.buffer, out)
             out.flush()
         text, reasons = suggested(given.log or out.name, found(given.program))
     for words in reasons:
-        print("scenario: " + words, file=sys.stderr)
+        report("scenario", words)
     sys.stdout.write(text)
-    return 0
+    return DONE
 
 
-def command():
+def command() -> NoReturn:
     """Runs the command and leaves with its status."""
     end("scenario", main)

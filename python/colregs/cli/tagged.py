@@ -1,11 +1,11 @@
-"""Makes one log of any logs: sentences with tag blocks that tell their times, sorted by time, on standard output.
+"""Makes one log of any logs: sentences with tag blocks that have their times, sorted by time, on standard output.
 
-    tagged [--mmsi MMSI] [--offset=+HH:MM] [LOG ..] > TAGGED
+docs/SOURCES.md lists the logs and the forms of time that are read. Without LOG standard input is read. What was read, and what was not, is reported
+on standard error. With --now each sentence of standard input gets the time at which it arrives, and is written at once:
+
     tagged --now < LOG >> TAGGED
 
-docs/SOURCES.md has the logs and the forms of time that are read. Without LOG standard input is read. What was read, and what was not, is told on
-standard error. Status 1 is that no sentence with a time was found, or that a log cannot be read. With --now each sentence of standard input gets the
-time at which it came, and goes on at once. It needs Python 3.11 or later.
+Exit status: 0 if sentences with times are written, 1 if no sentence is found or a log cannot be read, 2 if the command line is wrong.
 """
 import argparse
 import os
@@ -13,23 +13,35 @@ import shutil
 import sys
 import tempfile
 import time
+from collections.abc import Sequence
+from typing import NoReturn
 
-from colregs.errors import end
-from colregs.stream.day_files import stamped
+from colregs.cli.arguments import offset, parser_of, ship
+from colregs.errors import DONE, FAILED, end, report
 from colregs.io.packing import LONGEST
-from colregs.io.sources import gather
-from colregs.cli.arguments import offset, ship
+from colregs.io.sources import gather, stamped
 
 
-def now():
-    """Each sentence of standard input with the time at which it came; other lines go on as they are."""
+def parser() -> argparse.ArgumentParser:
+    """Returns the parser of the command line."""
+    words = parser_of(__doc__)
+    words.add_argument("logs", nargs="*", metavar="LOG")
+    words.add_argument("--mmsi", type=ship, help="own ship's MMSI: the places in RMC become hers, as AIVDO sentences")
+    words.add_argument("--offset", type=offset, default=0, metavar="+HH:MM", help="how far times without a zone are ahead of UTC (default: 0)")
+    words.add_argument("--now", action="store_true", help="stamp the sentences of standard input as they arrive")
+    return words
+
+
+def stamp_now() -> int:
+    """Writes each sentence of standard input with the time at which it arrives, and other lines as they are."""
     while line := sys.stdin.buffer.readline(LONGEST):
         sys.stdout.buffer.write(stamped(line.rstrip(b"\r\n"), int(time.time())) + b"\n")
         sys.stdout.buffer.flush()
-    return 0
+    return DONE
 
 
-def once(given, folder):
+def gather_once(given: argparse.Namespace, folder: str) -> int:
+    """Writes the sentences of the logs, or of standard input."""
     logs = given.logs
     if not logs:
         logs = [os.path.join(folder, "standard input")]
@@ -41,25 +53,22 @@ def once(given, folder):
         shutil.copyfileobj(source, sys.stdout.buffer)
     sys.stdout.buffer.flush()
     for words in gathered.words():
-        print("tagged: " + words, file=sys.stderr)
-    return 0 if gathered.sentences else 1
+        report("tagged", words)
+    return DONE if gathered.sentences else FAILED
 
 
-def main(arguments=None):
-    parser = argparse.ArgumentParser(description=__doc__, formatter_class=argparse.RawDescriptionHelpFormatter)
-    parser.add_argument("logs", nargs="*", metavar="LOG")
-    parser.add_argument("--mmsi", type=ship, help="own ship's: the places in RMC become hers, as AIVDO sentences")
-    parser.add_argument("--offset", type=offset, default=0, help="of times without a zone from UTC; 0 is taken else")
-    parser.add_argument("--now", action="store_true", help="stamp the sentences of standard input as they come")
-    given = parser.parse_args(arguments)
+def main(arguments: Sequence[str] | None = None) -> int:
+    """Writes the tagged log."""
+    words = parser()
+    given = words.parse_args(arguments)
     if given.now and (given.logs or given.mmsi or given.offset):
-        parser.error("--now reads standard input, and goes with nothing else")
+        words.error("--now reads standard input, and goes with nothing else")
     if given.now:
-        return now()
+        return stamp_now()
     with tempfile.TemporaryDirectory() as folder:
-        return once(given, folder)
+        return gather_once(given, folder)
 
 
-def command():
+def command() -> NoReturn:
     """Runs the command and leaves with its status."""
     end("tagged", main)

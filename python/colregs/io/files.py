@@ -9,28 +9,28 @@ from colregs.errors import Fault, reason
 BLOCK = 1 << 20     # bytes that are read at once
 
 
-def read_bytes(path):
+def read_bytes(path: str) -> bytes:
     """Returns the bytes of a file."""
     try:
         with open(path, "rb") as source:
             return source.read()
     except OSError as error:
-        raise Fault("%s cannot be read: %s" % (path, reason(error))) from None
+        raise Fault(f"{path} cannot be read: {reason(error)}") from None
 
 
-def read_text(path):
+def read_text(path: str) -> str:
     """Returns the text of a file in UTF-8, with its ends of lines as they are."""
     try:
         if stat.S_ISCHR(os.stat(path).st_mode):
-            raise Fault("%s is a device, and no file" % path)
+            raise Fault(f"{path} is a device, and no file")
         return read_bytes(path).decode("utf-8")
     except OSError as error:
-        raise Fault("%s cannot be read: %s" % (path, reason(error))) from None
+        raise Fault(f"{path} cannot be read: {reason(error)}") from None
     except UnicodeDecodeError:
-        raise Fault("%s: not a text in UTF-8" % path) from None
+        raise Fault(f"{path}: not a text in UTF-8") from None
 
 
-def sum_of(path):
+def sum_of(path: str) -> tuple[str, int]:
     """Returns the SHA-256 of a file in hexadecimal digits, and its size in bytes."""
     total, size = hashlib.sha256(), 0
     try:
@@ -39,11 +39,11 @@ def sum_of(path):
                 total.update(block)
                 size += len(block)
     except OSError as error:
-        raise Fault("%s cannot be read: %s" % (path, reason(error))) from None
+        raise Fault(f"{path} cannot be read: {reason(error)}") from None
     return total.hexdigest(), size
 
 
-def replace(path, words):
+def replace(path: str, words: bytes) -> None:
     """Writes a file with these bytes: all of them or none."""
     with tempfile.NamedTemporaryFile(dir=os.path.dirname(path), delete=False) as out:
         out.write(words)

@@ -37,7 +37,7 @@ DIGIT = re.compile(rb"\d")
 NAMED = re.compile(rb" ?(?:%s)(?!\w)" % LOCAL.replace(" ", "|").encode())
 PER_SECOND = {"seconds": 1, "milliseconds": 10 ** 3, "microseconds": 10 ** 6, "nanoseconds": 10 ** 9}
 UNSURE = [
-    form("a time with a zone in letters, or of twelve hours", r"\d\d?:\d\d(?::\d\d(?:[.,]\d+)?)?(?: \d{4})? ?(?:%s)" % "|".join(LOCAL.split()), 0),
+    form("a time with a zone in letters, or of twelve hours", rf"\d\d?:\d\d(?::\d\d(?:[.,]\d+)?)?(?: \d{{4}})? ?(?:{'|'.join(LOCAL.split())})", 0),
     form("a ctime date with a zone in letters", MONTH + r" +\d{1,2} \d\d:\d\d:\d\d [A-Z]{3,4} \d{4}", 0),
     form("a date whose day and month may be exchanged", r"\d\d?[/-]\d\d?[/-]\d{4}[T ,;_\t]*\d\d?:\d\d"),
     form("a date that is none", r"\d{4}[-/.]\d\d[-/.]\d\d(?:T|[ _,;\t]+)\d\d:\d\d:\d\d\S*"),

@@ -70,7 +70,7 @@ class Objects:
         try:
             time = time_of(held, self.times)
         except Unsure as doubt:
-            return Held("JSON with %s" % doubt)
+            return Held(f"JSON with {doubt}")
         raw = sentences_in(held)
         if raw:
             return Held(name, time, raw)

@@ -38,16 +38,16 @@ def packing(path):
         with open(path, "rb") as source:
             head = source.read(8)
     except IsADirectoryError:
-        raise Fault("%s is a folder, and no log" % path) from None
+        raise Fault(f"{path} is a folder, and no log") from None
     except OSError as error:
-        raise Fault("%s cannot be read: %s" % (path, (error.strerror or str(error)).lower())) from None
+        raise Fault(f"{path} cannot be read: {(error.strerror or str(error)).lower()}") from None
     return next((name for magic, name in MAGIC if head.startswith(magic)), "plain")
 
 
 @contextlib.contextmanager
 def zstd(path):
     if not shutil.which("zstd"):
-        raise Fault("%s is packed by zstd, and the command zstd is not here (Debian package zstd)" % path)
+        raise Fault(f"{path} is packed by zstd, and the command zstd is not here (Debian package zstd)")
     with subprocess.Popen(["zstd", "-dcq", "--", path], stdout=subprocess.PIPE, stderr=subprocess.DEVNULL) as child:
         try:
             yield child.stdout
@@ -63,7 +63,7 @@ def members(path, packed):
         with zipfile.ZipFile(path) as whole:
             names = [entry.filename for entry in whole.infolist() if not entry.is_dir()]
             for name in names:
-                yield "%s: %s" % (os.path.basename(path), name), lambda name=name: whole.open(name)
+                yield f"{os.path.basename(path)}: {name}", lambda name=name: whole.open(name)
         return
     openers = {"plain": lambda: open(path, "rb"), "gzip": lambda: gzip.open(path, "rb"), "xz": lambda: lzma.open(path, "rb"),
                "bzip2": lambda: bz2.open(path, "rb"), "zstd": lambda: zstd(path)}
@@ -125,9 +125,9 @@ def told(path, packed):
     try:
         yield
     except DAMAGE:
-        raise Fault("%s is packed by %s, and damaged or cut off" % (path, packed)) from None
+        raise Fault(f"{path} is packed by {packed}, and damaged or cut off") from None
     except OSError as error:
-        raise Fault("%s cannot be read: %s" % (path, (error.strerror or str(error)).lower())) from None
+        raise Fault(f"{path} cannot be read: {(error.strerror or str(error)).lower()}") from None
 
 
 def whole_lines(path, stream, part):
@@ -143,7 +143,7 @@ def seekable(path):
     except OSError:
         kind = stat.S_IFREG           # that it is not there is told where it is opened
     if stat.S_ISCHR(kind) or stat.S_ISBLK(kind) or stat.S_ISSOCK(kind):
-        raise Fault("%s is a device, and no log" % path)
+        raise Fault(f"{path} is a device, and no log")
     if not stat.S_ISFIFO(kind):
         yield path
         return

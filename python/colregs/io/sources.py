@@ -57,13 +57,13 @@ class Gathered:
         """What came of the logs, line by line."""
         for part in self.files:
             packed = "" if part.packed == "plain" else ", packed by " + part.packed
-            yield "%s: %d lines%s%s" % (part.name, part.lines, packed, "" if part.encoding == "bytes" else ", in " + part.encoding)
+            yield f"{part.name}: {part.lines} lines{packed}{'' if part.encoding == 'bytes' else ', in ' + part.encoding}"
         for name, count in sorted(self.forms.items(), key=lambda entry: (-entry[1], entry[0])):
-            yield "read: %d x %s" % (count, name)
+            yield f"read: {count} x {name}"
         for name, count in sorted(self.aside.items(), key=lambda entry: (-entry[1], entry[0])):
-            yield "of no use here: %d x %s" % (count, name)
+            yield f"of no use here: {count} x {name}"
         for name, told in sorted(self.unread.items(), key=lambda entry: (-entry[1].count, entry[0])):
-            yield "not understood: %d x %s, as %s" % (told.count, name, told.example)
+            yield f"not understood: {told.count} x {name}, as {told.example}"
         yield from self.notes
 
 
@@ -132,7 +132,7 @@ class Reader:
         self.table, self.previous, self.apart, self.head, self.by_receiver = None, None, collections.Counter(), None, False
 
     def clocked(self, time, words):
-        self.gathered.forms["no time of its own: %s" % self.waiting.clock] += 1
+        self.gathered.forms[f"no time of its own: {self.waiting.clock}"] += 1
         self.log.put(time, words)
 
     def own(self, time):
@@ -176,11 +176,11 @@ class Reader:
         table = tables.table_of(line)
         if table:
             self.table, self.head = table, line
-            self.gathered.aside["head of a table (%s)" % table.name] += 1
+            self.gathered.aside[f"head of a table ({table.name})"] += 1
             if table.unknown:
-                self.gathered.notes.append("columns that are not read: %s" % ", ".join(table.unknown))
+                self.gathered.notes.append(f"columns that are not read: {', '.join(table.unknown)}")
         elif NMEA.search(line):
-            self.gathered.aside["other sentence (%s)" % NMEA.search(line)[1].decode()[-3:]] += 1
+            self.gathered.aside[f"other sentence ({NMEA.search(line)[1].decode()[-3:]})"] += 1
         elif PROSE.match(line):
             self.gathered.aside["comment"] += 1
         elif self.part.lines == 1 and HEAD.fullmatch(line):
@@ -238,7 +238,7 @@ class Reader:
                 return time, "tag block", more
         behind = self.times.read(line[end:], True)
         found = behind or self.times.read(before)
-        return found and (found[0], "%s %s" % (found[1], "behind the sum" if behind else "before the sentence"), more)
+        return found and (found[0], f"{found[1]} {'behind the sum' if behind else 'before the sentence'}", more)
 
     def tag(self, before):
         """The time of tag blocks, their other fields, and what stands outside them; Unsure where one is damaged."""
@@ -280,7 +280,7 @@ class Reader:
             self.gathered.forms[own[1]] += 1
             self.log.put(own[0], words, block(own[0], own[2]) if own[2] else None)
         elif self.previous is not None and LATER_PART.match(words):
-            self.gathered.forms["no time of its own: %s" % LINES] += 1
+            self.gathered.forms[f"no time of its own: {LINES}"] += 1
             self.log.put(self.previous, words)
         else:
             self.previous = None
@@ -340,22 +340,27 @@ class Reader:
             else:
                 self.gathered.cannot(str(fault), line)
             return
-        self.gathered.forms["row of %s" % self.table.name] += 1
+        self.gathered.forms[f"row of {self.table.name}"] += 1
         for each in words:
             self.log.put(time, each)
+
+
+def stamped(line: bytes, at: int) -> bytes:
+    """Returns a bare sentence with this time, or any other line as it is."""
+    found = None if line.startswith(b"\\") else SENTENCE.search(line)
+    return block(at) + found[0] if found else line
 
 
 def told_apart(reader, name, gathered):
     """A note where the times of a log and those of its receiver lie apart, as with a clock in local time."""
     if reader.receiver.rolled:
-        gathered.notes.append("%s: the receiver's date lagged %d times, and was set forward" % (name, reader.receiver.rolled))
+        gathered.notes.append(f"{name}: the receiver's date lagged {reader.receiver.rolled} times, and was set forward")
     if not reader.apart:
         return
     apart, count = reader.apart.most_common(1)[0]
     if apart and 2 * count > sum(reader.apart.values()):
         hours, minutes = divmod(abs(apart) // 60, 60)
-        gathered.notes.append("%s: the lines' times are %s the receiver's UTC by %d:%02d hours; give an offset of %s%02d:%02d" % (
-            name, "ahead of" if apart > 0 else "behind", hours, minutes, "+" if apart > 0 else "-", hours, minutes))
+        gathered.notes.append(f"{name}: the lines' times are {'ahead of' if apart > 0 else 'behind'} the receiver's UTC by {hours}:{minutes:02d} hours; give an offset of {'+' if apart > 0 else '-'}{hours:02d}:{minutes:02d}")
 
 
 def far_off(days):
@@ -373,7 +378,7 @@ def sort(path):
     """Sorts the log by its times; lines of one time keep their order."""
     command = ["sort", "-s", "-k", "1.1,1.13", "-T", os.path.dirname(os.path.abspath(path)), "-o", path, path]
     if subprocess.run(command, env={**os.environ, "LC_ALL": "C"}, stderr=subprocess.DEVNULL).returncode:
-        raise Fault("%s cannot be sorted: is there room on the disk" % path)
+        raise Fault(f"{path} cannot be sorted: is there room on the disk")
 
 
 def gather(paths, out, *, mmsi=None, offset=0):
@@ -382,7 +387,7 @@ def gather(paths, out, *, mmsi=None, offset=0):
     Times without a zone are UTC, less `offset` seconds. Where no line of any log tells a time, the sentences are written as they stand.
     """
     if any(os.path.exists(path) and os.path.exists(out) and os.path.samefile(path, out) for path in paths):
-        raise Fault("%s is a log that is read, and cannot be written too" % out)
+        raise Fault(f"{out} is a log that is read, and cannot be written too")
     gathered = Gathered()
     try:
         with open(out, "wb", buffering=1 << 20) as made, tempfile.TemporaryFile() as untimed:
@@ -392,7 +397,7 @@ def gather(paths, out, *, mmsi=None, offset=0):
             leave_untimed(gathered, untimed, made)
         ended(out, gathered, log, mmsi)
     except OSError as error:
-        raise Fault("%s cannot be written: %s" % (out, (error.strerror or str(error)).lower())) from None
+        raise Fault(f"{out} cannot be written: {(error.strerror or str(error)).lower()}") from None
     return gathered
 
 
@@ -419,16 +424,15 @@ def ended(out, gathered, log, mmsi):
     gathered.last = log.latest if gathered.first is not None else None
     count, day = far_off(log.days) if gathered.sentences else (0, None)
     if count:
-        gathered.notes.append("%d sentences have times more than a day off nearly all others, as %s: was a clock not set" % (
-            count, time.strftime("%Y-%m-%d", time.gmtime(day * DAY))))
+        gathered.notes.append(f"{count} sentences have times more than a day off nearly all others, as {time.strftime('%Y-%m-%d', time.gmtime(day * DAY))}: was a clock not set")
     if gathered.back:
         sort(out)
-        gathered.notes.append("%d sentences stood behind later ones: the log is sorted by time" % gathered.back)
+        gathered.notes.append(f"{gathered.back} sentences stood behind later ones: the log is sorted by time")
     if gathered.untimed and gathered.first is None:
         gathered.forms["sentence without a time"] = gathered.untimed
         gathered.notes.append("no line tells a time: the log is left without times")
     fixes = gathered.forms["RMC"] + gathered.forms["gpsd's TPV"]
     if mmsi is None and fixes:
-        gathered.notes.append("own ship's places stand in %d lines (RMC or TPV): with her MMSI they become hers" % fixes)
+        gathered.notes.append(f"own ship's places stand in {fixes} lines (RMC or TPV): with her MMSI they become hers")
     if not gathered.sentences and not gathered.untimed:
         gathered.notes.append("no sentence and no row was read")

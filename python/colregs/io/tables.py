@@ -100,7 +100,7 @@ class Table:
                 return seconds_of(year, month, day, *clock, times.offset), False
             answer = times.read(text.encode())
         except Unsure as doubt:
-            raise RowFault("a row with %s" % doubt) from None
+            raise RowFault(f"a row with {doubt}") from None
         except ValueError:
             answer = None
         if answer is None:

@@ -75,7 +75,7 @@ def read_scenario(path):
 
 def refusal(mode, run):
     more = REFUSED.get(run.status, "docs/ROWS.md has the status")
-    return Finding("refused run", "the program ends `%s` with status %d, %s: %s" % (mode, run.status, run.words, more))
+    return Finding("refused run", f"the program ends `{mode}` with status {run.status}, {run.words}: {more}")
 
 
 def refused(patient):
@@ -95,8 +95,8 @@ def other_report(patient):
     if fresh.status not in (0, 1):
         yield refusal(mode, fresh)
     elif fresh.text != patient.report:
-        yield Finding("report of something else", "`%s` with this scenario and log writes another report: was it cut off, or had it other values, "
-                      "`--start`, `--ticks` or another log" % mode)
+        yield Finding("report of something else", f"`{mode}` with this scenario and log writes another report: was it cut off, or had it other values, "
+                      "`--start`, `--ticks` or another log")
 
 
 def no_times(patient):
@@ -105,8 +105,7 @@ def no_times(patient):
     if looked and not told:
         yield Finding("no times", "no tag block tells a time: of each vessel the first report alone counts. tools/tagged gives times")
     elif looked > 2 * len(told) and dropped > patient.counts.get("point", 0):
-        yield Finding("no times", "%d of %d lines that were looked at tell no time of their own, and have that of a line before" % (
-            looked - len(told), looked))
+        yield Finding("no times", f"{looked - len(told)} of {looked} lines that were looked at tell no time of their own, and have that of a line before")
 
 
 def window_misses(patient):
@@ -120,9 +119,8 @@ def window_misses(patient):
         hint = ""
         hours = round((begin - first) / 3600)
         if hours and abs(begin - first - 3600 * hours) < 300 and abs(hours) <= 14:
-            hint = ". They lie %d whole hours apart: is one of them in local time" % abs(hours)
-        yield Finding("window misses the log", "the window is from %s to %s UTC, and the log from %s to %s%s" % (
-            clock(first), clock(last), clock(begin), clock(end), hint))
+            hint = f". They lie {abs(hours)} whole hours apart: is one of them in local time"
+        yield Finding("window misses the log", f"the window is from {clock(first)} to {clock(last)} UTC, and the log from {clock(begin)} to {clock(end)}{hint}")
 
 
 def region_misses(patient):
@@ -149,17 +147,17 @@ def reference_far(patient):
     middle = told + sorted(patient.norths)[len(patient.norths) // 2] / 1852 / 600000
     wrong = math.cos(math.radians(told)) / math.cos(math.radians(middle)) - 1
     if abs(wrong) > 0.01:
-        yield Finding("reference far from the traffic", "the middle of the reports is at latitude %d, and lengths to the east are "
-                      "%.1f %% too %s there" % (round(middle * 600000), abs(wrong) * 100, "great" if wrong > 0 else "small"))
+        yield Finding("reference far from the traffic", f"the middle of the reports is at latitude {round(middle * 600000)}, and lengths to the east are "
+                      f"{abs(wrong) * 100:.1f} % too {'great' if wrong > 0 else 'small'} there")
 
 
 def no_reports(patient):
     """A log of which the program accepts nothing, and what came of its lines instead."""
     if patient.counts and not patient.counts.get("point"):
         most = sorted((name for name, count in patient.counts.items() if count), key=patient.counts.get, reverse=True)
-        told = ", ".join("%d `%s`" % (patient.counts[name], name) for name in most[:3])
+        told = ", ".join(f"{patient.counts[name]} `{name}`" for name in most[:3])
         hint = ": tools/tagged reads lines that do not begin with a sentence" if most[:1] == ["other"] else ""
-        yield Finding("no reports", "no position report is accepted; the lines came to %s%s" % (told, hint))
+        yield Finding("no reports", f"no position report is accepted; the lines came to {told}{hint}")
 
 
 def close(one, two):
@@ -169,8 +167,7 @@ def close(one, two):
 def unsorted(patient):
     late = patient.counts.get("late", 0)
     if 100 * late > patient.sentences:
-        yield Finding("unsorted lines", "%d of %d sentences come later than `log.slack` behind others: tools/tagged sorts them" % (
-            late, patient.sentences))
+        yield Finding("unsorted lines", f"{late} of {patient.sentences} sentences come later than `log.slack` behind others: tools/tagged sorts them")
 
 
 def damaged(patient):
@@ -183,10 +180,9 @@ def damaged(patient):
             (("nopos",), 2, "reports without a place", "their receivers have none")):
         count = sum(patient.counts.get(name, 0) for name in names)
         if part * count > lines:
-            yield Finding(name, "%d of %d lines: %s" % (count, lines, words))
+            yield Finding(name, f"{count} of {lines} lines: {words}")
     if patient.counts.get("orphan", 0) > patient.counts.get("part", 0):
-        yield Finding("parts without their messages", "%d parts of messages lack the parts before them: were lines taken out" % (
-            patient.counts["orphan"]))
+        yield Finding("parts without their messages", f"{patient.counts['orphan']} parts of messages lack the parts before them: were lines taken out")
 
 
 def absent(patient):
@@ -196,7 +192,7 @@ def absent(patient):
     for name in ("subjects", "own.mmsi"):
         for mmsi in numbers_at(patient.values, name):
             if 200000000 <= mmsi <= 799999999 and mmsi not in patient.ships:
-                yield Finding("subject not in the log", "`%s` has %d, of whom the log has no report in the window" % (name, mmsi))
+                yield Finding("subject not in the log", f"`{name}` has {mmsi}, of whom the log has no report in the window")
 
 
 def unseen(patient):
@@ -204,14 +200,13 @@ def unseen(patient):
     points, legs = (sum(int(fields[k]) for fields in patient.vessels.values()) for k in (5, 6))
     if patient.vessels and points > 3 * len(patient.vessels) and 2 * legs < points - len(patient.vessels):
         follow = points - len(patient.vessels)
-        yield Finding("gap shorter than reports are apart", "%d of %d reports follow the one before by more than `log.gap`: "
-                      "such vessels are not seen" % (follow - legs, follow))
+        yield Finding("gap shorter than reports are apart", f"{follow - legs} of {follow} reports follow the one before by more than `log.gap`: "
+                      "such vessels are not seen")
     if patient.speeds and 2 * sum(not speed or not course for speed, course in zip(patient.speeds, patient.courses)) > len(patient.speeds):
         yield Finding("no course or no speed", "most reports tell no course or no speed: rules that need them stay open")
     totals = patient.rows("total")
     if len(patient.vessels) > 1 and totals and all(fields[2] == "0" for fields in totals) and legs:
-        yield Finding("nobody is watched", "no two vessels come within `detect.watch = %s` m of each other in the window" % (
-            numbers_at(patient.values, "detect.watch") or [""])[0])
+        yield Finding("nobody is watched", f"no two vessels come within `detect.watch = {( numbers_at(patient.values, 'detect.watch') or [''])[0]}` m of each other in the window")
 
 
 def senders(patient):
@@ -222,7 +217,7 @@ def senders(patient):
     jumps, points = patient.counts.get("jump", 0), collections.Counter(patient.ships)
     for mmsi, reports, kept in found.lost(points) if not shared else ():
         if jumps >= reports - kept:
-            yield Finding("many jumps", "%d of %d reports of %d are accepted: is she faster than `log.max_speed`" % (kept, reports, mmsi))
+            yield Finding("many jumps", f"{kept} of {reports} reports of {mmsi} are accepted: is she faster than `log.max_speed`")
     yield from found.no_ships({mmsi: fields[2] for mmsi, fields in patient.vessels.items() if mmsi in set(patient.ships)})
 
 
@@ -234,7 +229,7 @@ def at_rest(patient):
             fastest[mmsi] = max(fastest.get(mmsi, 0), int(speed))
     still = collections.Counter(int(fields[1]) for fields in patient.rows("verdict") if fastest.get(int(fields[1]), STILL) < STILL)
     for mmsi, count in sorted(still.items()):
-        yield Finding("verdicts at rest", "%d never makes 0.5 knots, and has %d of the verdicts" % (mmsi, count))
+        yield Finding("verdicts at rest", f"{mmsi} never makes 0.5 knots, and has {count} of the verdicts")
 
 
 CHECKS = (refused, other_report, no_reports, no_times, window_misses, region_misses, reference_far, unsorted, damaged, absent, unseen,
@@ -250,7 +245,7 @@ def shortened(found):
             yield finding
     for name, count in counts.items():
         if count > SHOWN:
-            yield Finding(name, "and %d more such" % (count - SHOWN))
+            yield Finding(name, f"and {count - SHOWN} more such")
 
 
 def findings(scenario, log, report, program, options=()):

@@ -77,7 +77,7 @@ def ends(times, reasons, what):
     begin, end = bisect.bisect_left(times, times[few] - 86400), bisect.bisect_right(times, times[-1 - few] + 86400)
     lost = len(times) - (end - begin)
     if lost and what:
-        reasons.append("%d %s lie more than a day before or behind nearly all others, and are passed over" % (lost, what))
+        reasons.append(f"{lost} {what} lie more than a day before or behind nearly all others, and are passed over")
     return times[begin], times[end - 1]
 
 
@@ -126,7 +126,7 @@ class Found:
 
     def __init__(self, done, reference):
         if done.status != 0:
-            raise Fault("the program ended with status %d: %s" % (done.status, done.words))
+            raise Fault(f"the program ended with status {done.status}: {done.words}")
         ships, self.times, self.easts, self.norths, speeds, _ = done.columns()
         apart, latest = {}, {}
         for mmsi, at, speed in zip(ships, self.times, speeds):
@@ -167,8 +167,8 @@ def window(found, timed, reasons):
     first, last = ends(found.times, reasons, "reports")
     ticks = max(1, (last - first) // tick)
     if ticks > LONGEST or found.counts.get("outside", 0) > len(found.times):
-        reasons.append("the log is %d ticks long or more, and a window may have 20000: this is its beginning. tools/colregs-many audits"
-                       " all of it" % ticks)
+        reasons.append(f"the log is {ticks} ticks long or more, and a window may have 20000: this is its beginning. tools/colregs-many audits"
+                       " all of it")
     return first, tick, min(ticks, LONGEST), interval
 
 
@@ -178,7 +178,7 @@ def reference(found, reasons):
     if held != latitude:
         reasons.append("the middle of the places lies beyond 75 degrees; a reference may not")
     if found.counts.get("far"):
-        reasons.append("%d reports lie too far from most others for one plane, and will be `far`" % found.counts["far"])
+        reasons.append(f"{found.counts['far']} reports lie too far from most others for one plane, and will be `far`")
     return held, longitude
 
 
@@ -187,11 +187,11 @@ def text_of(guess):
     tick, ticks, interval = guess["tick"], guess["ticks"], guess["interval"]
     times = {name: -(-value // tick) * tick for name, value in (
         ("horizon", 900), ("t8", 60), ("ta", 120), ("tl", 30), ("tw", 120), ("te", 600))}
-    told = "nothing told how far reports are apart" if interval is None else "reports of vessels under way are about %g s apart" % interval
+    told = "nothing told how far reports are apart" if interval is None else f"reports of vessels under way are about {interval:g} s apart"
     text = TEXT.format(**{
         **guess, **times, "interval": told, "clock": time.strftime("%Y-%m-%d %H:%M:%S UTC", time.gmtime(guess["start"])),
-        "length": "%d minutes" % (ticks * tick // 60) if ticks * tick >= 120 else "%d s" % (ticks * tick), "gap": max(200, tick)})
-    return re.sub(r"(?m)^([a-z0-9_]+ = \S+) +# ", lambda line: "%-22s# " % line[1], text)
+        "length": f"{ticks * tick // 60} minutes" if ticks * tick >= 120 else f"{ticks * tick} s", "gap": max(200, tick)})
+    return re.sub(r"(?m)^([a-z0-9_]+ = \S+) +# ", lambda line: f"{line[1]:<22}# ", text)
 
 
 def fitted(guess, vessels, log, program, reasons):
@@ -206,10 +206,10 @@ def fitted(guess, vessels, log, program, reasons):
     while guess["ticks"] > 1 and guess["watch"] == WATCHES[-1] and not fits(guess, log, program):
         guess = {**guess, "ticks": guess["ticks"] // 2}
     if guess["ticks"] < whole:
-        reasons.append("the window is cut to %d of %d ticks: more than %d pairs come into contact. tools/colregs-many audits such a log by"
-                       " subjects and windows" % (guess["ticks"], whole, MOST_PAIRS))
+        reasons.append(f"the window is cut to {guess['ticks']} of {whole} ticks: more than {MOST_PAIRS} pairs come into contact. "
+                       "tools/colregs-many audits such a log by subjects and windows")
     if guess["watch"] != WATCHES[0]:
-        reasons.append("the watch is %d m in place of %d: more than %d pairs would come into contact" % (guess["watch"], WATCHES[0], MOST_PAIRS))
+        reasons.append(f"the watch is {guess['watch']} m in place of {WATCHES[0]}: more than {MOST_PAIRS} pairs would come into contact")
     return guess
 
 
@@ -224,17 +224,17 @@ def suggested(log, program):
     try:
         found, timed = look(log, program, reasons)
     except OSError as error:
-        raise Fault("%s cannot be read: %s" % (log, (error.strerror or str(error)).lower())) from None
+        raise Fault(f"{log} cannot be read: {(error.strerror or str(error)).lower()}") from None
     if not found.times:
         raise Fault("the program accepts no position report of the log")
     start, tick, ticks, interval = window(found, timed, reasons)
     latitude, longitude = reference(found, reasons)
     guess = {"start": start, "tick": tick, "ticks": ticks, "interval": interval, "lat": latitude, "lon": longitude, "watch": WATCHES[0]}
     guess = fitted(guess, found.vessels, log, program, reasons)
-    reasons.append("%d position reports of %d vessels" % (len(found.times), found.vessels))
+    reasons.append(f"{len(found.times)} position reports of {found.vessels} vessels")
     if interval is not None:
         whole = "to the last" if guess["ticks"] == ticks else "on, and is cut"
-        reasons.append("the window is from the first report %s: %d s from %d on" % (whole, guess["ticks"] * tick, start))
-        reasons.append("the tick is %d s: reports of vessels under way are %g s apart, by their median" % (tick, interval))
-    reasons.append("the reference is the middle of the places: latitude %d, longitude %d" % (latitude, longitude))
+        reasons.append(f"the window is from the first report {whole}: {guess['ticks'] * tick} s from {start} on")
+        reasons.append(f"the tick is {tick} s: reports of vessels under way are {interval:g} s apart, by their median")
+    reasons.append(f"the reference is the middle of the places: latitude {latitude}, longitude {longitude}")
     return text_of(guess), reasons

@@ -18,7 +18,7 @@ def units():
         with open(next(path for path in PAGES if os.path.exists(path)), encoding="utf-8") as source:
             page = source.read()
     except StopIteration:
-        raise Fault("%s is not here, from which the keys are taken" % PAGES[0]) from None
+        raise Fault(f"{PAGES[0]} is not here, from which the keys are taken") from None
     known = {}
     for row in re.findall(r"^\| [\d, to]+ \|(.*)\|$", page, re.M):
         cells, table = [cell.strip() for cell in row.split("|")], ""
@@ -36,7 +36,7 @@ def names_of(values):
     for key, value in values.items():
         tables = value if isinstance(value, list) else [value]
         inner = [name for table in tables if isinstance(table, dict) for name in table]
-        found += ["%s.%s" % (key, name) for name in inner] or [key]
+        found += [f"{key}.{name}" for name in inner] or [key]
     return list(dict.fromkeys(found))
 
 
@@ -63,11 +63,11 @@ def doubt(name):
     head, _, tail = name.rpartition(".")
     table = max(sorted(tables()), key=lambda known: likeness(head, known))
     if head and head not in tables() and likeness(head, table) >= 0.7:
-        return "misspelt key", "`%s` is ignored: is its table `%s`" % (name, table)
+        return "misspelt key", f"`{name}` is ignored: is its table `{table}`"
     elsewhere = [key for key in units() if key.rpartition(".")[2] == tail]
     if elsewhere:
-        return "misplaced key", "`%s` is ignored: the key stands at `%s`" % (name, elsewhere[0])
+        return "misplaced key", f"`{name}` is ignored: the key stands at `{elsewhere[0]}`"
     near = nearest(name)
     if near:
-        return "misspelt key", "`%s` is ignored: is it `%s`" % (name, near)
-    return "unknown key", "`%s` is ignored: docs/SCENARIO.md has no such key" % name
+        return "misspelt key", f"`{name}` is ignored: is it `{near}`"
+    return "unknown key", f"`{name}` is ignored: docs/SCENARIO.md has no such key"

@@ -26,7 +26,7 @@ def form_of(log):
     """What keeps the log from being read as it is."""
     packed = packing(log)
     if packed != "plain":
-        yield Finding("packed log", "the log is packed by %s: tools/tagged unpacks it" % packed)
+        yield Finding("packed log", f"the log is packed by {packed}: tools/tagged unpacks it")
         return
     with open(log, "rb") as source:
         head = source.read(65536)
@@ -36,7 +36,7 @@ def form_of(log):
         yield Finding("log in UTF-16", "the log is a text in UTF-16: tools/tagged reads it")
     elif not any(CUT.search(line) for line in sampled(log)):
         table = next((table for table in map(table_of, head.split(b"\n")[:5]) if table), None)
-        words = "is a table (%s): tools/tagged makes sentences of it" % table.name if table else "has no AIVDM or AIVDO sentence"
+        words = f"is a table ({table.name}): tools/tagged makes sentences of it" if table else "has no AIVDM or AIVDO sentence"
         yield Finding("no sentences", "the log " + words)
 
 
@@ -112,8 +112,7 @@ class Senders:
     def clock(self):
         apart = round(statistics.median(self.apart)) if self.apart else 0
         if abs(apart) > OFF:
-            yield Finding("clock that is off", "the log's times are %d s (%.2f hours) %s the UTC that base stations tell in %d messages" % (
-                abs(apart), abs(apart) / 3600, "ahead of" if apart > 0 else "behind", len(self.apart)))
+            yield Finding("clock that is off", f"the log's times are {abs(apart)} s ({abs(apart) / 3600:.2f} hours) {'ahead of' if apart > 0 else 'behind'} the UTC that base stations tell in {len(self.apart)} messages")
 
     def lost(self, points):
         """Ships most of whose reports are not accepted, by how many are."""
@@ -124,12 +123,12 @@ class Senders:
     def shared(self):
         for mmsi, track in sorted(self.tracks.items()):
             if track.most >= STEADY:
-                yield Finding("shared MMSI", "%d goes on at two places at a time: two ships may share it" % mmsi)
+                yield Finding("shared MMSI", f"{mmsi} goes on at two places at a time: two ships may share it")
 
     def no_ships(self, vessels):
         for mmsi in sorted(set(self.stations) & set(vessels)):
             kind = max(self.stations[mmsi], key=self.stations[mmsi].get)
-            yield Finding("station that is no ship", "%d is judged as a vessel, and sends %s (message %d)" % (mmsi, STATIONS[kind], kind))
+            yield Finding("station that is no ship", f"{mmsi} is judged as a vessel, and sends {STATIONS[kind]} (message {kind})")
         for mmsi, name in sorted(vessels.items()):
             if FLOATS.search(name):
-                yield Finding("station that is no ship", "%d is judged as a vessel, and is called %s" % (mmsi, name))
+                yield Finding("station that is no ship", f"{mmsi} is judged as a vessel, and is called {name}")

@@ -1,48 +1,49 @@
 """The one reader of reports: a scenario and the reports `points` and `audit` (docs/REPORT.md), and where a vessel is between her reports.
 
-The window is that of the run: the scenario's, with the run's --start and --ticks in place, as they are given or as the case.json beside
-the scenario tells them. A report that is not whole, or that does not fit the window or the other report, is refused as a `Fault`.
+The window is that of the run: the scenario's, with the run's --start and --ticks, as they are given or as the case.json beside the scenario has them.
+A report that is not whole, or that does not fit the window or the other report, is refused with a Fault.
 """
-import bisect
-import collections.abc
 import csv
 import json
 import math
 import os
 from array import array
+from typing import Any
 
 from colregs.errors import Fault
 from colregs.io.files import read_text
+from colregs.model import rest
+from colregs.model.rows import FIELDS, METRE, OUTCOMES, Lines, Meeting, Row, Stretch, Total, Verdict, Vessel, row_of
 from colregs.model.scenario import read_values
+from colregs.model.tracks import NONE, AllPlaces, Place, Places, Track, along, least_part
 
-FIELDS = 7
-OUTCOMES = 21           # a whole report counts the lines by as many outcomes
-NEAR = 0.5              # metres by which a least distance that is reckoned here may differ from the report's
-KINDS = ("point", "meeting", "verdict", "vessel", "total", "plan", "none", "lines", "why", "alarm")
-NONE = -1               # stands for a speed or a course that a report does not tell
+NEAR = 0.5              # metres by which a least distance that is computed here may differ from the report's
+Moment = tuple[float, Place, Place]     # seconds after the window's start, and the two places
 
 
-def case_file(folder):
-    """What the case.json of a folder tells."""
+def case_file(folder: str) -> dict[str, Any]:
+    """Returns what the case.json of a folder says."""
     path = os.path.join(folder, "case.json")
     try:
-        told = json.loads(read_text(path))
-        return told if isinstance(told["window"], dict) and isinstance(told["options"], dict) else None
+        about = json.loads(read_text(path))
+        if isinstance(about["window"], dict) and isinstance(about["options"], dict):
+            return dict(about)
     except (ValueError, TypeError, KeyError):
-        raise Fault("%s: not the file of a case" % path) from None
+        pass
+    raise Fault(f"{path}: not the file of a case")
 
 
-def told_window(scenario):
-    """The --start and --ticks of the case in whose folder a scenario lies, or nothing of either."""
+def window_of_folder(scenario: str) -> tuple[int | None, int | None]:
+    """Returns the --start and --ticks of the case in whose folder a scenario lies, or None for each."""
     folder = os.path.dirname(os.path.abspath(scenario))
     if os.path.basename(scenario) != "scenario.toml" or not os.path.exists(os.path.join(folder, "case.json")):
         return None, None
-    options = (case_file(folder) or {"options": {}})["options"]
+    options = case_file(folder)["options"]
     return options.get("start"), options.get("ticks")
 
 
-def split_rows(text):
-    """The lines of a report that are no points, each with its number, as fields; and the points as lines."""
+def split_rows(text: str) -> tuple[list[str], list[tuple[int, list[str]]]]:
+    """Returns the points of a report as lines; and its other lines as fields, each with its number."""
     points, others, numbers = [], [], []
     for number, line in enumerate(text.split("\n"), 1):
         line = line[:-1] if line.endswith("\r") else line
@@ -54,270 +55,219 @@ def split_rows(text):
     try:
         return points, list(zip(numbers, csv.reader(others)))
     except csv.Error as error:
-        raise Fault("no report: %s" % error) from None
-
-
-def rows(text):
-    """All rows of a report but its points."""
-    return [row for _, row in split_rows(text)[1]]
-
-
-def whole(fields):
-    return [int(field) for field in fields]
-
-
-class Track:
-    """A vessel's accepted reports: seconds after the window's start, metres east and north, 1/10 knot and 1/10 degree."""
-
-    def __init__(self):
-        self.times, self.xs, self.ys = array("q"), array("d"), array("d")
-        self.speeds, self.courses = array("h"), array("h")
-
-    def between(self, first, last):
-        """The numbers of the reports from the last one at or before a time on to the first one at or behind another."""
-        begin = max(0, bisect.bisect_right(self.times, first) - 1)
-        return range(begin, min(len(self.times), bisect.bisect_left(self.times, last) + 1))
-
-
-class Places:
-    """Her place at each tick, or nothing where no leg holds it."""
-
-    def __init__(self, track, gap, tick, steps):
-        self.xs, self.ys = array("d", [math.nan]) * (steps + 1), array("d", [math.nan]) * (steps + 1)
-        for first, last, x, u, y, v in zip(track.times, track.times[1:], track.xs, track.xs[1:], track.ys, track.ys[1:]):
-            if 0 < last - first <= gap:
-                for step in range(max(0, -(-first // tick)), min(steps, last // tick) + 1):
-                    part = (step * tick - first) / (last - first)
-                    self.xs[step], self.ys[step] = x + (u - x) * part, y + (v - y) * part
-
-    def __len__(self):
-        return len(self.xs)
-
-    def __getitem__(self, key):
-        if isinstance(key, slice):
-            return [self[k] for k in range(*key.indices(len(self.xs)))]
-        x = self.xs[key]
-        return None if x != x else (x, self.ys[key])
-
-    def extent(self):
-        """West, south, east, north of all her places, or nothing."""
-        xs, ys = ([value for value in values if value == value] for values in (self.xs, self.ys))
-        return (min(xs), min(ys), max(xs), max(ys)) if xs else None
-
-    def only(self, first, last):
-        """Forgets what lies outside these ticks."""
-        for k in [*range(0, first), *range(last + 1, len(self.xs))]:
-            self.xs[k] = math.nan
-
-
-class AllPlaces(collections.abc.Mapping):
-    """The places of each vessel, which are reckoned when they are asked for."""
-
-    def __init__(self, tracks, *window):
-        self.tracks, self.window, self.known = tracks, window, {}
-
-    def __getitem__(self, mmsi):
-        if mmsi not in self.known:
-            self.known[mmsi] = Places(self.tracks[mmsi], *self.window)
-        return self.known[mmsi]
-
-    def __iter__(self):
-        return iter(self.tracks)
-
-    def __len__(self):
-        return len(self.tracks)
+        raise Fault(f"no report: {error}") from None
 
 
 class Case:
     """A scenario's window, each vessel's places at its ticks in metres, the meetings and the verdicts of a run."""
 
-    def __init__(self, scenario, points, audit=None, start=None, ticks=None):
+    def __init__(self, scenario: str, points: str, audit: str | None = None, start: int | None = None, ticks: int | None = None) -> None:
         self.values = read_values(scenario)
         if start is None and ticks is None:
-            start, ticks = told_window(scenario)
+            start, ticks = window_of_folder(scenario)
         self.set_window(scenario, start, ticks)
-        self.names, self.meetings, self.verdicts, self.rules, self.totals = {}, [], [], [], {}
-        self.vessels, self.lines, self.point_lines, self.joined = {}, {}, {}, False
-        self.tracks, self.shown = {}, (0, self.steps)
+        self.names: dict[int, str] = {}
+        self.meetings: list[Meeting] = []
+        self.verdicts: list[Verdict] = []
+        self.rules: list[str] = []
+        self.totals: dict[str, Total] = {}
+        self.vessels: dict[int, Vessel] = {}
+        self.lines: dict[str, int] = {}
+        self.point_lines: dict[str, int] = {}
+        self.tracks: dict[int, Track] = {}
+        self.joined, self.narrowed, self.shown = False, False, (0, self.steps)
+        self.known_rest: dict[tuple[int, int, int], bool] = {}
         self.take_points(points)
         if audit is not None:
             self.take_all(audit, "the report")
-        self.places = AllPlaces(self.tracks, self.gap, self.tick, self.steps)
+        self.places: AllPlaces | dict[int, Places] = AllPlaces(self.tracks, self.gap, self.tick, self.steps)
         self.check()
 
-    def set_window(self, scenario, start, ticks):
+    def set_window(self, scenario: str, start: int | None, ticks: int | None) -> None:
+        """Takes the window, the gap and the reference from the scenario, with a start and ticks instead of its own if they are given."""
         try:
             window = self.values["window"]
             self.start, self.tick, self.steps = (int(value) for value in (
                 window["start"] if start is None else start, window["tick"], window["ticks"] if ticks is None else ticks))
-            self.gap, self.reference = int(self.values["log"]["gap"]), self.values["reference"]
-            whole([self.reference["lat"], self.reference["lon"]])
+            self.gap = int(self.values["log"]["gap"])
+            self.reference = {name: int(self.values["reference"][name]) for name in ("lat", "lon")}
         except (KeyError, TypeError, ValueError, OverflowError) as error:
-            raise Fault("%s: window, log.gap or reference is missing or is no number: %s" % (scenario, error)) from None
+            raise Fault(f"{scenario}: window, log.gap or reference is missing or is no number: {error}") from None
         for name, value, low, high in (("window.start", self.start, 0, 9999999999), ("window.tick", self.tick, 1, 60),
                                        ("window.ticks", self.steps, 1, 20000), ("log.gap", self.gap, 1, 3600),
-                                       ("reference.lat", int(self.reference["lat"]), -45000000, 45000000),
-                                       ("reference.lon", int(self.reference["lon"]), -108000000, 108000000)):
+                                       ("reference.lat", self.reference["lat"], -45000000, 45000000),
+                                       ("reference.lon", self.reference["lon"], -108000000, 108000000)):
             if not low <= value <= high:
-                raise Fault("%s: %s is not in %d to %d" % (scenario, name, low, high))
+                raise Fault(f"{scenario}: {name} is not in {low} to {high}")
 
-    def take_points(self, text):
+    def take_points(self, text: str) -> None:
+        """Takes the report of `points`."""
         points, others = split_rows(text)
         if not points and not others:
             raise Fault("the points: there is no row in them")
-        told = {}
+        by_vessel: dict[str, list[str]] = {}
         for line in points:
-            told.setdefault(line[6:line.find(",", 6)], []).append(line)
-        try:
-            for mmsi, lines in told.items():
+            by_vessel.setdefault(line[6:line.find(",", 6)], []).append(line)
+        for mmsi, lines in by_vessel.items():
+            try:
                 self.tracks[int(mmsi)] = self.track_of(lines)
-        except (ValueError, OverflowError) as error:
-            raise Fault("the points of %s: a row is none of a report: %s" % (mmsi[:20], error)) from None
+            except (ValueError, OverflowError) as error:
+                raise Fault(f"the points of {mmsi[:20]}: a row is none of a report: {error}") from None
         for number, row in others:
             if row[0] != "lines" or len(row) != FIELDS or not row[2].isdecimal():
-                raise Fault("the points, line %d: `%s` is no row of `points`" % (number, ",".join(row)[:80]))
+                raise Fault(f"the points, line {number}: `{','.join(row)[:80]}` is no row of `points`")
             self.point_lines[row[1]] = int(row[2])
 
-    def track_of(self, lines):
-        """The track of one vessel's rows, column by column; a ValueError where one is no row."""
+    def track_of(self, lines: list[str]) -> Track:
+        """Returns the track of one vessel's rows, column by column; raises ValueError if one is no row."""
         if any(line.count(",") != FIELDS - 1 for line in lines):
-            raise ValueError("a row has other than %d fields" % FIELDS)
-        fields, track = ",".join(lines).split(","), Track()
-        track.times = array("q", [int(time) - self.start for time in fields[2::FIELDS]])
-        track.xs, track.ys = (array("d", [int(value) / 10000 for value in fields[k::FIELDS]]) for k in (3, 4))
-        track.speeds, track.courses = (array("h", [int(value or NONE) for value in fields[k::FIELDS]]) for k in (5, 6))
-        if any(first >= second for first, second in zip(track.times, track.times[1:])):
+            raise ValueError(f"a row has other than {FIELDS} fields")
+        fields = ",".join(lines).split(",")
+        times = array("q", [int(time) - self.start for time in fields[2::FIELDS]])
+        xs, ys = (array("d", [int(value) / METRE for value in fields[k::FIELDS]]) for k in (3, 4))
+        speeds, courses = (array("h", [int(value or NONE) for value in fields[k::FIELDS]]) for k in (5, 6))
+        if any(first >= second for first, second in zip(times, times[1:])):
             raise ValueError("they are not in the order of their times")
-        return track
+        return Track(times, xs, ys, speeds, courses)
 
-    def take_all(self, text, name):
+    def take_all(self, text: str, name: str) -> None:
+        """Takes the rows of a report that is called `name` in messages."""
         points, others = split_rows(text)
         if points:
-            raise Fault("%s: it is of `points`, and one of `audit` is asked for" % name)
-        for number, row in others:
+            raise Fault(f"{name}: it is of `points`, and one of `audit` is asked for")
+        for number, fields in others:
             try:
-                if len(row) != FIELDS or row[0] not in KINDS:
-                    raise ValueError
-                self.take(row)
+                row = row_of(fields)
             except (ValueError, OverflowError):
-                raise Fault("%s, line %d: `%s` is no row of a report" % (name, number, ",".join(row)[:80])) from None
+                raise Fault(f"{name}, line {number}: `{','.join(fields)[:80]}` is no row of a report") from None
+            self.take(row)
         if len(self.lines) != OUTCOMES and not self.joined:
-            raise Fault("%s: it is not whole: the counts of lines at its end are missing" % name)
+            raise Fault(f"{name}: it is not whole: the counts of lines at its end are missing")
 
-    def take(self, row):
-        if row[0] == "vessel":
-            self.names[int(row[1])] = row[2] or row[1]
-            self.joined |= row[5] == ""        # as tools/colregs-many joins windows
-            self.vessels[int(row[1])] = {"name": row[2], "type": int(row[3]), "length": int(row[4])}
-        elif row[0] == "total":
-            self.rules.append(row[1])
-            self.totals[row[1]] = whole(row[2:7])
-        elif row[0] == "lines":
-            self.lines[row[1]] = int(row[2])
-        elif row[0] == "meeting":
-            subject, other, first, last, least = whole(row[1:3] + row[4:7])
-            self.meetings.append({"pair": (subject, other), "kind": row[3], "first": first, "last": last, "least": least / 10000})
-        elif row[0] == "verdict":
-            subject, other, first, last = whole(row[1:3] + row[5:7])
-            self.verdicts.append({"pair": (subject, other), "rule": row[3], "value": row[4], "first": first, "last": last})
-            if row[3] not in self.rules and self.joined:
-                self.rules.append(row[3])
+    def take(self, row: Row) -> None:
+        """Takes one row."""
+        if isinstance(row, Vessel):
+            self.names[row.mmsi] = row.name or str(row.mmsi)
+            self.joined |= row.reports is None        # as tools/colregs-many joins windows
+            self.vessels[row.mmsi] = row
+        elif isinstance(row, Total):
+            self.rules.append(row.rule)
+            self.totals[row.rule] = row
+        elif isinstance(row, Lines):
+            self.lines[row.outcome] = row.count
+        elif isinstance(row, Meeting):
+            self.meetings.append(row)
+        elif isinstance(row, Verdict):
+            self.verdicts.append(row)
+            if row.rule not in self.rules and self.joined:
+                self.rules.append(row.rule)
 
-    def check(self):
+    def check(self) -> None:
         """Refuses reports of another window, of another scenario, or of two logs."""
         self.check_times()
         self.check_lines()
         for meeting in self.meetings:
             if not self.fits(meeting):
-                raise Fault("the meeting of %d and %d at steps %d to %d does not fit the points: give the run's --start and --ticks, and its"
-                            " scenario" % (*meeting["pair"], meeting["first"], meeting["last"]))
+                raise Fault(f"the meeting of {meeting.subject} and {meeting.other} at steps {meeting.first} to {meeting.last} does not fit the points: "
+                            "give the run's --start and --ticks, and its scenario")
 
-    def check_lines(self):
+    def check_lines(self) -> None:
+        """Refuses two reports that count other lines."""
         if self.lines and self.point_lines and self.lines != self.point_lines and not self.joined:
             other = next(name for name in self.lines if self.lines[name] != self.point_lines.get(name))
-            raise Fault("the points and the report are of two runs: %d and %d lines are `%s`. Both ask for one log, and one --start and"
-                        " --ticks" % (self.point_lines.get(other, 0), self.lines[other], other))
+            raise Fault(f"the points and the report are of two runs: {self.point_lines.get(other, 0)} and {self.lines[other]} lines are `{other}`. "
+                        "Both ask for one log, and one --start and --ticks")
 
-    def check_times(self):
+    def check_times(self) -> None:
+        """Refuses points and rows outside the window."""
         for mmsi, track in self.tracks.items():
             for seconds in (track.times[0], track.times[-1]):
                 if not -self.gap <= seconds <= self.steps * self.tick + self.gap:
-                    raise Fault("a point of %d at %d lies outside the window of %d s from %d on: give the run's --start and --ticks" % (
-                        mmsi, self.start + seconds, self.steps * self.tick, self.start))
-        for row in self.meetings + self.verdicts:
-            if not 0 <= row["first"] <= row["last"] < self.steps:
-                raise Fault("a row has steps %d to %d, and the window has %d: give the run's --ticks" % (row["first"], row["last"], self.steps))
-            if not all(mmsi in self.tracks for mmsi in row["pair"]):
-                raise Fault("a row is of %d and %d, and the points are not" % row["pair"])
+                    raise Fault(f"a point of {mmsi} at {self.start + seconds} lies outside the window of {self.steps * self.tick} s from {self.start} on: "
+                                "give the run's --start and --ticks")
+        for row in self.stretches():
+            if not 0 <= row.first <= row.last < self.steps:
+                raise Fault(f"a row has steps {row.first} to {row.last}, and the window has {self.steps}: give the run's --ticks")
+            if not all(mmsi in self.tracks for mmsi in row.pair):
+                raise Fault(f"a row is of {row.subject} and {row.other}, and the points are not")
 
-    def fits(self, meeting):
-        """Whether the two are seen at the meeting's steps, and as near as the report says."""
-        ticks = slice(meeting["first"], meeting["last"] + 2)
-        if any(x != x for mmsi in meeting["pair"] for x in self.places[mmsi].xs[ticks]):
+    def stretches(self) -> list[Stretch]:
+        """Returns the meetings and the verdicts."""
+        return [*self.meetings, *self.verdicts]
+
+    def fits(self, meeting: Meeting) -> bool:
+        """Returns whether the two are seen at the meeting's steps, and as near as the report says."""
+        ticks = slice(meeting.first, meeting.last + 2)
+        if any(math.isnan(x) for mmsi in meeting.pair for x in self.places[mmsi].xs[ticks]):
             return False
         _, one, two = self.nearest(meeting)
-        return abs(math.dist(one, two) - meeting["least"]) <= NEAR
+        return abs(math.dist(one, two) - meeting.least) <= NEAR
 
-    def extent(self):
-        """Corners of what the picture is to hold."""
-        found = [places.extent() for places in self.places.values()]
-        return [corner for west_south in found if west_south for corner in (west_south[:2], west_south[2:])]
+    def extent(self) -> list[Place]:
+        """Returns corners of what a picture is to hold."""
+        return [corner for places in self.places.values() for corner in places.extent() or ()]
 
-    def name(self, mmsi):
+    def name(self, mmsi: int) -> str:
+        """Returns the name of a vessel, or her MMSI if the log has no name."""
         return self.names.get(mmsi, str(mmsi))
 
-    def moment(self, step):
-        """When a step begins, in seconds since the Unix epoch."""
+    def moment(self, step: int) -> int:
+        """Returns when a step begins, in seconds since the Unix epoch."""
         return self.start + step * self.tick
 
-    def nearest(self, meeting):
-        """The moment of least distance in a meeting, in seconds after the start, and both places there; straight between ticks."""
-        first, steps = meeting["first"], meeting["last"] + 1 - meeting["first"]
-        one, two = (self.places[mmsi] for mmsi in meeting["pair"])
-        behind = slice(first, first + steps + 1)
-        p = list(zip((u - x for x, u in zip(one.xs[behind], two.xs[behind])), (v - y for y, v in zip(one.ys[behind], two.ys[behind]))))
+    def nearest(self, meeting: Meeting) -> Moment:
+        """Returns the moment of least distance in a meeting, in seconds after the start, and both places there; straight between ticks."""
+        first, steps = meeting.first, meeting.last + 1 - meeting.first
+        one, two = (self.places[mmsi] for mmsi in meeting.pair)
+        ticks = slice(first, first + steps + 1)
+        p = list(zip((u - x for x, u in zip(one.xs[ticks], two.xs[ticks])), (v - y for y, v in zip(one.ys[ticks], two.ys[ticks]))))
         parts = [least_part(a, b) for a, b in zip(p, p[1:])]
         fars = [math.hypot(*along(a, b, part)) for a, b, part in zip(p, p[1:], parts)]
         k = fars.index(min(fars))
         step, part = first + k, parts[k]
-        return (step + part) * self.tick, *(along(places[step], places[step + 1], part) for places in (one, two))
+        mine, hers = (along(places.at(step), places.at(step + 1), part) for places in (one, two))
+        return (step + part) * self.tick, mine, hers
 
-    def narrow(self, pair=None, begin=None, end=None):
+    def rest(self, row: Stretch) -> str:
+        """Returns who lies still in a meeting or verdict: `subject`, `other`, `both` or nobody."""
+        first, last = row.first * self.tick, (row.last + 1) * self.tick
+        return rest.MARKS[self.lies_still(row.subject, first, last), self.lies_still(row.other, first, last)]
+
+    def lies_still(self, mmsi: int, first: int, last: int) -> bool:
+        """Returns whether a vessel lies still between two times, in seconds after the window's start."""
+        key = mmsi, first, last
+        if key not in self.known_rest:
+            self.known_rest[key] = mmsi in self.tracks and rest.at_rest(self.tracks[mmsi], first, last)
+        return self.known_rest[key]
+
+    def narrow(self, pair: list[int] | None = None, begin: int | None = None, end: int | None = None) -> None:
         """Keeps two vessels alone, and the steps between two moments, in seconds since the Unix epoch."""
         first = 0 if begin is None else (begin - self.start) // self.tick
         last = self.steps if end is None else -(-(end - self.start) // self.tick)
         first, last = max(0, first), min(self.steps, last)
         if first >= last:
             raise Fault("no step of the window lies between the two moments")
-        self.shown = first, last
+        self.shown, self.narrowed = (first, last), True
         if pair:
             self.places = {mmsi: places for mmsi, places in self.places.items() if mmsi in pair}
         for places in self.places.values():
-            places.only(first, last)
-        self.meetings, self.verdicts = ([row for row in rows_ if row["first"] < last and row["last"] >= first
-                                         and (not pair or set(row["pair"]) == set(pair))] for rows_ in (self.meetings, self.verdicts))
-        for row in self.meetings:
-            row["moment"] = self.moment_within(row)
+            places.keep_only(first, last)
 
-    def moment_within(self, meeting):
-        """The nearest moment, where the picture shows it."""
-        seen = all(self.places[mmsi][step] for mmsi in meeting["pair"] for step in range(meeting["first"], meeting["last"] + 2))
-        return self.nearest(meeting) if seen else None
+        def is_shown(row: Stretch) -> bool:
+            return row.first < last and row.last >= first and (not pair or set(row.pair) == set(pair))
 
-    def vessel(self, word):
-        """The MMSI of a vessel that is told by it or by her name."""
+        self.meetings = [row for row in self.meetings if is_shown(row)]
+        self.verdicts = [row for row in self.verdicts if is_shown(row)]
+
+    def shown_moment(self, meeting: Meeting) -> Moment | None:
+        """Returns the moment of least distance, or None if the picture does not show the whole meeting."""
+        if self.narrowed and any(self.places[mmsi][step] is None for mmsi in meeting.pair for step in range(meeting.first, meeting.last + 2)):
+            return None
+        return self.nearest(meeting)
+
+    def vessel(self, word: str) -> int:
+        """Returns the MMSI of a vessel that is named by it or by her name."""
         found = [mmsi for mmsi in self.tracks if word == str(mmsi) or word.casefold() == self.name(mmsi).casefold()]
         if len(found) != 1:
-            raise Fault("`%s` is %s of the points" % (word, "the name of several vessels" if found else "no vessel"))
+            raise Fault(f"`{word}` is {'the name of several vessels' if found else 'no vessel'} of the points")
         return found[0]
-
-
-def along(a, b, part):
-    return a[0] + (b[0] - a[0]) * part, a[1] + (b[1] - a[1]) * part
-
-
-def least_part(p, q):
-    """The part of the way from p to q that is nearest to nothing."""
-    w = q[0] - p[0], q[1] - p[1]
-    square = w[0] ** 2 + w[1] ** 2
-    return 0 if square == 0 else max(0, min(1, -(p[0] * w[0] + p[1] * w[1]) / square))

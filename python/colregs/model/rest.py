@@ -1,19 +1,20 @@
-"""Which stretches are of a vessel that lies still: one that never makes half a knot in the stretch, by what she told.
+"""Which vessels lie still in a stretch: those that never make half a knot in it, by their own reports.
 
-The audit knows no navigational status, so that a vessel at anchor is judged like any other (docs/INVESTIGATOR.md). Her rows are marked
-here, and none is dropped. Her speed is what her reports tell; where one tells none, it is what the way to her next report asks.
+The audit knows no navigational status, so it judges a vessel at anchor like any other (docs/INVESTIGATOR.md). Her rows are marked, and none is dropped.
+If a report has no speed, it is derived from the distance to the next report.
 """
 import math
 
-from colregs.model.reports import NONE
+from colregs.model.tracks import NONE, Track
 
 SLOWEST = 5             # 1/10 knot
-TENTH = 463 / 9000      # metres a second of 1/10 knot
+TENTH = 463 / 9000      # metres per second in 1/10 knot
 WORDS = {"": "", "subject": "the subject lies still", "other": "the other vessel lies still", "both": "both lie still"}
+MARKS = {(True, True): "both", (True, False): "subject", (False, True): "other", (False, False): ""}
 
 
-def speed(track, k):
-    """What she makes at her report of this number in 1/10 knot, or nothing where neither the report nor a next one tells."""
+def speed(track: Track, k: int) -> float | None:
+    """Returns the speed at report `k` in 1/10 knot, or None if neither this report nor a next one has it."""
     if track.speeds[k] != NONE:
         return track.speeds[k]
     if k + 1 == len(track.times):
@@ -22,27 +23,8 @@ def speed(track, k):
     return way / (track.times[k + 1] - track.times[k]) / TENTH
 
 
-def at_rest(track, first, last):
-    """Whether she never makes half a knot from one time to another, by her reports from the last one before to the last one within."""
+def at_rest(track: Track, first: int, last: int) -> bool:
+    """Returns whether the vessel never makes half a knot between two times, by her reports from the last one before to the last one within."""
     reports = track.between(first, last)
     made = [speed(track, k) for k in reports if track.times[k] <= last]
     return bool(made) and all(value is not None and value < SLOWEST for value in made)
-
-
-def mark(case):
-    """Gives each meeting and verdict its mark `rest`: who lies still in it, `subject`, `other`, `both` or nobody."""
-    known = {}
-    for row in case.meetings + case.verdicts:
-        ends = row["first"] * case.tick, (row["last"] + 1) * case.tick
-        still = []
-        for mmsi in row["pair"]:
-            key = (mmsi, *ends)
-            if key not in known:
-                known[key] = mmsi in case.tracks and at_rest(case.tracks[mmsi], *ends)
-            still.append(known[key])
-        row["rest"] = {(True, True): "both", (True, False): "subject", (False, True): "other"}.get(tuple(still), "")
-
-
-def marked(row):
-    """Whether the subject, or both, lie still."""
-    return row["rest"] in ("subject", "both")

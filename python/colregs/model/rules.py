@@ -53,30 +53,36 @@ OUTCOMES = {
 INK = "#222222"
 
 
-def colour(rule):
+def colour(rule: str) -> str:
+    """Returns the colour of a rule."""
     return RULES.get(rule, ("#555555", ""))[0]
 
 
-def meaning(rule):
+def meaning(rule: str) -> str:
+    """Returns what a rule asks, in a few words."""
     return RULES.get(rule, ("", "a formula of the scenario"))[1]
 
 
-def duty(rule):
-    """What a rule asks, in words."""
+def duty(rule: str) -> str:
+    """Returns what a rule asks, in words."""
     return DUTIES.get(rule, "a formula of the scenario")
 
 
-def clock(seconds):
+def clock(seconds: float) -> str:
+    """Returns the time of day of a moment in UTC."""
     return time.strftime("%H:%M:%S", time.gmtime(seconds))
 
 
-def date(seconds):
+def date(seconds: float) -> str:
+    """Returns the date of a moment in UTC."""
     return time.strftime("%d %B %Y", time.gmtime(seconds)).lstrip("0")
 
 
-def moment(words, start):
-    """The seconds since the Unix epoch that words of UTC tell: 1700000000, 2023-11-14T22:13:20Z, or a clock's 22:13 or 22:13:20 on the
-    first such moment from a day's start on."""
+def moment(words: str, start: int) -> int:
+    """Returns the seconds since the Unix epoch of words as 1700000000, 2023-11-14T22:13:20Z, or 22:13.
+
+    A time of day, as 22:13 or 22:13:20, is the first such moment at or after the minute of `start`.
+    """
     if re.fullmatch(r"\d{9,10}", words):
         return int(words)
     found = re.fullmatch(r"(\d\d):(\d\d)(?::(\d\d))?", words)
@@ -88,11 +94,11 @@ def moment(words, start):
     try:
         told = datetime.datetime.fromisoformat(words)
     except ValueError:
-        raise Fault("`%s` is no time: write 22:13:20, 2023-11-14T22:13:20Z or 1700000000" % words) from None
+        raise Fault(f"`{words}` is no time: write 22:13:20, 2023-11-14T22:13:20Z or 1700000000") from None
     return int((told if told.tzinfo else told.replace(tzinfo=datetime.timezone.utc)).timestamp())
 
 
-def nice(value):
-    """The least of 1, 2 and 5 times a power of ten that is not below the value."""
-    power = 10 ** math.floor(math.log10(value))
+def nice(value: float) -> float:
+    """Returns the least of 1, 2 and 5 times a power of ten that is not below the value."""
+    power: float = 10.0 ** math.floor(math.log10(value))
     return next(k * power for k in (1, 2, 5, 10) if k * power >= value * 0.999)

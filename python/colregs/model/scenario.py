@@ -1,6 +1,7 @@
 """A scenario: its text, and the numbers that shares and streams need of it."""
 import re
 import tomllib
+from typing import Any
 
 from colregs.errors import Fault
 from colregs.io.files import read_bytes, read_text
@@ -10,27 +11,28 @@ SUBJECTS = re.compile(r"(?ms)^\s*subjects\s*=\s*\[.*?\][^\n]*\n?")
 BOUNDS = re.compile(r"\[\s*\d+\s*,\s*(\d+)\s*\]")
 
 
-def read_values(path):
+def read_values(path: str) -> dict[str, Any]:
     """Returns the values of a scenario's file."""
     return values_of(path, read_text(path))
 
 
-def values_of(path, text):
+def values_of(path: str, text: str) -> dict[str, Any]:
+    """Returns the values of a scenario's text; `path` is its name in messages."""
     try:
         return tomllib.loads(text)
     except tomllib.TOMLDecodeError as error:
-        raise Fault("%s: not TOML: %s" % (path, error)) from None
+        raise Fault(f"{path}: not TOML: {error}") from None
 
 
 class Scenario:
     """A scenario's text with the numbers that shares need. Where the program would refuse it, it refuses it itself."""
 
-    def __init__(self, path):
+    def __init__(self, path: str) -> None:
         self.path = path
         try:
             self.text = read_bytes(path).decode("utf-8")
         except UnicodeDecodeError:
-            raise Fault("%s: not a text in UTF-8" % path) from None
+            raise Fault(f"{path}: not a text in UTF-8") from None
         self.values = values_of(path, self.text)
         try:
             window, log, rules = (self.values[table] for table in ("window", "log", "rules"))
@@ -41,23 +43,23 @@ class Scenario:
             ahead = [int(rules[key]) for key in ("t8", "ta", "tl")] + [sum(map(int, BOUNDS.findall(text))) for text in texts]
             self.reach = -(-max(ahead) // self.tick)
         except (KeyError, TypeError, ValueError, ZeroDivisionError) as error:
-            raise Fault("%s: a number of window, log, detect or rules is missing or is none: %s" % (path, error)) from None
-        self.subjects = self.values.get("subjects", [])
+            raise Fault(f"{path}: a number of window, log, detect or rules is missing or is none: {error}") from None
+        self.subjects: list[int] = self.values.get("subjects", [])
 
-    def with_subjects(self, subjects):
-        """The text with these subjects in place of its own, and nothing else changed."""
+    def with_subjects(self, subjects: list[int] | None) -> str:
+        """Returns the text with these subjects instead of its own, and nothing else changed."""
         if subjects is None:
             return self.text
         head, bracket, rest = self.text.partition("\n[")
-        text = "subjects = %s\n" % subjects + (SUBJECTS.sub("", head, count=1) if self.subjects else head) + bracket + rest
+        text = f"subjects = {subjects}\n" + (SUBJECTS.sub("", head, count=1) if self.subjects else head) + bracket + rest
         if values_of(self.path, text) != {**self.values, "subjects": subjects}:
-            raise Fault("%s: its subjects cannot be replaced: put `subjects = [..]` on lines of its own before the first table" % self.path)
+            raise Fault(f"{self.path}: its subjects cannot be replaced: put `subjects = [..]` on lines of its own before the first table")
         return text
 
-    def settled(self, ticks):
-        """The last step whose rows neither the end of a window of so many ticks nor a later line can change."""
+    def settled(self, ticks: int) -> int:
+        """Returns the last step whose rows neither the end of a window of this many ticks nor a later line can change."""
         return ticks - self.reach - 2
 
-    def delay(self):
-        """How many seconds of the log's clock a row comes behind the beginning of its last step, and a little more (docs/AUDIT.md)."""
+    def delay(self) -> int:
+        """Returns how many seconds of the log's clock a row comes at most after its last step begins (docs/AUDIT.md)."""
         return (self.reach + 2) * self.tick + self.gap + self.slack

@@ -34,7 +34,7 @@ def unknown_keys(values):
             yield Finding(*doubt)
     for name in keys.names_of(values):
         if values.get("version") == 1 and name.startswith("rules.safe_") and name in keys.units():
-            yield Finding("key of another version", "`%s` is ignored in version 1: give `version = 2` and all four safe distances" % name)
+            yield Finding("key of another version", f"`{name}` is ignored in version 1: give `version = 2` and all four safe distances")
 
 
 def wrong_units(values):
@@ -44,29 +44,27 @@ def wrong_units(values):
         if not told or unit not in LOOKS or max(told) >= LEAST_OF.get(name, LEAST[unit]):
             continue
         finding, part, word = LOOKS[unit]
-        yield Finding(finding, "`%s = %s` is %s %s: the unit is %s" % (
-            name, value_at(values, name), format(max(told) / part, "g"), word, {"m": "metres"}.get(unit, unit)))
+        yield Finding(finding, f"`{name} = {value_at(values, name)}` is {format(max(told) / part, 'g')} {word}: the unit is { {'m': 'metres'}.get(unit, unit)}")
     for name, least in LEAST_SECONDS.items():
         if any(0 < number < least for number in numbers_at(values, name)):
-            yield Finding("minutes for seconds", "`%s = %s` is so short that it looks like minutes: the unit is s" % (name, value_at(values, name)))
+            yield Finding("minutes for seconds", f"`{name} = {value_at(values, name)}` is so short that it looks like minutes: the unit is s")
     yield from wrong_place_and_time(values)
 
 
 def wrong_place_and_time(values):
     latitude, longitude = (numbers_at(values, "reference." + word) for word in ("lat", "lon"))
     if latitude and longitude and (latitude[0] or longitude[0]) and abs(latitude[0]) <= 90 and abs(longitude[0]) <= 180:
-        yield Finding("degrees for the reference", "`reference` is %g, %g: the unit is 1/10000 minute, so a degree is 600000" % (
-            latitude[0], longitude[0]))
+        yield Finding("degrees for the reference", f"`reference` is {latitude[0]:g}, {longitude[0]:g}: the unit is 1/10000 minute, so a degree is 600000")
     start = numbers_at(values, "window.start")
     if start and start[0] >= 10 ** 11:
-        yield Finding("milliseconds for seconds", "`window.start = %s` looks like milliseconds: the unit is seconds" % start[0])
+        yield Finding("milliseconds for seconds", f"`window.start = {start[0]}` looks like milliseconds: the unit is seconds")
 
 
 def at_odds(values):
     for less, more in AT_ODDS:
         small, great = numbers_at(values, less), numbers_at(values, more)
         if small and great and small[0] > great[0]:
-            yield Finding("numbers at odds", "`%s = %s` is more than `%s = %s`" % (less, small[0], more, great[0]))
+            yield Finding("numbers at odds", f"`{less} = {small[0]}` is more than `{more} = {great[0]}`")
 
 
 def no_ships(values):
@@ -75,8 +73,7 @@ def no_ships(values):
         for mmsi in numbers_at(values, name):
             if not 200000000 <= mmsi <= 799999999:
                 kind = "an aid to navigation" if 990000000 <= mmsi else "a coast station" if mmsi < 10000000 else "no ship"
-                yield Finding("station that is no ship", "`%s` has %s, which is %s: a ship's MMSI is from 200000000 to 799999999" % (
-                    name, mmsi, kind))
+                yield Finding("station that is no ship", f"`{name}` has {mmsi}, which is {kind}: a ship's MMSI is from 200000000 to 799999999")
 
 
 def findings(values):

@@ -1,105 +1,115 @@
 """A case in plain words: what was read, what was not and why, how many meetings there were, and what is doubtful."""
-from colregs.model import rest
+from collections.abc import Iterator, Sequence
+
+from colregs.io.sources import Gathered
 from colregs.model.earth import iso
+from colregs.model.reports import Case
+from colregs.model.rows import Meeting
 from colregs.model.rules import OUTCOMES
+from colregs.model.scenario_checks import Finding
 
 REST = "verdicts at rest"               # the doctor's finding by vessels; here the stretches are counted
 HEAVY = 2000000                         # reports, beyond which a page is slow
 USED = ("point", "static", "part")      # the outcomes of lines that tell something
 
 
-def count(number, one, many=None):
-    return "%s %s" % ("no" if number == 0 else format(number, ","), one if number == 1 else many or one + "s")
+def count(number: int, one: str, many: str | None = None) -> str:
+    """Returns a number of things in words."""
+    return f"{'no' if number == 0 else format(number, ',')} {one if number == 1 else many or one + 's'}"
 
 
-def lengths(metres):
-    """In metres and nautical miles."""
-    return "%s m (%s nautical miles)" % (format(metres, ".1f" if metres < 10 else ",.0f"), format(metres / 1852, ".3f" if metres < 92 else ".2f"))
+def lengths(metres: float) -> str:
+    """Returns a length in metres and nautical miles."""
+    return f"{format(metres, '.1f' if metres < 10 else ',.0f')} m ({format(metres / 1852, '.3f' if metres < 92 else '.2f')} nautical miles)"
 
 
-def capital(words):
+def capital(words: str) -> str:
+    """Returns words with a capital at their beginning."""
     return words[:1].upper() + words[1:]
 
 
-def plain(moment):
+def plain(moment: float) -> str:
+    """Returns a moment as a date and a time of day."""
     return iso(moment).replace("T", " ").replace("Z", "")
 
 
-def read_words(case, gathered):
+def read_words(case: Case, gathered: Gathered) -> Iterator[str]:
+    """Yields what was read of the logs."""
     files = count(len(gathered.files), "file")
     if gathered.first is None:
-        yield "Read: %s with %s, none of which tells a time." % (files, count(gathered.lines(), "line"))
+        yield f"Read: {files} with {count(gathered.lines(), 'line')}, none of which tells a time."
     else:
         latest = gathered.first if gathered.last is None else gathered.last
-        yield "Read: %s with %s; %s from %s to %s UTC." % (files, count(gathered.lines(), "line"), count(gathered.sentences, "sentence"),
-                                                           plain(gathered.first), plain(latest))
+        yield (f"Read: {files} with {count(gathered.lines(), 'line')}; {count(gathered.sentences, 'sentence')} "
+               f"from {plain(gathered.first)} to {plain(latest)} UTC.")
     lost = {name: number for name, number in case.lines.items() if number and name not in USED}
     total = sum(case.lines.values())
-    yield "Of %s the program took %s and %s; %s." % (
-        count(total, "sentence"), count(case.lines.get("point", 0), "position"), count(case.lines.get("static", 0), "message of ships' data",
-                                                                                       "messages of ships' data"),
-        "nothing else was left out" if not lost else "%s were not used" % count(sum(lost.values()), "other", "others"))
+    positions = count(case.lines.get("point", 0), "position")
+    static = count(case.lines.get("static", 0), "message of ships' data", "messages of ships' data")
+    rest = f"{count(sum(lost.values()), 'other', 'others')} were not used" if lost else "nothing else was left out"
+    yield f"Of {count(total, 'sentence')} the program took {positions} and {static}; {rest}."
     for name, number in sorted(lost.items(), key=lambda entry: -entry[1]):
-        yield "Not used: %s (%s): %s." % (count(number, "sentence"), name, OUTCOMES.get(name, name))
+        yield f"Not used: {count(number, 'sentence')} ({name}): {OUTCOMES.get(name, name)}."
 
 
-def unordered(rows):
-    return {(*sorted(row["pair"]), row["first"], row["last"]): row for row in rows}
+def unordered(rows: Sequence[Meeting]) -> dict[tuple[int, int, int, int], Meeting]:
+    """Returns one meeting of each two vessels and stretch."""
+    return {(min(row.pair), max(row.pair), row.first, row.last): row for row in rows}
 
 
-def nearest_words(case, met):
-    moving = [row for row in met.values() if not row["rest"]] or list(met.values())
-    near = min(moving, key=lambda row: row["least"])
+def nearest_words(case: Case, met: dict[tuple[int, int, int, int], Meeting]) -> str:
+    """Returns which two came nearest."""
+    moving = [row for row in met.values() if not case.rest(row)] or list(met.values())
+    near = min(moving, key=lambda row: row.least)
     seconds = case.nearest(near)[0]
-    kind = "of those under way" if not near["rest"] else "though one of the two lies still"
-    return "The nearest, %s: %s and %s, %s at %s UTC." % (
-        kind, case.name(near["pair"][0]), case.name(near["pair"][1]), lengths(near["least"]), plain(round(case.start + seconds)))
+    kind = "of those under way" if not case.rest(near) else "though one of the two lies still"
+    return f"The nearest, {kind}: {case.name(near.subject)} and {case.name(near.other)}, {lengths(near.least)} at {plain(round(case.start + seconds))} UTC."
 
 
-def meeting_words(case):
+def meeting_words(case: Case) -> Iterator[str]:
+    """Yields how many vessels met, and what the audit says of that."""
     met = unordered(case.meetings)
-    broken, open_ = ([row for row in case.verdicts if row["value"] == value] for value in ("broken", "open"))
+    broken, open_ = ([row for row in case.verdicts if row.value == value] for value in ("broken", "open"))
+    window = f"{plain(case.start)} and {plain(case.moment(case.steps))}"
     if not case.tracks:
-        yield "Nothing was audited: no vessel has a position between %s and %s UTC, the scenario's window." % (
-            plain(case.start), plain(case.moment(case.steps)))
+        yield f"Nothing was audited: no vessel has a position between {window} UTC, the scenario's window."
         return
-    yield "%s had positions between %s and %s UTC, which is the window that was audited." % (
-        count(len(case.tracks), "vessel"), plain(case.start), plain(case.moment(case.steps)))
+    yield f"{count(len(case.tracks), 'vessel')} had positions between {window} UTC, which is the window that was audited."
     if not met:
         yield "No two vessels met: none came so near, with risk of collision, as the scenario asks."
         return
-    yield "%s of two vessels; rules broken in %s, and undecided in %s." % (
-        count(len(met), "meeting"), count(len(broken), "stretch", "stretches"), count(len(open_), "stretch", "stretches"))
+    yield (f"{count(len(met), 'meeting')} of two vessels; rules broken in {count(len(broken), 'stretch', 'stretches')}, "
+           f"and undecided in {count(len(open_), 'stretch', 'stretches')}.")
     yield nearest_words(case, met)
 
 
-def summary(case, gathered):
+def summary(case: Case, gathered: Gathered) -> list[str]:
+    """Returns a case in plain words."""
     return [*read_words(case, gathered), *meeting_words(case)]
 
 
-def outside(case, gathered):
-    """How much of the log the window leaves out, where that is more than a tenth."""
+def outside(case: Case, gathered: Gathered) -> list[str]:
+    """Returns how much of the log the window leaves out, if that is more than a tenth."""
     if gathered.first is None or gathered.last is None:
         return []
     left = max(0, case.start - gathered.first) + max(0, gathered.last - case.moment(case.steps))
     if 10 * left <= gathered.last - gathered.first:
         return []
-    return ["The window is from %s to %s UTC, and the log from %s to %s: what lies outside was not audited. --start and --ticks set another window, and"
-            " tools/colregs-many audits a long log." % (plain(case.start), plain(case.moment(case.steps)), plain(gathered.first), plain(gathered.last))]
+    return [f"The window is from {plain(case.start)} to {plain(case.moment(case.steps))} UTC, and the log from {plain(gathered.first)} to "
+            f"{plain(gathered.last)}: what lies outside was not audited. --start and --ticks set another window, and tools/colregs-many audits a long log."]
 
 
-def doubts(case, gathered, findings):
-    """What is doubtful, most of it by the doctor's words."""
-    found = ["%s: %s." % (capital(finding.name), finding.words) for finding in findings if finding.name != REST]
+def doubts(case: Case, gathered: Gathered, findings: Sequence[Finding]) -> list[str]:
+    """Returns what is doubtful, most of it in the doctor's words."""
+    found = [f"{capital(finding.name)}: {finding.words}." for finding in findings if finding.name != REST]
     found += outside(case, gathered)
     reports = sum(len(track.times) for track in case.tracks.values())
     if reports > HEAVY:
-        found.append("The page holds %s reports, which a browser shows slowly: a smaller window makes a lighter page." % format(reports, ","))
-    still = [row for row in case.verdicts if rest.marked(row)]
+        found.append(f"The page holds {format(reports, ',')} reports, which a browser shows slowly: a smaller window makes a lighter page.")
+    still = [row for row in case.verdicts if case.rest(row) in ("subject", "both")]
     if still:
-        found.append("%s of %s of vessels that never make half a knot in the stretch. They may lie at anchor or alongside, where the rules ask"
-                     " nothing of them; their rows are marked `at rest`." % (
-                         format(len(still), ","), count(len(case.verdicts), "verdict is", "verdicts are")))
+        found.append(f"{len(still):,} of {count(len(case.verdicts), 'verdict is', 'verdicts are')} of vessels that never make half a knot in the stretch. "
+                     "They may lie at anchor or alongside, where the rules ask nothing of them; their rows are marked `at rest`.")
     for name, told in gathered.unread.items():
-        found.append("Not understood, and left out: %s: %s. One of them: %s" % (count(told.count, "line"), name, told.example))
+        found.append(f"Not understood, and left out: {count(told.count, 'line')}: {name}. One of them: {told.example}")
     return found + [capital(words) + "." for words in gathered.notes]

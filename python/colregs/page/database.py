@@ -1,10 +1,13 @@
 """A case as an SQLite database: a table for each kind of row, in metres, knots, degrees and UTC (docs/ROWS.md)."""
 import sqlite3
+from collections.abc import Iterator
+from typing import Any
 
-from colregs.model import rest
-from colregs.model.earth import Earth, iso
 from colregs.errors import Fault
-from colregs.model.reports import NONE
+from colregs.model.earth import Earth, iso
+from colregs.model.reports import Case
+from colregs.model.rows import Stretch, Total
+from colregs.model.tracks import NONE
 
 TABLES = """
 create table about (key text primary key, value text);
@@ -21,12 +24,15 @@ create index point_of on point (mmsi, time);
 """
 
 
-def seen(value):
+def seen(value: int) -> float | None:
+    """Returns a speed or course of a report, or None if the report has none."""
     return None if value == NONE else value / 10
 
 
-def points(case):
-    earth, moments = Earth(case.reference), {}
+def points(case: Case) -> Iterator[tuple[Any, ...]]:
+    """Yields the rows of the table `point`."""
+    earth = Earth(case.reference)
+    moments: dict[int, str] = {}
     for mmsi, track in case.tracks.items():
         for time, x, y, speed, course in zip(track.times, track.xs, track.ys, track.speeds, track.courses):
             if time not in moments:
@@ -35,40 +41,48 @@ def points(case):
             yield mmsi, case.start + time, moments[time], x, y, latitude, longitude, seen(speed), seen(course)
 
 
-def ends(case, row):
-    return iso(case.moment(row["first"])), iso(case.moment(row["last"] + 1))
+def ends(case: Case, row: Stretch) -> tuple[str, str]:
+    """Returns when a row begins and ends."""
+    return iso(case.moment(row.first)), iso(case.moment(row.last + 1))
 
 
-def meetings(case):
+def meetings(case: Case) -> Iterator[tuple[Any, ...]]:
+    """Yields the rows of the table `meeting`."""
     for number, row in enumerate(case.meetings, 1):
         nearest = iso(round(case.start + case.nearest(row)[0])) if case.tracks else None
-        yield (number, *row["pair"], row["kind"], row["first"], row["last"], *ends(case, row), row["least"], round(row["least"] / 1852, 4),
-               nearest, row["rest"])
+        yield (number, *row.pair, row.kind, row.first, row.last, *ends(case, row), row.least, round(row.least / 1852, 4),
+               nearest, case.rest(row))
 
 
-def verdicts(case):
+def verdicts(case: Case) -> Iterator[tuple[Any, ...]]:
+    """Yields the rows of the table `verdict`."""
     for number, row in enumerate(case.verdicts, 1):
-        yield number, *row["pair"], row["rule"], row["value"], row["first"], row["last"], *ends(case, row), row["rest"]
+        yield number, *row.pair, row.rule, row.value, row.first, row.last, *ends(case, row), case.rest(row)
 
 
-def vessels(case):
+def vessels(case: Case) -> Iterator[tuple[Any, ...]]:
+    """Yields the rows of the table `vessel`."""
     for mmsi in sorted(set(case.vessels) | set(case.tracks)):
-        told = case.vessels.get(mmsi, {"name": None, "type": None, "length": None})
-        yield mmsi, told["name"], told["type"], told["length"], len(case.tracks[mmsi].times) if mmsi in case.tracks else 0
+        vessel, reports = case.vessels.get(mmsi), len(case.tracks[mmsi].times) if mmsi in case.tracks else 0
+        yield (mmsi, vessel.name, vessel.ship_type, vessel.length, reports) if vessel else (mmsi, None, None, None, reports)
 
 
-def write(path, case, about, files):
+def total_fields(total: Total) -> tuple[str, int, int, int, int, int]:
+    """Returns the row of the table `total`."""
+    return total.rule, total.positions, total.yes, total.no, total.open, total.broken
+
+
+def write(path: str, case: Case, about: dict[str, str], files: list[tuple[str, str, int]]) -> None:
     """Writes the database; `about` has words by keys, `files` the name, sum and size of each file."""
-    rest.mark(case)
-    rows = {"about": about.items(), "file": files, "point": points(case), "vessel": vessels(case), "meeting": meetings(case),
-            "verdict": verdicts(case), "total": ((rule, *case.totals[rule]) for rule in case.rules if rule in case.totals),
-            "lines": case.lines.items()}
+    totals = (total_fields(case.totals[rule]) for rule in case.rules if rule in case.totals)
+    rows: dict[str, Any] = {"about": about.items(), "file": files, "point": points(case), "vessel": vessels(case), "meeting": meetings(case),
+                            "verdict": verdicts(case), "total": totals, "lines": case.lines.items()}
     try:
         with sqlite3.connect(path) as base:
             base.executescript(TABLES)
             for table, found in rows.items():
-                width = len(base.execute("select * from %s" % table).description)
-                base.executemany("insert into %s values (%s)" % (table, ",".join("?" * width)), found)
+                width = len(base.execute(f"select * from {table}").description)
+                base.executemany(f"insert into {table} values ({','.join('?' * width)})", found)
         base.close()
     except sqlite3.Error as error:
-        raise Fault("%s: %s" % (path, error)) from None
+        raise Fault(f"{path}: {error}") from None

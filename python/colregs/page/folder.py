@@ -1,4 +1,5 @@
 """The folder of a case: the log as tagged sentences, a scenario, the reports, and what is made of them, with the sums of all files."""
+import argparse
 import contextlib
 import json
 import os
@@ -7,11 +8,13 @@ import shlex
 import shutil
 import subprocess
 import tempfile
+from collections.abc import Iterable, Iterator
+from typing import Any
 
-from colregs.errors import Fault
+from colregs.errors import Fault, reason
 from colregs.io import sources
 from colregs.io.files import read_text, sum_of
-from colregs.model import doctor, guess, rest, summaries
+from colregs.model import doctor, guess, summaries
 from colregs.model.earth import iso
 from colregs.model.reports import Case, case_file
 from colregs.page import database, maps, page
@@ -21,31 +24,32 @@ LOG, SCENARIO, POINTS, REPORT = "case.log", "scenario.toml", "points.csv", "repo
 ABOUT, PAGE, MAP, DATABASE = "case.json", "case.html", "case.geojson", "case.db"
 
 
-def reports_in(folder):
-    """The scenario of a case, and the texts of its two reports."""
+def reports_in(folder: str) -> tuple[str, str, str]:
+    """Returns the path of a case's scenario, and the texts of its two reports."""
     if not os.path.exists(os.path.join(folder, ABOUT)):
-        raise Fault("%s: no folder of a case, for it has no %s" % (folder, ABOUT))
+        raise Fault(f"{folder}: no folder of a case, for it has no {ABOUT}")
     case_file(folder)
     scenario, points, report = (os.path.join(folder, name) for name in (SCENARIO, POINTS, REPORT))
     return scenario, read_text(points), read_text(report)
 
 
-def version_of(program):
+def version_of(program: str) -> str:
+    """Returns what the program says of its version."""
     try:
         done = subprocess.run([program, "--version"], stdin=subprocess.DEVNULL, stdout=subprocess.PIPE, stderr=subprocess.PIPE)
     except OSError as error:
-        raise Fault("%s: %s" % (program, error.strerror)) from None
+        raise Fault(f"{program}: {reason(error)}") from None
     return done.stdout.decode(errors="replace").strip() or "unknown"
 
 
 @contextlib.contextmanager
-def new_folder(path):
-    """A folder that comes to be at the path once all is in it; where something fails nothing is left."""
+def new_folder(path: str) -> Iterator[str]:
+    """Makes a folder that appears at the path once it is complete; if something fails, nothing is left."""
     if os.path.exists(path) and (not os.path.isdir(path) or os.listdir(path)):
-        raise Fault("%s is there already, and is not written over" % path)
+        raise Fault(f"{path} is there already, and is not written over")
     parent = os.path.dirname(os.path.abspath(path))
     if not os.path.isdir(parent):
-        raise Fault("%s: there is no such folder" % parent)
+        raise Fault(f"{parent}: there is no such folder")
     place = tempfile.mkdtemp(dir=parent, prefix=".case-")
     try:
         os.chmod(place, 0o755)
@@ -60,87 +64,101 @@ def new_folder(path):
 class Making:
     """A case that is being made: what was given, the folder, and what is known so far."""
 
-    def __init__(self, given, program, folder):
+    def __init__(self, given: argparse.Namespace, program: str, folder: str) -> None:
         self.given, self.program, self.folder = given, program, folder
         self.version, self.options = version_of(program), window_options(given.start, given.ticks)
-        self.reasons, self.doubts = [], []
+        self.reasons: list[str] = []
+        self.doubts: list[str] = []
+        self.sums = [(name, *self.sum_of_given(name)) for name in given.logs]
+        self.gathered = self.read_logs()
+        self.choose_scenario()
+        self.case = self.run_program()
+        self.findings = doctor.findings(self.path(SCENARIO), self.path(LOG), self.path(REPORT), self.program, self.options)
+        self.summary = summaries.summary(self.case, self.gathered)
+        self.doubts += summaries.doubts(self.case, self.gathered, self.findings)
 
-    def path(self, name):
+    def path(self, name: str) -> str:
+        """Returns the path of a file of the case."""
         return os.path.join(self.folder, name)
 
-    def write(self, name, texts):
+    def write(self, name: str, texts: Iterable[str]) -> None:
+        """Writes a file of the case."""
         with open(self.path(name), "w", encoding="utf-8", newline="") as out:
             out.writelines(texts)
 
-    def read_logs(self):
-        self.sums = [(name, *self.sum_of_given(name)) for name in self.given.logs]
-        self.gathered = sources.gather(self.given.logs, self.path(LOG), mmsi=self.given.mmsi, offset=self.given.offset)
-        if not self.gathered.sentences and not self.gathered.untimed:
-            raise Fault("no sentence and no row was read. " + "; ".join(self.gathered.words()))
+    def read_logs(self) -> sources.Gathered:
+        """Writes the log of the case from the logs that are given."""
+        gathered = sources.gather(self.given.logs, self.path(LOG), mmsi=self.given.mmsi, offset=self.given.offset)
+        if not gathered.sentences and not gathered.untimed:
+            raise Fault("no sentence and no row was read. " + "; ".join(gathered.words()))
+        return gathered
 
     @staticmethod
-    def sum_of_given(name):
+    def sum_of_given(name: str) -> tuple[str, int]:
+        """Returns the sum and size of a log."""
         if os.path.exists(name) and not os.path.isfile(name):
-            raise Fault("%s is no file: a case keeps the sum of each log, so a folder, a pipe or a device is none" % name)
+            raise Fault(f"{name} is no file: a case records the sum of each log, so give no folder, pipe or device")
         return sum_of(name)
 
-    def choose_scenario(self):
+    def choose_scenario(self) -> None:
+        """Writes the scenario that is given, or one that is guessed from the log."""
         if self.given.scenario:
             self.write(SCENARIO, [read_text(self.given.scenario)])
-            self.reasons = ["The scenario was given: %s" % os.path.basename(self.given.scenario)]
+            self.reasons = [f"The scenario was given: {os.path.basename(self.given.scenario)}"]
             return
         text, reasons = guess.suggested(self.path(LOG), self.program)
         self.write(SCENARIO, [text])
-        self.reasons = [words[:1].upper() + words[1:] for words in reasons]
+        self.reasons = [summaries.capital(words) for words in reasons]
         self.doubts.append("The scenario was guessed from the log. Its window and place fit the log, but what is near, early or apparent are the numbers"
                            " of made-up examples: go through them before a verdict is used.")
 
-    def run_program(self):
+    def run_program(self) -> Case:
+        """Writes the two reports of the program, and reads them."""
         for mode, name in (("points", POINTS), ("audit", REPORT)):
             self.write(name, [report_of(self.program, mode, self.path(SCENARIO), self.path(LOG), options=self.options)])
-        texts = [read_text(self.path(name)) for name in (POINTS, REPORT)]
-        self.case = Case(self.path(SCENARIO), *texts, start=self.given.start, ticks=self.given.ticks)
-        if not self.case.tracks:
-            raise Fault(" ".join(summaries.summary(self.case, self.gathered)))
-        rest.mark(self.case)
+        points, report = (read_text(self.path(name)) for name in (POINTS, REPORT))
+        case = Case(self.path(SCENARIO), points, report, start=self.given.start, ticks=self.given.ticks)
+        if not case.tracks:
+            raise Fault(" ".join(summaries.summary(case, self.gathered)))
+        return case
 
-    def ask_doctor(self):
-        self.findings = list(doctor.findings(self.path(SCENARIO), self.path(LOG), self.path(REPORT), self.program, self.options))
-
-    def commands(self):
-        """How to make the reports again in the folder of the case."""
+    def commands(self) -> list[str]:
+        """Returns how to make the reports again in the folder of the case."""
         words = "".join(" " + word for word in self.options)
         given = [os.path.basename(name) for name in self.given.logs]
         for name in ("scenario", "start", "ticks", "mmsi", "chart"):
             value = getattr(self.given, name)
             given += [] if value is None else ["--" + name, os.path.basename(str(value))]
-        ahead = self.given.offset
-        given += ["--offset=%s%02d:%02d" % ("-" if ahead < 0 else "+", *divmod(abs(ahead) // 60, 60))] if ahead else []
-        made = ["colregs-case %s -o CASE" % shlex.join(given)]
-        return made + ["colregs %s %s%s < %s > %s" % (mode, SCENARIO, words, LOG, name) for mode, name in (("points", POINTS), ("audit", REPORT))]
+        hours, minutes = divmod(abs(self.given.offset) // 60, 60)
+        given += [f"--offset={'-' if self.given.offset < 0 else '+'}{hours:02d}:{minutes:02d}"] if self.given.offset else []
+        made = [f"colregs-case {shlex.join(given)} -o CASE"]
+        return made + [f"colregs {mode} {SCENARIO}{words} < {LOG} > {name}" for mode, name in (("points", POINTS), ("audit", REPORT))]
 
-    def files(self, names):
+    def files(self, names: Iterable[str]) -> list[tuple[str, str, int]]:
+        """Returns the name, sum and size of files of the case."""
         return [(name, *sum_of(self.path(name))) for name in names]
 
-    def draw(self):
-        """The map, the database and the page."""
+    def draw(self) -> None:
+        """Writes the map, the database and the page."""
         self.write(MAP, maps.geojson(self.case))
         first = self.files((LOG, SCENARIO, POINTS, REPORT))
         about = {"title": self.title(), "version": self.version, "start": str(self.case.start), "tick": str(self.case.tick),
                  "ticks": str(self.case.steps)}
         database.write(self.path(DATABASE), self.case, about, first)
-        listed = [("given: " + os.path.basename(name), *told) for name, *told in self.sums] + self.files((LOG, SCENARIO, POINTS, REPORT, MAP, DATABASE))
+        given = [("given: " + os.path.basename(name), total, size) for name, total, size in self.sums]
         self.write(PAGE, [page.page(self.case, {
             "title": self.title(), "summary": self.summary, "doubts": self.doubts, "reasons": self.reasons, "scenario": read_text(self.path(SCENARIO)),
-            "sources": list(self.gathered.words()), "files": listed, "commands": self.commands(), "version": "%s, on Python %s" % (
-                self.version, platform.python_version()), "chart": page.coast(self.given.chart)})])
+            "sources": list(self.gathered.words()), "files": given + first + self.files((MAP, DATABASE)), "commands": self.commands(),
+            "version": f"{self.version}, on Python {platform.python_version()}", "chart": page.coast(self.given.chart)})])
         if not page.leaflet()[0]:
             self.doubts.append(page.NO_MAP + ".")
 
-    def title(self):
+    def title(self) -> str:
+        """Returns the title that is given, or the names of the logs."""
         return self.given.title or "Case of " + ", ".join(os.path.basename(name) for name in self.given.logs)
 
-    def about(self):
+    def about(self) -> dict[str, Any]:
+        """Returns what case.json holds."""
         case, gathered = self.case, self.gathered
         return {
             "title": self.title(), "version": self.version, "program_sha256": sum_of(programs_of(self.program)[-1])[0], "python": platform.python_version(),
@@ -149,24 +167,18 @@ class Making:
                         "offset": self.given.offset}, "commands": self.commands(),
             "given": [{"name": os.path.basename(name), "sha256": total, "bytes": size} for name, total, size in self.sums],
             "read": {"forms": dict(gathered.forms), "of_no_use": dict(gathered.aside),
-                     "not_understood": {name: {"count": told.count, "example": told.example} for name, told in gathered.unread.items()}},
+                     "not_understood": {name: {"count": unread.count, "example": unread.example} for name, unread in gathered.unread.items()}},
             "files": {name: {"sha256": total, "bytes": size} for name, total, size in self.files(
                 (LOG, SCENARIO, POINTS, REPORT, PAGE, MAP, DATABASE))},
             "lines": case.lines, "summary": self.summary, "doubts": self.doubts, "scenario_reasons": self.reasons,
         }
 
 
-def make(given, program):
-    """Makes the folder of a case, and returns what is told of it: a summary, and what is doubtful."""
-    page.coast(given.chart)         # a chart that is none is told before the work
+def make(given: argparse.Namespace, program: str) -> tuple[list[str], list[str]]:
+    """Makes the folder of a case; returns its summary, and what is doubtful."""
+    page.coast(given.chart)         # a file that is no chart stops the command before its work
     with new_folder(given.out) as folder:
         making = Making(given, program, folder)
-        making.read_logs()
-        making.choose_scenario()
-        making.run_program()
-        making.ask_doctor()
-        making.summary = summaries.summary(making.case, making.gathered)
-        making.doubts += summaries.doubts(making.case, making.gathered, making.findings)
         making.draw()
         making.write(ABOUT, [json.dumps(making.about(), indent=1, ensure_ascii=False), "\n"])
     return making.summary, making.doubts

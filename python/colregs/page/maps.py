@@ -1,31 +1,36 @@
 """A case as GeoJSON (RFC 7946): points, tracks, ends of tracks, meetings, nearest places, and verdicts."""
 import json
+from collections.abc import Iterator
+from typing import Any
 
-from colregs.model import rest
 from colregs.model.earth import Earth, feature, iso
-from colregs.model.reports import NONE
+from colregs.model.reports import Case
+from colregs.model.rows import Stretch
+from colregs.model.tracks import NONE, Track
 
-def tenths(value):
+
+def tenths(value: int) -> str:
+    """Returns a number of tenths as JSON."""
     return "null" if value == NONE else repr(value / 10)
 
 
-def points(case, earth):
+def points(case: Case, earth: Earth) -> Iterator[str]:
     """A point for each accepted report. Most of a file is these, so they are written without a detour."""
-    moments, values = {}, {value: tenths(value) for value in range(NONE, 3600)}
+    moments: dict[int, str] = {}
+    values = {value: tenths(value) for value in range(NONE, 3600)}
     for mmsi, track in case.tracks.items():
         for time in track.times:
             if time not in moments:
                 moments[time] = iso(case.start + time)
         name = json.dumps(case.name(mmsi), ensure_ascii=False)
-        texts = ['{"type":"Feature","geometry":{"type":"Point","coordinates":[%.7f,%.7f]},"properties":{"kind":"point","mmsi":%d,"name":%s,'
-                 '"time":"%s","speed":%s,"course":%s}}' % (
-                     (earth.longitude + round(x * earth.east)) / 600000, (earth.latitude + round(y * earth.north)) / 600000, mmsi, name,
-                     moments[time], values[speed], values[course])
+        texts = ['{"type":"Feature","geometry":{"type":"Point","coordinates":['
+                 f'{(earth.longitude + round(x * earth.east)) / 600000:.7f},{(earth.latitude + round(y * earth.north)) / 600000:.7f}'
+                 f']}},"properties":{{"kind":"point","mmsi":{mmsi},"name":{name},"time":"{moments[time]}","speed":{values[speed]},"course":{values[course]}}}}}'
                  for time, x, y, speed, course in zip(track.times, track.xs, track.ys, track.speeds, track.courses)]
         yield ",\n".join(texts)
 
 
-def parts_of(track, gap):
+def parts_of(track: Track, gap: int) -> Iterator[range]:
     """The numbers of the reports of each part of a track, no two of which lie more than a gap apart."""
     begin = 0
     for k in range(1, len(track.times) + 1):
@@ -34,7 +39,7 @@ def parts_of(track, gap):
             begin = k
 
 
-def tracks(case, earth):
+def tracks(case: Case, earth: Earth) -> Iterator[str]:
     """A line for each part of a track, and a point where it begins and where it ends."""
     for mmsi, track in sorted(case.tracks.items()):
         about = {"mmsi": mmsi, "name": case.name(mmsi)}
@@ -47,48 +52,45 @@ def tracks(case, earth):
                 yield feature("Point", earth.degrees(xs[k], ys[k]), kind="end", **about, end=end, time=moment)
 
 
-def about(case, row):
-    """Who a row is of, and when."""
-    subject, other = row["pair"]
-    return {"subject": subject, "subject_name": case.name(subject), "other": other, "other_name": case.name(other),
-            "first_step": row["first"], "last_step": row["last"], "time": iso(case.moment(row["first"])),
-            "end": iso(case.moment(row["last"] + 1)), "at_rest": row["rest"]}
+def about(case: Case, row: Stretch) -> dict[str, Any]:
+    """Returns who a row is of, and when."""
+    return {"subject": row.subject, "subject_name": case.name(row.subject), "other": row.other, "other_name": case.name(row.other),
+            "first_step": row.first, "last_step": row.last, "time": iso(case.moment(row.first)),
+            "end": iso(case.moment(row.last + 1)), "at_rest": case.rest(row)}
 
 
-def stretch(case, earth, row):
-    """The subject's way in a stretch, as text; nothing where she is not seen at two ticks of it."""
-    if row["pair"][0] not in case.places:
+def stretch(case: Case, earth: Earth, row: Stretch) -> str | None:
+    """Returns the subject's way in a stretch, as text; None if she is not seen at two ticks of it."""
+    if row.subject not in case.places:
         return None
-    places = case.places[row["pair"][0]]
-    xs, ys = (values[row["first"]:row["last"] + 2] for values in (places.xs, places.ys))
-    seen = [(x, y) for x, y in zip(xs, ys) if x == x]
-    return earth.words(*zip(*seen)) if len(seen) > 1 else None
+    seen = [place for place in case.places[row.subject][row.first:row.last + 2] if place]
+    return earth.words([x for x, _ in seen], [y for _, y in seen]) if len(seen) > 1 else None
 
 
-def meetings(case, earth):
+def meetings(case: Case, earth: Earth) -> Iterator[str]:
     """The subject's way in each meeting; and where the two were nearest, a line between them and the subject's point."""
     for row in case.meetings:
-        more = {**about(case, row), "encounter": row["kind"], "least": row["least"]}
+        more = {**about(case, row), "encounter": row.kind, "least": row.least}
         way = stretch(case, earth, row)
         if way:
             yield feature("LineString", way, kind="meeting", **more)
             seconds, one, two = case.nearest(row)
             more["time"] = more["end"] = iso(round(case.start + seconds))
-            one, two = earth.degrees(*one), earth.degrees(*two)
-            yield feature("Point", one, kind="nearest", **more)
-            yield feature("LineString", [one, two], kind="between", **more)
+            ends = [earth.degrees(*one), earth.degrees(*two)]
+            yield feature("Point", ends[0], kind="nearest", **more)
+            yield feature("LineString", ends, kind="between", **more)
 
 
-def verdicts(case, earth):
+def verdicts(case: Case, earth: Earth) -> Iterator[str]:
+    """Yields the subject's way in each verdict."""
     for row in case.verdicts:
         way = stretch(case, earth, row)
         if way:
-            yield feature("LineString", way, kind="verdict", **about(case, row), rule=row["rule"], value=row["value"])
+            yield feature("LineString", way, kind="verdict", **about(case, row), rule=row.rule, value=row.value)
 
 
-def geojson(case):
-    """The text of the whole, piece by piece."""
-    rest.mark(case)
+def geojson(case: Case) -> Iterator[str]:
+    """Yields the text of the whole, piece by piece."""
     earth, before = Earth(case.reference), '{"type":"FeatureCollection","features":[\n'
     for part in (points, tracks, meetings, verdicts):
         for text in part(case, earth):

@@ -7,11 +7,14 @@ import html
 import json
 import os
 import re
+from collections.abc import Iterable, Mapping, Sequence
+from typing import Any
 
-from colregs.model import rest
-from colregs.model.earth import Earth, iso
 from colregs.errors import Fault
 from colregs.io.files import read_text
+from colregs.model.earth import Earth, iso
+from colregs.model.reports import Case
+from colregs.model.rows import Meeting
 from colregs.model.rules import ENCOUNTERS, OUTCOMES, colour, date, duty, meaning
 
 HERE = os.path.join(os.path.dirname(os.path.abspath(__file__)), "web")
@@ -20,8 +23,8 @@ SCRIPTS = ("state.js", "map.js", "charts.js", "times.js", "tables.js", "page.js"
 NO_MAP = "Leaflet is not here, so the page has no map: install Debian's package libjs-leaflet and make the page again"
 
 
-def leaflet(folder=LEAFLET):
-    """The script and the style of Leaflet without the pictures that the page does not use, or two empty texts where it is not here."""
+def leaflet(folder: str = LEAFLET) -> tuple[str, str]:
+    """Returns the script and the style of Leaflet without the pictures that the page does not use, or two empty texts if Leaflet is not installed."""
     try:
         with open(os.path.join(folder, "leaflet.min.js"), encoding="utf-8") as script, \
                 open(os.path.join(folder, "leaflet.css"), encoding="utf-8") as style:
@@ -30,8 +33,8 @@ def leaflet(folder=LEAFLET):
         return "", ""
 
 
-def deltas(values):
-    """The first value, and then how much each differs from the one before: short to write."""
+def deltas(values: Iterable[int]) -> list[int]:
+    """Returns the first value, and then how much each differs from the one before, which is short to write."""
     before, found = 0, []
     for value in values:
         found.append(value - before)
@@ -39,60 +42,62 @@ def deltas(values):
     return found
 
 
-def vessels(case):
+def vessels(case: Case) -> list[dict[str, Any]]:
+    """Returns the vessels with their reports, column by column."""
     found = []
     for mmsi in sorted(set(case.tracks) | set(case.vessels)):
-        told, track = case.vessels.get(mmsi, {"type": 0, "length": 0}), case.tracks.get(mmsi)
-        columns = [] if track is None else [track.times, (round(10 * x) for x in track.xs), (round(10 * y) for y in track.ys), track.speeds,
-                                            track.courses]
-        found.append({"mmsi": mmsi, "name": case.name(mmsi), "type": told["type"], "length": told["length"],
+        vessel, track = case.vessels.get(mmsi), case.tracks.get(mmsi)
+        columns: list[Iterable[int]] = [] if track is None else [
+            track.times, (round(10 * x) for x in track.xs), (round(10 * y) for y in track.ys), track.speeds, track.courses]
+        found.append({"mmsi": mmsi, "name": case.name(mmsi), "type": vessel.ship_type if vessel else 0, "length": vessel.length if vessel else 0,
                       "reports": [deltas(column) for column in columns]})
     return found
 
 
-def meetings(case, numbers):
-    """One entry for each two vessels and stretch, with what it is for either; in the order of their first steps."""
-    found = {}
+def meetings(case: Case, numbers: Mapping[int, int]) -> list[dict[str, Any]]:
+    """Returns one entry for each two vessels and stretch, with what it is for either, in the order of their first steps."""
+    found: dict[tuple[int, int, int, int], list[Meeting]] = {}
     for row in case.meetings:
-        found.setdefault((*sorted(row["pair"]), row["first"], row["last"]), []).append(row)
+        found.setdefault((min(row.pair), max(row.pair), row.first, row.last), []).append(row)
     entries = []
     for key in sorted(found, key=lambda key: (key[2], key[3], key[:2])):
         rows = found[key]
-        kinds = {row["pair"][0]: ENCOUNTERS.get(row["kind"], row["kind"]) for row in rows}
+        kinds = {row.subject: ENCOUNTERS.get(row.kind, row.kind) for row in rows}
         seconds, one, two = case.nearest(rows[0])
-        places = [one, two] if rows[0]["pair"][0] == key[0] else [two, one]
+        places = [one, two] if rows[0].subject == key[0] else [two, one]
         entries.append({"pair": [numbers[mmsi] for mmsi in key[:2]], "kinds": [kinds.get(mmsi, "") for mmsi in key[:2]], "first": key[2],
-                        "last": key[3], "least": round(rows[0]["least"], 1), "nearest": round(seconds),
+                        "last": key[3], "least": round(rows[0].least, 1), "nearest": round(seconds),
                         "places": [[round(value, 1) for value in place] for place in places],
-                        "rest": resting(rows, key)})
+                        "rest": resting(case, rows, key)})
     return entries
 
 
-def resting(rows, key):
-    """Who of the two of an entry lies still: 0, 1 or both."""
-    still = set()
+def resting(case: Case, rows: Sequence[Meeting], key: tuple[int, ...]) -> list[int]:
+    """Returns which of the two vessels of an entry lie still: 0, 1 or both."""
+    still: set[int] = set()
     for row in rows:
-        who = {"subject": [row["pair"][0]], "other": [row["pair"][1]], "both": row["pair"]}.get(row["rest"], [])
-        still.update(key.index(mmsi) for mmsi in who)
+        who: dict[str, tuple[int, ...]] = {"subject": (row.subject,), "other": (row.other,), "both": row.pair}
+        still.update(key.index(mmsi) for mmsi in who.get(case.rest(row), ()))
     return sorted(still)
 
 
-def verdicts(case, numbers, entries):
-    """The rows of the audit, each with the number of the meeting in which it begins or that it begins before, if there is one."""
-    by_pair, rules = {}, {rule: k for k, rule in enumerate(case.rules)}
+def verdicts(case: Case, numbers: Mapping[int, int], entries: list[dict[str, Any]]) -> list[dict[str, Any]]:
+    """Returns the verdicts, each with the number of the meeting that it overlaps, if there is one."""
+    by_pair: dict[tuple[int, ...], list[tuple[int, int, int]]] = {}
+    rules = {rule: k for k, rule in enumerate(case.rules)}
     for number, entry in enumerate(entries):
         by_pair.setdefault(tuple(entry["pair"]), []).append((entry["first"], entry["last"], number))
     found = []
     for row in case.verdicts:
-        pair = [numbers[mmsi] for mmsi in row["pair"]]
-        near = [number for first, last, number in by_pair.get(tuple(sorted(pair)), []) if first <= row["last"] and row["first"] <= last]
-        found.append({"pair": pair, "rule": rules[row["rule"]], "broken": row["value"] == "broken", "first": row["first"], "last": row["last"],
-                      "meeting": near[0] if near else None, "rest": row["rest"]})
+        pair = [numbers[mmsi] for mmsi in row.pair]
+        near = [number for first, last, number in by_pair.get(tuple(sorted(pair)), []) if first <= row.last and row.first <= last]
+        found.append({"pair": pair, "rule": rules[row.rule], "broken": row.value == "broken", "first": row.first, "last": row.last,
+                      "meeting": near[0] if near else None, "rest": case.rest(row)})
     return sorted(found, key=lambda row: (row["first"], row["last"]))
 
 
-def coast(path):
-    """A coast that is given as GeoJSON, or nothing."""
+def coast(path: str | None) -> Any:
+    """Returns the coast of a GeoJSON file, or None without a file."""
     if path is None:
         return None
     try:
@@ -101,25 +106,30 @@ def coast(path):
             return found
     except (ValueError, TypeError, KeyError):
         pass
-    raise Fault("%s: not a map of lines or areas in GeoJSON" % path)
+    raise Fault(f"{path}: not a map of lines or areas in GeoJSON")
 
 
-def words_of(case, rule):
-    """What a rule asks; of a formula of the scenario its text."""
+def words_of(case: Case, rule: str) -> str:
+    """Returns what a rule asks; for a formula of the scenario, its text."""
     formulas = case.values.get("formula")
     for entry in formulas if isinstance(formulas, list) else []:
         if isinstance(entry, dict) and entry.get("name") == rule:
-            return "the scenario's formula: %s" % entry.get("text")
+            return f"the scenario's formula: {entry.get('text')}"
     return duty(rule)
 
 
-def content(case, about):
-    """All that the page shows. `about` has title, summary, findings, reasons, scenario, sources, files, commands, version and chart."""
-    rest.mark(case)
+def total_words(case: Case, rule: str) -> list[int] | None:
+    """Returns the counts of a rule, as the page shows them."""
+    total = case.totals.get(rule)
+    return [total.positions, total.yes, total.no, total.open, total.broken] if total else None
+
+
+def content(case: Case, about: Mapping[str, Any]) -> dict[str, Any]:
+    """Returns all that the page shows. `about` has title, summary, findings, reasons, scenario, sources, files, commands, version and chart."""
     listed, earth = vessels(case), Earth(case.reference)
     numbers = {vessel["mmsi"]: k for k, vessel in enumerate(listed)}
     entries = meetings(case, numbers)
-    rules = [{"name": rule, "colour": colour(rule), "short": meaning(rule), "words": words_of(case, rule), "total": case.totals.get(rule)}
+    rules = [{"name": rule, "colour": colour(rule), "short": meaning(rule), "words": words_of(case, rule), "total": total_words(case, rule)}
              for rule in case.rules]
     lines = [[name, count, OUTCOMES.get(name, "")] for name, count in case.lines.items()]
     return {**about, "start": case.start, "tick": case.tick, "steps": case.steps, "gap": case.gap,
@@ -127,18 +137,19 @@ def content(case, about):
             "verdicts": verdicts(case, numbers, entries), "lines": lines}
 
 
-def window_words(case):
+def window_words(case: Case) -> str:
+    """Returns the window in words."""
     begin, end = case.moment(0), case.moment(case.steps)
-    return "%s, %s to %s UTC" % (date(begin), iso(begin)[11:19], iso(end)[11:19] if date(begin) == date(end) else "%s, %s" % (
-        date(end), iso(end)[11:19]))
+    return f"{date(begin)}, {iso(begin)[11:19]} to {iso(end)[11:19] if date(begin) == date(end) else f'{date(end)}, {iso(end)[11:19]}'} UTC"
 
 
-def page(case, about, folder=LEAFLET):
-    """The text of the page."""
+def page(case: Case, about: Mapping[str, Any], folder: str = LEAFLET) -> str:
+    """Returns the text of the page."""
     script, style = leaflet(folder)
     about = {**about, "noMap": "" if script else NO_MAP, "window": window_words(case)}
     held = json.dumps(content(case, about), separators=(",", ":"), ensure_ascii=False).replace("<", "\\u003c").replace(
         "\u2028", "\\u2028").replace("\u2029", "\\u2029")
-    parts = {"title": html.escape(about["title"]), "style": style + read_text(os.path.join(HERE, "page.css")), "leaflet": script, "case": held,
-             "script": "\n".join(read_text(os.path.join(HERE, name)) for name in SCRIPTS)}
+    parts: dict[str, str] = {
+        "title": html.escape(about["title"]), "style": style + read_text(os.path.join(HERE, "page.css")), "leaflet": script, "case": held,
+        "script": "\n".join(read_text(os.path.join(HERE, name)) for name in SCRIPTS)}
     return re.sub(r"\{\{(\w+)\}\}", lambda found: parts[found[1]], read_text(os.path.join(HERE, "page.html")))

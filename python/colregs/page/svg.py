@@ -1,27 +1,32 @@
 """Lines, shapes and words of an SVG picture, and labels that keep clear of each other."""
 import math
+from collections.abc import Iterable, Sequence
 from xml.sax.saxutils import escape
 
 CELL, CROWDED = 20, 60      # the side of a cell of the grid of labels, and how many points of one count
+Point = tuple[float, float]
+Box = tuple[float, float, float, float]      # left, top, right, bottom
+Coloured = list[tuple[str, str]]             # words, each with its colour
 FONT = "Helvetica, Arial, 'Liberation Sans', 'DejaVu Sans', sans-serif"
 
 
-def number(value):
-    return ("%.1f" % value).replace(".0", "")
+def number(value: float) -> str:
+    """Returns a number with at most one decimal."""
+    return f"{value:.1f}".replace(".0", "")
 
 
-def width_of(words, size, weight="normal"):
+def width_of(words: str, size: float, weight: str = "normal") -> float:
     """About how wide words are; seldom less, in the usual fonts."""
     return (0.74 if weight == "bold" else 0.62) * size * len(words)
 
 
-def cells(box):
+def cells(box: Box) -> list[tuple[int, int]]:
     """The cells of the grid that a box lies in."""
     x, y, u, v = (int(value // CELL) for value in box)
     return [(a, b) for a in range(x, u + 1) for b in range(y, v + 1)]
 
 
-def apart(points, least):
+def apart(points: Sequence[Point], least: float) -> list[Point]:
     """The line without points that lie nearer than this to the one before, but for its last."""
     kept = [points[0]]
     x, y = points[0]
@@ -32,7 +37,7 @@ def apart(points, least):
     return kept + [points[-1]]
 
 
-def thinned(points, most=0.35):
+def thinned(points: Sequence[Point], most: float = 0.35) -> list[Point]:
     """The line without points that lie on it as far as can be seen: Douglas and Peucker's, `most` from it.
 
     Of a long line, those go first that lie within a part of this of the one before.
@@ -57,39 +62,47 @@ def thinned(points, most=0.35):
 
 
 class Picture:
-    def __init__(self, width, height, title):
+    """A picture of a width and a height in pixels, which grows by parts."""
+
+    def __init__(self, width: float, height: float, title: str) -> None:
         self.width, self.height = width, height
-        self.parts = ["<title>%s</title>" % escape(title), '<rect width="100%" height="100%" fill="#ffffff"/>']
+        self.parts: list[str] = [f"<title>{escape(title)}</title>", '<rect width="100%" height="100%" fill="#ffffff"/>']
 
-    def add(self, tag, **more):
-        words = " ".join('%s="%s"' % (key.replace("_", "-"), number(value) if isinstance(value, float) else value)
-                         for key, value in more.items())
-        self.parts.append("<%s %s/>" % (tag, words))
+    def add(self, tag: str, **more: object) -> None:
+        """Adds an element; `_` in the name of an attribute stands for `-`."""
+        words = " ".join(f'{key.replace("_", "-")}="{number(value) if isinstance(value, float) else value}"' for key, value in more.items())
+        self.parts.append(f"<{tag} {words}/>")
 
-    def line(self, a, b, stroke, width=1.0, **more):
+    def line(self, a: Point, b: Point, stroke: str, width: float = 1.0, **more: object) -> None:
+        """Adds a straight line."""
         self.add("line", x1=float(a[0]), y1=float(a[1]), x2=float(b[0]), y2=float(b[1]), stroke=stroke, stroke_width=float(width), **more)
 
-    def path(self, points, stroke, width=1.0, **more):
-        self.add("polyline", points=" ".join("%s,%s" % (number(x), number(y)) for x, y in points), fill="none", stroke=stroke,
+    def path(self, points: Iterable[Point], stroke: str, width: float = 1.0, **more: object) -> None:
+        """Adds a line through points."""
+        self.add("polyline", points=" ".join(f"{number(x)},{number(y)}" for x, y in points), fill="none", stroke=stroke,
                  stroke_width=float(width), stroke_linejoin="round", **more)
 
-    def box(self, x, y, width, height, fill, **more):
+    def box(self, x: float, y: float, width: float, height: float, fill: str, **more: object) -> None:
+        """Adds a rectangle by its left upper corner."""
         self.add("rect", x=float(x), y=float(y), width=float(width), height=float(height), fill=fill, **more)
 
-    def dot(self, at, radius, fill, **more):
+    def dot(self, at: Point, radius: float, fill: str, **more: object) -> None:
+        """Adds a circle."""
         self.add("circle", cx=float(at[0]), cy=float(at[1]), r=float(radius), fill=fill, **more)
 
-    def words(self, x, y, words, size=11, fill="#222222", anchor="start", weight="normal", halo=False):
-        """Words of one colour, or a list of words, each with its own."""
+    def words(self, x: float, y: float, words: str | Coloured, size: int = 11, fill: str = "#222222", anchor: str = "start", weight: str = "normal",
+              halo: bool = False) -> None:
+        """Adds words of one colour, or a list of words, each with its colour."""
         around = ' stroke="#ffffff" stroke-width="3" paint-order="stroke" stroke-linejoin="round"' if halo else ""
         inner = escape(words) if isinstance(words, str) else " ".join(
-            '<tspan fill="%s">%s</tspan>' % (own, escape(word)) for word, own in words)
-        self.parts.append('<text x="%s" y="%s" font-size="%d" fill="%s" text-anchor="%s" font-weight="%s"%s>%s</text>' % (
-            number(x), number(y), size, fill, anchor, weight, around, inner))
+            f'<tspan fill="{own}">{escape(word)}</tspan>' for word, own in words)
+        self.parts.append(f'<text x="{number(x)}" y="{number(y)}" font-size="{size}" fill="{fill}" text-anchor="{anchor}" '
+                          f'font-weight="{weight}"{around}>{inner}</text>')
 
-    def text(self):
-        head = '<svg xmlns="http://www.w3.org/2000/svg" width="%d" height="%d" viewBox="0 0 %d %d" font-family="%s">' % (
-            self.width, self.height, self.width, self.height, FONT)
+    def text(self) -> str:
+        """Returns the text of the picture."""
+        wide, high = int(self.width), int(self.height)
+        head = f'<svg xmlns="http://www.w3.org/2000/svg" width="{wide}" height="{high}" viewBox="0 0 {wide} {high}" font-family="{FONT}">'
         return "\n".join([head] + self.parts + ["</svg>", ""])
 
 
@@ -99,11 +112,13 @@ class Labels:
     Boxes and points are kept by the cells of a grid, so that a picture with many of both is drawn in time.
     """
 
-    def __init__(self, picture, frame):
-        self.picture, self.frame, self.boxes, self.points = picture, frame, {}, {}
+    def __init__(self, picture: Picture, frame: Box) -> None:
+        self.picture, self.frame = picture, frame
+        self.boxes: dict[tuple[int, int], set[Box]] = {}
+        self.points: dict[tuple[int, int], list[Point]] = {}
 
-    def keep_clear(self, points):
-        """Tells a line that words are not to cover."""
+    def keep_clear(self, points: Sequence[Point]) -> None:
+        """Keeps words off a line."""
         for (x, y), (u, v) in zip(points, points[1:]):
             parts = max(1, int(math.hypot(u - x, v - y) / 5))
             for k in range(parts + 1):
@@ -112,12 +127,13 @@ class Labels:
                 if len(cell) < CROWDED:
                     cell.append((a, b))
 
-    def keep_box(self, box):
-        """Tells a box that words are not to cover."""
+    def keep_box(self, box: Box) -> None:
+        """Keeps words off a box."""
         for cell in cells(box):
             self.boxes.setdefault(cell, set()).add(box)
 
-    def cost(self, box):
+    def cost(self, box: Box) -> float:
+        """Returns how much a box would cover."""
         x, y, u, v = box
         left, top, right, bottom = self.frame
         out = max(0, left - x) + max(0, top - y) + max(0, u - right) + max(0, v - bottom)
@@ -127,13 +143,13 @@ class Labels:
         return 1000 * out + 20 * over + 40 * sum(x - 2 <= a <= u + 2 and y - 2 <= b <= v + 2
                                                  for cell in near for a, b in self.points.get(cell, ()))
 
-    def keep_off(self, at, radius):
-        """Tells a dot that words are not to cover."""
+    def keep_off(self, at: Point, radius: float) -> None:
+        """Keeps words off a dot."""
         self.keep_box((at[0] - radius, at[1] - radius, at[0] + radius, at[1] + radius))
 
-    def best(self, at, width, height, reach):
+    def best(self, at: Point, width: float, height: float, reach: Iterable[int]) -> tuple[float, Box, int]:
         """The cheapest box round a place, with its cost and how far off it is."""
-        best = None
+        best: tuple[float, Box, int] | None = None
         for far in reach:
             if best and best[0] <= far:     # no box that is farther off costs less
                 return best
@@ -144,9 +160,10 @@ class Labels:
                 cost = self.cost(box) + far
                 if best is None or cost < best[0]:
                     best = cost, box, far
+        assert best is not None         # there is a reach
         return best
 
-    def put(self, at, words, size=11, weight="normal", needed=True, apart=6, **more):
+    def put(self, at: Point, words: str | Coloured, size: int = 11, weight: str = "normal", needed: bool = True, apart: int = 6, fill: str = "#222222") -> None:
         """Near a place, joined to it by a thin line where it is far; where it is not needed, only where it is near and covers nothing."""
         plain = words if isinstance(words, str) else " ".join(word for word, _ in words)
         width, height = width_of(plain, size, weight), size * 1.1
@@ -158,4 +175,4 @@ class Labels:
             self.picture.line(at, end, "#888888", 0.7)
         self.keep_box(box)
         self.picture.words((box[0] + box[2]) / 2, (box[1] + box[3]) / 2 + size * 0.36, words, size, anchor="middle", weight=weight,
-                           halo=True, **more)
+                           halo=True, fill=fill)

@@ -1,43 +1,52 @@
 """The chart of times: for each ordered pair its meetings, and the steps at which a rule was broken or open."""
+from collections.abc import Iterator, Sequence
+
+from colregs.model.reports import Case
+from colregs.model.rows import Meeting, Stretch, Verdict
 from colregs.model.rules import INK, clock, colour, date, meaning, nice
 from colregs.page.svg import Picture, width_of
 
+Block = tuple[tuple[int, int], list[Meeting], list[tuple[str, list[Verdict]]]]
+Bar = tuple[Stretch, str, str, bool]      # a row, its colour, its words, and whether it is hollow
 LEFT, WIDE, HEAD, ROW = 240, 640, 92, 18
 MANY = 120      # ordered pairs, beyond which only some are drawn
 
 
-def blocks(case):
+def blocks(case: Case) -> Iterator[Block]:
     """For each ordered pair its meetings and, rule by rule, its verdicts; both orders of two vessels one after the other."""
-    rows, begins = {}, {}
-    for kind, found in enumerate((case.meetings, case.verdicts)):
-        for row in found:
-            two = tuple(sorted(row["pair"]))
-            rows.setdefault(row["pair"], ([], []))[kind].append(row)
-            begins[two] = min(row["first"], begins.get(two, row["first"]))
-    for pair in sorted(rows, key=lambda pair: (begins[tuple(sorted(pair))], min(pair), max(pair), pair)):
-        meetings, mine = rows[pair]
-        yield pair, meetings, [(rule, [v for v in mine if v["rule"] == rule]) for rule in case.rules if any(v["rule"] == rule for v in mine)]
+    begins: dict[frozenset[int], int] = {}
+    meetings: dict[tuple[int, int], list[Meeting]] = {}
+    verdicts: dict[tuple[int, int], list[Verdict]] = {}
+    for row in case.stretches():
+        begins[frozenset(row.pair)] = min(row.first, begins.get(frozenset(row.pair), row.first))
+    for meeting in case.meetings:
+        meetings.setdefault(meeting.pair, []).append(meeting)
+    for verdict in case.verdicts:
+        verdicts.setdefault(verdict.pair, []).append(verdict)
+    for pair in sorted(meetings | verdicts, key=lambda pair: (begins[frozenset(pair)], min(pair), max(pair), pair)):
+        mine = verdicts.get(pair, [])
+        yield pair, meetings.get(pair, []), [(rule, [v for v in mine if v.rule == rule]) for rule in case.rules if any(v.rule == rule for v in mine)]
 
 
-def fewer(case, found):
-    """The pairs that are drawn: where there are many, those of the nearest meetings. The words of what is left out."""
+def fewer(case: Case, found: list[Block]) -> tuple[list[Block], str | None]:
+    """Returns the pairs that are drawn, those of the nearest meetings if there are many; and words of what is left out."""
     if len(found) <= MANY:
         return found, None
-    near = {}
+    near: dict[tuple[int, int], float] = {}
     for meeting in case.meetings:
-        near[meeting["pair"]] = min(meeting["least"], near.get(meeting["pair"], meeting["least"]))
+        near[meeting.pair] = min(meeting.least, near.get(meeting.pair, meeting.least))
     kept = set(sorted(near, key=lambda pair: (near[pair], min(pair), max(pair)))[:MANY]) or {entry[0] for entry in found[:MANY]}
     few = [entry for entry in found if entry[0] in kept]
-    return few, "Of %d ordered pairs the %d that came nearest are drawn; --pair, --from and --to draw others." % (len(found), len(few))
+    return few, f"Of {len(found)} ordered pairs the {len(few)} that came nearest are drawn; --pair, --from and --to draw others."
 
 
-def across(case, step):
+def across(case: Case, step: int) -> float:
     """Where a step begins, from left to right; at an edge where that is outside what is drawn."""
     first, last = case.shown
     return LEFT + WIDE * (min(max(step, first), last) - first) / (last - first)
 
 
-def time_axis(picture, case, bottom):
+def time_axis(picture: Picture, case: Case, bottom: float) -> None:
     """Steps at the foot, times at the head. A step's number stands where the step begins."""
     first, last = case.shown
     every = max(1, int(nice((last - first) / 10)))
@@ -47,21 +56,21 @@ def time_axis(picture, case, bottom):
         picture.words(x, bottom + 14, str(step), 10, "#555555", "middle")
         picture.words(x, HEAD - 6, clock(case.moment(step)), 9, "#555555", "middle")
     picture.words(LEFT - 34, HEAD - 6, "UTC", 9, "#555555", "end")
-    picture.words(LEFT + WIDE / 2, bottom + 29, "step, of %d s each" % case.tick, 10, "#555555", "middle")
+    picture.words(LEFT + WIDE / 2, bottom + 29, f"step, of {case.tick} s each", 10, "#555555", "middle")
     picture.box(LEFT, HEAD, WIDE, bottom - HEAD, "none", stroke="#8a949d")
 
 
-def bars(picture, case, y, rows):
+def bars(picture: Picture, case: Case, y: float, rows: Sequence[Bar]) -> None:
     """Bars over their steps, each of a row, its colour, its words and whether it is hollow. Words stand in a bar or beside it, where the
     bars beside leave room."""
-    ends = [across(case, row["first"]) for row, *_ in rows]
-    wide = [max(2.5, across(case, row["last"] + 1) - x) for (row, *_), x in zip(rows, ends)]
+    ends = [across(case, row.first) for row, *_ in rows]
+    wide = [max(2.5, across(case, row.last + 1) - x) for (row, *_), x in zip(rows, ends)]
     for (row, fill, _, hollow), x, width in zip(rows, ends, wide):
         if hollow:
             picture.box(x + 0.7, y + 3.7, max(1.5, width - 1.4), ROW - 7.4, "#ffffff", stroke=fill, stroke_width=1.4, stroke_dasharray="3 2")
         else:
             picture.box(x, y + 3, width, ROW - 6, fill)
-    taken = LEFT
+    taken: float = LEFT
     for k, (row, fill, words, hollow) in enumerate(rows):
         x, width, size = ends[k], wide[k], width_of(words, 10)
         following = ends[k + 1] if k + 1 < len(rows) else LEFT + WIDE
@@ -75,26 +84,29 @@ def bars(picture, case, y, rows):
         taken = x + width
 
 
-def steps_words(row):
-    return "%d" % row["first"] if row["first"] == row["last"] else "%d\u2013%d" % (row["first"], row["last"])
+def steps_words(row: Stretch) -> str:
+    """Returns the steps of a row, as 4 or 4-9."""
+    return f"{row.first}" if row.first == row.last else f"{row.first}\u2013{row.last}"
 
 
-def draw_block(picture, case, y, pair, meetings, verdicts):
+def draw_block(picture: Picture, case: Case, y: float, pair: tuple[int, int], meetings: list[Meeting], verdicts: list[tuple[str, list[Verdict]]]) -> None:
+    """Draws the rows of one ordered pair."""
     names = " to ".join(case.name(mmsi) for mmsi in pair)
     picture.words(12, y + ROW - 5, names, 12, weight="bold")
-    bars(picture, case, y, [(meeting, "#5b6770", "%s, %s, %.0f m" % (steps_words(meeting), meeting["kind"], meeting["least"]), False)
-                            for meeting in sorted(meetings, key=lambda row: row["first"])])
+    bars(picture, case, y, [(meeting, "#5b6770", f"{steps_words(meeting)}, {meeting.kind}, {meeting.least:.0f} m", False)
+                            for meeting in sorted(meetings, key=lambda row: row.first)])
     for rule, rows in verdicts:
         y += ROW
         picture.words(LEFT - 10, y + ROW - 5, rule, 11, colour(rule), "end", "bold")
-        bars(picture, case, y, [(row, colour(rule), "%s %s" % (steps_words(row), row["value"]), row["value"] == "open")
-                                for row in sorted(rows, key=lambda row: row["first"])])
+        bars(picture, case, y, [(row, colour(rule), f"{steps_words(row)} {row.value}", row.value == "open")
+                                for row in sorted(rows, key=lambda row: row.first)])
 
 
-def times(case, title):
+def times(case: Case, title: str) -> str:
+    """Returns the chart by time."""
     found, left_out = fewer(case, list(blocks(case)))
     bottom = HEAD + 6 + sum(ROW * (1 + len(verdicts)) + 6 for _, _, verdicts in found)
-    rules = [rule for rule in case.rules if any(v["rule"] == rule for v in case.verdicts)]
+    rules = [rule for rule in case.rules if any(v.rule == rule for v in case.verdicts)]
     picture = Picture(LEFT + WIDE + 30, bottom + 60 + 17 * (len(rules) + 1) // 2, title)
     if left_out:
         picture.words(12, 71, left_out, 11, "#555555")
@@ -108,5 +120,5 @@ def times(case, title):
         draw_block(picture, case, y, pair, meetings, verdicts)
         y += ROW * (1 + len(verdicts)) + 6
     for k, rule in enumerate(rules):
-        picture.words(12 + (LEFT + WIDE) / 2 * (k % 2), bottom + 54 + 17 * (k // 2), "%s: %s" % (rule, meaning(rule)), 11, colour(rule))
+        picture.words(12 + (LEFT + WIDE) / 2 * (k % 2), bottom + 54 + 17 * (k // 2), f"{rule}: {meaning(rule)}", 11, colour(rule))
     return picture.text()

@@ -4,6 +4,8 @@ import shutil
 import subprocess
 import sys
 import tempfile
+from collections.abc import Container, Sequence
+from typing import NamedTuple
 
 from colregs.errors import Fault, reason
 
@@ -12,22 +14,23 @@ BUILT = os.path.join(TOP, "crates", "colregs", "out", "colregs")      # what the
 VARIABLE = "COLREGS_PROGRAM"
 
 
-def is_program(path):
+def is_program(path: str) -> bool:
+    """Returns whether a path is a file that can be run."""
     return os.path.isfile(path) and os.access(path, os.X_OK)
 
 
-def on_path():
-    """The program in the absolute folders of PATH; the current folder never counts."""
+def on_path() -> str | None:
+    """Returns the program in the absolute folders of PATH; the current folder never counts."""
     folders = [folder for folder in os.environ.get("PATH", os.defpath).split(os.pathsep) if os.path.isabs(folder)]
     return shutil.which("colregs", path=os.pathsep.join(folders))
 
 
-def found(given=None):
-    """The program: the one that is given, or that COLREGS_PROGRAM names, or that of this clone, or beside the tool, or on PATH."""
+def found(given: str | None = None) -> str:
+    """Returns the program that is given, or that COLREGS_PROGRAM names, or that of this clone, or beside the tool, or on PATH."""
     named = given or os.environ.get(VARIABLE)
     if named:
         if not is_program(named):
-            raise Fault("%s is no program that can be run" % named)
+            raise Fault(f"{named} is no program that can be run")
         return os.path.abspath(named)
     beside = os.path.join(os.path.dirname(os.path.realpath(sys.argv[0])), "colregs")
     for path in (os.path.join(TOP, "colregs"), BUILT, beside, on_path()):
@@ -36,55 +39,67 @@ def found(given=None):
     raise Fault("the program is not here: give --program, or set COLREGS_PROGRAM")
 
 
-def programs_of(program):
-    """The files that make a program: itself, and the built one that the command at the top of a clone runs."""
+def programs_of(program: str) -> list[str]:
+    """Returns the files that make a program: itself, and the built one that the command at the top of a clone runs."""
     at_top = os.path.realpath(program) == os.path.realpath(os.path.join(TOP, "colregs"))
     return [program] + ([BUILT] if at_top and os.path.exists(BUILT) else [])
+
+
+class Columns(NamedTuple):
+    """The points of a run, column by column: metres in 1/10000; speeds and courses as bytes, which may be empty."""
+
+    ships: list[int]
+    times: list[int]
+    easts: list[int]
+    norths: list[int]
+    speeds: list[bytes]
+    courses: list[bytes]
 
 
 class Run:
     """A run of the program: its status, what it wrote, and its line on standard error."""
 
-    def __init__(self, program, mode, scenario, log, options=()):
+    def __init__(self, program: str, mode: str, scenario: str, log: str, options: Sequence[str] = ()) -> None:
         try:
             with open(log, "rb") as source:
                 done = subprocess.run([os.path.abspath(program), mode, scenario, *options], stdin=source, stdout=subprocess.PIPE, stderr=subprocess.PIPE)
         except OSError as error:
-            raise Fault("%s cannot be opened: %s" % (error.filename, reason(error))) from None
+            raise Fault(f"{error.filename} cannot be opened: {reason(error)}") from None
         self.status, self.text, self.words = done.returncode, done.stdout, done.stderr.decode("utf-8", "replace").strip()
 
-    def rows(self, kind):
-        """The fields of each row of a kind, none of which holds a comma but in a vessel's name."""
+    def rows(self, kind: str) -> list[list[bytes]]:
+        """Returns the fields of each row of a kind, none of which holds a comma except a vessel's name."""
         head = kind.encode() + b","
         return [line.split(b",") for line in self.text.split(b"\n") if line.startswith(head)]
 
-    def columns(self):
-        """MMSI, time, east, north, speed and course of all points, each as a list; the last two are bytes, and may be empty."""
+    def columns(self) -> Columns:
+        """Returns the columns of all points."""
         begin = self.text.find(b"lines,")
         fields = self.text[:begin].replace(b"\n", b",").split(b",")
-        return [list(map(int, fields[k:-1:7])) for k in (1, 2, 3, 4)] + [fields[k:-1:7] for k in (5, 6)]
+        ships, times, easts, norths = (list(map(int, fields[k:-1:7])) for k in (1, 2, 3, 4))
+        return Columns(ships, times, easts, norths, fields[5:-1:7], fields[6:-1:7])
 
-    def counts(self):
-        """How many lines came to each outcome."""
+    def counts(self) -> dict[str, int]:
+        """Returns how many lines have each outcome."""
         return {fields[1].decode(): int(fields[2]) for fields in self.rows("lines")}
 
 
-def run_text(program, mode, text, log):
-    """A run with a scenario that is given as text."""
+def run_text(program: str, mode: str, text: str, log: str) -> Run:
+    """Runs the program with a scenario that is given as text."""
     with tempfile.NamedTemporaryFile("w", suffix=".toml", encoding="utf-8") as out:
         out.write(text)
         out.flush()
         return Run(program, mode, out.name, log)
 
 
-def report_of(program, mode, scenario, log, good=(0,), options=()):
-    """The report of the program; a Fault, with its line on standard error, if it ends with another status than a good one."""
+def report_of(program: str, mode: str, scenario: str, log: str, good: Container[int] = (0,), options: Sequence[str] = ()) -> str:
+    """Returns the report of the program; raises a Fault with its line on standard error if its status is not a good one."""
     done = Run(program, mode, scenario, log, options)
     if done.status not in good:
-        raise Fault("the program ends `%s` with status %d, %s; docs/ROWS.md says what to do at each status" % (mode, done.status, done.words))
+        raise Fault(f"the program ends `{mode}` with status {done.status}, {done.words}; docs/ROWS.md says what to do at each status")
     return done.text.decode()
 
 
-def window_options(start=None, ticks=None):
-    """The program's options for a window that is given."""
-    return ["%s=%d" % (name, value) for name, value in (("--start", start), ("--ticks", ticks)) if value is not None]
+def window_options(start: int | None = None, ticks: int | None = None) -> list[str]:
+    """Returns the program's options for a window that is given."""
+    return [f"{name}={value}" for name, value in (("--start", start), ("--ticks", ticks)) if value is not None]

@@ -6,56 +6,62 @@ import shutil
 import subprocess
 import sys
 import tempfile
+from collections.abc import Sequence
+from dataclasses import dataclass
+from typing import IO
 
 from colregs.errors import Fault
-
 from colregs.io import sieve
 from colregs.io.packing import packing
 from colregs.run.program import TOP
+from colregs.shares.jobs import Job, Kept
 
 TOOL, SIEVE = os.path.join(TOP, "tools", "colregs-many"), sieve.__file__
 READERS = {"plain": "cat --", "gzip": "gzip -dc --", "xz": "xz -dc --", "bzip2": "bzip2 -dc --", "zstd": "zstd -dcq --"}
 
 
-def reader(files):
-    """The words of a shell that write these files, unpacked, one after the other."""
+def reader(files: Sequence[str]) -> str:
+    """Returns the words of a shell that write these files, unpacked, one after the other."""
     words = []
     for name in files:
         kind = packing(name)
         if kind not in READERS:
-            raise Fault("%s is packed by %s: unpack it, or make a log of it by tools/tagged" % (name, kind))
-        words.append("%s %s" % (READERS[kind], shlex.quote(os.path.abspath(name))))
+            raise Fault(f"{name} is packed by {kind}: unpack it, or make a log of it by tools/tagged")
+        words.append(f"{READERS[kind]} {shlex.quote(os.path.abspath(name))}")
     return " && ".join(words)
 
 
-def pipeline(job, list_of_vessels=None):
-    """The command that writes the log of a job."""
+def pipeline(job: Job, list_of_vessels: str | None = None) -> str:
+    """Returns the command that writes the log of a job."""
     words = reader(job.files)
     if list_of_vessels is None:
         return words
-    return "{ %s; } | %s -S -E %s %s" % (words, shlex.quote(sys.executable), shlex.quote(SIEVE), shlex.quote(list_of_vessels))
+    return f"{{ {words}; }} | {shlex.quote(sys.executable)} -S -E {shlex.quote(SIEVE)} {shlex.quote(list_of_vessels)}"
 
 
+@dataclass(frozen=True)
 class Ended:
     """How a run ended: its status, its line on standard error, and whether the log was read to its end."""
 
-    def __init__(self, status, words, whole):
-        self.status, self.words, self.whole = status, words, whole
+    status: int
+    words: str
+    whole: bool
 
 
-def piped(command, words, out, room):
-    """The program behind a command of the shell that writes its log."""
+def piped(command: str, words: Sequence[str], out: IO[bytes], room: str) -> Ended:
+    """Runs the program on what a command of the shell writes."""
     with open(os.path.join(room, "error"), "w+b") as error:
         with subprocess.Popen(["bash", "-c", "set -o pipefail; " + command], stdout=subprocess.PIPE, stderr=error) as log:
             done = subprocess.run(words, stdin=log.stdout, stdout=out, stderr=subprocess.PIPE)
-            log.stdout.close()
+            if log.stdout:
+                log.stdout.close()
         error.seek(0)
         said = (done.stderr or error.read()).decode("utf-8", "replace").strip()
     return Ended(done.returncode, said, log.returncode == 0)
 
 
-def run_one(job, kept, program):
-    """Runs a job where its result is not kept yet; a Fault where it does not end with a whole report of all its files."""
+def run_one(job: Job, kept: Kept, program: str) -> bool:
+    """Runs a job if its result is not stored yet; raises a Fault if it does not end with a whole report of all its files."""
     target = kept.path(job)
     if os.path.exists(target):
         return False
@@ -69,14 +75,15 @@ def run_one(job, kept, program):
         with open(report, "wb") as out:
             done = piped(pipeline(job, vessels if job.vessels is not None else None), [program, "audit", scenario, *job.options()], out, room)
         if done.status != 0:
-            raise Fault("%s ends with status %d, %s%s" % (job.words(), done.status, done.words, advice(done)))
+            raise Fault(f"{job.words()} ends with status {done.status}, {done.words}{advice(done)}")
         if not done.whole:
-            raise Fault("%s: its files were not read to their end: %s" % (job.words(), done.words))
+            raise Fault(f"{job.words()}: its files were not read to their end: {done.words}")
         os.replace(report, target)
     return True
 
 
-def advice(done):
+def advice(done: Ended) -> str:
+    """Returns what to do about a limit that a run met."""
     if done.status == 7 and "pairs" in done.words:
         return ": plan with smaller --group, or with --tiles"
     if done.status == 7 and "vessels" in done.words:
@@ -86,8 +93,8 @@ def advice(done):
     return ""
 
 
-def run_all(jobs, kept, program, processes):
-    """Runs the jobs whose results are not kept, so many at a time. The words of those that failed."""
+def run_all(jobs: Sequence[Job], kept: Kept, program: str, processes: int) -> tuple[int, list[str]]:
+    """Runs the jobs whose results are not stored, this many at a time; returns how many ran, and the words of those that failed."""
     for job in jobs:
         kept.key(job)                                   # each file is summed once, before the runs
     faults, ran = [], 0
@@ -100,28 +107,29 @@ def run_all(jobs, kept, program, processes):
     return ran, faults
 
 
-def commands(path, count, kept, program):
-    """A command for each job, which can run on any machine that sees the files under the same names."""
+def commands(path: str, count: int, kept: str, program: str) -> list[str]:
+    """Returns a command for each job, which can run on any machine that sees the files under the same names."""
     words = [TOOL, "one", os.path.abspath(path), "%d", "--kept", os.path.abspath(kept), "--program", program]
     line = " ".join(word if word == "%d" else shlex.quote(word).replace("%", "%%") for word in words)
     return [line % number for number in range(1, count + 1)]
 
 
-def parallel_words(kept, processes, hosts):
-    """GNU parallel's words: what its list of done jobs tells as failed or not run is run."""
+def parallel_words(kept: str, processes: int, hosts: str | None) -> list[str]:
+    """Returns the command of GNU parallel, which runs what its list of jobs shows as failed or not run."""
     words = ["parallel", "--joblog", os.path.join(os.path.abspath(kept), "joblog"), "--resume-failed", "--jobs", str(processes)]
     return words + (["--sshlogin", hosts] if hosts else [])
 
 
-def by_parallel(lines, kept, processes, hosts):
+def by_parallel(lines: Sequence[str], kept: str, processes: int, hosts: str | None) -> int:
+    """Runs commands by GNU parallel; returns its status."""
     if not shutil.which("parallel"):
         raise Fault("GNU parallel is not here (Debian package parallel); without --parallel the jobs run by threads")
     done = subprocess.run(parallel_words(kept, processes, hosts), input="\n".join(lines) + "\n", text=True)
     return done.returncode
 
 
-def slurm(lines, memory, hours):
-    """A script for sbatch: an array with a task for each job."""
+def slurm(lines: Sequence[str], memory: str, hours: int) -> str:
+    """Returns a script for sbatch: an array with a task for each job."""
     task = lines[0].replace(" 1 --kept ", ' "$SLURM_ARRAY_TASK_ID" --kept ')
-    return "\n".join(["#!/bin/sh", "#SBATCH --job-name=colregs", "#SBATCH --array=1-%d" % len(lines), "#SBATCH --cpus-per-task=1",
-                      "#SBATCH --mem=%s" % memory, "#SBATCH --time=%d:00:00" % hours, "exec " + task, ""])
+    return "\n".join(["#!/bin/sh", "#SBATCH --job-name=colregs", f"#SBATCH --array=1-{len(lines)}", "#SBATCH --cpus-per-task=1",
+                      f"#SBATCH --mem={memory}", f"#SBATCH --time={hours}:00:00", "exec " + task, ""])

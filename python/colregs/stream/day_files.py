@@ -2,28 +2,25 @@
 import calendar
 import os
 import time
+from collections.abc import Callable, Iterator
+from typing import BinaryIO
 
 from colregs.io.logs import stamp
-from colregs.errors import Fault
-from colregs.io.sentences import block
-from colregs.io.sources import SENTENCE
+from colregs.errors import Fault, reason
 
+Mark = tuple[str, int]           # a place in the day files: a day, and bytes from its beginning
 LEAP, SURE = 3600, 10            # s: a time so far ahead counts once so many lines in a row tell such
-
-
-def stamped(line, at):
-    """A bare sentence with this time; any other line as it is."""
-    found = None if line.startswith(b"\\") else SENTENCE.search(line)
-    return block(at) + found[0] if found else line
 
 
 class Clock:
     """The greatest time told so far; one that is far ahead of it counts once ten lines in a row tell such."""
 
-    def __init__(self):
-        self.time, self.ahead = None, []
+    def __init__(self) -> None:
+        self.time: int | None = None
+        self.ahead: list[int] = []
 
-    def take(self, line):
+    def take(self, line: bytes) -> int | None:
+        """Takes a line; returns the time of the clock after it."""
         at = stamp(line)
         if at is None or self.time is not None and at <= self.time:
             self.ahead = self.ahead if at is None else []
@@ -36,62 +33,79 @@ class Clock:
         return self.time
 
 
-def day_of(at):
+def day_of(at: int) -> str:
+    """Returns the day of a time in UTC."""
     return time.strftime("%Y-%m-%d", time.gmtime(at))
 
 
-def begin_of(day):
+def begin_of(day: str) -> int:
+    """Returns when a day begins."""
     return calendar.timegm(time.strptime(day, "%Y-%m-%d"))
 
 
 class DayFiles:
     """A folder with a file of lines for each day, the last of which grows."""
 
-    def __init__(self, folder):
-        self.folder, self.day, self.out = folder, None, None
+    def __init__(self, folder: str) -> None:
+        self.folder = folder
+        self.day: str | None = None
+        self.out: BinaryIO | None = None
         os.makedirs(folder, exist_ok=True)
         days = self.days()
         if days:
             self.open(days[-1])
 
-    def days(self):
+    def days(self) -> list[str]:
+        """Returns the days that have a file, in order."""
         return sorted(name[:-4] for name in os.listdir(self.folder) if name.endswith(".log") and len(name) == 14)
 
-    def path(self, day):
+    def path(self, day: str) -> str:
+        """Returns the file of a day."""
         return os.path.join(self.folder, day + ".log")
 
-    def open(self, day):
-        """Goes on with a day's file, behind its last whole line."""
+    def open(self, day: str) -> None:
+        """Continues a day's file after its last whole line."""
         if self.out:
             self.out.close()
-        self.day, self.out = day, open(self.path(day), "ab")
-        self.out.truncate(whole_length(self.path(day)))
-        self.out.seek(0, os.SEEK_END)
+        out = open(self.path(day), "ab")
+        out.truncate(whole_length(self.path(day)))
+        out.seek(0, os.SEEK_END)
+        self.day, self.out = day, out
 
-    def write(self, line, at):
-        """Writes a line where the clock is at a time; the days never go back."""
+    def write(self, line: bytes, at: int) -> None:
+        """Writes a line at a time of the clock; the days never go back."""
         day = day_of(at)
-        if self.day is None or day > self.day:
+        if self.out is None or self.day is None or day > self.day:
             self.open(day)
+        assert self.out is not None
         self.out.write(line)
 
-    def flush(self):
+    def flush(self) -> None:
+        """Writes what is buffered."""
         if self.out:
             self.out.flush()
 
-    def place(self):
-        """Behind all that is written."""
+    def place(self) -> Mark:
+        """Returns the place after all that is written."""
+        assert self.day is not None and self.out is not None        # a line was written
         return self.day, self.out.tell()
 
-    def beginning(self, at):
-        """Where the lines of a time are looked for: the first day's file that may have one."""
+    def close(self) -> None:
+        """Closes the file of the last day."""
+        if self.out:
+            self.out.close()
+        self.out = None
+
+    def beginning(self, at: int) -> Mark:
+        """Returns where to look for the lines of a time: the first day's file that may have one."""
         return next((day for day in self.days() if day >= day_of(at)), day_of(at)), 0
 
-    def after(self, day):
+    def after(self, day: str) -> str | None:
+        """Returns the next day that has a file."""
         return next((later for later in self.days() if later > day), None)
 
-    def blocks(self, place, goes_on):
-        """The bytes from a place on, as they come, up to the place at which `goes_on` ends; none while there are no more."""
+    def blocks(self, place: Mark, goes_on: Callable[[], Mark | None]) -> Iterator[bytes]:
+        """Yields the bytes from a place on as they arrive, up to the place that `goes_on` returns; yields an empty block while there are no more."""
         day, offset = place
         while True:
             limit = goes_on()                          # asked first: what was written before it is read below
@@ -110,7 +124,8 @@ class DayFiles:
                 yield b""
 
 
-def read_at(path, offset, most):
+def read_at(path: str, offset: int, most: int) -> bytes:
+    """Returns at most this many bytes of a file from an offset on."""
     if most <= 0 or not os.path.exists(path):
         return b""
     with open(path, "rb") as source:
@@ -118,8 +133,8 @@ def read_at(path, offset, most):
         return source.read(most)
 
 
-def whole_length(path):
-    """The bytes of a file up to its last line feed; a line that was cut off by a crash is not read again."""
+def whole_length(path: str) -> int:
+    """Returns the length of a file up to its last line feed."""
     size = os.path.getsize(path)
     with open(path, "rb") as source:
         while size:
@@ -132,9 +147,10 @@ def whole_length(path):
     return 0
 
 
-def lines_of(path):
+def lines_of(path: str) -> Iterator[bytes]:
+    """Yields the lines of a file."""
     try:
         with open(path, "rb") as source:
             yield from source
     except OSError as error:
-        raise Fault("%s: %s" % (path, error.strerror)) from None
+        raise Fault(f"{path} cannot be read: {reason(error)}") from None

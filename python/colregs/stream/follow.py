@@ -3,21 +3,27 @@
 Windows begin at whole multiples of `every`, so that a restart makes the same ones, and each runs on into the next by the overlap. A row is of the
 window in whose own steps it ends; docs/TRAFFIC_SERVICE.md says why that is each row once, and what it needs.
 """
+import argparse
 import itertools
 import json
 import os
 import queue
-import sys
 import tempfile
 import threading
 import time
+from collections.abc import Collection, Iterator
+from types import TracebackType
+from typing import Any
 
-from colregs.stream.day_files import Clock, DayFiles, lines_of, stamped
-from colregs.errors import Fault
+from colregs.errors import DONE, FAILED, Fault, report
 from colregs.io.files import replace
 from colregs.io.sieve import Senders
-from colregs.stream.rows import Written, steps_of
+from colregs.io.sources import stamped
+from colregs.model.scenario import MOST_SUBJECTS, Scenario
+from colregs.stream.day_files import Clock, DayFiles, Mark, lines_of
+from colregs.stream.rows import Sink, Written, steps_of
 from colregs.stream.runs import StreamRun, Window
+from colregs.stream.sources import Source
 
 WAITING, MOST_RUNS = 16, 12      # blocks of lines that wait at most; runs at a time beyond which lines wait
 LEAST, MOST = 200000000, 799999999
@@ -28,15 +34,15 @@ NEW = 10                         # s of the clock between looks for vessels that
 class Numbers:
     """The windows' numbers: how they lie, and which steps each has for its own."""
 
-    def __init__(self, scenario, every, overlap):
+    def __init__(self, scenario: Scenario, every: int, overlap: int) -> None:
         self.tick, self.every, self.ticks = scenario.tick, every, every + overlap
         self.gap, self.more = scenario.gap, scenario.gap + scenario.slack
         self.warm = -(-scenario.gap // scenario.tick)
         self.reach, self.last = scenario.reach, scenario.settled(self.ticks)
         self.behind = self.last - every                # the last step that is the window's before
 
-    def starts(self, clock):
-        """The starts of the windows that are open where the clock is at a time."""
+    def starts(self, clock: int) -> Iterator[int]:
+        """Yields the starts of the windows that are open at a time of the clock."""
         length = self.every * self.tick
         k = max(0, (clock - self.ticks * self.tick - self.more) // length)
         while k * length - self.gap <= clock:
@@ -44,30 +50,60 @@ class Numbers:
                 yield k * length
             k += 1
 
-    def is_over(self, start, clock):
+    def is_over(self, start: int, clock: int) -> bool:
+        """Returns whether no later line can change a window."""
         return clock > start + self.ticks * self.tick + self.more
 
-    def settled(self, start, clock, mode):
-        """The last step by which a row is ordered that the clock settles."""
+    def settled(self, start: int, clock: int, mode: str) -> int:
+        """Returns the last step by which a row is ordered that the clock settles."""
         behind = 1 if mode == "watch" else self.reach + 2
         return -(-(clock - self.more - start) // self.tick) - 1 - behind
 
 
 class Follow:
-    def __init__(self, given, scenario, program, sink):
+    """A stream that is followed: its day files, the runs over its windows, and the rows that were written. Close it, or use it with `with`."""
+
+    def __init__(self, given: argparse.Namespace, scenario: Scenario, program: str, sink: Sink) -> None:
         self.given, self.scenario, self.program, self.sink = given, scenario, program, sink
         self.numbers = Numbers(scenario, given.every, -(-given.overlap // scenario.tick))
         self.files, self.clock, self.senders = DayFiles(given.days), Clock(), Senders()
         self.written = Written(given.days, sink)
-        self.windows, self.runs, self.heard, self.events = {}, set(), {}, queue.Queue()
-        self.room, self.grouped, self.looked, self.over, self.held = tempfile.TemporaryDirectory(), False, None, set(), []
-        self.state, self.first, self.cut, self.faults = os.path.join(given.days, "windows.json"), None, False, 0
-        self.marks = {}                                 # by ten minutes of the clock, where a restart found their first line
+        self.windows: dict[int, Window] = {}            # those that are open, by their starts
+        self.over: set[int] = set()                     # the starts of those that are closed
+        self.runs: set[StreamRun] = set()
+        self.heard: dict[int, int] = {}                 # when the clock last heard each vessel
+        self.events: queue.Queue[tuple[Any, ...]] = queue.Queue()
+        self.held: list[tuple[StreamRun, str]] = []     # rows that wait for those of windows before them
+        self.room = tempfile.TemporaryDirectory()
+        self.grouped, self.cut, self.faults = False, False, 0
+        self.looked: int | None = None                  # when the clock was at the last look for new vessels
+        self.state = os.path.join(given.days, "windows.json")
+        self.first: int | None = None                   # the first window that is not done, as it is stored for a restart
+        self.marks: dict[int, Mark] = {}                # by ten minutes of the clock, where a restart found their first line
+
+    def __enter__(self) -> "Follow":
+        return self
+
+    def __exit__(self, kind: type[BaseException] | None, error: BaseException | None, trace: TracebackType | None) -> None:
+        self.close()
+
+    def close(self) -> None:
+        """Ends the runs that are left, and closes the day files and the sink."""
+        for run in self.runs:
+            run.stop()
+        self.sink.close()
+        self.files.close()
+        self.room.cleanup()
+
+    def now(self) -> int:
+        """Returns the time of the clock, which a line has set."""
+        assert self.clock.time is not None
+        return self.clock.time
 
     # the lines
 
-    def restart(self):
-        """Reads the day files of before for the clock and the vessels, and opens the windows that hold the clock."""
+    def restart(self) -> None:
+        """Reads the earlier day files for the clock and the vessels, and opens the windows that hold the clock."""
         for day in self.files.days()[-2:]:
             offset = 0
             for line in lines_of(self.files.path(day)):
@@ -77,32 +113,34 @@ class Follow:
                     self.hear(line)
                 offset += len(line)
         if self.clock.time is not None:
-            for start in range(self.undone(), self.clock.time, self.numbers.every * self.numbers.tick):
+            for start in range(self.undone(), self.now(), self.numbers.every * self.numbers.tick):
                 self.begin_window(start, True)          # a run that was killed may have been behind the clock
             self.open(again=True)
             self.close_those_over()
 
-    def undone(self):
-        """The start of the first window of which a run before this one has not told all; where none is told, now."""
+    def undone(self) -> int:
+        """Returns the start of the first window of which an earlier run has not written all rows; if none is stored, the clock."""
         try:
             with open(self.state, encoding="utf-8") as source:
                 return int(json.load(source)["first"])
         except (OSError, ValueError, KeyError, TypeError):
-            return self.clock.time
+            return self.now()
 
-    def tell_done(self):
-        """Keeps for a restart which windows are not done yet."""
+    def tell_done(self) -> None:
+        """Stores for a restart which windows are not done yet."""
         starts = [run.window.start for run in self.runs] + list(self.windows)
         if starts and min(starts) != self.first:
             self.first = min(starts)
             replace(self.state, json.dumps({"first": self.first}).encode())
 
-    def hear(self, line):
+    def hear(self, line: bytes) -> None:
+        """Notes which vessel a line is of."""
         mmsi = self.senders.of(line)
         if mmsi is not None and LEAST <= mmsi <= MOST:
-            self.heard[mmsi] = self.clock.time
+            self.heard[mmsi] = self.now()
 
-    def take(self, lines):
+    def take(self, lines: list[bytes]) -> None:
+        """Takes lines: writes them to the day files, and begins and ends windows."""
         for line in lines:
             line = stamped(line.rstrip(b"\r\n"), int(time.time())) + b"\n" if self.given.now else line
             before = self.clock.time
@@ -118,19 +156,19 @@ class Follow:
         self.take_in_new(False)
         self.tell_done()
 
-    def open(self, again):
+    def open(self, again: bool) -> None:
         """Begins the windows that are open by now."""
-        for start in self.numbers.starts(self.clock.time):
+        for start in self.numbers.starts(self.now()):
             if start not in self.windows and start not in self.over:
                 self.begin_window(start, again)
 
-    def place_of(self, at):
-        """A place in the day files before which no line has a time as late as this."""
+    def place_of(self, at: int) -> Mark:
+        """Returns a place in the day files before which no line has a time as late as this."""
         marks = [mark for mark in self.marks if mark <= at // MARK]
         return self.marks[max(marks)] if marks else self.files.beginning(at)
 
-    def begin_window(self, start, again):
-        """Begins the runs of a window, with the lines from now on, or with those of the day files before too."""
+    def begin_window(self, start: int, again: bool) -> None:
+        """Begins the runs of a window, with the lines from now on; with `again` also with those of the day files before."""
         place = self.place_of(start - self.numbers.gap) if again or self.files.out is None else self.files.place()
         self.written.load(start)
         window = self.windows[start] = Window(start, place)
@@ -140,110 +178,116 @@ class Follow:
             for mode in self.given.modes:
                 self.begin(window, mode, None)
 
-    def close_those_over(self):
+    def close_those_over(self) -> None:
+        """Ends the runs of windows that no later line can change."""
+        if self.clock.time is None:
+            return
         for start, window in list(self.windows.items()):
-            if self.numbers.is_over(start, self.clock.time):
+            if self.numbers.is_over(start, self.now()):
                 self.take_in_new(True)
                 for run in [run for run in self.runs if run.window is window]:
-                    run.end_at(self.files.place(), self.clock.time, False)
+                    run.end_at(self.files.place(), self.now(), False)
                 self.over.add(start)
                 del self.windows[start]
-        oldest = min(self.windows, default=self.clock.time) - 2 * self.numbers.ticks * self.numbers.tick
+        oldest = min(self.windows, default=self.now()) - 2 * self.numbers.ticks * self.numbers.tick
         self.over = {start for start in self.over if start >= oldest}
         self.heard = {mmsi: at for mmsi, at in self.heard.items() if at >= oldest}
         self.written.forget(oldest)
 
     # the runs
 
-    def begin(self, window, mode, group):
-        name = os.path.join(self.room.name, "%s.toml" % next(NAMES))
+    def begin(self, window: Window, mode: str, group: frozenset[int] | None) -> None:
+        """Begins a run."""
+        name = os.path.join(self.room.name, f"{next(NAMES)}.toml")
         with open(name, "w", encoding="utf-8") as out:
             out.write(self.scenario.with_subjects(sorted(group) if group else None))
-        words = [self.program, mode, name, "--start=%d" % window.start, "--ticks=%d" % self.numbers.ticks]
+        words = [self.program, mode, name, f"--start={window.start}", f"--ticks={self.numbers.ticks}"]
         self.runs.add(StreamRun(words, window, mode, group, self.files, self.events.put))
 
-    def vessels(self, window):
-        """Who can be a subject of a window: the scenario's subjects, or who was heard since its lines began."""
+    def vessels(self, window: Window) -> set[int]:
+        """Returns who can be a subject of a window: the scenario's subjects, or who was heard since its lines began."""
         return set(self.scenario.subjects) or {mmsi for mmsi, at in self.heard.items() if at >= window.start - self.numbers.gap}
 
-    def split(self, window, vessels, modes=None):
-        """Runs of groups of subjects in place of one of all pairs."""
-        window.grouped = self.grouped = True
-        size = min(self.given.group, 64)
-        window.heard |= set(vessels)
+    def split(self, window: Window, vessels: list[int], modes: Collection[str] = ()) -> None:
+        """Begins runs of groups of subjects instead of one of all pairs."""
+        self.grouped = True
+        window.add_groups(vessels)
+        size = min(self.given.group, MOST_SUBJECTS)
         for mode in modes or self.given.modes:
             for k in range(0, len(vessels), size):
                 self.begin(window, mode, frozenset(vessels[k:k + size]))
 
-    def take_in_new(self, all_of_them):
-        """Runs for the vessels that are in no group of a window that is split."""
-        if self.looked is not None and not all_of_them and self.clock.time < self.looked + NEW:
+    def take_in_new(self, all_of_them: bool) -> None:
+        """Begins runs for the vessels that are in no group of a window that is split."""
+        if self.clock.time is None or self.looked is not None and not all_of_them and self.now() < self.looked + NEW:
             return
-        self.looked = self.clock.time
+        self.looked = self.now()
         for window in self.windows.values():
             if window.grouped:
                 new = self.vessels(window) - window.heard
                 if new:
                     self.split(window, sorted(new))
 
-    def ended(self, run, words):
+    def ended(self, run: StreamRun, words: str) -> None:
+        """Takes the end of a run."""
         self.runs.discard(run)
         status = run.child.returncode
         if status == 7 and "pairs" in words:
             self.split_at_limit(run)
         elif status != 0:
-            self.fault("a run of `%s` from %d ended with status %d, %s" % (run.mode, run.window.start, status, words))
+            self.fault(f"a run of `{run.mode}` from {run.window.start} ended with status {status}, {words}")
 
-    def split_at_limit(self, run):
-        """A run with too many pairs becomes runs of groups, and a group becomes two."""
+    def split_at_limit(self, run: StreamRun) -> None:
+        """Splits a run with too many pairs into runs of groups, and a group into two."""
         vessels = sorted(run.group or self.vessels(run.window))
         if len(vessels) < 2:
-            self.fault("one vessel alone meets too many: %s" % vessels)
+            self.fault(f"one vessel alone meets too many: {vessels}")
             return
         before = set(self.runs)
         if run.group is None:
-            self.say("more than 4096 pairs in the window from %d: it is split by subjects" % run.window.start)
+            self.say(f"more than 4096 pairs in the window from {run.window.start}: it is split by subjects")
             self.split(run.window, vessels, [run.mode])
         else:
             for half in (vessels[:len(vessels) // 2], vessels[len(vessels) // 2:]):
                 self.begin(run.window, run.mode, frozenset(half))
-        if run.limit:
+        if run.limit and run.closed is not None:
             for new in self.runs - before:
                 new.end_at(run.limit, run.closed, run.cut)
 
     # the rows
 
-    def row(self, run, row):
+    def row(self, run: StreamRun, row: str) -> None:
+        """Writes a row if it is of its window's own steps, and settled."""
         numbers, start = self.numbers, run.window.start
         first, last = steps_of(row)
         fields = row.split(",", 3)
         if not run.is_mine(int(fields[1]), int(fields[2]), self.scenario.subjects):
             return
-        if run.cut and last > numbers.settled(start, run.closed, run.mode):
+        if run.cut and run.closed is not None and last > numbers.settled(start, run.closed, run.mode):
             return                                      # what comes later may still change it
         if last > numbers.last and first < numbers.every + numbers.warm:
             self.tell_long(run, row)
         if numbers.behind < last <= numbers.last or last > numbers.last and self.is_last(run):
             self.written.write(row, run.mode, start, numbers.tick)
 
-    def tell_long(self, run, row):
-        """Says once in a run that a row is longer than the overlap."""
-        if not run.long:
-            self.say("a row of the window from %d is longer than the overlap, so the next window tells it otherwise: %s" % (run.window.start, row))
-        run.long = True
+    def tell_long(self, run: StreamRun, row: str) -> None:
+        """Reports once per run that a row is longer than the overlap."""
+        if run.note_long():
+            self.say(f"a row of the window from {run.window.start} is longer than the overlap, so the next window tells it otherwise: {row}")
 
-    def is_last(self, run):
-        """Whether a run is of the last window of a stream that ended for good."""
+    def is_last(self, run: StreamRun) -> bool:
+        """Returns whether a run is of the last window of a stream that ended for good."""
         following = run.window.start + self.numbers.every * self.numbers.tick - self.numbers.gap
         return self.given.whole and run.closed is not None and following > run.closed
 
-    def is_early(self, run):
-        """Whether a window before this run's is not done: its rows come first, and none that comes later delays them."""
+    def is_early(self, run: StreamRun) -> bool:
+        """Returns whether a window before this run's is not done: its rows come first, and none that comes later delays them."""
         return any(other.mode == run.mode and other.window.start < run.window.start for other in self.runs)
 
-    def handle(self, event):
+    def handle(self, event: tuple[Any, ...]) -> None:
+        """Takes a row or the end of a run."""
         if event[0] == "row" and self.is_early(event[1]):
-            self.held.append(event[1:])
+            self.held.append((event[1], event[2]))
         elif event[0] == "row":
             self.row(*event[1:])
         elif event[0] == "ended":
@@ -256,12 +300,13 @@ class Follow:
 
     # the whole
 
-    def run(self, source, stop):
-        """Takes the stream to its end, or until `stop` is set."""
+    def run(self, source: Source, stop: threading.Event) -> int:
+        """Takes the stream to its end, or until `stop` is set; returns the exit status."""
         room = threading.Semaphore(WAITING)
         self.restart()
         threading.Thread(target=self.read, args=(source, room), daemon=True).start()
-        waiting, ended = [], False
+        waiting: list[tuple[Any, ...]] = []
+        ended = False
         while not stop.is_set() and not (ended and not waiting):
             if waiting and len(self.runs) < MOST_RUNS * len(self.given.modes) or waiting and not self.crowded():
                 lines, mark = waiting.pop(0)
@@ -280,19 +325,21 @@ class Follow:
                 self.handle(event)
         source.stop()
         self.finish()
-        return 1 if self.faults else 0
+        return FAILED if self.faults else DONE
 
-    def crowded(self):
-        """Whether runs that only have to end are many: those of open windows are no reason to wait."""
+    def crowded(self) -> bool:
+        """Returns whether many runs only have to end: those of open windows are no reason to wait."""
         return sum(run.limit is not None for run in self.runs) >= MOST_RUNS
 
-    def next(self, wait):
+    def next(self, wait: bool) -> tuple[Any, ...] | None:
+        """Returns the next event, or None if there is none for a while."""
         try:
             return self.events.get(timeout=0.2 if wait else 0.001)
         except queue.Empty:
             return None
 
-    def read(self, source, room):
+    def read(self, source: Source, room: threading.Semaphore) -> None:
+        """Hands on the lines of the source."""
         try:
             for lines, mark in source.lines():
                 room.acquire()
@@ -301,25 +348,25 @@ class Follow:
         except (Fault, OSError) as error:
             self.events.put(("end", error))
 
-    def finish(self):
-        """Ends all runs; of a stream that goes on some time only the rows that are settled are written."""
+    def finish(self) -> None:
+        """Ends all runs; if the stream continues some time, only the rows that are settled are written."""
         self.cut = not self.given.whole
         if self.clock.time is not None:
             self.take_in_new(True)
             for run in self.runs:
                 if run.limit is None:
-                    run.end_at(self.files.place(), self.clock.time, not self.given.whole)
+                    run.end_at(self.files.place(), self.now(), not self.given.whole)
         while self.runs:
             event = self.next(True)
             if event and event[0] in ("row", "ended"):
                 self.handle(event)
-        self.sink.close()
-        self.room.cleanup()
 
-    def say(self, words):
-        print("follow: " + words, file=sys.stderr, flush=True)
+    def say(self, words: str) -> None:
+        """Writes one line on standard error."""
+        report("follow", words)
 
-    def fault(self, words):
+    def fault(self, words: str) -> None:
+        """Reports what failed; the stream is followed further."""
         self.faults += 1
         self.say(words)
 

@@ -3,70 +3,90 @@ import json
 import os
 import subprocess
 import sys
+from typing import Any, Protocol
 
-from colregs.stream.day_files import day_of, whole_length
+from colregs.errors import Fault, reason
 from colregs.model.earth import iso
-from colregs.errors import Fault
+from colregs.model.rows import Alarm, Meeting, Verdict, row_of
+from colregs.stream.day_files import day_of, whole_length
 
 
-def told(row, mode, start, tick):
-    """A row of the program as a dictionary, with times in place of steps. `row` and `run` are as the program told them."""
-    fields = row.split(",")
-    made = {"mode": mode, "run": start, "row": row, "kind": fields[0], "subject": int(fields[1]), "other": int(fields[2])}
-    if fields[0] == "meeting":
-        made |= {"encounter": fields[3], "least": int(fields[6]) / 10000}
-        steps = int(fields[4]), int(fields[5])
-    elif fields[0] == "verdict":
-        made |= {"rule": fields[3], "value": fields[4]}
-        steps = int(fields[5]), int(fields[6])
+def as_values(text: str, mode: str, start: int, tick: int) -> dict[str, Any]:
+    """Returns a row of the program as a dictionary, with times instead of steps; `row` and `run` are as the program has them."""
+    row = row_of(text.split(","))
+    if not isinstance(row, (Meeting, Verdict, Alarm)):
+        raise ValueError(f"`{text}` is no row of a stream")
+    made: dict[str, Any] = {"mode": mode, "run": start, "row": text, "kind": text.partition(",")[0], "subject": row.subject, "other": row.other}
+    if isinstance(row, Alarm):
+        return made | {"rule": row.rule, "step": iso(start + row.step * tick), "decided": iso(start + (row.decided + 1) * tick)}
+    if isinstance(row, Meeting):
+        made |= {"encounter": row.kind, "least": row.least}
     else:
-        made |= {"rule": fields[3]}
-        steps = int(fields[4]), int(fields[5])
-        return made | {"step": iso(start + steps[0] * tick), "decided": iso(start + (steps[1] + 1) * tick)}
-    return made | {"begins": iso(start + steps[0] * tick), "ends": iso(start + (steps[1] + 1) * tick)}
+        made |= {"rule": row.rule, "value": row.value}
+    return made | {"begins": iso(start + row.first * tick), "ends": iso(start + (row.last + 1) * tick)}
 
 
-def steps_of(row):
-    """The first step of a row and the one by which it is ordered: its last, or the one that decides an alarm."""
-    fields = row.split(",")
+def steps_of(text: str) -> tuple[int, int]:
+    """Returns the first step of a row and the one by which it is ordered: its last, or the one that decides an alarm."""
+    fields = text.split(",")
     at = 5 if fields[0] == "verdict" else 4
     return int(fields[at]), int(fields[at + 1])
 
 
+class Sink(Protocol):
+    """Where rows go."""
+
+    def write(self, line: str) -> None:
+        """Writes one line."""
+
+    def close(self) -> None:
+        """Writes what is left, and ends."""
+
+
 class Standard:
-    def write(self, line):
+    """Standard output."""
+
+    def write(self, line: str) -> None:
+        """Writes one line at once."""
         sys.stdout.write(line)
         sys.stdout.flush()
 
-    def close(self):
-        pass
+    def close(self) -> None:
+        """Does nothing: the process closes standard output."""
 
 
 class File:
-    def __init__(self, path):
+    """A file that rows are added to."""
+
+    def __init__(self, path: str) -> None:
         try:
             self.out = open(path, "a", encoding="utf-8")
         except OSError as error:
-            raise Fault("%s: %s" % (path, error.strerror)) from None
+            raise Fault(f"{path} cannot be written: {reason(error)}") from None
 
-    def write(self, line):
+    def write(self, line: str) -> None:
+        """Writes one line at once."""
         self.out.write(line)
         self.out.flush()
 
-    def close(self):
+    def close(self) -> None:
+        """Closes the file."""
         self.out.close()
 
 
 class Command:
-    """A command of the shell that reads rows, and is begun again once where it has ended."""
+    """A command of the shell that reads rows; if it has ended, it is started again once per row."""
 
-    def __init__(self, words):
-        self.words, self.child = words, None
+    def __init__(self, words: str) -> None:
+        self.words = words
+        self.child: subprocess.Popen[str] | None = None
 
-    def write(self, line):
+    def write(self, line: str) -> None:
+        """Writes one line at once."""
         for again in (True, False):
             if self.child is None:
                 self.child = subprocess.Popen(["sh", "-c", self.words], stdin=subprocess.PIPE, text=True)
+            assert self.child.stdin is not None
             try:
                 self.child.stdin.write(line)
                 self.child.stdin.flush()
@@ -75,10 +95,11 @@ class Command:
                 self.child.wait()
                 self.child = None
                 if not again:
-                    raise Fault("`%s` takes no rows" % self.words) from None
+                    raise Fault(f"`{self.words}` takes no rows") from None
 
-    def close(self):
-        if self.child:
+    def close(self) -> None:
+        """Ends the command's input, and waits for its end."""
+        if self.child and self.child.stdin:
             try:
                 self.child.stdin.close()
             except OSError:
@@ -89,13 +110,17 @@ class Command:
 class Written:
     """The rows that were written, by mode and window; each goes to the sink and then into the day's file, which a restart reads."""
 
-    def __init__(self, folder, sink):
-        self.folder, self.sink, self.known, self.read = folder, sink, {}, set()
+    def __init__(self, folder: str, sink: Sink) -> None:
+        self.folder, self.sink = folder, sink
+        self.known: dict[tuple[str, int], set[str]] = {}
+        self.read: set[str] = set()
 
-    def path(self, start):
+    def path(self, start: int) -> str:
+        """Returns the file of the rows of the day on which a window starts."""
         return os.path.join(self.folder, day_of(start) + ".rows")
 
-    def load(self, start):
+    def load(self, start: int) -> None:
+        """Reads the rows of a window's day, once."""
         path = self.path(start)
         if path in self.read:
             return
@@ -107,17 +132,18 @@ class Written:
                     row = json.loads(line)
                     self.known.setdefault((row["mode"], row["run"]), set()).add(row["row"])
 
-    def write(self, row, mode, start, tick):
+    def write(self, row: str, mode: str, start: int, tick: int) -> None:
+        """Writes a row that was not written yet."""
         self.load(start)
         known = self.known.setdefault((mode, start), set())
         if row in known:
             return
         known.add(row)
-        line = json.dumps(told(row, mode, start, tick)) + "\n"
+        line = json.dumps(as_values(row, mode, start, tick)) + "\n"
         self.sink.write(line)
         with open(self.path(start), "a", encoding="utf-8") as out:
             out.write(line)
 
-    def forget(self, before):
+    def forget(self, before: int) -> None:
         """Forgets the windows that began before a time."""
         self.known = {key: rows for key, rows in self.known.items() if key[1] >= before}

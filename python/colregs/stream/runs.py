@@ -1,6 +1,10 @@
 """A run of the program over a window of a stream: fed from the day files as they grow, its rows handed on as they come."""
 import subprocess
 import threading
+from collections.abc import Callable, Collection
+from typing import Any
+
+from colregs.stream.day_files import DayFiles, Mark
 
 PAUSE = 0.05                     # s between looks at a file that does not grow
 
@@ -8,27 +12,43 @@ PAUSE = 0.05                     # s between looks at a file that does not grow
 class Window:
     """A window of a stream: its start, and where its lines begin in the day files."""
 
-    def __init__(self, start, place):
-        self.start, self.place, self.grouped, self.heard = start, place, False, set()
+    def __init__(self, start: int, place: Mark) -> None:
+        self.start, self.place, self.grouped = start, place, False
+        self.heard: set[int] = set()                    # who is in a group
+
+    def add_groups(self, vessels: Collection[int]) -> None:
+        """Takes vessels whose groups run from now on."""
+        self.grouped = True
+        self.heard |= set(vessels)
 
 
 class StreamRun:
     """The program in one mode over one window, with all pairs or those of a group of subjects."""
 
-    def __init__(self, words, window, mode, group, files, rows):
+    def __init__(self, words: list[str], window: Window, mode: str, group: frozenset[int] | None, files: DayFiles,
+                 rows: Callable[[tuple[Any, ...]], None]) -> None:
         self.window, self.mode, self.group = window, mode, group
-        self.limit, self.closed, self.cut, self.long = None, None, False, False
-        self.child = subprocess.Popen(words, stdin=subprocess.PIPE, stdout=subprocess.PIPE, stderr=subprocess.PIPE)
+        self.limit: Mark | None = None                  # where its log ends
+        self.closed: int | None = None                  # and where the clock is there
+        self.cut, self.long = False, False
+        self.child: subprocess.Popen[bytes] = subprocess.Popen(words, stdin=subprocess.PIPE, stdout=subprocess.PIPE, stderr=subprocess.PIPE)
         self.threads = [threading.Thread(target=work, args=(files, rows), daemon=True) for work in (self.feed, self.read)]
         for thread in self.threads:
             thread.start()
 
-    def end_at(self, place, clock, cut):
-        """The log of this run ends at a place, where the clock is at a time; `cut` says that the stream itself goes on some time."""
+    def end_at(self, place: Mark, clock: int, cut: bool) -> None:
+        """Ends the log of this run at a place, where the clock is at a time; `cut` says that the stream continues some time."""
         self.limit, self.closed, self.cut = place, clock, cut
 
-    def feed(self, files, _):
+    def note_long(self) -> bool:
+        """Notes that a row of this run is longer than the overlap; returns whether this is the first."""
+        first, self.long = not self.long, True
+        return first
+
+    def feed(self, files: DayFiles, _: object) -> None:
+        """Writes the lines of the day files to the program as they grow."""
         waiting = threading.Event()
+        assert self.child.stdin is not None
         try:
             for block in files.blocks(self.window.place, lambda: self.limit):
                 if block:
@@ -42,22 +62,26 @@ class StreamRun:
         except (BrokenPipeError, ValueError, OSError):
             pass                                        # the program has ended, which `read` tells
 
-    def read(self, _, rows):
-        error = []
-        listener = threading.Thread(target=lambda: error.append(self.child.stderr.read()), daemon=True)
+    def read(self, _: object, rows: Callable[[tuple[Any, ...]], None]) -> None:
+        """Hands on the program's rows, and then how it ended."""
+        error: list[bytes] = []
+        stdout, stderr = self.child.stdout, self.child.stderr
+        assert stdout is not None and stderr is not None
+        listener = threading.Thread(target=lambda source: error.append(source.read()), args=(stderr,), daemon=True)
         listener.start()
-        for line in self.child.stdout:
+        for line in stdout:
             if line.startswith((b"meeting,", b"verdict,", b"alarm,")):
                 rows(("row", self, line.decode().rstrip("\n")))
         self.child.wait()
         listener.join()
         rows(("ended", self, b"".join(error).decode("utf-8", "replace").strip()))
 
-    def is_mine(self, subject, other, own):
-        """Whether a row is this run's to tell: its subject is in the group, or is no subject at all and the other is."""
+    def is_mine(self, subject: int, other: int, own: Collection[int]) -> bool:
+        """Returns whether a row is this run's to report: its subject is in the group, or is no subject at all and the other is."""
         return self.group is None or subject in self.group or bool(own) and subject not in own and other in self.group
 
-    def stop(self):
+    def stop(self) -> None:
+        """Kills the program."""
         if self.child.poll() is None:
             self.child.kill()
         self.child.wait()

@@ -4,15 +4,34 @@ import os
 import subprocess
 import sys
 import time
+from collections.abc import Iterable, Iterator
+from typing import BinaryIO, Protocol
 
-from colregs.errors import Fault
+from colregs.errors import Fault, report
 from colregs.io.files import replace
 
 BLOCK, PAUSE, AGAIN = 1 << 16, 0.2, 5     # bytes of a read; s between looks at a file; s before a command is begun again
 
 
-def lines_of_blocks(blocks):
-    """Lists of whole lines as they come, each with a mark that is none; what is behind the last line feed waits."""
+Mark = dict[str, int] | None                 # what a restart needs to know of the lines taken
+Lines = tuple[list[bytes], Mark]
+
+
+class Source(Protocol):
+    """Where a stream comes from."""
+
+    def lines(self) -> Iterator[Lines]:
+        """Yields lists of whole lines as they arrive, each with a mark for `done`."""
+
+    def done(self, mark: Mark) -> None:
+        """Notes that the lines up to a mark are taken."""
+
+    def stop(self) -> None:
+        """Stops what writes the stream."""
+
+
+def lines_of_blocks(blocks: Iterable[bytes]) -> Iterator[Lines]:
+    """Yields lists of whole lines as they arrive, without a mark; what is after the last line feed waits."""
     rest = b""
     for block in blocks:
         lines = (rest + block).split(b"\n")
@@ -23,42 +42,50 @@ def lines_of_blocks(blocks):
             yield [line + b"\n" for line in lines], None
 
 
-def blocks_of(descriptor):
+def blocks_of(descriptor: int) -> Iterator[bytes]:
+    """Yields blocks as they arrive."""
     while block := os.read(descriptor, BLOCK):
         yield block
 
 
 class Standard:
-    def lines(self):
+    """Standard input."""
+
+    def lines(self) -> Iterator[Lines]:
+        """Yields the lines of standard input."""
         return lines_of_blocks(blocks_of(sys.stdin.fileno()))
 
-    def done(self, mark):
-        pass
+    def done(self, mark: Mark) -> None:
+        """Does nothing: nobody reads a line of standard input again."""
 
-    def stop(self):
-        pass
+    def stop(self) -> None:
+        """Does nothing: another process writes standard input."""
 
 
 class Command:
     """A command of the shell, begun again some seconds after its end, unless the stream is to end with it."""
 
-    def __init__(self, words, ends):
-        self.words, self.ends, self.child, self.stopped = words, ends, None, False
+    def __init__(self, words: str, ends: bool) -> None:
+        self.words, self.ends, self.stopped = words, ends, False
+        self.child: subprocess.Popen[bytes] | None = None
 
-    def lines(self):
+    def lines(self) -> Iterator[Lines]:
+        """Yields the lines that the command writes."""
         while True:
             self.child = subprocess.Popen(["sh", "-c", self.words], stdout=subprocess.PIPE, stdin=subprocess.DEVNULL, start_new_session=True)
+            assert self.child.stdout is not None
             yield from lines_of_blocks(blocks_of(self.child.stdout.fileno()))
             self.child.wait()
             if self.ends or self.stopped:
                 return
-            print("follow: `%s` ended with status %d, and is begun again" % (self.words, self.child.returncode), file=sys.stderr)
+            report("follow", f"`{self.words}` ended with status {self.child.returncode}, and is started again")
             time.sleep(AGAIN)
 
-    def done(self, mark):
-        pass
+    def done(self, mark: Mark) -> None:
+        """Does nothing: a command writes no line again."""
 
-    def stop(self):
+    def stop(self) -> None:
+        """Stops the command."""
         self.stopped = True
         if self.child and self.child.poll() is None:
             os.killpg(self.child.pid, 15)
@@ -67,22 +94,23 @@ class Command:
 class File:
     """A file that grows; where it is replaced or cut off, the new one is read from its beginning. A restart goes on behind the lines taken."""
 
-    def __init__(self, path, state, ends):
+    def __init__(self, path: str, state: str, ends: bool) -> None:
         self.path, self.state, self.ends = path, state, ends
         if not os.path.exists(path):
-            raise Fault("%s is not there" % path)
+            raise Fault(f"{path} is not there")
 
-    def place(self):
-        """Where a run before this one stopped, in the file that is there now."""
+    def place(self) -> int:
+        """Returns where a run before this one stopped, if the file is the same."""
         try:
             with open(self.state, encoding="utf-8") as source:
                 told = json.load(source)
             about = os.stat(self.path)
-            return told["offset"] if told["inode"] == about.st_ino and told["offset"] <= about.st_size else 0
+            return int(told["offset"]) if told["inode"] == about.st_ino and told["offset"] <= about.st_size else 0
         except (OSError, ValueError, KeyError, TypeError):
             return 0
 
-    def lines(self):
+    def lines(self) -> Iterator[Lines]:
+        """Yields the lines of the file as it grows."""
         offset = self.place()
         while True:
             with open(self.path, "rb") as source:
@@ -95,8 +123,8 @@ class File:
                 return
             offset = 0
 
-    def growing(self, source, inode):
-        """The blocks of a file until another stands in its place, or it was cut off."""
+    def growing(self, source: BinaryIO, inode: int) -> Iterator[bytes]:
+        """Yields the blocks of a file until another file replaces it, or it is cut off."""
         while True:
             block = source.read(BLOCK)
             if block:
@@ -113,9 +141,9 @@ class File:
                 yield source.read()
                 return
 
-    def done(self, mark):
-        """Tells a restart how far the lines were taken."""
+    def done(self, mark: Mark) -> None:
+        """Stores for a restart how far the lines were taken."""
         replace(self.state, json.dumps(mark).encode())
 
-    def stop(self):
-        pass
+    def stop(self) -> None:
+        """Does nothing: reading a file needs no process."""
