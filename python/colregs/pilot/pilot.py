@@ -1,0 +1,101 @@
+"""The loop of the pilot, one step at a time: the window, the question, the answer and the decision. Live streams and trials run this code."""
+from __future__ import annotations
+
+from dataclasses import dataclass
+from typing import Protocol
+
+from colregs.pilot.planner import Patience, Planner, Question
+from colregs.pilot.scenario import MOST_TICKS, PilotScenario, Window
+from colregs.pilot.situation import Meeting, Sighting, lasting_meetings, latest_sightings
+from colregs.pilot.states import Answer, Cause, Decision, Memory, Track, decide
+
+LONG = 1800            # s: a window this long is cut to the meetings that last, if nobody asked for them before
+BEFORE = 6             # ticks that a window begins before the oldest meeting that lasts
+
+
+class Log(Protocol):
+    """Sentences by their times."""
+
+    def begins(self) -> int | None:
+        """Returns the time of the oldest line, if there is one."""
+        ...
+
+    def log(self, begins: int, ends: int) -> bytes:
+        """Returns the lines of a stretch of time."""
+        ...
+
+
+@dataclass(frozen=True)
+class Scene:
+    """What the program reads of a window beside a plan: who is where, and which meetings of own ship last."""
+
+    sightings: dict[int, Sighting]
+    meetings: list[Meeting]
+
+
+class Pilot:
+    """Own ship's pilot: asked at each moment, it answers with a decision, and remembers the plan that it follows."""
+
+    def __init__(self, scenario: PilotScenario, planner: Planner, history: int) -> None:
+        """Takes the scenario, the planner, and how many seconds a window reaches back at most."""
+        self.scenario, self.planner = scenario, planner
+        self.history = min(history, MOST_TICKS * scenario.tick)
+        self.memory, self.start, self.window = Memory(), -1, Window(0, scenario.tick, 1)
+        self.cut = False           # whether a meeting that lasts began before the window
+
+    def open_window(self, log: Log, now: int) -> Window:
+        """Returns the window that ends at the last tick up to now. Ticks lie at whole multiples since the Unix epoch, so windows agree."""
+        tick = self.scenario.tick
+        end = now // tick * tick
+        first = log.begins()
+        if self.start < 0 or self.start >= end:
+            self.start = (end if first is None else min(first, end)) // tick * tick - tick
+        self.start = max(self.start, (end - self.history) // tick * tick)
+        self.window = Window(self.start, tick, max(1, (end - self.start) // tick))
+        return self.window
+
+    def lines(self, log: Log, window: Window) -> bytes:
+        """Returns the lines that the program may read in a window: from a gap before its first tick on."""
+        return log.log(window.start - self.scenario.gap, window.ends)
+
+    def scene(self, log: Log, now: int, patience: Patience) -> Scene:
+        """Returns who is where and which meetings last, and cuts the window to these."""
+        window = self.open_window(log, now)
+        lines = self.lines(log, window)
+        text = self.scenario.text(window, subjects=(self.scenario.own,))
+        points = self.planner.runner.report("points", text, lines, timeout=patience.left())
+        meetings = self.lasting(window, lines, text, patience)
+        return Scene(latest_sightings(points) if points.status == 0 else {}, meetings)
+
+    def lasting(self, window: Window, lines: bytes, text: str, patience: Patience) -> list[Meeting]:
+        """Returns own ship's meetings that last, and lets the next window begin before the oldest one."""
+        audit = self.planner.runner.report("audit", text, lines, timeout=patience.left())
+        if audit.status != 0:
+            return []
+        meetings = lasting_meetings(audit, self.scenario.own, window, self.scenario.gap)
+        begins = min([meeting.begins for meeting in meetings] + [window.ends - self.scenario.gap]) - BEFORE * window.tick
+        self.cut = any(meeting.begins <= window.start for meeting in meetings) and window.ends - window.start >= self.history
+        self.start = max(self.start, begins // window.tick * window.tick)
+        return meetings
+
+    def shorten(self, log: Log, now: int, patience: Patience) -> None:
+        """Cuts a long window to the meetings that last. The plan is the same with either: no meeting that lasts began before."""
+        window = self.open_window(log, now)
+        if window.ends - window.start > LONG:
+            text = self.scenario.text(window, subjects=(self.scenario.own,))
+            self.lasting(window, self.lines(log, window), text, patience)
+
+    def step(self, log: Log, now: int, track: Track, reported: Track | None, seconds: float = 60, recheck: bool = True) -> Decision:
+        """Returns the decision at a time for a track. `reported` is own ship's course and speed of her latest report."""
+        window = self.open_window(log, now)
+        answer = self.planner.ask(Question(window, self.lines(log, window), track, reported, seconds), recheck)
+        return self.settle(answer, window.ends, track)
+
+    def stalled(self, now: int, track: Track, words: str) -> Decision:
+        """Returns the decision where the input brings nothing new, without a question to the program."""
+        return self.settle(Answer(cause=Cause.STALE, words=words), now, track)
+
+    def settle(self, answer: Answer, now: int, track: Track) -> Decision:
+        """Returns the decision after an answer, and remembers it."""
+        self.memory, decision = decide(self.memory, answer, now, track)
+        return decision

@@ -1,0 +1,77 @@
+"""Runs the program on a scenario and a log that are in memory: one small interface, so that a library can take the place of a process."""
+from __future__ import annotations
+
+import os
+import subprocess
+import tempfile
+import time
+from dataclasses import dataclass
+from typing import Protocol
+
+MISSING, NO_ANSWER = 127, 124       # statuses of our own: the program cannot be started; it gave no answer in time
+
+
+@dataclass(frozen=True)
+class Report:
+    """What a run wrote: its status (docs/REPORT.md; negative if a signal ended it), its rows, its words, and its seconds."""
+
+    status: int
+    text: str
+    words: str
+    seconds: float
+
+    def rows(self, kind: str) -> list[list[str]]:
+        """Returns the fields of each row of a kind. Only a vessel's name may hold a comma, and its row is not split here."""
+        head = kind + ","
+        return [line.split(",") for line in self.text.split("\n") if line.startswith(head)]
+
+
+class Runner(Protocol):
+    """Runs one mode on a scenario and a log."""
+
+    def report(self, mode: str, scenario: str, log: bytes, rows: str | None = None, why: bool = False, timeout: float = 60) -> Report:
+        """Returns the report. `rows` is the text that `recheck` checks, `why` asks `plan` for its reasons, `timeout` is in seconds."""
+        ...
+
+
+class ProcessRunner:
+    """Runs the program as a process, with the scenario in a file of a folder of its own."""
+
+    def __init__(self, program: str) -> None:
+        """Takes the path of the built program."""
+        self.program = program
+        self.room = tempfile.TemporaryDirectory(prefix="colregs-")
+
+    def close(self) -> None:
+        """Removes the folder."""
+        self.room.cleanup()
+
+    def file(self, name: str, text: str) -> str:
+        """Writes a text into the folder, and returns its path."""
+        path = os.path.join(self.room.name, name)
+        with open(path, "w", encoding="utf-8") as out:
+            out.write(text)
+        return path
+
+    def report(self, mode: str, scenario: str, log: bytes, rows: str | None = None, why: bool = False, timeout: float = 60) -> Report:
+        """Returns the report of one process. A process that ends by a signal, hangs or is missing gives a status with words, and no fault."""
+        begin = time.monotonic()
+        try:
+            words = [self.program, mode, self.file("scenario.toml", scenario)]
+            words += (["--rows", self.file("rows.csv", rows)] if rows is not None else []) + (["--why"] if why else [])
+            done = subprocess.run(words, input=log, stdout=subprocess.PIPE, stderr=subprocess.PIPE, timeout=timeout)
+        except subprocess.TimeoutExpired:
+            return Report(NO_ANSWER, "", "the program gave no answer in %.1f s" % timeout, time.monotonic() - begin)
+        except OSError as error:
+            return Report(MISSING, "", "%s cannot be run: %s" % (self.program, (error.strerror or str(error)).lower()), time.monotonic() - begin)
+        told = done.stderr.decode("utf-8", "replace").strip()
+        return Report(done.returncode, done.stdout.decode("utf-8", "replace"), told, time.monotonic() - begin)
+
+
+def status_words(report: Report) -> str:
+    """Returns what a reader should know of a run that gave no answer."""
+    if report.status in (MISSING, NO_ANSWER):
+        return report.words
+    if report.status < 0:
+        return "signal %d ended the program" % -report.status
+    return "the program ended with status %d%s" % (report.status, ": " + report.words if report.words else "")

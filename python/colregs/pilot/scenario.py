@@ -1,0 +1,140 @@
+"""A scenario of the pilot: the numbers of its file, and the text for one moment with a window and choices of its own."""
+from __future__ import annotations
+
+import json
+import tomllib
+from collections.abc import Mapping
+from dataclasses import dataclass
+
+from colregs.errors import Fault
+from colregs.pilot.choices import Choices, Offsets
+
+Values = Mapping[str, object]
+MOST_TICKS = 20000       # docs/SCENARIO.md
+
+
+@dataclass(frozen=True)
+class Window:
+    """A window of time: its start in seconds since the Unix epoch, its tick in seconds, and how many ticks it has."""
+
+    start: int
+    tick: int
+    ticks: int
+
+    @property
+    def ends(self) -> int:
+        """Returns the time of the last tick, which is now, in seconds since the Unix epoch."""
+        return self.start + self.tick * self.ticks
+
+
+def text_of(words: str) -> str:
+    """Returns words as a basic string of TOML, whose escapes are those of JSON, and one more for DEL."""
+    return json.dumps(words, ensure_ascii=False).replace("\x7f", "\\u007f")
+
+
+def scalar_text(value: object) -> str:
+    """Returns a TOML value that is no table: a number, a truth, a text, or a list of such values."""
+    if isinstance(value, bool):
+        return "true" if value else "false"
+    if isinstance(value, (int, float)):
+        return repr(value)
+    if isinstance(value, str):
+        return text_of(value)
+    if isinstance(value, (list, tuple)):
+        return "[%s]" % ", ".join(scalar_text(item) for item in value)
+    if isinstance(value, Mapping):
+        return "{ %s }" % ", ".join("%s = %s" % (text_of(str(key)), scalar_text(item)) for key, item in value.items())
+    return text_of(str(value))
+
+
+def is_table_list(value: object) -> bool:
+    """Returns whether a value is a list of tables, each of which gets a head of its own."""
+    return isinstance(value, list) and bool(value) and all(isinstance(item, Mapping) for item in value)
+
+
+def table_lines(values: Values) -> list[str]:
+    """Returns a line for each key of a table."""
+    return ["%s = %s" % (text_of(key), scalar_text(value)) for key, value in values.items()]
+
+
+def document_text(values: Values) -> str:
+    """Returns values as a TOML document, comments aside: first the keys that are no tables, then the tables."""
+    lines = table_lines({key: value for key, value in values.items() if not isinstance(value, Mapping) and not is_table_list(value)})
+    for key, value in values.items():
+        if isinstance(value, Mapping):
+            lines += ["[%s]" % text_of(key), *table_lines(value)]
+        elif isinstance(value, list) and is_table_list(value):
+            for item in value:
+                lines += ["[[%s]]" % text_of(key), *table_lines(item)]
+    return "\n".join(lines) + "\n"
+
+
+def whole(values: Values, table: str, key: str) -> int:
+    """Returns an integer of a table; a Fault names the key if it is none."""
+    part = values.get(table)
+    value = part.get(key) if isinstance(part, Mapping) else None
+    if not isinstance(value, int) or isinstance(value, bool):
+        raise Fault("scenario: %s.%s is missing or is no integer" % (table, key))
+    return value
+
+
+def whole_list(values: Values, table: str, key: str) -> tuple[int, ...]:
+    """Returns a list of integers of a table; a Fault names the key if it is none."""
+    part = values.get(table)
+    value = part.get(key) if isinstance(part, Mapping) else None
+    if not isinstance(value, list) or not value or not all(isinstance(item, int) and not isinstance(item, bool) for item in value):
+        raise Fault("scenario: %s.%s is missing or is no list of integers" % (table, key))
+    return tuple(value)
+
+
+class PilotScenario:
+    """The numbers of a scenario that the pilot needs, and the scenario as text for one moment."""
+
+    def __init__(self, values: Values, name: str = "scenario") -> None:
+        """Takes the values of a TOML document; a Fault names what is missing."""
+        self.values, self.name = values, name
+        self.tick, self.gap = whole(values, "window", "tick"), whole(values, "log", "gap")
+        if not 1 <= self.tick <= 60:
+            raise Fault("scenario: window.tick: range")
+        self.own = whole(values, "own", "mmsi")
+        self.offsets = Offsets(whole_list(values, "own", "courses"), whole_list(values, "own", "speeds"))
+        self.watch, self.range = whole(values, "detect", "watch"), whole(values, "own", "range")
+        self.base, self.lengths = whole(values, "own", "base"), whole(values, "own", "lengths")
+        self.latitude, self.longitude = whole(values, "reference", "lat"), whole(values, "reference", "lon")
+        self.turn_rate = self.rate("turn_rate", 1800)
+        self.speed_rate = self.rate("speed_rate", 1022)
+
+    @classmethod
+    def read(cls, path: str) -> PilotScenario:
+        """Reads a scenario's file; a Fault says why it cannot be read."""
+        try:
+            with open(path, "rb") as source:
+                return cls(tomllib.loads(source.read().decode("utf-8")), path)
+        except OSError as error:
+            raise Fault(f"{path}: {(error.strerror or str(error)).lower()}") from None
+        except (tomllib.TOMLDecodeError, UnicodeDecodeError) as error:
+            raise Fault(f"{path}: not a TOML text in UTF-8: {error}") from None
+
+    def rate(self, key: str, at_once: int) -> int:
+        """Returns a rate of own ship a tick, which is `at_once` if the scenario has none."""
+        own = self.values["own"]
+        return whole(self.values, "own", key) if isinstance(own, Mapping) and key in own else at_once
+
+    def own_values(self) -> dict[str, object]:
+        """Returns the table of own ship."""
+        own = self.values["own"]
+        return dict(own) if isinstance(own, Mapping) else {}
+
+    def with_own(self, **changes: object) -> PilotScenario:
+        """Returns the scenario with other values in the table of own ship."""
+        return PilotScenario({**self.values, "own": self.own_values() | changes}, self.name)
+
+    def text(self, window: Window, choices: Choices | None = None, subjects: tuple[int, ...] = ()) -> str:
+        """Returns the scenario for a window, with own ship's choices and with subjects if there are any."""
+        values: dict[str, object] = {key: value for key, value in self.values.items() if key != "subjects"}
+        values["window"] = {"start": window.start, "tick": self.tick, "ticks": window.ticks}
+        if subjects:
+            values["subjects"] = list(subjects)
+        if choices is not None:
+            values["own"] = self.own_values() | {"courses": list(choices.courses), "speeds": list(choices.speeds)}
+        return document_text(values)

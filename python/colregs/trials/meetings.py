@@ -1,0 +1,76 @@
+"""Meetings drawn from a seed: where the others begin, so that they would come near own ship if all kept on."""
+from __future__ import annotations
+
+import math
+import random
+from dataclasses import dataclass
+
+from colregs.pilot.motion import Place, velocity
+from colregs.pilot.scenario import PilotScenario, whole
+from colregs.pilot.states import Track
+
+OWN_LENGTH = 100           # m
+FIRST_OTHER = 200000100    # the MMSI of the first of the others
+SHORTEST, LONGEST = 600.0, 2400.0      # s until two that keep on are nearest
+EARLIER = 1.2              # the others begin so much farther off than the watch or the horizon reach, so that no meeting has begun
+MISS = 150                 # m: the standard deviation of the place at which another would be nearest
+
+
+@dataclass(frozen=True)
+class Kind:
+    """A kind of meeting by its geometry: the other's course against own ship's in degrees, and her speed against own ship's."""
+
+    name: str
+    courses: tuple[float, float]
+    speeds: tuple[float, float]
+
+
+KINDS = {kind.name: kind for kind in (
+    Kind("head_on", (170, 190), (0.6, 1.3)),
+    Kind("crossing_gives", (190, 300), (0.6, 1.5)),
+    Kind("crossing_stands", (60, 170), (0.6, 1.5)),
+    Kind("overtaking", (-20, 20), (0.3, 0.6)),
+    Kind("overtaken", (-20, 20), (1.4, 2.0)),
+)}
+ANY = "any"
+
+
+@dataclass(frozen=True)
+class Begin:
+    """How one of the others begins: her MMSI, her name, her length (m), her place (m), and her course and speed."""
+
+    mmsi: int
+    name: str
+    length: int
+    place: Place
+    track: Track
+    kind: str
+
+
+def nearest_place(own: Track, other: Track, seconds: float, miss: Place) -> Place:
+    """Returns where another begins who is at `miss` from own ship, who begins at nought, after so many seconds."""
+    mine, theirs = velocity(own), velocity(other)
+    return (mine[0] - theirs[0]) * seconds + miss[0], (mine[1] - theirs[1]) * seconds + miss[1]
+
+
+def seconds_to_nearest(scenario: PilotScenario, own: Track, other: Track) -> float:
+    """Returns the least time to the nearest approach with which the meeting has not begun at first."""
+    mine, theirs = velocity(own), velocity(other)
+    closing = max(0.1, math.dist(mine, theirs))
+    horizon = whole(scenario.values, "detect", "horizon")
+    return max(SHORTEST, min(scenario.watch / closing, horizon + 0.0) * EARLIER)
+
+
+def drawn(scenario: PilotScenario, own: Track, kinds: list[str], targets: tuple[int, int], draw: random.Random) -> list[Begin]:
+    """Returns the others of a run, at least `targets[0]` and at most `targets[1]`, each of a kind of the list."""
+    found = []
+    for number in range(draw.randint(*targets)):
+        name = draw.choice(kinds)
+        kind = KINDS[draw.choice(list(KINDS)) if name == ANY else name]
+        track = Track((own.course + draw.uniform(*kind.courses)) % 360, own.speed * draw.uniform(*kind.speeds))
+        seconds = seconds_to_nearest(scenario, own, track) * (1.0 if number == 0 else draw.uniform(1.0, 1.5))
+        miss = draw.gauss(0, MISS), draw.gauss(0, MISS)
+        length = round(draw.triangular(20, 300, 100))
+        found.append(Begin(FIRST_OTHER + number, f"OTHER {number + 1}", length,
+                           nearest_place(own, track, min(seconds, LONGEST * 1.5), miss), track, kind.name))
+    return found
