@@ -25,17 +25,30 @@ def on_path() -> str | None:
     return shutil.which("colregs", path=os.pathsep.join(folders))
 
 
+def built(path: str) -> str:
+    """Returns the program that a path is, or, if it is the command at the top of a clone, the program that the command runs.
+
+    The command builds it if need be, without proofs, and shows its progress on standard error. Raises Fault if it cannot.
+    """
+    if not os.path.exists(os.path.join(os.path.dirname(os.path.realpath(path)), "dev", "start")):
+        return os.path.abspath(path)
+    done = subprocess.run([os.path.abspath(path), "--path"], stdin=subprocess.DEVNULL, stdout=subprocess.PIPE, text=True)
+    if done.returncode:
+        raise Fault(f"there is no program to run: {path} --path ended with status {done.returncode}")
+    return done.stdout.rstrip("\n")
+
+
 def found(given: str | None = None) -> str:
     """Returns the program that is given, or that COLREGS_PROGRAM names, or that of this clone, or beside the tool, or on PATH."""
     named = given or os.environ.get(VARIABLE)
     if named:
         if not is_program(named):
             raise Fault(f"{named} is no program that can be run")
-        return os.path.abspath(named)
+        return built(named)
     beside = os.path.join(os.path.dirname(os.path.realpath(sys.argv[0])), "colregs")
     for path in (os.path.join(TOP, "colregs"), BUILT, beside, on_path()):
         if path and is_program(path):
-            return path
+            return built(path)
     raise Fault("the program is not here: give --program, or set COLREGS_PROGRAM")
 
 
