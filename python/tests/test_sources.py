@@ -16,7 +16,7 @@ from given import InFolder, example, needs, text_of, with_program
 from colregs.io import sentences
 from colregs.io.logs import timed
 from colregs.errors import Fault
-from colregs.io.sources import gather
+from colregs.io.sources import Unread, gather
 from encounters import ENCOUNTERS
 
 S = "!AIVDM,1,1,,B,12vg22hP2<G:B?4KVut3Q2l20000,0*27"
@@ -81,7 +81,7 @@ class Receivers(Sources):
         log = [rmc("221321", "141123"), S, rmc("222321", "141123"), T]
         found, made = self.gathered("\n".join(log))
         self.assertEqual(made, ["\\c:1700000601*58\\" + T])
-        self.assertEqual(found.unread["a sentence in a gap between two times"], (1, S))
+        self.assertEqual(found.unread["a sentence in a gap between two times"], Unread(1, S))
 
     def test_base_stations_tell_the_time_where_nothing_else_does(self):
         """Message 4 of 2023-11-14 22:13:21 and :31; of a receiver's clock beside it the receiver's counts, and a repeated one never does."""
@@ -95,7 +95,7 @@ class Receivers(Sources):
 
     def test_what_stands_before_the_first_time_is_told(self):
         found, made = self.gathered("\n".join([S, rmc("221331", "141123"), T]))
-        self.assertEqual((len(made), found.unread["a sentence before the first time of its log"]), (1, (1, S)))
+        self.assertEqual((len(made), found.unread["a sentence before the first time of its log"]), (1, Unread(1, S)))
 
     def test_a_clock_in_local_time_is_told_by_the_receivers_own(self):
         log = ["2023-11-14 23:13:21 " + rmc("221321", "141123"), "2023-11-14 23:13:21 " + S]

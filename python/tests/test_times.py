@@ -2,7 +2,7 @@
 import unittest
 
 from given import InFolder
-from colregs.io.sources import gather
+from colregs.io.sources import Unread, gather
 
 MOMENT = 1700000001
 S = "!AIVDM,1,1,,B,12vg22hP2<G:B?4KVut3Q2l20000,0*27"
@@ -78,7 +78,7 @@ class Times(InFolder):
             with self.subTest(form):
                 gathered = gather([self.write("log", form + "\n")], self.path("out"))
                 self.assertEqual((gathered.sentences, list(gathered.unread)), (0, [name]))
-                self.assertEqual(gathered.unread[name], (1, form))
+                self.assertEqual(gathered.unread[name], Unread(1, form))
 
     def test_an_offset_is_of_times_without_a_zone_alone(self):
         log = self.write("log", "2023-11-14 23:13:21 %s\n2023-11-14T22:13:21Z %s\n1700000001 %s\n" % (S, S, S))

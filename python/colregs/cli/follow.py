@@ -65,7 +65,9 @@ def sink_of(given: argparse.Namespace) -> rows.Sink:
         raise Fault("rows go to a file or to a command, and not to both")
     if given.out:
         return rows.File(given.out)
-    return rows.Command(given.to) if given.to else rows.Standard()
+    if given.to:
+        return rows.Command(given.to)
+    return rows.Standard()
 
 
 def main(arguments: Sequence[str] | None = None) -> int:

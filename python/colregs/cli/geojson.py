@@ -44,11 +44,10 @@ def case_of(given: argparse.Namespace) -> Case:
         return Case(*folder.reports_in(given.scenario))
     if given.log:
         program, options = found(given.program), window_options(given.start, given.ticks)
-        points, audit = (report_of(program, mode, given.scenario, given.log, options=options) for mode in ("points", "audit"))
+        texts = [report_of(program, mode, given.scenario, given.log, options=options) for mode in ("points", "audit")]
     else:
-        points = read_text(given.reports[0])
-        audit = read_text(given.reports[1]) if len(given.reports) > 1 else None
-    return Case(given.scenario, points, audit, given.start, given.ticks)
+        texts = [read_text(name) for name in given.reports]
+    return Case(given.scenario, texts[0], texts[1] if len(texts) > 1 else None, given.start, given.ticks)
 
 
 def main(arguments: Sequence[str] | None = None) -> int:

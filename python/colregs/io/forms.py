@@ -6,6 +6,7 @@ date, is told as what it is and not guessed.
 import datetime
 import re
 
+Form = tuple[str, re.Pattern[bytes]]      # a form's name, and what finds it
 MONTHS = {name: k + 1 for k, name in enumerate("jan feb mar apr may jun jul aug sep oct nov dec".split())}
 EPOCH = datetime.date(1970, 1, 1).toordinal()
 CLOCK = r"(?P<hour>\d\d):(?P<minute>\d\d):(?P<second>\d\d)(?:[.,]\d{1,9})?"
@@ -15,7 +16,8 @@ MONTH = r"(?P<month>Jan|Feb|Mar|Apr|May|Jun|Jul|Aug|Sep|Oct|Nov|Dec)[a-z]*"
 LOCAL = "CET CEST EET EEST WET WEST BST MSK EST EDT CST CDT MST MDT PST PDT AKST AKDT HST JST KST IST AEST AEDT NZST NZDT SGT HKT AM PM am pm"
 
 
-def form(name, pattern, flags=re.I):
+def form(name: str, pattern: str, flags: int = re.I) -> Form:
+    """Returns a form of time with its name."""
     return name, re.compile((BEGIN + pattern + END).encode(), flags)
 
 
@@ -52,15 +54,15 @@ class Unsure(Exception):
     """A time that stands there, and is not to be read; its words say what it is."""
 
 
-def seconds_of(year, month, day, hour, minute, second, zone=0):
-    """Seconds since the Unix epoch; ValueError where there is no such date or time."""
+def seconds_of(year: int, month: int, day: int, hour: int, minute: int, second: int, zone: int = 0) -> int:
+    """Returns seconds since the Unix epoch; raises ValueError if there is no such date or time."""
     if hour > 23 or minute > 59 or second > 60 or not 1990 <= year <= 2099:
         raise ValueError
     return (datetime.date(year, month, day).toordinal() - EPOCH) * 86400 + hour * 3600 + minute * 60 + second - zone
 
 
-def zone_seconds(word):
-    """The offset of a zone from UTC; 0 of Z, UTC and GMT."""
+def zone_seconds(word: str) -> int:
+    """Returns the offset of a zone from UTC; 0 for Z, UTC and GMT."""
     digits = word.strip().replace(":", "")
     if digits[:1] not in ("+", "-"):
         return 0
@@ -70,8 +72,8 @@ def zone_seconds(word):
     return -size if digits[0] == "-" else size
 
 
-def moment(name, found, offset):
-    """The time that a match tells, and the name of its form."""
+def moment(name: str, found: re.Match[bytes], offset: int) -> tuple[int, str]:
+    """Returns the time of a match, and the name of its form."""
     parts = {key: value.decode() for key, value in found.groupdict().items() if value is not None}
     if "count" in parts:
         return int(parts["count"]) // PER_SECOND[name], name
@@ -79,16 +81,19 @@ def moment(name, found, offset):
     month = MONTHS.get(parts["month"][:3].lower()) or int(parts["month"])
     shift = offset if zone is None else zone_seconds(zone)
     named = name + (" with its offset" if zone and zone[0] in "+-" else "")
-    return seconds_of(int(parts["year"]), month, *(int(parts[key]) for key in ("day", "hour", "minute", "second")), shift), named
+    day, hour, minute, second = (int(parts[key]) for key in ("day", "hour", "minute", "second"))
+    return seconds_of(int(parts["year"]), month, day, hour, minute, second, shift), named
 
 
 class Times:
     """Reads the times of a log's lines; the form that was read last is tried first."""
 
-    def __init__(self, offset=0):
-        self.offset, self.order, self.latest = offset, DATED + COUNTED, (None, None)
+    def __init__(self, offset: int = 0) -> None:
+        self.offset, self.order = offset, DATED + COUNTED
+        self.latest: tuple[bytes | None, tuple[int, str] | None] = None, None
 
-    def tried(self, text, last):
+    def tried(self, text: bytes, last: bool) -> tuple[int, str] | None:
+        """Returns the first or last time of a text in any form that is read, or None."""
         for k, (name, pattern) in enumerate(self.order):
             found = pattern.search(text)
             if found is None or self.doubted(text, found):
@@ -105,14 +110,14 @@ class Times:
         return None
 
     @staticmethod
-    def doubted(text, found):
-        """Whether what stands behind a date says that it is not in UTC, by a name."""
+    def doubted(text: bytes, found: re.Match[bytes]) -> bool:
+        """Returns whether a name after a date says that it is not in UTC."""
         if "hour" not in found.re.groupindex or found["zone"] is not None:
             return False
         return NAMED.match(text, found.end()) is not None
 
-    def read(self, text, last=False):
-        """The first or the last time that a text tells and the name of its form, or nothing. Unsure where there is one that is not read."""
+    def read(self, text: bytes, last: bool = False) -> tuple[int, str] | None:
+        """Returns the first or the last time in a text and the name of its form, or None; raises Unsure if there is one that is not read."""
         if not text or not DIGIT.search(text):
             return None
         if text == self.latest[0] and not last:

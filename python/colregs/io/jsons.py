@@ -6,32 +6,37 @@ message 1, and message 24.
 import json
 import math
 import re
+from collections.abc import Sequence
+from typing import Any
 
 from colregs.io import units
-from colregs.io.forms import Unsure
+from colregs.io.forms import Times, Unsure
+from colregs.io.sentences import Report
 
 TIMES = ("rxuxtime", "rxtime", "timestamp", "@timestamp", "time", "received_at", "receivedAt", "datetime", "toa", "ts")
 KNOTS = 3600 / 1852
+FIX = "gpsd's TPV"
 HELD = re.compile(r"![A-Z0-9]{2}VD[MO],")
 
 
 class Held:
     """What an object holds: a time or nothing, sentences as they are, or sentences made; or the name of what it is, where it holds neither."""
 
-    def __init__(self, form, time=None, raw=(), made=(), fix=None, aside=False):
+    def __init__(self, form: str, time: int | None = None, raw: Sequence[bytes] = (), made: Sequence[bytes] = (), fix: Report | None = None,
+                 aside: bool = False) -> None:
         self.form, self.time, self.raw, self.made, self.fix, self.aside = form, time, raw, made, fix, aside
 
 
-def value_of(line):
-    """The value that a line holds, or nothing."""
+def value_of(line: bytes) -> Any:
+    """Returns the value of a line of JSON, or None."""
     try:
         return json.loads(line.decode("utf-8", "replace"))
     except (ValueError, RecursionError):
         return None
 
 
-def objects(value):
-    """The objects of a value: those within a list, or within `msgs`."""
+def objects(value: Any) -> list[dict[str, Any]]:
+    """Returns the objects of a value: those in a list, or in `msgs`."""
     if isinstance(value, list):
         return [each for entry in value for each in objects(entry)]
     if isinstance(value, dict) and isinstance(value.get("msgs"), list):
@@ -39,8 +44,8 @@ def objects(value):
     return [value] if isinstance(value, dict) else []
 
 
-def time_of(held, times):
-    """The time that an object tells, or nothing."""
+def time_of(held: dict[str, Any], times: Times) -> int | None:
+    """Returns the time of an object, or None."""
     for key in TIMES:
         if isinstance(held.get(key), (str, int, float)):
             found = times.read(str(held[key]).encode())
@@ -49,8 +54,8 @@ def time_of(held, times):
     return None
 
 
-def sentences_in(held):
-    """The sentences that stand in an object, as bytes: those of the first of its fields that has any."""
+def sentences_in(held: dict[str, Any]) -> list[bytes]:
+    """Returns the sentences in an object: those of the first of its fields that has any."""
     for entries in held.values():
         entries = [entries] if isinstance(entries, str) else entries if isinstance(entries, list) else []
         found = [entry.encode() for entry in entries if isinstance(entry, str) and HELD.search(entry)]
@@ -62,10 +67,11 @@ def sentences_in(held):
 class Objects:
     """Reads the objects of a log."""
 
-    def __init__(self, times):
+    def __init__(self, times: Times) -> None:
         self.times, self.ship = times, units.Ship()
 
-    def read(self, held):
+    def read(self, held: dict[str, Any]) -> Held:
+        """Returns what an object holds."""
         name = {"AIS-catcher": "AIS-catcher's JSON"}.get(str(held.get("device")), "gpsd's JSON" if "class" in held else "JSON with a sentence")
         try:
             time = time_of(held, self.times)
@@ -85,17 +91,17 @@ class Objects:
             return Held("JSON with a field that is not what it should be")
         return Held("JSON of gpsd that is no report" if "class" in held else "JSON without a sentence", aside="class" in held)
 
-    def fix(self, held, time):
-        """Own ship's time and place, as gpsd tells them: metres a second, degrees."""
+    def fix(self, held: dict[str, Any], time: int | None) -> Held:
+        """Returns own ship's time and place from gpsd, which has metres per second and degrees."""
         if time is None or held.get("mode", 0) < 2 and "lat" in held:
             return Held("gpsd's TPV without a valid fix", aside=True)
         track, way = held.get("track"), held.get("speed")
         report = (units.latitude(held.get("lat")), units.longitude(held.get("lon")), units.speed(way if way is None else way * KNOTS),
                   units.course(track), units.heading(None), time % 60)
-        return Held("gpsd's TPV", time, fix=report if "lat" in held and "lon" in held else None)
+        return Held(FIX, time, fix=report if "lat" in held and "lon" in held else None)
 
-    def ais(self, held, time, name):
-        """What gpsd or AIS-catcher says of an AIS message, in knots and degrees, or unscaled in the message's own units."""
+    def ais(self, held: dict[str, Any], time: int | None, name: str) -> Held:
+        """Returns the sentences of an AIS message from gpsd or AIS-catcher, in knots and degrees, or unscaled in the message's own units."""
         mmsi, made = int(held["mmsi"]), []
         if not 0 <= mmsi < 1 << 30:
             raise ValueError(mmsi)
@@ -115,8 +121,8 @@ class Objects:
             return Held("JSON of gpsd that is no report", aside=True)
         return Held(name + " (sentences made of its values)", time, made=made)
 
-    def delta(self, held):
-        """A delta of SignalK: metres a second and radians. Of own ship, which it calls self, the MMSI is not told."""
+    def delta(self, held: dict[str, Any]) -> Held:
+        """Returns the sentences of a delta of SignalK, which has metres per second and radians. Own ship, which it calls self, has no MMSI."""
         found = re.search(r"mmsi:(\d{9})$", str(held.get("context", "")))
         if not found:
             return Held("SignalK's delta of own ship or of no ship", aside=True)
@@ -130,10 +136,11 @@ class Objects:
             return Held("SignalK's delta without a place", aside=True)
         return Held("SignalK's delta (sentences made of its values)", time, made=made)
 
-    def of_delta(self, mmsi, told, time):
-        size = [told.get("design.length") or {}, told.get("design.beam")]
+    def of_delta(self, mmsi: int, told: dict[str, Any], time: int) -> list[bytes]:
+        """Returns the sentences of one update of a delta."""
+        length = (told.get("design.length") or {}).get("overall")
         kind = (told.get("design.aisShipType") or {}).get("id", "")
-        made = self.ship.static(mmsi, (told.get("") or {}).get("name", ""), units.kind(kind), units.hull((), size[0].get("overall"), size[1]))
+        made = self.ship.static(mmsi, (told.get("") or {}).get("name", ""), units.kind(kind), units.hull((), length, told.get("design.beam")))
         place = told.get("navigation.position")
         if place:
             way, course, heading = (told.get("navigation." + name) for name in ("speedOverGround", "courseOverGroundTrue", "headingTrue"))

@@ -5,6 +5,7 @@ bzip2 and zip by itself; for zstd the command `zstd` is needed (tools/PACKAGES).
 """
 import bz2
 import contextlib
+import functools
 import gzip
 import io
 import lzma
@@ -15,8 +16,10 @@ import subprocess
 import tempfile
 import zipfile
 import zlib
+from collections.abc import Callable, Iterable, Iterator
+from typing import IO, Any
 
-from colregs.errors import Fault
+from colregs.errors import Fault, reason
 
 LONGEST = 1 << 20          # bytes: a longer line is no sentence and no row
 MAGIC = ((b"\x1f\x8b", "gzip"), (b"\xfd7zXZ\x00", "xz"), (b"\x28\xb5\x2f\xfd", "zstd"), (b"BZh", "bzip2"), (b"PK\x03\x04", "zip"))
@@ -28,27 +31,29 @@ TOO_LONG = b"\xff too long"       # stands for such a line; no line of a log beg
 class Part:
     """A log within a file: its name, how the file was packed, its encoding, and its lines once it was read."""
 
-    def __init__(self, name, packed):
+    def __init__(self, name: str, packed: str) -> None:
         self.name, self.packed, self.encoding, self.lines = name, packed, "bytes", 0
 
 
-def packing(path):
-    """How the file is packed, by its first bytes."""
+def packing(path: str) -> str:
+    """Returns how a file is packed, by its first bytes."""
     try:
         with open(path, "rb") as source:
             head = source.read(8)
     except IsADirectoryError:
         raise Fault(f"{path} is a folder, and no log") from None
     except OSError as error:
-        raise Fault(f"{path} cannot be read: {(error.strerror or str(error)).lower()}") from None
+        raise Fault(f"{path} cannot be read: {reason(error)}") from None
     return next((name for magic, name in MAGIC if head.startswith(magic)), "plain")
 
 
 @contextlib.contextmanager
-def zstd(path):
+def zstd(path: str) -> Iterator[IO[bytes]]:
+    """Opens a file that is packed by zstd."""
     if not shutil.which("zstd"):
         raise Fault(f"{path} is packed by zstd, and the command zstd is not here (Debian package zstd)")
     with subprocess.Popen(["zstd", "-dcq", "--", path], stdout=subprocess.PIPE, stderr=subprocess.DEVNULL) as child:
+        assert child.stdout is not None
         try:
             yield child.stdout
             if child.stdout.read(1) == b"" and child.wait() != 0:
@@ -57,21 +62,22 @@ def zstd(path):
             child.kill()
 
 
-def members(path, packed):
-    """The name and a way to open each log within a file."""
+def members(path: str, packed: str) -> Iterator[tuple[str, Callable[[], Any]]]:
+    """Yields the name of each log in a file, and a way to open it."""
     if packed == "zip":
         with zipfile.ZipFile(path) as whole:
             names = [entry.filename for entry in whole.infolist() if not entry.is_dir()]
             for name in names:
-                yield f"{os.path.basename(path)}: {name}", lambda name=name: whole.open(name)
+                yield f"{os.path.basename(path)}: {name}", functools.partial(whole.open, name)
         return
-    openers = {"plain": lambda: open(path, "rb"), "gzip": lambda: gzip.open(path, "rb"), "xz": lambda: lzma.open(path, "rb"),
-               "bzip2": lambda: bz2.open(path, "rb"), "zstd": lambda: zstd(path)}
+    openers: dict[str, Callable[[], Any]] = {
+        "plain": lambda: open(path, "rb"), "gzip": lambda: gzip.open(path, "rb"), "xz": lambda: lzma.open(path, "rb"),
+        "bzip2": lambda: bz2.open(path, "rb"), "zstd": lambda: zstd(path)}
     yield os.path.basename(path), openers[packed]
 
 
-def encoding(head):
-    """The encoding, by a byte order mark or by the noughts that UTF-16 has between letters."""
+def encoding(head: bytes) -> str:
+    """Returns the encoding, by a byte order mark or by the zeros that UTF-16 has between letters."""
     for mark, name in MARKS:
         if head.startswith(mark):
             return name
@@ -82,8 +88,8 @@ def encoding(head):
     return "UTF-8 with a mark" if head.startswith(b"\xef\xbb\xbf") else "bytes"
 
 
-def raw_lines(stream):
-    """Lines of at most LONGEST bytes; of a longer one its mark."""
+def raw_lines(stream: Any) -> Iterator[bytes]:
+    """Yields lines of at most LONGEST bytes, and TOO_LONG for a longer one."""
     whole = True
     while line := stream.readline(LONGEST):
         ends = line.endswith(b"\n")
@@ -92,8 +98,8 @@ def raw_lines(stream):
         whole = ends
 
 
-def wide_lines(stream, name):
-    """The lines of a text in UTF-16, as UTF-8. Half a letter at the end becomes a mark, as anything that is no letter."""
+def wide_lines(stream: Any, name: str) -> Iterator[bytes]:
+    """Yields the lines of a text in UTF-16, as UTF-8. Half a letter at the end becomes a mark, as does anything that is no letter."""
     text = io.TextIOWrapper(stream, encoding=name, errors="replace", newline="\n")
     whole = True
     while line := text.readline(LONGEST):
@@ -103,16 +109,16 @@ def wide_lines(stream, name):
         whole = ends
 
 
-def cleaned(lines, part):
-    """Lines without their ends and without byte order marks. A carriage return ends a line too."""
+def cleaned(lines: Iterable[bytes], part: Part) -> Iterator[bytes]:
+    """Yields lines without their ends and without byte order marks. A carriage return ends a line too."""
     for line in lines:
         for piece in line.rstrip(b"\r\n").split(b"\r"):
             part.lines += 1
             yield piece[3:] if piece.startswith(b"\xef\xbb\xbf") else piece
 
 
-def stream_lines(stream, part):
-    """The lines of an open log."""
+def stream_lines(stream: Any, part: Part) -> Iterator[bytes]:
+    """Yields the lines of an open log."""
     buffered = stream if hasattr(stream, "peek") else io.BufferedReader(stream)
     part.encoding = encoding(buffered.peek(4)[:4])
     wide = part.encoding.startswith("utf-16")
@@ -120,24 +126,25 @@ def stream_lines(stream, part):
 
 
 @contextlib.contextmanager
-def told(path, packed):
-    """Turns what can happen to a file into words."""
+def told(path: str, packed: str) -> Iterator[None]:
+    """Turns what can happen to a file into a Fault."""
     try:
         yield
     except DAMAGE:
         raise Fault(f"{path} is packed by {packed}, and damaged or cut off") from None
     except OSError as error:
-        raise Fault(f"{path} cannot be read: {(error.strerror or str(error)).lower()}") from None
+        raise Fault(f"{path} cannot be read: {reason(error)}") from None
 
 
-def whole_lines(path, stream, part):
+def whole_lines(path: str, stream: Any, part: Part) -> Iterator[bytes]:
+    """Yields the lines of a part of a file."""
     with told(path, part.packed):
         yield from stream_lines(stream, part)
 
 
 @contextlib.contextmanager
-def seekable(path):
-    """The path of a file with what stands there, which of a pipe is a copy."""
+def seekable(path: str) -> Iterator[str]:
+    """Returns the path of a file, or of a copy if the file is a pipe."""
     try:
         kind = os.stat(path).st_mode
     except OSError:
@@ -153,15 +160,16 @@ def seekable(path):
         yield copy.name
 
 
-def parts(path):
-    """Each log within the file, as a Part with its lines."""
+def parts(path: str) -> Iterator[tuple[Part, Iterator[bytes]]]:
+    """Yields each log in a file, as a Part with its lines."""
     with seekable(path) as file:
         packed = packing(file)
         with told(path, packed):
             yield from open_parts(path, file, packed)
 
 
-def open_parts(path, file, packed):
+def open_parts(path: str, file: str, packed: str) -> Iterator[tuple[Part, Iterator[bytes]]]:
+    """Yields each log in a file that can be read twice."""
     for name, opened in members(file, packed):
         part = Part(name if file == path else os.path.basename(path), packed)
         with opened() as stream:

@@ -3,9 +3,10 @@
 Base stations tell it in message 4 (ITU-R M.1371). RMC, with HDT for her heading, tells where own ship was too.
 """
 import re
+from collections.abc import Sequence
 
 from colregs.io.forms import seconds_of
-from colregs.io.sentences import NO_COURSE, NO_HEADING, NO_SPEED, class_a, has_sum, lone_message, sentence
+from colregs.io.sentences import NO_COURSE, NO_HEADING, NO_SPEED, Report, class_a, has_sum, lone_message, sentence
 
 PLAIN = re.compile(rb"\$([A-Z]{2}(?:RMC|ZDA|HDT),[^*$!\\]*)\*([0-9A-Fa-f]{2})")
 DAY, WEEKS = 86400, 1024 * 7 * 86400     # a date that lags at midnight; the weeks that GPS counts before it begins anew
@@ -16,8 +17,8 @@ BASE_STATION = 4 << 2                    # type 4, not repeated, in the first 8 
 OLDEST = 852076800                       # 1 January 1997, before there was AIS: a clock that tells less is not set
 
 
-def time_of(day, clock):
-    """The time of the fields ddmmyy or (day, month, year), and hhmmss.ss, or nothing."""
+def time_of(day: bytes | Sequence[int], clock: bytes) -> int | None:
+    """Returns the time of the fields ddmmyy or (day, month, year), and hhmmss.ss; or None."""
     if not re.fullmatch(rb"\d{6}(?:\.\d*)?", clock):
         return None
     try:
@@ -29,20 +30,21 @@ def time_of(day, clock):
         return None
 
 
-def angle(digits, side):
-    """A latitude or a longitude in 1/10000 minute, of the fields dddmm.mmmm and N, S, E or W."""
+def angle(digits: bytes, side: bytes) -> int:
+    """Returns a latitude or a longitude in 1/10000 minute, from the fields dddmm.mmmm and N, S, E or W."""
     whole, _, part = digits.partition(b".")
     minutes = int(whole[-2:]) * 10000 + int((part + b"0000")[:4]) + (part[4:5] >= b"5")
     value = int(whole[:-2] or 0) * 600000 + minutes
     return -value if side in (b"S", b"W") else value
 
 
-def tenths(field, none, most):
+def tenths(field: bytes, none: int, most: int) -> int:
+    """Returns tenths of a field, at most `most`; `none` if it is empty."""
     return min(most, round(float(field) * 10)) if field else none
 
 
-def base_time(line):
-    """The UTC that a base station tells in a sentence, or nothing. One that was repeated by another station comes late, and is passed over."""
+def base_time(line: bytes) -> int | None:
+    """Returns the UTC of a base station in a sentence, or None. One that another station repeated comes late, and is skipped."""
     message = lone_message(line)
     if message is None or message.length < 168 or message.number(0, 8) != BASE_STATION:
         return None
@@ -56,31 +58,34 @@ def base_time(line):
 class Fix:
     """What an RMC tells: its time, whether it is valid, and own ship's report without a heading."""
 
-    def __init__(self, fields):
+    def __init__(self, fields: Sequence[bytes]) -> None:
         mode = fields[12:13]
         self.valid = fields[2] == b"A" and mode != [b"N"]
         self.time = time_of(fields[9], fields[1])
         self.fields = fields
 
-    def report(self, heading):
-        """Latitude, longitude, speed, course, heading and second, or nothing where a field is no number."""
+    def report(self, heading: int) -> Report | None:
+        """Returns latitude, longitude, speed, course, heading and second; or None if a field is no number."""
         try:
             latitude, longitude = angle(*self.fields[3:5]), angle(*self.fields[5:7])
             speed, course = tenths(self.fields[7], NO_SPEED, 1022), tenths(self.fields[8], NO_COURSE, 3600) % 3600
         except ValueError:
             return None
-        return latitude, longitude, speed, course if self.fields[8] else NO_COURSE, heading, self.time % 60
+        return latitude, longitude, speed, course if self.fields[8] else NO_COURSE, heading, (self.time or 0) % 60
 
 
 class Receiver:
     """The receiver's clock and own ship's track, by the sentences so far."""
 
-    def __init__(self, mmsi=None):
-        self.mmsi, self.time, self.void, self.heading = mmsi, None, False, (NO_HEADING, None)
-        self.told, self.rolled, self.latest = None, 0, None
+    def __init__(self, mmsi: int | None = None) -> None:
+        self.mmsi, self.void, self.rolled = mmsi, False, 0
+        self.time: int | None = None                        # the clock
+        self.heading: tuple[int, int | None] = NO_HEADING, None
+        self.placed_at: int | None = None                   # the time of own ship's last report
+        self.latest: Fix | None = None
 
-    def take(self, line):
-        """What a sentence comes to: the name of its form and a time, of which the latter may be nothing. Nothing where it is none of these."""
+    def take(self, line: bytes) -> tuple[str, int | None] | None:
+        """Returns the name of a sentence's form, and its time if it has one; or None if the line has no such sentence."""
         found = PLAIN.search(line)
         if not found:
             return None
@@ -92,12 +97,14 @@ class Receiver:
             return self.head(fields)
         return self.fix(fields) if kind == b"RMC" else self.date(fields)
 
-    def head(self, fields):
+    def head(self, fields: Sequence[bytes]) -> tuple[str, int | None]:
+        """Takes own ship's heading."""
         if re.fullmatch(rb"\d{1,3}(?:\.\d+)?", fields[1]):
             self.heading = round(float(fields[1])) % 360, self.time
         return HEADING, None
 
-    def fix(self, fields):
+    def fix(self, fields: Sequence[bytes]) -> tuple[str, int | None]:
+        """Takes an RMC."""
         if len(fields) < 10:
             return DAMAGED[1], None
         fix = Fix(fields)
@@ -109,7 +116,8 @@ class Receiver:
         self.latest = fix
         return "RMC", self.rolled_over(fix.time)
 
-    def date(self, fields):
+    def date(self, fields: Sequence[bytes]) -> tuple[str, int | None]:
+        """Takes a ZDA."""
         if self.void:
             return "ZDA while no fix is valid", None
         day = [int(field) for field in fields[2:5] if re.fullmatch(rb"\d{1,4}", field)]
@@ -118,8 +126,8 @@ class Receiver:
             return "ZDA of a clock that is not set", None
         return "ZDA", self.rolled_over(time)
 
-    def rolled_over(self, time):
-        """The time, set forward where the date lags: by a day at midnight, or by the 1024 weeks after which GPS counts anew."""
+    def rolled_over(self, time: int) -> int:
+        """Returns the time, set forward if the date lags: by a day at midnight, or by the 1024 weeks after which GPS counts anew."""
         if self.time is not None:
             for lag in (DAY, WEEKS):
                 if 0 <= time + lag - self.time <= LONGEST_GAP:
@@ -128,14 +136,15 @@ class Receiver:
         self.time = time
         return time
 
-    def own_report(self, time):
-        """Own ship's position report as an AIVDO sentence, at most one for each second, where her MMSI is known."""
+    def own_report(self, time: int) -> bytes | None:
+        """Returns own ship's position report as an AIVDO sentence, at most one per second, if her MMSI is known."""
         heading, at = self.heading
         near = at is not None and self.time is not None and abs(self.time - at) <= 2
-        return self.placed(self.latest.report(heading if near else NO_HEADING), time)
+        return self.placed(self.latest.report(heading if near else NO_HEADING), time) if self.latest else None
 
-    def placed(self, report, time):
-        if self.mmsi is None or time == self.told or report is None:
+    def placed(self, report: Report | None, time: int) -> bytes | None:
+        """Returns a report as an AIVDO sentence, at most one per second, if own ship's MMSI is known."""
+        if self.mmsi is None or time == self.placed_at or report is None:
             return None
-        self.told = time
+        self.placed_at = time
         return sentence(class_a(self.mmsi, report), b"AIVDO", b"")

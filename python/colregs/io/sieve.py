@@ -4,12 +4,13 @@ Which vessel a sentence is of is told by the first seven letters of its payload 
 sooner than the tool that calls it.
 """
 import sys
+from collections.abc import Callable, Iterable, Iterator
 
 SIX = {letter: value for value, letter in enumerate(bytes(range(48, 88)) + bytes(range(96, 120)))}
 
 
-def sender(payload):
-    """The MMSI that a message's first letters hold, or nothing where they are too few or no letters of a payload."""
+def sender(payload: bytes) -> int | None:
+    """Returns the MMSI in a message's first letters, or None if they are too few or no letters of a payload."""
     value = 0
     for letter in payload[:7]:
         if letter not in SIX:
@@ -21,11 +22,12 @@ def sender(payload):
 class Senders:
     """Which vessel each line is of. The later parts of a message are of the vessel of the last first part with their identifier and channel."""
 
-    def __init__(self):
-        self.known, self.parts = {}, {}
+    def __init__(self) -> None:
+        self.known: dict[bytes, int | None] = {}                         # by the first letters of a payload
+        self.parts: dict[tuple[bytes, bytes], int | None] = {}           # by sequential identifier and channel
 
-    def of(self, line):
-        """The MMSI of a line with a sentence, or nothing where it cannot be told."""
+    def of(self, line: bytes) -> int | None:
+        """Returns the MMSI of a line with a sentence, or None if it cannot be known."""
         at = line.find(b"!")
         fields = line[at:].split(b",", 6) if at >= 0 else ()
         if len(fields) < 7:
@@ -42,8 +44,8 @@ class Senders:
         return self.known[head]
 
 
-def sieved(lines, is_kept):
-    """The lines, but those of other vessels as their tag blocks alone: these keep the clock, and lines without a time behind them."""
+def sieved(lines: Iterable[bytes], is_kept: Callable[[int], bool]) -> Iterator[bytes]:
+    """Yields the lines, but those of other vessels as their tag blocks alone, which set the clock for lines without a time."""
     senders = Senders()
     for line in lines:
         mmsi = senders.of(line)
@@ -53,8 +55,8 @@ def sieved(lines, is_kept):
             yield line[:line.find(b"!")] + b"\n"
 
 
-def keeps(words):
-    """Which vessels a list, or a part as K/N, stands for."""
+def keeps(words: str) -> Callable[[int], bool]:
+    """Returns which vessels a list, or a part as K/N, stands for."""
     part, bar, parts = words.partition("/")
     if bar and part.isdecimal() and parts.isdecimal():
         return lambda mmsi: mmsi % int(parts) == int(part)

@@ -11,18 +11,20 @@ import shutil
 import subprocess
 import tempfile
 import time
+from collections.abc import Callable, Iterable, Iterator, Mapping, Sequence
+from dataclasses import dataclass
+from typing import IO
 
+from colregs.errors import Fault, reason
 from colregs.io import jsons, tables
 from colregs.io.forms import Times, Unsure
-from colregs.errors import Fault
-from colregs.io.packing import TOO_LONG, parts
+from colregs.io.packing import TOO_LONG, Part, parts
 from colregs.io.receivers import DAMAGED, HEADING, LONGEST_GAP, Receiver, base_time
-from colregs.io.sentences import block, has_sum
+from colregs.io.sentences import block
+from colregs.io.tag_blocks import blocks
 
 SENTENCE = re.compile(rb"![A-Z0-9]{2}VD[MO],[^*!\\]*\*[0-9A-Fa-f]{2}")
 TAGGED = re.compile(rb"(\\c:(\d{10})\*[0-9A-F]{2}\\)(![A-Z0-9]{2}VD[MO],[^*!\\]*\*[0-9A-Fa-f]{2})")
-BLOCK = re.compile(rb"\\([^\\*]+)\*([0-9A-Fa-f]{2})\\")
-STAMP = re.compile(rb"c:(\d{1,15})(?:\.\d*)?")
 LATER_PART = re.compile(rb"![A-Z0-9]{2}VD[MO],[2-9],[2-9],")
 CUT = re.compile(rb"![A-Z0-9]{2}VD[MO],")
 HEAD = re.compile(rb"\w[\w \"]*(?:[,;\t]\w[\w \"]*)+")
@@ -31,30 +33,62 @@ NMEA = re.compile(rb"[$!]([A-Z0-9]{2,6}),")
 SLOTS = 4500                    # of two channels in a minute: more sentences were never heard between two times of a receiver
 DAY = 86400                     # s
 LINES, RECEIVER, BASE = "that of the line before", "the receiver's (RMC, ZDA or TPV)", "that of a base station (message 4)"
-LATEST = 9999999999             # the greatest time that ten digits hold
 SAMPLE = 200                    # letters of an example
 
-Unread = collections.namedtuple("Unread", "count example")
+OwnTime = tuple[int, str, bytes]        # a line's own time, the name of its form, and the other fields of its tag block
+
+
+@dataclass(frozen=True)
+class Unread:
+    """Lines that were not understood: how many, and one of them."""
+
+    count: int
+    example: str
 
 
 class Gathered:
     """What came of the logs: counts by form, files, first and last time, how many sentences were written, and words for the reader."""
 
-    def __init__(self):
-        self.files, self.notes, self.first, self.last = [], [], None, None
-        self.forms, self.aside, self.unread = collections.Counter(), collections.Counter(), {}
+    def __init__(self) -> None:
+        self.files: list[Part] = []
+        self.notes: list[str] = []
+        self.first: int | None = None
+        self.last: int | None = None
+        self.forms: collections.Counter[str] = collections.Counter()
+        self.aside: collections.Counter[str] = collections.Counter()
+        self.unread: dict[str, Unread] = {}
         self.sentences, self.back, self.untimed, self.own = 0, 0, 0, 0
 
-    def cannot(self, name, example):
+    def cannot(self, name: str, example: bytes) -> None:
+        """Counts a line that is not understood."""
         known = self.unread.get(name)
         words = known.example if known else example[:SAMPLE].decode("utf-8", "replace")
         self.unread[name] = Unread(1 + (known.count if known else 0), words)
 
-    def lines(self):
+    def count(self, time: int, is_back: bool) -> None:
+        """Counts a sentence that is written; `is_back` says that its time is before that of an earlier one."""
+        self.first = time if self.first is None else min(time, self.first)
+        self.sentences += 1
+        self.back += is_back
+
+    def count_own(self) -> None:
+        """Counts a sentence that is made of own ship's place."""
+        self.own += 1
+
+    def leave_untimed(self) -> None:
+        """Counts a sentence before the first time of its log."""
+        self.untimed += 1
+
+    def end(self, latest: int) -> None:
+        """Notes the last time."""
+        self.last = latest if self.first is not None else None
+
+    def lines(self) -> int:
+        """Returns how many lines were read."""
         return sum(part.lines for part in self.files)
 
-    def words(self):
-        """What came of the logs, line by line."""
+    def words(self) -> Iterator[str]:
+        """Yields what came of the logs, line by line."""
         for part in self.files:
             packed = "" if part.packed == "plain" else ", packed by " + part.packed
             yield f"{part.name}: {part.lines} lines{packed}{'' if part.encoding == 'bytes' else ', in ' + part.encoding}"
@@ -70,16 +104,14 @@ class Gathered:
 class Log:
     """The log that is written: lines with their times go on as they come, and are sorted at the end where times run back."""
 
-    def __init__(self, out, gathered):
-        self.out, self.gathered, self.latest, self.days = out, gathered, 0, collections.Counter()
+    def __init__(self, out: IO[bytes], gathered: Gathered) -> None:
+        self.out, self.gathered, self.latest = out, gathered, 0
+        self.days: collections.Counter[int] = collections.Counter()
 
-    def put(self, time, words, stamp=None):
-        if time < self.latest:
-            self.gathered.back += 1
-        else:
-            self.latest = time
-        self.gathered.first = time if self.gathered.first is None else min(time, self.gathered.first)
-        self.gathered.sentences += 1
+    def put(self, time: int, words: bytes, stamp: bytes | None = None) -> None:
+        """Writes a sentence with its time."""
+        self.gathered.count(time, time < self.latest)
+        self.latest = max(time, self.latest)
         self.days[time // DAY] += 1
         self.out.write(b"%s%s\n" % (stamp or block(time), words))
 
@@ -90,27 +122,33 @@ class Waiting:
     Where they are not, or none comes, as many have it as usually stand between two times. In a gap of a receiver's clock none has.
     """
 
-    def __init__(self, put, cannot):
-        self.put, self.cannot, self.time, self.clock, self.held, self.usual, self.sure = put, cannot, None, None, [], 10, SLOTS
+    def __init__(self, put: Callable[[int, bytes], None], cannot: Callable[[str, bytes], None]) -> None:
+        self.put, self.cannot, self.usual, self.sure = put, cannot, 10, SLOTS
+        self.time: int | None = None
+        self.clock: str | None = None
+        self.held: list[bytes] = []
 
-    def add(self, words):
+    def add(self, words: bytes) -> None:
+        """Takes a sentence without a time."""
         if len(self.held) < SLOTS:
             self.held.append(words)
         else:
             self.cannot("a sentence too far behind the last time", words)
 
-    def doubt(self):
-        """The receiver says that it has no fix: what follows has the time before only where a next time comes soon."""
+    def doubt(self) -> None:
+        """Notes that the receiver has no fix: what follows has the time before only if a next time comes soon."""
         self.sure = min(self.sure, len(self.held))
 
-    def until(self, time, clock=None):
-        """The next time comes, and which clock tells it; or none, at the end."""
+    def until(self, time: int | None, clock: str | None = None) -> None:
+        """Takes the next time and the clock that has it, or None at the end."""
         if self.held:
             self.leave(time)
         self.time, self.clock, self.sure = time, clock, SLOTS
 
-    def leave(self, time):
+    def leave(self, time: int | None) -> None:
+        """Writes the sentences whose time is known, and counts the others."""
         held, self.held = self.held, []
+        assert self.time is not None                # sentences wait only after a time
         near = time is not None and 0 <= time - self.time <= LONGEST_GAP
         if near:
             self.usual = max(self.usual, len(held))
@@ -125,39 +163,46 @@ class Waiting:
 class Reader:
     """Reads the lines of one file into the log."""
 
-    def __init__(self, part, log, gathered, untimed, mmsi, offset):
+    def __init__(self, part: Part, log: Log, gathered: Gathered, untimed: IO[bytes], mmsi: int | None, offset: int) -> None:
         self.part, self.log, self.gathered, self.untimed = part, log, gathered, untimed
         self.times, self.receiver, self.offset = Times(offset), Receiver(mmsi), offset
         self.json, self.waiting = jsons.Objects(self.times), Waiting(self.clocked, gathered.cannot)
-        self.table, self.previous, self.apart, self.head, self.by_receiver = None, None, collections.Counter(), None, False
+        self.table: tables.Table | None = None
+        self.head: bytes | None = None
+        self.previous: int | None = None
+        self.apart: collections.Counter[int] = collections.Counter()
+        self.by_receiver = False
 
-    def clocked(self, time, words):
+    def clocked(self, time: int, words: bytes) -> None:
+        """Writes a sentence without a time of its own."""
         self.gathered.forms[f"no time of its own: {self.waiting.clock}"] += 1
         self.log.put(time, words)
 
-    def own(self, time):
-        """A sentence tells its own time: parts that follow have it too, and others as long as the next time is near."""
+    def own(self, time: int) -> None:
+        """Takes a sentence's own time: parts that follow have it too, and others as long as the next time is near."""
         self.previous = time
         self.waiting.until(time, LINES)
 
-    def read(self, lines):
+    def read(self, lines: Iterable[bytes]) -> None:
+        """Reads the lines of the file."""
         for line in lines:
             found = TAGGED.fullmatch(line)
             if found and found[1] == block(int(found[2])):
                 self.own(int(found[2]))
                 self.gathered.forms["tag block"] += 1
-                self.log.put(self.previous, found[3], found[1])
+                self.log.put(int(found[2]), found[3], found[1])
             else:
                 self.line(line)
         self.waiting.until(None)
 
-    def line(self, line):
+    def line(self, line: bytes) -> None:
+        """Reads one line."""
         if line == TOO_LONG:
             self.gathered.cannot("a line of more than a million bytes", b"")
         elif not line.strip(b" \t\0"):
             self.gathered.aside["empty line"] += 1
         elif self.table and not CUT.search(line):
-            self.row(line)
+            self.row(self.table, line)
         elif line.lstrip()[:1] in (b"{", b"[") and self.value(line, None):
             return
         elif CUT.search(line):
@@ -165,22 +210,22 @@ class Reader:
         else:
             self.other(line)
 
-    def other(self, line):
-        """A line without a sentence: a sentence of the receiver, JSON behind a time, a head, or nothing that is known."""
+    def other(self, line: bytes) -> None:
+        """Reads a line without a sentence: a sentence of the receiver, JSON after a time, a head, or nothing that is known."""
         told = self.receiver.take(line)
         if told:
             return self.of_receiver(line, *told)
         at = line.find(b"{")
         if at > 0 and self.value(line[at:], line[:at]):
             return None
-        table = tables.table_of(line)
+        table, nmea = tables.table_of(line), NMEA.search(line)
         if table:
             self.table, self.head = table, line
             self.gathered.aside[f"head of a table ({table.name})"] += 1
             if table.unknown:
                 self.gathered.notes.append(f"columns that are not read: {', '.join(table.unknown)}")
-        elif NMEA.search(line):
-            self.gathered.aside[f"other sentence ({NMEA.search(line)[1].decode()[-3:]})"] += 1
+        elif nmea:
+            self.gathered.aside[f"other sentence ({nmea[1].decode()[-3:]})"] += 1
         elif PROSE.match(line):
             self.gathered.aside["comment"] += 1
         elif self.part.lines == 1 and HEAD.fullmatch(line):
@@ -189,8 +234,8 @@ class Reader:
             self.gathered.cannot("a line with no sentence and no row", line)
         return None
 
-    def of_receiver(self, line, name, time):
-        """A sentence of the receiver's: its time sets the clock, and where an own time stands in the line, tells how far that is off."""
+    def of_receiver(self, line: bytes, name: str, time: int | None) -> None:
+        """Takes a sentence of the receiver: its time sets the clock; if the line has a time of its own, notes how far that is off."""
         if name in DAMAGED:
             self.gathered.cannot(name, line)
             return
@@ -211,55 +256,38 @@ class Reader:
             at = own[0] if own else time
             self.own_ship(at, self.receiver.own_report(at))
 
-    def ticks(self, time):
-        """The receiver's own clock tells a time: from now on it alone counts where a line has none."""
+    def ticks(self, time: int) -> None:
+        """Takes a time of the receiver's own clock: from now on it alone counts if a line has none."""
         if not self.by_receiver and self.waiting.clock == BASE:
             self.waiting.until(None)
         self.by_receiver = True
         self.waiting.until(time, RECEIVER)
 
-    def by_base_station(self, words):
-        """A base station tells the time, in a log where nothing else does."""
+    def by_base_station(self, words: bytes) -> None:
+        """Takes the time of a base station, in a log in which nothing else has one."""
         time = base_time(words) if self.waiting.clock in (None, BASE) else None
         if time is not None:
             self.waiting.until(time, BASE)
 
-    def own_ship(self, time, words):
+    def own_ship(self, time: int, words: bytes | None) -> None:
+        """Writes own ship's report."""
         if words:
-            self.gathered.own += 1
+            self.gathered.count_own()
             self.log.put(time, words)
 
-    def own_time(self, line, begin, end):
-        """The time of a line by its tag block, behind its sum or before it, with its form and the block's other fields, or nothing."""
+    def own_time(self, line: bytes, begin: int, end: int) -> OwnTime | None:
+        """Returns the time of a line from its tag block, after its sum or before it; or None."""
         before, more = line[:begin], b""
         if b"\\" in before:
-            time, more, before = self.tag(before)
+            time, more, before = blocks(before)
             if time is not None:
                 return time, "tag block", more
         behind = self.times.read(line[end:], True)
         found = behind or self.times.read(before)
         return found and (found[0], f"{found[1]} {'behind the sum' if behind else 'before the sentence'}", more)
 
-    def tag(self, before):
-        """The time of tag blocks, their other fields, and what stands outside them; Unsure where one is damaged."""
-        time, more = None, []
-        for found in BLOCK.finditer(before):
-            if not has_sum(found[1], found[2]):
-                raise Unsure("a tag block with a wrong sum")
-            for field in found[1].split(b","):
-                stamp = STAMP.fullmatch(field)
-                if stamp and time is None:
-                    value = int(stamp[1])
-                    time = min(LATEST, value // 1000 if value >= 10 ** 11 else value)
-                elif not stamp:
-                    more.append(field)
-        rest = BLOCK.sub(b"", before)
-        if b"\\" in rest:
-            raise Unsure("a tag block that is none")
-        return time, b",".join(more), rest
-
-    def sentences(self, line):
-        """Each sentence of a line; what follows the first has the time of the first."""
+    def sentences(self, line: bytes) -> None:
+        """Reads each sentence of a line; what follows the first has the time of the first."""
         found = list(SENTENCE.finditer(line))
         if not found:
             self.gathered.cannot("a sentence without its sum, or cut off", line)
@@ -274,7 +302,8 @@ class Reader:
         for each in found:
             self.put(own, each[0])
 
-    def put(self, own, words):
+    def put(self, own: OwnTime | None, words: bytes) -> None:
+        """Writes a sentence, or lets it wait for a time."""
         if own:
             self.own(own[0])
             self.gathered.forms[own[1]] += 1
@@ -287,15 +316,16 @@ class Reader:
             self.by_base_station(words)
             self.wait(words)
 
-    def wait(self, words):
+    def wait(self, words: bytes) -> None:
+        """Lets a sentence wait for the next time, or counts it if there was none yet."""
         if self.waiting.time is not None:
             self.waiting.add(words)
         else:
-            self.gathered.untimed += 1
+            self.gathered.leave_untimed()
             self.untimed.write(words + b"\n")
 
-    def value(self, line, before):
-        """Whether a line is JSON; then what it holds is taken."""
+    def value(self, line: bytes, before: bytes | None) -> bool:
+        """Returns whether a line is JSON, and takes what it holds."""
         value = jsons.value_of(line)
         held = jsons.objects(value) if value is not None else []
         if not held:
@@ -308,9 +338,10 @@ class Reader:
             self.held(self.json.read(each), outer[0] if outer else None, line)
         return True
 
-    def held(self, what, outer, line):
+    def held(self, what: jsons.Held, outer: int | None, line: bytes) -> None:
+        """Takes an object of JSON."""
         time = what.time if what.time is not None else outer
-        if what.form == "gpsd's TPV":
+        if what.form == jsons.FIX and what.time is not None:
             self.gathered.forms[what.form] += 1
             self.ticks(what.time)
             if what.fix and self.receiver.mmsi is not None:
@@ -328,19 +359,20 @@ class Reader:
             for each in words:
                 self.put(None, each)
 
-    def row(self, line):
+    def row(self, table: tables.Table, line: bytes) -> None:
+        """Reads a row of a table."""
         if line == self.head:
             self.gathered.aside["head of a table, once more"] += 1
             return
         try:
-            time, words = self.table.row(line, self.times)
+            time, words = table.row(line, self.times)
         except tables.RowFault as fault:
             if "no ship" in str(fault):
                 self.gathered.aside[str(fault)] += 1
             else:
                 self.gathered.cannot(str(fault), line)
             return
-        self.gathered.forms[f"row of {self.table.name}"] += 1
+        self.gathered.forms[f"row of {table.name}"] += 1
         for each in words:
             self.log.put(time, each)
 
@@ -351,8 +383,8 @@ def stamped(line: bytes, at: int) -> bytes:
     return block(at) + found[0] if found else line
 
 
-def told_apart(reader, name, gathered):
-    """A note where the times of a log and those of its receiver lie apart, as with a clock in local time."""
+def told_apart(reader: Reader, name: str, gathered: Gathered) -> None:
+    """Notes if the times of a log and those of its receiver lie apart, as with a clock in local time."""
     if reader.receiver.rolled:
         gathered.notes.append(f"{name}: the receiver's date lagged {reader.receiver.rolled} times, and was set forward")
     if not reader.apart:
@@ -360,11 +392,13 @@ def told_apart(reader, name, gathered):
     apart, count = reader.apart.most_common(1)[0]
     if apart and 2 * count > sum(reader.apart.values()):
         hours, minutes = divmod(abs(apart) // 60, 60)
-        gathered.notes.append(f"{name}: the lines' times are {'ahead of' if apart > 0 else 'behind'} the receiver's UTC by {hours}:{minutes:02d} hours; give an offset of {'+' if apart > 0 else '-'}{hours:02d}:{minutes:02d}")
+        side, sign = ("ahead of", "+") if apart > 0 else ("behind", "-")
+        gathered.notes.append(f"{name}: the lines' times are {side} the receiver's UTC by {hours}:{minutes:02d} hours; "
+                              f"give an offset of {sign}{hours:02d}:{minutes:02d}")
 
 
-def far_off(days):
-    """How many sentences have times more than a day before or behind nearly all others, and one of their days."""
+def far_off(days: Mapping[int, int]) -> tuple[int, int | None]:
+    """Returns how many sentences have times more than a day before or after nearly all others, and one of their days."""
     most, seen, kept = sum(days.values()), 0, []
     for day in sorted(days):
         seen += days[day]
@@ -374,14 +408,14 @@ def far_off(days):
     return sum(days[day] for day in lost), min(lost, default=None)
 
 
-def sort(path):
+def sort(path: str) -> None:
     """Sorts the log by its times; lines of one time keep their order."""
     command = ["sort", "-s", "-k", "1.1,1.13", "-T", os.path.dirname(os.path.abspath(path)), "-o", path, path]
     if subprocess.run(command, env={**os.environ, "LC_ALL": "C"}, stderr=subprocess.DEVNULL).returncode:
         raise Fault(f"{path} cannot be sorted: is there room on the disk")
 
 
-def gather(paths, out, *, mmsi=None, offset=0):
+def gather(paths: Sequence[str], out: str, *, mmsi: int | None = None, offset: int = 0) -> Gathered:
     """Writes the logs as one at the path `out`, and tells what came of them. With an MMSI the receiver's own places become own ship's.
 
     Times without a zone are UTC, less `offset` seconds. Where no line of any log tells a time, the sentences are written as they stand.
@@ -397,11 +431,12 @@ def gather(paths, out, *, mmsi=None, offset=0):
             leave_untimed(gathered, untimed, made)
         ended(out, gathered, log, mmsi)
     except OSError as error:
-        raise Fault(f"{out} cannot be written: {(error.strerror or str(error)).lower()}") from None
+        raise Fault(f"{out} cannot be written: {reason(error)}") from None
     return gathered
 
 
-def read_file(path, log, untimed, mmsi, offset):
+def read_file(path: str, log: Log, untimed: IO[bytes], mmsi: int | None, offset: int) -> None:
+    """Reads each log in a file."""
     for part, lines in parts(path):
         log.gathered.files.append(part)
         reader = Reader(part, log, log.gathered, untimed, mmsi, offset)
@@ -409,8 +444,8 @@ def read_file(path, log, untimed, mmsi, offset):
         told_apart(reader, part.name, log.gathered)
 
 
-def leave_untimed(gathered, untimed, made):
-    """What has no time becomes the log where nothing has one, and else is told."""
+def leave_untimed(gathered: Gathered, untimed: IO[bytes], made: IO[bytes]) -> None:
+    """Writes the sentences without a time if no sentence has one; otherwise counts them."""
     untimed.seek(0)
     if gathered.untimed and gathered.first is None:
         shutil.copyfileobj(untimed, made)
@@ -419,19 +454,20 @@ def leave_untimed(gathered, untimed, made):
         gathered.unread["a sentence before the first time of its log"] = Unread(gathered.untimed, example)
 
 
-def ended(out, gathered, log, mmsi):
-    """Sorts the log where it has to be, and says what the reader is to know of the whole."""
-    gathered.last = log.latest if gathered.first is not None else None
+def ended(out: str, gathered: Gathered, log: Log, mmsi: int | None) -> None:
+    """Sorts the log if necessary, and notes what a user needs to know of the whole."""
+    gathered.end(log.latest)
     count, day = far_off(log.days) if gathered.sentences else (0, None)
     if count:
-        gathered.notes.append(f"{count} sentences have times more than a day off nearly all others, as {time.strftime('%Y-%m-%d', time.gmtime(day * DAY))}: was a clock not set")
+        date = time.strftime("%Y-%m-%d", time.gmtime((day or 0) * DAY))
+        gathered.notes.append(f"{count} sentences have times more than a day off nearly all others, as {date}: was a clock not set")
     if gathered.back:
         sort(out)
         gathered.notes.append(f"{gathered.back} sentences stood behind later ones: the log is sorted by time")
     if gathered.untimed and gathered.first is None:
         gathered.forms["sentence without a time"] = gathered.untimed
         gathered.notes.append("no line tells a time: the log is left without times")
-    fixes = gathered.forms["RMC"] + gathered.forms["gpsd's TPV"]
+    fixes = gathered.forms["RMC"] + gathered.forms[jsons.FIX]
     if mmsi is None and fixes:
         gathered.notes.append(f"own ship's places stand in {fixes} lines (RMC or TPV): with her MMSI they become hers")
     if not gathered.sentences and not gathered.untimed:

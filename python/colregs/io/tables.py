@@ -5,9 +5,10 @@ not known is named, and not guessed.
 """
 import csv
 import re
+from collections.abc import Sequence
 
 from colregs.io import units
-from colregs.io.forms import Unsure, seconds_of
+from colregs.io.forms import Times, Unsure, seconds_of
 from colregs.io.sentences import NO_COURSE, NO_HEADING, NO_SPEED
 
 COLUMNS = {
@@ -31,11 +32,13 @@ class RowFault(Exception):
     """Why a row gives nothing; its words name the form."""
 
 
-def plain(head):
+def plain(head: str) -> str:
+    """Returns the letters of a column's name."""
     return re.sub(r"[^a-z]", "", head.lower())
 
 
-def cells(line, delimiter):
+def cells(line: bytes, delimiter: str) -> list[str]:
+    """Returns the fields of a row."""
     text = line.decode("utf-8", "replace")
     if '"' not in text:
         return text.split(delimiter)
@@ -45,8 +48,8 @@ def cells(line, delimiter):
         return [text]
 
 
-def table_of(line):
-    """The table whose head this line is, or nothing."""
+def table_of(line: bytes) -> "Table | None":
+    """Returns the table whose head a line is, or None."""
     for delimiter in ",;\t|":
         heads = cells(line, delimiter)
         if len(heads) >= len(NEEDED):
@@ -59,10 +62,10 @@ def table_of(line):
 class Table:
     """A head, and what its rows come to."""
 
-    def __init__(self, heads, delimiter):
+    def __init__(self, heads: Sequence[str], delimiter: str) -> None:
         self.width, self.delimiter, self.ship, found = len(heads), delimiter, units.Ship(), [plain(head) for head in heads]
-        self.told = {}                               # of each ship, her static fields as they were told last
-        self.latest = None, None                     # the text of a time, and what it told: many rows have one time
+        self.known: dict[int, tuple[str, ...]] = {}                         # the static fields of each ship in her last row
+        self.latest: tuple[str, tuple[int, bool]] = "", (0, False)          # the text of a time, and its value: many rows have one time
         self.at = {name: found.index(word) for name, words in COLUMNS.items() for word in reversed(words) if word in found}
         used = set(self.at.values())
         self.unknown = [heads[k].strip() for k, word in enumerate(found) if k not in used and word not in UNUSED]
@@ -75,8 +78,8 @@ class Table:
         else:
             self.name = "table of positions"
 
-    def row(self, line, times):
-        """The time of a row, and its sentences; RowFault where there are none."""
+    def row(self, line: bytes, times: Times) -> tuple[int, list[bytes]]:
+        """Returns the time of a row, and its sentences; raises RowFault if it has none."""
         fields = cells(line, self.delimiter)
         if len(fields) != self.width:
             raise RowFault("a row with another number of fields than its head")
@@ -91,13 +94,13 @@ class Table:
             raise RowFault("a row whose MMSI is no number")
         return time, self.sentences(int(mmsi), told, time, counted)
 
-    def time(self, text, times):
-        """The time of a row, and whether it counts seconds."""
+    def time(self, text: str, times: Times) -> tuple[int, bool]:
+        """Returns the time of a row, and whether it counts seconds."""
         found = DAY_FIRST.fullmatch(text) if self.name == "DMA" else None
         try:
             if found:
-                day, month, year, *clock = (int(part) for part in found.groups())
-                return seconds_of(year, month, day, *clock, times.offset), False
+                day, month, year, hour, minute, second = (int(part) for part in found.groups())
+                return seconds_of(year, month, day, hour, minute, second, times.offset), False
             answer = times.read(text.encode())
         except Unsure as doubt:
             raise RowFault(f"a row with {doubt}") from None
@@ -107,7 +110,8 @@ class Table:
             raise RowFault("a row without a time")
         return answer[0], "seconds" in answer[1]
 
-    def sentences(self, mmsi, told, time, counted):
+    def sentences(self, mmsi: int, told: dict[str, str], time: int, counted: bool) -> list[bytes]:
+        """Returns the sentences of a row."""
         try:
             static = self.static(mmsi, told)
             values = {name: units.number(told.get(name, "")) for name in MOVING}
@@ -120,19 +124,19 @@ class Table:
         small = told.get("class", "").upper() in ("B", "CLASS B")
         return static + [self.ship.position(mmsi, report, small, units.status(told.get("status", "")))]
 
-    def static(self, mmsi, told):
-        """The sentences of what a row tells of the ship, where it is told otherwise than in her row before."""
+    def static(self, mmsi: int, told: dict[str, str]) -> list[bytes]:
+        """Returns the sentences of a row's static fields, if they differ from those of the ship's row before."""
         words = tuple(told.get(name, "") for name in STATIC)
-        if self.told.get(mmsi) == words:
+        if self.known.get(mmsi) == words:
             return []
         name, kind, call, length, width, *sides = words
         hull = units.hull([units.number(side) for side in sides], units.number(length), units.number(width))
-        self.told[mmsi] = words
+        self.known[mmsi] = words
         return self.ship.static(mmsi, name, units.kind(kind), hull, call)
 
 
-def raw_units(values):
-    """AISHub's other format has the units of AIS messages: 1/10000 minute, 1/10 knot, 1/10 degree, with what stands for nothing there."""
+def raw_units(values: dict[str, float | None]) -> None:
+    """Scales the fields of AISHub's other format, which has the units of AIS messages, and their numbers for nothing."""
     for name, unit, nothing in (("latitude", 600000, None), ("longitude", 600000, None), ("speed", 10, NO_SPEED), ("course", 10, NO_COURSE),
                                 ("heading", 1, NO_HEADING)):
         value = values[name]

@@ -1,5 +1,8 @@
 """Fields of tables and of JSON in knots, degrees and metres, as the numbers of AIS messages. An empty field is one that tells nothing."""
-from colregs.io.sentences import NO_COURSE, NO_HEADING, NO_LATITUDE, NO_LONGITUDE, NO_SPEED, class_a, class_b, hull_part, name_part, sentence
+from collections.abc import Sequence
+
+from colregs.io.sentences import (NO_COURSE, NO_HEADING, NO_LATITUDE, NO_LONGITUDE, NO_SPEED, Hull, Report, class_a, class_b, hull_part, name_part,
+                                  sentence)
 
 NOTHING = ("", "nan", "null", "none", "n/a", "na", "\\n", "undefined", "unknown")
 STATUSES = {"under way using engine": 0, "at anchor": 1, "not under command": 2, "restricted maneuverability": 3,
@@ -10,14 +13,14 @@ KINDS = {"fishing": 30, "towing": 31, "towing long/wide": 32, "dredging": 33, "d
          "passenger": 60, "cargo": 70, "tanker": 80, "other": 90, "reserved": 0}
 
 
-def number(text):
-    """The number of a field, or nothing where the field tells nothing; ValueError where it is none, or no finite one."""
+def number(text: str | float | None) -> float | None:
+    """Returns the number of a field, or None if the field is empty; raises ValueError if it is no number, or not finite."""
     if text is None:
         return None
     try:
         value = float(text)
     except ValueError:
-        if text.strip().lower() in NOTHING:
+        if str(text).strip().lower() in NOTHING:
             return None
         raise
     if value != value:
@@ -27,41 +30,45 @@ def number(text):
     return value
 
 
-def latitude(degrees):
+def latitude(degrees: float | None) -> int:
+    """Returns a latitude in 1/10000 minute."""
     return NO_LATITUDE if degrees is None or abs(degrees) > 90 else round(degrees * 600000)
 
 
-def longitude(degrees):
+def longitude(degrees: float | None) -> int:
+    """Returns a longitude in 1/10000 minute."""
     return NO_LONGITUDE if degrees is None or abs(degrees) > 180 else round(degrees * 600000)
 
 
-def speed(knots):
-    """Knots as tenths. Below nought stands what overflowed ten bits: 102.3 knots are none."""
+def speed(knots: float | None) -> int:
+    """Returns knots as tenths. A number below zero overflowed ten bits: 102.3 knots stand for none."""
     tenths = NO_SPEED if knots is None else round(knots * 10)
     tenths += 1024 if -512 <= tenths < 0 else 0
     return NO_SPEED if tenths == NO_SPEED or tenths < 0 else min(1022, tenths)
 
 
-def course(degrees):
-    """Degrees as tenths. Below nought stands what overflowed twelve bits: 360 degrees are none."""
+def course(degrees: float | None) -> int:
+    """Returns degrees as tenths. A number below zero overflowed twelve bits: 360 degrees stand for none."""
     tenths = NO_COURSE if degrees is None else round(degrees * 10)
     tenths += 4096 if -2048 <= tenths < 0 else 0
     return tenths if 0 <= tenths < 3600 else NO_COURSE
 
 
-def heading(value):
+def heading(value: float | None) -> int:
+    """Returns a heading in degrees."""
     return NO_HEADING if value is None or not 0 <= round(value) < 360 else round(value)
 
 
-def status(text):
+def status(text: object) -> int:
+    """Returns the navigational status of a number or of words."""
     plain = str(text).strip().lower()
     if plain.isascii() and plain.isdigit():
         return int(plain) if int(plain) <= 15 else 15
     return STATUSES.get(plain, 15)
 
 
-def kind(text):
-    """The type of ship, by its number or by its name."""
+def kind(text: object) -> int:
+    """Returns the type of ship of a number or of a name."""
     plain = str(text).strip().lower()
     try:
         value = number(plain)
@@ -70,20 +77,22 @@ def kind(text):
     return int(value) if value is not None and 0 <= value <= 255 else 0
 
 
-def hull(sides, length, width):
-    """Metres to bow, stern, port and starboard. Where length and width alone are known, those to bow and port are 0, as in ITU-R M.1371."""
+def hull(sides: Sequence[float | None], length: float | None, width: float | None) -> Hull:
+    """Returns metres to bow, stern, port and starboard. If only length and width are known, those to bow and port are 0, as in ITU-R M.1371."""
     if any(sides):
-        return tuple(min(most, round(side or 0)) for side, most in zip(sides, (511, 511, 63, 63)))
+        bow, stern, port, starboard = (min(most, round(side or 0)) for side, most in zip(sides, (511, 511, 63, 63)))
+        return bow, stern, port, starboard
     return 0, min(511, round(length or 0)), 0, min(63, round(width or 0))
 
 
 class Ship:
     """Makes sentences of what a table or JSON tells of ships: her static data when it is told first, or otherwise than before."""
 
-    def __init__(self):
-        self.known = {}
+    def __init__(self) -> None:
+        self.known: dict[tuple[int, str], object] = {}
 
-    def static(self, mmsi, name, kind_of, hull_of, call=""):
+    def static(self, mmsi: int, name: str, kind_of: int, hull_of: Hull, call: str = "") -> list[bytes]:
+        """Returns sentences with a ship's static data if it is new or has changed."""
         told = []
         if name and self.known.get((mmsi, "name")) != name:
             self.known[mmsi, "name"] = name
@@ -94,5 +103,6 @@ class Ship:
         return told
 
     @staticmethod
-    def position(mmsi, report, small, status_of):
+    def position(mmsi: int, report: Report, small: bool, status_of: int) -> bytes:
+        """Returns a position report of class A, or of class B if `small` is set."""
         return sentence(class_b(mmsi, report) if small else class_a(mmsi, report, status_of))

@@ -6,12 +6,15 @@ import io
 import math
 import time
 import tomllib
+from collections.abc import Iterable, Iterator, Sequence
+from typing import Any
 
 from colregs.model import log_checks, scenario_checks
 from colregs.io.files import read_bytes
-from colregs.run.program import Run
+from colregs.io.logs import sampled
+from colregs.io.sentences import ship_place
 from colregs.model.scenario_checks import Finding, numbers_at
-from colregs.model.guess import place, sampled
+from colregs.run.program import Columns, Run
 
 REFUSED = {3: "the first key with a fault is told; docs/SCENARIO.md has its range", 4: "is its name right, and may it be read",
            7: "docs/ROWS.md says what to do at a limit", 9: "own ship must be in the log before the window's end, with course and speed"}
@@ -20,12 +23,13 @@ SHOWN = 5                               # of more findings of one name than this
 STILL = 5                               # 1/10 knot: who never makes this lies still
 
 
-def clock(seconds):
+def clock(seconds: float) -> str:
+    """Returns a moment in UTC."""
     return time.strftime("%Y-%m-%d %H:%M:%S", time.gmtime(seconds))
 
 
-def mode_of(report):
-    """The mode that wrote a report, by its rows; nothing where it has none that tells."""
+def mode_of(report: bytes) -> str | None:
+    """Returns the mode that wrote a report, by its rows; None if it has none that shows it."""
     kinds = {line.split(b",", 1)[0] for line in report.split(b"\n")}
     if kinds & {b"plan", b"none"}:
         return "plan"
@@ -35,55 +39,62 @@ def mode_of(report):
 class Patient:
     """A scenario's values, a log, a report, and what the program writes of them."""
 
-    def __init__(self, scenario, log, report, program, options):
+    def __init__(self, scenario: str, log: str, report: str | None, program: str, options: Sequence[str]) -> None:
         self.scenario, self.log, self.program, self.options = scenario, log, program, options
         self.values = read_scenario(scenario)
         self.report = None if report is None else read_bytes(report)
         self.audit, self.points = (self.run(mode) for mode in ("audit", "points"))
         self.counts = self.audit.counts() if self.audit.status == 0 else {}
-        self.ships, self.times, _, self.norths, self.speeds, self.courses = self.points.columns() if self.points.status == 0 else [[]] * 6
+        columns = self.points.columns() if self.points.status == 0 else Columns([], [], [], [], [], [])
+        self.ships, self.times, _, self.norths, self.speeds, self.courses = columns
         self.vessels = {int(fields[1]): fields for fields in self.rows("vessel")}
         self.sentences = sum(count for name, count in self.counts.items() if name not in NO_SENTENCE)
 
-    def run(self, mode, *options):
+    def run(self, mode: str, *options: str) -> Run:
+        """Runs the program on the scenario and the log."""
         return Run(self.program, mode, self.scenario, self.log, [*self.options, *options])
 
     @functools.cached_property
-    def kinds(self):
-        """The rows of the audit by their kinds."""
-        kinds = collections.defaultdict(list)
+    def kinds(self) -> dict[str, list[list[str]]]:
+        """Returns the rows of the audit by their kinds."""
+        kinds: dict[str, list[list[str]]] = collections.defaultdict(list)
         for fields in csv.reader(io.StringIO(self.audit.text.decode("utf-8", "replace"))):
             kinds[fields[0] if fields else ""].append(fields)
         return kinds
 
-    def rows(self, kind):
+    def rows(self, kind: str) -> list[list[str]]:
+        """Returns the rows of the audit of a kind, as fields."""
         return self.kinds.get(kind, [])
 
-    def window(self):
+    def window(self) -> tuple[int, int]:
+        """Returns the first and the last second of the window."""
         given = {option[0]: int(option[1]) for option in (word[2:].split("=") for word in self.options)}
         start, tick, ticks = (given.get(word, numbers_at(self.values, "window." + word)[0]) for word in ("start", "tick", "ticks"))
         return start, start + tick * ticks
 
 
-def read_scenario(path):
-    """The values of a scenario; none where it is no TOML, which the program tells."""
+def read_scenario(path: str) -> dict[str, Any]:
+    """Returns the values of a scenario; none if it is no TOML, which the program reports."""
     try:
         return tomllib.loads(read_bytes(path).decode("utf-8", "replace"))
     except (ValueError, RecursionError):
         return {}
 
 
-def refusal(mode, run):
+def refusal(mode: str, run: Run) -> Finding:
+    """Returns the finding for a run that the program refused."""
     more = REFUSED.get(run.status, "docs/ROWS.md has the status")
     return Finding("refused run", f"the program ends `{mode}` with status {run.status}, {run.words}: {more}")
 
 
-def refused(patient):
+def refused(patient: Patient) -> Iterator[Finding]:
+    """Yields the run that the program refused."""
     if patient.audit.status or patient.points.status:
         yield refusal("audit", patient.audit) if patient.audit.status else refusal("points", patient.points)
 
 
-def other_report(patient):
+def other_report(patient: Patient) -> Iterator[Finding]:
+    """Yields a finding if the report is not what the program writes."""
     if patient.report is None or patient.audit.status:
         return
     mode = mode_of(patient.report)
@@ -99,7 +110,8 @@ def other_report(patient):
                       "`--start`, `--ticks` or another log")
 
 
-def no_times(patient):
+def no_times(patient: Patient) -> Iterator[Finding]:
+    """Yields a finding if the log has no times, or few."""
     looked, told = log_checks.times_of(patient.log)
     dropped = sum(patient.counts.get(name, 0) for name in ("back", "repeat", "jump"))
     if looked and not told:
@@ -108,7 +120,8 @@ def no_times(patient):
         yield Finding("no times", f"{looked - len(told)} of {looked} lines that were looked at tell no time of their own, and have that of a line before")
 
 
-def window_misses(patient):
+def window_misses(patient: Patient) -> Iterator[Finding]:
+    """Yields a finding if the window and the log have little time in common."""
     _, told = log_checks.times_of(patient.log)
     if not told or not patient.counts:
         return
@@ -123,11 +136,12 @@ def window_misses(patient):
         yield Finding("window misses the log", f"the window is from {clock(first)} to {clock(last)} UTC, and the log from {clock(begin)} to {clock(end)}{hint}")
 
 
-def region_misses(patient):
+def region_misses(patient: Patient) -> Iterator[Finding]:
+    """Yields a finding if most reports lie too far from the reference."""
     far, near = patient.counts.get("far", 0), patient.counts.get("point", 0)
     if far <= near:
         return
-    places = [told for told in map(place, sampled(patient.log)) if told]
+    places = [told for told in map(ship_place, sampled(patient.log)) if told]
     latitude, longitude = (sorted(told[k] for told in places)[len(places) // 2] if places else 0 for k in (0, 1))
     reference = [numbers_at(patient.values, "reference." + word)[0] for word in ("lat", "lon")]
     hint = ""
@@ -135,12 +149,12 @@ def region_misses(patient):
         hint = ". Latitude and longitude look exchanged"
     elif any(close(reference, (one * latitude, two * longitude)) for one, two in ((-1, 1), (1, -1), (-1, -1))):
         hint = ". South and west are below nought"
-    yield Finding("region misses the log", "%d reports lie too far from the reference %d, %d; most lie about %d, %d%s" % (
-        far, *reference, latitude, longitude, hint))
+    yield Finding("region misses the log", f"{far} reports lie too far from the reference {reference[0]}, {reference[1]}; "
+                  f"most lie about {latitude}, {longitude}{hint}")
 
 
-def reference_far(patient):
-    """A reference so far to the north or south that lengths to the east are wrong by more than a hundredth."""
+def reference_far(patient: Patient) -> Iterator[Finding]:
+    """Yields a finding if the reference is so far north or south that lengths to the east are wrong by more than a hundredth."""
     if not patient.norths:
         return
     told = numbers_at(patient.values, "reference.lat")[0] / 600000
@@ -151,27 +165,29 @@ def reference_far(patient):
                       f"{abs(wrong) * 100:.1f} % too {'great' if wrong > 0 else 'small'} there")
 
 
-def no_reports(patient):
-    """A log of which the program accepts nothing, and what came of its lines instead."""
+def no_reports(patient: Patient) -> Iterator[Finding]:
+    """Yields a finding if the program accepts no report, with what became of the lines instead."""
     if patient.counts and not patient.counts.get("point"):
-        most = sorted((name for name, count in patient.counts.items() if count), key=patient.counts.get, reverse=True)
+        most = sorted((name for name, count in patient.counts.items() if count), key=lambda name: patient.counts[name], reverse=True)
         told = ", ".join(f"{patient.counts[name]} `{name}`" for name in most[:3])
         hint = ": tools/tagged reads lines that do not begin with a sentence" if most[:1] == ["other"] else ""
         yield Finding("no reports", f"no position report is accepted; the lines came to {told}{hint}")
 
 
-def close(one, two):
+def close(one: Sequence[float], two: Sequence[float]) -> bool:
+    """Returns whether two places are within two degrees of each other."""
     return all(abs(a - b) <= 1200000 for a, b in zip(one, two))
 
 
-def unsorted(patient):
+def unsorted(patient: Patient) -> Iterator[Finding]:
+    """Yields a finding if many lines are out of order."""
     late = patient.counts.get("late", 0)
     if 100 * late > patient.sentences:
         yield Finding("unsorted lines", f"{late} of {patient.sentences} sentences come later than `log.slack` behind others: tools/tagged sorts them")
 
 
-def damaged(patient):
-    """Lines that are lost in numbers that no good log has."""
+def damaged(patient: Patient) -> Iterator[Finding]:
+    """Yields lines that are lost in numbers that no good log has."""
     lines = sum(patient.counts.values())
     for names, part, name, words in (
             (("form", "sum", "armour"), 10, "damaged sentences", "a receiver, or what copied the log, damages sentences"),
@@ -185,8 +201,8 @@ def damaged(patient):
         yield Finding("parts without their messages", f"{patient.counts['orphan']} parts of messages lack the parts before them: were lines taken out")
 
 
-def absent(patient):
-    """Subjects and own ship that the log does not have."""
+def absent(patient: Patient) -> Iterator[Finding]:
+    """Yields subjects and own ship that the log does not have."""
     if patient.audit.status or not patient.vessels:
         return
     for name in ("subjects", "own.mmsi"):
@@ -195,8 +211,8 @@ def absent(patient):
                 yield Finding("subject not in the log", f"`{name}` has {mmsi}, of whom the log has no report in the window")
 
 
-def unseen(patient):
-    """Vessels with reports that no legs join, tracks that tell nothing, and a window in which nobody is watched."""
+def unseen(patient: Patient) -> Iterator[Finding]:
+    """Yields vessels whose reports no legs join, tracks without course or speed, and a window in which nobody is watched."""
     points, legs = (sum(int(fields[k]) for fields in patient.vessels.values()) for k in (5, 6))
     if patient.vessels and points > 3 * len(patient.vessels) and 2 * legs < points - len(patient.vessels):
         follow = points - len(patient.vessels)
@@ -206,10 +222,12 @@ def unseen(patient):
         yield Finding("no course or no speed", "most reports tell no course or no speed: rules that need them stay open")
     totals = patient.rows("total")
     if len(patient.vessels) > 1 and totals and all(fields[2] == "0" for fields in totals) and legs:
-        yield Finding("nobody is watched", f"no two vessels come within `detect.watch = {( numbers_at(patient.values, 'detect.watch') or [''])[0]}` m of each other in the window")
+        watch = (numbers_at(patient.values, "detect.watch") or [""])[0]
+        yield Finding("nobody is watched", f"no two vessels come within `detect.watch = {watch}` m of each other in the window")
 
 
-def senders(patient):
+def senders(patient: Patient) -> Iterator[Finding]:
+    """Yields what is amiss with who sent what."""
     found = log_checks.Senders(patient.log)
     yield from found.clock()
     shared = list(found.shared())
@@ -221,9 +239,9 @@ def senders(patient):
     yield from found.no_ships({mmsi: fields[2] for mmsi, fields in patient.vessels.items() if mmsi in set(patient.ships)})
 
 
-def at_rest(patient):
-    """Verdicts of subjects that never make half a knot."""
-    fastest = {}
+def at_rest(patient: Patient) -> Iterator[Finding]:
+    """Yields verdicts of subjects that never make half a knot."""
+    fastest: dict[int, int] = {}
     for mmsi, speed in zip(patient.ships, patient.speeds):
         if speed:
             fastest[mmsi] = max(fastest.get(mmsi, 0), int(speed))
@@ -236,9 +254,9 @@ CHECKS = (refused, other_report, no_reports, no_times, window_misses, region_mis
           senders, at_rest)
 
 
-def shortened(found):
-    """The findings, of which a few stand for many of one name."""
-    counts = collections.Counter()
+def shortened(found: Iterable[Finding]) -> Iterator[Finding]:
+    """Yields the findings, of which a few stand for many of one name."""
+    counts: collections.Counter[str] = collections.Counter()
     for finding in found:
         counts[finding.name] += 1
         if counts[finding.name] <= SHOWN:
@@ -248,8 +266,8 @@ def shortened(found):
             yield Finding(name, f"and {count - SHOWN} more such")
 
 
-def findings(scenario, log, report, program, options=()):
-    """What is amiss, each with a name and words. The report may be None; options are those of the program, as `--ticks=60`."""
+def findings(scenario: str, log: str, report: str | None, program: str, options: Sequence[str] = ()) -> list[Finding]:
+    """Returns what is amiss, each with a name and words. The report may be None; options are those of the program, as `--ticks=60`."""
     patient = Patient(scenario, log, report, program, options)
     found = list(scenario_checks.findings(patient.values))
     form = list(log_checks.form_of(log))

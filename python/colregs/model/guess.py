@@ -1,20 +1,21 @@
 """Suggests a scenario for a log: window, tick and reference by what the program reads of it, every other number as in the worked encounters."""
 import bisect
 import math
-import os
 import re
 import statistics
 import time
+from collections.abc import Sequence
+from dataclasses import dataclass, replace
 
-from colregs.io.logs import stamp
-from colregs.errors import Fault
-from colregs.run.program import run_text
-from colregs.io.sentences import lone_message
+from colregs.errors import Fault, reason
+from colregs.io.logs import sampled
+from colregs.io.sentences import ship_place
+from colregs.io.tag_blocks import stamp
+from colregs.run.program import Run, run_text
 
 TICKS = [1, 2, 3, 5, 6, 10, 15, 30, 60]
 LONGEST = 20000                                              # ticks of a window at most
-PLACES = {1: (61, 89), 2: (61, 89), 3: (61, 89), 18: (57, 85), 19: (57, 85)}
-SOUGHT, REACH = 64, 1200000                                  # places in the log that are looked at; how far north or south the plane goes
+REACH = 1200000                                              # 1/10000 minute: how far north or south the plane goes
 MOST_PAIRS, WATCHES = 4096, (5000, 3000, 2000, 1500, 1000)   # the pairs that the program follows; the distances in m that are tried
 MARGIN = 3600                                                # s: what of a log may lie before or behind the times of these places
 LOOK = """version = 1
@@ -70,8 +71,8 @@ te = {te}              # s: and stays so for as long as this
 """
 
 
-def ends(times, reasons, what):
-    """The first and last time, but for a few that lie more than a day off, as of a receiver without its clock."""
+def ends(times: Sequence[int], reasons: list[str], what: str | None) -> tuple[int, int]:
+    """Returns the first and last time, except for a few that lie more than a day off, as of a receiver without its clock."""
     times = sorted(times)
     few = max(1, len(times) // 1000) if len(times) > 10 else 0
     begin, end = bisect.bisect_left(times, times[few] - 86400), bisect.bisect_right(times, times[-1 - few] + 86400)
@@ -81,39 +82,15 @@ def ends(times, reasons, what):
     return times[begin], times[end - 1]
 
 
-def sampled(log):
-    """Lines from all over the log, its first and last among them; of a small one all."""
-    size = os.path.getsize(log)
-    with open(log, "rb") as source:
-        if size < 1 << 20:
-            yield from source
-            return
-        for place in [size * k // SOUGHT for k in range(SOUGHT)] + [size - 64 * 1024]:
-            source.seek(place)
-            if place:
-                source.readline(1025)
-            yield from (source.readline(1025) for _ in range(SOUGHT if place < size - 64 * 1024 else 1000))
-
-
-def place(line):
-    """Latitude and longitude in 1/10000 minute of a ship's position report in one sentence, or nothing."""
-    message = lone_message(line)
-    first = PLACES.get(message.number(0, 6)) if message else None
-    if first is None or message.length < 168 or not 200000000 <= message.number(8, 30) < 800000000:
-        return None
-    longitude, latitude = message.number(first[0], 28, True), message.number(first[1], 27, True)
-    return (latitude, longitude) if abs(longitude) <= 108000000 and abs(latitude) <= 54000000 else None
-
-
-def where(log):
-    """A place near most of those of the log, to have a plane to look at it."""
-    found = [told for told in map(place, sampled(log)) if told]
+def where(log: str) -> tuple[int, int]:
+    """Returns a place near most of those of the log, to have a plane to look at it."""
+    found = [told for told in map(ship_place, sampled(log)) if told]
     if not found:
         with open(log, "rb") as source:
-            found = [told for told in map(place, source) if told][:10000]
+            found = [told for told in map(ship_place, source) if told][:10000]
     if not found:
         raise Fault("no position report is found in the log")
-    cells = {}
+    cells: dict[tuple[int, int], list[tuple[int, int]]] = {}
     for told in found:
         cells.setdefault((told[0] // REACH, told[1] // REACH), []).append(told)
     best = max(cells.values(), key=len)
@@ -121,14 +98,28 @@ def where(log):
     return held, int(statistics.median(told[1] for told in best))
 
 
+@dataclass(frozen=True)
+class Guess:
+    """The numbers of a scenario that are guessed from a log."""
+
+    start: int
+    tick: int
+    ticks: int
+    interval: float | None      # s between reports, or None if nothing shows it
+    latitude: int
+    longitude: int
+    watch: int = WATCHES[0]
+
+
 class Found:
     """What the program read of the log: places and times of accepted reports, and of each vessel under way the median seconds between hers."""
 
-    def __init__(self, done, reference):
+    def __init__(self, done: Run, reference: tuple[int, int]) -> None:
         if done.status != 0:
             raise Fault(f"the program ended with status {done.status}: {done.words}")
         ships, self.times, self.easts, self.norths, speeds, _ = done.columns()
-        apart, latest = {}, {}
+        apart: dict[int, list[int]] = {}
+        latest: dict[int, int] = {}
         for mmsi, at, speed in zip(ships, self.times, speeds):
             if mmsi in latest and (len(speed) > 1 or speed >= b"5"):
                 apart.setdefault(mmsi, []).append(at - latest[mmsi])
@@ -136,8 +127,8 @@ class Found:
         self.apart = [statistics.median(told) for told in apart.values()]
         self.vessels, self.counts, self.first = len(latest), done.counts(), reference
 
-    def reference(self):
-        """The middle of the places, in 1/10000 minute, round the date line where it is nearer."""
+    def reference(self) -> tuple[int, int]:
+        """Returns the middle of the places, in 1/10000 minute, across the date line if it is nearer."""
         cosine = round(math.cos(math.radians((2 * abs(self.first[0]) + 60000) // 120000 / 10)) * 1000000)
         middles = []
         for values, unit in ((sorted(self.norths), 1852), (sorted(self.easts), 1852 * cosine / 1000000)):
@@ -147,8 +138,8 @@ class Found:
         return latitude, (longitude + 108000000) % 216000000 - 108000000
 
 
-def look(log, program, reasons):
-    """What the program reads of the log, on a plane and in a window that hold most of it."""
+def look(log: str, program: str, reasons: list[str]) -> tuple[Found, bool]:
+    """Returns what the program reads in the log, on a plane and in a window that hold most of it; and whether any line has a time."""
     reference, times = where(log), [at for at in map(stamp, sampled(log)) if at is not None]
     first, last = ends(times, reasons, None) if times else (0, 0)
     first = max(0, first - MARGIN)
@@ -156,8 +147,8 @@ def look(log, program, reasons):
     return Found(run_text(program, "points", LOOK.format(start=first, ticks=ticks, lat=reference[0], lon=reference[1]), log), reference), bool(times)
 
 
-def window(found, timed, reasons):
-    """Start, tick, ticks and the interval, of which the tick is guessed."""
+def window(found: Found, timed: bool, reasons: list[str]) -> tuple[int, int, int, float | None]:
+    """Returns start, tick, ticks and the interval between reports, from which the tick is guessed."""
     if not timed:
         reasons.append("no tag block tells a time: every line counts as of the window's start, and a vessel gives one point. Give times first"
                        " (docs/SOURCES.md)")
@@ -172,7 +163,8 @@ def window(found, timed, reasons):
     return first, tick, min(ticks, LONGEST), interval
 
 
-def reference(found, reasons):
+def reference(found: Found, reasons: list[str]) -> tuple[int, int]:
+    """Returns latitude and longitude of the reference."""
     latitude, longitude = found.reference()
     held = max(-45000000, min(45000000, latitude))
     if held != latitude:
@@ -182,59 +174,60 @@ def reference(found, reasons):
     return held, longitude
 
 
-def text_of(guess):
-    """The scenario's text, with the comments in one column."""
-    tick, ticks, interval = guess["tick"], guess["ticks"], guess["interval"]
+def text_of(guess: Guess) -> str:
+    """Returns the scenario's text, with the comments in one column."""
+    tick, ticks, interval = guess.tick, guess.ticks, guess.interval
     times = {name: -(-value // tick) * tick for name, value in (
         ("horizon", 900), ("t8", 60), ("ta", 120), ("tl", 30), ("tw", 120), ("te", 600))}
-    told = "nothing told how far reports are apart" if interval is None else f"reports of vessels under way are about {interval:g} s apart"
+    known = "nothing shows how far reports are apart" if interval is None else f"reports of vessels under way are about {interval:g} s apart"
     text = TEXT.format(**{
-        **guess, **times, "interval": told, "clock": time.strftime("%Y-%m-%d %H:%M:%S UTC", time.gmtime(guess["start"])),
+        "start": guess.start, "tick": tick, "ticks": ticks, "lat": guess.latitude, "lon": guess.longitude, "watch": guess.watch, **times,
+        "interval": known, "clock": time.strftime("%Y-%m-%d %H:%M:%S UTC", time.gmtime(guess.start)),
         "length": f"{ticks * tick // 60} minutes" if ticks * tick >= 120 else f"{ticks * tick} s", "gap": max(200, tick)})
     return re.sub(r"(?m)^([a-z0-9_]+ = \S+) +# ", lambda line: f"{line[1]:<22}# ", text)
 
 
-def fitted(guess, vessels, log, program, reasons):
-    """The guess with a watch, and if need be a window, with which no more pairs come into contact than the program follows."""
+def fitted(guess: Guess, vessels: int, log: str, program: str, reasons: list[str]) -> Guess:
+    """Returns the guess with a watch, and if need be a window, in which no more pairs come into contact than the program follows."""
     if vessels * (vessels - 1) <= MOST_PAIRS:
         return guess
     for watch in WATCHES:
-        guess = {**guess, "watch": watch}
+        guess = replace(guess, watch=watch)
         if fits(guess, log, program):
             break
-    whole = guess["ticks"]
-    while guess["ticks"] > 1 and guess["watch"] == WATCHES[-1] and not fits(guess, log, program):
-        guess = {**guess, "ticks": guess["ticks"] // 2}
-    if guess["ticks"] < whole:
-        reasons.append(f"the window is cut to {guess['ticks']} of {whole} ticks: more than {MOST_PAIRS} pairs come into contact. "
+    whole = guess.ticks
+    while guess.ticks > 1 and guess.watch == WATCHES[-1] and not fits(guess, log, program):
+        guess = replace(guess, ticks=guess.ticks // 2)
+    if guess.ticks < whole:
+        reasons.append(f"the window is cut to {guess.ticks} of {whole} ticks: more than {MOST_PAIRS} pairs come into contact. "
                        "tools/colregs-many audits such a log by subjects and windows")
-    if guess["watch"] != WATCHES[0]:
-        reasons.append(f"the watch is {guess['watch']} m in place of {WATCHES[0]}: more than {MOST_PAIRS} pairs would come into contact")
+    if guess.watch != WATCHES[0]:
+        reasons.append(f"the watch is {guess.watch} m in place of {WATCHES[0]}: more than {MOST_PAIRS} pairs would come into contact")
     return guess
 
 
-def fits(guess, log, program):
+def fits(guess: Guess, log: str, program: str) -> bool:
+    """Returns whether the program follows all pairs."""
     done = run_text(program, "audit", text_of(guess), log)
     return not (done.status == 7 and "pairs" in done.words)
 
 
-def suggested(log, program):
-    """A scenario's text for a log with tag blocks, and the reasons for what in it was guessed. A Fault where the log has no position report."""
-    reasons = []
+def suggested(log: str, program: str) -> tuple[str, list[str]]:
+    """Returns a scenario's text for a log with tag blocks, and the reasons for what was guessed; raises a Fault if no position report is found."""
+    reasons: list[str] = []
     try:
         found, timed = look(log, program, reasons)
     except OSError as error:
-        raise Fault(f"{log} cannot be read: {(error.strerror or str(error)).lower()}") from None
+        raise Fault(f"{log} cannot be read: {reason(error)}") from None
     if not found.times:
         raise Fault("the program accepts no position report of the log")
     start, tick, ticks, interval = window(found, timed, reasons)
     latitude, longitude = reference(found, reasons)
-    guess = {"start": start, "tick": tick, "ticks": ticks, "interval": interval, "lat": latitude, "lon": longitude, "watch": WATCHES[0]}
-    guess = fitted(guess, found.vessels, log, program, reasons)
+    guess = fitted(Guess(start, tick, ticks, interval, latitude, longitude), found.vessels, log, program, reasons)
     reasons.append(f"{len(found.times)} position reports of {found.vessels} vessels")
     if interval is not None:
-        whole = "to the last" if guess["ticks"] == ticks else "on, and is cut"
-        reasons.append(f"the window is from the first report {whole}: {guess['ticks'] * tick} s from {start} on")
+        whole = "to the last" if guess.ticks == ticks else "on, and is cut"
+        reasons.append(f"the window is from the first report {whole}: {guess.ticks * tick} s from {start} on")
         reasons.append(f"the tick is {tick} s: reports of vessels under way are {interval:g} s apart, by their median")
     reasons.append(f"the reference is the middle of the places: latitude {latitude}, longitude {longitude}")
     return text_of(guess), reasons

@@ -3,6 +3,8 @@ import difflib
 import functools
 import os
 import re
+from collections.abc import Mapping
+from typing import Any
 
 from colregs.errors import Fault
 from colregs.run.program import TOP
@@ -12,14 +14,14 @@ NO_KEYS = {"document", "formulas"}      # what the table tells of the text as a 
 
 
 @functools.cache
-def units():
-    """The unit of each key, as `window.tick`; a key that is no table's has no point."""
+def units() -> dict[str, str]:
+    """Returns the unit of each key, as `window.tick`; a key outside the tables has no point."""
     try:
         with open(next(path for path in PAGES if os.path.exists(path)), encoding="utf-8") as source:
             page = source.read()
     except StopIteration:
         raise Fault(f"{PAGES[0]} is not here, from which the keys are taken") from None
-    known = {}
+    known: dict[str, str] = {}
     for row in re.findall(r"^\| [\d, to]+ \|(.*)\|$", page, re.M):
         cells, table = [cell.strip() for cell in row.split("|")], ""
         for key in re.findall(r"`([a-z0-9_.]+)`", cells[0]):
@@ -30,9 +32,9 @@ def units():
     return known
 
 
-def names_of(values):
-    """Each key of a scenario, as `window.tick`, once."""
-    found = []
+def names_of(values: Mapping[str, Any]) -> list[str]:
+    """Returns each key of a scenario, as `window.tick`, once."""
+    found: list[str] = []
     for key, value in values.items():
         tables = value if isinstance(value, list) else [value]
         inner = [name for table in tables if isinstance(table, dict) for name in table]
@@ -40,24 +42,26 @@ def names_of(values):
     return list(dict.fromkeys(found))
 
 
-def tables():
+def tables() -> set[str]:
+    """Returns the names of the tables."""
     return {key.partition(".")[0] for key in units() if "." in key}
 
 
-def likeness(one, two):
+def likeness(one: str, two: str) -> float:
+    """Returns how alike two names are, from 0 to 1."""
     return difflib.SequenceMatcher(None, one.lower(), two.lower()).ratio()
 
 
-def nearest(name):
-    """The key or table whose name is nearest to this one, or nothing; in its own table a key is a little nearer."""
+def nearest(name: str) -> str | None:
+    """Returns the key or table whose name is nearest to this one, or None; in its own table a key is a little nearer."""
     head, _, tail = name.rpartition(".")
     scores = {key: likeness(tail, key.rpartition(".")[2]) + (key.rpartition(".")[0] == head) / 10 for key in [*units(), *tables()]}
-    best = max(sorted(scores), key=scores.get)
+    best = max(sorted(scores), key=lambda key: scores[key])
     return best if scores[best] >= 0.65 else None
 
 
-def doubt(name):
-    """What is wrong with a key: the name of the finding and words; or nothing."""
+def doubt(name: str) -> tuple[str, str] | None:
+    """Returns what is wrong with a key, as the name of the finding and its words; or None."""
     if name in units() or name in tables():
         return None
     head, _, tail = name.rpartition(".")

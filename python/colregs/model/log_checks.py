@@ -2,18 +2,19 @@
 import collections
 import re
 import statistics
+from collections.abc import Iterator, Mapping
 
 from colregs.io.forms import seconds_of
-from colregs.io.logs import stamp, timed
+from colregs.io.logs import sampled, timed
 from colregs.io.packing import encoding, packing
 from colregs.model.scenario_checks import Finding
-from colregs.model.guess import sampled
-from colregs.io.sentences import lone_message
+from colregs.io.sentences import Message, lone_message, place_of
 from colregs.io.sources import CUT
 from colregs.io.tables import table_of
+from colregs.io.tag_blocks import stamp
 
 MOST_SPEED = 102.2 * 1852 / 3600         # metres a second: what no ship makes
-PLACES = {1: (61, 89), 2: (61, 89), 3: (61, 89), 18: (57, 85), 19: (57, 85)}
+Report = tuple[int, int, int]            # time, latitude and longitude
 STATIONS = {4: "a base station's time", 9: "an aircraft's report", 11: "a base station's time", 21: "an aid to navigation's report"}
 FLOATS = re.compile(r"\bBUOY|\bBEACON|\bNETS?\b|\bNETMARK|\d+ ?%|\d\d?\.\d ?V\b")
 STEADY = 3                               # so many reports of either of two tracks make two ships
@@ -22,8 +23,8 @@ OFF = 60                                 # s: a log's clock that is farther off 
 MOVED = 600                              # s: a track without a report for so long has gone over into the other
 
 
-def form_of(log):
-    """What keeps the log from being read as it is."""
+def form_of(log: str) -> Iterator[Finding]:
+    """Yields what keeps the log from being read as it is."""
     packed = packing(log)
     if packed != "plain":
         yield Finding("packed log", f"the log is packed by {packed}: tools/tagged unpacks it")
@@ -40,8 +41,8 @@ def form_of(log):
         yield Finding("no sentences", "the log " + words)
 
 
-def times_of(log):
-    """How many sentences were looked at, and the times that they tell."""
+def times_of(log: str) -> tuple[int, list[int]]:
+    """Returns how many sentences were examined, and the times in their tag blocks."""
     lines = [line for line in sampled(log) if CUT.search(line)]
     return len(lines), [at for at in map(stamp, lines) if at is not None]
 
@@ -49,10 +50,12 @@ def times_of(log):
 class Track:
     """The reports of one MMSI: the latest, and the latest that does not fit to it. Where both go on side by side, two ships send them."""
 
-    def __init__(self, report):
-        self.main, self.second, self.fits, self.most, self.reports = report, None, [0, 0], 0, 1
+    def __init__(self, report: Report) -> None:
+        self.main, self.fits, self.most, self.reports = report, [0, 0], 0, 1
+        self.second: Report | None = None
 
-    def take(self, report):
+    def take(self, report: Report) -> None:
+        """Takes a report."""
         self.reports += 1
         to_main, to_second = near(self.main, report), self.second is not None and near(self.second, report)
         if to_main:
@@ -68,8 +71,8 @@ class Track:
             self.main, self.second = self.second, None
 
 
-def near(one, two):
-    """Whether a ship can have come from one report to the other: roughly, on a sphere without its poles."""
+def near(one: Report, two: Report) -> bool:
+    """Returns whether a ship can have come from one report to the other: roughly, on a sphere without its poles."""
     metres = 1852 / 10000 * max(abs(two[1] - one[1]), min(abs(two[2] - one[2]), 216000000 - abs(two[2] - one[2])) * 0.25)
     return metres <= MOST_SPEED * (abs(two[0] - one[0]) + 10) + 200
 
@@ -77,8 +80,10 @@ def near(one, two):
 class Senders:
     """Who sent what: ships that share an MMSI, and MMSIs that send what no ship sends."""
 
-    def __init__(self, log):
-        self.tracks, self.stations, self.apart = {}, collections.defaultdict(collections.Counter), []
+    def __init__(self, log: str) -> None:
+        self.tracks: dict[int, Track] = {}
+        self.stations: dict[int, collections.Counter[int]] = collections.defaultdict(collections.Counter)
+        self.apart: list[int] = []
         with open(log, "rb") as source:
             for at, line in timed(source):
                 message = lone_message(line)
@@ -87,47 +92,49 @@ class Senders:
                     if at is not None and message.number(0, 6) in CLOCKS:
                         self.compare(at, message)
 
-    def take(self, at, message):
+    def take(self, at: int, message: Message) -> None:
+        """Takes a message."""
         kind, mmsi = message.number(0, 6), message.number(8, 30)
-        first = PLACES.get(kind)
+        place = place_of(message)
         if kind in STATIONS:
             self.stations[mmsi][kind] += 1
-        elif first and message.length >= 168:
-            longitude, latitude = message.number(first[0], 28, True), message.number(first[1], 27, True)
-            if abs(longitude) <= 108000000 and abs(latitude) <= 54000000:
-                report = at, latitude, longitude
-                if mmsi in self.tracks:
-                    self.tracks[mmsi].take(report)
-                else:
-                    self.tracks[mmsi] = Track(report)
+        elif place and mmsi in self.tracks:
+            self.tracks[mmsi].take((at, *place))
+        elif place:
+            self.tracks[mmsi] = Track((at, *place))
 
-    def compare(self, at, message):
-        """How far a line's time is from the UTC that its base station tells."""
+    def compare(self, at: int, message: Message) -> None:
+        """Notes how far a line's time is from the UTC in its base station's message."""
         fields = [message.number(first, width) for first, width in ((38, 14), (52, 4), (56, 5), (61, 5), (66, 6), (72, 6))]
         try:
             self.apart.append(at - seconds_of(*fields))
         except ValueError:
             return
 
-    def clock(self):
+    def clock(self) -> Iterator[Finding]:
+        """Yields a finding if the log's times are far from the UTC of base stations."""
         apart = round(statistics.median(self.apart)) if self.apart else 0
         if abs(apart) > OFF:
-            yield Finding("clock that is off", f"the log's times are {abs(apart)} s ({abs(apart) / 3600:.2f} hours) {'ahead of' if apart > 0 else 'behind'} the UTC that base stations tell in {len(self.apart)} messages")
+            side = "ahead of" if apart > 0 else "behind"
+            yield Finding("clock that is off", f"the log's times are {abs(apart)} s ({abs(apart) / 3600:.2f} hours) {side} the UTC that base stations tell "
+                          f"in {len(self.apart)} messages")
 
-    def lost(self, points):
-        """Ships most of whose reports are not accepted, by how many are."""
+    def lost(self, points: Mapping[int, int]) -> Iterator[tuple[int, int, int]]:
+        """Yields ships most of whose reports are not accepted: MMSI, reports, accepted reports."""
         for mmsi, track in sorted(self.tracks.items()):
             if track.reports >= 10 and 2 * points.get(mmsi, 0) < track.reports:
                 yield mmsi, track.reports, points.get(mmsi, 0)
 
-    def shared(self):
+    def shared(self) -> Iterator[Finding]:
+        """Yields MMSIs that two ships may share."""
         for mmsi, track in sorted(self.tracks.items()):
             if track.most >= STEADY:
                 yield Finding("shared MMSI", f"{mmsi} goes on at two places at a time: two ships may share it")
 
-    def no_ships(self, vessels):
+    def no_ships(self, vessels: Mapping[int, str]) -> Iterator[Finding]:
+        """Yields stations that are judged as vessels."""
         for mmsi in sorted(set(self.stations) & set(vessels)):
-            kind = max(self.stations[mmsi], key=self.stations[mmsi].get)
+            kind = max(self.stations[mmsi], key=lambda kind: self.stations[mmsi][kind])
             yield Finding("station that is no ship", f"{mmsi} is judged as a vessel, and sends {STATIONS[kind]} (message {kind})")
         for mmsi, name in sorted(vessels.items()):
             if FLOATS.search(name):

@@ -1,9 +1,16 @@
 """What a doctor sees in a scenario alone: keys that do not count, units that look wrong, numbers that are at odds."""
-import collections
+from collections.abc import Iterator, Mapping
+from typing import Any, NamedTuple
 
 from colregs.model import keys
 
-Finding = collections.namedtuple("Finding", "name words")
+
+class Finding(NamedTuple):
+    """What is amiss: its name, which docs/SOURCES.md lists, and words."""
+
+    name: str
+    words: str
+
 
 LEAST = {"1/10 degree": 20, "1/10 knot": 3, "m": 20}      # below this a number that is not nought looks like one of another unit
 LEAST_OF = {"act.apparent_turn": 50, "act.apparent_speed": 10, "log.max_speed": 100, "own.courses": 100, "own.speeds": 10, "detect.doubt": 2}
@@ -14,20 +21,22 @@ AT_ODDS = [("act.steady_turn", "act.apparent_turn"), ("act.steady_speed", "act.a
            ("detect.clear", "detect.watch"), ("detect.risk", "detect.clear"), ("rules.close", "detect.watch")]
 
 
-def value_at(values, name):
-    """What stands at a key, or nothing."""
+def value_at(values: Any, name: str) -> Any:
+    """Returns the value of a key, or None."""
     for part in name.split("."):
         values = values.get(part) if isinstance(values, dict) else None
     return values
 
 
-def numbers_at(values, name):
+def numbers_at(values: Mapping[str, Any], name: str) -> list[Any]:
+    """Returns the numbers at a key: of a list all of its numbers."""
     found = value_at(values, name)
     found = found if isinstance(found, list) else [found]
     return [number for number in found if isinstance(number, (int, float)) and not isinstance(number, bool)]
 
 
-def unknown_keys(values):
+def unknown_keys(values: Mapping[str, Any]) -> Iterator[Finding]:
+    """Yields keys that do not count."""
     for name in keys.names_of(values):
         doubt = keys.doubt(name)
         if doubt:
@@ -37,8 +46,8 @@ def unknown_keys(values):
             yield Finding("key of another version", f"`{name}` is ignored in version 1: give `version = 2` and all four safe distances")
 
 
-def wrong_units(values):
-    """Numbers that are so small that they look like degrees, knots or miles."""
+def wrong_units(values: Mapping[str, Any]) -> Iterator[Finding]:
+    """Yields numbers that are so small that they look like degrees, knots or miles."""
     for name, unit in keys.units().items():
         told = [abs(number) for number in numbers_at(values, name) if number]
         if not told or unit not in LOOKS or max(told) >= LEAST_OF.get(name, LEAST[unit]):
@@ -51,7 +60,8 @@ def wrong_units(values):
     yield from wrong_place_and_time(values)
 
 
-def wrong_place_and_time(values):
+def wrong_place_and_time(values: Mapping[str, Any]) -> Iterator[Finding]:
+    """Yields a reference in degrees and a start in milliseconds."""
     latitude, longitude = (numbers_at(values, "reference." + word) for word in ("lat", "lon"))
     if latitude and longitude and (latitude[0] or longitude[0]) and abs(latitude[0]) <= 90 and abs(longitude[0]) <= 180:
         yield Finding("degrees for the reference", f"`reference` is {latitude[0]:g}, {longitude[0]:g}: the unit is 1/10000 minute, so a degree is 600000")
@@ -60,15 +70,16 @@ def wrong_place_and_time(values):
         yield Finding("milliseconds for seconds", f"`window.start = {start[0]}` looks like milliseconds: the unit is seconds")
 
 
-def at_odds(values):
+def at_odds(values: Mapping[str, Any]) -> Iterator[Finding]:
+    """Yields numbers that contradict each other."""
     for less, more in AT_ODDS:
         small, great = numbers_at(values, less), numbers_at(values, more)
         if small and great and small[0] > great[0]:
             yield Finding("numbers at odds", f"`{less} = {small[0]}` is more than `{more} = {great[0]}`")
 
 
-def no_ships(values):
-    """MMSIs of subjects and of own ship that are no ship's."""
+def no_ships(values: Mapping[str, Any]) -> Iterator[Finding]:
+    """Yields MMSIs of subjects and of own ship that are no ship's."""
     for name in ("subjects", "own.mmsi"):
         for mmsi in numbers_at(values, name):
             if not 200000000 <= mmsi <= 799999999:
@@ -76,6 +87,7 @@ def no_ships(values):
                 yield Finding("station that is no ship", f"`{name}` has {mmsi}, which is {kind}: a ship's MMSI is from 200000000 to 799999999")
 
 
-def findings(values):
+def findings(values: Mapping[str, Any]) -> Iterator[Finding]:
+    """Yields all findings about a scenario."""
     for check in (unknown_keys, wrong_units, at_odds, no_ships):
         yield from check(values)

@@ -7,7 +7,7 @@ from collections.abc import Iterator
 from typing import Any
 
 from colregs.errors import Fault
-from colregs.io.logs import stamp
+from colregs.io.tag_blocks import stamp
 from colregs.model.scenario import MOST_TICKS, Scenario
 from colregs.shares.jobs import Job, Tile
 from colregs.shares.runs import piped, pipeline, reader
@@ -20,16 +20,17 @@ class Span:
 
     def __init__(self, path: str) -> None:
         self.path = path
-        self.least: int | None = None
-        self.greatest: int | None = None
+        least: int | None = None
+        greatest: int | None = None
         with subprocess.Popen(["bash", "-c", reader([path])], stdout=subprocess.PIPE, stderr=subprocess.PIPE) as log:
             assert log.stdout and log.stderr
             for line in log.stdout:
                 at = stamp(line)
                 if at is not None:
-                    self.least = at if self.least is None else min(at, self.least)
-                    self.greatest = at if self.greatest is None else max(at, self.greatest)
+                    least = at if least is None else min(at, least)
+                    greatest = at if greatest is None else max(at, greatest)
             words = log.stderr.read().decode("utf-8", "replace").strip()
+        self.least, self.greatest = least, greatest
         if log.returncode:
             raise Fault(f"{path} was not read to its end: {words}")
 

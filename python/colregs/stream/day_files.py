@@ -5,7 +5,7 @@ import time
 from collections.abc import Callable, Iterator
 from typing import BinaryIO
 
-from colregs.io.logs import stamp
+from colregs.io.tag_blocks import stamp
 from colregs.errors import Fault, reason
 
 Mark = tuple[str, int]           # a place in the day files: a day, and bytes from its beginning
