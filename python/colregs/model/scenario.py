@@ -45,6 +45,8 @@ class Scenario:
         except (KeyError, TypeError, ValueError, ZeroDivisionError) as error:
             raise Fault(f"{path}: a number of window, log, detect or rules is missing or is none: {error}") from None
         self.subjects: list[int] = self.values.get("subjects", [])
+        self.ranks: bool = rules.get("ranks") == 1
+        self.formulas = {str(table.get("name")): str(table["text"]) for table in self.values.get("formula", [])}
 
     def with_subjects(self, subjects: list[int] | None) -> str:
         """Returns the text with these subjects instead of its own, and nothing else changed."""
@@ -55,6 +57,10 @@ class Scenario:
         if values_of(self.path, text) != {**self.values, "subjects": subjects}:
             raise Fault(f"{self.path}: its subjects cannot be replaced: put `subjects = [..]` on lines of its own before the first table")
         return text
+
+    def steps(self, seconds: int) -> int:
+        """Returns the fewest ticks that last so long."""
+        return -(-seconds // self.tick)
 
     def settled(self, ticks: int) -> int:
         """Returns the last step whose rows neither the end of a window of this many ticks nor a later line can change."""
