@@ -36,6 +36,33 @@ FORMULAS = ("engaged -> clear(150)", "begin -> !O[60,900] begin", "O[0,300] risk
             "(engaged S[0,600] begin) & opening -> clear(200)", "H[0,240] engaged -> opening", "begin -> F[0,120] !engaged", "!seen U[0,120] risk | true")
 
 
+@dataclass(frozen=True)
+class Theme:
+    """How likely each thing is that makes a log hard to cut; one theme has much of one thing, so that it is seldom hidden behind the others."""
+
+    late: float = 0.0
+    repeated: float = 0.0
+    bare: float = 0.0
+    damaged: float = 0.0
+    parts: float = 0.0
+    overlong: float = 0.0
+    future: float = 0.0
+    wrong_place: float = 0.0
+    ahead: float = 0.0              # a station whose clock is ahead for a while
+    shared: float = 0.1             # a second track under the MMSI
+    types: float = 0.3
+    formulas: tuple[int, ...] = (0, 0, 1, 2)
+    ranks: tuple[int, ...] = (0, 1)
+    tiles: tuple[tuple[int, int] | None, ...] = (None, None, None, (2, 1), (2, 2))
+    moored: tuple[int, ...] = (0, 0, 2, 3)
+
+
+MIXED = Theme(0.01, 0.02, 0.01, 0.01, 0.01, 0.002, 0.001, 0.004, 0.1)
+THEMES = (Theme(), MIXED, Theme(types=0.95, ranks=(1,), shared=0, parts=0.02), Theme(shared=0.6, wrong_place=0.02, repeated=0.05),
+          Theme(late=0.05, future=0.004, bare=0.02, ahead=0.5, shared=0), Theme(parts=0.15, damaged=0.03, overlong=0.01, types=0.9, ranks=(1,), tiles=((2, 1), (2, 2)), shared=0),
+          Theme(formulas=(2, 3), shared=0), Theme(moored=(3, 4), shared=0), MIXED)
+
+
 @dataclass
 class Drawn:
     """A drawn log as lines with the moments of their arrival, its scenario and how it is planned."""
@@ -46,9 +73,9 @@ class Drawn:
     ticks: int = 0
 
 
-def scenario_text(draw: random.Random, ticks: int) -> str:
+def scenario_text(draw: random.Random, ticks: int, theme: Theme) -> str:
     """Returns a scenario over `ticks` steps."""
-    formulas = draw.sample(FORMULAS, draw.choice((0, 0, 1, 2)))
+    formulas = draw.sample(FORMULAS, draw.choice(theme.formulas))
     tables = "".join(f'[[formula]]\nname = "own{k}"\ntext = "{text}"\n' for k, text in enumerate(formulas))
     return f"""version = 2
 window = {{ start = {START}, tick = {TICK}, ticks = {ticks} }}
@@ -68,7 +95,7 @@ ta = {draw.choice((30, 90))}
 tl = 30
 tw = 60
 te = {draw.choice((60, 300))}
-ranks = {draw.choice((0, 1, 1))}
+ranks = {draw.choice(theme.ranks)}
 {tables}"""
 
 
@@ -108,40 +135,44 @@ def voyage(mmsi: int, kind: int) -> list[tuple[int, int]]:
 class Log:
     """Draws the lines of a log."""
 
-    def __init__(self, draw: random.Random, seconds: int) -> None:
-        self.draw, self.seconds, self.lines = draw, seconds, list[tuple[float, bytes]]()
-        self.wild = draw.random() < 0.7             # in part of the logs nothing is amiss
+    def __init__(self, draw: random.Random, seconds: int, theme: Theme) -> None:
+        self.draw, self.seconds, self.theme, self.lines = draw, seconds, theme, list[tuple[float, bytes]]()
 
     def add(self, at: float, line: bytes) -> None:
         self.lines.append((at, line))
 
     def one_line(self, at: float, fields: list[tuple[int, int]]) -> None:
         """Adds a message, now and then late, twice, without a stamp, damaged or in parts."""
-        draw, chance = self.draw, self.draw.random() if self.wild else 1.0
-        line = stamped(at, sentences.sentence(fields))
-        if chance < 0.01:
-            self.add(at + draw.uniform(5, 90), line)                                        # late
-        elif chance < 0.03:
+        draw, theme = self.draw, self.theme
+        names = ("late", "repeated", "bare", "damaged", "parts", "overlong", "future")
+        chances = [float(getattr(theme, name)) for name in names]
+        name = draw.choices([*names, ""], [*chances, 1 - sum(chances)])[0]
+        sentence = sentences.sentence(fields)
+        line = stamped(at, sentence)
+        if name == "late":
+            self.add(at + draw.uniform(5, 90), line)
+        elif name == "repeated":
             self.add(at, line)
-            self.add(at + draw.uniform(0, 8), stamped(at + draw.choice((0, 1, 5)), sentences.sentence(fields), b"s:two"))       # repeated
-        elif chance < 0.04:
-            self.add(at, sentences.sentence(fields))                                        # no stamp
-        elif chance < 0.05:
-            self.add(at, line[:-1] + b"x")                                                  # damaged
-        elif chance < 0.06:
+            self.add(at + draw.uniform(0, 8), stamped(at + draw.choice((0, 1, 5)), sentence, b"s:two"))
+        elif name == "bare":
+            self.add(at, sentence)
+        elif name == "damaged":
+            self.add(at, draw.choice((line[:-1] + b"x", b"\\c:1" + line[4:])))
+        elif name == "parts":
             self.parts(at, fields)
-        elif chance < 0.062:
-            self.add(at, stamped(at + draw.choice((400, 3000)), b"x" * 1100))               # overlong: no stamp
-        elif chance < 0.063:
-            self.add(at, stamped(at + draw.choice((20, 45, 300, 1500, 10 ** 6)), sentences.sentence(fields)))                  # from the future
+        elif name == "overlong":
+            self.add(at, stamped(at + draw.choice((0, 400, 3000)), sentence + b" " + b"x" * 1100))
+            self.add(at, line)
+        elif name == "future":
+            self.add(at, stamped(at + draw.choice((20, 45, 300, 1500, 10 ** 6)), sentence))
         else:
             self.add(at, line)
 
     def parts(self, at: float, fields: list[tuple[int, int]]) -> None:
         draw = self.draw
-        damage = draw.choice((0, 0, 0, 1)) if self.wild else 0
+        damage = draw.choice((1, 2)) if draw.random() < 4 * self.theme.damaged else 0
         for k, part in enumerate(in_parts(fields, b"%d" % draw.randrange(3), draw.choice((b"A", b"B")), damage)):
-            later = k * draw.choice((0, 0.01, 3, 20)) if self.wild else 0
+            later = k * draw.choice((0, 0.01, 3, 20))
             self.add(at + k * 0.001 + later, stamped(at + later, part) if draw.random() < 0.6 or not k else part)
 
     def type_of(self, mmsi: int, at: float) -> None:
@@ -155,7 +186,7 @@ class Log:
     def track(self, mmsi: int, x: float, y: float, speed: float, course: float, begin: float, end: float, every: float, moored: bool) -> None:
         """Adds the reports of a vessel from a place on, with turns."""
         draw, at = self.draw, begin + self.draw.uniform(0, every)
-        status = draw.choice((0, 0, 15, 15, 15, 8, 7, 3))
+        status = draw.choice((0, 15, 15, 15, 15, 8, 7, 3))
         turn_at = draw.uniform(begin, end) if draw.random() < 0.5 else end
         back = draw.choice((180, 30, -40, 90))
         before = begin
@@ -164,7 +195,7 @@ class Log:
                 course = (course + back) % 360
             x += speed * KNOT * (at - before) * math.sin(math.radians(course))
             y += speed * KNOT * (at - before) * math.cos(math.radians(course))
-            shown = (x + draw.choice((9000, -20000)), y) if self.wild and draw.random() < 0.004 else (x, y)        # a wrong place
+            shown = (x + draw.choice((9000, -20000)), y) if draw.random() < self.theme.wrong_place else (x, y)        # a wrong place
             self.one_line(at, report(mmsi, at, *shown, speed, course, status))
             before, at = at, at + every * (draw.uniform(0.9, 1.1) if moored or draw.random() < 0.98 else draw.uniform(3, 12))
 
@@ -172,39 +203,39 @@ class Log:
 def draw_tracks(draw: random.Random, log: Log) -> None:
     """Draws vessels that cross a common place, some that lie still there, and some that share an MMSI."""
     seconds, mmsi = log.seconds, FIRST_MMSI
-    for _ in range(draw.randrange(2, 6)):
+    for _ in range(draw.randrange(3, 8)):
         speed, course, meet = draw.uniform(4, 18), draw.uniform(0, 360), draw.uniform(0, seconds)
         x, y = draw.choice((0, 4000, 9000)) + draw.uniform(-400, 400), draw.uniform(-400, 400)
         begin = max(0.0, meet - draw.uniform(300, 2500))
         way = speed * KNOT * (begin - meet)
         end = min(float(seconds), meet + draw.uniform(300, 2500))
         log.track(mmsi, x + way * math.sin(math.radians(course)), y + way * math.cos(math.radians(course)), speed, course, begin, end, draw.choice((8, 10, 25)), False)
-        if draw.random() < 0.4:
-            log.type_of(mmsi, draw.choice((begin, draw.uniform(begin, end), draw.uniform(0, seconds))))
-        if draw.random() < 0.15:
+        if draw.random() < log.theme.types:
+            log.type_of(mmsi, draw.choice((begin, begin, draw.uniform(begin, end), draw.uniform(0, seconds))))
+        if draw.random() < log.theme.shared:
             other = draw.choice((30000.0, 5000.0, 800.0))
             log.track(mmsi, x + other, y, draw.choice((0, 6)), draw.uniform(0, 360), draw.uniform(0, seconds / 2), seconds, draw.choice((10, 30)), False)
         mmsi += 1
-    for _ in range(draw.choice((0, 0, 2, 3))):
+    for _ in range(draw.choice(log.theme.moored)):
         log.track(mmsi, draw.uniform(-200, 200), draw.uniform(-200, 200), draw.choice((0, 0.1)), draw.uniform(0, 360), 0, seconds, draw.choice((30, 55)), True)
         mmsi += 1
 
 
 def drawn(number: int) -> Drawn:
     """Returns the log of a number, with its scenario and plan."""
-    draw = random.Random(number)
+    draw, theme = random.Random(number), THEMES[number % len(THEMES)]
     made = Drawn(ticks=draw.randrange(150, 400))
-    made.text = scenario_text(draw, made.ticks)
-    log = Log(draw, made.ticks * TICK)
+    made.text = scenario_text(draw, made.ticks, theme)
+    log = Log(draw, made.ticks * TICK, theme)
     draw_tracks(draw, log)
-    if log.wild and draw.random() < 0.1:                        # a station whose clock is ahead for a while
+    if draw.random() < theme.ahead:
         begin, ahead = draw.uniform(0, log.seconds), draw.choice((40, 1200))
         for at, line in [entry for entry in log.lines if begin < entry[0] < begin + 300][::3]:
             log.add(at + 0.5, stamped(at + ahead, line.rpartition(b"\\")[2]))
     made.lines = sorted(log.lines, key=lambda entry: entry[0])
     every = draw.randrange(45, 140)
     made.wanted = plans.Wanted(None, draw.choice((None, made.ticks)), every, draw.choice((None, None, draw.randrange(420, 900))),
-                               draw.choice((None, None, None, 2, 3)), draw.choice((None, None, None, (2, 1), (2, 2))))
+                               draw.choice((None, None, None, 2, 3)), draw.choice(theme.tiles))
     return made
 
 
