@@ -143,12 +143,15 @@ class KeptResults(Shares):
         self.assertEqual(text_of(self.path("calls")).count("run"), 6)
         self.assertEqual(crowd.stretches(self.many("join", "jobs")[1]), crowd.stretches(self.whole()))
 
-    def test_another_scenario_or_file_is_another_result(self):
+    def test_another_scenario_is_another_result_and_another_file_asks_for_another_plan(self):
         self.plan("--ticks-each", "1000")
         for change, kept in ((None, 0), (None, 1), ("s.toml", 0), ("log.gz", 0)):
             if change:
                 with open(self.path(change), "ab") as out:
                     out.write(b"# more\n" if change == "s.toml" else gzip.compress(b"more\n"))
+            if change == "log.gz":
+                self.assertIn("log.gz changed after the jobs were planned: plan again", self.many("jobs", status=1)[2])
+                self.plan("--ticks-each", "1000")
             self.assertIn("1 jobs: %d were kept before" % kept, self.many("jobs")[2])
 
     def test_what_goes_wrong_is_told(self):
