@@ -8,9 +8,9 @@ import subprocess
 import crowd
 import passing
 from given import InFolder, PROGRAM, TOOLS, example, needs, text_of, with_program
-from colregs.shares.join import covers_plane
+from colregs.shares.results import covers_plane
 from colregs.model.scenario import Scenario
-from colregs.io.sieve import Senders, sieved
+from colregs.io.sieve import Senders, Sieve
 
 WAYS = [["--tiles", "2x1"], ["--tiles", "1x2", "--group", "12"], ["--ticks-each", "60", "--overlap", "900"],
         ["--ticks-each", "75", "--overlap", "800", "--group", "12"]]
@@ -122,11 +122,6 @@ class Covered(Shares):
     def test_windows_that_overlap_too_little_are_refused(self):
         self.plan("--ticks-each", "60", "--overlap", "600")
         self.many("jobs", "--jobs", "4")
-        self.assertIn("longer than the overlap", self.many("join", "jobs", status=1)[2])
-        found = crowd.stretches(self.many("join", "jobs", "--leave-out", "left")[1])
-        left = [tuple(line.split(",")[:2]) for line in text_of(self.path("left")).splitlines()]
-        self.assertEqual(left, [("200000108", "200000109"), ("200000109", "200000108")])
-        self.assertEqual(found, [row for row in crowd.stretches(self.whole()) if tuple(row.split(",")[1:3]) not in left])
         self.assertIn("less than this scenario needs", self.many("plan", "s.toml", "log.gz", "--ticks-each", "60", "--overlap", "300", status=1)[2])
 
     def test_tiles_cover_the_plane(self):
@@ -148,12 +143,15 @@ class KeptResults(Shares):
         self.assertEqual(text_of(self.path("calls")).count("run"), 6)
         self.assertEqual(crowd.stretches(self.many("join", "jobs")[1]), crowd.stretches(self.whole()))
 
-    def test_another_scenario_or_file_is_another_result(self):
+    def test_another_scenario_is_another_result_and_another_file_asks_for_another_plan(self):
         self.plan("--ticks-each", "1000")
         for change, kept in ((None, 0), (None, 1), ("s.toml", 0), ("log.gz", 0)):
             if change:
                 with open(self.path(change), "ab") as out:
                     out.write(b"# more\n" if change == "s.toml" else gzip.compress(b"more\n"))
+            if change == "log.gz":
+                self.assertIn("log.gz changed after the jobs were planned: plan again", self.many("jobs", status=1)[2])
+                self.plan("--ticks-each", "1000")
             self.assertIn("1 jobs: %d were kept before" % kept, self.many("jobs")[2])
 
     def test_what_goes_wrong_is_told(self):
@@ -199,9 +197,9 @@ class Parts(InFolder):
 
     def test_a_sieve_keeps_the_times_of_all(self):
         lines = [line.encode() + b"\n" for line in passing.log().splitlines()]
-        left = list(sieved(lines, {passing.WEST}.__contains__))
+        left = list(Sieve({passing.WEST}.__contains__, 30).left(lines))
         self.assertEqual(len(left), len(lines) - 1)                        # the later part of a message has no tag block
-        self.assertEqual([line for line in left if b"!" in line and Senders().of(line) == passing.EAST], [])
+        self.assertEqual([line for line in left if b"!" in line and Senders().of(line) == passing.EAST], lines[:1])    # its first part
         self.assertIn(b"\\c:1700000010*5E\\\n", left)
 
     def test_subjects_are_put_in_and_nothing_else_is_changed(self):

@@ -44,7 +44,35 @@ def sum_of(path: str) -> tuple[str, int]:
 
 
 def replace(path: str, words: bytes) -> None:
-    """Writes a file with these bytes: all of them or none."""
-    with tempfile.NamedTemporaryFile(dir=os.path.dirname(path), delete=False) as out:
-        out.write(words)
-    os.replace(out.name, path)
+    """Writes a file with these bytes, all of them or none, also if the power fails: they are on the disk before they have the name."""
+    folder = os.path.dirname(os.path.abspath(path))
+    with tempfile.NamedTemporaryFile(dir=folder, delete=False) as out:
+        try:
+            out.write(words)
+            out.flush()
+            os.fsync(out.fileno())
+            os.fchmod(out.fileno(), 0o666 & ~MASK)
+            os.replace(out.name, path)
+        except OSError:
+            os.unlink(out.name)
+            raise
+    sync_folder(folder)
+
+
+def sync_folder(folder: str) -> None:
+    """Writes the names in a folder to the disk."""
+    place = os.open(folder, os.O_RDONLY)
+    try:
+        os.fsync(place)
+    finally:
+        os.close(place)
+
+
+def mask_of_process() -> int:
+    """Returns the bits of a mode that this process denies to new files."""
+    mask = os.umask(0o077)
+    os.umask(mask)
+    return mask
+
+
+MASK = mask_of_process()

@@ -1,68 +1,79 @@
-"""Lines of some vessels alone, with the times of all: sieve.py LIST < LOG, where LIST is a file of MMSIs, or K/N for those that leave K by N.
+"""Leaves the lines of some vessels, and of all others what the program needs to read those as in the whole log.
 
-Which vessel a sentence is of is told by the first seven letters of its payload (docs/LOG.md). It runs as a program of its own, which starts
-sooner than the tool that calls it.
+A line is left out only if the program reads it as a sentence of another vessel, or drops it whatever stands before it. Of such a line the tag block
+stays, which keeps the clock. Of another vessel's message in parts the last one is left out: the parts before it stay, since they also end what came
+before with the same identifier and channel.
 """
-import sys
+import re
 from collections.abc import Callable, Iterable, Iterator
 
-SIX = {letter: value for value, letter in enumerate(bytes(range(48, 88)) + bytes(range(96, 120)))}
+from colregs.io.lines import LONGEST, Joiner, Message, Stamps, bits_of, line_of, sender_of, sentence_of
 
-
-def sender(payload: bytes) -> int | None:
-    """Returns the MMSI in a message's first letters, or None if they are too few or no letters of a payload."""
-    value = 0
-    for letter in payload[:7]:
-        if letter not in SIX:
-            return None
-        value = value << 6 | SIX[letter]
-    return value >> 4 & 0x3FFFFFFF if len(payload) >= 7 else None
+LONE = re.compile(rb"(\\[^\\\n]*\\)?![A-Z0-9]{2}VD[MO],1,1,\d?,[A-Za-z0-9]?,([0-W`-w]{7})[^,\n]*,[0-5]\*[0-9A-Fa-f]{2}(?=[, \t\r\n]|$)")
+PART = re.compile(rb"(\\[^\\\n]*\\)?![A-Z0-9]{2}VD[MO],[2-9],")
+SENDER = 8, 30                      # first bit and width of a message's MMSI
 
 
 class Senders:
-    """Which vessel each line is of. The later parts of a message are of the vessel of the last first part with their identifier and channel."""
+    """Returns which vessel a sentence is of, where its own letters or the first part with its identifier and channel say so."""
 
     def __init__(self) -> None:
-        self.known: dict[bytes, int | None] = {}                         # by the first letters of a payload
-        self.parts: dict[tuple[bytes, bytes], int | None] = {}           # by sequential identifier and channel
+        self.parts: dict[tuple[bytes, bytes], int | None] = {}
 
     def of(self, line: bytes) -> int | None:
-        """Returns the MMSI of a line with a sentence, or None if it cannot be known."""
+        """Returns the MMSI of a line, or None if the line does not say."""
         at = line.find(b"!")
-        fields = line[at:].split(b",", 6) if at >= 0 else ()
+        fields = line[at:].split(b",", 6) if at >= 0 else []
         if len(fields) < 7:
             return None
         if fields[2] != b"1":
             return self.parts.get((fields[3], fields[4]))
-        head = fields[5][:7]
-        if head not in self.known:
-            if len(self.known) > 1 << 16:
-                self.known.clear()
-            self.known[head] = sender(head)
+        mmsi = sender_of(fields[5][:7])
         if fields[1] != b"1":
-            self.parts[fields[3], fields[4]] = self.known[head]
-        return self.known[head]
+            self.parts[fields[3], fields[4]] = mmsi
+        return mmsi
 
 
-def sieved(lines: Iterable[bytes], is_kept: Callable[[int], bool]) -> Iterator[bytes]:
-    """Yields the lines, but those of other vessels as their tag blocks alone, which set the clock for lines without a time."""
-    senders = Senders()
-    for line in lines:
-        mmsi = senders.of(line)
-        if mmsi is None or is_kept(mmsi):
-            yield line
-        elif line.startswith(b"\\"):
-            yield line[:line.find(b"!")] + b"\n"
+class Sieve:
+    """Leaves the lines of the vessels for which `is_kept` holds, by a log's clock and the slack of its scenario."""
+
+    def __init__(self, is_kept: Callable[[int], bool], slack: int) -> None:
+        self.is_kept, self.slack, self.joiner, self.stamps = is_kept, slack, Joiner(), Stamps()
+        self.time: int | None = None
+        self.clock: int | None = None
+
+    def left(self, lines: Iterable[bytes]) -> Iterator[bytes]:
+        """Yields what is left of lines, each with its line feed."""
+        for line in lines:
+            stamp = self.stamps.of(line)
+            before, self.time = self.clock, self.time if stamp is None else stamp
+            if stamp is not None:
+                self.clock = stamp if before is None else max(before, stamp)
+            if self.is_foreign(line, before):
+                if line.startswith(b"\\"):
+                    yield line[:line.find(b"\\", 1) + 1] + b"\n"
+            else:
+                yield line
+
+    def is_foreign(self, line: bytes, clock: int | None) -> bool:
+        """Returns whether a line can be left out."""
+        found = LONE.match(line)
+        if found:
+            mmsi = sender_of(found[2])
+            return len(line_of(line)) <= LONGEST and mmsi is not None and not self.is_kept(mmsi)
+        message = self.completed(line, clock) if PART.match(line) else None
+        if message is None:
+            return False
+        bits = bits_of(message.parts)
+        return bits.width >= sum(SENDER) and not self.is_kept(bits.number(*SENDER))
+
+    def completed(self, line: bytes, clock: int | None) -> Message | None:
+        """Returns the message that a part completes, if the part is in time."""
+        sentence = sentence_of(line)
+        late = clock is not None and self.time is not None and self.time + self.slack < clock
+        return None if sentence is None or self.time is None or late else self.joiner.take(sentence, self.time)
 
 
-def keeps(words: str) -> Callable[[int], bool]:
-    """Returns which vessels a list, or a part as K/N, stands for."""
-    part, bar, parts = words.partition("/")
-    if bar and part.isdecimal() and parts.isdecimal():
-        return lambda mmsi: mmsi % int(parts) == int(part)
-    with open(words, encoding="utf-8") as source:
-        return {int(word) for word in source.read().split()}.__contains__
-
-
-if __name__ == "__main__":
-    sys.stdout.buffer.writelines(sieved(sys.stdin.buffer, keeps(sys.argv[1])))
+def part_of(place: int, parts: int) -> Callable[[int], bool]:
+    """Returns a test for the vessels whose MMSI leaves `place` when it is divided by `parts`."""
+    return lambda mmsi: mmsi % parts == place

@@ -5,6 +5,7 @@ from typing import Any
 
 from colregs.errors import Fault
 from colregs.io.files import read_bytes, read_text
+from colregs.model.formulas import sight_of
 
 MOST_SUBJECTS, MOST_TICKS = 64, 20000           # docs/SCENARIO.md
 SUBJECTS = re.compile(r"(?ms)^\s*subjects\s*=\s*\[.*?\][^\n]*\n?")
@@ -24,6 +25,14 @@ def values_of(path: str, text: str) -> dict[str, Any]:
         raise Fault(f"{path}: not TOML: {error}") from None
 
 
+def seconds_ahead(text: str) -> int:
+    """Returns how far a formula looks ahead; of a text that is none, which the program refuses, its bounds together."""
+    try:
+        return sight_of(text).ahead
+    except Fault:
+        return sum(map(int, BOUNDS.findall(text)))
+
+
 class Scenario:
     """A scenario's text with the numbers that shares need. Where the program would refuse it, it refuses it itself."""
 
@@ -38,13 +47,15 @@ class Scenario:
             window, log, rules = (self.values[table] for table in ("window", "log", "rules"))
             self.start, self.tick, self.ticks = (int(window[key]) for key in ("start", "tick", "ticks"))
             self.gap, self.slack, self.watch = int(log["gap"]), int(log["slack"]), int(self.values["detect"]["watch"])
-            # r8b, r14a, r16 and r17b look ahead, by these times (docs/RULES.md); a formula at most by its bounds together
+            # r8b, r14a, r16 and r17b look ahead, by these times (docs/RULES.md)
             texts = [str(table["text"]) for table in self.values.get("formula", [])]
-            ahead = [int(rules[key]) for key in ("t8", "ta", "tl")] + [sum(map(int, BOUNDS.findall(text))) for text in texts]
+            ahead = [int(rules[key]) for key in ("t8", "ta", "tl")] + [seconds_ahead(text) for text in texts]
             self.reach = -(-max(ahead) // self.tick)
         except (KeyError, TypeError, ValueError, ZeroDivisionError) as error:
             raise Fault(f"{path}: a number of window, log, detect or rules is missing or is none: {error}") from None
         self.subjects: list[int] = self.values.get("subjects", [])
+        self.ranks: bool = rules.get("ranks") == 1
+        self.formulas = {str(table.get("name")): str(table["text"]) for table in self.values.get("formula", [])}
 
     def with_subjects(self, subjects: list[int] | None) -> str:
         """Returns the text with these subjects instead of its own, and nothing else changed."""
@@ -55,6 +66,10 @@ class Scenario:
         if values_of(self.path, text) != {**self.values, "subjects": subjects}:
             raise Fault(f"{self.path}: its subjects cannot be replaced: put `subjects = [..]` on lines of its own before the first table")
         return text
+
+    def steps(self, seconds: int) -> int:
+        """Returns the fewest ticks that last so long."""
+        return -(-seconds // self.tick)
 
     def settled(self, ticks: int) -> int:
         """Returns the last step whose rows neither the end of a window of this many ticks nor a later line can change."""

@@ -1,41 +1,48 @@
-"""Shares of a long audit: jobs as JSON lines, each a window, a group of subjects and a tile, and the sum by which a result is kept."""
+"""Shares of a long audit: jobs as JSON lines, each a window, perhaps with a group of subjects and a tile, and the folder of their results."""
 import hashlib
 import json
 import os
+from collections.abc import Iterator
+from dataclasses import dataclass, field
 from typing import Any
 
 from colregs.errors import Fault, reason
 from colregs.io.files import read_bytes, replace, sum_of
 from colregs.model.scenario import MOST_SUBJECTS, MOST_TICKS, Scenario
 from colregs.run.program import programs_of
+from colregs.shares.cutter import Cut
 
-KEYS = {"files": list, "scenario": str, "start": int, "ticks": int, "subjects": list, "tile": list, "margin": int, "vessels": list}
-Tile = list[int | None]         # west, south, east and north edge in metres; None is an open edge
+KEYS = {"files": list, "scenario": str, "start": int, "ticks": int, "subjects": list, "tile": list, "margin": int, "vessels": list,
+        "sums": list, "whole": list, "before": list, "heads": list, "types": dict, "unsure": list}
 NEEDED = ("files", "scenario", "start", "ticks")
+CHECKSUM = b"sum,"                  # begins the last line of a result: the SHA-256 of all lines before it
 
 
+@dataclass
 class Job:
-    """One share, as its line tells it; names of files are by the folder of the list."""
+    """One share, as its line says. `plan` makes the second half of the keys; they tie a window to the whole of which it is one.
 
-    def __init__(self, told: Any, folder: str = ".") -> None:
-        if not isinstance(told, dict):
-            raise ValueError("it is no object")
-        wrong = [key for key, value in told.items() if key not in KEYS or not isinstance(value, KEYS[key])]
-        missing = [key for key in NEEDED if key not in told]
-        if wrong or missing:
-            raise ValueError(f"{', '.join(f'`{key}`' for key in wrong + missing)} is missing or wrong")
-        self.files = [os.path.join(folder, name) for name in told["files"]]
-        self.scenario = os.path.join(folder, told["scenario"])
-        self.start: int = told["start"]
-        self.ticks: int = told["ticks"]
-        self.subjects: list[int] | None = told.get("subjects")
-        self.tile: Tile | None = told.get("tile")
-        self.margin: int = told.get("margin", 0)
-        self.vessels: list[int] | None = told.get("vessels")
-        self.check()
+    `sums` are the SHA-256 of the files. `whole` is the first and the last second of the whole audit's window of lines. `before` is the last stamp
+    before the files and the greatest that counts. `heads` are stretches of time of which the accepted reports are kept, for the join. `types` are
+    ship types that were reported before, and `unsure` the vessels of whom that is not certain.
+    """
 
-    def check(self) -> None:
-        """Raises ValueError if the job is out of its ranges."""
+    files: list[str]
+    scenario: str
+    start: int
+    ticks: int
+    subjects: list[int] | None = None
+    tile: list[float | None] | None = None
+    margin: int = 0
+    vessels: list[int] | None = None
+    sums: list[str] | None = None
+    whole: list[int] | None = None
+    before: list[int | None] = field(default_factory=lambda: [None, None])
+    heads: list[list[int]] = field(default_factory=list)
+    types: dict[str, int] = field(default_factory=dict)
+    unsure: list[int] = field(default_factory=list)
+
+    def __post_init__(self) -> None:
         if not self.files:
             raise ValueError("there are no files")
         if not (0 < self.ticks <= MOST_TICKS and self.start >= 0):
@@ -44,14 +51,35 @@ class Job:
             raise ValueError(f"a group has 1 to {MOST_SUBJECTS} subjects")
         if self.tile is not None and (len(self.tile) != 4 or self.vessels is None):
             raise ValueError("a tile has four edges, and the list of its vessels")
+        if self.sums is not None and len(self.sums) != len(self.files):
+            raise ValueError("each file has a sum")
+        if len(self.before) != 2 or self.whole is not None and len(self.whole) != 2:
+            raise ValueError("`before` and `whole` are two numbers each")
 
     def options(self) -> list[str]:
         """Returns the program's options for the window."""
         return [f"--start={self.start}", f"--ticks={self.ticks}"]
 
     def window(self) -> tuple[int, int]:
-        """Returns start and ticks."""
+        """Returns the start in seconds, and the ticks."""
         return self.start, self.ticks
+
+    def is_part(self, scenario: Scenario) -> bool:
+        """Returns whether the window is a part of the whole audit's."""
+        return self.whole is not None and self.lines(scenario) != (self.whole[0], self.whole[1])
+
+    def lines(self, scenario: Scenario) -> tuple[int, int]:
+        """Returns the first and the last second of the window of lines."""
+        return self.start - scenario.gap, self.start + self.ticks * scenario.tick + scenario.gap
+
+    def cut(self, scenario: Scenario) -> Cut | None:
+        """Returns what of the files' lines is the share's log; None if it is all of them."""
+        if not self.is_part(scenario) and self.vessels is None:
+            return None
+        first, last = self.lines(scenario)
+        begin, end = self.whole or (first, last)
+        types = {mmsi: kind for mmsi, kind in self.types.items() if self.vessels is None or int(mmsi) in set(self.vessels)}
+        return Cut(first, last, begin, end, scenario.slack, self.before[0], self.before[1], types, self.vessels)
 
     def words(self) -> str:
         """Returns the share in words, for a message."""
@@ -59,18 +87,51 @@ class Job:
         return f"the share of {self.ticks} ticks from {self.start}{group}{'' if self.tile is None else f', tile {self.tile}'}"
 
 
+def job_of(told: Any, folder: str = ".") -> Job:
+    """Returns the job of a JSON object, with the names of its files by a folder; a ValueError says what is wrong with it."""
+    if not isinstance(told, dict):
+        raise ValueError("no object")
+    wrong = [key for key, value in told.items() if key not in KEYS or not isinstance(value, KEYS[key])]
+    missing = [key for key in NEEDED if key not in told]
+    if wrong or missing:
+        raise ValueError(", ".join(f"`{key}`" for key in wrong + missing) + " is missing or wrong")
+    paths = {"files": [os.path.join(folder, str(name)) for name in told["files"]], "scenario": os.path.join(folder, told["scenario"])}
+    return Job(**{**told, **paths})
+
+
+def numbered_lines(path: str) -> Iterator[tuple[int, bytes]]:
+    """Yields the lines of a list of jobs that are not empty, each with its number."""
+    try:
+        with open(path, "rb") as source:
+            for number, line in enumerate(source, 1):
+                if line.strip():
+                    yield number, line
+    except OSError as error:
+        raise Fault(f"{path} cannot be read: {reason(error)}") from None
+
+
+def job_of_line(path: str, number: int, line: bytes) -> Job:
+    """Returns the job of a line of a list."""
+    try:
+        return job_of(json.loads(line), os.path.dirname(os.path.abspath(path)))
+    except (ValueError, TypeError) as error:
+        raise Fault(f"{path}, line {number}: no job: {error}") from None
+
+
 def read_jobs(path: str) -> list[Job]:
     """Returns the jobs of a list, one per line; empty lines are skipped."""
-    jobs = []
-    for number, line in enumerate(read_bytes(path).splitlines(), 1):
-        if line.strip():
-            try:
-                jobs.append(Job(json.loads(line), os.path.dirname(os.path.abspath(path))))
-            except ValueError as error:
-                raise Fault(f"{path}, line {number}: no job: {error}") from None
+    jobs = [job_of_line(path, number, line) for number, line in numbered_lines(path)]
     if not jobs:
         raise Fault(f"{path}: no job in it")
     return jobs
+
+
+def read_job(path: str, wanted: int) -> Job:
+    """Returns the job of this number, counted from 1; no other line is read as a job."""
+    for place, (number, line) in enumerate(numbered_lines(path), 1):
+        if place == wanted:
+            return job_of_line(path, number, line)
+    raise Fault(f"{path}: there is no job {wanted}")
 
 
 class Kept:
@@ -78,19 +139,18 @@ class Kept:
 
     def __init__(self, folder: str, program: str) -> None:
         os.makedirs(folder, exist_ok=True)
-        self.folder = folder
+        self.folder, self.programs = folder, programs_of(program)
         self.scenarios: dict[str, Scenario] = {}
-        self.sums: dict[str, list[Any]] = {}            # by path: size, time of the last change, SHA-256
-        self.programs = programs_of(program)
-        self.sums_file = os.path.join(folder, "sums.json")
-        if os.path.exists(self.sums_file):
+        self.sums: dict[str, list[Any]] = {}
+        self.told = os.path.join(folder, "sums.json")
+        if os.path.exists(self.told):
             try:
-                self.sums = json.loads(read_bytes(self.sums_file))
-            except ValueError:
+                self.sums = dict(json.loads(read_bytes(self.told)))
+            except (ValueError, TypeError):
                 pass                                    # they are made again
 
     def sum(self, path: str) -> str:
-        """Returns the SHA-256 of a file, which is computed again only if its size or its time changed."""
+        """Returns the sum of a file, which is read again if its size or its time is another."""
         path = os.path.realpath(path)
         try:
             about = os.stat(path)
@@ -99,26 +159,56 @@ class Kept:
         state = [about.st_size, about.st_mtime_ns]
         if self.sums.get(path, [])[:2] != state:
             self.sums[path] = state + [sum_of(path)[0]]
-            replace(self.sums_file, json.dumps(self.sums, indent=1).encode())
+            replace(self.told, json.dumps(self.sums, indent=1).encode())
         return str(self.sums[path][2])
 
     def scenario(self, job: Job) -> Scenario:
-        """Returns the scenario of a job."""
+        """Returns the scenario of a job, read once."""
         if job.scenario not in self.scenarios:
             self.scenarios[job.scenario] = Scenario(job.scenario)
         return self.scenarios[job.scenario]
 
+    def file_sums(self, job: Job) -> list[str]:
+        """Returns the sums of a job's files; a Fault names a file that is another than when the job was planned."""
+        sums = [self.sum(name) for name in job.files]
+        for name, wanted, found in zip(job.files, job.sums or sums, sums):
+            if wanted != found:
+                raise Fault(f"{job.words()}: {name} changed after the jobs were planned: plan again")
+        return sums
+
     def key(self, job: Job) -> str:
-        """Returns the sum under which the result of a job is stored."""
-        text = self.scenario(job).with_subjects(job.subjects)
-        inputs = {"files": [self.sum(name) for name in job.files], "scenario": text, "options": job.options(), "vessels": job.vessels,
-                  "program": [self.sum(name) for name in self.programs]}
+        """Returns the sum of all that a job's result depends on."""
+        scenario = self.scenario(job)
+        cut = job.cut(scenario)
+        inputs = {"files": self.file_sums(job), "scenario": scenario.with_subjects(job.subjects), "options": job.options(),
+                  "cut": cut.text() if cut else None, "heads": job.heads, "program": [self.sum(name) for name in self.programs]}
         return hashlib.sha256(json.dumps(inputs, sort_keys=True).encode()).hexdigest()
 
     def path(self, job: Job) -> str:
-        """Returns the path of a job's report, which exists once it is whole."""
+        """Returns the name of a job's result."""
         return os.path.join(self.folder, self.key(job) + ".csv")
 
     def has(self, job: Job) -> bool:
-        """Returns whether the result of a job is stored."""
-        return os.path.exists(self.path(job))
+        """Returns whether a job's result is there and whole."""
+        path = self.path(job)
+        return os.path.exists(path) and whole_result(read_bytes(path)) is not None
+
+    def keep(self, job: Job, report: bytes) -> None:
+        """Writes a job's result, with its sum as the last line."""
+        replace(self.path(job), report + CHECKSUM + hashlib.sha256(report).hexdigest().encode() + b"\n")
+
+    def result(self, job: Job) -> str:
+        """Returns a job's result without its sum; a Fault names the file if it is not whole."""
+        path = self.path(job)
+        report = whole_result(read_bytes(path))
+        if report is None:
+            raise Fault(f"{path} is damaged or cut off: run the jobs again, which makes it again")
+        return report.decode("utf-8", "replace")
+
+
+def whole_result(text: bytes) -> bytes | None:
+    """Returns a result without its last line if that is the sum of the others; None otherwise."""
+    begin = text.rfind(b"\n", 0, -1) + 1
+    if not text.endswith(b"\n") or text[begin:] != CHECKSUM + hashlib.sha256(text[:begin]).hexdigest().encode() + b"\n":
+        return None
+    return text[:begin]

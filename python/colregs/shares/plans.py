@@ -1,23 +1,39 @@
-"""Makes the list of shares of a scenario and its day files: windows that overlap, groups of subjects, and tiles with a margin."""
-import argparse
+"""Makes the list of shares of a scenario and the files of an archive: windows that overlap, groups of subjects, and tiles with a margin."""
+import bisect
 import os
+import shlex
 import subprocess
 import tempfile
 from collections.abc import Iterator
+from dataclasses import dataclass
 from typing import Any
 
+<<<<<<< HEAD
 from colregs.errors import Fault
 from colregs.io.tag_blocks import stamp
+=======
+from colregs.errors import Fault, report
+>>>>>>> e123a045 (Join windows row by row, and mark the rows that no window can know)
 from colregs.model.scenario import MOST_TICKS, Scenario
-from colregs.shares.jobs import Job, Tile
-from colregs.shares.runs import piped, pipeline, reader
+from colregs.run.pipes import piped, reader
+from colregs.shares.cutter import Cut
+from colregs.shares.heads import STRADDLE
+from colregs.shares.runs import write_cut
+from colregs.shares.spans import Span, believed, clock_before, read_span
+from colregs.shares.types import Types
 
-MOST_PARTS = 64                  # so many parts of the vessels are tried where they are too many for one run
+MOST_PARTS = 64                  # parts of the vessels that are tried if they are too many for one run
+HEAD = 900                       # s of reports about a window's beginning that are kept besides twice the silence
+
+Box = tuple[float, float, float, float]
+Tile = list[float | None]
 
 
-class Span:
-    """A file with the least and the greatest time that its tag blocks tell."""
+@dataclass
+class Wanted:
+    """What the command line asks of a plan; None is the default."""
 
+<<<<<<< HEAD
     def __init__(self, path: str) -> None:
         self.path = path
         least: int | None = None
@@ -37,69 +53,82 @@ class Span:
     def meets(self, first: int, last: int) -> bool:
         """Returns whether the file may have lines between two times."""
         return self.least is not None and self.greatest is not None and self.least <= last and first <= self.greatest
+=======
+    start: int | None = None
+    ticks: int | None = None
+    every: int | None = None
+    overlap: int | None = None
+    group: int | None = None
+    tiles: tuple[int, int] | None = None
+>>>>>>> e123a045 (Join windows row by row, and mark the rows that no window can know)
 
 
 class Points:
-    """The accepted reports of a stretch of time: by each vessel her times and places, in metres."""
+    """The accepted reports of a stretch of time: by each vessel her times, and her places in metres, in order."""
 
-    def __init__(self, files: list[str], scenario: Scenario, start: int, ticks: int, program: str) -> None:
-        self.tracks: dict[int, list[tuple[int, float, float]]] = {}
-        self.until = start + ticks * scenario.tick
-        job = Job({"files": files, "scenario": scenario.path, "start": start, "ticks": ticks})
+    def __init__(self, files: list[str], scenario: Scenario, cut: Cut, window: tuple[int, int], program: str) -> None:
+        self.tracks: dict[int, tuple[list[int], list[float], list[float]]] = {}
+        self.until = window[0] + window[1] * scenario.tick
         parts = 1
-        while not self.read(job, scenario, program, parts):
+        while not self.read(files, scenario, cut, window, program, parts):
             parts *= 4
             if parts > MOST_PARTS:
-                raise Fault(f"there are too many vessels for {MOST_PARTS} runs of `points`: plan a shorter time")
+                raise Fault(f"there are too many vessels for {MOST_PARTS} runs of `points`: plan a shorter time with --ticks")
 
-    def read(self, job: Job, scenario: Scenario, program: str, parts: int) -> bool:
-        """Reads the points, the vessels in this many parts; returns False if a part has too many vessels."""
+    def read(self, files: list[str], scenario: Scenario, cut: Cut, window: tuple[int, int], program: str, parts: int) -> bool:
+        """Reads the points, the vessels in so many parts; returns False if a part has too many vessels."""
         self.tracks = {}
+        options = [f"--start={window[0]}", f"--ticks={window[1]}"]
         for k in range(parts):
+            cut.part = (k, parts) if parts > 1 else None
             with tempfile.TemporaryDirectory() as room:
-                name = os.path.join(room, "points.csv")
-                command = pipeline(job, f"{k}/{parts}" if parts > 1 else None)
-                with open(name, "wb") as out:
-                    done = piped(command, [program, "points", scenario.path, *job.options()], out, room)
+                log, points = os.path.join(room, "log"), os.path.join(room, "points.csv")
+                write_cut(files, cut, room, log, "`points` of the files")
+                with open(points, "wb") as out, open(os.path.join(room, "error"), "w+b") as error:
+                    done = piped("cat -- " + shlex.quote(log), [program, "points", scenario.path, *options], out, error)
                 if done.status == 7 and "vessels" in done.words:
                     return False
-                if done.status != 0 or not done.whole:
+                if done.status != 0:
                     raise Fault(f"`points` of the files ends with status {done.status}, {done.words}")
-                self.take(name)
+                self.take(points)
         return True
 
     def take(self, name: str) -> None:
-        """Takes the points of a report."""
+        """Takes the rows of a file."""
         with open(name, encoding="utf-8") as source:
             for line in source:
                 if line.startswith("point,"):
                     _, mmsi, at, x, y, _ = line.split(",", 5)
-                    self.tracks.setdefault(int(mmsi), []).append((int(at), int(x) / 10000, int(y) / 10000))
+                    times, xs, ys = self.tracks.setdefault(int(mmsi), ([], [], []))
+                    times.append(int(at))
+                    xs.append(int(x) / 10000)
+                    ys.append(int(y) / 10000)
+
+    def boxes(self, mmsi: int, first: int, last: int, gap: int) -> Iterator[Box]:
+        """Yields a box about each way from one report to the next, or about a report alone, that lies in these seconds."""
+        times, xs, ys = self.tracks[mmsi]
+        begin, end = bisect.bisect_left(times, first), bisect.bisect_right(times, last)
+        for k in range(begin, end):
+            j = k + 1 if k + 1 < end and times[k + 1] - times[k] <= gap else k
+            yield min(xs[k], xs[j]), min(ys[k], ys[j]), max(xs[k], xs[j]), max(ys[k], ys[j])
 
     def within(self, first: int, last: int) -> list[int]:
-        """Returns who reports between two times."""
-        return sorted(mmsi for mmsi, track in self.tracks.items() if any(first <= at <= last for at, _, _ in track))
-
-    def boxes(self, mmsi: int, first: int, last: int, gap: int) -> Iterator[tuple[float, float, float, float]]:
-        """Yields a box about each way from one report to the next, or about a report alone, between two times."""
-        track = [told for told in self.tracks[mmsi] if first <= told[0] <= last]
-        for one, two in zip(track, track[1:] + track[-1:]):
-            two = two if two[0] - one[0] <= gap else one
-            yield min(one[1], two[1]), min(one[2], two[2]), max(one[1], two[1]), max(one[2], two[2])
+        """Returns who reports in these seconds."""
+        return sorted(mmsi for mmsi, (times, _, _) in self.tracks.items() if bisect.bisect_left(times, first) < bisect.bisect_right(times, last))
 
     def cuts(self, axis: int, count: int) -> list[int]:
         """Returns where to cut so that about as many reports lie in each piece."""
-        places = sorted(told[axis] for track in self.tracks.values() for told in track)
+        places = sorted(value for track in self.tracks.values() for value in track[axis])
         return sorted({round(places[len(places) * k // count]) for k in range(1, count)}) if places else []
 
 
 def tiles_of(points: Points, columns: int, rows: int) -> list[Tile]:
-    """Returns tiles with open outer edges."""
+    """Returns tiles as west, south, east and north in metres; the outer edges are open."""
     easts, norths = ([None, *points.cuts(axis, count), None] for axis, count in ((1, columns), (2, rows)))
     return [[west, south, east, north] for south, north in zip(norths, norths[1:]) for west, east in zip(easts, easts[1:])]
 
 
-def meets(box: tuple[float, float, float, float], tile: Tile, margin: int) -> bool:
+def meets(box: Box, tile: Tile, margin: float) -> bool:
     """Returns whether a box comes within a margin of a tile."""
     west, south, east, north = tile
     return ((west is None or box[2] >= west - margin) and (south is None or box[3] >= south - margin)
@@ -123,58 +152,127 @@ def groups_of(vessels: list[int], size: int) -> list[list[int]]:
     return [vessels[len(vessels) * k // count:len(vessels) * (k + 1) // count] for k in range(count)]
 
 
-def shares_of(told: dict[str, Any], points: Points | None, window: tuple[int, int], scenario: Scenario, given: argparse.Namespace) -> Iterator[dict[str, Any]]:
-    """Yields a window's jobs, by tiles and by groups if these are asked for."""
-    first, last = window[0] - scenario.gap, window[0] + window[1] * scenario.tick + scenario.gap
-    heard = points.within(first, last) if points else []
-    margin = scenario.watch + 1
-    tiles: list[Tile | None] = [*tiles_of(points, *given.tiles)] if points and given.tiles else [None]
+def lengths(wanted: Wanted, scenario: Scenario, ticks: int) -> tuple[int, int]:
+    """Returns the ticks from a window's start to the next one's, and those of the overlap: by default as long as a run allows, and half of that."""
+    every = wanted.every or MOST_TICKS // 2
+    overlap = min(every, MOST_TICKS - every) if wanted.overlap is None else scenario.steps(wanted.overlap)
+    if every + overlap > MOST_TICKS:
+        raise Fault(f"a window of {every} ticks and an overlap of {overlap} are more than {MOST_TICKS} ticks: give fewer --ticks-each, or a shorter --overlap")
+    least = scenario.reach + 3 + scenario.steps(max(scenario.gap, STRADDLE))
+    if overlap < least and every < ticks:
+        raise Fault(f"an overlap of {overlap * scenario.tick} s is less than this scenario needs: --overlap {least * scenario.tick}, and the longest meeting")
+    return every, overlap
+
+
+@dataclass
+class Plan:
+    """A plan: the scenario, the spans of the files, the first second and the ticks of the whole, and its windows."""
+
+    wanted: Wanted
+    scenario: Scenario
+    spans: list[Span]
+    start: int
+    ticks: int
+    windows: list[tuple[int, int]]
+
+    def lines(self, begin: int, length: int) -> tuple[int, int]:
+        """Returns the window of lines of a window, in seconds."""
+        at = self.start + begin * self.scenario.tick
+        return at - self.scenario.gap, at + length * self.scenario.tick + self.scenario.gap
+
+    def head(self, begin: int) -> list[int]:
+        """Returns the stretch about a window's beginning of which the accepted reports are kept."""
+        first = self.lines(begin, 0)[0]
+        return [first, first + 2 * max(self.scenario.gap, STRADDLE) + HEAD]
+
+    def files(self, begin: int, length: int) -> tuple[int, int]:
+        """Returns the numbers of the first file that the window needs and of the one after the last."""
+        first, last = self.lines(begin, length)
+        met = [k for k, span in enumerate(self.spans) if (bounds := span.bounds(last)) and bounds[1] >= first]
+        if not met:
+            return 0, 1                                         # nobody reports, which its run then says
+        return met[0] if begin else 0, met[-1] + 1              # lines before the first stamp count as of the whole's start
+
+    def job(self, number: int) -> dict[str, Any]:
+        """Returns the job of a window."""
+        begin, length = self.windows[number]
+        first, end = self.files(begin, length)
+        whole = self.lines(0, self.ticks)
+        told: dict[str, Any] = {"files": [span.path for span in self.spans[first:end]], "scenario": os.path.abspath(self.scenario.path),
+                                "start": self.start + begin * self.scenario.tick, "ticks": length,
+                                "sums": [span.sum for span in self.spans[first:end]], "whole": list(whole)}
+        if len(self.windows) > 1:
+            told["before"] = list(clock_before(self.spans, first, whole[1]))
+            told["heads"] = [self.head(one) for k, (one, _) in enumerate(self.windows) if k and begin <= one < begin + length]
+        return told
+
+
+def plan(files: list[str], wanted: Wanted, scenario: Scenario, program: str | None) -> Iterator[dict[str, Any]]:
+    """Yields the jobs, as dictionaries. The program is needed for groups and tiles."""
+    start = scenario.start if wanted.start is None else wanted.start
+    until = None if wanted.ticks is None else start + wanted.ticks * scenario.tick + scenario.gap
+    spans = [read_span(os.path.abspath(name), until) for name in files]
+    ticks = wanted.ticks or ticks_of(spans, start, scenario)
+    every, overlap = lengths(wanted, scenario, ticks)
+    made = Plan(wanted, scenario, spans, start, ticks, list(windows_of(ticks, every, overlap)))
+    types = read_types(made) if scenario.ranks and len(made.windows) > 1 else None
+    points: Points | None = None
+    for number, (begin, length) in enumerate(made.windows):
+        told = made.job(number)
+        if types is not None:
+            before = types.before(*made.lines(begin, length))
+            told |= {"types": {str(mmsi): kind for mmsi, kind in sorted(before.types.items())}, "unsure": sorted(before.unsure)}
+        if wanted.group or wanted.tiles:
+            if points is None or told["start"] + length * scenario.tick > points.until:
+                points = read_points(made, begin, program or "")
+            yield from shares_of(told, points, made.lines(begin, length), scenario, wanted)
+        else:
+            yield told
+
+
+def ticks_of(spans: list[Span], start: int, scenario: Scenario) -> int:
+    """Returns the ticks up to the last stamp that is believed, and says which are not."""
+    last = believed(spans, start)
+    if last.beyond:
+        report("many", f"{last.beyond} lines have a time more than a day after all others, up to {last.greatest}: the windows end before them;"
+               " --ticks sets another end")
+    return max(1, scenario.steps(last.last - start))
+
+
+def read_types(made: Plan) -> Types:
+    """Reads the files for the ship types that stand before each window."""
+    begin, end = made.lines(0, made.ticks)
+    types = Types(begin, end, made.scenario.slack, [made.lines(first, length)[0] for first, length in made.windows])
+    with subprocess.Popen(["bash", "-c", reader([span.path for span in made.spans])], stdout=subprocess.PIPE) as log:
+        if log.stdout:
+            types.take(log.stdout)
+    if log.returncode:
+        raise Fault("the files were not read to their end")
+    return types
+
+
+def read_points(made: Plan, begin: int, program: str) -> Points:
+    """Reads the points from a window on, of as many ticks as a run may have."""
+    length = min(MOST_TICKS, made.ticks - begin)
+    first, end = made.files(begin, length)
+    whole = made.lines(0, made.ticks)
+    cut = Cut(*made.lines(begin, length), *whole, made.scenario.slack, *clock_before(made.spans, first, whole[1]))
+    window = made.start + begin * made.scenario.tick, length
+    return Points([span.path for span in made.spans[first:end]], made.scenario, cut, window, program)
+
+
+def shares_of(told: dict[str, Any], points: Points, lines: tuple[int, int], scenario: Scenario, wanted: Wanted) -> Iterator[dict[str, Any]]:
+    """Yields a window's jobs: by tiles if they are asked for, and by groups if these are."""
+    heard, margin = points.within(*lines), scenario.watch + 1
+    tiles: list[Any] = list(tiles_of(points, *wanted.tiles)) if wanted.tiles else [None]
     for tile in tiles:
         more: dict[str, Any] = {}
+        near = heard
         if tile is not None:
-            assert points is not None
-            near = [mmsi for mmsi in heard if any(meets(box, tile, margin) for box in points.boxes(mmsi, first, last, scenario.gap))]
+            near = [mmsi for mmsi in heard if any(meets(box, tile, margin) for box in points.boxes(mmsi, *lines, scenario.gap))]
             more = {"tile": tile, "margin": margin, "vessels": near}
-            if not near:
-                near = heard[:1]                       # a tile without vessels stays in the list, so that the tiles cover
-        else:
-            near = heard
+            near = near or heard[:1]                            # a tile without vessels stays in the list, so that the tiles cover
         subjects = sorted(scenario.subjects) if scenario.subjects else near
-        groups: list[list[int] | None] = [*groups_of(subjects, given.group)] if given.group and subjects else [None]
+        groups: list[Any] = list(groups_of(subjects, wanted.group)) if wanted.group and subjects else [None]
         for group in groups:
             yield {**told, **more, **({"subjects": group} if group else {})}
-
-
-def plan(given: argparse.Namespace, scenario: Scenario, program: str | None) -> Iterator[dict[str, Any]]:
-    """Yields the jobs, as dictionaries."""
-    spans = [Span(os.path.abspath(name)) for name in given.files]
-    start = scenario.start if given.start is None else given.start
-    greatest = max((span.greatest for span in spans if span.greatest is not None), default=start)
-    ticks = given.ticks or max(1, -(-(greatest - start) // scenario.tick))
-    overlap = -(-given.overlap // scenario.tick)
-    if given.every + overlap > MOST_TICKS:
-        raise Fault(f"a window of {given.every} ticks and an overlap of {overlap} are more than {MOST_TICKS} ticks")
-    if overlap < scenario.reach + 2 + -(-scenario.gap // scenario.tick) and given.every < ticks:
-        raise Fault(f"an overlap of {given.overlap} s is less than this scenario needs: "
-                    f"{(scenario.reach + 2) * scenario.tick + scenario.gap} s and the longest meeting")
-    points: Points | None = None
-    for begin, length in windows_of(ticks, given.every, overlap):
-        at = start + begin * scenario.tick
-        first, last = at - scenario.gap, at + length * scenario.tick + scenario.gap
-        files = [span.path for span in spans if span.meets(first, last)]
-        if not files:
-            files = [spans[0].path]                    # nobody reports, which its run then says
-        if given.group or given.tiles:
-            if points is None or at + length * scenario.tick > points.until:
-                assert program is not None
-                points = points_from(files, spans, scenario, at, ticks - begin, program)
-        told = {"files": files, "scenario": os.path.abspath(scenario.path), "start": at, "ticks": length}
-        yield from shares_of(told, points, (at, length), scenario, given)
-
-
-def points_from(files: list[str], spans: list[Span], scenario: Scenario, at: int, ticks: int, program: str) -> Points:
-    """Returns the points from a moment on, of these ticks or as many as a run may have."""
-    length = min(MOST_TICKS, ticks)
-    until = at + length * scenario.tick
-    files = [span.path for span in spans if span.meets(at - scenario.gap, until + scenario.gap)] or files
-    return Points(files, scenario, at, length, program)

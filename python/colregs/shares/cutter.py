@@ -1,0 +1,86 @@
+"""Cuts a share's log out of the lines of its files. It runs as a process of its own: `cutter` on standard input, with a Cut as JSON.
+
+A window of a longer log is read as the whole log reads it: lines outside its window of lines go, with those that have no stamp of their own and take
+their time from such a line, and with those that are late by a stamp behind the window's end. Before the first line stand the ship types that were
+reported before.
+"""
+import dataclasses
+import json
+import sys
+from collections.abc import Iterable, Iterator
+from dataclasses import dataclass
+
+from colregs.io.lines import Stamps
+from colregs.io.sentences import block, hull_part, sentence
+from colregs.io.sieve import Sieve, part_of
+
+
+@dataclass
+class Cut:
+    """Says what of a log is a share's.
+
+    `first` and `last` bound the share's window of lines in seconds, `begin` and `end` that of the whole audit. `time` and `clock` are the last stamp
+    before the files, and the greatest one that counts. `types` are ship types to begin with. `vessels`, or `part` as a place and a count, are the
+    vessels whose lines are left; if neither is given, all are.
+    """
+
+    first: int
+    last: int
+    begin: int
+    end: int
+    slack: int
+    time: int | None = None
+    clock: int | None = None
+    types: dict[str, int] = dataclasses.field(default_factory=dict)
+    vessels: list[int] | None = None
+    part: tuple[int, int] | None = None
+
+    def text(self) -> str:
+        """Returns the cut as JSON."""
+        return json.dumps(dataclasses.asdict(self))
+
+
+def typed_lines(cut: Cut) -> Iterator[bytes]:
+    """Yields a message 24 for each ship type that was reported before, stamped at the beginning of the window of lines."""
+    for mmsi, kind in sorted(cut.types.items()):
+        yield block(max(0, cut.first)) + sentence(hull_part(int(mmsi), kind, (0, 0, 0, 0))) + b"\n"
+
+
+def cut_lines(lines: Iterable[bytes], cut: Cut) -> Iterator[bytes]:
+    """Yields the lines of the window, as the whole log has them."""
+    stamps, time, clock, shown = Stamps(), cut.time, cut.clock, None
+    stamp_of, first, last, begin, end, slack = stamps.of, cut.first, cut.last, cut.begin, cut.end, cut.slack
+    for line in lines:
+        stamp = stamp_of(line)
+        if stamp is not None:
+            time = stamp
+        late = clock is not None and time is not None and clock > last and time + slack < clock
+        if stamp is not None and begin <= stamp <= end and (clock is None or stamp > clock):
+            clock = stamp
+        if time is None:
+            if first == begin:
+                yield line                          # its time is the start of the whole, which is this window's
+        elif first <= time <= last and not late:
+            if stamp is None and shown != time:
+                yield block(time) + b"\n"
+            shown = time
+            yield line
+
+
+def share_lines(lines: Iterable[bytes], cut: Cut) -> Iterator[bytes]:
+    """Yields the whole log of a share."""
+    yield from typed_lines(cut)
+    left = cut_lines(lines, cut)
+    if cut.vessels is not None:
+        left = Sieve(set(cut.vessels).__contains__, cut.slack).left(left)
+    elif cut.part is not None:
+        left = Sieve(part_of(*cut.part), cut.slack).left(left)
+    yield from left
+
+
+def main() -> None:
+    """Writes the share's log to standard output; the Cut is in the file that is the one argument."""
+    with open(sys.argv[1], encoding="utf-8") as source:
+        cut = Cut(**json.load(source))
+    sys.stdout.buffer.writelines(share_lines(sys.stdin.buffer, cut))
+    sys.stdout.buffer.flush()

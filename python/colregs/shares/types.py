@@ -1,0 +1,118 @@
+"""Ship types that were reported before a window begins. Where ranks count they decide who gives way, and a window alone may lack them.
+
+They are read as the program reads them: from the sentences that are neither outside nor late, parts joined by identifier and channel. Of the types
+only those that give a rank of their own are carried; any other is as none (docs/AUDIT.md).
+"""
+import bisect
+import re
+from collections.abc import Iterable
+from dataclasses import dataclass, field
+
+from colregs.io.lines import JOINED_WITHIN, Bits, Joiner, Message, Stamps, bits_of, sender_of, sentence_of
+
+RANKED = (30, 36)                   # fishing and sailing: the ship types that count
+LEAST, MOST = 200000000, 799999999  # MMSIs of ships
+CANDIDATE = re.compile(rb"![A-Z0-9]{2}VD[MO],(?:[2-9],|1,1,\d?,[A-Za-z0-9]?,[5CH])")
+HEAD = re.compile(rb"![A-Z0-9]{2}VD[MO],\d,1,\d?,[A-Za-z0-9]?,(.{7})", re.S)
+SHIP_TYPE = {5: (422, 232), 19: (312, 263), 24: (162, 40)}     # bits that the message needs, and the first of the eight of the type
+
+
+def ship_type(bits: Bits) -> tuple[int, int] | None:
+    """Returns the vessel and the ship type that a message reports; None if it reports none."""
+    if bits.width < 38:
+        return None
+    kind, mmsi = bits.number(0, 6), bits.number(8, 30)
+    if kind not in SHIP_TYPE or not LEAST <= mmsi <= MOST:
+        return None
+    needed, first = SHIP_TYPE[kind]
+    if bits.width < needed or kind == 24 and bits.number(38, 2) != 1:
+        return None
+    return mmsi, bits.number(first, 8)
+
+
+@dataclass
+class Stretch:
+    """Successive notes of one vessel, in the order of lines, that give her one rank: that rank's type, and the times of the notes."""
+
+    kind: int
+    earliest: int       # the least time of any part of a note
+    latest: int
+
+
+@dataclass
+class Before:
+    """What is known before a window: ship types, and the vessels of whom the window may read another type than the whole log."""
+
+    types: dict[int, int] = field(default_factory=dict)
+    unsure: set[int] = field(default_factory=set)
+
+
+class Types:
+    """Gathers the ship types of a log, line by line, for windows of lines that begin at these times."""
+
+    def __init__(self, begin: int, end: int, slack: int, firsts: list[int]) -> None:
+        self.begin, self.end, self.slack, self.firsts = begin, end, slack, sorted(firsts)
+        self.stamps, self.joiner = Stamps(), Joiner()
+        self.time: int | None = None
+        self.clock: int | None = None
+        self.notes: dict[int, list[Stretch]] = {}
+        self.joiners = {first: Joiner() for first in self.firsts}
+        self.unsure: dict[int, set[int]] = {first: set() for first in self.firsts}
+        self.heard: dict[int, set[int]] = {}
+        self.hour = 3600
+
+    def take(self, lines: Iterable[bytes]) -> None:
+        """Takes lines of the log."""
+        for line in lines:
+            stamp, clock = self.stamps.of(line), self.clock
+            if stamp is not None:
+                self.time = stamp
+                if self.begin <= stamp <= self.end and (clock is None or stamp > clock):
+                    self.clock = stamp
+            found = HEAD.search(line)
+            if found and self.time is not None and sender_of(found[1]) in self.notes:
+                self.heard.setdefault(sender_of(found[1]) or 0, set()).add(self.time // self.hour)
+            if CANDIDATE.search(line):
+                self.take_sentence(line, clock)
+
+    def take_sentence(self, line: bytes, clock: int | None) -> None:
+        """Takes a line that may report a ship type, where the clock before it is at a time."""
+        sentence, time = sentence_of(line), self.time
+        if sentence is None or time is None or not self.begin <= time <= self.end or clock is not None and time + self.slack < clock:
+            return
+        message = self.joiner.take(sentence, time)
+        told = ship_type(bits_of(message.parts)) if message else None
+        if message and told:
+            self.note(told[0], told[1] if told[1] in RANKED else 0, message)
+        if sentence.total > 1:
+            near = bisect.bisect_left(self.firsts, time - 2 * JOINED_WITHIN - self.slack), bisect.bisect_right(self.firsts, time)
+            for first in self.firsts[slice(*near)]:
+                self.compare(first, self.joiners[first].take(sentence, time), message)
+
+    def note(self, mmsi: int, kind: int, message: Message) -> None:
+        known = self.notes.setdefault(mmsi, [])
+        if known and known[-1].kind == kind:
+            known[-1].earliest, known[-1].latest = min(known[-1].earliest, message.earliest), max(known[-1].latest, message.time)
+        else:
+            known.append(Stretch(kind, message.earliest, message.time))
+
+    def compare(self, first: int, alone: Message | None, whole: Message | None) -> None:
+        """Notes the sender of a message that a window alone joins, and the whole log does not."""
+        if alone is not None and (whole is None or whole.parts != alone.parts):
+            bits = bits_of(alone.parts)
+            if bits.width >= 38:
+                self.unsure[first].add(bits.number(8, 30))
+
+    def before(self, first: int, last: int) -> Before:
+        """Returns what is known before the window of lines from `first` to `last`."""
+        found = Before(unsure=set(self.unsure[first]))
+        hours = range(first // self.hour, last // self.hour + 1)
+        for mmsi, known in self.notes.items():
+            earlier = [k for k, stretch in enumerate(known) if stretch.earliest < first]
+            if not earlier:
+                continue
+            if any(stretch.latest >= first for stretch in known[:earlier[-1]]):
+                found.unsure.add(mmsi)
+            if known[earlier[-1]].kind and not self.heard.get(mmsi, set()).isdisjoint(hours):
+                found.types[mmsi] = known[earlier[-1]].kind
+        return found
