@@ -9,6 +9,7 @@ import time
 import unittest
 
 import crowd
+import test_joins
 from given import InFolder, PROGRAM, TOOLS, example, needs, text_of, with_program
 from colregs.io.sources import stamped
 from colregs.stream.day_files import LEAP, SURE, Clock, DayFiles
@@ -111,6 +112,58 @@ class Once(Streams):
         out, _ = self.follow("--modes", "watch", "--whole", source="".join(self.lines))
         self.assertEqual(self.rows(out), self.whole("watch"))
         self.assertGreater(len(self.rows(out)), 50)
+
+
+KILLED = """#!/bin/sh
+if [ "$1" = audit ] && mkdir once 2>/dev/null; then
+  %s "$@" | head -c 300
+  kill -9 $$
+fi
+exec %s "$@"
+"""
+
+
+class Killed(Streams):
+    def test_a_run_that_is_killed_while_it_writes_a_row_begins_again(self):
+        program = self.write("wrapped", KILLED % (PROGRAM, PROGRAM))
+        os.chmod(program, 0o755)
+        out, error = self.follow("--whole", "--program", program, source="".join(self.lines))
+        self.assertTrue(os.path.isdir(self.path("once")))
+        self.assertIn("was killed by signal 9, and begins again from the day files", error)
+        self.assertEqual(sorted(self.rows(out)), sorted(self.whole()))
+
+
+class Meetings(InFolder):
+    """Streams of drawn vessels in windows of 1000 s that overlap by as much."""
+
+    def followed(self, rows, scenario):
+        text = b"".join(line + b"\n" for _, line in sorted(rows, key=lambda row: row[0]))
+        self.write("s.toml", scenario)
+        self.write("log", text)
+        status, out, error = self.tool("colregs-follow", "s.toml", "--days", "days", "--program", PROGRAM, "--ticks-each", "100", "--overlap", "1000",
+                                       "--whole", source=text)
+        self.assertEqual(status, 0, error)
+        told = [json.loads(line) for line in out.splitlines()]
+        done = subprocess.run([PROGRAM, "audit", self.path("s.toml")], input=text, capture_output=True)
+        whole = [absolute(row, test_joins.START) for row in crowd.stretches(done.stdout.decode())]
+        marked = [absolute(row["row"], row["run"]) for row in told if row.get("begins_before")]
+        return [absolute(row["row"], row["run"]) for row in told if not row.get("begins_before")], marked, whole
+
+    def test_rows_of_a_meeting_that_began_before_their_window_say_so(self):
+        still = [*test_joins.way(test_joins.YACHT, 0, 0, 0, 5, to=10800), *test_joins.way(test_joins.CARGO, 0, 0, 0, 7, x=50, to=10800)]
+        met = [*test_joins.way(test_joins.EAST, 9, 0, 5000, 3, x=9000, to=10800), *test_joins.way(test_joins.NORTH, 9, 180, 5000, 4, x=9100, to=10800)]
+        rows, marked, whole = self.followed(still + met, test_joins.SCENARIO.replace("ticks = 2160", "ticks = 1080"))
+        self.assertEqual([row for row in rows if str(test_joins.EAST) in row], [row for row in whole if str(test_joins.EAST) in row])
+        self.assertLessEqual(set(rows), set(whole))
+        self.assertTrue(marked)
+        self.assertTrue(all(str(test_joins.YACHT) in row for row in marked))
+
+    def test_a_ship_type_that_was_reported_once_counts_in_every_window_of_a_stream(self):
+        rows = [*test_joins.two(), (6, test_joins.stamped(6, test_joins.sentences.sentence(test_joins.sentences.hull_part(test_joins.YACHT, 36, (0, 0, 0, 0)))))]
+        found, marked, whole = self.followed(rows, test_joins.RANKS)
+        self.assertIn(f"verdict,{test_joins.CARGO},{test_joins.YACHT},r16,broken", "\n".join(whole))
+        self.assertEqual((sorted(found), marked), (sorted(whole), []))
+        self.assertEqual(json.loads(text_of(self.path("days/types.json"))), {str(test_joins.YACHT): [36, test_joins.START + 6]})
 
 
 class Limits(Streams):
