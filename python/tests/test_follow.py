@@ -38,7 +38,7 @@ def absolute(row, start, tick=10):
 
 @with_program
 class Streams(InFolder):
-    def setUp(self):
+    def setUp(self) -> None:
         super().setUp()
         self.write("s.toml", crowd.harbour())
         self.lines = [line + "\n" for line in crowd.moved(text_of(example("harbour_of_twenty.log")).splitlines(), SHIFT)]
@@ -59,14 +59,14 @@ class Streams(InFolder):
 
 
 class Once(Streams):
-    def test_a_whole_stream_has_the_rows_of_one_run_in_order(self):
+    def test_a_whole_stream_has_the_rows_of_one_run_in_order(self) -> None:
         out, error = self.follow("--whole", source="".join(self.lines))
         self.assertEqual((self.rows(out), error), (self.whole(), ""))
         self.assertEqual(len(set(json.loads(line)["run"] for line in out.splitlines())), 4)
         first = json.loads(out.splitlines()[0])
         self.assertEqual((first["begins"], first["ends"]), ("2023-11-14T23:44:10Z", "2023-11-14T23:44:20Z"))
 
-    def test_a_stream_that_is_cut_and_restarted_over_midnight(self):
+    def test_a_stream_that_is_cut_and_restarted_over_midnight(self) -> None:
         found, ends = [], [900, 1500, len(self.lines)]
         for begin, end in zip([0] + ends, ends):
             out, error = self.follow(*(["--whole"] if end == ends[-1] else []), source="".join(self.lines[begin:end]))
@@ -77,7 +77,7 @@ class Once(Streams):
         self.assertEqual(sorted(name for name in os.listdir(self.path("days")) if name.endswith(".log")), ["2023-11-14.log", "2023-11-15.log"])
         self.assertEqual("".join(text_of(self.path("days/" + day + ".log")) for day in ("2023-11-14", "2023-11-15")), "".join(self.lines))
 
-    def test_a_file_that_grows_with_a_kill_in_between(self):
+    def test_a_file_that_grows_with_a_kill_in_between(self) -> None:
         log = self.write("log", "".join(self.lines[:1200]))
         self.write("out", "")
         for number, begin, end in ((signal.SIGKILL, 1200, 1900), (signal.SIGTERM, 1900, len(self.lines))):
@@ -102,13 +102,13 @@ class Once(Streams):
             time.sleep(0.05)
         self.fail("it did not come in 30 s")
 
-    def test_from_a_command_into_a_command(self):
+    def test_from_a_command_into_a_command(self) -> None:
         self.write("log", "".join(self.lines))
         self.follow("--command", "cat log", "--to", "cat > out", "--whole")
         self.assertEqual(self.rows(text_of(self.path("out"))), self.whole())
 
     @unittest.skipUnless(has_watch(), "the program has no mode watch")
-    def test_alarms_of_watch_are_there_once(self):
+    def test_alarms_of_watch_are_there_once(self) -> None:
         out, _ = self.follow("--modes", "watch", "--whole", source="".join(self.lines))
         self.assertEqual(self.rows(out), self.whole("watch"))
         self.assertGreater(len(self.rows(out)), 50)
@@ -167,7 +167,7 @@ class Meetings(InFolder):
 
 
 class Limits(Streams):
-    def test_a_window_with_too_many_pairs_is_split_by_subjects(self):
+    def test_a_window_with_too_many_pairs_is_split_by_subjects(self) -> None:
         log, start = crowd.log(100, 8000), crowd.START - 320
         self.write("s.toml", crowd.SCENARIO)
         self.write("log", log)
@@ -180,11 +180,11 @@ class Limits(Streams):
         self.assertGreater(len(wanted), 200)
         self.assertEqual(sorted(self.rows(out)), sorted(wanted))
 
-    def test_a_meeting_longer_than_the_overlap_is_told(self):
+    def test_a_meeting_longer_than_the_overlap_is_told(self) -> None:
         error = self.follow("--whole", "--overlap", "400", "--ticks-each", "40", source="".join(self.lines))[1]
         self.assertIn("longer than the overlap", error)
 
-    def test_wrong_words_are_refused(self):
+    def test_wrong_words_are_refused(self) -> None:
         for words, told in ((["--overlap", "0"], "the overlap is 31 ticks or more"), (["--ticks-each", "20000"], "at most 20000"),
                             (["--log", "none"], "none is not there"), (["--log", "s.toml", "--command", "x"], "not both"),
                             (["--out", "a", "--to", "b"], "not to both")):
@@ -196,7 +196,7 @@ class Limits(Streams):
 
 
 class Parts(InFolder):
-    def test_a_time_far_ahead_is_no_clock_until_more_tell_it(self):
+    def test_a_time_far_ahead_is_no_clock_until_more_tell_it(self) -> None:
         clock = Clock()
         for at, told in ((1000, 1000), (990, 1000), (1000 + LEAP, 1000 + LEAP), (10 ** 9, 1000 + LEAP), (2000, 1000 + LEAP)):
             self.assertEqual(clock.take(b"\\c:%d*00\\" % at), told)
@@ -204,7 +204,7 @@ class Parts(InFolder):
             clock.take(b"\\c:%d*00\\" % (10 ** 9 + k))
         self.assertEqual(clock.time, 10 ** 9)
 
-    def test_a_line_that_was_cut_off_is_not_gone_on_with(self):
+    def test_a_line_that_was_cut_off_is_not_gone_on_with(self) -> None:
         files = DayFiles(self.folder)
         files.write(b"one\n", 0)
         files.write(b"tw", 86399)
@@ -216,16 +216,16 @@ class Parts(InFolder):
         limit = again.place()
         self.assertEqual(b"".join(again.blocks(("1970-01-01", 0), lambda: limit)), b"one\nthree\n")
 
-    def test_bare_sentences_get_the_time(self):
+    def test_bare_sentences_get_the_time(self) -> None:
         self.assertEqual(stamped(b"!AIVDM,1,1,,A,1,0*00", 1700000001), b"\\c:1700000001*5E\\!AIVDM,1,1,,A,1,0*00")
         self.assertEqual(stamped(b"\\c:1*00\\!AIVDM", 5), b"\\c:1*00\\!AIVDM")
 
-    def test_the_steps_of_rows(self):
+    def test_the_steps_of_rows(self) -> None:
         for row, steps in (("verdict,1,2,r14a,open,5,6", (5, 6)), ("meeting,1,2,head_on,7,8,9", (7, 8)), ("alarm,1,2,r8d,3,4,", (3, 4))):
             self.assertEqual(steps_of(row), steps)
 
     @needs("systemd-analyze")
-    def test_the_units_are_accepted(self):
+    def test_the_units_are_accepted(self) -> None:
         self.assertEqual(len(UNITS), 2)
         for name in UNITS:
             text = text_of(os.path.join(TOOLS, "systemd", name)).replace("/usr/lib/colregs/tools", TOOLS)

@@ -6,7 +6,7 @@ import sys
 import time
 import unittest
 
-from given import InFolder, PROGRAM, example, needs, text_of, with_program
+from given import InFolder, example, needs, text_of, with_program
 from colregs.io.sources import gather
 from encounters import ENCOUNTERS, METRES, states, told
 import tomllib
@@ -58,7 +58,7 @@ class Tables(InFolder):
         self.assertTrue(any(all(message.get(key) == value for key, value in wanted.items()) for message in read), (wanted, read))
 
     @needs("gpsdecode")
-    def test_each_head_is_known_and_gpsdecode_reads_what_the_table_says(self):
+    def test_each_head_is_known_and_gpsdecode_reads_what_the_table_says(self) -> None:
         for name, table in (("MarineCadastre", CADASTRE), ("MarineCadastre", CADASTRE_NEW), ("DMA", DMA), ("AISHub", HUB), ("AISHub", HUB_RAW)):
             with self.subTest(table[:40]):
                 found, sentences = self.made(table)
@@ -70,7 +70,7 @@ class Tables(InFolder):
                     self.holds(read, {key: value for key, value in each.items() if key != "shipname" or "shiptype" not in each})
                 self.assertEqual(found.first, 1700000001)
 
-    def test_libais_reads_the_same(self):
+    def test_libais_reads_the_same(self) -> None:
         python = with_libais()
         if python is None:
             self.skipTest("python3-ais is not installed")
@@ -85,7 +85,7 @@ class Tables(InFolder):
         self.holds(read, {"id": 24, "mmsi": 200000011, "part_num": 0, "name": "ELM" + "@" * 17})
         self.holds(read, {"id": 24, "mmsi": 200000011, "part_num": 1, "type_and_cargo": 70, "dim_a": 0, "dim_b": 120, "dim_c": 0, "dim_d": 20})
 
-    def test_what_a_row_lacks_is_told_and_its_neighbours_stay(self):
+    def test_what_a_row_lacks_is_told_and_its_neighbours_stay(self) -> None:
         bad = ("200000011,2023-11-14T22:13:31,x,-123.58234,14.0,90.5,91,ELM,,,70,0,120,20,5.0,70,A\n200000011,2023-11-14T22:13:31,48.25\n"
                "none,2023-11-14T22:13:31,48.25,-123.5,14.0,90.5,91,ELM,,,70,0,120,20,5.0,70,A\n200000011,14/11/2023 22:13,48.25,-123.5,14.0,90.5,91,"
                "ELM,,,70,0,120,20,5.0,70,A\n")
@@ -94,13 +94,13 @@ class Tables(InFolder):
             ("a row whose MMSI is no number", 1), ("a row with a date whose day and month may be exchanged", 1),
             ("a row with a field that is no number", 1), ("a row with another number of fields than its head", 1)]))
 
-    def test_columns_that_are_not_known_are_named(self):
+    def test_columns_that_are_not_known_are_named(self) -> None:
         table = "mmsi;timestamp;lat;lon;speed;course\n200000011;2023-11-14 22:13:21;48.25;-123.5;140;900\n"
         found, sentences = self.made(table)
         self.assertEqual((found.notes, len(sentences)), (["columns that are not read: speed, course"], 1))
 
     @with_program
-    def test_the_examples_through_marine_cadastre_and_back_have_the_same_pairs_kinds_and_rules(self):
+    def test_the_examples_through_marine_cadastre_and_back_have_the_same_pairs_kinds_and_rules(self) -> None:
         for name in ENCOUNTERS:
             with self.subTest(name):
                 gather([self.write("table.csv", cadastre(name))], self.path("out"))
