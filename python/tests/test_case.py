@@ -33,12 +33,12 @@ class Cases(InFolder):
         self.write("passing.toml", passing.SCENARIO)
         self.write("passing.log", passing.log(still=True))
 
-    def make(self, *more, status=0):
+    def make(self, *more: str, status: int = 0) -> tuple[int, str, str]:
         done = self.tool("colregs-case", "passing.log", "--scenario", "passing.toml", "--program", PROGRAM, "-o", "made", *more)
         self.assertEqual(done[0], status, done[2])
         return done
 
-    def held(self, name):
+    def held(self, name: str) -> str:
         with open(self.path("made/" + name), encoding="utf-8") as source:
             return source.read()
 
@@ -135,7 +135,8 @@ class Pictures(Cases):
 class Pages(Cases):
     def test_the_page_holds_the_meeting_with_its_rule_in_words(self) -> None:
         self.make()
-        held = json.loads(re.search(r'<script type="application/json" id="case">(.*?)</script>', self.held("case.html"), re.S)[1])
+        found = re.search(r'<script type="application/json" id="case">(.*?)</script>', self.held("case.html"), re.S)
+        held = json.loads(found[1] if found else "")
         names = [vessel["name"] for vessel in held["vessels"]]
         meeting = next(m for m in held["meetings"] if {names[k] for k in m["pair"]} == {"EAST", "WEST"})
         self.assertEqual((meeting["least"], held["start"] + meeting["nearest"], meeting["rest"]), (passing.LEAST, passing.NEAREST, []))
@@ -176,8 +177,8 @@ class Pages(Cases):
             self.assertEqual(tab.value("document.querySelectorAll('#meetings tbody tr').length"), meetings)
             self.assertRegex(tab.value("document.querySelector('#chosen').textContent"), "^Meeting 1:")
             number = tab.value("HELD.meetings.findIndex(m => !m.rest.length) + 1")
-            tab.value("document.querySelector('#meetings tbody tr[data-meeting=\"%d\"]').click()" % number)
-            self.assertEqual(tab.value("location.hash"), "#meeting%d" % number)
+            tab.value(f"document.querySelector('#meetings tbody tr[data-meeting=\"{number}\"]').click()")
+            self.assertEqual(tab.value("location.hash"), f"#meeting{number}")
             said = tab.value("document.querySelector('#chosen-words').textContent")
             self.assertIn("Nearest 185 m (0.10 nautical miles) at 22:21:40", said)
             self.assertEqual(tab.value("document.querySelectorAll('#charts svg polyline.distance').length"), 1)

@@ -4,11 +4,13 @@ import os
 import re
 import subprocess
 import unittest
+from collections.abc import Iterable
 
 from given import EXAMPLES, InFolder, PROGRAM, example, text_of, with_program
 from colregs.io import sentences
 from colregs.model import keys
 from colregs.model.doctor import findings
+from colregs.model.scenario_checks import Finding
 
 TOML, LOG = text_of(example("crossing.toml")), text_of(example("crossing.log"))
 GIVING, GIVING_LOG = text_of(example("giving_way.toml")), text_of(example("giving_way.log"))
@@ -48,19 +50,19 @@ SCENARIOS = [
 ]
 
 
-def words_of(found):
-    return ["%s: %s" % finding for finding in found]
+def words_of(found: list[Finding]) -> list[str]:
+    return [f"{finding.name}: {finding.words}" for finding in found]
 
 
 @with_program
 class WrongUses(InFolder):
-    def found(self, toml, log, report=None):
-        """The findings of a scenario, a log, and what is to be the report: that of the program where nothing is given."""
+    def found(self, toml: str, log: str | bytes, report: str | None = None) -> list[Finding]:
+        """Returns the findings of a scenario, a log and a report."""
         scenario, path = self.write("s.toml", toml), self.write("log", log)
         made = self.write("report", report) if report is not None else None
         return findings(scenario, path, made, PROGRAM)
 
-    def names(self, toml, log, report=None):
+    def names(self, toml: str, log: str | bytes, report: str | None = None) -> list[str]:
         return [finding.name for finding in self.found(toml, log, report)]
 
     def test_the_shipped_examples_are_silent(self) -> None:
@@ -80,8 +82,10 @@ class WrongUses(InFolder):
 
     def test_a_log_that_cannot_be_read_as_it_is_is_named(self) -> None:
         table = "MMSI,BaseDateTime,LAT,LON,SOG,COG,Heading\n200000011,2023-11-14T22:13:21,48.25,-123.5,14,90,90\n"
-        for name, log in (("packed log", gzip.compress(LOG.encode())), ("log in UTF-16", LOG.encode("utf-16")), ("no sentences", table),
-                          ("no sentences", "nothing of this is AIS\n"), ("empty log", "")):
+        logs: tuple[tuple[str, str | bytes], ...] = (
+            ("packed log", gzip.compress(LOG.encode())), ("log in UTF-16", LOG.encode("utf-16")), ("no sentences", table),
+            ("no sentences", "nothing of this is AIS\n"), ("empty log", ""))
+        for name, log in logs:
             with self.subTest(name):
                 self.assertEqual(self.names(TOML, log), [name])
 
@@ -155,7 +159,7 @@ class WrongUses(InFolder):
         points = self.program("points", example("crossing.toml"), example("crossing.log"))
         self.assertEqual(self.names(TOML, LOG, points), [])
 
-    def program_with(self, *options):
+    def program_with(self, *options: str) -> str:
         with open(example("crossing.log"), "rb") as source:
             return subprocess.run([PROGRAM, "audit", example("crossing.toml"), *options], stdin=source, capture_output=True).stdout.decode()
 
@@ -198,13 +202,13 @@ class Keys(unittest.TestCase):
         self.assertEqual([known[key] for key in some], ["m", "1/10 degree", "m", "s"])
 
 
-def report(at, mmsi, latitude, longitude, way=100, course=900, heading=90):
+def report(at: int, mmsi: int, latitude: int, longitude: int, way: int = 100, course: int = 900, heading: int = 90) -> str:
     bits = sentences.class_a(mmsi, (latitude, longitude, way, course, heading, at % 60), 0)
     return (sentences.block(at) + sentences.sentence(bits)).decode()
 
 
-def by_time(lines):
-    """Lines with tag blocks by their times; parts stay behind theirs."""
+def by_time(lines: Iterable[str]) -> str:
+    """Returns lines with tag blocks by their times; parts stay after theirs."""
     at, entries = "", []
     for line in lines:
         at = line[3:13] if line.startswith("\\c:") else at

@@ -7,6 +7,7 @@ import subprocess
 import sys
 import time
 import unittest
+from collections.abc import Callable
 
 import crowd
 import test_joins
@@ -21,15 +22,15 @@ WINDOWS = ["--ticks-each", "60", "--overlap", "900"]
 UNITS = sorted(os.listdir(os.path.join(TOOLS, "systemd")))
 
 
-def has_watch():
+def has_watch() -> bool:
     if not os.access(PROGRAM, os.X_OK):
         return False
     told = subprocess.run([PROGRAM, "--help"], capture_output=True, text=True)
     return re.search(r"- watch:|\|watch\b", told.stdout + told.stderr) is not None
 
 
-def absolute(row, start, tick=10):
-    """A row with times in place of its steps."""
+def absolute(row: str, start: int, tick: int = 10) -> str:
+    """Returns a row with times instead of its steps."""
     fields = row.split(",")
     at = 5 if fields[0] == "verdict" else 4
     fields[at:at + 2] = [str(start + int(field) * tick) for field in fields[at:at + 2]]
@@ -43,17 +44,17 @@ class Streams(InFolder):
         self.write("s.toml", crowd.harbour())
         self.lines = [line + "\n" for line in crowd.moved(text_of(example("harbour_of_twenty.log")).splitlines(), SHIFT)]
 
-    def follow(self, *words, source="", status=0, days="days"):
+    def follow(self, *words: str, source: str = "", status: int = 0, days: str = "days") -> tuple[str, str]:
         done = self.tool("colregs-follow", "s.toml", "--days", days, "--program", PROGRAM, *WINDOWS, *words, source=source.encode())
         self.assertEqual(done[0], status, done[2])
         return done[1], done[2]
 
-    def rows(self, text):
+    def rows(self, text: str) -> list[str]:
         return [absolute(told["row"], told["run"]) for told in map(json.loads, text.splitlines())]
 
-    def whole(self, mode="audit"):
-        """The rows of one run over a window that begins with the log, and ends long behind it."""
-        done = subprocess.run([PROGRAM, mode, self.path("s.toml"), "--start=%d" % START, "--ticks=1000"], input="".join(self.lines).encode(),
+    def whole(self, mode: str = "audit") -> list[str]:
+        """Returns the rows of one run over a window that begins with the log, and ends long after it."""
+        done = subprocess.run([PROGRAM, mode, self.path("s.toml"), f"--start={START}", "--ticks=1000"], input="".join(self.lines).encode(),
                               capture_output=True)
         return [absolute(row, START) for row in done.stdout.decode().splitlines() if row.startswith(("meeting", "verdict", "alarm"))]
 
@@ -92,10 +93,10 @@ class Once(Streams):
         self.follow("--log", log, "--out", "out", "--whole")
         self.assertEqual(sorted(self.rows(text_of(self.path("out")))), sorted(self.whole()))
 
-    def offset(self):
-        return json.loads(text_of(self.path("days/source.json")))["offset"]
+    def offset(self) -> int:
+        return int(json.loads(text_of(self.path("days/source.json")))["offset"])
 
-    def until(self, done):
+    def until(self, done: Callable[[], bool]) -> None:
         for _ in range(600):
             if done():
                 return

@@ -16,12 +16,14 @@ class Windows(InFolder):
         super().setUp()
         self.scenario, self.log = self.write("s.toml", passing.SCENARIO), self.write("log", passing.log())
 
-    def texts(self, *window):
-        return [report_of(PROGRAM, mode, self.scenario, self.log, options=window_options(*window)) for mode in ("points", "audit")]
+    def texts(self, start: int | None = None, ticks: int | None = None) -> tuple[str, str]:
+        options = window_options(start, ticks)
+        points, audit = (report_of(PROGRAM, mode, self.scenario, self.log, options=options) for mode in ("points", "audit"))
+        return points, audit
 
-    def refused(self, words, points, audit, *window):
+    def refused(self, words: str, points: str, audit: str, start: int | None = None, ticks: int | None = None) -> None:
         with self.assertRaisesRegex(Fault, words):
-            Case(self.scenario, points, audit, *window)
+            Case(self.scenario, points, audit, start, ticks)
 
     def test_the_nearest_moment_is_the_same_in_a_window_that_begins_later(self) -> None:
         for window in ((None, None), (passing.START + 100, 80)):
@@ -54,8 +56,8 @@ class Windows(InFolder):
         self.refused("two runs: 0 and 1 lines are `other`", points, self.texts()[1])
 
 
-def track(*reports):
-    """Reports of (seconds, metres to the east, 1/10 knot)."""
+def track(*reports: tuple[int, float, int]) -> Track:
+    """Returns a track of reports of (seconds, metres to the east, 1/10 knot)."""
     made = Track()
     for second, x, speed in reports:
         made.times.append(second)
@@ -87,7 +89,7 @@ class AtRest(unittest.TestCase):
         folder.setUp()
         self.addCleanup(folder.doCleanups)
         scenario, log = folder.write("s.toml", passing.SCENARIO), folder.write("log", passing.log(still=True))
-        case = Case(scenario, *(report_of(PROGRAM, mode, scenario, log) for mode in ("points", "audit")))
+        case = Case(scenario, report_of(PROGRAM, "points", scenario, log), report_of(PROGRAM, "audit", scenario, log))
         marks = {row.pair: case.rest(row) for row in case.meetings}
         self.assertEqual(marks[passing.STILL, passing.EAST], "subject")
         self.assertEqual(marks[passing.EAST, passing.STILL], "other")

@@ -2,6 +2,7 @@
 import os
 import tomllib
 import unittest
+from typing import Any
 
 from given import EXAMPLES, InFolder, PROGRAM, example, with_program
 from colregs.io import sentences
@@ -9,13 +10,13 @@ from colregs.errors import Fault
 from colregs.model.guess import suggested
 
 
-def report(at, mmsi, latitude, longitude, way=100):
+def report(at: int, mmsi: int, latitude: int, longitude: int, way: int = 100) -> bytes:
     return sentences.block(at) + sentences.sentence(sentences.class_a(mmsi, (latitude, longitude, way, 900, 90, at % 60), 0)) + b"\n"
 
 
 @with_program
 class Suggested(InFolder):
-    def values(self, log):
+    def values(self, log: bytes) -> tuple[dict[str, Any], str]:
         text, reasons = suggested(self.write("log", log), PROGRAM)
         self.program("audit", self.write("s.toml", text), self.path("log"))
         return tomllib.loads(text), " / ".join(reasons)

@@ -39,20 +39,20 @@ class Shares(InFolder):
         self.write("log.gz", gzip.compress(text_of(example("harbour_of_twenty.log")).encode()))
         self.used = PROGRAM
 
-    def many(self, *words, status=0):
+    def many(self, *words: str, status: int = 0) -> tuple[int, str, str]:
         done = self.within("colregs-many", *words, "--program", self.used)
         self.assertEqual(done[0], status, done[2])
         return done
 
-    def plan(self, *words, scenario="s.toml", log="log.gz"):
+    def plan(self, *words: str, scenario: str = "s.toml", log: str = "log.gz") -> list[str]:
         self.write("jobs", self.many("plan", scenario, log, *words)[1])
         return text_of(self.path("jobs")).splitlines()
 
-    def joined(self):
+    def joined(self) -> str:
         self.many("jobs", "--jobs", "4")
         return self.many("join", "jobs")[1]
 
-    def whole(self, scenario="s.toml"):
+    def whole(self, scenario: str = "s.toml") -> str:
         self.write("log", gzip.decompress(open(self.path("log.gz"), "rb").read()))
         return self.program("audit", self.path(scenario), self.path("log"))
 
@@ -102,7 +102,7 @@ class Joined(Shares):
 
 
 class Covered(Shares):
-    def refused(self, words, *keep):
+    def refused(self, words: str, *keep: int) -> None:
         lines = text_of(self.path("jobs")).splitlines()
         self.write("fewer", "".join(lines[k] + "\n" for k in keep))
         os.rename(self.path("jobs.kept"), self.path("fewer.kept"))
@@ -151,7 +151,7 @@ class KeptResults(Shares):
             if change == "log.gz":
                 self.assertIn("log.gz changed after the jobs were planned: plan again", self.many("jobs", status=1)[2])
                 self.plan("--ticks-each", "1000")
-            self.assertIn("1 jobs: %d were kept before" % kept, self.many("jobs")[2])
+            self.assertIn(f"1 jobs: {kept} were kept before", self.many("jobs")[2])
 
     def test_what_goes_wrong_is_told(self) -> None:
         self.write("wrong.toml", crowd.harbour().replace("ticks = 198 ", "ticks = 0 "))

@@ -9,6 +9,7 @@ import subprocess
 import time
 import unittest
 import zipfile
+from collections.abc import Iterable
 
 import test_tables
 import test_times
@@ -16,36 +17,36 @@ from given import InFolder, example, needs, text_of, with_program
 from colregs.io import sentences
 from colregs.io.logs import timed
 from colregs.errors import Fault
-from colregs.io.sources import Unread, gather
+from colregs.io.sources import Gathered, Unread, gather
 from encounters import ENCOUNTERS
 
 S = "!AIVDM,1,1,,B,12vg22hP2<G:B?4KVut3Q2l20000,0*27"
 T = "!AIVDM,1,1,,B,12vg22hP2<G:BQDKVut3Q2lF0000,0*4D"
 
 
-def sentence(body):
+def sentence(body: str) -> str:
     total = 0
     for letter in body:
         total ^= ord(letter)
-    return "$%s*%02X" % (body, total)
+    return f"${body}*{total:02X}"
 
 
-def rmc(clock, date, valid="A", place="4815.0000,N,12334.9406,W", way="14.0,090.0", talker="GP"):
-    return sentence("%sRMC,%s,%s,%s,%s,%s,,,A" % (talker, clock, valid, place, way, date))
+def rmc(clock: str, date: str, valid: str = "A", place: str = "4815.0000,N,12334.9406,W", way: str = "14.0,090.0", talker: str = "GP") -> str:
+    return sentence(f"{talker}RMC,{clock},{valid},{place},{way},{date},,,A")
 
 
-def base_station(second, repeat=0):
+def base_station(second: int, repeat: int = 0) -> str:
     fields = [(4, 6), (repeat, 2), (2655651, 30), (2023, 14), (11, 4), (14, 5), (22, 5), (13, 6), (second, 6), (0, 90)]
     return sentences.sentence(fields).decode()
 
 
 class Sources(InFolder):
-    def gathered(self, text, **more):
-        """What came of a log, and the log that was made, line by line."""
+    def gathered(self, text: str | bytes, **more: int) -> tuple[Gathered, list[str]]:
+        """Returns what came of a log, and the log that was made, line by line."""
         found = gather([self.write("log", text)], self.path("out"), **more)
         return found, text_of(self.path("out")).splitlines()
 
-    def times(self, text, **more):
+    def times(self, text: str, **more: int) -> list[int]:
         return [int(line[3:13]) for line in self.gathered(text, **more)[1]]
 
 
@@ -125,10 +126,10 @@ class Receivers(Sources):
         self.assertEqual([row for row in plan.splitlines() if row.startswith("plan")], kept)
 
 
-def own_place(second):
-    """Where OAK is: at 29000000 north, -74200000 east in 1/10000 minute, 1297 m to the south, going north at 14 knots."""
+def own_place(second: int) -> str:
+    """Returns where OAK is: at 29000000 north, -74200000 east in 1/10000 minute, 1297 m to the south, going north at 14 knots."""
     latitude = round(29000000 + (-1297 + second * 14 * 1852 / 3600) / 1852 * 10000)
-    return "%02d%07.4f,N,12340.0000,W" % (latitude // 600000, latitude % 600000 / 10000)
+    return f"{latitude // 600000:02d}{latitude % 600000 / 10000:07.4f},N,12340.0000,W"
 
 
 class Servers(Sources):
@@ -180,34 +181,34 @@ class Servers(Sources):
         delta = ('1700000001000;I;{"context":"vessels.urn:mrn:imo:mmsi:200000011","updates":[{"timestamp":"2023-11-14T22:13:21.000Z","values":'
                  '[{"path":"navigation.position","value":{"latitude":48.25,"longitude":-123.5823433}},{"path":"navigation.speedOverGround",'
                  '"value":7.2022},{"path":"navigation.courseOverGroundTrue","value":1.5707963},{"path":"navigation.headingTrue","value":1.5708}]}]}')
-        found, made = self.gathered("1700000001000;N;%s\n%s\n" % (S, delta))
+        found, made = self.gathered(f"1700000001000;N;{S}\n{delta}\n")
         self.assertEqual((found.unread, len(made)), ({}, 2))
         self.assertEqual(made[0], "\\c:1700000001*5E\\" + S)
         # the same report up to its second, but for its channel and its status, 15 in place of 0, which makes six bits 111111 of 110000
         self.assertEqual(made[1][17:53], "!AIVDM,1,1,,A,12vg22wP2<G:B?4KVut3Q2")
 
     def test_opencpns_recorder_with_a_head_and_its_monitor_with_a_receiver(self) -> None:
-        vdr = 'received_at,protocol,msg_type,source,raw_data\n2023-11-14T22:13:21.123Z,NMEA0183,,COM3,"%s"\n' % S
+        vdr = f'received_at,protocol,msg_type,source,raw_data\n2023-11-14T22:13:21.123Z,NMEA0183,,COM3,"{S}"\n'
         found, made = self.gathered(vdr)
         self.assertEqual((made, found.unread), (["\\c:1700000001*5E\\" + S], {}))
-        monitor = "14:13:21.5 (COM3) %s\n14:13:21.7 (COM3) %s\n" % (rmc("221321", "141123"), S)
+        monitor = f"14:13:21.5 (COM3) {rmc('221321', '141123')}\n14:13:21.7 (COM3) {S}\n"
         self.assertEqual(self.gathered(monitor)[1], ["\\c:1700000001*5E\\" + S])
 
 
-def positions(told):
-    """The lines of position reports, from the MMSI on, but for the status and what the rest of a message 1 has."""
+def positions(told: str) -> list[str]:
+    """Returns the lines of position reports, from the MMSI on, without the status and the rest of a message 1."""
     return [line[line.index('"mmsi"'):].split('"status"')[0] + line[line.index('"speed"'):].split(',"maneuver"')[0]
             for line in told.splitlines() if '"type":1,' in line]
 
 
-def counted_out(report):
-    """A report without its counts of lines."""
+def counted_out(report: str) -> list[str]:
+    """Returns a report without its counts of lines."""
     return [row for row in report.splitlines() if not row.startswith("lines,")]
 
 
 class Blocks(Sources):
     def test_other_fields_of_a_tag_block_stay_and_a_wrong_sum_is_told(self) -> None:
-        found, made = self.gathered("\\g:1-2-7,s:r1,c:1700000001*3D\\%s\n\\c:1700000001*00\\%s\n" % (S, T))
+        found, made = self.gathered(f"\\g:1-2-7,s:r1,c:1700000001*3D\\{S}\n\\c:1700000001*00\\{T}\n")
         self.assertEqual(made, ["\\c:1700000001,g:1-2-7,s:r1*3D\\" + S])
         self.assertEqual(found.unread["a tag block with a wrong sum"].count, 1)
 
@@ -232,12 +233,12 @@ class Blocks(Sources):
         self.assertIn("sorted by time", " ".join(found.notes))
 
     def test_a_clock_that_was_not_set_is_told(self) -> None:
-        log = "\n".join("%d %s" % (1700000000 + 10 * k, S) for k in range(2000)) + "\n1000000000 " + T
+        log = "\n".join(f"{1700000000 + 10 * k} {S}" for k in range(2000)) + "\n1000000000 " + T
         self.assertIn("1 sentences have times more than a day off nearly all others, as 2001-09-09", "".join(self.gathered(log)[0].notes))
-        self.assertEqual(self.gathered("1700000000 %s\n1700090000 %s" % (S, T))[0].notes, [])
+        self.assertEqual(self.gathered(f"1700000000 {S}\n1700090000 {T}")[0].notes, [])
 
     def test_every_line_is_counted_once(self) -> None:
-        log = "\n\n# a comment\n%s,1700000001\nnonsense\n$GPGGA,1*00\n!AIVDM,1,1,,A,123\n{\"a\":1}\n{broken\n\xff\xfe\n" % S
+        log = f"\n\n# a comment\n{S},1700000001\nnonsense\n$GPGGA,1*00\n!AIVDM,1,1,,A,123\n{{\"a\":1}}\n{{broken\n\xff\xfe\n"
         found, _ = self.gathered(log.encode("latin-1"))
         counted = sum(found.forms.values()) + sum(found.aside.values()) + sum(told.count for told in found.unread.values())
         self.assertEqual((counted, found.lines()), (10, 10))
@@ -245,7 +246,7 @@ class Blocks(Sources):
             "JSON without a sentence", "a line with no sentence and no row", "a sentence without its sum, or cut off"])
 
 
-def gather_lines(test, lines):
+def gather_lines(test: InFolder, lines: Iterable[str]) -> list[str]:
     gather([test.write("whole", "\n".join(lines))], test.path("sorted"))
     return text_of(test.path("sorted")).splitlines()
 
@@ -265,8 +266,8 @@ class Mutated(Sources):
             self.assertGreaterEqual(counted, found.lines())
 
 
-def mutated(chance, line):
-    """The line with up to three bytes put in, changed or taken out, of which some mean much here."""
+def mutated(chance: random.Random, line: bytes) -> bytes:
+    """Returns the line with up to three bytes put in, changed or taken out, some of which mean much here."""
     for _ in range(chance.randrange(4)):
         at, byte = chance.randrange(len(line) + 1), bytes([chance.choice([chance.randrange(256), *b",.;:\"\\!$*{}[]0"])])
         line = line[:at] + chance.choice([byte, b""]) + line[at + chance.randrange(3):]
@@ -274,7 +275,7 @@ def mutated(chance, line):
 
 
 class Files(Sources):
-    TEXT = ("%s,1700000001\r\n%s,1700000011\r\n" % (S, T)).encode()
+    TEXT = (f"{S},1700000001\r\n{T},1700000011\r\n").encode()
     MADE = ["\\c:1700000001*5E\\" + S, "\\c:1700000011*5F\\" + T]
 
     def test_packed_files_are_unpacked(self) -> None:
@@ -321,6 +322,7 @@ class Files(Sources):
     def test_a_pipe_is_read_and_a_device_is_not(self) -> None:
         os.mkfifo(self.path("pipe"))
         with subprocess.Popen(["sh", "-c", "gzip -c > pipe"], stdin=subprocess.PIPE, cwd=self.folder) as child:
+            assert child.stdin is not None
             child.stdin.write(self.TEXT)
             child.stdin.close()
             found = gather([self.path("pipe")], self.path("out"))
@@ -330,7 +332,7 @@ class Files(Sources):
 
     def test_sentences_are_stamped_as_they_come(self) -> None:
         before = int(time.time())
-        status, out, _ = self.tool("tagged", "--now", source=("%s\r\nnothing\n\\c:1700000001*5E\\%s\n" % (S, T)).encode())
+        status, out, _ = self.tool("tagged", "--now", source=(f"{S}\r\nnothing\n\\c:1700000001*5E\\{T}\n").encode())
         lines = out.splitlines()
         self.assertEqual((status, lines[0][17:], lines[1:]), (0, S, ["nothing", "\\c:1700000001*5E\\" + T]))
         self.assertTrue(before <= int(lines[0][3:13]) <= time.time())

@@ -39,11 +39,11 @@ FORMS = [
     S + " [2023-11-14 22:13:21]",
     "\\s:rPORT1*13\\" + S + ",1700000001",
     "\\s:rPORT1,c:1700000001000*51\\" + S,
-    '{"class":"AIS","device":"AIS-catcher","rxtime":"20231114221321","scaled":true,"channel":"B","nmea":["%s"],"type":1}' % S,
-    '{"rxuxtime":1700000001.5,"nmea":"%s"}' % S,
-    '{"log":"%s\\n","stream":"stdout","time":"2023-11-14T22:13:21.123456789Z"}' % S,          # a container's log
-    'ais/station7 {"@timestamp":"2023-11-14T22:13:21Z","message":"%s"}' % S,
-    '2023-11-14T22:13:21.500Z,NMEA0183,,ttyUSB0,"%s"' % S,                 # OpenCPN's VDR
+    f'{{"class":"AIS","device":"AIS-catcher","rxtime":"20231114221321","scaled":true,"channel":"B","nmea":["{S}"],"type":1}}',
+    f'{{"rxuxtime":1700000001.5,"nmea":"{S}"}}',
+    f'{{"log":"{S}\\n","stream":"stdout","time":"2023-11-14T22:13:21.123456789Z"}}',          # a container's log
+    f'ais/station7 {{"@timestamp":"2023-11-14T22:13:21Z","message":"{S}"}}',
+    f'2023-11-14T22:13:21.500Z,NMEA0183,,ttyUSB0,"{S}"',                 # OpenCPN's VDR
 ]
 UNSURE = {
     "22:13:21 (RX) " + S: "a time of day without a date",
@@ -81,7 +81,7 @@ class Times(InFolder):
                 self.assertEqual(gathered.unread[name], Unread(1, form))
 
     def test_an_offset_is_of_times_without_a_zone_alone(self) -> None:
-        log = self.write("log", "2023-11-14 23:13:21 %s\n2023-11-14T22:13:21Z %s\n1700000001 %s\n" % (S, S, S))
+        log = self.write("log", f"2023-11-14 23:13:21 {S}\n2023-11-14T22:13:21Z {S}\n1700000001 {S}\n")
         gathered = gather([log], self.path("out"), offset=3600)
         self.assertEqual((gathered.first, gathered.last), (MOMENT, MOMENT))
 
