@@ -9,6 +9,8 @@ import re
 import tarfile
 import tomllib
 import zipfile
+from collections.abc import Iterable, Iterator
+from typing import Any
 
 HERE = os.path.dirname(os.path.abspath(__file__))
 TAG = "py3-none-any"
@@ -16,15 +18,16 @@ COPIED = {os.path.join("..", "docs", "SCENARIO.md"): "colregs/model/SCENARIO.md"
 EARLIEST = (1980, 1, 1, 0, 0, 0)        # the earliest time that a zip file can hold: the same sources give the same bytes
 
 
-def project():
+def project() -> dict[str, Any]:
     """Returns the table `project` of pyproject.toml, with the version that the package states."""
     with open(os.path.join(HERE, "pyproject.toml"), "rb") as source:
-        table = tomllib.load(source)["project"]
+        table: dict[str, Any] = tomllib.load(source)["project"]
     with open(os.path.join(HERE, "colregs", "__init__.py"), encoding="utf-8") as source:
-        return table | {"version": re.search(r'^VERSION = "([^"]+)"$', source.read(), re.M)[1]}
+        version = re.search(r'^VERSION = "([^"]+)"$', source.read(), re.M)
+    return table | {"version": version[1] if version else "0"}
 
 
-def package_files():
+def package_files() -> Iterator[str]:
     """Yields the path of each file of the package, from this folder on, in the order of their names."""
     for folder, folders, names in os.walk(os.path.join(HERE, "colregs")):
         folders[:] = sorted(name for name in folders if name != "__pycache__")
@@ -32,12 +35,12 @@ def package_files():
             yield os.path.relpath(os.path.join(folder, name), HERE)
 
 
-def base_name(table):
+def base_name(table: dict[str, Any]) -> str:
     """Returns the name of the distribution and its version, as file names have them."""
     return f"{table['name'].replace('-', '_')}-{table['version']}"
 
 
-def about_files(table):
+def about_files(table: dict[str, Any]) -> dict[str, str]:
     """Returns the files about the package: metadata, the kind of wheel, and the commands."""
     metadata = [f"Metadata-Version: 2.1\nName: {table['name']}\nVersion: {table['version']}\nSummary: {table['description']}\n"
                 f"License: {table['license']['text']}\nRequires-Python: {table['requires-python']}\n"]
@@ -49,27 +52,29 @@ def about_files(table):
 class Wheel:
     """A wheel that is being written: its zip file, and the record of what is in it."""
 
-    def __init__(self, path):
-        self.zip, self.record = zipfile.ZipFile(path, "w", zipfile.ZIP_DEFLATED), []
+    def __init__(self, path: str) -> None:
+        self.zip = zipfile.ZipFile(path, "w", zipfile.ZIP_DEFLATED)
+        self.record: list[str] = []
 
-    def add(self, name, content):
+    def add(self, name: str, content: bytes) -> None:
         """Adds a file with its sum to the wheel."""
         total = base64.urlsafe_b64encode(hashlib.sha256(content).digest()).rstrip(b"=").decode()
         self.record.append(f"{name},sha256={total},{len(content)}\n")
         self.put(name, content)
 
-    def put(self, name, content):
+    def put(self, name: str, content: bytes | str) -> None:
+        """Adds a file."""
         entry = zipfile.ZipInfo(name, EARLIEST)
         entry.external_attr = 0o644 << 16
         self.zip.writestr(entry, content, zipfile.ZIP_DEFLATED)
 
-    def close(self, folder):
+    def close(self, folder: str) -> None:
         """Adds the record, and ends the wheel."""
         self.put(f"{folder}/RECORD", "".join(self.record) + f"{folder}/RECORD,,\n")
         self.zip.close()
 
 
-def write_wheel(directory, files):
+def write_wheel(directory: str, files: Iterable[tuple[str, bytes]]) -> str:
     """Writes a wheel with these files of (name, bytes); returns its name."""
     table = project()
     name, folder = f"{base_name(table)}-{TAG}.whl", f"{base_name(table)}.dist-info"
@@ -82,21 +87,21 @@ def write_wheel(directory, files):
     return name
 
 
-def build_wheel(wheel_directory, config_settings=None, metadata_directory=None):
+def build_wheel(wheel_directory: str, config_settings: object = None, metadata_directory: object = None) -> str:
     """Writes the wheel into a folder; returns its name (PEP 517)."""
-    def content(path):
+    def content(path: str) -> bytes:
         with open(os.path.join(HERE, path), "rb") as source:
             return source.read()
     names = {path: path.replace(os.sep, "/") for path in package_files()} | COPIED
     return write_wheel(wheel_directory, ((name, content(path)) for path, name in names.items()))
 
 
-def build_editable(wheel_directory, config_settings=None, metadata_directory=None):
+def build_editable(wheel_directory: str, config_settings: object = None, metadata_directory: object = None) -> str:
     """Writes a wheel that points to this folder; returns its name (PEP 660)."""
     return write_wheel(wheel_directory, [("colregs_tools.pth", (HERE + "\n").encode())])
 
 
-def build_sdist(sdist_directory, config_settings=None):
+def build_sdist(sdist_directory: str, config_settings: object = None) -> str:
     """Writes the sources as a tarball into a folder; returns its name (PEP 517)."""
     base = base_name(project())
     with tarfile.open(os.path.join(sdist_directory, base + ".tar.gz"), "w:gz") as out:

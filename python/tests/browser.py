@@ -8,6 +8,7 @@ import subprocess
 import sys
 import tempfile
 import time
+from typing import Any
 
 NAMES = ("chromium", "chromium-browser", "google-chrome")
 PATIENCE = 60
@@ -22,36 +23,40 @@ os.execv(sys.argv[3], sys.argv[3:])
 """
 
 
-def installed():
-    return next((path for path in map(shutil.which, NAMES) if path), None)
+def installed() -> str | None:
+    """Returns the path of a browser, or None."""
+    return next((path for name in NAMES if (path := shutil.which(name))), None)
 
 
 class Browser:
     """One tab. Errors of the console and addresses that were asked of a network are kept."""
 
-    def __init__(self, width=1280, height=900):
+    def __init__(self, width: int = 1280, height: int = 900) -> None:
         self.folder = tempfile.TemporaryDirectory()
         to_browser, from_browser = os.pipe(), os.pipe()
-        words = [installed(), "--headless=new", "--no-sandbox", "--disable-gpu", "--remote-debugging-pipe", "--no-first-run", "--mute-audio",
+        words = [installed() or "", "--headless=new", "--no-sandbox", "--disable-gpu", "--remote-debugging-pipe", "--no-first-run", "--mute-audio",
                  "--disable-background-networking", "--disable-component-update", "--disable-dev-shm-usage", "--hide-scrollbars",
-                 "--user-data-dir=" + self.folder.name, "--window-size=%d,%d" % (width, height), "about:blank"]
+                 "--user-data-dir=" + self.folder.name, f"--window-size={width},{height}", "about:blank"]
         ends = to_browser[0], from_browser[1]
         self.child = subprocess.Popen([sys.executable, "-c", LAUNCH, *map(str, ends), *words], stdin=subprocess.DEVNULL, stdout=subprocess.DEVNULL,
                                       stderr=subprocess.DEVNULL, pass_fds=ends)
         os.close(to_browser[0])
         os.close(from_browser[1])
         self.out, self.source, self.held, self.number = to_browser[1], from_browser[0], b"", 0
-        self.errors, self.asked, self.loaded, self.session = [], [], False, None
+        self.loaded = False
+        self.errors: list[str] = []
+        self.asked: list[str] = []
+        self.session: str | None = None
         target = self.ask("Target.createTarget", url="about:blank")["targetId"]
         self.session = self.ask("Target.attachToTarget", targetId=target, flatten=True)["sessionId"]
         for name in ("Page", "Runtime", "Log", "Network"):
             self.ask(name + ".enable")
         self.ask("Emulation.setDeviceMetricsOverride", width=width, height=height, deviceScaleFactor=1, mobile=False)
 
-    def __enter__(self):
+    def __enter__(self) -> "Browser":
         return self
 
-    def __exit__(self, *_):
+    def __exit__(self, *_: object) -> None:
         for end in (self.out, self.source):
             os.close(end)
         try:
@@ -64,7 +69,8 @@ class Browser:
         except OSError:
             pass            # the browser's last helper may still write there
 
-    def message(self):
+    def message(self) -> dict[str, Any]:
+        """Returns the next message of the browser."""
         until = time.monotonic() + PATIENCE
         while b"\0" not in self.held:
             if not select.select([self.source], [], [], max(0, until - time.monotonic()))[0]:
@@ -74,10 +80,10 @@ class Browser:
                 raise EOFError("the browser ended")
             self.held += piece
         text, self.held = self.held.split(b"\0", 1)
-        return json.loads(text)
+        return dict(json.loads(text))
 
-    def keep(self, told):
-        """What the tab tells unasked."""
+    def keep(self, told: dict[str, Any]) -> None:
+        """Takes what the tab reports unasked."""
         method, more = told.get("method"), told.get("params", {})
         if method == "Runtime.exceptionThrown":
             details = more["exceptionDetails"]
@@ -91,7 +97,8 @@ class Browser:
         elif method == "Page.loadEventFired":
             self.loaded = True
 
-    def ask(self, method, **more):
+    def ask(self, method: str, **more: Any) -> Any:
+        """Returns the answer to a request."""
         self.number += 1
         request = {"id": self.number, "method": method, "params": more}
         if self.session:
@@ -103,29 +110,32 @@ class Browser:
             told = self.message()
             if told.get("id") == self.number:
                 if "error" in told:
-                    raise RuntimeError("%s: %s" % (method, told["error"]))
+                    raise RuntimeError(f"{method}: {told['error']}")
                 return told["result"]
             self.keep(told)
 
-    def open(self, path, mark=""):
+    def open(self, path: str, mark: str = "") -> None:
+        """Opens a page, and waits until it is loaded."""
         self.loaded = False
         self.ask("Page.navigate", url="file://" + os.path.abspath(path) + mark)
         while not self.loaded:
             self.keep(self.message())
 
-    def value(self, script):
-        """What an expression of the page comes to."""
+    def value(self, script: str) -> Any:
+        """Returns the value of an expression of the page."""
         told = self.ask("Runtime.evaluate", expression=script, returnByValue=True, awaitPromise=True)
         if "exceptionDetails" in told:
             raise RuntimeError(told["exceptionDetails"].get("exception", {}).get("description", "a fault in the script"))
         return told["result"].get("value")
 
-    def picture(self, path, whole=False):
+    def picture(self, path: str, whole: bool = False) -> None:
+        """Writes a picture of the page."""
         told = self.ask("Page.captureScreenshot", format="png", captureBeyondViewport=whole)
         with open(path, "wb") as out:
             out.write(base64.b64decode(told["data"]))
 
-    def printed(self, path):
+    def printed(self, path: str) -> None:
+        """Prints the page into a file."""
         told = self.ask("Page.printToPDF", printBackground=True, paperWidth=8.27, paperHeight=11.69)
         with open(path, "wb") as out:
             out.write(base64.b64decode(told["data"]))

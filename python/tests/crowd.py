@@ -2,19 +2,20 @@
 import functools
 import math
 import random
+from collections.abc import Iterable, Iterator
 
 import passing
 from given import example, text_of
 from colregs.io.sentences import block, class_a, sentence
 
 START, TICK, STEPS = 1700000000, 10, 24
-SCENARIO = passing.SCENARIO.replace("ticks = 100", "ticks = %d" % STEPS).replace("ta = 120", "ta = 60")
+SCENARIO = passing.SCENARIO.replace("ticks = 100", f"ticks = {STEPS}").replace("ta = 120", "ta = 60")
 HARBOUR_STEPS = 198
 
 
 @functools.cache
-def log(vessels=400, side=28000):
-    """A report of each vessel in every minute, on a square with a side of so many metres."""
+def log(vessels: int = 400, side: int = 28000) -> str:
+    """Returns a report of each vessel in every minute, on a square with a side in metres."""
     draw, lines = random.Random(400), []
     for k in range(vessels):
         x, y, course, speed = draw.uniform(0, side), draw.uniform(0, side), draw.randrange(3600), draw.randrange(60, 200)
@@ -27,8 +28,8 @@ def log(vessels=400, side=28000):
     return "".join(line for _, line in sorted(lines, key=lambda entry: entry[0]))
 
 
-def wide():
-    """The reports of 4200 vessels in pairs that meet head on, each pair far from all others, so that more are held than a run takes."""
+def wide() -> bytes:
+    """Returns the reports of 4200 vessels in pairs that meet head on, each pair far from all others, so that there are more than a run takes."""
     lines = []
     for second in (0, 60, 120):
         for k in range(4200):
@@ -39,13 +40,13 @@ def wide():
     return b"".join(lines)
 
 
-def harbour():
-    """The scenario of the harbour of twenty over all of its log, 33 minutes."""
-    return text_of(example("harbour_of_twenty.toml")).replace("ticks = 180 ", "ticks = %d " % HARBOUR_STEPS)
+def harbour() -> str:
+    """Returns the scenario of the harbour of twenty over all of its log, 33 minutes."""
+    return text_of(example("harbour_of_twenty.toml")).replace("ticks = 180 ", f"ticks = {HARBOUR_STEPS} ")
 
 
-def moved(lines, seconds):
-    """Lines with other times."""
+def moved(lines: Iterable[str], seconds: int) -> Iterator[str]:
+    """Yields lines with other times."""
     for line in lines:
         if line.startswith("\\"):
             _, fields, rest = line.split("\\", 2)
@@ -53,6 +54,6 @@ def moved(lines, seconds):
         yield line
 
 
-def stretches(report):
-    """The rows of meetings and verdicts of a report."""
+def stretches(report: str) -> list[str]:
+    """Returns the rows of meetings and verdicts of a report."""
     return [row for row in report.splitlines() if row.startswith(("meeting,", "verdict,"))]

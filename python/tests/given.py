@@ -8,6 +8,8 @@ import subprocess
 import sys
 import tempfile
 import unittest
+from collections.abc import Callable
+from typing import Any, TypeVar
 
 HERE = os.path.dirname(os.path.abspath(__file__))
 TOP = os.path.dirname(os.path.dirname(HERE))
@@ -18,19 +20,24 @@ for path in (os.path.dirname(HERE), EXAMPLES):
         sys.path.insert(0, path)
 
 
-def needs(command):
-    """Passes a test over where a command is not here."""
-    return unittest.skipUnless(shutil.which(command), "%s is not installed" % command)
+Test = TypeVar("Test", bound=Callable[..., Any])
+
+
+def needs(command: str) -> Callable[[Test], Test]:
+    """Skips a test if a command is not installed."""
+    return unittest.skipUnless(shutil.which(command), f"{command} is not installed")
 
 
 with_program = unittest.skipUnless(os.access(PROGRAM, os.X_OK), "the program is not built")
 
 
-def example(name):
+def example(name: str) -> str:
+    """Returns the path of an example."""
     return os.path.join(EXAMPLES, name)
 
 
-def text_of(path):
+def text_of(path: str) -> str:
+    """Returns the text of a file."""
     with open(path, encoding="utf-8") as source:
         return source.read()
 
@@ -38,27 +45,28 @@ def text_of(path):
 class InFolder(unittest.TestCase):
     """A test with a folder of its own."""
 
-    def setUp(self):
+    def setUp(self) -> None:
         folder = tempfile.TemporaryDirectory()
         self.addCleanup(folder.cleanup)
         self.folder = folder.name
 
-    def path(self, name):
+    def path(self, name: str) -> str:
+        """Returns the path of a file in the folder."""
         return os.path.join(self.folder, name)
 
-    def write(self, name, words):
-        """A file with this text or these bytes; its path."""
+    def write(self, name: str, words: str | bytes) -> str:
+        """Writes a file with this text or these bytes; returns its path."""
         with open(self.path(name), "wb") as out:
             out.write(words if isinstance(words, bytes) else words.encode())
         return self.path(name)
 
-    def tool(self, name, *words, source=b""):
-        """A run of a tool: its status, standard output and standard error."""
+    def tool(self, name: str, *words: str, source: bytes = b"") -> tuple[int, str, str]:
+        """Runs a tool; returns its status, standard output and standard error."""
         done = subprocess.run([sys.executable, os.path.join(TOOLS, name), *words], input=source, capture_output=True, cwd=self.folder, timeout=120)
         return done.returncode, done.stdout.decode("utf-8", "replace"), done.stderr.decode("utf-8", "replace")
 
-    def within(self, name, *words):
-        """The same within this process: it spares the start of a Python."""
+    def within(self, name: str, *words: str) -> tuple[int, str, str]:
+        """Runs a tool in this process, which spares the start of a Python."""
         command = importlib.import_module("colregs.cli." + name.removeprefix("colregs-")).command
         out, error, before, argv = io.StringIO(), io.StringIO(), os.getcwd(), sys.argv
         os.chdir(self.folder)
@@ -69,10 +77,10 @@ class InFolder(unittest.TestCase):
         finally:
             os.chdir(before)
             sys.argv = argv
-        return ended.exception.code, out.getvalue(), error.getvalue()
+        return int(ended.exception.code or 0), out.getvalue(), error.getvalue()
 
-    def program(self, mode, scenario, log):
-        """The report of the program; a test fails where it ends otherwise than with status 0 or 1."""
+    def program(self, mode: str, scenario: str, log: str) -> str:
+        """Returns the report of the program; fails if it ends with another status than 0 or 1."""
         with open(log, "rb") as source:
             done = subprocess.run([PROGRAM, mode, scenario], stdin=source, capture_output=True, timeout=120)
         self.assertIn(done.returncode, (0, 1), done.stderr)

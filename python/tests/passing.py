@@ -5,7 +5,7 @@ that each 10 s take her 300 units of 1/10000 minute. WEST comes towards her, 100
 mile, and begins 30000 units away. So they are nearest after 500 s, at 15000 units, 1' 30'' east; and they are nearer than the safe 500 m
 within 464.4 m to either side of that, which takes 41.8 s.
 """
-from colregs.io.sentences import block, class_a, sentence, sentences, voyage
+from colregs.io.sentences import Fields, block, class_a, sentence, sentences, voyage
 
 EAST, WEST, STILL = 200000301, 200000302, 200000303
 START, TICK, STEPS = 1700000000, 10, 100
@@ -23,19 +23,19 @@ rules = { safe = 500, overtake = 300, close = 100, t8 = 60, ta = 120, tl = 30, t
 """
 
 
-def line(second, fields):
+def line(second: int, fields: Fields) -> str:
     """A tagged sentence of a message's fields."""
     return (block(START + second) + sentence(fields) + b"\n").decode()
 
 
-def name(mmsi, words):
+def name(mmsi: int, words: str) -> str:
     """The two parts of a message 5, of which the first alone has a time."""
     first, second = sentences(voyage(mmsi, words, 70, (60, 20, 8, 8), "SEATTLE"), mmsi)
     return (block(START) + first + b"\n" + second + b"\n").decode()
 
 
-def log(still=False):
-    """Their reports each 10 s; and, where it is asked, those of one who lies still beside the way of EAST, at 0.3 knots by her receiver."""
+def log(still: bool = False) -> str:
+    """Returns their reports every 10 s; with `still` also those of one who lies still beside the way of EAST, at 0.3 knots by her receiver."""
     lines = [name(EAST, "EAST"), name(WEST, "WEST")] + ([name(STILL, HOSTILE)] if still else [])
     for k in range(STEPS + 1):
         lines.append(line(10 * k, class_a(EAST, (0, 300 * k, 108, 900, 90, 0), 0)))

@@ -28,23 +28,23 @@ WRONG_USES = [
 
 @with_program
 class Cases(InFolder):
-    def setUp(self):
+    def setUp(self) -> None:
         super().setUp()
         self.write("passing.toml", passing.SCENARIO)
         self.write("passing.log", passing.log(still=True))
 
-    def make(self, *more, status=0):
+    def make(self, *more: str, status: int = 0) -> tuple[int, str, str]:
         done = self.tool("colregs-case", "passing.log", "--scenario", "passing.toml", "--program", PROGRAM, "-o", "made", *more)
         self.assertEqual(done[0], status, done[2])
         return done
 
-    def held(self, name):
+    def held(self, name: str) -> str:
         with open(self.path("made/" + name), encoding="utf-8") as source:
             return source.read()
 
 
 class Files(Cases):
-    def test_the_sums_are_those_of_the_files(self):
+    def test_the_sums_are_those_of_the_files(self) -> None:
         self.make()
         told = json.loads(self.held("case.json"))
         names = set(os.listdir(self.path("made")))
@@ -54,11 +54,11 @@ class Files(Cases):
                 self.assertEqual(hashlib.sha256(source.read()).hexdigest(), about["sha256"], name)
         self.assertEqual(told["given"][0]["sha256"], hashlib.sha256(passing.log(still=True).encode()).hexdigest())
 
-    def test_the_summary_tells_the_nearest_of_those_under_way(self):
+    def test_the_summary_tells_the_nearest_of_those_under_way(self) -> None:
         said = self.make()[1]
         self.assertIn("EAST and WEST, 185 m (0.10 nautical miles) at 2023-11-14 22:21:40 UTC", said.replace("WEST and EAST", "EAST and WEST"))
 
-    def test_a_window_that_is_given_is_kept_for_the_other_tools(self):
+    def test_a_window_that_is_given_is_kept_for_the_other_tools(self) -> None:
         self.make("--start", str(passing.START + 100), "--ticks", "80")
         self.assertEqual(json.loads(self.held("case.json"))["window"]["start"], passing.START + 100)
         for words in (["made"], ["made/scenario.toml", "--points", "made/points.csv", "--audit", "made/report.csv"]):
@@ -66,12 +66,12 @@ class Files(Cases):
         with open(self.path("picture.svg"), encoding="utf-8") as source:
             self.assertIn("185 m at 22:21:40", source.read())
 
-    def test_a_scenario_is_guessed_where_none_is_given(self):
+    def test_a_scenario_is_guessed_where_none_is_given(self) -> None:
         status, said, error = self.tool("colregs-case", "passing.log", "--program", PROGRAM, "-o", "made")
         self.assertEqual(status, 0, error)
         self.assertIn("The scenario was guessed", said)
 
-    def test_what_goes_wrong_is_named_and_leaves_nothing(self):
+    def test_what_goes_wrong_is_named_and_leaves_nothing(self) -> None:
         for words, told in WRONG_USES:
             usual = (("--program", PROGRAM), ("-o", "made"))
             status, _, error = self.tool("colregs-case", *words, *(word for pair in usual if pair[0] not in words for word in pair))
@@ -80,13 +80,13 @@ class Files(Cases):
             self.assertNotIn("Traceback", error)
             self.assertEqual(sorted(os.listdir(self.folder)), ["passing.log", "passing.toml"])
 
-    def test_a_refusal_of_the_program_is_handed_on(self):
+    def test_a_refusal_of_the_program_is_handed_on(self) -> None:
         self.write("passing.toml", passing.SCENARIO.replace("tick = 10", "tick = 61"))
         self.assertRegex(self.make(status=1)[2], "status 3, scenario: window.tick: range")
 
 
 class Maps(Cases):
-    def test_the_nearest_places_are_where_they_are_by_hand(self):
+    def test_the_nearest_places_are_where_they_are_by_hand(self) -> None:
         self.make()
         features = json.loads(self.held("case.geojson"))["features"]
         found = [f for f in features if f["properties"]["kind"] == "nearest" and f["properties"]["subject"] == passing.EAST
@@ -100,7 +100,7 @@ class Maps(Cases):
         ends = {(f["properties"]["name"], f["properties"]["end"]): f["geometry"]["coordinates"] for f in features if f["properties"]["kind"] == "end"}
         self.assertEqual(ends["EAST", "first"], [0, 0])
 
-    def test_the_database_has_metres_miles_utc_and_who_lies_still(self):
+    def test_the_database_has_metres_miles_utc_and_who_lies_still(self) -> None:
         self.make()
         with sqlite3.connect(self.path("made/case.db")) as base:
             row = base.execute("select round(least, 1), nautical_miles, nearest, at_rest from meeting where subject = ? and other = ?",
@@ -114,7 +114,7 @@ class Maps(Cases):
 
 
 class Pictures(Cases):
-    def test_two_vessels_and_a_part_of_the_time_are_drawn(self):
+    def test_two_vessels_and_a_part_of_the_time_are_drawn(self) -> None:
         self.make()
         done = self.tool("draw", "made", "two", "--pair", "EAST", str(passing.WEST), "--from", "22:20", "--to", "2023-11-14T22:23:00Z")
         self.assertEqual(done[0], 0, done[2])
@@ -123,7 +123,7 @@ class Pictures(Cases):
         self.assertIn("22:20:00 to 22:23:00 UTC", text)
         self.assertNotIn(str(passing.STILL), text)
 
-    def test_what_cannot_be_drawn_is_named(self):
+    def test_what_cannot_be_drawn_is_named(self) -> None:
         self.make()
         for words, told in ((["--pair", "EAST", "NORTH"], "`NORTH` is no vessel"), (["--from", "noon"], "`noon` is no time"),
                             (["--from", "23:30"], "no step of the window"), (["--start", "1700003600"], "outside the window")):
@@ -133,9 +133,10 @@ class Pictures(Cases):
 
 
 class Pages(Cases):
-    def test_the_page_holds_the_meeting_with_its_rule_in_words(self):
+    def test_the_page_holds_the_meeting_with_its_rule_in_words(self) -> None:
         self.make()
-        held = json.loads(re.search(r'<script type="application/json" id="case">(.*?)</script>', self.held("case.html"), re.S)[1])
+        found = re.search(r'<script type="application/json" id="case">(.*?)</script>', self.held("case.html"), re.S)
+        held = json.loads(found[1] if found else "")
         names = [vessel["name"] for vessel in held["vessels"]]
         meeting = next(m for m in held["meetings"] if {names[k] for k in m["pair"]} == {"EAST", "WEST"})
         self.assertEqual((meeting["least"], held["start"] + meeting["nearest"], meeting["rest"]), (passing.LEAST, passing.NEAREST, []))
@@ -144,17 +145,17 @@ class Pages(Cases):
         self.assertEqual((broken["first"], broken["last"]), passing.UNSAFE)
         self.assertIn("passing at a safe distance", held["rules"][broken["rule"]]["words"])
 
-    def test_a_name_is_kept_as_it_was_told(self):
+    def test_a_name_is_kept_as_it_was_told(self) -> None:
         self.make()
         with sqlite3.connect(self.path("made/case.db")) as base:
             self.assertEqual(base.execute("select name from vessel where mmsi = ?", (passing.STILL,)).fetchone(), (passing.HOSTILE,))
         base.close()
 
-    def test_words_of_a_title_are_no_markup(self):
+    def test_words_of_a_title_are_no_markup(self) -> None:
         self.make("--title", "</script><script>document.title='taken'</script>")
         self.assertNotIn("<script>document.title", self.held("case.html"))
 
-    def test_each_place_that_the_script_fills_is_in_the_page(self):
+    def test_each_place_that_the_script_fills_is_in_the_page(self) -> None:
         self.make()
         text = self.held("case.html")
         there = set(re.findall(r' id="([\w-]+)"', text))
@@ -162,11 +163,11 @@ class Pages(Cases):
         self.assertGreater(len(asked), 20)
         self.assertEqual(asked - there, set())
 
-    def test_without_leaflet_the_page_says_that_it_has_no_map(self):
+    def test_without_leaflet_the_page_says_that_it_has_no_map(self) -> None:
         self.assertEqual(page.leaflet(self.folder), ("", ""))
 
     @unittest.skipUnless(browser.installed(), "chromium is not installed")
-    def test_in_a_browser_rows_answer_a_click_with_no_error_and_no_request(self):
+    def test_in_a_browser_rows_answer_a_click_with_no_error_and_no_request(self) -> None:
         self.write("coast.geojson", json.dumps({"type": "Polygon", "coordinates": [[[0.01, 0.01], [0.02, 0.01], [0.02, 0.02], [0.01, 0.01]]]}))
         self.make("--chart", "coast.geojson")
         with browser.Browser() as tab:
@@ -176,8 +177,8 @@ class Pages(Cases):
             self.assertEqual(tab.value("document.querySelectorAll('#meetings tbody tr').length"), meetings)
             self.assertRegex(tab.value("document.querySelector('#chosen').textContent"), "^Meeting 1:")
             number = tab.value("HELD.meetings.findIndex(m => !m.rest.length) + 1")
-            tab.value("document.querySelector('#meetings tbody tr[data-meeting=\"%d\"]').click()" % number)
-            self.assertEqual(tab.value("location.hash"), "#meeting%d" % number)
+            tab.value(f"document.querySelector('#meetings tbody tr[data-meeting=\"{number}\"]').click()")
+            self.assertEqual(tab.value("location.hash"), f"#meeting{number}")
             said = tab.value("document.querySelector('#chosen-words').textContent")
             self.assertIn("Nearest 185 m (0.10 nautical miles) at 22:21:40", said)
             self.assertEqual(tab.value("document.querySelectorAll('#charts svg polyline.distance').length"), 1)

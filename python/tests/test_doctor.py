@@ -4,11 +4,13 @@ import os
 import re
 import subprocess
 import unittest
+from collections.abc import Iterable
 
 from given import EXAMPLES, InFolder, PROGRAM, example, text_of, with_program
 from colregs.io import sentences
 from colregs.model import keys
 from colregs.model.doctor import findings
+from colregs.model.scenario_checks import Finding
 
 TOML, LOG = text_of(example("crossing.toml")), text_of(example("crossing.log"))
 GIVING, GIVING_LOG = text_of(example("giving_way.toml")), text_of(example("giving_way.log"))
@@ -48,29 +50,29 @@ SCENARIOS = [
 ]
 
 
-def words_of(found):
-    return ["%s: %s" % finding for finding in found]
+def words_of(found: list[Finding]) -> list[str]:
+    return [f"{finding.name}: {finding.words}" for finding in found]
 
 
 @with_program
 class WrongUses(InFolder):
-    def found(self, toml, log, report=None):
-        """The findings of a scenario, a log, and what is to be the report: that of the program where nothing is given."""
+    def found(self, toml: str, log: str | bytes, report: str | None = None) -> list[Finding]:
+        """Returns the findings of a scenario, a log and a report."""
         scenario, path = self.write("s.toml", toml), self.write("log", log)
         made = self.write("report", report) if report is not None else None
         return findings(scenario, path, made, PROGRAM)
 
-    def names(self, toml, log, report=None):
+    def names(self, toml: str, log: str | bytes, report: str | None = None) -> list[str]:
         return [finding.name for finding in self.found(toml, log, report)]
 
-    def test_the_shipped_examples_are_silent(self):
+    def test_the_shipped_examples_are_silent(self) -> None:
         for name in sorted(file[:-5] for file in os.listdir(EXAMPLES) if file.endswith(".toml")):
             with self.subTest(name):
                 report = [example(name + ".csv")] if os.path.exists(example(name + ".csv")) else []
                 words = ["--program", PROGRAM, example(name + ".toml"), example(name + ".log")]
                 self.assertEqual(self.tool("colregs-doctor", *words, *report), (0, "", ""))
 
-    def test_a_wrong_scenario_is_named(self):
+    def test_a_wrong_scenario_is_named(self) -> None:
         for name, old, new, is_refused in SCENARIOS:
             with self.subTest(new):
                 self.assertIn(old, TOML)
@@ -78,14 +80,16 @@ class WrongUses(InFolder):
                 self.assertIn(name, found)
                 self.assertEqual("refused run" in found, is_refused)
 
-    def test_a_log_that_cannot_be_read_as_it_is_is_named(self):
+    def test_a_log_that_cannot_be_read_as_it_is_is_named(self) -> None:
         table = "MMSI,BaseDateTime,LAT,LON,SOG,COG,Heading\n200000011,2023-11-14T22:13:21,48.25,-123.5,14,90,90\n"
-        for name, log in (("packed log", gzip.compress(LOG.encode())), ("log in UTF-16", LOG.encode("utf-16")), ("no sentences", table),
-                          ("no sentences", "nothing of this is AIS\n"), ("empty log", "")):
+        logs: tuple[tuple[str, str | bytes], ...] = (
+            ("packed log", gzip.compress(LOG.encode())), ("log in UTF-16", LOG.encode("utf-16")), ("no sentences", table),
+            ("no sentences", "nothing of this is AIS\n"), ("empty log", ""))
+        for name, log in logs:
             with self.subTest(name):
                 self.assertEqual(self.names(TOML, log), [name])
 
-    def test_a_wrong_log_is_named(self):
+    def test_a_wrong_log_is_named(self) -> None:
         lines = LOG.splitlines()
         bare = re.sub(r"(?m)^\\[^\\]*\\", "", LOG)
         sent = re.compile(r"(?m)\*..$")
@@ -96,22 +100,22 @@ class WrongUses(InFolder):
             with self.subTest(name):
                 self.assertIn(name, self.names(TOML, log))
 
-    def test_a_gap_that_is_shorter_than_the_reports_are_apart_is_named(self):
+    def test_a_gap_that_is_shorter_than_the_reports_are_apart_is_named(self) -> None:
         """Each vessel reports every 10 s; with a gap of 5 s no two reports are joined."""
         short = TOML.replace("tick = 10 ", "tick = 5 ").replace("gap = 60 ", "gap = 5 ")
         self.assertEqual(self.names(short, LOG), ["gap shorter than reports are apart"])
 
-    def test_a_shared_mmsi_is_named(self):
+    def test_a_shared_mmsi_is_named(self) -> None:
         """Every second report of the second ship goes under the number of the first, ten miles to the north of her."""
         more = [report(1700000002 + 10 * k, 200000011, BEFORE + 100000, MIDDLE - 40 * k) for k in range(12)]
         told = words_of(self.found(TOML, by_time(LOG.splitlines() + more)))
         self.assertEqual(len(told), 1)
         self.assertRegex(told[0], "^shared MMSI: 200000011 goes on at two places")
 
-    def test_one_wild_place_is_no_shared_mmsi(self):
+    def test_one_wild_place_is_no_shared_mmsi(self) -> None:
         self.assertEqual(self.names(TOML, by_time(LOG.splitlines() + [report(1700000102, 200000011, BEFORE + 300000, MIDDLE)])), [])
 
-    def test_a_station_that_is_no_ship_is_named(self):
+    def test_a_station_that_is_no_ship_is_named(self) -> None:
         """A buoy (message 21) with a ship's number that sends positions too."""
         aid = sentences.sentence([(21, 6), (0, 2), (200000014, 30), (0, 234)])
         told = words_of(self.found(TOML, by_time(LOG.splitlines() + ["\\c:1700000300*5C\\" + aid.decode()])))
@@ -119,7 +123,7 @@ class WrongUses(InFolder):
         name = sentences.block(1700000300) + sentences.sentence(sentences.name_part(200000014, "NET 14 86%"))
         self.assertEqual(self.names(TOML, by_time(LOG.splitlines() + [name.decode()])), ["station that is no ship"])
 
-    def test_a_clock_in_local_time_is_named_by_base_stations(self):
+    def test_a_clock_in_local_time_is_named_by_base_stations(self) -> None:
         """A base station (message 4) that tells 22:15:00 UTC of 14 November 2023 in a line of an hour later."""
         fields = [(4, 6), (0, 2), (2655651, 30), (2023, 14), (11, 4), (14, 5), (22, 5), (15, 6), (0, 6), (0, 90)]
         line = (sentences.block(1700000100 + 3600) + sentences.sentence(fields)).decode()
@@ -129,7 +133,7 @@ class WrongUses(InFolder):
         told = words_of(self.found(toml, by_time(later.splitlines() + [line])))
         self.assertEqual(told, ["clock that is off: the log's times are 3600 s (1.00 hours) ahead of the UTC that base stations tell in 1 messages"])
 
-    def test_verdicts_of_vessels_that_lie_still_are_named(self):
+    def test_verdicts_of_vessels_that_lie_still_are_named(self) -> None:
         """The vessel that is to give way tells 0.3 knots all the time, as one that drifts about her anchor, and another passes near."""
         still = [report(1700000001 + 30 * k, 200000041, BEFORE, MIDDLE, way=3, course=0, heading=0) for k in range(26)]
         past = [report(1700000002 + 30 * k, 200000042, BEFORE + 300, MIDDLE + 4000 - 260 * k, way=120, course=2700, heading=270) for k in range(26)]
@@ -137,12 +141,12 @@ class WrongUses(InFolder):
         self.assertEqual([finding.name for finding in told], ["verdicts at rest"])
         self.assertRegex(told[0].words, "^200000041 never makes 0.5 knots, and has [1-9]")
 
-    def test_reports_without_course_or_speed_are_named(self):
+    def test_reports_without_course_or_speed_are_named(self) -> None:
         log = by_time(report(1700000001 + 10 * k, mmsi, BEFORE, MIDDLE + 900 * more, way=1023, course=3600, heading=511)
                       for k in range(70) for mmsi, more in ((200000041, k), (200000042, 70 - k)))
         self.assertIn("no course or no speed", self.names(TOML, log))
 
-    def test_a_report_of_something_else_is_named(self):
+    def test_a_report_of_something_else_is_named(self) -> None:
         audit = text_of(example("crossing.csv"))
         self.assertEqual(self.names(TOML, LOG, audit), [])
         other_log, other_steps = text_of(example("head_on.csv")), audit.replace(",10,10", ",11,11")
@@ -155,11 +159,11 @@ class WrongUses(InFolder):
         points = self.program("points", example("crossing.toml"), example("crossing.log"))
         self.assertEqual(self.names(TOML, LOG, points), [])
 
-    def program_with(self, *options):
+    def program_with(self, *options: str) -> str:
         with open(example("crossing.log"), "rb") as source:
             return subprocess.run([PROGRAM, "audit", example("crossing.toml"), *options], stdin=source, capture_output=True).stdout.decode()
 
-    def test_own_ship_and_her_units_are_named(self):
+    def test_own_ship_and_her_units_are_named(self) -> None:
         plan = text_of(example("giving_way.csv"))
         self.assertEqual(self.names(GIVING, GIVING_LOG, plan), [])
         for name, old, new in (("degrees for tenths", "courses = [0, 150, 300, 450, 600]", "courses = [0, 15, 30, 45, 60]"),
@@ -169,7 +173,7 @@ class WrongUses(InFolder):
                 self.assertIn(old, GIVING)
                 self.assertIn(name, self.names(GIVING.replace(old, new), GIVING_LOG, plan))
 
-    def test_a_report_that_says_why_there_is_no_plan_is_written_again(self):
+    def test_a_report_that_says_why_there_is_no_plan_is_written_again(self) -> None:
         hemmed = GIVING.replace("courses = [0, 150, 300, 450, 600]", "courses = [0]").replace("speeds = [0, -40]", "speeds = [0]")
         scenario, log = self.write("hemmed.toml", hemmed), example("giving_way.log")
         with open(log, "rb") as source:
@@ -179,7 +183,7 @@ class WrongUses(InFolder):
         self.assertIn("\nwhy,", report)
         self.assertEqual(self.names(hemmed, GIVING_LOG, report), [])
 
-    def test_the_status_says_whether_something_is_amiss(self):
+    def test_the_status_says_whether_something_is_amiss(self) -> None:
         wrong = self.write("wrong.toml", TOML.replace("watch = 4000", "watch = 3"))
         status, out, _ = self.tool("colregs-doctor", "--program", PROGRAM, wrong, example("crossing.log"))
         self.assertEqual(status, 1)
@@ -191,20 +195,20 @@ class WrongUses(InFolder):
 
 
 class Keys(unittest.TestCase):
-    def test_the_keys_are_those_of_the_page(self):
+    def test_the_keys_are_those_of_the_page(self) -> None:
         known = keys.units()
         self.assertEqual(len(known), 56 - 2)                 # rows 0 to 55, less the text as a whole and the weight of all formulas
         some = ("detect.watch", "act.apparent_turn", "rules.safe_other", "rules.te")
         self.assertEqual([known[key] for key in some], ["m", "1/10 degree", "m", "s"])
 
 
-def report(at, mmsi, latitude, longitude, way=100, course=900, heading=90):
+def report(at: int, mmsi: int, latitude: int, longitude: int, way: int = 100, course: int = 900, heading: int = 90) -> str:
     bits = sentences.class_a(mmsi, (latitude, longitude, way, course, heading, at % 60), 0)
     return (sentences.block(at) + sentences.sentence(bits)).decode()
 
 
-def by_time(lines):
-    """Lines with tag blocks by their times; parts stay behind theirs."""
+def by_time(lines: Iterable[str]) -> str:
+    """Returns lines with tag blocks by their times; parts stay after theirs."""
     at, entries = "", []
     for line in lines:
         at = line[3:13] if line.startswith("\\c:") else at

@@ -7,8 +7,10 @@ import subprocess
 import sys
 import time
 import unittest
+from collections.abc import Callable
 
 import crowd
+import test_joins
 from given import InFolder, PROGRAM, TOOLS, example, needs, text_of, with_program
 from colregs.io.sources import stamped
 from colregs.stream.day_files import LEAP, SURE, Clock, DayFiles
@@ -20,15 +22,15 @@ WINDOWS = ["--ticks-each", "60", "--overlap", "900"]
 UNITS = sorted(os.listdir(os.path.join(TOOLS, "systemd")))
 
 
-def has_watch():
+def has_watch() -> bool:
     if not os.access(PROGRAM, os.X_OK):
         return False
     told = subprocess.run([PROGRAM, "--help"], capture_output=True, text=True)
     return re.search(r"- watch:|\|watch\b", told.stdout + told.stderr) is not None
 
 
-def absolute(row, start, tick=10):
-    """A row with times in place of its steps."""
+def absolute(row: str, start: int, tick: int = 10) -> str:
+    """Returns a row with times instead of its steps."""
     fields = row.split(",")
     at = 5 if fields[0] == "verdict" else 4
     fields[at:at + 2] = [str(start + int(field) * tick) for field in fields[at:at + 2]]
@@ -37,35 +39,35 @@ def absolute(row, start, tick=10):
 
 @with_program
 class Streams(InFolder):
-    def setUp(self):
+    def setUp(self) -> None:
         super().setUp()
         self.write("s.toml", crowd.harbour())
         self.lines = [line + "\n" for line in crowd.moved(text_of(example("harbour_of_twenty.log")).splitlines(), SHIFT)]
 
-    def follow(self, *words, source="", status=0, days="days"):
+    def follow(self, *words: str, source: str = "", status: int = 0, days: str = "days") -> tuple[str, str]:
         done = self.tool("colregs-follow", "s.toml", "--days", days, "--program", PROGRAM, *WINDOWS, *words, source=source.encode())
         self.assertEqual(done[0], status, done[2])
         return done[1], done[2]
 
-    def rows(self, text):
+    def rows(self, text: str) -> list[str]:
         return [absolute(told["row"], told["run"]) for told in map(json.loads, text.splitlines())]
 
-    def whole(self, mode="audit"):
-        """The rows of one run over a window that begins with the log, and ends long behind it."""
-        done = subprocess.run([PROGRAM, mode, self.path("s.toml"), "--start=%d" % START, "--ticks=1000"], input="".join(self.lines).encode(),
+    def whole(self, mode: str = "audit") -> list[str]:
+        """Returns the rows of one run over a window that begins with the log, and ends long after it."""
+        done = subprocess.run([PROGRAM, mode, self.path("s.toml"), f"--start={START}", "--ticks=1000"], input="".join(self.lines).encode(),
                               capture_output=True)
         return [absolute(row, START) for row in done.stdout.decode().splitlines() if row.startswith(("meeting", "verdict", "alarm"))]
 
 
 class Once(Streams):
-    def test_a_whole_stream_has_the_rows_of_one_run_in_order(self):
+    def test_a_whole_stream_has_the_rows_of_one_run_in_order(self) -> None:
         out, error = self.follow("--whole", source="".join(self.lines))
         self.assertEqual((self.rows(out), error), (self.whole(), ""))
         self.assertEqual(len(set(json.loads(line)["run"] for line in out.splitlines())), 4)
         first = json.loads(out.splitlines()[0])
         self.assertEqual((first["begins"], first["ends"]), ("2023-11-14T23:44:10Z", "2023-11-14T23:44:20Z"))
 
-    def test_a_stream_that_is_cut_and_restarted_over_midnight(self):
+    def test_a_stream_that_is_cut_and_restarted_over_midnight(self) -> None:
         found, ends = [], [900, 1500, len(self.lines)]
         for begin, end in zip([0] + ends, ends):
             out, error = self.follow(*(["--whole"] if end == ends[-1] else []), source="".join(self.lines[begin:end]))
@@ -76,7 +78,7 @@ class Once(Streams):
         self.assertEqual(sorted(name for name in os.listdir(self.path("days")) if name.endswith(".log")), ["2023-11-14.log", "2023-11-15.log"])
         self.assertEqual("".join(text_of(self.path("days/" + day + ".log")) for day in ("2023-11-14", "2023-11-15")), "".join(self.lines))
 
-    def test_a_file_that_grows_with_a_kill_in_between(self):
+    def test_a_file_that_grows_with_a_kill_in_between(self) -> None:
         log = self.write("log", "".join(self.lines[:1200]))
         self.write("out", "")
         for number, begin, end in ((signal.SIGKILL, 1200, 1900), (signal.SIGTERM, 1900, len(self.lines))):
@@ -91,30 +93,82 @@ class Once(Streams):
         self.follow("--log", log, "--out", "out", "--whole")
         self.assertEqual(sorted(self.rows(text_of(self.path("out")))), sorted(self.whole()))
 
-    def offset(self):
-        return json.loads(text_of(self.path("days/source.json")))["offset"]
+    def offset(self) -> int:
+        return int(json.loads(text_of(self.path("days/source.json")))["offset"])
 
-    def until(self, done):
+    def until(self, done: Callable[[], bool]) -> None:
         for _ in range(600):
             if done():
                 return
             time.sleep(0.05)
         self.fail("it did not come in 30 s")
 
-    def test_from_a_command_into_a_command(self):
+    def test_from_a_command_into_a_command(self) -> None:
         self.write("log", "".join(self.lines))
         self.follow("--command", "cat log", "--to", "cat > out", "--whole")
         self.assertEqual(self.rows(text_of(self.path("out"))), self.whole())
 
     @unittest.skipUnless(has_watch(), "the program has no mode watch")
-    def test_alarms_of_watch_are_there_once(self):
+    def test_alarms_of_watch_are_there_once(self) -> None:
         out, _ = self.follow("--modes", "watch", "--whole", source="".join(self.lines))
         self.assertEqual(self.rows(out), self.whole("watch"))
         self.assertGreater(len(self.rows(out)), 50)
 
 
+KILLED = """#!/bin/sh
+if [ "$1" = audit ] && mkdir once 2>/dev/null; then
+  %s "$@" | head -c 300
+  kill -9 $$
+fi
+exec %s "$@"
+"""
+
+
+class Killed(Streams):
+    def test_a_run_that_is_killed_while_it_writes_a_row_begins_again(self):
+        program = self.write("wrapped", KILLED % (PROGRAM, PROGRAM))
+        os.chmod(program, 0o755)
+        out, error = self.follow("--whole", "--program", program, source="".join(self.lines))
+        self.assertTrue(os.path.isdir(self.path("once")))
+        self.assertIn("was killed by signal 9, and begins again from the day files", error)
+        self.assertEqual(sorted(self.rows(out)), sorted(self.whole()))
+
+
+class Meetings(InFolder):
+    """Streams of drawn vessels in windows of 1000 s that overlap by as much."""
+
+    def followed(self, rows, scenario):
+        text = b"".join(line + b"\n" for _, line in sorted(rows, key=lambda row: row[0]))
+        self.write("s.toml", scenario)
+        self.write("log", text)
+        status, out, error = self.tool("colregs-follow", "s.toml", "--days", "days", "--program", PROGRAM, "--ticks-each", "100", "--overlap", "1000",
+                                       "--whole", source=text)
+        self.assertEqual(status, 0, error)
+        told = [json.loads(line) for line in out.splitlines()]
+        done = subprocess.run([PROGRAM, "audit", self.path("s.toml")], input=text, capture_output=True)
+        whole = [absolute(row, test_joins.START) for row in crowd.stretches(done.stdout.decode())]
+        marked = [absolute(row["row"], row["run"]) for row in told if row.get("begins_before")]
+        return [absolute(row["row"], row["run"]) for row in told if not row.get("begins_before")], marked, whole
+
+    def test_rows_of_a_meeting_that_began_before_their_window_say_so(self):
+        still = [*test_joins.way(test_joins.YACHT, 0, 0, 0, 5, to=10800), *test_joins.way(test_joins.CARGO, 0, 0, 0, 7, x=50, to=10800)]
+        met = [*test_joins.way(test_joins.EAST, 9, 0, 5000, 3, x=9000, to=10800), *test_joins.way(test_joins.NORTH, 9, 180, 5000, 4, x=9100, to=10800)]
+        rows, marked, whole = self.followed(still + met, test_joins.SCENARIO.replace("ticks = 2160", "ticks = 1080"))
+        self.assertEqual([row for row in rows if str(test_joins.EAST) in row], [row for row in whole if str(test_joins.EAST) in row])
+        self.assertLessEqual(set(rows), set(whole))
+        self.assertTrue(marked)
+        self.assertTrue(all(str(test_joins.YACHT) in row for row in marked))
+
+    def test_a_ship_type_that_was_reported_once_counts_in_every_window_of_a_stream(self):
+        rows = [*test_joins.two(), (6, test_joins.stamped(6, test_joins.sentences.sentence(test_joins.sentences.hull_part(test_joins.YACHT, 36, (0, 0, 0, 0)))))]
+        found, marked, whole = self.followed(rows, test_joins.RANKS)
+        self.assertIn(f"verdict,{test_joins.CARGO},{test_joins.YACHT},r16,broken", "\n".join(whole))
+        self.assertEqual((sorted(found), marked), (sorted(whole), []))
+        self.assertEqual(json.loads(text_of(self.path("days/types.json"))), {str(test_joins.YACHT): [36, test_joins.START + 6]})
+
+
 class Limits(Streams):
-    def test_a_window_with_too_many_pairs_is_split_by_subjects(self):
+    def test_a_window_with_too_many_pairs_is_split_by_subjects(self) -> None:
         log, start = crowd.log(100, 8000), crowd.START - 320
         self.write("s.toml", crowd.SCENARIO)
         self.write("log", log)
@@ -127,11 +181,11 @@ class Limits(Streams):
         self.assertGreater(len(wanted), 200)
         self.assertEqual(sorted(self.rows(out)), sorted(wanted))
 
-    def test_a_meeting_longer_than_the_overlap_is_told(self):
+    def test_a_meeting_longer_than_the_overlap_is_told(self) -> None:
         error = self.follow("--whole", "--overlap", "400", "--ticks-each", "40", source="".join(self.lines))[1]
         self.assertIn("longer than the overlap", error)
 
-    def test_wrong_words_are_refused(self):
+    def test_wrong_words_are_refused(self) -> None:
         for words, told in ((["--overlap", "0"], "the overlap is 31 ticks or more"), (["--ticks-each", "20000"], "at most 20000"),
                             (["--log", "none"], "none is not there"), (["--log", "s.toml", "--command", "x"], "not both"),
                             (["--out", "a", "--to", "b"], "not to both")):
@@ -143,7 +197,7 @@ class Limits(Streams):
 
 
 class Parts(InFolder):
-    def test_a_time_far_ahead_is_no_clock_until_more_tell_it(self):
+    def test_a_time_far_ahead_is_no_clock_until_more_tell_it(self) -> None:
         clock = Clock()
         for at, told in ((1000, 1000), (990, 1000), (1000 + LEAP, 1000 + LEAP), (10 ** 9, 1000 + LEAP), (2000, 1000 + LEAP)):
             self.assertEqual(clock.take(b"\\c:%d*00\\" % at), told)
@@ -151,7 +205,7 @@ class Parts(InFolder):
             clock.take(b"\\c:%d*00\\" % (10 ** 9 + k))
         self.assertEqual(clock.time, 10 ** 9)
 
-    def test_a_line_that_was_cut_off_is_not_gone_on_with(self):
+    def test_a_line_that_was_cut_off_is_not_gone_on_with(self) -> None:
         files = DayFiles(self.folder)
         files.write(b"one\n", 0)
         files.write(b"tw", 86399)
@@ -163,16 +217,16 @@ class Parts(InFolder):
         limit = again.place()
         self.assertEqual(b"".join(again.blocks(("1970-01-01", 0), lambda: limit)), b"one\nthree\n")
 
-    def test_bare_sentences_get_the_time(self):
+    def test_bare_sentences_get_the_time(self) -> None:
         self.assertEqual(stamped(b"!AIVDM,1,1,,A,1,0*00", 1700000001), b"\\c:1700000001*5E\\!AIVDM,1,1,,A,1,0*00")
         self.assertEqual(stamped(b"\\c:1*00\\!AIVDM", 5), b"\\c:1*00\\!AIVDM")
 
-    def test_the_steps_of_rows(self):
+    def test_the_steps_of_rows(self) -> None:
         for row, steps in (("verdict,1,2,r14a,open,5,6", (5, 6)), ("meeting,1,2,head_on,7,8,9", (7, 8)), ("alarm,1,2,r8d,3,4,", (3, 4))):
             self.assertEqual(steps_of(row), steps)
 
     @needs("systemd-analyze")
-    def test_the_units_are_accepted(self):
+    def test_the_units_are_accepted(self) -> None:
         self.assertEqual(len(UNITS), 2)
         for name in UNITS:
             text = text_of(os.path.join(TOOLS, "systemd", name)).replace("/usr/lib/colregs/tools", TOOLS)

@@ -33,43 +33,43 @@ exec %s "$@"
 
 @with_program
 class Shares(InFolder):
-    def setUp(self):
+    def setUp(self) -> None:
         super().setUp()
         self.write("s.toml", crowd.harbour())
         self.write("log.gz", gzip.compress(text_of(example("harbour_of_twenty.log")).encode()))
         self.used = PROGRAM
 
-    def many(self, *words, status=0):
+    def many(self, *words: str, status: int = 0) -> tuple[int, str, str]:
         done = self.within("colregs-many", *words, "--program", self.used)
         self.assertEqual(done[0], status, done[2])
         return done
 
-    def plan(self, *words, scenario="s.toml", log="log.gz"):
+    def plan(self, *words: str, scenario: str = "s.toml", log: str = "log.gz") -> list[str]:
         self.write("jobs", self.many("plan", scenario, log, *words)[1])
         return text_of(self.path("jobs")).splitlines()
 
-    def joined(self):
+    def joined(self) -> str:
         self.many("jobs", "--jobs", "4")
         return self.many("join", "jobs")[1]
 
-    def whole(self, scenario="s.toml"):
+    def whole(self, scenario: str = "s.toml") -> str:
         self.write("log", gzip.decompress(open(self.path("log.gz"), "rb").read()))
         return self.program("audit", self.path(scenario), self.path("log"))
 
 
 class Joined(Shares):
-    def test_rows_by_subjects_tiles_and_time_are_those_of_the_whole(self):
+    def test_rows_by_subjects_tiles_and_time_are_those_of_the_whole(self) -> None:
         rows = crowd.stretches(self.whole())
         self.assertEqual(len(rows), 22)
         for way in WAYS:
             self.assertGreater(len(self.plan(*way)), 1)
             self.assertEqual(crowd.stretches(self.joined()), rows, way)
 
-    def test_by_subjects_all_but_the_totals_is_there(self):
+    def test_by_subjects_all_but_the_totals_is_there(self) -> None:
         self.plan("--ticks-each", "1000", "--group", "10")
         self.assertEqual(self.joined().splitlines(), [row for row in self.whole().splitlines() if not row.startswith("total,")])
 
-    def test_subjects_of_the_scenario_are_kept(self):
+    def test_subjects_of_the_scenario_are_kept(self) -> None:
         self.write("own.toml", "subjects = [200000108, 200000113,\n  200000119]\n" + crowd.harbour())
         jobs = self.plan("--ticks-each", "1000", "--group", "2", scenario="own.toml")
         self.assertEqual([json.loads(line)["subjects"] for line in jobs], [[200000108], [200000113, 200000119]])
@@ -77,7 +77,7 @@ class Joined(Shares):
         self.assertIn("meeting,200000112,200000113,crossing_gives,17,44,13049700", rows)
         self.assertEqual(crowd.stretches(self.joined()), rows)
 
-    def test_where_the_whole_has_too_many_pairs_groups_of_20_and_of_40_give_the_same(self):
+    def test_where_the_whole_has_too_many_pairs_groups_of_20_and_of_40_give_the_same(self) -> None:
         self.write("s.toml", crowd.SCENARIO)
         self.write("log.gz", gzip.compress(crowd.log().encode()))
         self.write("log", crowd.log())
@@ -90,8 +90,7 @@ class Joined(Shares):
         self.assertGreater(len(crowd.stretches(found[0])), 200)
         self.assertEqual(found[0], found[1])
 
-
-    def test_where_there_are_too_many_vessels_tiles_have_the_meeting_of_each_pair_once(self):
+    def test_where_there_are_too_many_vessels_tiles_have_the_meeting_of_each_pair_once(self) -> None:
         self.write("s.toml", crowd.SCENARIO.replace("watch = 5000", "watch = 900").replace("risk = 500", "risk = 100"))
         self.write("log.gz", gzip.compress(crowd.wide(), 1))
         self.plan("--ticks", "10", "--tiles", "2x1", "--ticks-each", "1000")
@@ -103,14 +102,14 @@ class Joined(Shares):
 
 
 class Covered(Shares):
-    def refused(self, words, *keep):
+    def refused(self, words: str, *keep: int) -> None:
         lines = text_of(self.path("jobs")).splitlines()
         self.write("fewer", "".join(lines[k] + "\n" for k in keep))
         os.rename(self.path("jobs.kept"), self.path("fewer.kept"))
         self.assertIn(words, self.many("join", "fewer", status=1)[2])
         os.rename(self.path("fewer.kept"), self.path("jobs.kept"))
 
-    def test_shares_that_do_not_cover_are_refused(self):
+    def test_shares_that_do_not_cover_are_refused(self) -> None:
         self.plan("--ticks-each", "1000", "--group", "12", "--tiles", "2x1")
         self.assertIn("have no result yet", self.many("join", "jobs", status=1)[2])
         jobs = [json.loads(line) for line in text_of(self.path("jobs")).splitlines()]
@@ -119,19 +118,19 @@ class Covered(Shares):
         self.refused("leave a part of the plane", *tile)
         self.refused("are in no group", *range(1, len(jobs)))
 
-    def test_windows_that_overlap_too_little_are_refused(self):
+    def test_windows_that_overlap_too_little_are_refused(self) -> None:
         self.plan("--ticks-each", "60", "--overlap", "600")
         self.many("jobs", "--jobs", "4")
         self.assertIn("less than this scenario needs", self.many("plan", "s.toml", "log.gz", "--ticks-each", "60", "--overlap", "300", status=1)[2])
 
-    def test_tiles_cover_the_plane(self):
+    def test_tiles_cover_the_plane(self) -> None:
         self.assertTrue(covers_plane([[None, None, 5, None], [5, None, None, 2], [5, 2, None, None]]))
         self.assertFalse(covers_plane([[None, None, 5, None], [6, None, None, None]]))
         self.assertFalse(covers_plane([[None, None, 5, None], [5, 0, None, None]]))
 
 
 class KeptResults(Shares):
-    def test_a_killed_run_goes_on_where_it_stopped(self):
+    def test_a_killed_run_goes_on_where_it_stopped(self) -> None:
         self.used = self.write("wrapped", WRAPPER % PROGRAM)
         os.chmod(self.used, os.stat(self.used).st_mode | stat.S_IXUSR)
         self.plan("--ticks-each", "1000", "--group", "4")
@@ -143,7 +142,7 @@ class KeptResults(Shares):
         self.assertEqual(text_of(self.path("calls")).count("run"), 6)
         self.assertEqual(crowd.stretches(self.many("join", "jobs")[1]), crowd.stretches(self.whole()))
 
-    def test_another_scenario_is_another_result_and_another_file_asks_for_another_plan(self):
+    def test_another_scenario_is_another_result_and_another_file_asks_for_another_plan(self) -> None:
         self.plan("--ticks-each", "1000")
         for change, kept in ((None, 0), (None, 1), ("s.toml", 0), ("log.gz", 0)):
             if change:
@@ -152,9 +151,9 @@ class KeptResults(Shares):
             if change == "log.gz":
                 self.assertIn("log.gz changed after the jobs were planned: plan again", self.many("jobs", status=1)[2])
                 self.plan("--ticks-each", "1000")
-            self.assertIn("1 jobs: %d were kept before" % kept, self.many("jobs")[2])
+            self.assertIn(f"1 jobs: {kept} were kept before", self.many("jobs")[2])
 
-    def test_what_goes_wrong_is_told(self):
+    def test_what_goes_wrong_is_told(self) -> None:
         self.write("wrong.toml", crowd.harbour().replace("ticks = 198 ", "ticks = 0 "))
         self.write("log", "")
         self.write("cut.gz", gzip.compress(os.urandom(1000))[:900])
@@ -167,13 +166,13 @@ class KeptResults(Shares):
 
 class Machines(Shares):
     @needs("parallel")
-    def test_by_gnu_parallel(self):
+    def test_by_gnu_parallel(self) -> None:
         self.plan("--ticks-each", "1000", "--group", "7")
         self.many("jobs", "--parallel", "--jobs", "3")
         self.assertEqual(text_of(self.path("jobs.kept/joblog")).count("colregs-many one"), 3)
         self.assertEqual(crowd.stretches(self.many("join", "jobs")[1]), crowd.stretches(self.whole()))
 
-    def test_a_script_for_slurm_runs_the_job_of_its_number(self):
+    def test_a_script_for_slurm_runs_the_job_of_its_number(self) -> None:
         self.plan("--ticks-each", "1000", "--group", "10")
         script = self.write("script", self.many("slurm", "jobs")[1])
         self.assertIn("#SBATCH --array=1-2\n", text_of(script))
@@ -181,7 +180,7 @@ class Machines(Shares):
             subprocess.run(["sh", script], check=True, env={**os.environ, "SLURM_ARRAY_TASK_ID": number}, cwd=self.folder, timeout=60)
         self.assertEqual(crowd.stretches(self.many("join", "jobs")[1]), crowd.stretches(self.whole()))
 
-    def test_commands_run_one_job_each(self):
+    def test_commands_run_one_job_each(self) -> None:
         self.plan("--ticks-each", "1000", "--group", "10")
         for command in self.many("commands", "jobs")[1].splitlines():
             subprocess.run(["sh", "-c", command], check=True, timeout=60)
@@ -189,28 +188,28 @@ class Machines(Shares):
 
 
 class Parts(InFolder):
-    def test_whose_a_sentence_is(self):
+    def test_whose_a_sentence_is(self) -> None:
         senders = Senders()
         lines = [line.encode() for line in passing.log().splitlines()[:6]]
         self.assertEqual([senders.of(line) for line in lines], [passing.EAST] * 2 + [passing.WEST] * 2 + [passing.EAST, passing.WEST])
         self.assertEqual([senders.of(line) for line in (b"", b"!AIVDM,1,1", b"$GPRMC,1", b"!AIVDM,1,1,,A,\x80abcdefg,0*00")], [None] * 4)
 
-    def test_a_sieve_keeps_the_times_of_all(self):
+    def test_a_sieve_keeps_the_times_of_all(self) -> None:
         lines = [line.encode() + b"\n" for line in passing.log().splitlines()]
         left = list(Sieve({passing.WEST}.__contains__, 30).left(lines))
         self.assertEqual(len(left), len(lines) - 1)                        # the later part of a message has no tag block
         self.assertEqual([line for line in left if b"!" in line and Senders().of(line) == passing.EAST], lines[:1])    # its first part
         self.assertIn(b"\\c:1700000010*5E\\\n", left)
 
-    def test_subjects_are_put_in_and_nothing_else_is_changed(self):
+    def test_subjects_are_put_in_and_nothing_else_is_changed(self) -> None:
         scenario = Scenario(self.write("s.toml", "subjects = [200000001,\n 200000002] # two\n" + passing.SCENARIO))
         self.assertEqual(scenario.with_subjects([200000009]), "subjects = [200000009]\n" + passing.SCENARIO)
         self.assertEqual(scenario.with_subjects(None), scenario.text)
         self.assertEqual((scenario.reach, scenario.delay()), (12, 14 * 10 + 60 + 30))
 
-    def test_the_reach_of_a_formula_is_at_most_its_bounds_together(self):
+    def test_the_reach_of_a_formula_is_at_most_its_bounds_together(self) -> None:
         text = passing.SCENARIO + '[[formula]]\nname = "f"\ntext = "G[0,100] F[20,80] seen"\n'
         self.assertEqual(Scenario(self.write("s.toml", text)).reach, 18)
 
-    def test_the_tool_is_one_that_can_be_run(self):
+    def test_the_tool_is_one_that_can_be_run(self) -> None:
         self.assertTrue(os.access(os.path.join(TOOLS, "colregs-many"), os.X_OK))

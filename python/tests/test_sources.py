@@ -9,6 +9,7 @@ import subprocess
 import time
 import unittest
 import zipfile
+from collections.abc import Iterable
 
 import test_tables
 import test_times
@@ -16,41 +17,41 @@ from given import InFolder, example, needs, text_of, with_program
 from colregs.io import sentences
 from colregs.io.logs import timed
 from colregs.errors import Fault
-from colregs.io.sources import Unread, gather
+from colregs.io.sources import Gathered, Unread, gather
 from encounters import ENCOUNTERS
 
 S = "!AIVDM,1,1,,B,12vg22hP2<G:B?4KVut3Q2l20000,0*27"
 T = "!AIVDM,1,1,,B,12vg22hP2<G:BQDKVut3Q2lF0000,0*4D"
 
 
-def sentence(body):
+def sentence(body: str) -> str:
     total = 0
     for letter in body:
         total ^= ord(letter)
-    return "$%s*%02X" % (body, total)
+    return f"${body}*{total:02X}"
 
 
-def rmc(clock, date, valid="A", place="4815.0000,N,12334.9406,W", way="14.0,090.0", talker="GP"):
-    return sentence("%sRMC,%s,%s,%s,%s,%s,,,A" % (talker, clock, valid, place, way, date))
+def rmc(clock: str, date: str, valid: str = "A", place: str = "4815.0000,N,12334.9406,W", way: str = "14.0,090.0", talker: str = "GP") -> str:
+    return sentence(f"{talker}RMC,{clock},{valid},{place},{way},{date},,,A")
 
 
-def base_station(second, repeat=0):
+def base_station(second: int, repeat: int = 0) -> str:
     fields = [(4, 6), (repeat, 2), (2655651, 30), (2023, 14), (11, 4), (14, 5), (22, 5), (13, 6), (second, 6), (0, 90)]
     return sentences.sentence(fields).decode()
 
 
 class Sources(InFolder):
-    def gathered(self, text, **more):
-        """What came of a log, and the log that was made, line by line."""
+    def gathered(self, text: str | bytes, **more: int) -> tuple[Gathered, list[str]]:
+        """Returns what came of a log, and the log that was made, line by line."""
         found = gather([self.write("log", text)], self.path("out"), **more)
         return found, text_of(self.path("out")).splitlines()
 
-    def times(self, text, **more):
+    def times(self, text: str, **more: int) -> list[int]:
         return [int(line[3:13]) for line in self.gathered(text, **more)[1]]
 
 
 class Receivers(Sources):
-    def test_rmc_and_zda_tell_the_time_of_what_follows(self):
+    def test_rmc_and_zda_tell_the_time_of_what_follows(self) -> None:
         log = [rmc("221321.00", "141123"), S, sentence("GPZDA,221331.00,14,11,2023,00,00"), T, sentence("GPGGA,221331,,,,,0,,,,,,,,"),
                rmc("221341", "141123", talker="GN"), S]
         found, made = self.gathered("\n".join(log))
@@ -58,7 +59,7 @@ class Receivers(Sources):
         self.assertEqual(found.aside, {"other sentence (GGA)": 1})
         self.assertIn("own ship's places stand in 2 lines", found.notes[0])
 
-    def test_the_date_rolls_over_at_new_year_and_where_it_lags(self):
+    def test_the_date_rolls_over_at_new_year_and_where_it_lags(self) -> None:
         new_year = [rmc("235959", "311223"), S, rmc("000000", "010124"), T]
         self.assertEqual(self.times("\n".join(new_year)), [1704067199, 1704067200])
         lagging = [rmc("235959", "311223"), S, rmc("000000", "311223"), T, rmc("000001", "010124"), S]
@@ -66,7 +67,7 @@ class Receivers(Sources):
         weeks = [rmc("221321", "141123"), S, rmc("221322", "300304"), T]          # 1024 weeks before
         self.assertEqual(self.times("\n".join(weeks)), [1700000001, 1700000002])
 
-    def test_a_fix_without_validity_tells_no_time(self):
+    def test_a_fix_without_validity_tells_no_time(self) -> None:
         void = rmc("221331", "060180", "V", ",,,", ",")
         found, made = self.gathered("\n".join([void, S, sentence("GPZDA,221331,06,01,1980,00,00"), T]))
         self.assertEqual((found.sentences, found.untimed), (0, 2))
@@ -77,13 +78,13 @@ class Receivers(Sources):
         unset = rmc("000010", "060180")
         self.assertEqual(self.gathered(unset + "\n" + S)[0].aside["RMC of a clock that is not set"], 1)
 
-    def test_in_a_gap_of_the_receiver_no_time_is_made_up(self):
+    def test_in_a_gap_of_the_receiver_no_time_is_made_up(self) -> None:
         log = [rmc("221321", "141123"), S, rmc("222321", "141123"), T]
         found, made = self.gathered("\n".join(log))
         self.assertEqual(made, ["\\c:1700000601*58\\" + T])
         self.assertEqual(found.unread["a sentence in a gap between two times"], Unread(1, S))
 
-    def test_base_stations_tell_the_time_where_nothing_else_does(self):
+    def test_base_stations_tell_the_time_where_nothing_else_does(self) -> None:
         """Message 4 of 2023-11-14 22:13:21 and :31; of a receiver's clock beside it the receiver's counts, and a repeated one never does."""
         base = [base_station(second) for second in (21, 31)]
         found, made = self.gathered("\n".join([base[0], S, base[1], T]))
@@ -93,17 +94,17 @@ class Receivers(Sources):
         self.assertEqual(self.times("\n".join(["1700000100 " + T, base[0], S])), [1700000100] * 3)
         self.assertEqual(self.gathered(base_station(21, repeat=1) + "\n" + S)[0].first, None)
 
-    def test_what_stands_before_the_first_time_is_told(self):
+    def test_what_stands_before_the_first_time_is_told(self) -> None:
         found, made = self.gathered("\n".join([S, rmc("221331", "141123"), T]))
         self.assertEqual((len(made), found.unread["a sentence before the first time of its log"]), (1, Unread(1, S)))
 
-    def test_a_clock_in_local_time_is_told_by_the_receivers_own(self):
+    def test_a_clock_in_local_time_is_told_by_the_receivers_own(self) -> None:
         log = ["2023-11-14 23:13:21 " + rmc("221321", "141123"), "2023-11-14 23:13:21 " + S]
         found, _ = self.gathered("\n".join(log))
         self.assertIn("ahead of the receiver's UTC by 1:00 hours; give an offset of +01:00", "".join(found.notes))
 
     @needs("gpsdecode")
-    def test_own_ship_comes_from_rmc_where_her_mmsi_is_given(self):
+    def test_own_ship_comes_from_rmc_where_her_mmsi_is_given(self) -> None:
         log = [rmc("221321", "141123"), sentence("HEHDT,091.4,T"), rmc("221322", "141123"), rmc("221322.5", "141123")]
         found, made = self.gathered("\n".join(log), mmsi=200000031)
         self.assertEqual((found.own, [line[17:23] for line in made]), (2, ["!AIVDO", "!AIVDO"]))
@@ -112,7 +113,7 @@ class Receivers(Sources):
         self.assertIn('"speed":14.0,"accuracy":false,"lon":-123.582343,"lat":48.250000,"course":90.0,"heading":91,"second":22', read)
 
     @with_program
-    def test_plan_runs_on_a_log_that_was_only_received(self):
+    def test_plan_runs_on_a_log_that_was_only_received(self) -> None:
         """The log of giving_way without own ship's reports, and a receiver that tells of her each ten seconds, as encounters.py has her."""
         others = [line for line in text_of(example("giving_way.log")).splitlines() if "12vg27h" not in line and ",52vg27h" not in line]
         log = []
@@ -125,21 +126,21 @@ class Receivers(Sources):
         self.assertEqual([row for row in plan.splitlines() if row.startswith("plan")], kept)
 
 
-def own_place(second):
-    """Where OAK is: at 29000000 north, -74200000 east in 1/10000 minute, 1297 m to the south, going north at 14 knots."""
+def own_place(second: int) -> str:
+    """Returns where OAK is: at 29000000 north, -74200000 east in 1/10000 minute, 1297 m to the south, going north at 14 knots."""
     latitude = round(29000000 + (-1297 + second * 14 * 1852 / 3600) / 1852 * 10000)
-    return "%02d%07.4f,N,12340.0000,W" % (latitude // 600000, latitude % 600000 / 10000)
+    return f"{latitude // 600000:02d}{latitude % 600000 / 10000:07.4f},N,12340.0000,W"
 
 
 class Servers(Sources):
-    def test_gpspipe_raw_with_a_time_of_its_own(self):
+    def test_gpspipe_raw_with_a_time_of_its_own(self) -> None:
         for stamp in ("Tue Nov 14 22:13:21 2023: ", "2023-11-14T22:13:21.000Z: "):
             log = stamp + '{"class":"VERSION","release":"3.22"}\n' + stamp + S + "\n"
             found, made = self.gathered(log)
             self.assertEqual((made, found.aside, found.unread), (["\\c:1700000001*5E\\" + S], {"JSON of gpsd that is no report": 1}, {}))
 
     @needs("gpsdecode")
-    def test_gpsds_json_becomes_the_same_reports(self):
+    def test_gpsds_json_becomes_the_same_reports(self) -> None:
         """gpsdecode writes the JSON of gpspipe -w; its TPV are made here."""
         bare = "".join(line.rsplit("\\", 1)[-1] + "\n" for line in text_of(example("crossing.log")).splitlines()[:40])
         for option in ("-j", "-ju"):
@@ -152,7 +153,7 @@ class Servers(Sources):
 
     @needs("gpsdecode")
     @with_program
-    def test_the_examples_through_gpsds_json_have_the_same_report(self):
+    def test_the_examples_through_gpsds_json_have_the_same_report(self) -> None:
         """gpsdecode reads each example; a TPV before each message tells its time. In the message's own units nothing is lost."""
         for name in ENCOUNTERS:
             bare, clocks = [], []
@@ -169,54 +170,54 @@ class Servers(Sources):
                 report = self.program("audit", example(name + ".toml"), self.path("out"))
                 self.assertEqual(counted_out(report), counted_out(text_of(example(name + ".csv"))))
 
-    def test_aiscatchers_values_become_a_report_where_it_keeps_no_sentence(self):
+    def test_aiscatchers_values_become_a_report_where_it_keeps_no_sentence(self) -> None:
         values = ('{"class":"AIS","device":"AIS-catcher","rxtime":"20231114221321","scaled":true,"channel":"B","type":1,"repeat":0,"mmsi":200000011,'
                   '"status":0,"turn":-128,"speed":14.0,"accuracy":false,"lon":-123.582343,"lat":48.25,"course":90.0,"heading":90,"second":1}')
         found, made = self.gathered(values)
         self.assertEqual(made[0][17:], S.replace(",B,", ",A,").replace("*27", "*24"))       # A for B alone changes the sum, by 3
         self.assertEqual((found.first, list(found.forms)), (1700000001, ["AIS-catcher's JSON (sentences made of its values)"]))
 
-    def test_signalk_keeps_sentences_and_deltas(self):
+    def test_signalk_keeps_sentences_and_deltas(self) -> None:
         delta = ('1700000001000;I;{"context":"vessels.urn:mrn:imo:mmsi:200000011","updates":[{"timestamp":"2023-11-14T22:13:21.000Z","values":'
                  '[{"path":"navigation.position","value":{"latitude":48.25,"longitude":-123.5823433}},{"path":"navigation.speedOverGround",'
                  '"value":7.2022},{"path":"navigation.courseOverGroundTrue","value":1.5707963},{"path":"navigation.headingTrue","value":1.5708}]}]}')
-        found, made = self.gathered("1700000001000;N;%s\n%s\n" % (S, delta))
+        found, made = self.gathered(f"1700000001000;N;{S}\n{delta}\n")
         self.assertEqual((found.unread, len(made)), ({}, 2))
         self.assertEqual(made[0], "\\c:1700000001*5E\\" + S)
         # the same report up to its second, but for its channel and its status, 15 in place of 0, which makes six bits 111111 of 110000
         self.assertEqual(made[1][17:53], "!AIVDM,1,1,,A,12vg22wP2<G:B?4KVut3Q2")
 
-    def test_opencpns_recorder_with_a_head_and_its_monitor_with_a_receiver(self):
-        vdr = 'received_at,protocol,msg_type,source,raw_data\n2023-11-14T22:13:21.123Z,NMEA0183,,COM3,"%s"\n' % S
+    def test_opencpns_recorder_with_a_head_and_its_monitor_with_a_receiver(self) -> None:
+        vdr = f'received_at,protocol,msg_type,source,raw_data\n2023-11-14T22:13:21.123Z,NMEA0183,,COM3,"{S}"\n'
         found, made = self.gathered(vdr)
         self.assertEqual((made, found.unread), (["\\c:1700000001*5E\\" + S], {}))
-        monitor = "14:13:21.5 (COM3) %s\n14:13:21.7 (COM3) %s\n" % (rmc("221321", "141123"), S)
+        monitor = f"14:13:21.5 (COM3) {rmc('221321', '141123')}\n14:13:21.7 (COM3) {S}\n"
         self.assertEqual(self.gathered(monitor)[1], ["\\c:1700000001*5E\\" + S])
 
 
-def positions(told):
-    """The lines of position reports, from the MMSI on, but for the status and what the rest of a message 1 has."""
+def positions(told: str) -> list[str]:
+    """Returns the lines of position reports, from the MMSI on, without the status and the rest of a message 1."""
     return [line[line.index('"mmsi"'):].split('"status"')[0] + line[line.index('"speed"'):].split(',"maneuver"')[0]
             for line in told.splitlines() if '"type":1,' in line]
 
 
-def counted_out(report):
-    """A report without its counts of lines."""
+def counted_out(report: str) -> list[str]:
+    """Returns a report without its counts of lines."""
     return [row for row in report.splitlines() if not row.startswith("lines,")]
 
 
 class Blocks(Sources):
-    def test_other_fields_of_a_tag_block_stay_and_a_wrong_sum_is_told(self):
-        found, made = self.gathered("\\g:1-2-7,s:r1,c:1700000001*3D\\%s\n\\c:1700000001*00\\%s\n" % (S, T))
+    def test_other_fields_of_a_tag_block_stay_and_a_wrong_sum_is_told(self) -> None:
+        found, made = self.gathered(f"\\g:1-2-7,s:r1,c:1700000001*3D\\{S}\n\\c:1700000001*00\\{T}\n")
         self.assertEqual(made, ["\\c:1700000001,g:1-2-7,s:r1*3D\\" + S])
         self.assertEqual(found.unread["a tag block with a wrong sum"].count, 1)
 
-    def test_a_part_without_a_time_stays_with_the_part_before(self):
+    def test_a_part_without_a_time_stays_with_the_part_before(self) -> None:
         found, made = self.gathered(text_of(example("crossing.log")))
         self.assertEqual(made[1], "\\c:1700000000*5F\\!AIVDM,2,2,0,A,1@0000000000000,2*55")
         self.assertEqual((found.sentences, found.back, found.unread), (312, 0, {}))
 
-    def test_a_time_holds_for_few_lines_behind_it(self):
+    def test_a_time_holds_for_few_lines_behind_it(self) -> None:
         """A part has the time of its message whatever comes; other lines have it as long as the next time is near, or few stand behind it."""
         parts = ["\\c:1700000000*5F\\!AIVDM,2,1,0,A,52vg22h000000000000Dhl000000000000000016;@N::000004i@E53,0*77",
                  "!AIVDM,2,2,0,A,1@0000000000000,2*55"]
@@ -225,19 +226,19 @@ class Blocks(Sources):
         found, made = self.gathered("\n".join(["1700000000 " + S] + [T] * 300))
         self.assertEqual((len(made), found.unread["a sentence in a gap between two times"].count), (11, 290))
 
-    def test_lines_that_run_back_are_sorted_and_parts_stay_in_order(self):
+    def test_lines_that_run_back_are_sorted_and_parts_stay_in_order(self) -> None:
         lines = text_of(example("crossing.log")).splitlines()
         found, made = self.gathered("\n".join(lines[100:] + lines[:100]))
         self.assertEqual((made, found.back > 0), (gather_lines(self, lines), True))
         self.assertIn("sorted by time", " ".join(found.notes))
 
-    def test_a_clock_that_was_not_set_is_told(self):
-        log = "\n".join("%d %s" % (1700000000 + 10 * k, S) for k in range(2000)) + "\n1000000000 " + T
+    def test_a_clock_that_was_not_set_is_told(self) -> None:
+        log = "\n".join(f"{1700000000 + 10 * k} {S}" for k in range(2000)) + "\n1000000000 " + T
         self.assertIn("1 sentences have times more than a day off nearly all others, as 2001-09-09", "".join(self.gathered(log)[0].notes))
-        self.assertEqual(self.gathered("1700000000 %s\n1700090000 %s" % (S, T))[0].notes, [])
+        self.assertEqual(self.gathered(f"1700000000 {S}\n1700090000 {T}")[0].notes, [])
 
-    def test_every_line_is_counted_once(self):
-        log = "\n\n# a comment\n%s,1700000001\nnonsense\n$GPGGA,1*00\n!AIVDM,1,1,,A,123\n{\"a\":1}\n{broken\n\xff\xfe\n" % S
+    def test_every_line_is_counted_once(self) -> None:
+        log = f"\n\n# a comment\n{S},1700000001\nnonsense\n$GPGGA,1*00\n!AIVDM,1,1,,A,123\n{{\"a\":1}}\n{{broken\n\xff\xfe\n"
         found, _ = self.gathered(log.encode("latin-1"))
         counted = sum(found.forms.values()) + sum(found.aside.values()) + sum(told.count for told in found.unread.values())
         self.assertEqual((counted, found.lines()), (10, 10))
@@ -245,13 +246,13 @@ class Blocks(Sources):
             "JSON without a sentence", "a line with no sentence and no row", "a sentence without its sum, or cut off"])
 
 
-def gather_lines(test, lines):
+def gather_lines(test: InFolder, lines: Iterable[str]) -> list[str]:
     gather([test.write("whole", "\n".join(lines))], test.path("sorted"))
     return text_of(test.path("sorted")).splitlines()
 
 
 class Mutated(Sources):
-    def test_whatever_the_bytes_nothing_breaks_and_no_line_is_lost(self):
+    def test_whatever_the_bytes_nothing_breaks_and_no_line_is_lost(self) -> None:
         """Lines of all forms and tables with bytes put in, taken out and changed, from seeds."""
         chance = random.Random(1)
         clocks = rmc("221321", "141123"), sentence("HEHDT,091.4,T"), base_station(21)
@@ -265,8 +266,8 @@ class Mutated(Sources):
             self.assertGreaterEqual(counted, found.lines())
 
 
-def mutated(chance, line):
-    """The line with up to three bytes put in, changed or taken out, of which some mean much here."""
+def mutated(chance: random.Random, line: bytes) -> bytes:
+    """Returns the line with up to three bytes put in, changed or taken out, some of which mean much here."""
     for _ in range(chance.randrange(4)):
         at, byte = chance.randrange(len(line) + 1), bytes([chance.choice([chance.randrange(256), *b",.;:\"\\!$*{}[]0"])])
         line = line[:at] + chance.choice([byte, b""]) + line[at + chance.randrange(3):]
@@ -274,10 +275,10 @@ def mutated(chance, line):
 
 
 class Files(Sources):
-    TEXT = ("%s,1700000001\r\n%s,1700000011\r\n" % (S, T)).encode()
+    TEXT = (f"{S},1700000001\r\n{T},1700000011\r\n").encode()
     MADE = ["\\c:1700000001*5E\\" + S, "\\c:1700000011*5F\\" + T]
 
-    def test_packed_files_are_unpacked(self):
+    def test_packed_files_are_unpacked(self) -> None:
         made = {"gzip": gzip.compress(self.TEXT), "xz": lzma.compress(self.TEXT), "bzip2": bz2.compress(self.TEXT), "plain": self.TEXT}
         if shutil.which("zstd"):
             made["zstd"] = subprocess.run(["zstd", "-qc"], input=self.TEXT, capture_output=True).stdout
@@ -290,13 +291,13 @@ class Files(Sources):
                 found, lines = self.gathered(packed)
                 self.assertEqual((lines, found.files[0].packed, found.files[0].lines), (self.MADE, name, 2))
 
-    def test_a_file_that_is_damaged_or_cut_off_is_refused(self):
+    def test_a_file_that_is_damaged_or_cut_off_is_refused(self) -> None:
         cut_off = gzip.compress(self.TEXT)[:-10], lzma.compress(self.TEXT)[:-10]
         for packed in (*cut_off, b"PK\x03\x04nonsense", b"\x1f\x8bnonsense", b"\x28\xb5\x2f\xfd.."):
             with self.subTest(packed[:4]), self.assertRaisesRegex(Fault, "damaged or cut off|zstd is not here"):
                 self.gathered(packed)
 
-    def test_utf_16_and_byte_order_marks(self):
+    def test_utf_16_and_byte_order_marks(self) -> None:
         text = self.TEXT.decode()
         for words in (text.encode("utf-16-le"), b"\xff\xfe" + text.encode("utf-16-le"), b"\xfe\xff" + text.encode("utf-16-be"),
                       b"\xef\xbb\xbf" + self.TEXT, self.TEXT.replace(b"\r\n", b"\r"), gzip.compress(b"\xff\xfe" + text.encode("utf-16-le"))):
@@ -304,11 +305,11 @@ class Files(Sources):
                 found, made = self.gathered(words)
                 self.assertEqual((made, found.unread), (self.MADE, {}))
 
-    def test_several_logs_become_one_by_time(self):
+    def test_several_logs_become_one_by_time(self) -> None:
         found = gather([self.write("b", T + ",1700000011"), self.write("a", S + ",1700000001")], self.path("out"))
         self.assertEqual((text_of(self.path("out")).splitlines(), [part.name for part in found.files]), (self.MADE, ["b", "a"]))
 
-    def test_what_is_no_log_ends_with_words_and_a_status(self):
+    def test_what_is_no_log_ends_with_words_and_a_status(self) -> None:
         empty = [self.write("empty", "")]
         for words, told in ((["nothing"], "cannot be read: no such file"), (["."], "is a folder"), (empty, "no sentence and no row")):
             status, out, error = self.tool("tagged", *words)
@@ -318,9 +319,10 @@ class Files(Sources):
         self.assertEqual(status, 1)
         self.assertIn("more than a million bytes", error)
 
-    def test_a_pipe_is_read_and_a_device_is_not(self):
+    def test_a_pipe_is_read_and_a_device_is_not(self) -> None:
         os.mkfifo(self.path("pipe"))
         with subprocess.Popen(["sh", "-c", "gzip -c > pipe"], stdin=subprocess.PIPE, cwd=self.folder) as child:
+            assert child.stdin is not None
             child.stdin.write(self.TEXT)
             child.stdin.close()
             found = gather([self.path("pipe")], self.path("out"))
@@ -328,14 +330,14 @@ class Files(Sources):
         with self.assertRaisesRegex(Fault, "is a device"):
             gather(["/dev/zero"], self.path("out"))
 
-    def test_sentences_are_stamped_as_they_come(self):
+    def test_sentences_are_stamped_as_they_come(self) -> None:
         before = int(time.time())
-        status, out, _ = self.tool("tagged", "--now", source=("%s\r\nnothing\n\\c:1700000001*5E\\%s\n" % (S, T)).encode())
+        status, out, _ = self.tool("tagged", "--now", source=(f"{S}\r\nnothing\n\\c:1700000001*5E\\{T}\n").encode())
         lines = out.splitlines()
         self.assertEqual((status, lines[0][17:], lines[1:]), (0, S, ["nothing", "\\c:1700000001*5E\\" + T]))
         self.assertTrue(before <= int(lines[0][3:13]) <= time.time())
 
-    def test_a_log_is_not_written_over(self):
+    def test_a_log_is_not_written_over(self) -> None:
         log = self.write("log", self.TEXT)
         with self.assertRaisesRegex(Fault, "cannot be written too"):
             gather([log], log)

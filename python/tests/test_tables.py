@@ -5,9 +5,10 @@ import subprocess
 import sys
 import time
 import unittest
+from typing import Any
 
-from given import InFolder, PROGRAM, example, needs, text_of, with_program
-from colregs.io.sources import gather
+from given import InFolder, example, needs, text_of, with_program
+from colregs.io.sources import Gathered, gather
 from encounters import ENCOUNTERS, METRES, states, told
 import tomllib
 
@@ -39,8 +40,8 @@ for line in sys.stdin:
 """
 
 
-def with_libais():
-    """A Python that has libais, or nothing."""
+def with_libais() -> str | None:
+    """Returns a Python that has libais, or None."""
     for python in (sys.executable, "/usr/bin/python3"):
         if subprocess.run([python, "-c", "import ais; ais.decode"], capture_output=True).returncode == 0:
             return python
@@ -48,29 +49,30 @@ def with_libais():
 
 
 class Tables(InFolder):
-    def made(self, table):
+    def made(self, table: str) -> tuple[Gathered, list[str]]:
         found = gather([self.write("table.csv", table)], self.path("out"))
         self.assertEqual(found.unread, {})
         return found, [line.split("\\")[2] for line in text_of(self.path("out")).splitlines()]
 
-    def holds(self, read, wanted):
-        """That one of the messages has all these values."""
+    def holds(self, read: list[dict[str, Any]], wanted: dict[str, Any]) -> None:
+        """Checks that one of the messages has all these values."""
         self.assertTrue(any(all(message.get(key) == value for key, value in wanted.items()) for message in read), (wanted, read))
 
     @needs("gpsdecode")
-    def test_each_head_is_known_and_gpsdecode_reads_what_the_table_says(self):
+    def test_each_head_is_known_and_gpsdecode_reads_what_the_table_says(self) -> None:
         for name, table in (("MarineCadastre", CADASTRE), ("MarineCadastre", CADASTRE_NEW), ("DMA", DMA), ("AISHub", HUB), ("AISHub", HUB_RAW)):
             with self.subTest(table[:40]):
                 found, sentences = self.made(table)
                 self.assertIn("row of " + name, found.forms)
-                read = subprocess.run(["gpsdecode", "-j"], input="\n".join(sentences) + "\n", capture_output=True, text=True).stdout
-                read = [json.loads(line) for line in read.splitlines()]
-                wanted = [ELM, ELM_NAME, {**ELM_NAME, **ELM_HULL}] + ([BOAT] if name not in ("AISHub",) else [])
+                decoded = subprocess.run(["gpsdecode", "-j"], input="\n".join(sentences) + "\n", capture_output=True, text=True).stdout
+                read = [json.loads(line) for line in decoded.splitlines()]
+                wanted: list[dict[str, Any]] = [ELM, ELM_NAME, {**ELM_NAME, **ELM_HULL}]
+                wanted += [BOAT] if name != "AISHub" else []
                 for each in wanted:
                     self.holds(read, {key: value for key, value in each.items() if key != "shipname" or "shiptype" not in each})
                 self.assertEqual(found.first, 1700000001)
 
-    def test_libais_reads_the_same(self):
+    def test_libais_reads_the_same(self) -> None:
         python = with_libais()
         if python is None:
             self.skipTest("python3-ais is not installed")
@@ -85,7 +87,7 @@ class Tables(InFolder):
         self.holds(read, {"id": 24, "mmsi": 200000011, "part_num": 0, "name": "ELM" + "@" * 17})
         self.holds(read, {"id": 24, "mmsi": 200000011, "part_num": 1, "type_and_cargo": 70, "dim_a": 0, "dim_b": 120, "dim_c": 0, "dim_d": 20})
 
-    def test_what_a_row_lacks_is_told_and_its_neighbours_stay(self):
+    def test_what_a_row_lacks_is_told_and_its_neighbours_stay(self) -> None:
         bad = ("200000011,2023-11-14T22:13:31,x,-123.58234,14.0,90.5,91,ELM,,,70,0,120,20,5.0,70,A\n200000011,2023-11-14T22:13:31,48.25\n"
                "none,2023-11-14T22:13:31,48.25,-123.5,14.0,90.5,91,ELM,,,70,0,120,20,5.0,70,A\n200000011,14/11/2023 22:13,48.25,-123.5,14.0,90.5,91,"
                "ELM,,,70,0,120,20,5.0,70,A\n")
@@ -94,13 +96,13 @@ class Tables(InFolder):
             ("a row whose MMSI is no number", 1), ("a row with a date whose day and month may be exchanged", 1),
             ("a row with a field that is no number", 1), ("a row with another number of fields than its head", 1)]))
 
-    def test_columns_that_are_not_known_are_named(self):
+    def test_columns_that_are_not_known_are_named(self) -> None:
         table = "mmsi;timestamp;lat;lon;speed;course\n200000011;2023-11-14 22:13:21;48.25;-123.5;140;900\n"
         found, sentences = self.made(table)
         self.assertEqual((found.notes, len(sentences)), (["columns that are not read: speed, course"], 1))
 
     @with_program
-    def test_the_examples_through_marine_cadastre_and_back_have_the_same_pairs_kinds_and_rules(self):
+    def test_the_examples_through_marine_cadastre_and_back_have_the_same_pairs_kinds_and_rules(self) -> None:
         for name in ENCOUNTERS:
             with self.subTest(name):
                 gather([self.write("table.csv", cadastre(name))], self.path("out"))
@@ -109,14 +111,14 @@ class Tables(InFolder):
                 self.assertGreater(len(said(report)), 2)
 
 
-def said(report):
-    """Pairs, kinds and rules of a report."""
+def said(report: str) -> list[list[str]]:
+    """Returns pairs, kinds and rules of a report."""
     rows = [row.split(",") for row in report.splitlines()]
     return sorted(row[:4] if row[0] == "meeting" else row[:5] for row in rows if row[0] in ("meeting", "verdict"))
 
 
-def cadastre(name):
-    """The rows that MarineCadastre would have of an example: degrees with five decimals, knots and degrees with one."""
+def cadastre(name: str) -> str:
+    """Returns the rows that MarineCadastre would have of an example: degrees with five decimals, knots and degrees with one."""
     with open(example(name + ".toml"), "rb") as source:
         values = tomllib.load(source)
     window, reference, rows = values["window"], values["reference"], []
@@ -127,9 +129,9 @@ def cadastre(name):
                 latitude = reference["lat"] / 600000 + north / METRES / 60
                 longitude = reference["lon"] / 600000 + east / METRES / 60 / math.cos(math.radians(reference["lat"] / 600000))
                 clock = time.strftime("%Y-%m-%dT%H:%M:%S", time.gmtime(window["start"] + second))
-                rows.append("%d,%s,%.5f,%.5f,%.1f,%.1f,%d,%s,,,%d,0,%d,%d,,,%s" % (
-                    ship["mmsi"], clock, latitude, longitude, way / 10, angle / 10, heading, ship["name"], ship["kind"],
-                    ship["hull"][0] + ship["hull"][1], ship["hull"][2] + ship["hull"][3], "B" if ship["message"] == 18 else "A"))
+                length, width, small = ship["hull"][0] + ship["hull"][1], ship["hull"][2] + ship["hull"][3], ship["message"] == 18
+                rows.append(f"{ship['mmsi']},{clock},{latitude:.5f},{longitude:.5f},{way / 10:.1f},{angle / 10:.1f},{heading},{ship['name']},,,"
+                            f"{ship['kind']},0,{length},{width},,,{'B' if small else 'A'}")
     return CADASTRE.splitlines()[0] + "\n" + "\n".join(sorted(rows)) + "\n"
 
 

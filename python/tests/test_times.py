@@ -39,11 +39,11 @@ FORMS = [
     S + " [2023-11-14 22:13:21]",
     "\\s:rPORT1*13\\" + S + ",1700000001",
     "\\s:rPORT1,c:1700000001000*51\\" + S,
-    '{"class":"AIS","device":"AIS-catcher","rxtime":"20231114221321","scaled":true,"channel":"B","nmea":["%s"],"type":1}' % S,
-    '{"rxuxtime":1700000001.5,"nmea":"%s"}' % S,
-    '{"log":"%s\\n","stream":"stdout","time":"2023-11-14T22:13:21.123456789Z"}' % S,          # a container's log
-    'ais/station7 {"@timestamp":"2023-11-14T22:13:21Z","message":"%s"}' % S,
-    '2023-11-14T22:13:21.500Z,NMEA0183,,ttyUSB0,"%s"' % S,                 # OpenCPN's VDR
+    f'{{"class":"AIS","device":"AIS-catcher","rxtime":"20231114221321","scaled":true,"channel":"B","nmea":["{S}"],"type":1}}',
+    f'{{"rxuxtime":1700000001.5,"nmea":"{S}"}}',
+    f'{{"log":"{S}\\n","stream":"stdout","time":"2023-11-14T22:13:21.123456789Z"}}',          # a container's log
+    f'ais/station7 {{"@timestamp":"2023-11-14T22:13:21Z","message":"{S}"}}',
+    f'2023-11-14T22:13:21.500Z,NMEA0183,,ttyUSB0,"{S}"',                 # OpenCPN's VDR
 ]
 UNSURE = {
     "22:13:21 (RX) " + S: "a time of day without a date",
@@ -57,7 +57,7 @@ UNSURE = {
 
 
 class Times(InFolder):
-    def test_each_form_tells_its_moment(self):
+    def test_each_form_tells_its_moment(self) -> None:
         for form in FORMS:
             with self.subTest(form):
                 log = self.write("log", form + "\n")
@@ -68,24 +68,24 @@ class Times(InFolder):
                 self.assertEqual(sentence, S + "\n")
                 self.assertTrue(block.startswith("\\c:1700000001"))
 
-    def test_all_forms_in_one_log(self):
+    def test_all_forms_in_one_log(self) -> None:
         log = self.write("log", "".join(form + "\n" for form in FORMS))
         gathered = gather([log], self.path("out"))
         self.assertEqual((gathered.sentences, sum(gathered.forms.values()), gathered.first, gathered.last), (len(FORMS), len(FORMS), MOMENT, MOMENT))
 
-    def test_what_can_be_read_in_two_ways_is_told_and_not_guessed(self):
+    def test_what_can_be_read_in_two_ways_is_told_and_not_guessed(self) -> None:
         for form, name in UNSURE.items():
             with self.subTest(form):
                 gathered = gather([self.write("log", form + "\n")], self.path("out"))
                 self.assertEqual((gathered.sentences, list(gathered.unread)), (0, [name]))
                 self.assertEqual(gathered.unread[name], Unread(1, form))
 
-    def test_an_offset_is_of_times_without_a_zone_alone(self):
-        log = self.write("log", "2023-11-14 23:13:21 %s\n2023-11-14T22:13:21Z %s\n1700000001 %s\n" % (S, S, S))
+    def test_an_offset_is_of_times_without_a_zone_alone(self) -> None:
+        log = self.write("log", f"2023-11-14 23:13:21 {S}\n2023-11-14T22:13:21Z {S}\n1700000001 {S}\n")
         gathered = gather([log], self.path("out"), offset=3600)
         self.assertEqual((gathered.first, gathered.last), (MOMENT, MOMENT))
 
-    def test_the_moments_of_a_leap_year_and_of_new_year(self):
+    def test_the_moments_of_a_leap_year_and_of_new_year(self) -> None:
         for text, moment in (("2024-02-29 23:59:59", 1709251199), ("2023-12-31 23:59:59", 1704067199), ("2024-01-01 00:00:00", 1704067200)):
             self.assertEqual(gather([self.write("log", text + " " + S)], self.path("out")).first, moment)
 

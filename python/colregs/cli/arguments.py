@@ -1,15 +1,27 @@
-"""What the commands' parsers share: the form of a help page, and arguments that several commands take."""
+"""What the commands' parsers share: the form of a help page and of a refusal, and arguments that several commands take."""
 import argparse
 from collections.abc import Callable
+from typing import NoReturn
 
+from colregs.errors import USAGE, report
 from colregs.io.forms import zone_seconds
 
 REQUIRES = "It needs Python 3.11 or later."
 
 
-def parser_of(doc: str | None) -> argparse.ArgumentParser:
-    """Returns a parser whose help page is the docstring of a command."""
-    return argparse.ArgumentParser(description=f"{doc}\n{REQUIRES}", formatter_class=argparse.RawDescriptionHelpFormatter)
+class Parser(argparse.ArgumentParser):
+    """A parser that refuses arguments in the form of every other fault: `NAME: what is wrong` on standard error."""
+
+    def error(self, message: str) -> NoReturn:
+        """Reports what is wrong with the command line, and leaves with status 2."""
+        command, _, kind = self.prog.partition(" ")
+        report(command.removeprefix("colregs-"), f"{message}; `{command}{' ' + kind if kind else ''} --help` lists the arguments")
+        self.exit(USAGE)
+
+
+def parser_of(doc: str | None, name: str | None = None) -> argparse.ArgumentParser:
+    """Returns the parser of the command `name`; its help page is the docstring of the command's module."""
+    return Parser(prog=f"colregs-{name}" if name else None, description=f"{doc}\n{REQUIRES}", formatter_class=argparse.RawDescriptionHelpFormatter)
 
 
 def add_program(parser: argparse.ArgumentParser) -> None:

@@ -19,7 +19,7 @@ from colregs.run.program import found
 
 def parser() -> argparse.ArgumentParser:
     """Returns the parser of the command line."""
-    words = parser_of(__doc__)
+    words = parser_of(__doc__, "case")
     words.add_argument("logs", metavar="LOG", nargs="+", help="a log of any form that docs/SOURCES.md lists")
     words.add_argument("-o", "--out", metavar="CASE", required=True, help="the folder, which does not exist yet")
     words.add_argument("--scenario", metavar="FILE", help="a scenario instead of one that is guessed")

@@ -16,7 +16,7 @@ from colregs.run.program import found, window_options
 
 def parser() -> argparse.ArgumentParser:
     """Returns the parser of the command line."""
-    words = parser_of(__doc__)
+    words = parser_of(__doc__, "doctor")
     words.add_argument("scenario", metavar="SCENARIO")
     words.add_argument("log", metavar="LOG")
     words.add_argument("report", metavar="REPORT", nargs="?", help="a report of `audit`, `points` or `plan`")

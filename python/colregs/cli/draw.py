@@ -36,7 +36,7 @@ from colregs.run.program import found, report_of, window_options
 
 def parser() -> argparse.ArgumentParser:
     """Returns the parser of the command line."""
-    words = parser_of(__doc__)
+    words = parser_of(__doc__, "draw")
     words.add_argument("scenario", metavar="SCENARIO", help="a scenario, or the folder of a case")
     words.add_argument("out", metavar="OUT", help="the pictures' name, without .svg")
     words.add_argument("--log", metavar="LOG", help="the log that the program is run on")

@@ -31,7 +31,7 @@ def modes(word: str) -> list[str]:
 
 def parser() -> argparse.ArgumentParser:
     """Returns the parser of the command line."""
-    words = parser_of(__doc__)
+    words = parser_of(__doc__, "follow")
     words.add_argument("scenario", metavar="SCENARIO")
     words.add_argument("--days", metavar="DIR", required=True, help="the folder of the day files")
     words.add_argument("--log", metavar="FILE", help="a file that grows, instead of standard input")

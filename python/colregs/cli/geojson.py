@@ -29,7 +29,7 @@ from colregs.run.program import found, report_of, window_options
 
 def parser() -> argparse.ArgumentParser:
     """Returns the parser of the command line."""
-    words = parser_of(__doc__)
+    words = parser_of(__doc__, "geojson")
     words.add_argument("scenario", metavar="SCENARIO", help="a scenario, or the folder of a case")
     words.add_argument("reports", nargs="*", metavar="REPORT", help="a report of `points`, and one of `audit`")
     words.add_argument("--log", metavar="LOG", help="the log that the program is run on")

@@ -1,72 +1,78 @@
-"""Runs the shares of a long audit on one machine or many, caches each result, and joins them:
+"""Runs the shares of a long audit on one machine or many, stores each result, and joins them.
 
     colregs-many plan SCENARIO FILE .. [--ticks-each N] [--overlap S] [--group N] [--tiles CxR] > JOBS
     colregs-many JOBS [--jobs N] [--parallel [--hosts H1,H2]]
     colregs-many join JOBS > REPORT
-    colregs-many commands JOBS      colregs-many slurm JOBS > SCRIPT
+    colregs-many commands JOBS
+    colregs-many slurm JOBS > SCRIPT
 
-JOBS has one JSON object per line: the files (packed or not), the scenario, the window, perhaps subjects and a tile, and what ties the window to the
-whole. A result is cached in the folder JOBS.kept under the sum (SHA-256) of its inputs, so a run that was killed continues where it stopped. `join` writes
-each row once, and marks in a further field those that no window can know; JOBS.kept/doubts.csv says why, and JOBS.kept/moored.csv lists the meetings of
-vessels that both lie still. It refuses shares that are missing or do not cover. docs/TRAFFIC_SERVICE.md explains all of it.
-Status 0 is that all is done, 1 that something failed. It needs Python 3.11 or later.
+JOBS has one job per line, as JSON: the files (packed or not), the scenario, the window, perhaps subjects and a tile, and what ties the window to the
+whole audit. A result is stored in the folder JOBS.kept under the sum (SHA-256) of its inputs, so a run that was killed continues from there. `join`
+writes each row once, and marks in a further field the rows that no window can know; JOBS.kept/doubts.csv says why, and JOBS.kept/moored.csv lists the
+meetings of vessels that both lie still. It refuses shares that are missing or do not cover. docs/TRAFFIC_SERVICE.md describes the whole.
+
+Exit status: 0 if all is done, 1 if something failed, 2 if the command line is wrong.
 """
 import argparse
 import json
 import os
 import re
 import sys
-from collections.abc import Callable
+from collections.abc import Callable, Sequence
 from typing import NoReturn
 
-from colregs.errors import Fault, end, report
+from colregs.cli.arguments import add_program, at_least, parser_of
+from colregs.errors import DONE, FAILED, Fault, end, report
 from colregs.io.files import replace
 from colregs.model.scenario import Scenario
 from colregs.run.program import found
 from colregs.shares import join, plans, runs
 from colregs.shares.jobs import Job, Kept, read_job, read_jobs
 
-KINDS = ("plan", "run", "one", "commands", "slurm", "join")
-
 
 def write_plan(given: argparse.Namespace) -> int:
+    """Writes the list of jobs."""
     program = found(given.program) if given.group or given.tiles else None
     wanted = plans.Wanted(given.start, given.ticks, given.every, given.overlap, given.group, given.tiles)
     for job in plans.plan(given.files, wanted, Scenario(given.scenario), program):
         print(json.dumps(job))
-    return 0
+    return DONE
 
 
 def kept_of(given: argparse.Namespace) -> tuple[Kept, str]:
+    """Returns the folder of results, and the program."""
     program = found(given.program)
     return Kept(given.kept or given.list + ".kept", program), program
 
 
-def run_all(given: argparse.Namespace) -> int:
+def run_jobs(given: argparse.Namespace) -> int:
+    """Runs the jobs whose results are not stored."""
     jobs, (kept, program) = read_jobs(given.list), kept_of(given)
     if given.parallel:
         if all(kept.has(job) for job in jobs):
-            return 0
+            return DONE
         log = os.path.join(os.path.abspath(kept.folder), "joblog." + runs.list_sum([kept.key(job) for job in jobs]))
-        return runs.by_parallel(runs.commands(given.list, jobs, kept.folder, program), log, given.jobs, given.hosts)
+        return runs.by_parallel(runs.commands(given.list, len(jobs), kept.folder, program), log, given.jobs, given.hosts)
     ran, faults = runs.run_all(jobs, kept, program, given.jobs)
     for words in faults:
         report("many", words)
     report("many", f"{len(jobs)} jobs: {len(jobs) - ran - len(faults)} were kept before, {ran} ran, {len(faults)} failed")
-    return 1 if faults else 0
+    return FAILED if faults else DONE
 
 
 def run_one(given: argparse.Namespace) -> int:
+    """Runs the job of a number."""
     job, (kept, program) = read_job(given.list, given.number), kept_of(given)
     runs.run_one(job, kept, program)
-    return 0
+    return DONE
 
 
 def write_commands(given: argparse.Namespace) -> int:
+    """Writes one command per job, or a script for Slurm."""
     kept, program = given.kept or given.list + ".kept", found(given.program)
-    made = runs.commands(given.list, read_jobs(given.list), kept, program)
+    made = runs.commands(given.list, len(read_jobs(given.list)), kept, program)
     print("\n".join(made) if given.kind == "commands" else runs.slurm(made, given.memory, given.hours), end="\n" if made else "")
-    return 0
+    return DONE
 
 
 def one_scenario(jobs: list[Job], kept: Kept) -> Scenario:
@@ -78,6 +84,7 @@ def one_scenario(jobs: list[Job], kept: Kept) -> Scenario:
 
 
 def write_joined(given: argparse.Namespace) -> int:
+    """Writes the joined report, and beside the results the doubts and the meetings at rest."""
     jobs, (kept, _) = read_jobs(given.list), kept_of(given)
     missing = [job for job in jobs if not kept.has(job)]
     if missing:
@@ -88,7 +95,7 @@ def write_joined(given: argparse.Namespace) -> int:
     for name, text in (("doubts.csv", summary.doubts_text()), ("moored.csv", summary.moored_text())):
         replace(os.path.join(kept.folder, name), text.encode())
     tell(summary, kept.folder)
-    return 0
+    return DONE
 
 
 def tell(summary: join.Summary, folder: str) -> None:
@@ -104,63 +111,68 @@ def tell(summary: join.Summary, folder: str) -> None:
 
 
 def tiles(word: str) -> tuple[int, int]:
+    """Returns columns and rows of words as 4x3."""
     sides = re.fullmatch(r"([1-9]\d?)x([1-9]\d?)", word)
     if not sides:
         raise argparse.ArgumentTypeError("tiles are columns x rows, as 4x3")
     return int(sides[1]), int(sides[2])
 
 
-def at_least(least: int, most: int = 9999999999) -> Callable[[str], int]:
-    def number(word: str) -> int:
-        if not word.isdecimal() or not least <= int(word) <= most:
-            raise argparse.ArgumentTypeError(f"a number from {least} to {most}")
-        return int(word)
-    return number
+def add_plan(words: argparse.ArgumentParser) -> None:
+    """Adds the arguments of `plan`."""
+    words.add_argument("scenario", metavar="SCENARIO")
+    words.add_argument("files", nargs="+", metavar="FILE", help="a log with tag blocks, packed or not")
+    words.add_argument("--start", type=at_least(0), metavar="SECONDS", help="of the first window, instead of the scenario's")
+    words.add_argument("--ticks", type=at_least(1), metavar="N", help="of all windows together (default: up to the files' last time)")
+    words.add_argument("--ticks-each", dest="every", type=at_least(1, 20000), metavar="N",
+                       help="from a window's start to the next one's (default: 10000, half of what a run takes)")
+    words.add_argument("--overlap", type=at_least(0, 1200000), metavar="SECONDS",
+                       help="how far a window runs on into the next (default: as long as --ticks-each)")
+    words.add_argument("--group", type=at_least(1, 64), metavar="N", help="subjects of a share at most (default: all pairs are in one)")
+    words.add_argument("--tiles", type=tiles, metavar="CxR", help="columns and rows, as 4x3")
+    add_program(words)
+
+
+def add_jobs(words: argparse.ArgumentParser, kind: str) -> None:
+    """Adds the arguments of a kind of command that reads a list of jobs."""
+    words.add_argument("list", metavar="JOBS")
+    words.add_argument("--kept", metavar="DIR", help="the folder of the results (default: JOBS.kept)")
+    add_program(words)
+    if kind == "run":
+        words.add_argument("--jobs", type=at_least(1), default=os.cpu_count(), metavar="N", help="runs at a time (default: one per processor)")
+        words.add_argument("--parallel", action="store_true", help="run the jobs by GNU parallel")
+        words.add_argument("--hosts", help="with --parallel: where to log in by ssh, as host1,host2")
+    elif kind == "one":
+        words.add_argument("number", type=at_least(1), metavar="NUMBER", help="the number of a job, from 1 on")
+    elif kind == "slurm":
+        words.add_argument("--memory", default="2G", help="of each job (default: 2G)")
+        words.add_argument("--hours", type=at_least(1), default=4, metavar="N", help="of each job at most (default: 4)")
 
 
 def parser() -> argparse.ArgumentParser:
-    whole = argparse.ArgumentParser(description=__doc__, formatter_class=argparse.RawDescriptionHelpFormatter)
-    kinds = whole.add_subparsers(dest="kind", required=True)
-    words = kinds.add_parser("plan")
-    words.add_argument("scenario")
-    words.add_argument("files", nargs="+", metavar="FILE")
-    words.add_argument("--start", type=at_least(0), help="start of the first window, instead of the scenario's")
-    words.add_argument("--ticks", type=at_least(1), help="ticks of all windows together; by default up to the files' last time")
-    words.add_argument("--ticks-each", dest="every", type=at_least(1, 20000), help="ticks from a window's start to the next one's (10000)")
-    words.add_argument("--overlap", type=at_least(0, 1200000), help="seconds that a window continues into the next (as long as --ticks-each)")
-    words.add_argument("--group", type=at_least(1, 64), help="most subjects of a share; by default all pairs are in one")
-    words.add_argument("--tiles", type=tiles, help="columns and rows, as 4x3")
-    words.add_argument("--program", help="the built program")
-    for name in KINDS[1:]:
-        words = kinds.add_parser(name)
-        words.add_argument("list", metavar="JOBS")
-        words.add_argument("--kept", help="the folder of the results (JOBS.kept)")
-        words.add_argument("--program", help="the built program")
-        add_words_of(name, words)
+    """Returns the parser of the command line."""
+    whole = parser_of(__doc__)
+    kinds = whole.add_subparsers(dest="kind", required=True, metavar="COMMAND")
+    add_plan(kinds.add_parser("plan", help="write the list of jobs"))
+    for kind, does in (("run", "run the jobs that have no result; `run` may be left out"), ("one", "run one job"), ("commands", "write one command per job"),
+                       ("slurm", "write a script for sbatch"), ("join", "write the joined report")):
+        add_jobs(kinds.add_parser(kind, help=does), kind)
     return whole
 
 
-def add_words_of(name: str, words: argparse.ArgumentParser) -> None:
-    """Adds the options that one kind of command has for itself."""
-    if name == "run":
-        words.add_argument("--jobs", type=at_least(1), default=os.cpu_count(), help="runs at a time")
-        words.add_argument("--parallel", action="store_true", help="by GNU parallel")
-        words.add_argument("--hosts", help="with --parallel: where to log in by ssh, as host1,host2")
-    elif name == "one":
-        words.add_argument("number", type=at_least(1))
-    elif name == "slurm":
-        words.add_argument("--memory", default="2G")
-        words.add_argument("--hours", type=at_least(1), default=4)
+WORK: dict[str, Callable[[argparse.Namespace], int]] = {
+    "plan": write_plan, "run": run_jobs, "one": run_one, "commands": write_commands, "slurm": write_commands, "join": write_joined}
 
 
-def main(arguments: list[str] | None = None) -> int:
+def main(arguments: Sequence[str] | None = None) -> int:
+    """Does what the first word asks, which is `run` if it is no command."""
     words = list(sys.argv[1:] if arguments is None else arguments)
-    if words and words[0] not in KINDS and not words[0].startswith("-"):
-        words = ["run", *words]
+    if words and words[0] not in WORK and not words[0].startswith("-"):
+        words = ["run"] + words
     given = parser().parse_args(words)
-    return {"plan": write_plan, "run": run_all, "one": run_one, "commands": write_commands, "slurm": write_commands, "join": write_joined}[given.kind](given)
+    return WORK[given.kind](given)
 
 
 def command() -> NoReturn:
-    """Runs the command with the words of its command line."""
+    """Runs the command and leaves with its status."""
     end("many", main)

@@ -21,7 +21,7 @@ from colregs.run.program import found
 
 def parser() -> argparse.ArgumentParser:
     """Returns the parser of the command line."""
-    words = parser_of(__doc__)
+    words = parser_of(__doc__, "scenario")
     words.add_argument("log", nargs="?", metavar="LOG")
     add_program(words)
     return words

@@ -24,7 +24,7 @@ from colregs.io.sources import gather, stamped
 
 def parser() -> argparse.ArgumentParser:
     """Returns the parser of the command line."""
-    words = parser_of(__doc__)
+    words = parser_of(__doc__, "tagged")
     words.add_argument("logs", nargs="*", metavar="LOG")
     words.add_argument("--mmsi", type=ship, help="own ship's MMSI: the places in RMC become hers, as AIVDO sentences")
     words.add_argument("--offset", type=offset, default=0, metavar="+HH:MM", help="how far times without a zone are ahead of UTC (default: 0)")

@@ -7,7 +7,7 @@ reported before.
 import dataclasses
 import json
 import sys
-from collections.abc import Iterable, Iterator
+from collections.abc import Iterable, Iterator, Mapping
 from dataclasses import dataclass
 
 from colregs.io.lines import Stamps
@@ -40,10 +40,10 @@ class Cut:
         return json.dumps(dataclasses.asdict(self))
 
 
-def typed_lines(cut: Cut) -> Iterator[bytes]:
-    """Yields a message 24 for each ship type that was reported before, stamped at the beginning of the window of lines."""
-    for mmsi, kind in sorted(cut.types.items()):
-        yield block(max(0, cut.first)) + sentence(hull_part(int(mmsi), kind, (0, 0, 0, 0))) + b"\n"
+def typed_lines(types: Mapping[str, int], at: int) -> Iterator[bytes]:
+    """Yields a message 24 for each ship type that was reported before a window, stamped at the beginning of its lines."""
+    for mmsi, kind in sorted(types.items()):
+        yield block(max(0, at)) + sentence(hull_part(int(mmsi), kind, (0, 0, 0, 0))) + b"\n"
 
 
 def cut_lines(lines: Iterable[bytes], cut: Cut) -> Iterator[bytes]:
@@ -69,7 +69,7 @@ def cut_lines(lines: Iterable[bytes], cut: Cut) -> Iterator[bytes]:
 
 def share_lines(lines: Iterable[bytes], cut: Cut) -> Iterator[bytes]:
     """Yields the whole log of a share."""
-    yield from typed_lines(cut)
+    yield from typed_lines(cut.types, cut.first)
     left = cut_lines(lines, cut)
     if cut.vessels is not None:
         left = Sieve(set(cut.vessels).__contains__, cut.slack).left(left)

@@ -8,12 +8,7 @@ from collections.abc import Iterator
 from dataclasses import dataclass
 from typing import Any
 
-<<<<<<< HEAD
-from colregs.errors import Fault
-from colregs.io.tag_blocks import stamp
-=======
 from colregs.errors import Fault, report
->>>>>>> e123a045 (Join windows row by row, and mark the rows that no window can know)
 from colregs.model.scenario import MOST_TICKS, Scenario
 from colregs.run.pipes import piped, reader
 from colregs.shares.cutter import Cut
@@ -33,34 +28,12 @@ Tile = list[float | None]
 class Wanted:
     """What the command line asks of a plan; None is the default."""
 
-<<<<<<< HEAD
-    def __init__(self, path: str) -> None:
-        self.path = path
-        least: int | None = None
-        greatest: int | None = None
-        with subprocess.Popen(["bash", "-c", reader([path])], stdout=subprocess.PIPE, stderr=subprocess.PIPE) as log:
-            assert log.stdout and log.stderr
-            for line in log.stdout:
-                at = stamp(line)
-                if at is not None:
-                    least = at if least is None else min(at, least)
-                    greatest = at if greatest is None else max(at, greatest)
-            words = log.stderr.read().decode("utf-8", "replace").strip()
-        self.least, self.greatest = least, greatest
-        if log.returncode:
-            raise Fault(f"{path} was not read to its end: {words}")
-
-    def meets(self, first: int, last: int) -> bool:
-        """Returns whether the file may have lines between two times."""
-        return self.least is not None and self.greatest is not None and self.least <= last and first <= self.greatest
-=======
     start: int | None = None
     ticks: int | None = None
     every: int | None = None
     overlap: int | None = None
     group: int | None = None
     tiles: tuple[int, int] | None = None
->>>>>>> e123a045 (Join windows row by row, and mark the rows that no window can know)
 
 
 class Points:

@@ -19,6 +19,7 @@ from colregs.shares.results import merged, vessels_of
 
 LIMIT = 7               # status of a run that meets a limit (docs/REPORT.md)
 FIRST_GROUP = 64        # subjects of the first groups into which a share with too many pairs is split
+MOST_TASKS = 1000       # of an array: Slurm's MaxArraySize is 1001 unless it is set
 STALE = 24 * 3600       # s after which the folder of a run that ended without removing it goes
 
 
@@ -173,11 +174,11 @@ def run_all(jobs: list[Job], kept: Kept, program: str, processes: int) -> tuple[
     return ran, faults
 
 
-def commands(path: str, jobs: list[Job], kept: str, program: str) -> list[str]:
+def commands(path: str, count: int, kept: str, program: str) -> list[str]:
     """Returns a command for each job, which can run on any machine that sees the files under the same names."""
     words = [TOOL, "one", os.path.abspath(path), "%d", "--kept", os.path.abspath(kept), "--program", program]
     line = " ".join(word if word == "%d" else shlex.quote(word).replace("%", "%%") for word in words)
-    return [line % number for number in range(1, len(jobs) + 1)]
+    return [line % number for number in range(1, count + 1)]
 
 
 def list_sum(keys: list[str]) -> str:
@@ -199,7 +200,9 @@ def by_parallel(lines: list[str], log: str, processes: int, hosts: str | None) -
 
 
 def slurm(lines: list[str], memory: str, hours: int) -> str:
-    """Returns a script for sbatch: an array with a task for each job."""
-    task = lines[0].replace(" 1 --kept ", ' "$SLURM_ARRAY_TASK_ID" --kept ')
-    return "\n".join(["#!/bin/sh", "#SBATCH --job-name=colregs", f"#SBATCH --array=1-{len(lines)}", "#SBATCH --cpus-per-task=1",
-                      f"#SBATCH --mem={memory}", f"#SBATCH --time={hours}:00:00", "exec " + task, ""])
+    """Returns a script for sbatch: an array with a task for each job, or, of more jobs than an array takes, for every thousandth one."""
+    tasks = min(len(lines), MOST_TASKS)
+    task = lines[0].replace(" 1 --kept ", ' "$number" --kept ')
+    return "\n".join(["#!/bin/sh", "#SBATCH --job-name=colregs", f"#SBATCH --array=1-{tasks}", "#SBATCH --cpus-per-task=1", f"#SBATCH --mem={memory}",
+                      f"#SBATCH --time={hours}:00:00", "status=0", f'for number in $(seq "$SLURM_ARRAY_TASK_ID" {tasks} {len(lines)}); do',
+                      f"  {task} || status=1", "done", "exit $status", ""])

@@ -11,6 +11,7 @@ from dataclasses import dataclass, field
 from colregs.io.lines import JOINED_WITHIN, Bits, Joiner, Message, Stamps, bits_of, sender_of, sentence_of
 
 RANKED = (30, 36)                   # fishing and sailing: the ship types that count
+HOUR = 3600                         # s
 LEAST, MOST = 200000000, 799999999  # MMSIs of ships
 CANDIDATE = re.compile(rb"![A-Z0-9]{2}VD[MO],(?:[2-9],|1,1,\d?,[A-Za-z0-9]?,[5CH])")
 HEAD = re.compile(rb"![A-Z0-9]{2}VD[MO],\d,1,\d?,[A-Za-z0-9]?,(.{7})", re.S)
@@ -59,7 +60,6 @@ class Types:
         self.joiners = {first: Joiner() for first in self.firsts}
         self.unsure: dict[int, set[int]] = {first: set() for first in self.firsts}
         self.heard: dict[int, set[int]] = {}
-        self.hour = 3600
 
     def take(self, lines: Iterable[bytes]) -> None:
         """Takes lines of the log."""
@@ -71,7 +71,7 @@ class Types:
                     self.clock = stamp
             found = HEAD.search(line)
             if found and self.time is not None and sender_of(found[1]) in self.notes:
-                self.heard.setdefault(sender_of(found[1]) or 0, set()).add(self.time // self.hour)
+                self.heard.setdefault(sender_of(found[1]) or 0, set()).add(self.time // HOUR)
             if CANDIDATE.search(line):
                 self.take_sentence(line, clock)
 
@@ -105,14 +105,19 @@ class Types:
 
     def before(self, first: int, last: int) -> Before:
         """Returns what is known before the window of lines from `first` to `last`."""
-        found = Before(unsure=set(self.unsure[first]))
-        hours = range(first // self.hour, last // self.hour + 1)
+        found, hours = self.known_before(first), range(first // HOUR, last // HOUR + 1)
+        found.types = {mmsi: kind for mmsi, kind in found.types.items() if not self.heard.get(mmsi, set()).isdisjoint(hours)}
+        return found
+
+    def known_before(self, first: int) -> Before:
+        """Returns the same of all vessels, also of those that the window does not hear."""
+        found = Before(unsure=set(self.unsure.get(first, set())))
         for mmsi, known in self.notes.items():
             earlier = [k for k, stretch in enumerate(known) if stretch.earliest < first]
             if not earlier:
                 continue
             if any(stretch.latest >= first for stretch in known[:earlier[-1]]):
                 found.unsure.add(mmsi)
-            if known[earlier[-1]].kind and not self.heard.get(mmsi, set()).isdisjoint(hours):
+            if known[earlier[-1]].kind:
                 found.types[mmsi] = known[earlier[-1]].kind
         return found

@@ -20,15 +20,19 @@ from colregs.io.files import replace
 from colregs.io.sieve import Senders
 from colregs.io.sources import stamped
 from colregs.model.scenario import MOST_SUBJECTS, Scenario
+from colregs.shares.heads import STRADDLE
+from colregs.stream.beginnings import Beginnings
 from colregs.stream.day_files import Clock, DayFiles, Mark, lines_of
 from colregs.stream.rows import Sink, Written, steps_of
 from colregs.stream.runs import StreamRun, Window
 from colregs.stream.sources import Source
+from colregs.stream.types import StreamTypes
 
 WAITING, MOST_RUNS = 16, 12      # blocks of lines that wait at most; runs at a time beyond which lines wait
 LEAST, MOST = 200000000, 799999999
 MARK = 600                       # s
 NEW = 10                         # s of the clock between looks for vessels that are in no group yet
+MOST_RESTARTS = 5                # of one run that was killed
 
 
 class Numbers:
@@ -67,7 +71,9 @@ class Follow:
         self.given, self.scenario, self.program, self.sink = given, scenario, program, sink
         self.numbers = Numbers(scenario, given.every, -(-given.overlap // scenario.tick))
         self.files, self.clock, self.senders = DayFiles(given.days), Clock(), Senders()
-        self.written = Written(given.days, sink)
+        self.written, self.types = Written(given.days, sink), StreamTypes(given.days, scenario.slack, scenario.ranks)
+        self.beginnings = Beginnings(self.numbers.last, given.every + scenario.steps(max(scenario.gap, STRADDLE)) + 1, given.every)
+        self.restarts: dict[tuple[int, str, frozenset[int] | None], int] = {}     # of runs that were killed
         self.windows: dict[int, Window] = {}            # those that are open, by their starts
         self.over: set[int] = set()                     # the starts of those that are closed
         self.runs: set[StreamRun] = set()
@@ -111,6 +117,7 @@ class Follow:
                 if now is not None:
                     self.marks.setdefault(now // MARK, (day, offset))
                     self.hear(line)
+                    self.types.take(line, now)
                 offset += len(line)
         if self.clock.time is not None:
             for start in range(self.undone(), self.now(), self.numbers.every * self.numbers.tick):
@@ -122,8 +129,10 @@ class Follow:
         """Returns the start of the first window of which an earlier run has not written all rows; if none is stored, the clock."""
         try:
             with open(self.state, encoding="utf-8") as source:
-                return int(json.load(source)["first"])
-        except (OSError, ValueError, KeyError, TypeError):
+                stored = json.load(source)
+            self.beginnings.load(stored.get("open", {}))
+            return int(stored["first"])
+        except (OSError, ValueError, KeyError, TypeError, AttributeError, IndexError):
             return self.now()
 
     def tell_done(self) -> None:
@@ -131,7 +140,7 @@ class Follow:
         starts = [run.window.start for run in self.runs] + list(self.windows)
         if starts and min(starts) != self.first:
             self.first = min(starts)
-            replace(self.state, json.dumps({"first": self.first}).encode())
+            replace(self.state, json.dumps({"first": self.first, "open": self.beginnings.stored()}).encode())
 
     def hear(self, line: bytes) -> None:
         """Notes which vessel a line is of."""
@@ -151,9 +160,11 @@ class Follow:
                 self.open(again=before is None)
             self.files.write(line, now)
             self.hear(line)
+            self.types.take(line, now)
         self.files.flush()
         self.close_those_over()
         self.take_in_new(False)
+        self.types.store()
         self.tell_done()
 
     def open(self, again: bool) -> None:
@@ -171,7 +182,7 @@ class Follow:
         """Begins the runs of a window, with the lines from now on; with `again` also with those of the day files before."""
         place = self.place_of(start - self.numbers.gap) if again or self.files.out is None else self.files.place()
         self.written.load(start)
-        window = self.windows[start] = Window(start, place)
+        window = self.windows[start] = Window(start, place, self.types.lines_before(start - self.numbers.gap))
         if self.grouped:
             self.split(window, sorted(self.vessels(window)))
         else:
@@ -193,6 +204,7 @@ class Follow:
         self.over = {start for start in self.over if start >= oldest}
         self.heard = {mmsi: at for mmsi, at in self.heard.items() if at >= oldest}
         self.written.forget(oldest)
+        self.beginnings.forget(oldest)
 
     # the runs
 
@@ -234,8 +246,20 @@ class Follow:
         status = run.child.returncode
         if status == 7 and "pairs" in words:
             self.split_at_limit(run)
+        elif status < 0 and self.restarts.get(run.key(), 0) < MOST_RESTARTS:
+            self.begin_again(run)
         elif status != 0:
             self.fault(f"a run of `{run.mode}` from {run.window.start} ended with status {status}, {words}")
+
+    def begin_again(self, run: StreamRun) -> None:
+        """Begins a run again that was killed, from the day files; the rows that it wrote are not written again."""
+        self.restarts[run.key()] = self.restarts.get(run.key(), 0) + 1
+        self.say(f"a run of `{run.mode}` from {run.window.start} was killed by signal {-run.child.returncode}, and begins again from the day files")
+        before = set(self.runs)
+        self.begin(run.window, run.mode, run.group)
+        if run.limit and run.closed is not None:
+            for new in self.runs - before:
+                new.end_at(run.limit, run.closed, run.cut)
 
     def split_at_limit(self, run: StreamRun) -> None:
         """Splits a run with too many pairs into runs of groups, and a group into two."""
@@ -263,12 +287,20 @@ class Follow:
         fields = row.split(",", 3)
         if not run.is_mine(int(fields[1]), int(fields[2]), self.scenario.subjects):
             return
+        before = self.begins_before(run, row, (int(fields[1]), int(fields[2])), first, last)
         if run.cut and run.closed is not None and last > numbers.settled(start, run.closed, run.mode):
             return                                      # what comes later may still change it
         if last > numbers.last and first < numbers.every + numbers.warm:
             self.tell_long(run, row)
         if numbers.behind < last <= numbers.last or last > numbers.last and self.is_last(run):
-            self.written.write(row, run.mode, start, numbers.tick)
+            self.written.write(row, run.mode, start, numbers.tick, before)
+
+    def begins_before(self, run: StreamRun, row: str, pair: tuple[int, int], first: int, last: int) -> bool:
+        """Returns whether a row's meeting began before its window. Alarms do not say."""
+        if run.mode != "audit":
+            return False
+        following = run.window.start + self.numbers.every * self.numbers.tick
+        return self.beginnings.take(run.window.start, following, row.startswith("meeting,"), pair, first, last)
 
     def tell_long(self, run: StreamRun, row: str) -> None:
         """Reports once per run that a row is longer than the overlap."""
@@ -292,11 +324,17 @@ class Follow:
             self.row(*event[1:])
         elif event[0] == "ended":
             self.ended(*event[1:])
+            self.carry(event[1])
             held, self.held = sorted(self.held, key=lambda entry: entry[0].window.start), []
             for run, row in held:
                 self.handle(("row", run, row))
             if not self.cut:
                 self.tell_done()
+
+    def carry(self, run: StreamRun) -> None:
+        """Ends a window once its last run has ended: meetings that it saw no end of go on in the next."""
+        if run.mode == "audit" and not any(other.mode == "audit" and other.window is run.window for other in self.runs):
+            self.beginnings.carry(run.window.start, run.window.start + self.numbers.every * self.numbers.tick)
 
     # the whole
 

@@ -11,8 +11,11 @@ from colregs.model.rows import Alarm, Meeting, Verdict, row_of
 from colregs.stream.day_files import day_of, whole_length
 
 
-def as_values(text: str, mode: str, start: int, tick: int) -> dict[str, Any]:
-    """Returns a row of the program as a dictionary, with times instead of steps; `row` and `run` are as the program has them."""
+def as_values(text: str, mode: str, start: int, tick: int, begins_before: bool = False) -> dict[str, Any]:
+    """Returns a row of the program as a dictionary, with times instead of steps; `row` and `run` are as the program has them.
+
+    `begins_before` says that the row's meeting began before the window, so that one run over the whole stream may have another row.
+    """
     row = row_of(text.split(","))
     if not isinstance(row, (Meeting, Verdict, Alarm)):
         raise ValueError(f"`{text}` is no row of a stream")
@@ -23,7 +26,8 @@ def as_values(text: str, mode: str, start: int, tick: int) -> dict[str, Any]:
         made |= {"encounter": row.kind, "least": row.least}
     else:
         made |= {"rule": row.rule, "value": row.value}
-    return made | {"begins": iso(start + row.first * tick), "ends": iso(start + (row.last + 1) * tick)}
+    made |= {"begins": iso(start + row.first * tick), "ends": iso(start + (row.last + 1) * tick)}
+    return made | {"begins_before": True} if begins_before else made
 
 
 def steps_of(text: str) -> tuple[int, int]:
@@ -132,14 +136,14 @@ class Written:
                     row = json.loads(line)
                     self.known.setdefault((row["mode"], row["run"]), set()).add(row["row"])
 
-    def write(self, row: str, mode: str, start: int, tick: int) -> None:
+    def write(self, row: str, mode: str, start: int, tick: int, begins_before: bool = False) -> None:
         """Writes a row that was not written yet."""
         self.load(start)
         known = self.known.setdefault((mode, start), set())
         if row in known:
             return
         known.add(row)
-        line = json.dumps(as_values(row, mode, start, tick)) + "\n"
+        line = json.dumps(as_values(row, mode, start, tick, begins_before)) + "\n"
         self.sink.write(line)
         with open(self.path(start), "a", encoding="utf-8") as out:
             out.write(line)

@@ -10,10 +10,10 @@ PAUSE = 0.05                     # s between looks at a file that does not grow
 
 
 class Window:
-    """A window of a stream: its start, and where its lines begin in the day files."""
+    """A window of a stream: its start, where its lines begin in the day files, and the lines of ship types that stand before them."""
 
-    def __init__(self, start: int, place: Mark) -> None:
-        self.start, self.place, self.grouped = start, place, False
+    def __init__(self, start: int, place: Mark, types: bytes = b"") -> None:
+        self.start, self.place, self.types, self.grouped = start, place, types, False
         self.heard: set[int] = set()                    # who is in a group
 
     def add_groups(self, vessels: Collection[int]) -> None:
@@ -27,7 +27,8 @@ class StreamRun:
 
     def __init__(self, words: list[str], window: Window, mode: str, group: frozenset[int] | None, files: DayFiles,
                  rows: Callable[[tuple[Any, ...]], None]) -> None:
-        self.window, self.mode, self.group = window, mode, group
+        self.words, self.window, self.mode, self.group = words, window, mode, group
+        self.counts: dict[str, int] = {}                # lines by their outcome, once the run has ended
         self.limit: Mark | None = None                  # where its log ends
         self.closed: int | None = None                  # and where the clock is there
         self.cut, self.long = False, False
@@ -35,6 +36,10 @@ class StreamRun:
         self.threads = [threading.Thread(target=work, args=(files, rows), daemon=True) for work in (self.feed, self.read)]
         for thread in self.threads:
             thread.start()
+
+    def key(self) -> tuple[int, str, frozenset[int] | None]:
+        """Returns what tells this run from others: its window's start, its mode and its group."""
+        return self.window.start, self.mode, self.group
 
     def end_at(self, place: Mark, clock: int, cut: bool) -> None:
         """Ends the log of this run at a place, where the clock is at a time; `cut` says that the stream continues some time."""
@@ -50,6 +55,7 @@ class StreamRun:
         waiting = threading.Event()
         assert self.child.stdin is not None
         try:
+            self.child.stdin.write(self.window.types)
             for block in files.blocks(self.window.place, lambda: self.limit):
                 if block:
                     self.child.stdin.write(block)
@@ -70,8 +76,13 @@ class StreamRun:
         listener = threading.Thread(target=lambda source: error.append(source.read()), args=(stderr,), daemon=True)
         listener.start()
         for line in stdout:
+            if not line.endswith(b"\n"):
+                break                                   # the program was killed while it wrote this row
             if line.startswith((b"meeting,", b"verdict,", b"alarm,")):
                 rows(("row", self, line.decode().rstrip("\n")))
+            elif line.startswith(b"lines,"):
+                _, outcome, count, _ = line.decode().split(",", 3)
+                self.counts[outcome] = int(count)
         self.child.wait()
         listener.join()
         rows(("ended", self, b"".join(error).decode("utf-8", "replace").strip()))
