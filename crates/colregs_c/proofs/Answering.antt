@@ -1,0 +1,112 @@
+-- What the clauses of `run` say if the shelf, the log and the sinks are in memory.
+use Rattle.std.proofs.Common.{ℕ, ◌≡◌, ◌≢◌, ◌≤◌, ◌+◌, ◌⊎◌, inl, inr, IsTrue, Bool, true, false, List, [], ◌++◌, length, Option, Some, None, refl, sym, subst, ap, arith}
+use Rattle.std.specs.Prelude.{IfSome}
+use Rattle.std.specs.Io.KnownBytes.{Appends, Keeps}
+use Rattle.command_line.specs.declared.request.Request.{Request}
+use Rattle.outside.specs.Causes.{Rose, one_more}
+use Rattle.outside.specs.Shelves.{Files}
+use Rattle.outside.specs.WholeReading.{StopsAt}
+use Rattle.outside.specs.declared.whole.ReadFault.TheVariants as read
+use Rattle.scenario_values.specs.declared.values.Scenario.{Scenario}
+use Rattle.sessions.specs.Endings.{IsEnding}
+use Rattle.sessions.specs.Modes.{reads_log}
+use Rattle.sessions.specs.Tasks.{Task}
+use Rattle.colregs_program.specs.Answers.{EndsWith, IsDue, IsReadBy, Migrates, Runs, StopsWith, WritesNothing}
+use Rattle.colregs_program.specs.AskedScenarios.{log_of, task_of}
+use Rattle.colregs_program.specs.LogAnswers.{GainsReport, IsAnswered, IsFinished}
+use Rattle.colregs_program.specs.Stages.{is_in_log, stage_of}
+use Rattle.colregs_program.specs.declared.status.Status.{Status}
+use Rattle.colregs_program.specs.declared.status.Status.TheVariants as status
+use Rattle.colregs_program.specs.declared.status.Which.TheVariants as which
+use Rattle.colregs_c.specs.Calls.{Call, IsAnsweredBy, IsReportOf, IsSettledBefore, files_of}
+
+-- a count of faults that is 0 and stays 0 did not rise
+pub calm : (before now : ℕ) → before ≡ 0 → now ≡ 0 → Rose before now → ⊥
+calm before now first last rose =
+    let there : one_more 0 ≤ 0 = subst (λ n. one_more 0 ≤ n) last (subst (λ b. one_more b ≤ now) first rose) in
+    omega (arith, there)
+
+-- nor did it go one up
+pub not_up : (before now : ℕ) → before ≡ 0 → now ≡ 0 → now ≡ one_more before → ⊥
+not_up before now first last up =
+    let there : 0 ≡ one_more 0 = subst (λ n. n ≡ one_more 0) last (subst (λ b. now ≡ one_more b) first up) in
+    omega (arith, there)
+
+if_some : (found : Option (List ℕ)) (P Q : List ℕ → Type 0) → ((bytes : List ℕ) → P bytes → Q bytes) → IfSome found P → IfSome found Q
+if_some None P Q more holds = holds
+if_some (Some bytes) P Q more holds = more bytes holds
+
+-- the same run, of which less is said
+runs_also : (words : List (List ℕ)) (files : Files) (Q : Request → Type 0) (P P' : Request → List ℕ → Scenario → Type 0)
+    → ((request : Request) (rows : List ℕ) (scenario : Scenario) → P request rows scenario → P' request rows scenario)
+    → Runs words (Some files) Q P → Runs words (Some files) (λ _. Unit {0}) P'
+runs_also words files Q P P' more runs =
+    let under = runs.2.2 in
+    let held = under.2 in
+    (runs.0, runs.1, (runs.2.0, tt, (under.0, under.1, (held.0, held.1, held.2, held.3, more runs.0 held.2 held.0 held.4))))
+
+-- what a sink that was empty has gained
+gained_all : (text gained : List ℕ) → Appends (Some []) (Some text) gained → text ≡ gained
+gained_all text gained appends = appends
+
+-- what `run` says of an answer if a call's shelf and log are known, and what a sink holds before and after it
+pub record Says (call : Call) (files : Option Files) (before after : Option (List ℕ)) (left : Option (List ℕ)) (answer : Status) : Type 0 where
+  pub headline : IsTrue (IsFinished answer) → Runs call.arguments files (λ request. IsReadBy request.mode left)
+      (λ request rows scenario. IfSome (log_of request scenario (Some call.log)) (λ bytes. IsAnswered (task_of request rows) scenario bytes answer
+      × GainsReport (task_of request rows) scenario bytes before after))
+      ⊎ ((answer ≡ status.Done) × Migrates call.arguments files (λ text. Appends before after text))
+  pub due : (due : Status) → IsDue call.arguments files (Some call.log) due → answer ≡ due
+  pub log_limit : (most : ℕ) → answer ≡ status.Limit which.Log most → Runs call.arguments files
+      (λ request. IsTrue (reads_log request.mode) → StopsAt most 0 (Some call.log) left read.TooLong)
+      (λ request rows scenario. (most ≡ scenario.log.max_bytes) × StopsWith request scenario (Some call.log) before after (status.Limit which.Log most))
+  pub vessel_limit : (most : ℕ) → answer ≡ status.Limit which.Vessels most → Runs call.arguments files (λ _. Unit {0})
+      (λ request rows scenario. StopsWith request scenario (Some call.log) before after (status.Limit which.Vessels most)
+      ⊎ EndsWith request rows scenario (Some call.log) left before after (status.Limit which.Vessels most))
+  pub pair_limit : (most : ℕ) → answer ≡ status.Limit which.Pairs most → Runs call.arguments files (λ _. Unit {0})
+      (λ request rows scenario. StopsWith request scenario (Some call.log) before after (status.Limit which.Pairs most)
+      ⊎ EndsWith request rows scenario (Some call.log) left before after (status.Limit which.Pairs most))
+  pub silent : IsTrue (WritesNothing answer) → Keeps before after
+  pub unread : answer ≢ status.ReadFault
+  pub unwritten : answer ≢ status.WriteFault
+
+module _ (call : Call) (text : List ℕ) (left : Option (List ℕ)) where
+  abbrev Said : Status → Type 0
+  Said = Says call (files_of call) (Some []) (Some text) left
+
+  report_of : (answer : Status) → Runs call.arguments (files_of call) (λ request. IsReadBy request.mode left)
+      (λ request rows scenario. IfSome (log_of request scenario (Some call.log)) (λ bytes. IsAnswered (task_of request rows) scenario bytes answer
+      × GainsReport (task_of request rows) scenario bytes (Some []) (Some text)))
+      ⊎ ((answer ≡ status.Done) × Migrates call.arguments (files_of call) (λ migrated. Appends (Some []) (Some text) migrated)) → IsReportOf call answer text
+  report_of answer (inl runs) =
+      inl (runs_also call.arguments _ _ _ _ (λ request rows scenario. if_some (log_of request scenario (Some call.log)) _ _ (λ bytes holds.
+      (holds.0, subst (λ (t : List ℕ). IsEnding (task_of request rows) scenario bytes t) (sym (gained_all text holds.1.text holds.1.gained)) holds.1.is))) runs)
+  report_of answer (inr (done, migrates)) =
+      let under = migrates.2.1 in
+      inr (done, (migrates.0, migrates.1, (migrates.2.0, (under.0, under.1, (under.2.0, under.2.1, under.2.2, gained_all text under.2.1 under.2.3)))))
+
+  also_ended : (request : Request) (rows : List ℕ) (scenario : Scenario) (answer : Status)
+      → StopsWith request scenario (Some call.log) (Some []) (Some text) answer ⊎ EndsWith request rows scenario (Some call.log) left (Some []) (Some text) answer
+      → StopsWith request scenario (Some call.log) (Some []) (Some text) answer
+      ⊎ ((left' : Option (List ℕ)) × EndsWith request rows scenario (Some call.log) left' (Some []) (Some text) answer)
+  also_ended request rows scenario answer (inl stops) = inl stops
+  also_ended request rows scenario answer (inr ends) = inr (left, ends)
+
+  settled_before : (answer : Status) → Said answer → IsTrue (is_in_log (stage_of answer)) → IsSettledBefore call answer text
+  settled_before (status.Limit which.Log most) says there =
+      runs_also call.arguments _ _ _ _ (λ request rows scenario holds. inl holds.1) (says.log_limit most refl)
+  settled_before (status.Limit which.Vessels most) says there =
+      runs_also call.arguments _ _ _ _ (λ request rows scenario holds. also_ended request rows scenario _ holds) (says.vessel_limit most refl)
+  settled_before (status.Limit which.Pairs most) says there =
+      runs_also call.arguments _ _ _ _ (λ request rows scenario holds. also_ended request rows scenario _ holds) (says.pair_limit most refl)
+  settled_before status.ReadFault says there = absurd (says.unread refl)
+  settled_before _ says there = cc
+
+  pub answered : (answer : Status) → Said answer → IsAnsweredBy call answer text
+  answered answer says = record {
+    due = says.due;
+    finished = λ there. report_of answer (says.headline there);
+    limited = settled_before answer says;
+    silent = says.silent;
+    unread = says.unread;
+    unwritten = says.unwritten;
+  }

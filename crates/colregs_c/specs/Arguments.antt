@@ -1,0 +1,57 @@
+-- The arguments of the program that a call's numbers stand for.
+use Rattle.std.specs.Prelude.{ℕ, ◌≡◌, ◌==◌, ◌-◌, ◌^◌, ◌&&◌, ◌||◌, ◌++◌, Bool, true, false, not, nat_le, nat_lt, codes, List, [], ◌∷◌, map, unwrap_or, slice_get, Option, Some, None, if◌then◌else◌}
+use Rattle.std.specs.List.{flat_map}
+use Rattle.command_line.specs.CommandLine.{Setting, Value, a_flag, a_number, mode_text, modes, seed, start, ticks, why}
+use Rattle.command_line.specs.Requests.{setting_words}
+use Rattle.command_line.specs.declared.mode.Mode.{Mode}
+use Rattle.command_line.specs.declared.request.Options.{Options}
+use Rattle.command_line.specs.declared.request.Request.{Request}
+use Rattle.colregs_c.specs.declared.numbers.OptionNumbers.{OptionNumbers}
+
+-- the number that stands for the scenario's own start
+abbrev pub own_start : ℕ
+own_start = 2 ^ 64 - 1
+
+-- whether each option is in its range
+abbrev pub are_in_range : OptionNumbers → Bool
+are_in_range options =
+    (nat_le options.start 9999999999 || (options.start == own_start)) && (nat_le options.ticks 20000 && (nat_le options.seed 999999 && nat_le options.flags 1))
+
+-- the mode that a call asks for, by its number; none where a number is out of its range
+abbrev pub asked_mode : ℕ → OptionNumbers → Option Mode
+asked_mode number options = if are_in_range options then slice_get modes number else None
+
+-- ---- the options that are given, each with its value
+
+abbrev pub start_given : ℕ → List (Setting × Value)
+start_given n = if n == own_start then [] else (start, a_number n) ∷ []
+
+abbrev pub ticks_given : ℕ → List (Setting × Value)
+ticks_given n = if n == 0 then [] else (ticks, a_number n) ∷ []
+
+abbrev pub seed_given : ℕ → List (Setting × Value)
+seed_given n = (seed, a_number n) ∷ []
+
+abbrev pub why_given : ℕ → List (Setting × Value)
+why_given n = if n == 0 then [] else (why, a_flag true) ∷ []
+
+abbrev pub given : OptionNumbers → List (Setting × Value)
+given options = start_given options.start ++ (ticks_given options.ticks ++ (seed_given options.seed ++ why_given options.flags))
+
+-- the mode's name, the scenario's, and then the options
+abbrev pub arguments_of : List ℕ → OptionNumbers → List (List ℕ)
+arguments_of mode options = mode ∷ codes "scenario.toml" ∷ flat_map setting_words (given options)
+
+-- ---- what they ask for
+
+abbrev pub options_of : OptionNumbers → Options
+options_of options = record {
+  start = if options.start == own_start then None else Some options.start;
+  ticks = if options.ticks == 0 then None else Some options.ticks;
+  seed = options.seed;
+  why = not (options.flags == 0);
+  rows = codes "why.csv";
+}
+
+abbrev pub request_of : Mode → OptionNumbers → Request
+request_of mode options = record { mode = mode; name = codes "scenario.toml"; options = options_of options }

@@ -1,0 +1,4 @@
+pub mod Rooms
+pub mod Arguments
+pub mod Calls
+pub mod Inner
