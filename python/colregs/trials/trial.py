@@ -6,7 +6,6 @@ import random
 from collections import Counter
 from dataclasses import dataclass, field
 
-from colregs.pilot.choices import Offsets
 from colregs.pilot.motion import KNOT, Place, Rates, moved
 from colregs.pilot.pilot import Pilot
 from colregs.pilot.planner import Patience, Planner
@@ -36,7 +35,6 @@ class Setting:
     sluggish: bool = False
     every: int = 60                    # s between two plans
     track: Track = Track(0.0, 14.0)
-    offsets: Offsets | None = None
     begins: tuple[Begin, ...] = ()     # the others, if they are not drawn
 
 
@@ -75,6 +73,7 @@ class Result:
     none: int = 0                      # answers that every plan fails
     held: int = 0                      # moments at which an old plan was held
     lapsed: int = 0                    # moments without a plan and without a promise
+    escapes: int = 0                   # of these, moments at which a plan that breaks a rule keeps out of all domains
     other_causes: int = 0              # moments without a plan for another cause
     turns: int = 0                     # moments at which the course to steer changed
     first_turn: float | None = None    # degrees of the first course off the track, starboard positive
@@ -176,7 +175,7 @@ class Trial:
 
     def pilot(self, scenario: PilotScenario) -> Pilot:
         """Returns a pilot of a scenario."""
-        return Pilot(scenario, Planner(scenario, self.runner, self.setting.offsets), HISTORY)
+        return Pilot(scenario, Planner(scenario, self.runner), HISTORY)
 
     def make_sailors(self) -> list[Sailor]:
         """Returns the others as ships with pilots, each with the scenario as own ship."""
@@ -243,6 +242,7 @@ class Trial:
         result.other_causes += decision.cause not in (None, Cause.EVERY_PLAN_FAILS)
         result.held += decision.state is State.HELD
         result.lapsed += decision.state is State.NONE
+        result.escapes += decision.escaping
         if decision.cause not in (None, Cause.EVERY_PLAN_FAILS):
             result.fault = decision.words
         off = swing(self.setting.track.course, decision.course)
